@@ -13,9 +13,11 @@
      does an older copy.
    - Save, then send: write the new state where it survives a crash before any line of `out` leaves, and before the work of a
      client that entered begins. A reminder counts too: if the state changed since it was saved, save it before the reminder's
-     lines leave. (A client that starts anew after each crash, behind a guard, saves a clock only: qlock_client_anew.)
-   - A state is made once by qlock_voter_new or qlock_client_new. Where it is lost, these break the lock. There are
-     qlock_voter_reborn and qlock_client_anew, after which two clients may be inside and only the guard's word counts.
+     lines leave. (A client that starts anew after each crash saves a clock only: qlock_client_anew. A voter
+     that forgets at each start saves only if qlock_voter_must_save says so.)
+   - A state is made once by qlock_voter_new or qlock_client_new. Where it is lost, these break the lock. There is
+     qlock_client_anew, which lets no two clients in. And there is qlock_voter_reborn, after which two clients may be inside and
+     only the guard's word counts.
    - `*written` and the like have their values after the call: `send(out, written)` is a statement of its own.
 
    The calls take no memory and keep nothing, so they may be used in a signal handler and after fork, as far as the rules above
@@ -32,6 +34,13 @@
 #ifdef __cplusplus
 extern "C" {
 #endif
+
+/* The version of these headers: the major version times 10,000, the minor one times 100, and the patch. Before 1.0.0 a minor
+   version may change calls. */
+#define QLOCK_VERSION 200
+
+/* Returns the version of the library, in the same form. */
+uint32_t qlock_version(void);
 
 /* How many bytes the state of a voter, of a client and of a guard has. */
 #define QLOCK_VOTER_BYTES 1104
@@ -55,7 +64,7 @@ extern "C" {
 /* What a call returns. */
 enum {
     QLOCK_DONE = 0,
-    QLOCK_BAD_ARGUMENT = 1, /* a number or the length of a pass is out of range, or the mask of a quorum is 0 */
+    QLOCK_BAD_ARGUMENT = 1, /* a number or the length of a pass is out of range, the mask of a quorum is 0, or there are none */
     QLOCK_BAD_STATE = 2,    /* the bytes are no saved voter, client or guard, or not as many as it has */
     QLOCK_BAD_MESSAGE = 3,  /* the line is no message to this voter or client */
     QLOCK_NO_ROOM = 4,      /* `out` is too short for the lines */
@@ -79,7 +88,7 @@ enum {
 /* ---- A voter: it has one vote, and grants it to one client at a time. `n` is always QLOCK_VOTER_BYTES. */
 
 /* Makes a new voter with the number `id`, 0 to 63, that may give `limit` grants, 1 to QLOCK_MAX_STAMP. QLOCK_MAX_STAMP is a
-   good limit. A voter is made once: this call in place of one that was lost breaks the lock (see qlock_voter_reborn).
+   good limit, unless lost voters are to be reborn. A voter is made once: this call in place of one that was lost breaks the lock (see qlock_voter_reborn).
 
    QLOCK_BAD_ARGUMENT  `id` or `limit` is out of range
    QLOCK_BAD_STATE     `n` is not QLOCK_VOTER_BYTES */
@@ -112,8 +121,8 @@ int32_t qlock_voter_held(const uint8_t *state, size_t n, uint64_t *client, uint6
 /* Makes a voter that lost its state, in place of qlock_voter_new. It gave at most `above` grants before, and may give `limit`
    grants in all, 1 to QLOCK_MAX_STAMP. If it gave more than `above`, two clients may have one grant number, and a guard can't
    tell them apart. So make each voter with a limit far below QLOCK_MAX_STAMP, a block of grants, and note the blocks in the
-   settings of the cluster: a lost voter is reborn with `above` at the end of its last block, and with the next block. Until all
-   clients were idle since, two of them may be inside: only the guard's word counts.
+   settings of the cluster: a lost voter is reborn with `above` at the end of its last block, and with the next block. Two clients
+   may be inside until all of them are idle at one moment, as they are and as saved: until then only the guard's word counts.
 
    QLOCK_BAD_ARGUMENT  `id` or `limit` is out of range, or `above` is greater than `limit`
    QLOCK_BAD_STATE     `n` is not QLOCK_VOTER_BYTES */
@@ -136,13 +145,31 @@ int32_t qlock_voter_extend(uint8_t *state, size_t n, uint64_t limit);
 int32_t qlock_voter_evict(uint8_t *state, size_t n, uint64_t grant, uint8_t *out, size_t room, size_t *written);
 
 /* Writes what the voter knows of a client, 0 to 63: the stamp of its request that has the vote or waits, 0 if there is none; the
-   highest stamp of its requests that are finished; and the highest stamp that the voter saw of anybody. A client whose last
-   stamp is finished at each voter that it asked may stop for good. One that is asking or inside, and whose stamp is finished,
-   was let go.
+   highest stamp of its requests that are finished; and the highest stamp that the voter saw of anybody. A client may
+   stop for good once each voter that it asked shows its last stamp as finished, and no request. A voter that forgets or is reborn
+   may grant an old REQUEST all the same. A client that is asking or inside, and whose stamp is finished, was let go.
 
    QLOCK_BAD_ARGUMENT  `client` is out of range
    QLOCK_BAD_STATE     the bytes are no voter */
 int32_t qlock_voter_knows(const uint8_t *state, size_t n, uint8_t client, uint64_t *stamp, uint64_t *finished, uint64_t *seen);
+
+/* Forgets all but the least that has to survive a crash: the grant that holds the vote, and the number of grants. The number and
+   the limit of the voter stay. The clients' reminders bring the waiting requests back. Which requests are finished is forgotten
+   too, so an old REQUEST that comes late may get a grant again; its client gives it back, or a lease ends it. Sends nothing.
+
+   A service may call this on what it reads at each start. Then it saves less: see qlock_voter_must_save.
+
+   QLOCK_BAD_STATE  the bytes are no voter */
+int32_t qlock_voter_forget(uint8_t *state, size_t n);
+
+/* Writes 1 to `*yes` if a voter that was saved as the `n` bytes of `saved`, and is now the `m` bytes of `live`, has to be saved
+   before the lines of the calls in between leave, and 0 if not. This is for a service that calls qlock_voter_forget at each
+   start: it has to save if the grant, the number of grants, the number or the limit of the voter changed, and for nothing else. So
+   a FAIL needs no save. `saved` stays what was saved last, also if saves were left out since. A service that goes on from
+   all that it saved saves each time.
+
+   QLOCK_BAD_STATE  some bytes are no voter */
+int32_t qlock_voter_must_save(const uint8_t *saved, size_t n, const uint8_t *live, size_t m, int32_t *yes);
 
 /* ---- A client: it has one request at a time. `n` is always QLOCK_CLIENT_BYTES. */
 
@@ -195,18 +222,18 @@ int32_t qlock_client_give_up(uint8_t *state, size_t n, uint8_t *out, size_t room
    QLOCK_NO_ROOM    `room` is too small; QLOCK_CLIENT_OUT is always enough */
 int32_t qlock_client_remind(const uint8_t *state, size_t n, uint8_t *out, size_t room, size_t *written);
 
-/* Forgets all but the least that has to survive a crash: the clock, the last stamp, and the last grants that were given back.
-   The client is then idle. If it was inside, this opens the lock, so its work has to be done or undone before. Sends
-   nothing: the voters' reminders fetch the votes back.
+/* Forgets all but the least that has to survive a crash: the clock and the last stamp. The client is then idle. If it was
+   inside, this opens the lock, so its work has to be done or undone before. Sends nothing: the voters' reminders fetch the
+   votes back.
 
    QLOCK_BAD_STATE  the bytes are no client */
 int32_t qlock_client_forget(uint8_t *state, size_t n);
 
 /* Makes a client that lost its state, in place of qlock_client_new. It is idle. `clock` is at least the stamp of its last
    request, and at most `limit`; its next stamp is above it. If it used a greater stamp before, two of its requests may have one
-   pass. The clock may come from what a quorum of voters has seen (qlock_voter_knows), or from a file with one number that is
-   written ahead. For that, ask, look at the stamp (qlock_client_shows), write a greater number if it passes the last one, and only
-   then send the lines. Send qlock_client_disclaim to all voters first, and again.
+   pass, and two clients may be inside. The clock comes from a file with one number that is written ahead: ask, look at the stamp (qlock_client_shows), write a
+   greater number if it passes the last one, and only then send the lines. What a quorum of voters has seen may be less than the
+   last stamp: nothing is proved of such a clock. Send qlock_client_disclaim to all voters first, and again.
 
    QLOCK_BAD_ARGUMENT  `id`, `limit` or `clock` is out of range
    QLOCK_BAD_STATE     `n` is not QLOCK_CLIENT_BYTES */
@@ -218,7 +245,7 @@ int32_t qlock_client_anew(uint8_t id, uint64_t limit, uint64_t clock, uint8_t *s
 int32_t qlock_client_raise(uint8_t *state, size_t n, uint64_t clock);
 
 /* Writes what an idle client sends to end all its requests at these voters, voter i if bit i of `voters` is 1: RELEASE of its
-   last stamp to each, and nothing if it made no request. Voters finish the stamp, and send no reply.
+   last stamp to each, and nothing if it made no request. Voters finish the stamp, and send this client no reply.
 
    QLOCK_BAD_STATE  the bytes are no client
    QLOCK_BUSY       the client is asking, or is inside
@@ -233,8 +260,8 @@ int32_t qlock_client_disclaim(const uint8_t *state, size_t n, uint64_t voters, u
 int32_t qlock_client_renew(const uint8_t *state, size_t n, uint8_t *out, size_t room, size_t *written);
 
 /* Writes what the client is doing (QLOCK_IDLE, QLOCK_ASKING or QLOCK_INSIDE), and the stamp and the quorum of its current or
-   last request, both 0 if there was none. After qlock_client_forget the quorum is 0, and the stamp stays. A client that comes
-   back from a crash looks at this first.
+   last request, both 0 if there was none. After qlock_client_forget the quorum is 0, and the stamp stays. After
+   qlock_client_anew the quorum is 0, and the stamp is the clock. A client that comes back from a crash looks at this first.
 
    QLOCK_BAD_STATE  the bytes are no client */
 int32_t qlock_client_shows(const uint8_t *state, size_t n, int32_t *phase, uint64_t *stamp, uint64_t *quorum);
@@ -253,6 +280,21 @@ int32_t qlock_client_grant(const uint8_t *state, size_t n, uint8_t voter, uint64
    QLOCK_NOT_INSIDE    the client is not inside, so it has no pass */
 int32_t qlock_client_pass(const uint8_t *state, size_t n, uint8_t *pass, size_t len);
 
+/* ---- Quorums: masks of voters, each a number of 64 bits. Bit i is 1 if voter i is a member. A block of masks is aligned as
+   `uint64_t` is. */
+
+/* Writes 1 to `*yes` if all members of some of these `n` quorums are among `voters`, also a mask, and 0 if not: whether the voters
+   that answered, or that are there, are enough.
+
+   QLOCK_BAD_ARGUMENT  `n` is 0, or a mask is 0 */
+int32_t qlock_has_quorum(const uint64_t *masks, size_t n, uint64_t voters, int32_t *yes);
+
+/* Writes 1 to `*yes` if each of the `n` first quorums has a common member with each of the `m` second ones, and 0 if not. Then the
+   two coteries may be in use at once, so one may be exchanged for the other.
+
+   QLOCK_BAD_ARGUMENT  `n` or `m` is 0, or a mask is 0 */
+int32_t qlock_bridge(const uint64_t *firsts, size_t n, const uint64_t *seconds, size_t m, int32_t *yes);
+
 /* ---- The guard (fence) of what the lock protects: it refuses a client that lost the lock without noticing it, and comes
    late. `n` is always QLOCK_FENCE_BYTES. */
 
@@ -266,12 +308,13 @@ int32_t qlock_fence_new(uint8_t *state, size_t n);
    whether it admitted a newer pass before.
 
    The turn is a fencing token: one number, which is the same for all passes of one request, and greater for each later request
-   that the guard admits. The first turn is 1. Note it in the place beside what is written.
+   that the guard admits, as long as it admits only passes that clients had. The first turn is 1. Note it in the place beside what
+   is written.
 
    QLOCK_BAD_STATE     `n` is not QLOCK_FENCE_BYTES
    QLOCK_BAD_ARGUMENT  `len` is not QLOCK_PASS_BYTES
    QLOCK_NO_PASS       all its numbers are 0
-   QLOCK_OLDER_GRANT   a newer grant of some voter was admitted before: somebody entered since, so don't write
+   QLOCK_OLDER_GRANT   a pass of another request with a newer grant of some voter was admitted before, so don't write
    QLOCK_TURNS_SPENT   no turn is left */
 int32_t qlock_fence_admit(uint8_t *state, size_t n, const uint8_t *pass, size_t len, uint64_t *turn);
 

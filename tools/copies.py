@@ -1,4 +1,5 @@
 """Copies of some crates of crates/ with all crates below them, for runs of rt beside the tree. The scripts in tools/ use them."""
+import functools
 import os
 import shutil
 import subprocess
@@ -18,15 +19,17 @@ def lines_of_crates():
 LISTED = lines_of_crates()
 
 
+@functools.lru_cache(maxsize=None)
+def walk(crates):
+    """Returns these crates and all crates of crates.txt below them."""
+    said = subprocess.run([os.path.join(ROOT, "tools", "below.sh"), *crates], check=True, stdout=subprocess.PIPE, text=True)
+    return frozenset(it for it in said.stdout.split() if it in LISTED)
+
+
 def below(crates):
-    """Returns these crates and all crates below them."""
-    found, rest = set(), list(crates)
-    while rest:
-        name = rest.pop()
-        if name in LISTED and name not in found:
-            found.add(name)
-            rest += LISTED[name].partition(":")[2].split()
-    return found
+    """Returns those of these crates that crates.txt lists, and all crates below them."""
+    listed = tuple(sorted(it for it in crates if it in LISTED))
+    return set(walk(listed)) if listed else set()
 
 
 def is_library(crate):

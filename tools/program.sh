@@ -14,17 +14,9 @@ proved=$root/crates/$crate/out/$crate
 
 # the folders of the sources of the crate and of all crates below it
 sources() {
-    awk -v top="$crate" -v root="$root" '
-        { sub(/#.*/, "") }
-        split($0, half, ":") > 1 { split(half[1], head, " "); uses[head[1]] = half[2] }
-        END {
-            found[last = 1] = top
-            for (i = 1; i <= last; i++) {
-                print root "/crates/" found[i] "/src"
-                split(uses[found[i]], names, " ")
-                for (k in names) if (names[k] in uses && !seen[names[k]]++) found[++last] = names[k]
-            }
-        }' "$root/crates.txt"
+    "$root/tools/below.sh" "$crate" | while read -r name; do
+        [ ! -d "$root/crates/$name" ] || echo "$root/crates/$name/src"
+    done
 }
 
 # whether the file is there, and no source is newer

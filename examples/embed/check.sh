@@ -7,6 +7,7 @@
 #   fuzz_plan.c refuses memory;
 # - leases.c plays voters and clients as processes, with leases that end, lost disks and clients without a disk, and a
 #   witness reads what they wrote; played with a guard that admits everything, it has to find a fault;
+# - saves.c plays voters that save only if they must, and crash; played without any save, two clients have to be inside;
 # - loops.py runs the loops of docs/embedding.md with losses, repeats and crashes;
 # - the tests of python/, also of the package as pip installs it, without a network.
 #
@@ -90,11 +91,14 @@ if has "$cc"; then
     strict "$here/plan.c" "$build/libqlock_plan.a" "$build/libqlock.a" -o "$work/plan"
     strict "$here/fuzz.c" "$build/libqlock.a" -o "$work/fuzz"
     strict "$here/fuzz_plan.c" "$build/libqlock_plan.a" $counted -o "$work/fuzz-plan"
+    strict "$here/saves.c" "$build/libqlock.a" -o "$work/saves"
     strict "$here/leases.c" "$here/leases_node.c" "$build/libqlock.a" -o "$work/leases"
     try race.c expected.txt "$work/race"
     try plan.c expected-plan.txt "$work/plan"
     holds fuzz.c "$work/fuzz"
     holds fuzz_plan.c "$work/fuzz-plan"
+    ends saves.c 0 "at most one was inside" "$work/saves" 200000 1
+    ends "saves.c without saves" 1 "two clients are inside" "$work/saves" 200000 1 never
     ends leases.c 0 "no two interleave" "$work/leases" 1000 1
     ends "leases.c with a wrong guard" 1 "[0-9]* records have a fault" "$work/leases" 1000 5 5 guard
     # the allocator of a sanitizer finds memory that is used after it was given back

@@ -102,16 +102,34 @@ static void check_client(const struct block *b, int32_t result) {
         fail("its state is not read", result);
 }
 
-/* the calls for grants that are let go, and for a voter or a client that lost its state */
+/* the calls for grants that are let go, and for a voter or a client that lost its state or forgets it */
 static void one_lease(void) {
     size_t written = 7777;
     uint64_t a = 7777, b = 7777, c = 7777;
-    size_t which = below(8);
-    struct block state = which < 4 ? state_of(voter, sizeof voter) : state_of(client, sizeof client), out = block_of(room());
+    int32_t yes = 7777;
+    size_t which = below(10);
+    struct block state = which < 6 ? state_of(voter, sizeof voter) : state_of(client, sizeof client), out = block_of(room());
+    struct block saved = state_of(voter, sizeof voter);
     int32_t result = -1;
-    note(&state), note(&out);
+    note(&state), note(&out), note(&saved);
     int writes_state = 0, writes_out = 0;
     switch (which) {
+    case 4:
+        call = "qlock_voter_forget";
+        result = qlock_voter_forget(state.bytes, state.n);
+        is_named(result, "02");
+        writes_state = result == QLOCK_DONE;
+        check_voter(&state, result);
+        if (below(8) == 0) keep(voter, sizeof voter, &state, result);
+        break;
+    case 5:
+        call = "qlock_voter_must_save";
+        result = qlock_voter_must_save(saved.bytes, saved.n, state.bytes, state.n, &yes);
+        is_named(result, "02");
+        if (result == QLOCK_DONE ? yes != 0 && yes != 1 : yes != 7777) fail("yes", result);
+        if (result == QLOCK_DONE && saved.n == state.n && memcmp(saved.bytes, state.bytes, state.n) == 0 && yes != 0)
+            fail("a save of what is saved", result);
+        break;
     case 0:
         call = "qlock_voter_evict";
         result = qlock_voter_evict(state.bytes, state.n, below(8), out.bytes, out.n, &written);
@@ -139,19 +157,19 @@ static void one_lease(void) {
         writes_state = result == QLOCK_DONE;
         check_voter(&state, result);
         break;
-    case 4:
+    case 6:
         call = "qlock_client_disclaim";
         result = qlock_client_disclaim(state.bytes, state.n, rnd(), out.bytes, out.n, &written);
         is_named(result, "0245");
         writes_out = result == QLOCK_DONE;
         break;
-    case 5:
+    case 7:
         call = "qlock_client_renew";
         result = qlock_client_renew(state.bytes, state.n, out.bytes, out.n, &written);
         is_named(result, "024");
         writes_out = result == QLOCK_DONE;
         break;
-    case 6:
+    case 8:
         call = "qlock_client_raise";
         result = qlock_client_raise(state.bytes, state.n, number());
         is_named(result, "02");
@@ -170,6 +188,57 @@ static void one_lease(void) {
     else if (written != 7777) fail("wrote a count", result);
     end(&state, writes_state, result);
     end(&out, writes_out, result);
+    end(&saved, 0, result);
+}
+
+/* whether all members of some of the masks are among the voters, and whether each of the first meets each of the second */
+static int has_one(const uint64_t *masks, size_t n, uint64_t among) {
+    for (size_t i = 0; i < n; i++)
+        if ((masks[i] & ~among) == 0) return 1;
+    return 0;
+}
+
+static int all_meet(const uint64_t *firsts, size_t n, const uint64_t *seconds, size_t m) {
+    for (size_t i = 0; i < n; i++)
+        for (size_t j = 0; j < m; j++)
+            if ((firsts[i] & seconds[j]) == 0) return 0;
+    return 1;
+}
+
+/* masks of a few voters, now and then 0 */
+static int fill_masks(struct block *b) {
+    int zero = b->n == 0;
+    for (size_t i = 0; i < b->n / 8; i++) {
+        uint64_t mask = below(30) == 0 ? 0 : below(2) ? rnd() | rnd() : rnd() & 31;
+        memcpy(b->bytes + 8 * i, &mask, 8);
+        zero |= mask == 0;
+    }
+    return zero;
+}
+
+/* the calls on quorums */
+static void one_quorum(void) {
+    struct block first = block_of(8 * below(6)), second = block_of(8 * below(4));
+    int zero = fill_masks(&first), other_zero = fill_masks(&second);
+    uint64_t among = below(2) ? rnd() & 31 : rnd() | rnd() | rnd();
+    int32_t yes = 7777, result, wanted;
+    note(&first), note(&second);
+    const uint64_t *firsts = (const uint64_t *)(const void *)first.bytes, *seconds = (const uint64_t *)(const void *)second.bytes;
+    if (below(2)) {
+        call = "qlock_has_quorum";
+        result = qlock_has_quorum(firsts, first.n / 8, among, &yes);
+        wanted = has_one(firsts, first.n / 8, among);
+    } else {
+        call = "qlock_bridge";
+        result = qlock_bridge(firsts, first.n / 8, seconds, second.n / 8, &yes);
+        wanted = all_meet(firsts, first.n / 8, seconds, second.n / 8);
+        zero |= other_zero;
+    }
+    is_named(result, "01");
+    if ((result == QLOCK_BAD_ARGUMENT) != (zero != 0)) fail("refused", result);
+    if (yes != (result == QLOCK_DONE ? wanted : 7777)) fail("yes", result);
+    end(&first, 0, result);
+    end(&second, 0, result);
 }
 
 static void one_call(void) {
@@ -315,6 +384,7 @@ int main(int argc, char **argv) {
         if (i % 500 == 0) fresh();
         one_call();
         if (i % 4 == 0) one_lease();
+        if (i % 8 == 0) one_quorum();
     }
     if (done < calls / 5) fail("hardly a call was done, so this tried little", 0);
     printf("the boundary holds\n");

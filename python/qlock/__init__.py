@@ -5,10 +5,25 @@ Save, then send: a `Store` keeps the bytes in a file over crashes, and makes no 
 protects. A `Plan` says which quorum to ask, ticket by ticket. Why a coterie or a plan was refused is in the module `refusals`.
 
 The libraries are found by the environment variable QLOCK_LIBRARY, the path of libqlock.so, with libqlock_plan.so beside it or
-at QLOCK_PLAN_LIBRARY; or by their names. Each is loaded at its first call.
+at QLOCK_PLAN_LIBRARY; or they are in the wheel; or by their names. Each is loaded at its first call. `library_version()` is the
+version of libqlock.
 """
 from . import refusals
-from .automata import CLIENT_BYTES, MAX_STAMP, PASS_BYTES, VOTER_BYTES, Client, Fence, Grant, Known, Phase, Taken, Voter
+from .automata import (
+    CLIENT_BYTES,
+    MAX_STAMP,
+    PASS_BYTES,
+    VOTER_BYTES,
+    Client,
+    Fence,
+    Grant,
+    Known,
+    Phase,
+    Taken,
+    Voter,
+    has_quorum,
+    is_bridge,
+)
 from .faults import (
     BadArgument,
     BadMessage,
@@ -26,12 +41,17 @@ from .faults import (
     StampsSpent,
     TurnsSpent,
 )
+from .library import library_version
 from .plans import MAX_TICKETS, Order, Plan, Quorum, Slack, names_of
 from .store import Damaged, Exists, InUse, Missing, Store, StoreFault, WrongOwner
+
+__version__ = "0.2.0"
 
 __all__ = [
     "BadArgument", "BadMessage", "BadState", "Busy", "CLIENT_BYTES", "Client", "Damaged", "Exists", "Fault", "Fence",
     "Grant", "GrantsSpent", "InUse", "Known", "MAX_STAMP", "MAX_TICKETS", "Missing", "NoMemory", "NoPass", "NoRoom", "NotAsking",
     "NotInside", "OlderGrant", "Order", "PASS_BYTES", "Phase", "Plan", "Quorum", "Refused", "Slack", "StampsSpent",
-    "Store", "StoreFault", "Taken", "TurnsSpent", "VOTER_BYTES", "Voter", "WrongOwner", "names_of", "refusals",
+    "Store", "StoreFault", "Taken", "TurnsSpent", "VOTER_BYTES", "Voter", "WrongOwner", "has_quorum", "is_bridge",
+    "library_version", "names_of",
+    "refusals",
 ]

@@ -1,4 +1,4 @@
-"""The voter, the client and the guard."""
+"""The voter, the client and the guard, and what quorums lie within voters."""
 import ctypes
 import enum
 from typing import Any, Iterable, List, NamedTuple, Optional, Tuple
@@ -67,6 +67,27 @@ def mask_of(voters: Iterable[int]) -> int:
     for voter in voters:
         mask |= 1 << _number(voter, 0, 63, "a voter")
     return mask
+
+
+def _masks_of(quorums: Iterable[Iterable[int]]) -> Tuple[Any, int]:
+    masks = [mask_of(quorum) for quorum in quorums]
+    return (ctypes.c_uint64 * max(len(masks), 1))(*masks), len(masks)
+
+
+def has_quorum(quorums: Iterable[Iterable[int]], voters: Iterable[int]) -> bool:
+    """Returns whether all members of some of the quorums are among these voters. Raises `BadArgument` if there is no quorum, or
+    one has no member."""
+    yes = ctypes.c_int32()
+    call("has_quorum", *_masks_of(quorums), mask_of(voters), ctypes.byref(yes))
+    return yes.value == 1
+
+
+def is_bridge(firsts: Iterable[Iterable[int]], seconds: Iterable[Iterable[int]]) -> bool:
+    """Returns whether each of the first quorums has a common member with each of the second. Raises `BadArgument` if there are
+    none of the first or of the second, or one has no member."""
+    yes = ctypes.c_int32()
+    call("bridge", *_masks_of(firsts), *_masks_of(seconds), ctypes.byref(yes))
+    return yes.value == 1
 
 
 class _State:
@@ -159,6 +180,18 @@ class Voter(_State):
         number = _number(client, 0, 63, "the client")
         call("voter_knows", *self._given(), number, ctypes.byref(stamp), ctypes.byref(finished), ctypes.byref(seen))
         return Known(stamp.value or None, finished.value, seen.value)
+
+    def forget(self) -> None:
+        """Forgets all but the least that has to survive a crash: the grant that holds the vote, and the number of grants. The
+        clients' reminders bring the waiting requests back."""
+        call("voter_forget", *self._given())
+
+    def must_save(self, saved: bytes) -> bool:
+        """Returns whether the voter has to be saved before its lines leave, if it was last saved as these bytes, and forgets at
+        each start. Raises `BadState` if they are those of no voter."""
+        yes = ctypes.c_int32()
+        call("voter_must_save", saved, len(saved), *self._given(), ctypes.byref(yes))
+        return yes.value == 1
 
 
 class Client(_State):

@@ -15,6 +15,7 @@ _U64 = ctypes.c_uint64
 _SIZE_OUT = ctypes.POINTER(ctypes.c_size_t)
 _U64_OUT = ctypes.POINTER(ctypes.c_uint64)
 _I32_OUT = ctypes.POINTER(ctypes.c_int32)
+_MASKS = [ctypes.POINTER(ctypes.c_uint64), ctypes.c_size_t]
 _STATE = [_BUFFER, _SIZE]
 _OUT = [_BUFFER, _SIZE, _SIZE_OUT]
 _LINE = [_BYTES, _SIZE]
@@ -28,6 +29,8 @@ _CALLS: Dict[str, List[Any]] = {
     "voter_extend": [*_STATE, _U64],
     "voter_evict": [*_STATE, _U64, *_OUT],
     "voter_knows": [*_STATE, _U8, _U64_OUT, _U64_OUT, _U64_OUT],
+    "voter_forget": _STATE,
+    "voter_must_save": [*_LINE, *_STATE, _I32_OUT],
     "client_new": [_U8, _U64, *_STATE],
     "client_ask": [*_STATE, _U64, *_OUT],
     "client_take": [*_STATE, *_LINE, *_OUT, _I32_OUT],
@@ -42,6 +45,8 @@ _CALLS: Dict[str, List[Any]] = {
     "client_raise": [*_STATE, _U64],
     "client_disclaim": [*_STATE, _U64, *_OUT],
     "client_renew": [*_STATE, *_OUT],
+    "has_quorum": [*_MASKS, _U64, _I32_OUT],
+    "bridge": [*_MASKS, *_MASKS, _I32_OUT],
     "fence_new": _STATE,
     "fence_admit": [*_STATE, _BYTES, _SIZE, _U64_OUT],
 }
@@ -68,27 +73,41 @@ def _opened(path: str, calls: Dict[str, List[Any]]) -> ctypes.CDLL:
     return library
 
 
+def _beside_this(name: str) -> str:
+    """Returns the file of this name beside this module, where a wheel has it, or the name alone."""
+    file = os.path.join(os.path.dirname(os.path.abspath(__file__)), name)
+    return file if os.path.exists(file) else name
+
+
 def load(path: Optional[str] = None) -> ctypes.CDLL:
-    """Loads libqlock, once. `path` is its file; else QLOCK_LIBRARY, else the name libqlock.so."""
+    """Loads libqlock, once. `path` is its file; else QLOCK_LIBRARY, else the one of the wheel, else the name libqlock.so."""
     global _library
     if _library is None:
-        _library = _opened(path or os.environ.get("QLOCK_LIBRARY") or "libqlock.so", _CALLS)
+        _library = _opened(path or os.environ.get("QLOCK_LIBRARY") or _beside_this("libqlock.so"), _CALLS)
     return _library
 
 
 def _plan_path() -> str:
-    """Returns the file of libqlock_plan: QLOCK_PLAN_LIBRARY, else the one beside QLOCK_LIBRARY, else its name."""
+    """Returns the file of libqlock_plan: QLOCK_PLAN_LIBRARY, else the one beside QLOCK_LIBRARY or of the wheel, else its name."""
     given, beside = os.environ.get("QLOCK_PLAN_LIBRARY"), os.environ.get("QLOCK_LIBRARY")
-    return given or os.path.join(os.path.dirname(beside or ""), "libqlock_plan.so")
+    if given:
+        return given
+    return os.path.join(os.path.dirname(beside), "libqlock_plan.so") if beside else _beside_this("libqlock_plan.so")
 
 
 def load_plan(path: Optional[str] = None) -> ctypes.CDLL:
-    """Loads libqlock_plan, once. `path` is its file; else QLOCK_PLAN_LIBRARY, else libqlock_plan.so beside QLOCK_LIBRARY,
-    else that name alone."""
+    """Loads libqlock_plan, once. `path` is its file; else QLOCK_PLAN_LIBRARY, else libqlock_plan.so beside QLOCK_LIBRARY
+    or in the wheel, else that name alone."""
     global _plan_library
     if _plan_library is None:
         _plan_library = _opened(path or _plan_path(), _PLAN_CALLS)
     return _plan_library
+
+
+def library_version() -> str:
+    """Returns the version of libqlock, as in "0.2.0"."""
+    number = load().qlock_version()
+    return f"{number // 10000}.{number // 100 % 100}.{number % 100}"
 
 
 def call(name: str, *arguments: Any) -> None:

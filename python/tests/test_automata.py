@@ -124,6 +124,53 @@ class Leases(unittest.TestCase):
         self.assertEqual(again.ask([0]), [b"request 0 0 10"])
 
 
+class Saves(unittest.TestCase):
+    """What a voter has to save that forgets at each start."""
+
+    def test_only_a_new_grant_has_to_be_saved(self):
+        voter = qlock.Voter(0)
+        saved = voter.state
+        self.assertFalse(voter.must_save(saved))
+        voter.take(b"request 0 0 1")
+        self.assertTrue(voter.must_save(saved))
+        saved = voter.state
+        self.assertEqual(voter.take(b"request 1 0 2"), [b"fail 0 1 2 2"])
+        self.assertNotEqual(voter.state, saved)
+        self.assertFalse(voter.must_save(saved))
+        voter.take(b"release 0 0 1")
+        self.assertTrue(voter.must_save(saved))
+        with self.assertRaises(qlock.BadState):
+            voter.must_save(b"")
+
+    def test_voter_that_forgets_keeps_its_grant(self):
+        voter = qlock.Voter(0)
+        voter.take(b"request 0 0 1")
+        voter.take(b"request 1 0 2")
+        voter.forget()
+        self.assertEqual(voter.held(), (0, 1, 1))
+        self.assertEqual(voter.knows(1), qlock.Known(None, 0, 0))
+        self.assertEqual(voter.take(b"release 0 0 1"), [])
+        self.assertEqual(voter.take(b"request 1 0 2"), [b"locked 0 1 2 2 2"])
+
+
+class Quorums(unittest.TestCase):
+    def test_voters_that_are_there_have_a_quorum(self):
+        wheel = [[0, 1], [0, 2], [0, 3], [1, 2, 3]]
+        self.assertTrue(qlock.has_quorum(wheel, [0, 3]))
+        self.assertTrue(qlock.has_quorum(wheel, [1, 2, 3]))
+        self.assertFalse(qlock.has_quorum(wheel, [2, 3]))
+        self.assertFalse(qlock.has_quorum(wheel, []))
+
+    def test_bridge_is_between_coteries_that_meet(self):
+        self.assertTrue(qlock.is_bridge([[0, 1], [0, 2], [1, 2]], [[0, 1], [0, 2], [1, 2, 63]]))
+        self.assertFalse(qlock.is_bridge([[0, 1], [1, 2]], [[63]]))
+
+    def test_nothing_is_said_of_no_quorums(self):
+        for call in (lambda: qlock.has_quorum([], [0]), lambda: qlock.is_bridge([[0]], []), lambda: qlock.has_quorum([[0], []], [0])):
+            with self.assertRaises(qlock.BadArgument):
+                call()
+
+
 class Crashes(unittest.TestCase):
     """Random runs of three clients: messages are lost, repeated, late and out of order, and voters and clients crash, which
     undoes steps that sent nothing since the last save. Clients also forget. At most one is inside, and then votes come back."""

@@ -99,7 +99,7 @@ in_order story pairs seen (w ∷ ws) ins admitted =
 
 -- ---- two moments
 
-befall-append : (deal : Dealing) (is js : List Incident) (s : Saved) → all_befall deal (is ++ js) s ≡ all_befall deal js (all_befall deal is s)
+pub befall-append : (deal : Dealing) (is js : List Incident) (s : Saved) → all_befall deal (is ++ js) s ≡ all_befall deal js (all_befall deal is s)
 befall-append deal [] js s = refl
 befall-append deal (i ∷ is) js s = befall-append deal is js (befalls deal s i)
 

@@ -1,8 +1,12 @@
 pub mod Comeback
 pub mod Drained
 pub mod Guards
+pub mod NodeRunLemmas
 pub mod Numbers
 pub mod PassLemmas
 pub mod Passes
+pub mod Raises
 pub mod Rebirths
+pub mod Resumed
+pub mod ServiceLemmas
 pub mod Turns

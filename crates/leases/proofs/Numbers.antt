@@ -53,7 +53,8 @@ use Rattle.world.proofs.ClientMoves.{Draws, member_below}
 use Rattle.world.proofs.Places.{client_at-set, voter_at-set}
 use Rattle.world.proofs.Reached.{Given, accepts_among, start_ok, start_unused}
 use Rattle.world.proofs.Restarts.{AreAll, within_or}
-use Rattle.leases.specs.Incidents.{AreApart, Incident, Happens, Hears, IsReborn, StartsAnew, all_befall, anew, be_reborn, befalls, come_back_as, hear, is_above, is_ahead, is_message, is_request_within, reborn, start_anew, start_as}
+use Rattle.leases.specs.Incidents.{AreApart, Incident, Happens, Hears, IsReborn, StartsAnew, HasLimit, IsRaised, all_befall, anew, be_raised, be_reborn, befalls, come_back_as, have_limit, hear, is_above, is_ahead, is_limit, is_message, is_request_within, limited, reborn, start_anew, start_as}
+use Rattle.leases.proofs.Raises.{no_inquiry, raised_by_step}
 
 -- ---- what is named
 
@@ -786,10 +787,13 @@ reborn_on b G s ok v above true is =
     let second = saved_voter b first.named t first.ok v z (reborn_votes b G first.named v y above (ok.live_voters v) most) (let behind = ok.behind v in omega arith) (omega arith) in
     then_on b G s t (come_back_as s v z) first second
 
+pub anew_sound : (b : Bounds) → Given b → (x : ClientState) (clock : ℕ) → sound.IsSound x → clock ≤ x.limit → sound.IsSound (anew x clock)
+anew_sound b given x clock was most = IsSound-clear_votes (anew x clock) Idle refl was.id was.some was.limit
+    (given.client.first x.id x.limit was.id was.some was.limit).places.last most (same_number clock) tt (λ busy. absurd (false≢true (sym busy)))
+
 anew_knows : (b : Bounds) → Given b → (G H : Naming) (N M : ℕ → ℕ) (c : ℕ) (x : ClientState) (clock : ℕ) → Knows b G N c x → clock ≤ x.limit → Knows b H M c (anew x clock)
 anew_knows b given G H N M c x clock was most = record {
-  sound = IsSound-clear_votes (anew x clock) Idle refl was.sound.id was.sound.some was.sound.limit
-      (given.client.first x.id x.limit was.sound.id was.sound.some was.sound.limit).places.last most (same_number clock) tt (λ busy. absurd (false≢true (sym busy)));
+  sound = anew_sound b given x clock was.sound most;
   quorum = inl refl;
   id = was.id;
   limit = was.limit;
@@ -810,11 +814,71 @@ anew_on b given G s ok c clock true is =
     let second = come_back_on b first.named t first.ok c y (anew_knows b given G first.named (count s.voters) (count s.voters) c x clock (ok.live_clients c) most) in
     then_on b G s t (start_as s c y) first second
 
+limited_votes : (b : Bounds) → Given b → (G : Naming) (v : ℕ) (y : VoterState) (limit : ℕ) → Votes b G v y → y.granted ≤ limit → limit ≤ b.limit → Votes b G v (limited y limit)
+limited_votes b given G v y limit was least most = record {
+  sound = record {
+    limit = (let few = given.limits.few_stamps in omega arith);
+    granted = least;
+    numbered = was.sound.numbered;
+    apart = was.sound.apart;
+    free = was.sound.free;
+  };
+  id = was.id;
+  limit = most;
+  entries = was.entries;
+  held = was.held;
+  latest = was.latest;
+}
+
+-- what the condition on a limit says
+pub record MayHave (b : Bounds) (s : Saved) (v limit : ℕ) : Type 0 where
+  pub within : v < length s.live.voters
+  pub least : (voter_at s.live.voters v).granted ≤ limit
+  pub most : limit ≤ b.limit
+
+pub may_have : (b : Bounds) (s : Saved) → length s.live.clients ≡ b.clients → (0 < b.clients → (client_at s.live.clients 0).limit ≡ b.limit) → (v limit : ℕ)
+    → (nat_lt v (length s.live.voters) && is_limit s v limit) ≡ true → MayHave b s v limit
+may_have b s size highest v limit is =
+    let y = voter_at s.live.voters v in
+    let x = client_at s.live.clients 0 in
+    let parts = both (nat_lt v (length s.live.voters)) (is_limit s v limit) is in
+    let rest = both (nat_lt 0 (length s.live.clients)) (nat_le y.granted limit && nat_le limit x.limit) parts.1 in
+    let ends = both (nat_le y.granted limit) (nat_le limit x.limit) rest.1 in
+    let some : 0 < length s.live.clients = ltb-true _ _ rest.0 in
+    let same = highest (subst (λ n. 0 < n) size some) in
+    let up : limit ≤ x.limit = (let h = ends.1 in grind (arith, nat_tests)) in
+    record {
+      within = ltb-true _ _ parts.0;
+      least = (let h = ends.0 in grind (arith, nat_tests));
+      most = omega arith;
+    }
+
+limited_on : (b : Bounds) → Given b → (G : Naming) (s : Saved) → Numbered b G s → (v limit : ℕ) (t : Bool) → (nat_lt v (length s.live.voters) && is_limit s v limit) ≡ t
+    → Goes_on b G s (have_limit t s v limit)
+limited_on b given G s ok v limit false is = stays b G s ok
+limited_on b given G s ok v limit true is =
+    let may = may_have b s ok.sizes.0 ((ok.live_clients 0).limit) v limit is in
+    live_voter b G s ok v (limited (voter_at s.live.voters v) limit) (limited_votes b given G v (voter_at s.live.voters v) limit (ok.live_voters v) may.least may.most) (ok.behind v)
+
+raised_on : (b : Bounds) → Given b → (G : Naming) (s : Saved) → Numbered b G s → (c clock : ℕ) (t : Bool) → nat_lt c (length s.live.clients) ≡ t → Goes_on b G s (be_raised t s c clock)
+unfolding client.step
+raised_on b given G s ok c clock false is = stays b G s ok
+raised_on b given G s ok c clock true is =
+    let x = client_at s.live.clients c in
+    subst (λ (u : Saved). Goes_on b G s u) (raised_by_step s c clock) (client_tried b given G s ok c (client.Takes (no_inquiry x clock)) (record {
+      within = subst (λ n. c < n) ok.sizes.0 (ltb-true _ _ is);
+      accepts = (refl, omega arith);
+      draws = tt;
+      came = λ v t g never. absurd never;
+    }) (Ok (client.take x (no_inquiry x clock))) refl)
+
 pub befalls_on : (b : Bounds) → Given b → (deal : Dealing) → DealsFrom b.quorums deal → (G : Naming) (s : Saved) → Numbered b G s → (i : Incident) → Goes_on b G s (befalls deal s i)
 befalls_on b given deal deals G s ok (Happens h) = happens_on b given deal deals G s ok h
 befalls_on b given deal deals G s ok (Hears m) = hear_on b given G s ok m
 befalls_on b given deal deals G s ok (IsReborn v above) = reborn_on b G s ok v above _ refl
 befalls_on b given deal deals G s ok (StartsAnew c clock) = anew_on b given G s ok c clock _ refl
+befalls_on b given deal deals G s ok (HasLimit v limit) = limited_on b given G s ok v limit _ refl
+befalls_on b given deal deals G s ok (IsRaised c clock) = raised_on b given G s ok c clock _ refl
 
 pub all_on : (b : Bounds) → Given b → (deal : Dealing) → DealsFrom b.quorums deal → (G : Naming) (s : Saved) → Numbered b G s → (is : List Incident) → Goes_on b G s (all_befall deal is s)
 all_on b given deal deals G s ok [] = stays b G s ok

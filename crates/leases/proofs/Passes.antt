@@ -35,7 +35,8 @@ use Rattle.world.proofs.Claims.{Bounds, put, put-same}
 use Rattle.world.proofs.Places.{client_at-set}
 use Rattle.world.proofs.Reached.{Given, accepts_among}
 use Rattle.world.proofs.Restarts.{within_or}
-use Rattle.leases.specs.Incidents.{Incident, Happens, Hears, IsReborn, StartsAnew, all_befall, anew, be_reborn, befalls, is_ahead, is_message, start_anew}
+use Rattle.leases.specs.Incidents.{Incident, Happens, Hears, IsReborn, StartsAnew, HasLimit, IsRaised, all_befall, anew, be_raised, be_reborn, befalls, have_limit, is_ahead, is_message, start_anew}
+use Rattle.leases.proofs.Raises.{no_inquiry, raised_by_step}
 use Rattle.leases.proofs.Numbers.{Naming, Numbered, Told, all_on, befalls_on, begin_on, both, count, list_all-holds, nobody}
 
 -- ---- a client that is inside
@@ -410,6 +411,19 @@ pair_anew R lasts b G s ok all c clock true is =
     let within : c < length s.live.clients = ltb-true _ _ parts.0 in
     set_both R s.live.clients s.clients c (anew x clock) (anew x clock) within (subst (λ n. c < n) (ok.sizes.0 ∙ sym ok.sizes.2) within) (lasts.anew c x (client_at s.clients c) clock ahead (all c)) all
 
+pair_limited : (R : ℕ → ClientState → ClientState → Type 0) (s : Saved) (v limit : ℕ) (t : Bool) → Pairs R s → Pairs R (have_limit t s v limit)
+pair_limited R s v limit true all = all
+pair_limited R s v limit false all = all
+
+pair_raised : (R : ℕ → ClientState → ClientState → Type 0) → Lasts R → (b : Bounds) → Given b → (G : Naming) (s : Saved) → Numbered b G s → Pairs R s → (c clock : ℕ) (t : Bool)
+    → nat_lt c (length s.live.clients) ≡ t → Pairs R (be_raised t s c clock)
+unfolding client.step
+pair_raised R lasts b given G s ok all c clock false is = all
+pair_raised R lasts b given G s ok all c clock true is =
+    let x = client_at s.live.clients c in
+    subst (λ (u : Saved). Pairs R u) (raised_by_step s c clock) (pair_tried R lasts given.client b s c (client.Takes (no_inquiry x clock))
+    (given_step b G s ok c (ltb-true _ _ is) (client.Takes (no_inquiry x clock)) (refl, omega arith)) all (Ok (client.take x (no_inquiry x clock))) refl)
+
 pair_befalls : (R : ℕ → ClientState → ClientState → Type 0) → Lasts R → (b : Bounds) → Given b → (deal : Dealing) → DealsFrom b.quorums deal → (G : Naming) (s : Saved) → Numbered b G s → Pairs R s
     → (i : Incident) → Pairs R (befalls deal s i)
 pair_befalls R lasts b given deal deals G s ok all (Happens h) = pair_happens R lasts b given deal deals G s ok all h
@@ -417,6 +431,8 @@ pair_befalls R lasts b given deal deals G s ok all (Hears m) = if_voter_pair R s
     (λ t. if_pair R s (OneVoter m.voter) (is_message s m) m.client _ all (λ u. pair_voted R s m.voter (voter.step (voter_at s.live.voters m.voter) m) all))
 pair_befalls R lasts b given deal deals G s ok all (IsReborn v above) = pair_reborn R s v above _ all
 pair_befalls R lasts b given deal deals G s ok all (StartsAnew c clock) = pair_anew R lasts b G s ok all c clock _ refl
+pair_befalls R lasts b given deal deals G s ok all (HasLimit v limit) = pair_limited R s v limit _ all
+pair_befalls R lasts b given deal deals G s ok all (IsRaised c clock) = pair_raised R lasts b given G s ok all c clock _ refl
 
 pair_all : (R : ℕ → ClientState → ClientState → Type 0) → Lasts R → (b : Bounds) → Given b → (deal : Dealing) → DealsFrom b.quorums deal → (is : List Incident) (G : Naming) (s : Saved) → Numbered b G s → Pairs R s
     → Pairs R (all_befall deal is s)

@@ -1,32 +1,46 @@
--- a voter that is reborn once all clients are done with it
-use Rattle.std.proofs.Common.{◌≡◌, ◌≢◌, ℕ, ◌<◌, ◌≤◌, Bool, true, false, cond, List, [], ◌∷◌, length, Some, refl, sym, ap, subst, ◌∙◌, ◌⊎◌, inl, inr, arith, eqb}
-use Rattle.std.specs.Prelude.{◌&&◌, nat_le, nat_lt}
+-- a voter that is reborn once all clients are done with it, and a client that starts anew
+use Rattle.std.proofs.Common.{◌≡◌, ◌≢◌, ℕ, ◌<◌, ◌≤◌, Bool, true, false, cond, List, [], ◌∷◌, ◌++◌, length, None, Some, Ok, refl, sym, ap, subst, ◌∙◌, ◌⊎◌, inl, inr, arith, eqb}
+use Rattle.std.specs.Prelude.{◌&&◌, nat_le, nat_lt, slice_set}
 use Rattle.std.specs.FinMap as fin
 use Rattle.std.specs.Ordering.{nat_cmp}
 use Rattle.std.specs.List.{AllByRecursion}
 use Rattle.std.proofs.lemmas.Option.{none-some}
-use Rattle.std.proofs.lemmas.Bool.{ltb-true}
+use Rattle.std.proofs.lemmas.Bool.{false≢true, ltb-true}
 use Rattle.std.proofs.lemmas.Bool.Decides.{nat_tests}
 use Rattle.std.proofs.lemmas.List.{length-set}
+use Rattle.numbers.proofs.Lists.{AllByRecursion-weaker, slice_index-replicate_zero}
+use Rattle.message.specs.Lines.{voter_number}
+use Rattle.message.specs.declared.message.ToVoter.{ToVoter}
+use Rattle.message.specs.declared.message.VoterBody.{VoterBody}
+use Rattle.message.specs.declared.message.VoterBody.TheVariants as asks
 use Rattle.message.specs.declared.message.Message.{Message}
 use Rattle.message.specs.declared.message.Message.TheVariants as kinds
 use Rattle.message.specs.declared.message.ClientBody.{ClientBody}
 use Rattle.message.specs.declared.message.ClientBody.TheVariants as to_client
 use Rattle.voter.specs.declared.state.VoterState.{VoterState}
 use Rattle.requester.specs.declared.state.ClientState.{ClientState}
-use Rattle.requester.specs.Words.{holds_under}
-use Rattle.world.specs.Restarts.{Saved, begin}
+use Rattle.requester.specs.declared.state.Phase.{Phase}
+use Rattle.requester.specs.declared.state.Phase.TheVariants.{Idle, Asking, Inside}
+use Rattle.requester.specs.RequesterContract.{Sees}
+use Rattle.requester.specs.Steps as client
+use Rattle.requester.specs.Soundness as sound
+use Rattle.requester.specs.Words.{holds_under, is_inside, last_of}
+use Rattle.voter.specs.Steps as voter
+use Rattle.world.specs.Ranges.{IsWithin}
+use Rattle.world.specs.Restarts.{OneVoter, Saved, begin, crash_seen}
 use Rattle.world.specs.Runs.{AreLimits}
-use Rattle.world.specs.Steps.{Dealing, client_at, voter_at}
+use Rattle.world.specs.Steps.{Dealing, client_at, events, voter_at}
 use Rattle.world.specs.Visible.{DealsFrom, DoMeet, IsExclusive}
 use Rattle.world.specs.Rules.{ClientLaws, VoterLaws}
-use Rattle.world.proofs.Claims.{Bounds, ReportOk, MessageOk, VoterOk, WorldOk, put, put-same}
-use Rattle.world.proofs.Places.{voter_at-set}
+use Rattle.world.proofs.Claims.{AskOk, Bounds, ReportOk, MessageOk, VoterOk, WorldOk, put, put-same}
+use Rattle.world.proofs.Exclusion.{Walked, Walked-step}
+use Rattle.world.proofs.Places.{client_at-set, voter_at-set}
 use Rattle.world.proofs.Reached.{Given}
-use Rattle.world.proofs.Restarts.{SavedOk, begin_ok, happens_ok, live_ok}
-use Rattle.leases.specs.Incidents.{Incident, Happens, Hears, IsReborn, StartsAnew, all_befall, be_reborn, befalls, is_above, reborn}
-use Rattle.leases.specs.Orderly.{AreOrderly, CountsNoMore, IsOver, IsPast}
-use Rattle.leases.proofs.Numbers.{both, voter_set_same}
+use Rattle.world.proofs.Restarts.{ComesBack, Mix, SavedOk, begin_ok, client_less, client_tried, happens_ok, if_one, if_voter_one, live_ok, voter_tried}
+use Rattle.leases.specs.Incidents.{Incident, Happens, Hears, IsReborn, StartsAnew, HasLimit, IsRaised, all_befall, anew, be_raised, be_reborn, befalls, have_limit, hear, is_above, is_ahead, is_limit, is_message, is_request_within, limited, reborn, start_anew}
+use Rattle.leases.specs.Orderly.{AreOrderly, CountsNoMore, EndsOld, IsOver, IsPast}
+use Rattle.leases.proofs.Numbers.{anew_sound, both, may_have, voter_set_same}
+use Rattle.leases.proofs.Raises.{no_inquiry, raised_by_step}
 
 put_at : {A : Type 0} (P : A → Type 0) (Y : ℕ → A) (v : ℕ) (z : A) (q : ℕ) → (q ≡ v → P z) → (q ≢ v → P (Y q)) → P (put Y v z q)
 put_at P Y v z q here there = elim (eqb q v) as (λ b. eqb q v ≡ b → P (cond b z (Y q))) [
@@ -48,16 +62,25 @@ abbrev Counts : (ℕ → ClientState) → ℕ → Message → Type 0
 Counts X v (kinds.ToVoter m) = Unit {0}
 Counts X v (kinds.ToClient m) = m.voter ≡ v → IsPast (X m.client) v m.body
 
-past_message : (X : ℕ → ClientState) (Y : ℕ → VoterState) (v : ℕ) (z : VoterState) (m : Message) → MessageOk X Y m → Counts X v m → MessageOk X (put Y v z) m
-past_message X Y v z (kinds.ToVoter m) ok past = ok
-past_message X Y v z (kinds.ToClient m) ok past = put_at (λ (y : VoterState). ReportOk (X m.client) y.held m.voter m.client m.body) Y v z m.voter
+-- a free voter has no grant that a RELINQUISH could end
+ask_free : (x : ClientState) (y z : VoterState) (v c : ℕ) (body : VoterBody) → z.held ≡ None → y.granted ≤ z.granted → AskOk x y v c body → AskOk x z v c body
+ask_free x y z v c (asks.Request t) free few ok = ok
+ask_free x y z v c (asks.Relinquish g) free few ok = ((let most = ok.0 in omega arith), λ t live names. none-some (record { client = c; stamp = t; grant = g }) (sym free ∙ names))
+ask_free x y z v c (asks.Release t) free few ok = ok
+
+past_message : (X : ℕ → ClientState) (Y : ℕ → VoterState) (v : ℕ) (z : VoterState) → z.held ≡ None → (Y v).granted ≤ z.granted → (m : Message) → MessageOk X Y m → Counts X v m
+    → MessageOk X (put Y v z) m
+past_message X Y v z free few (kinds.ToVoter m) ok past = put_at (λ (y : VoterState). AskOk (X m.client) y m.voter m.client m.body) Y v z m.voter
+    (λ same. ask_free (X m.client) (Y m.voter) z m.voter m.client m.body free (subst (λ n. (Y n).granted ≤ z.granted) (sym same) few) ok)
+    (λ other. ok)
+past_message X Y v z free few (kinds.ToClient m) ok past = put_at (λ (y : VoterState). ReportOk (X m.client) y.held m.voter m.client m.body) Y v z m.voter
     (λ same. past_report (X m.client) (Y m.voter).held z m.voter m.client m.body ok (subst (λ (k : ℕ). IsPast (X m.client) k m.body) (sym same) (past same)))
     (λ other. ok)
 
-past_messages : (X : ℕ → ClientState) (Y : ℕ → VoterState) (v : ℕ) (z : VoterState) (ms : List Message) → AllByRecursion (MessageOk X Y) ms → AllByRecursion (Counts X v) ms
-    → AllByRecursion (MessageOk X (put Y v z)) ms
-past_messages X Y v z [] ok past = tt
-past_messages X Y v z (m ∷ ms) ok past = (past_message X Y v z m ok.0 past.0, past_messages X Y v z ms ok.1 past.1)
+past_messages : (X : ℕ → ClientState) (Y : ℕ → VoterState) (v : ℕ) (z : VoterState) → z.held ≡ None → (Y v).granted ≤ z.granted → (ms : List Message) → AllByRecursion (MessageOk X Y) ms
+    → AllByRecursion (Counts X v) ms → AllByRecursion (MessageOk X (put Y v z)) ms
+past_messages X Y v z free few [] ok past = tt
+past_messages X Y v z free few (m ∷ ms) ok past = (past_message X Y v z free few m ok.0 past.0, past_messages X Y v z free few ms ok.1 past.1)
 
 reborn_ok : (b : Bounds) (X : ℕ → ClientState) (y : VoterState) (above : ℕ) → VoterOk b X y → above ≤ y.limit → VoterOk b X (reborn y above)
 reborn_ok b X y above ok most = record {
@@ -75,12 +98,13 @@ reborn_ok b X y above ok most = record {
 }
 
 reborn_world : (b : Bounds) (X : ℕ → ClientState) (Y : ℕ → VoterState) (sent : List Message) (v : ℕ) (z : VoterState) → WorldOk b X Y sent → VoterOk b X z → (v < b.voters → z.id ≡ v)
-    → ((c g : ℕ) → holds_under (X c) v g ≡ true → ⊥) → AllByRecursion (Counts X v) sent → WorldOk b X (put Y v z) sent
-reborn_world b X Y sent v z ok here id none past = record {
-  messages = past_messages X Y v z sent ok.messages past;
+    → z.held ≡ None → (Y v).granted ≤ z.granted → ((c g : ℕ) → holds_under (X c) v g ≡ true → ⊥) → AllByRecursion (Counts X v) sent → WorldOk b X (put Y v z) sent
+reborn_world b X Y sent v z ok here id free few none past = record {
+  messages = past_messages X Y v z free few sent ok.messages past;
   ranges = ok.ranges;
   held = λ c q g is. put_at (λ (y : VoterState). y.held ≡ Some (record { client = c; stamp = (X c).stamp; grant = g })) Y v z q
       (λ same. absurd (none c g (subst (λ (k : ℕ). holds_under (X c) k g ≡ true) same is))) (λ other. ok.held c q g is);
+  last = λ c q. put_at (λ (y : VoterState). last_of (X c) q ≤ y.granted) Y v z q (λ same. let most = subst (λ n. last_of (X c) q ≤ (Y n).granted) same (ok.last c q) in omega arith) (λ other. ok.last c q);
   clients = ok.clients;
   voters = λ q. put_at (λ (y : VoterState). VoterOk b X y) Y v z q (λ same. here) (λ other. ok.voters q);
   client_ids = ok.client_ids;
@@ -89,17 +113,14 @@ reborn_world b X Y sent v z ok here id none past = record {
 
 -- ---- live and saved
 
-abbrev Mixed : {A : Type 0} → (ℕ → A) → (ℕ → A) → (ℕ → A) → Type 0
-Mixed L K X = (q : ℕ) → (X q ≡ L q) ⊎ (X q ≡ K q)
-
-one_past : (L K : ℕ → ClientState) (v : ℕ) (X : ℕ → ClientState) → Mixed L K X → (m : Message) → Counts L v m → Counts K v m → Counts X v m
+one_past : (L K : ℕ → ClientState) (v : ℕ) (X : ℕ → ClientState) → Mix L K X → (m : Message) → Counts L v m → Counts K v m → Counts X v m
 one_past L K v X mix (kinds.ToVoter m) live saved = tt
 one_past L K v X mix (kinds.ToClient m) live saved = λ same. elim (mix m.client) [
   | inl e ↦ subst (λ (x : ClientState). IsPast x v m.body) (sym e) (live same)
   | inr e ↦ subst (λ (x : ClientState). IsPast x v m.body) (sym e) (saved same)
 ]
 
-all_past : (L K : ℕ → ClientState) (v : ℕ) (X : ℕ → ClientState) → Mixed L K X → (ms : List Message) → AllByRecursion (Counts L v) ms → AllByRecursion (Counts K v) ms → AllByRecursion (Counts X v) ms
+all_past : (L K : ℕ → ClientState) (v : ℕ) (X : ℕ → ClientState) → Mix L K X → (ms : List Message) → AllByRecursion (Counts L v) ms → AllByRecursion (Counts K v) ms → AllByRecursion (Counts X v) ms
 all_past L K v X mix [] live saved = tt
 all_past L K v X mix (m ∷ ms) live saved = (one_past L K v X mix m live.0 saved.0, all_past L K v X mix ms live.1 saved.1)
 
@@ -124,6 +145,7 @@ rebirth_ok b given s ok v above over true is =
     let parts = both (nat_lt v (length s.live.voters)) (is_above y above) is in
     let ends = both (nat_le y.granted above) (nat_le above y.limit) parts.1 in
     let most : above ≤ y.limit = (let h = ends.1 in grind (arith, nat_tests)) in
+    let least : y.granted ≤ above = (let h = ends.0 in grind (arith, nat_tests)) in
     let within : v < length s.live.voters = ltb-true _ _ parts.0 in
     let within_b : v < b.voters = subst (λ n. v < n) ok.sizes.1 within in
     let within_saved : v < length s.voters = subst (λ n. v < n) (sym ok.sizes.3) within_b in
@@ -136,7 +158,7 @@ rebirth_ok b given s ok v above over true is =
             | inr e ↦ e ∙ voter_set_same s.voters v z within_saved
           ] in
           let Z = put Y v y in
-          let before : Mixed M N Z = λ q. put_at (λ (a : VoterState). (a ≡ M q) ⊎ (a ≡ N q)) Y v y q (λ same. inl (ap M (sym same)))
+          let before : Mix M N Z = λ q. put_at (λ (a : VoterState). (a ≡ M q) ⊎ (a ≡ N q)) Y v y q (λ same. inl (ap M (sym same)))
           (λ apart. elim (other q) [
             | inl e ↦ inl (e ∙ ap (λ (f : ℕ → VoterState). f q) (voter_at-set s.live.voters v z within) ∙ put_at (λ (a : VoterState). a ≡ M q) M v z q (λ same. absurd (apart same)) (λ _. refl))
             | inr e ↦ inr (e ∙ ap (λ (f : ℕ → VoterState). f q) (voter_at-set s.voters v z within_saved) ∙ put_at (λ (a : VoterState). a ≡ N q) N v z q (λ same. absurd (apart same)) (λ _. refl))
@@ -149,17 +171,206 @@ rebirth_ok b given s ok v above over true is =
           let past = all_past L K v X mix s.live.sent (all_counts s.live.clients v s.live.sent over.0.messages) (all_counts s.clients v s.live.sent over.1.messages) in
           let old : VoterOk b X y = subst (λ (a : VoterState). VoterOk b X a) (put-same Y v y) (world.voters v) in
           subst (λ (W : ℕ → VoterState). WorldOk b X W s.live.sent) (put_back Y v y z at)
-          (reborn_world b X Z s.live.sent v z world (reborn_ok b X y above old most) (λ w. live.voter_ids v w) none past);
+          (reborn_world b X Z s.live.sent v z world (reborn_ok b X y above old most) (λ w. live.voter_ids v w) refl (subst (λ (a : VoterState). a.granted ≤ above) (sym (put-same Y v y)) least) none past);
       walked = ok.walked;
       insides = ok.insides;
     }
 
+-- ---- a client that starts anew
+
+anew_comes : (b : Bounds) → Given b → (x : ClientState) (clock : ℕ) → sound.IsSound x → x.stamp ≤ clock → clock ≤ x.limit → ComesBack x (anew x clock)
+anew_comes b given x clock ok least most = record {
+  sound = anew_sound b given x clock ok most;
+  id = refl;
+  limit = refl;
+  stamp = least;
+  idle = refl;
+  last = λ v. (let none = slice_index-replicate_zero 64 v in omega arith);
+  quorum = refl;
+}
+
+-- the client was inside and leaves, or was not
+left_by : (p : Phase) → Sees p (crash_seen (is_inside p) false) Idle
+left_by Idle = refl
+left_by Asking = refl
+left_by Inside = (refl, refl)
+
+inside_both : (L K : ℕ → ClientState) (c : ℕ) (z : ClientState) → ((q : ℕ) → is_inside (K q).phase ≡ true → is_inside (L q).phase ≡ true) → (q : ℕ) → is_inside (put K c z q).phase ≡ true
+    → is_inside (put L c z q).phase ≡ true
+inside_both L K c z behind q = elim (eqb q c) as (λ t. is_inside (cond t z (K q)).phase ≡ true → is_inside (cond t z (L q)).phase ≡ true) [ true ↦ λ e. e | false ↦ behind q ]
+
+anew_ok : (b : Bounds) → Given b → (s : Saved) → SavedOk b s → (c clock : ℕ) (t : Bool) → (nat_lt c (length s.live.clients) && is_ahead (client_at s.live.clients c) clock) ≡ t
+    → SavedOk b (start_anew t s c clock)
+anew_ok b given s ok c clock false is = ok
+anew_ok b given s ok c clock true is =
+    let L = client_at s.live.clients in
+    let K = client_at s.clients in
+    let M = voter_at s.live.voters in
+    let x = L c in
+    let z = anew x clock in
+    let parts = both (nat_lt c (length s.live.clients)) (is_ahead x clock) is in
+    let ends = both (nat_le x.stamp clock) (nat_le clock x.limit) parts.1 in
+    let least : x.stamp ≤ clock = (let h = ends.0 in grind (arith, nat_tests)) in
+    let most : clock ≤ x.limit = (let h = ends.1 in grind (arith, nat_tests)) in
+    let within : c < length s.live.clients = ltb-true _ _ parts.0 in
+    let within_saved : c < length s.clients = subst (λ n. c < n) (sym ok.sizes.2) (subst (λ n. c < n) ok.sizes.0 within) in
+    let comes = anew_comes b given x clock ((live_ok b s ok).clients c).sound least most in
+    let live : put L c z ≡ client_at (slice_set s.live.clients c z) = sym (client_at-set s.live.clients c z within) in
+    let saved : put K c z ≡ client_at (slice_set s.clients c z) = sym (client_at-set s.clients c z within_saved) in
+    record {
+      sizes = (length-set s.live.clients c z ∙ ok.sizes.0, ok.sizes.1, length-set s.clients c z ∙ ok.sizes.2, ok.sizes.3);
+      mixes = λ X Y mix other.
+          let at : X c ≡ z = elim (mix c) [
+            | inl e ↦ e ∙ ap (λ (f : ℕ → ClientState). f c) (sym live) ∙ put-same L c z
+            | inr e ↦ e ∙ ap (λ (f : ℕ → ClientState). f c) (sym saved) ∙ put-same K c z
+          ] in
+          let Z = put X c x in
+          let before : Mix L K Z = λ q. put_at (λ (a : ClientState). (a ≡ L q) ⊎ (a ≡ K q)) X c x q (λ same. inl (ap L (sym same)))
+          (λ apart. elim (mix q) [
+            | inl e ↦ inl (e ∙ ap (λ (f : ℕ → ClientState). f q) (sym live) ∙ put_at (λ (a : ClientState). a ≡ L q) L c z q (λ same. absurd (apart same)) (λ _. refl))
+            | inr e ↦ inr (e ∙ ap (λ (f : ℕ → ClientState). f q) (sym saved) ∙ put_at (λ (a : ClientState). a ≡ K q) K c z q (λ same. absurd (apart same)) (λ _. refl))
+          ]) in
+          subst (λ (W : ℕ → ClientState). WorldOk b W Y s.live.sent) (put_back X c x z at)
+          (client_less b Z Y s.live.sent c z (ok.mixes Z Y before other) (subst (λ (a : ClientState). ComesBack a z) (sym (put-same X c x)) comes));
+      walked = subst (λ (W : ℕ → ClientState). Walked (s.live.visible ++ events c (crash_seen (is_inside x.phase) false)) W) live
+          (Walked-step s.live.visible L c z (crash_seen (is_inside x.phase) false) ok.walked (left_by x.phase)
+          (λ d in_c in_d. absurd (false≢true (sym (ap (λ (a : ClientState). is_inside a.phase) (put-same L c z)) ∙ in_c))));
+      insides = subst (λ (W : ℕ → ClientState). (q : ℕ) → is_inside (client_at (slice_set s.clients c z) q).phase ≡ true → is_inside (W q).phase ≡ true) live
+          (subst (λ (W : ℕ → ClientState). (q : ℕ) → is_inside (W q).phase ≡ true → is_inside (put L c z q).phase ≡ true) saved (inside_both L K c z ok.insides));
+    }
+
+-- ---- a voter with another limit
+
+ask_limited : (x : ClientState) (y : VoterState) (limit v c : ℕ) (body : VoterBody) → AskOk x y v c body → AskOk x (limited y limit) v c body
+ask_limited x y limit v c (asks.Request t) ok = ok
+ask_limited x y limit v c (asks.Relinquish g) ok = ok
+ask_limited x y limit v c (asks.Release t) ok = ok
+
+limited_message : (X : ℕ → ClientState) (Y : ℕ → VoterState) (v limit : ℕ) (m : Message) → MessageOk X Y m → MessageOk X (put Y v (limited (Y v) limit)) m
+limited_message X Y v limit (kinds.ToVoter m) ok = put_at (λ (y : VoterState). AskOk (X m.client) y m.voter m.client m.body) Y v (limited (Y v) limit) m.voter
+    (λ same. ask_limited (X m.client) (Y v) limit m.voter m.client m.body (subst (λ (k : ℕ). AskOk (X m.client) (Y k) m.voter m.client m.body) same ok))
+    (λ other. ok)
+limited_message X Y v limit (kinds.ToClient m) ok = put_at (λ (y : VoterState). ReportOk (X m.client) y.held m.voter m.client m.body) Y v (limited (Y v) limit) m.voter
+    (λ same. subst (λ (k : ℕ). ReportOk (X m.client) (Y k).held m.voter m.client m.body) same ok)
+    (λ other. ok)
+
+limited_ok : (b : Bounds) → Given b → (X : ℕ → ClientState) (y : VoterState) (limit : ℕ) → VoterOk b X y → y.granted ≤ limit → limit ≤ b.limit → VoterOk b X (limited y limit)
+limited_ok b given X y limit ok least most = record {
+  sound = record {
+    limit = (let few = given.limits.few_stamps in omega arith);
+    granted = least;
+    numbered = ok.sound.numbered;
+    apart = ok.sound.apart;
+    free = ok.sound.free;
+  };
+  entries = ok.entries;
+  numbered = ok.numbered;
+  limit = most;
+  seen = ok.seen;
+}
+
+limited_world : (b : Bounds) → Given b → (X : ℕ → ClientState) (Y : ℕ → VoterState) (sent : List Message) (v limit : ℕ) → WorldOk b X Y sent → (Y v).granted ≤ limit → limit ≤ b.limit
+    → WorldOk b X (put Y v (limited (Y v) limit)) sent
+limited_world b given X Y sent v limit ok least most =
+    let z = limited (Y v) limit in
+    record {
+      messages = AllByRecursion-weaker (MessageOk X Y) (MessageOk X (put Y v z)) (limited_message X Y v limit) sent ok.messages;
+      ranges = ok.ranges;
+      held = λ c q g is. put_at (λ (y : VoterState). y.held ≡ Some (record { client = c; stamp = (X c).stamp; grant = g })) Y v z q
+          (λ same. subst (λ (k : ℕ). (Y k).held ≡ Some (record { client = c; stamp = (X c).stamp; grant = g })) same (ok.held c q g is)) (λ other. ok.held c q g is);
+      last = λ c q. put_at (λ (y : VoterState). last_of (X c) q ≤ y.granted) Y v z q (λ same. subst (λ (k : ℕ). last_of (X c) q ≤ (Y k).granted) same (ok.last c q)) (λ other. ok.last c q);
+      clients = ok.clients;
+      voters = λ q. put_at (λ (y : VoterState). VoterOk b X y) Y v z q (λ same. limited_ok b given X (Y v) limit (ok.voters v) least most) (λ other. ok.voters q);
+      client_ids = ok.client_ids;
+      voter_ids = λ q within. put_at (λ (y : VoterState). y.id ≡ q) Y v z q (λ same. subst (λ (k : ℕ). (Y k).id ≡ q) same (ok.voter_ids q within)) (λ other. ok.voter_ids q within);
+    }
+
+mix_beside : (lives : List VoterState) (v : ℕ) (z : VoterState) → v < length lives → (N Y : ℕ → VoterState) → Mix (voter_at (slice_set lives v z)) N Y → (q : ℕ) → q ≢ v
+    → (Y q ≡ voter_at lives q) ⊎ (Y q ≡ N q)
+mix_beside lives v z within N Y other q apart = elim (other q) [
+  | inl e ↦ inl (e ∙ ap (λ (f : ℕ → VoterState). f q) (voter_at-set lives v z within) ∙ put_at (λ (a : VoterState). a ≡ voter_at lives q) (voter_at lives) v z q (λ same. absurd (apart same)) (λ _. refl))
+  | inr e ↦ inr e
+]
+
+mix_saved : (lives : List VoterState) (v : ℕ) (z : VoterState) → v < length lives → (N Y : ℕ → VoterState) → Mix (voter_at (slice_set lives v z)) N Y → Y v ≡ N v → Mix (voter_at lives) N Y
+mix_saved lives v z within N Y other is q = elim (eqb q v) as (λ t. eqb q v ≡ t → (Y q ≡ voter_at lives q) ⊎ (Y q ≡ N q)) [
+  | true ↦ λ t. let same : q ≡ v = grind (arith, nat_tests) in inr (subst (λ (k : ℕ). Y k ≡ N k) (sym same) is)
+  | false ↦ λ t. mix_beside lives v z within N Y other q (λ same. grind (arith, nat_tests))
+] refl
+
+limit_ok : (b : Bounds) → Given b → (s : Saved) → SavedOk b s → (v limit : ℕ) (t : Bool) → (nat_lt v (length s.live.voters) && is_limit s v limit) ≡ t → SavedOk b (have_limit t s v limit)
+limit_ok b given s ok v limit false is = ok
+limit_ok b given s ok v limit true is =
+    let M = voter_at s.live.voters in
+    let N = voter_at s.voters in
+    let z = limited (M v) limit in
+    let live = live_ok b s ok in
+    let may = may_have b s ok.sizes.0 (λ some. (live.client_ids 0 some).limit) v limit is in
+    record {
+      sizes = (ok.sizes.0, length-set s.live.voters v z ∙ ok.sizes.1, ok.sizes.2, ok.sizes.3);
+      mixes = λ X Y mix other. elim (other v) [
+        | inl e ↦
+            let at : Y v ≡ z = e ∙ voter_set_same s.live.voters v z may.within in
+            let Z = put Y v (M v) in
+            let here : Z v ≡ M v = put-same Y v (M v) in
+            let before : Mix M N Z = λ q. put_at (λ (a : VoterState). (a ≡ M q) ⊎ (a ≡ N q)) Y v (M v) q (λ same. inl (ap M (sym same)))
+            (λ apart. mix_beside s.live.voters v z may.within N Y other q apart) in
+            let world = limited_world b given X Z s.live.sent v limit (ok.mixes X Z mix before) (subst (λ (a : VoterState). a.granted ≤ limit) (sym here) may.least) may.most in
+            subst (λ (W : ℕ → VoterState). WorldOk b X W s.live.sent) (put_back Y v (M v) z at)
+            (subst (λ (a : VoterState). WorldOk b X (put Z v (limited a limit)) s.live.sent) here world)
+        | inr e ↦ ok.mixes X Y mix (mix_saved s.live.voters v z may.within N Y other e)
+      ];
+      walked = ok.walked;
+      insides = ok.insides;
+    }
+
+raise_ok : (b : Bounds) → Given b → (s : Saved) → SavedOk b s → (c clock : ℕ) (t : Bool) → nat_lt c (length s.live.clients) ≡ t → SavedOk b (be_raised t s c clock)
+unfolding client.step
+raise_ok b given s ok c clock false is = ok
+raise_ok b given s ok c clock true is =
+    let x = client_at s.live.clients c in
+    subst (λ (u : Saved). SavedOk b u) (raised_by_step s c clock)
+    (client_tried b given s ok c (ltb-true _ _ is) (client.Takes (no_inquiry x clock)) (refl, omega arith) (λ X Y world v t g never. absurd never) tt (Ok (client.take x (no_inquiry x clock))) refl)
+
+-- ---- a RELEASE of a request that is over
+
+ends_ok : (x : ClientState) (y : VoterState) (v c : ℕ) (body : VoterBody) → EndsOld x body → AskOk x y v c body
+ends_ok x y v c (asks.Request t) ends = absurd ends
+ends_ok x y v c (asks.Relinquish g) ends = absurd ends
+ends_ok x y v c (asks.Release t) ends = (ends.1, ends.2)
+
+pub ends_within : (limit : ℕ) (x : ClientState) (body : VoterBody) → EndsOld x body → x.stamp ≤ limit → IsWithin limit (voter_number body)
+ends_within limit x (asks.Request t) ends most = absurd ends
+ends_within limit x (asks.Relinquish g) ends most = absurd ends
+ends_within limit x (asks.Release t) ends most = (let low = ends.1 in (ends.0, omega arith))
+
+hear_ok : (b : Bounds) → Given b → (s : Saved) → SavedOk b s → (m : ToVoter) → EndsOld (client_at s.live.clients m.client) m.body × EndsOld (client_at s.clients m.client) m.body → SavedOk b (hear s m)
+hear_ok b given s ok m ends = if_voter_one b s ok (OneVoter m.voter) (nat_lt m.voter (length s.live.voters)) m.voter _ (λ t.
+    if_one b s ok (OneVoter m.voter) (is_message s m) m.client _ (λ u.
+    let parts = both (nat_lt m.client (length s.live.clients)) (is_request_within (voter_at s.live.voters m.voter).limit m.body) u in
+    let within : m.client < b.clients = subst (λ n. m.client < n) ok.sizes.0 (ltb-true _ _ parts.0) in
+    let here : m.voter < b.voters = subst (λ n. m.voter < n) ok.sizes.1 (ltb-true _ _ t) in
+    let x = client_at s.live.clients m.client in
+    let live = live_ok b s ok in
+    let stamp = (live.clients m.client).sound.stamp in
+    let limit = (live.client_ids m.client within).limit in
+    voter_tried b given s ok m (within, here, ends_within b.limit x m.body ends.0 (omega arith))
+    (λ X Y mix world. elim (mix m.client) [
+      | inl e ↦ subst (λ (a : ClientState). AskOk a (Y m.voter) m.voter m.client m.body) (sym e) (ends_ok x (Y m.voter) m.voter m.client m.body ends.0)
+      | inr e ↦ subst (λ (a : ClientState). AskOk a (Y m.voter) m.voter m.client m.body) (sym e) (ends_ok (client_at s.clients m.client) (Y m.voter) m.voter m.client m.body ends.1)
+    ])
+    (voter.step (voter_at s.live.voters m.voter) m) refl))
+
+-- ---- all that may befall
+
 orderly_ok : (b : Bounds) → Given b → (deal : Dealing) → DealsFrom b.quorums deal → (is : List Incident) (s : Saved) → SavedOk b s → AreOrderly deal s is → SavedOk b (all_befall deal is s)
 orderly_ok b given deal deals [] s ok orderly = ok
 orderly_ok b given deal deals (Happens h ∷ is) s ok orderly = orderly_ok b given deal deals is (befalls deal s (Happens h)) (happens_ok b given deal deals s ok h) orderly.1
-orderly_ok b given deal deals (Hears m ∷ is) s ok orderly = absurd orderly.0
+orderly_ok b given deal deals (Hears m ∷ is) s ok orderly = orderly_ok b given deal deals is (befalls deal s (Hears m)) (hear_ok b given s ok m orderly.0) orderly.1
 orderly_ok b given deal deals (IsReborn v above ∷ is) s ok orderly = orderly_ok b given deal deals is (befalls deal s (IsReborn v above)) (rebirth_ok b given s ok v above orderly.0 _ refl) orderly.1
-orderly_ok b given deal deals (StartsAnew c clock ∷ is) s ok orderly = absurd orderly.0
+orderly_ok b given deal deals (StartsAnew c clock ∷ is) s ok orderly = orderly_ok b given deal deals is (befalls deal s (StartsAnew c clock)) (anew_ok b given s ok c clock _ refl) orderly.1
+orderly_ok b given deal deals (HasLimit v limit ∷ is) s ok orderly = orderly_ok b given deal deals is (befalls deal s (HasLimit v limit)) (limit_ok b given s ok v limit _ refl) orderly.1
+orderly_ok b given deal deals (IsRaised c clock ∷ is) s ok orderly = orderly_ok b given deal deals is (befalls deal s (IsRaised c clock)) (raise_ok b given s ok c clock _ refl) orderly.1
 
 pub every_rebirth : ClientLaws → VoterLaws → (voters clients limit : ℕ) (quorums : List (List ℕ)) (deal : Dealing) (is : List Incident)
     → AreLimits voters clients limit → DoMeet voters quorums → DealsFrom quorums deal → AreOrderly deal (begin voters clients limit) is

@@ -19,10 +19,16 @@ pub data Incident : Type 0 where
   -- A voter takes a message, whoever made it and whether it was sent or not. So a voter may let its
   -- grant go: this is the RELEASE of the grant, in its client's name.
   Hears : ToVoter → Incident
-  -- A voter lost its state and comes back without it. It gave at most this many grants before.
+  -- A voter lost its state and comes back without it. It gave at most this many grants before: voter,
+  -- count.
   IsReborn : ℕ → ℕ → Incident
-  -- a client comes back without its state, with this clock
+  -- A client comes back without its state, and knows no more than a clock: client, clock.
   StartsAnew : ℕ → ℕ → Incident
+  -- A voter may give grants up to another number, no less than it gave: voter, limit. So a voter has a
+  -- block of grants, and later the next one.
+  HasLimit : ℕ → ℕ → Incident
+  -- a client raises its clock to a stamp: client, stamp
+  IsRaised : ℕ → ℕ → Incident
 
 -- the stamp of a REQUEST is from 1 to the limit
 abbrev pub is_request_within : ℕ → VoterBody → Bool
@@ -30,11 +36,11 @@ is_request_within limit (asks.Request stamp) = nat_le 1 stamp && nat_le stamp li
 is_request_within limit (asks.Relinquish grant) = true
 is_request_within limit (asks.Release stamp) = true
 
--- the message names a client of this world, and its stamp is in range
+-- the message names a client of this world, and the stamp of a REQUEST is in range
 abbrev pub is_message : Saved → ToVoter → Bool
 is_message s m = nat_lt m.client (length s.live.clients) && is_request_within (voter_at s.live.voters m.voter).limit m.body
 
--- a voter of this world takes a message
+-- A voter of this world takes a message, and saves before it sends. If it may not, nothing happens.
 abbrev pub hear : Saved → ToVoter → Saved
 hear s m = save_and_send s (OneVoter m.voter)
     (if_voter (nat_lt m.voter (length s.live.voters)) m.voter (if_client (is_message s m) m.client (vote s.live m)))
@@ -55,11 +61,11 @@ abbrev pub be_reborn : Bool → Saved → ℕ → ℕ → Saved
 be_reborn true s v above = come_back_as s v (reborn (voter_at s.live.voters v) above)
 be_reborn false s v above = s
 
--- a client that knows no more than a clock
+-- a client that knows no more than a clock: it takes this for its last stamp, too
 abbrev pub anew : ClientState → ℕ → ClientState
 anew x clock = record (client.start x.id x.limit) { clock = clock; stamp = clock }
 
--- the client has this state, live and saved
+-- the client has this state, live and saved; if it was inside, it has left
 abbrev pub start_as : Saved → ℕ → ClientState → Saved
 start_as s c x = come_back (record s { clients = slice_set s.clients c x }) c x
 
@@ -68,20 +74,41 @@ abbrev pub start_anew : Bool → Saved → ℕ → ℕ → Saved
 start_anew true s c clock = start_as s c (anew (client_at s.live.clients c) clock)
 start_anew false s c clock = s
 
--- no grant of this voter has a greater number, and there are no more than its limit
+-- no grant of this voter has a greater number, and its limit is no smaller
 abbrev pub is_above : VoterState → ℕ → Bool
 is_above y above = nat_le y.granted above && nat_le above y.limit
 
--- no stamp of this client is greater, and there are no more than its limit
+-- no stamp of this client is greater, and its limit is no smaller
 abbrev pub is_ahead : ClientState → ℕ → Bool
 is_ahead x clock = nat_le x.stamp clock && nat_le clock x.limit
 
--- the world after one of these
+-- a voter that may give grants up to this number
+abbrev pub limited : VoterState → ℕ → VoterState
+limited y limit = record y { limit = limit }
+
+-- the voter gave no more grants, and may give no more than the stamps that clients may use
+abbrev pub is_limit : Saved → ℕ → ℕ → Bool
+is_limit s v limit = nat_lt 0 (length s.live.clients)
+    && (nat_le (voter_at s.live.voters v).granted limit && nat_le limit (client_at s.live.clients 0).limit)
+
+-- the voter has this limit
+abbrev pub have_limit : Bool → Saved → ℕ → ℕ → Saved
+have_limit true s v limit = record s { live = record s.live { voters = slice_set s.live.voters v (limited (voter_at s.live.voters v) limit) } }
+have_limit false s v limit = s
+
+-- the client's clock is raised, if it is behind
+abbrev pub be_raised : Bool → Saved → ℕ → ℕ → Saved
+be_raised true s c clock = record s { live = record s.live { clients = slice_set s.live.clients c (client.see (client_at s.live.clients c) clock) } }
+be_raised false s c clock = s
+
+-- the world after one of these; where a condition fails, nothing happens
 abbrev pub befalls : Dealing → Saved → Incident → Saved
 befalls deal s (Happens h) = happens deal s h
 befalls deal s (Hears m) = hear s m
 befalls deal s (IsReborn v above) = be_reborn (nat_lt v (length s.live.voters) && is_above (voter_at s.live.voters v) above) s v above
 befalls deal s (StartsAnew c clock) = start_anew (nat_lt c (length s.live.clients) && is_ahead (client_at s.live.clients c) clock) s c clock
+befalls deal s (HasLimit v limit) = have_limit (nat_lt v (length s.live.voters) && is_limit s v limit) s v limit
+befalls deal s (IsRaised c clock) = be_raised (nat_lt c (length s.live.clients)) s c clock
 
 -- the world after all of these, in order
 abbrev pub all_befall : Dealing → List Incident → Saved → Saved

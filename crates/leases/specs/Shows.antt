@@ -20,7 +20,7 @@ pub record Show : Type 0 where
   pub client : ℕ
   pub moment : ℕ
 
--- incidents, and the world that they begin with
+-- incidents, the world that they begin with, and the quorum of each ticket
 pub record Story : Type 0 where
   pub deal : Dealing
   pub first : Saved
@@ -42,7 +42,7 @@ pass_in story w = pass_of (world_at story w.moment) w.client
 abbrev pub WasIn : Story → Show → Type 0
 WasIn story w = IsIn (world_at story w.moment) w.client
 
--- both passes are of one request of one client
+-- The same client, under the same stamp: this is one request, since no stamp is used twice.
 abbrev pub AreOfOne : Story → Show → Show → Type 0
 AreOfOne story u w = IsSameRequest (world_at story u.moment) u.client (world_at story w.moment) w.client
 
@@ -50,8 +50,8 @@ AreOfOne story u w = IsSameRequest (world_at story u.moment) u.client (world_at 
 abbrev pub IsNotOlder : List ℕ → List ℕ → Type 0
 IsNotOlder first second = (v : ℕ) → v < max_voters → 1 ≤ slice_index second v → slice_index first v ≤ slice_index second v
 
--- The second pass is of the same request as the first, or it is newer: some voter has a grant in both,
--- and each such voter has a newer one in the second.
+-- No grant is older in the second pass. It is of the same request as the first, or newer: some voter has
+-- a grant in both, and each such voter has a newer one in the second.
 abbrev pub Follows : Story → Show → Show → Type 0
 Follows story u w = IsNotOlder (pass_in story u) (pass_in story w) × (AreOfOne story u w ⊎ AreApart (pass_in story u) (pass_in story w))
 
@@ -71,11 +71,11 @@ abbrev pub DoNotInterleave : Story → List Show → Type 0
 DoNotInterleave story [] = Unit {0}
 DoNotInterleave story (w ∷ ws) = ComesTogether story w ws × DoNotInterleave story ws
 
--- each number that a guard saw is one of a pass that some client had until the end of the story
+-- each number that a guard saw is 0, or some client held that grant at some moment of the story
 abbrev pub HasSeenOnly : Story → List ℕ → Type 0
 HasSeenOnly story seen = (v : ℕ) → v < max_voters
     → (slice_index seen v ≡ 0) ⊎ ((w : Show) × (slice_index seen v ≡ slice_index (pass_in story w) v))
 
--- each voter's current grant is the one that is shown, if one is
+-- each grant that is shown has the number of its voter's current one
 abbrev pub IsCurrent : Saved → List ℕ → Type 0
 IsCurrent s pass = (v : ℕ) → 1 ≤ slice_index pass v → (g : Grant) × ((voter_at s.live.voters v).held ≡ Some g) × (g.grant ≡ slice_index pass v)

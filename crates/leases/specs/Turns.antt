@@ -5,7 +5,7 @@ use Rattle.fence.specs.Passes.{Admits, SeesAlso}
 use Rattle.fence.specs.Turns.{IsTurn}
 use Rattle.leases.specs.Shows.{AreOfOne, Show, Story, pass_in}
 
--- a show that was admitted, and the turn that the guard gave it
+-- a show, and a turn
 pub record Entry : Type 0 where
   pub show : Show
   pub turn : ℕ
@@ -23,7 +23,7 @@ pub record TurnsWith (story : Story) (e f : Entry) : Type 0 where
   pub same : AreOfOne story e.show f.show → e.turn ≡ f.turn
   pub one : e.turn ≡ f.turn → AreOfOne story e.show f.show
 
--- each turn does so with all after it
+-- of any two entries, the later turn is no smaller, and equal if and only if both are of one request
 abbrev pub TurnsNameRequests : Story → List Entry → Type 0
 TurnsNameRequests story [] = Unit {0}
 TurnsNameRequests story (e ∷ es) = AllByRecursion (TurnsWith story e) es × TurnsNameRequests story es

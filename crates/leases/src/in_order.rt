@@ -1,5 +1,5 @@
-//! Laws: what a guard does with the passes of a world in which no grant is let go.
-ghost use Rattle.std.specs.Prelude.{◌⊎◌, ℕ, List, replicate};
+//! Laws on worlds in which no grant is let go: who is inside, and what a guard does with their passes.
+ghost use Rattle.std.specs.Prelude.{◌≡◌, ◌⊎◌, ℕ, List, replicate};
 ghost use Rattle.numbers.specs.Bounds.{max_voters};
 ghost use Rattle.fence.specs.Passes.{HasSeen, Refuses};
 ghost use Rattle.leases.specs.Visits.{AdmitsAll, Visit, passes};
@@ -8,7 +8,21 @@ ghost use Rattle.world.specs.Runs.{AreLimits};
 ghost use Rattle.world.specs.Steps.{Dealing};
 ghost use Rattle.world.specs.Visible.{DealsFrom, DoMeet};
 
-use world::{later_passes_are_newer, later_votes_have_greater_numbers};
+use world::{later_passes_are_newer, later_votes_have_greater_numbers, parts_keep_their_rules};
+
+/// Clients that are inside at one moment, by their phases, are one client.
+///
+/// Clients and voters may crash at any time and restart from what they saved.
+pub fn clients_inside_are_one()
+    ensures { (voters clients limit : ℕ) (quorums : List (List ℕ)) (deal : Dealing) (happenings : List Happening)
+        (first second : ℕ)
+        → AreLimits voters clients limit → DoMeet voters quorums → DealsFrom quorums deal
+        → IsIn (all_happen deal happenings (begin voters clients limit)) first
+        → IsIn (all_happen deal happenings (begin voters clients limit)) second
+        → first ≡ second }
+{
+    parts_keep_their_rules();
+}
 
 /// A new guard admits every pass, if passes are shown in the order in which their clients were
 /// inside.

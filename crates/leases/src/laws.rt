@@ -16,6 +16,7 @@ ghost use Rattle.voter.specs.declared.state.VoterState.{VoterState};
 ghost use Rattle.voter.specs.Steps.{Outcome, step};
 ghost use Rattle.world.specs.Visible.{DealsFrom, DoMeet, IsExclusive};
 
+use voter::{messages_finish_requests, votes_are_asked_back};
 use world::parts_keep_their_rules;
 
 /// Of two clients that are inside, at any two times, both have a grant of some voter, and none of
@@ -34,8 +35,8 @@ pub fn passes_are_apart()
     parts_keep_their_rules();
 }
 
-/// Of the passes that a guard admits, each is of the same request as one before, or newer: some
-/// voter has a grant in both, and each voter that has one in both has a newer one in the later.
+/// Of any two passes that a guard admits, the later one is of the same request, or newer: some voter
+/// has a grant in both, and each voter that has one in both has a newer one in the later.
 /// Clients that were inside at any time show them, at any time, in any order and again.
 pub fn admitted_passes_are_in_order()
     ensures { (voters clients limit : ℕ) (quorums : List (List ℕ)) (deal : Dealing) (incidents : List Incident)
@@ -62,8 +63,8 @@ pub fn admitted_passes_do_not_interleave()
     parts_keep_their_rules();
 }
 
-/// A guard that saw only what clients held admits a pass if each voter's current grant is the one that
-/// is shown. So it refuses a client only if a voter of its quorum let its grant go.
+/// A guard that saw only what clients held admits a pass if each grant that is shown is its voter's
+/// current one. So it refuses a pass only if a voter let such a grant go, or was reborn.
 pub fn current_passes_are_admitted()
     ensures { (voters clients limit : ℕ) (quorums : List (List ℕ)) (deal : Dealing) (incidents : List Incident)
         (seen pass : List ℕ)
@@ -75,9 +76,13 @@ pub fn current_passes_are_admitted()
     parts_keep_their_rules();
 }
 
-/// At most one client is inside at a time, also if voters lose their states and are reborn, each
-/// once all clients are done with it: none has its vote, and no LOCKED of it may still count. Voters
-/// take only messages that were sent, and no client starts anew.
+/// At most one client is inside at a time, also if clients and voters lose their states:
+///
+/// - a client starts anew at any time, with a clock that is at least every stamp that it used. If it
+///   was inside, it left by this. It may then disclaim: a voter may take a RELEASE of any request that is
+///   over, but no other message that nobody sent;
+/// - a voter is reborn once all clients are done with it: none has its vote, and no LOCKED of it may
+///   still count, for clients as they are and as saved.
 pub fn at_most_one_is_inside_with_rebirths()
     ensures { (voters clients limit : ℕ) (quorums : List (List ℕ)) (deal : Dealing) (incidents : List Incident)
         → AreLimits voters clients limit → DoMeet voters quorums → DealsFrom quorums deal
@@ -129,8 +134,9 @@ pub fn turns_name_requests()
     parts_keep_their_rules();
 }
 
-/// Exclusion comes back: after evictions and rebirths alone, once all clients are idle, as they are and
-/// as saved, at most one is inside at a time for as long as no more befall.
+/// Exclusion comes back: after evictions, rebirths and clients that start anew and disclaim, once all
+/// clients are idle, as they are and as saved, at most one is inside at a time for as long as no more
+/// befall.
 pub fn exclusion_comes_back()
     ensures { (voters clients limit : ℕ) (quorums : List (List ℕ)) (deal : Dealing) (incidents : List Incident)
         (happenings : List Happening)
@@ -139,6 +145,8 @@ pub fn exclusion_comes_back()
         → AllIdle (all_befall deal incidents (begin voters clients limit))
         → IsExclusive (all_happen deal happenings (unseen (all_befall deal incidents (begin voters clients limit)))).live.visible }
 {
+    messages_finish_requests();
+    votes_are_asked_back();
     parts_keep_their_rules();
 }
 

@@ -30,14 +30,13 @@ use Rattle.requester.proofs.SoundSteps.{ask-Ok as ask_ok}
 use Rattle.requester.specs.Clocks.{Hears}
 use Rattle.requester.specs.RequesterContract.{Accepts, IsLater, IsLocked, KeepsQuorum, Locks, MeetsContract}
 use Rattle.requester.specs.Steps as requester
-use Rattle.requester.specs.Words.{holds_under, is_idle, is_member, members}
+use Rattle.requester.specs.Words.{is_current, holds_under, is_idle, is_member, members}
 use Rattle.world.specs.Coherence.{AskOk, IsCoherent}
 use Rattle.world.specs.Steps.{WorldState, client_at, voter_at}
 use Rattle.progress.specs.Overtaking.{IsKnownEverywhere, StillRuns}
-use Rattle.progress.proofs.Always.{Always, IsUpTo, WasGiven, asked_by, granted_rises, is_named}
+use Rattle.progress.proofs.Always.{Heeds, IsUpTo, WasGiven, asked_by, granted_rises, is_named}
 use Rattle.progress.specs.Rules.{ClientLaws, Laws, VoterLaws}
 use Rattle.progress.proofs.Moves.{Came, ClientMoved, IsReminder, Moved, OnlySent, VoterMoved, all_sent, each_client, each_voter}
-use Rattle.world.proofs.Claims.{IsLater-self}
 
 -- ---- a client's step
 
@@ -45,7 +44,7 @@ pub ask-Ok : (x : ClientState) (q : List ℕ) (o : requester.Outcome) → reques
 unfolding requester.step
 ask-Ok x q o e = (ask_ok x q o e).2
 
-ask-busy : (x : ClientState) (q : List ℕ) (o : requester.Outcome) → requester.ask x q ≡ Err Busy → requester.step x (requester.Asks q) ≡ Ok o → ⊥
+pub ask-busy : (x : ClientState) (q : List ℕ) (o : requester.Outcome) → requester.ask x q ≡ Err Busy → requester.step x (requester.Asks q) ≡ Ok o → ⊥
 unfolding requester.step
 ask-busy x q o refused e = false≢true (ap is_err (sym e ∙ refused))
 
@@ -83,6 +82,9 @@ IsLater-then x y z a b =
       last = λ v. (let p = a.last v in let q = b.last v in omega arith);
       idle = λ same idle. let first : x.stamp ≡ y.stamp = omega arith in let second : y.stamp ≡ z.stamp = omega arith in b.idle second (a.idle first idle);
     }
+
+pub IsLater-self : (x : ClientState) → IsLater x x
+IsLater-self x = record { stamp = omega arith; last = λ v. omega arith; idle = λ _ idle. idle }
 
 later_client : (laws : ClientLaws) (w u : WorldState) → IsCoherent w → IsCoherent u → ClientMoved w u → (c : ℕ) → IsLater (client_at w.clients c) (client_at u.clients c)
 later_client laws w u ok now k = each_client (λ c y. IsLater (client_at w.clients c) y) w u k
@@ -226,10 +228,10 @@ Behind-client laws w u x c ok now busy k h = record {
 -- ---- a voter moves
 
 -- no message finishes a request that runs
-not_finished : (x : ClientState) (v client c : ℕ) (body : VoterBody) → (c ≡ client → AskOk x v body) → is_idle x.phase ≡ false → Finishes client body c x.stamp → ⊥
-not_finished x v client c (asks.Request t) asked busy finishes = let most = asked finishes.0 in let less = finishes.1 in omega arith
-not_finished x v client c (asks.Relinquish g) asked busy finishes = finishes
-not_finished x v client c (asks.Release t) asked busy finishes = let less = (asked finishes.0).1 busy in let most = finishes.1 in omega arith
+pub not_finished : (x : ClientState) (y : VoterState) (v client c : ℕ) (body : VoterBody) → (c ≡ client → AskOk x y v client body) → is_idle x.phase ≡ false → Finishes client body c x.stamp → ⊥
+not_finished x y v client c (asks.Request t) asked busy finishes = let most = asked finishes.0 in let less = finishes.1 in omega arith
+not_finished x y v client c (asks.Relinquish g) asked busy finishes = finishes
+not_finished x y v client c (asks.Release t) asked busy finishes = let less = (asked finishes.0).1 busy in let most = finishes.1 in omega arith
 
 -- of two requests of different clients one precedes the other
 other_precedes : (g : Grant) (r : Request) → g.client ≢ r.client → precedes r (request_of g) ≡ false → precedes (request_of g) r ≡ true
@@ -265,7 +267,7 @@ OneVoter-moved laws w u x c ok runs k h =
     let known : IsAsked w c k.message.voter → IsEntry k.outcome.state c (stamp_of w c) = λ is.
     elim (laws.stays y k.message k.outcome c (stamp_of w c) (ok.voters k.message.voter) k.step (h.known is)) [
       | inl stays ↦ stays
-      | inr finishes ↦ absurd (not_finished (client_at u.clients c) k.message.voter k.message.client c k.message.body asked runs.runs
+      | inr finishes ↦ absurd (not_finished (client_at u.clients c) y k.message.voter k.message.client c k.message.body asked runs.runs
           (subst (λ n. Finishes k.message.client k.message.body c n) (sym runs.same) finishes))
     ] in
     let rises = granted_rises _ y k.outcome.state (laws.numbers y k.message k.outcome (ok.voters k.message.voter) k.step) in
@@ -285,13 +287,21 @@ OneVoter-moved laws w u x c ok runs k h =
 Voters-moved : (laws : VoterLaws) (w u x : WorldState) (c : ℕ) → IsCoherent u → StillRuns w u c → VoterMoved u x → Voters w c u.voters → Voters w c x.voters
 Voters-moved laws w u x c ok runs k h = each_voter (OneVoter w c) u x k (OneVoter-moved laws w u x c ok runs k (h k.message.voter)) h
 
-Behind-voter : (laws : VoterLaws) (w u x : WorldState) (c : ℕ) → IsCoherent u → Always x → StillRuns w u c → VoterMoved u x → Behind w c u → Behind w c x
-Behind-voter laws w u x c ok always runs k h =
+pub is_current_of : (x : ClientState) (s : ℕ) → is_idle x.phase ≡ false → s ≡ x.stamp → is_current x s ≡ true
+is_current_of x s busy same = grind (arith, nat_tests)
+
+-- the request that still runs is the client's current one
+runs_now : (w u : WorldState) (c : ℕ) → StillRuns w u c → is_current (client_at u.clients c) (stamp_of w c) ≡ true
+runs_now w u c runs = is_current_of (client_at u.clients c) (stamp_of w c) runs.runs (sym runs.same)
+
+Behind-voter : (laws : VoterLaws) (w u x : WorldState) (c : ℕ) → IsCoherent u → Heeds c x → StillRuns w u c → VoterMoved u x → Behind w c u → Behind w c x
+Behind-voter laws w u x c ok heeded runs k h =
     let y = voter_at u.voters k.message.voter in
     let voters = Voters-moved laws w u x c ok runs k h.voters in
     let carry = laws.carries y k.message k.outcome k.step in
     let high : IsAsked w c k.message.voter → stamp_of w c ≤ seen_after y.seen k.message.body = λ is.
-    subst (λ n. stamp_of w c ≤ n) (ap (λ (z : VoterState). z.seen) k.here ∙ carry.seen) (always.seen k.message.voter c (stamp_of w c) ((voters k.message.voter).known is)) in
+    subst (λ n. stamp_of w c ≤ n) (ap (λ (z : VoterState). z.seen) k.here ∙ carry.seen) (heeded.seen k.message.voter (stamp_of w c) ((voters k.message.voter).known is)
+    (subst (λ (cs : List ClientState). is_current (client_at cs c) (stamp_of w c) ≡ true) (sym k.clients) (runs_now w u c runs))) in
     record {
       voters = voters;
       clients = subst (λ (cs : List ClientState). Clients w c cs) (sym k.clients) h.clients;
@@ -302,27 +312,27 @@ Behind-voter laws w u x c ok always runs k h =
 
 -- ---- messages alone
 
-reminder_late : (laws : VoterLaws) (w u : WorldState) (c : ℕ) → IsCoherent u → Always u → Voters w c u.voters → (more : List Message) → IsReminder u more → AllByRecursion (IsLate w c) more
-reminder_late laws w u c ok always voters more said = elim said [
+reminder_late : (laws : VoterLaws) (w u : WorldState) (c : ℕ) → IsCoherent u → Heeds c u → StillRuns w u c → Voters w c u.voters → (more : List Message) → IsReminder u more → AllByRecursion (IsLate w c) more
+reminder_late laws w u c ok heeded runs voters more said = elim said [
   | inl out ↦ subst (λ ms. AllByRecursion (IsLate w c) ms) (sym out.1) (all_sent (IsLate w c) kinds.ToVoter (λ m. tt) out.0)
   | inr v ↦
       let y = voter_at u.voters v.0 in
-      subst (λ ms. AllByRecursion (IsLate w c) ms) (sym v.2) (replies_late w c v.0 y.seen (λ is. always.seen v.0 c (stamp_of w c) ((voters v.0).known is)) (voter.remind y)
+      subst (λ ms. AllByRecursion (IsLate w c) ms) (sym v.2) (replies_late w c v.0 y.seen (λ is. heeded.seen v.0 (stamp_of w c) ((voters v.0).known is) (runs_now w u c runs)) (voter.remind y)
       (subst (λ i. AllCarry i y.seen (voter.remind y)) (ok.numbered.voters v.0 v.1) (laws.remembers y)))
 ]
 
-Behind-sent : (laws : VoterLaws) (w u x : WorldState) (c : ℕ) → IsCoherent u → Always u → OnlySent u x → Behind w c u → Behind w c x
-Behind-sent laws w u x c ok always k h = record {
+Behind-sent : (laws : VoterLaws) (w u x : WorldState) (c : ℕ) → IsCoherent u → Heeds c u → StillRuns w u c → OnlySent u x → Behind w c u → Behind w c x
+Behind-sent laws w u x c ok heeded runs k h = record {
   voters = subst (λ (vs : List VoterState). Voters w c vs) (sym k.voters) h.voters;
   clients = subst (λ (cs : List ClientState). Clients w c cs) (sym k.clients) h.clients;
-  late = subst (λ ms. AllByRecursion (IsLate w c) ms) (sym k.sent) (AllByRecursion-append (IsLate w c) u.sent k.more h.late (reminder_late laws w u c ok always h.voters k.more k.reminder));
+  late = subst (λ ms. AllByRecursion (IsLate w c) ms) (sym k.sent) (AllByRecursion-append (IsLate w c) u.sent k.more h.late (reminder_late laws w u c ok heeded runs h.voters k.more k.reminder));
 }
 
-pub Behind-moved : (laws : Laws) (w u x : WorldState) (c : ℕ) → IsCoherent u → IsCoherent x → Always u → Always x → StillRuns w u c → Moved u x → Behind w c u → Behind w c x
+pub Behind-moved : (laws : Laws) (w u x : WorldState) (c : ℕ) → IsCoherent u → IsCoherent x → Heeds c u → Heeds c x → StillRuns w u c → Moved u x → Behind w c u → Behind w c x
 Behind-moved laws w u x c ok now before after runs moved h = elim moved [
   | inl client ↦ Behind-client laws.client w u x c ok now runs.runs client h
   | inr (inl voter) ↦ Behind-voter laws.voter w u x c ok after runs voter h
-  | inr (inr sent) ↦ Behind-sent laws.voter w u x c ok before sent h
+  | inr (inr sent) ↦ Behind-sent laws.voter w u x c ok before runs sent h
 ]
 
 -- ---- the first world
@@ -336,8 +346,8 @@ first_late w c (kinds.ToClient m) given = first_carries w c m.voter m.seen m.bod
     first_carries w c v seen (to_client.Fail s) few = tt
     first_carries w c v seen (to_client.Inquire g) few = tt
 
-pub Behind-first : (w : WorldState) (c : ℕ) → IsCoherent w → Always w → IsKnownEverywhere w c → Behind w c w
-Behind-first w c ok always known = record {
+pub Behind-first : (w : WorldState) (c : ℕ) → IsCoherent w → Heeds c w → IsKnownEverywhere w c → Behind w c w
+Behind-first w c ok heeded known = record {
   voters = λ v. record {
     known = known.known v;
     given = omega arith;
@@ -349,5 +359,5 @@ Behind-first w c ok always known = record {
     heard = λ e v n asked holds new. (let few = (ok.voters v).numbered (record { client = e; stamp = stamp_of w e; grant = n }) (ok.held e v n holds) in absurd (omega arith));
     later = λ e. omega arith;
   };
-  late = AllByRecursion-weaker (WasGiven w.voters) (IsLate w c) (first_late w c) w.sent always.given;
+  late = AllByRecursion-weaker (WasGiven w.voters) (IsLate w c) (first_late w c) w.sent heeded.given;
 }

@@ -23,14 +23,15 @@ use Rattle.numbers.proofs.Options.{false-by}
 use Rattle.world.specs.declared.step.Event.{Event}
 use Rattle.world.specs.declared.step.Step.{Step}
 use Rattle.world.specs.Coherence.{IsCoherent}
-use Rattle.world.specs.Runs.{IsReached, after, run_of}
-use Rattle.world.specs.Steps.{Planned, WorldState, client_at, dealing_of, events, step, voter_at}
+use Rattle.world.specs.Runs.{after, run_of}
+use Rattle.world.specs.Steps.{Dealing, WorldState, client_at, events, step, voter_at}
 use Rattle.progress.specs.Overtaking.{IsKnownEverywhere, StillRuns, entries_of}
-use Rattle.progress.proofs.Always.{Always, Always-reached}
-use Rattle.progress.proofs.Behind.{Behind, Behind-first, Behind-moved, IsLater-moved, IsLater-then, ask-Ok, meets, stamp_of, the_request}
+use Rattle.progress.proofs.Always.{Heeds, heeds}
+use Rattle.progress.proofs.Kept.{IsKept}
+use Rattle.progress.proofs.Behind.{Behind, Behind-first, Behind-moved, IsLater-moved, IsLater-self, IsLater-then, ask-Ok, meets, stamp_of, the_request}
 use Rattle.progress.specs.Rules.{ClientLaws, Laws}
-use Rattle.progress.proofs.Moves.{ClientMoved, IsReached-after, Moved, Moved-step, kept-run, with_state}
-use Rattle.world.proofs.Claims.{IsLater-self}
+use Rattle.progress.proofs.Moves.{ClientMoved, Moved, Moved-step, StaysCoherent, kept-by}
+use Rattle.progress.proofs.Placed.{Heeds-moved}
 use Rattle.world.proofs.Exclusion.{held_under}
 use Rattle.requester.proofs.RangeLemmas.{is_inside-busy}
 
@@ -98,7 +99,7 @@ outside_asks Idle idle inside = absurd (false≢true (sym idle))
 outside_asks Asking idle inside = refl
 outside_asks Inside idle inside = absurd (false≢true (sym inside))
 
-inside_not_asks : (p : Phase) → is_inside p ≡ true → is_asking p ≡ false
+pub inside_not_asks : (p : Phase) → is_inside p ≡ true → is_asking p ≡ false
 inside_not_asks Idle inside = refl
 inside_not_asks Asking inside = absurd (false≢true inside)
 inside_not_asks Inside inside = refl
@@ -224,11 +225,11 @@ Entries-moved laws w u x c d ok now before h busy other moved e = elim moved [
 
 -- ---- over all steps
 
-IsLater-run : (laws : Laws) (w : Planned) (steps : List Step) (u : WorldState) → IsReached (with_state w u) → (c : ℕ)
-    → IsLater (client_at u.clients c) (client_at (run_of (dealing_of w.plans) steps u).clients c)
-IsLater-run laws w steps u r c = kept-run (λ x. IsLater (client_at u.clients c) (client_at x.clients c)) laws.coherent
+IsLater-run : (laws : Laws) (deal : Dealing) (steps : List Step) (u : WorldState) → StaysCoherent deal u → (c : ℕ)
+    → IsLater (client_at u.clients c) (client_at (run_of deal steps u).clients c)
+IsLater-run laws deal steps u r c = kept-by (λ x. IsLater (client_at u.clients c) (client_at x.clients c))
     (λ x y ok now moved h. IsLater-then (client_at u.clients c) (client_at x.clients c) (client_at y.clients c) h (IsLater-moved laws.client x y ok now moved c))
-    w steps u r (IsLater-self (client_at u.clients c))
+    deal steps u r (IsLater-self (client_at u.clients c))
 
 -- a request that still runs later runs before
 still_before : (w u z : WorldState) (c : ℕ) → stamp_of w c ≤ stamp_of u c → IsLater (client_at u.clients c) (client_at z.clients c) → StillRuns w z c → StillRuns w u c
@@ -239,21 +240,21 @@ still_before w u z c least later runs =
     record { runs = false-by _ _ (later.idle same) runs.runs; same = omega arith }
 
 -- a request that runs, the steps so far, and those that are left
-Entries-run : (laws : Laws) (w : Planned) (c d : ℕ) → d ≢ c → (steps : List Step) (u : WorldState) → IsReached (with_state w u) → Always u → StillRuns w.state u c
-    → Behind w.state c u → Entries w.state c d u
-    → StillRuns w.state (run_of (dealing_of w.plans) steps u) c → Entries w.state c d (run_of (dealing_of w.plans) steps u)
-Entries-run laws w c d other [] u r always still behind e end = e
-Entries-run laws w c d other (s ∷ steps) u r always still behind e end =
-    let ok = laws.coherent (with_state w u) r in
-    let next = IsReached-after (with_state w u) r s in
-    let x = after u (step (dealing_of w.plans) u s) in
-    let now = laws.coherent (with_state w x) next in
-    let moved = Moved-step (dealing_of w.plans) u ok.numbered s in
-    let always_x = Always-reached laws (with_state w x) next in
-    let least : stamp_of w.state c ≤ stamp_of x c = (let first = behind.clients.later c in let rises = (IsLater-moved laws.client u x ok now moved c).stamp in omega arith) in
-    let still_x = still_before w.state x (run_of (dealing_of w.plans) steps x) c least (IsLater-run laws w steps x next c) end in
-    let behind_x = Behind-moved laws w.state u x c ok now always always_x still moved behind in
-    Entries-run laws w c d other steps x next always_x still_x behind_x (Entries-moved laws.client w.state u x c d ok now behind behind_x still_x.runs other moved e) end
+Entries-run : (laws : Laws) (deal : Dealing) (w : WorldState) (c d : ℕ) → d ≢ c → (steps : List Step) (u : WorldState) → StaysCoherent deal u → Heeds c u → StillRuns w u c
+    → Behind w c u → Entries w c d u
+    → StillRuns w (run_of deal steps u) c → Entries w c d (run_of deal steps u)
+Entries-run laws deal w c d other [] u r heeded still behind e end = e
+Entries-run laws deal w c d other (s ∷ steps) u r heeded still behind e end =
+    let ok = r [] in
+    let next : StaysCoherent deal (after u (step deal u s)) = λ more. r (s ∷ more) in
+    let x = after u (step deal u s) in
+    let now = next [] in
+    let moved = Moved-step deal u ok.numbered s in
+    let heeded_x = Heeds-moved laws c u x ok now moved heeded in
+    let least : stamp_of w c ≤ stamp_of x c = (let first = behind.clients.later c in let rises = (IsLater-moved laws.client u x ok now moved c).stamp in omega arith) in
+    let still_x = still_before w x (run_of deal steps x) c least (IsLater-run laws deal steps x next c) end in
+    let behind_x = Behind-moved laws w u x c ok now heeded heeded_x still moved behind in
+    Entries-run laws deal w c d other steps x next heeded_x still_x behind_x (Entries-moved laws.client w u x c d ok now behind behind_x still_x.runs other moved e) end
 
 Entries-first : (w : WorldState) (c d : ℕ) → Entries w c d w
 Entries-first w c d = record {
@@ -262,13 +263,18 @@ Entries-first w c d = record {
   counted = record { few = omega arith; once = λ one. absurd (omega arith); twice = λ two. absurd (omega arith); clock = λ two. absurd (omega arith) };
 }
 
-pub nobody_overtakes : Laws → (w : Planned) (c d : ℕ) (steps : List Step) (more : List Event) → IsReached w → IsKnownEverywhere w.state c → d ≢ c
-    → StillRuns w.state (run_of (dealing_of w.plans) steps w.state) c
-    → (run_of (dealing_of w.plans) steps w.state).visible ≡ w.state.visible ++ more → entries_of d more ≤ 2
-nobody_overtakes laws w c d steps more r known other end visible =
-    let ok = laws.coherent w r in
-    let always = Always-reached laws w r in
-    let still : StillRuns w.state w.state c = record { runs = known.runs; same = refl } in
-    let e = Entries-run laws w c d other steps w.state r always still (Behind-first w.state c ok always known) (Entries-first w.state c d) end in
-    let same : more ≡ e.more = append_cancel_left w.state.visible more e.more (sym visible ∙ e.visible) in
+-- it is enough that the request is heeded
+pub overtakes_twice : Laws → (deal : Dealing) (w : WorldState) (c d : ℕ) (steps : List Step) (more : List Event) → StaysCoherent deal w → Heeds c w → IsKnownEverywhere w c → d ≢ c
+    → StillRuns w (run_of deal steps w) c
+    → (run_of deal steps w).visible ≡ w.visible ++ more → entries_of d more ≤ 2
+overtakes_twice laws deal w c d steps more r heeded known other end visible =
+    let still : StillRuns w w c = record { runs = known.runs; same = refl } in
+    let e = Entries-run laws deal w c d other steps w r heeded still (Behind-first w c (r []) heeded known) (Entries-first w c d) end in
+    let same : more ≡ e.more = append_cancel_left w.visible more e.more (sym visible ∙ e.visible) in
     subst (λ es. entries_of d es ≤ 2) (sym same) e.counted.few
+
+pub nobody_overtakes : Laws → (deal : Dealing) (w : WorldState) (c d : ℕ) (steps : List Step) (more : List Event) → IsKept deal w → IsKnownEverywhere w c → d ≢ c
+    → StillRuns w (run_of deal steps w) c
+    → (run_of deal steps w).visible ≡ w.visible ++ more → entries_of d more ≤ 2
+nobody_overtakes laws deal w c d steps more r known other end visible =
+    overtakes_twice laws deal w c d steps more (λ s. (r s).coherent) (heeds c w (r []).always) known other end visible

@@ -13,16 +13,16 @@ use Rattle.requester.specs.Words.{is_asking, is_inside}
 use Rattle.world.specs.declared.step.Event.{Event}
 use Rattle.world.specs.declared.step.Step.{Step}
 use Rattle.world.specs.declared.step.Step.TheVariants.{Ask, Deliver, Leave, GiveUp, RemindClient, RemindVoter, Exchange}
-use Rattle.world.specs.Runs.{IsReached, after, run_of}
-use Rattle.world.specs.Steps.{Dealing, Planned, WorldState, after_client, client_at, client_did, dealing_of, events, if_client, step, voter_at}
+use Rattle.world.specs.Runs.{after, run_of}
+use Rattle.world.specs.Steps.{Dealing, WorldState, after_client, client_at, client_did, events, if_client, step, voter_at}
 use Rattle.progress.specs.Overtaking.{entries_of}
 use Rattle.progress.specs.WayIn.{Asks, GetsIn, HasGrants, Helps, IsFree, Serves}
 use Rattle.progress.proofs.Counting.{entries_of-append, one_entered}
 use Rattle.progress.proofs.Led.{EntersBy}
 use Rattle.progress.specs.Rules.{Laws}
-use Rattle.progress.proofs.Moves.{client_here, client_others, with_state}
+use Rattle.progress.proofs.Moves.{client_here, client_others}
 use Rattle.progress.proofs.Together.{asks_within, lets_in, one_entry}
-use Rattle.progress.proofs.Ways.{IsReached-run}
+use Rattle.progress.proofs.Kept.{IsKept, IsKept-run}
 use Rattle.world.proofs.Plans.{run_then}
 use Rattle.std.proofs.Math.Nat.{mul-le-mul_right}
 use Rattle.numbers.specs.Sums.{sum_below}
@@ -199,7 +199,7 @@ leaves laws deal d u within inside =
 
 -- ---- who is inside
 
-inside_below : (u : WorldState) (n : ℕ) → ((d : ℕ) → d < n → is_inside (client_at u.clients d).phase ≡ false) ⊎ ((d : ℕ) × (d < n) × (is_inside (client_at u.clients d).phase ≡ true))
+pub inside_below : (u : WorldState) (n : ℕ) → ((d : ℕ) → d < n → is_inside (client_at u.clients d).phase ≡ false) ⊎ ((d : ℕ) × (d < n) × (is_inside (client_at u.clients d).phase ≡ true))
 inside_below u zero = inl (λ d less. absurd (omega arith))
 inside_below u (suc n) = elim (is_inside (client_at u.clients n).phase) as (λ b. is_inside (client_at u.clients n).phase ≡ b
     → ((d : ℕ) → d < suc n → is_inside (client_at u.clients d).phase ≡ false) ⊎ ((d : ℕ) × (d < suc n) × (is_inside (client_at u.clients d).phase ≡ true))) [
@@ -213,29 +213,29 @@ inside_below u (suc n) = elim (is_inside (client_at u.clients n).phase) as (λ b
       ]
     ] refl
 
-outside_beyond : (u : WorldState) (d : ℕ) → length u.clients ≤ d → is_inside (client_at u.clients d).phase ≡ false
+pub outside_beyond : (u : WorldState) (d : ℕ) → length u.clients ≤ d → is_inside (client_at u.clients d).phase ≡ false
 unfolding client_at
 outside_beyond u d beyond = ap (λ (x : ClientState). is_inside x.phase) (get_or_past u.clients d (requester.start 0 1) beyond)
 
 -- ---- whoever asks
 
-Reached-served : (p : Planned) (u x : WorldState) → Served (dealing_of p.plans) u x → IsReached (with_state p u) → IsReached (with_state p x)
-Reached-served p u x a r = subst (λ (z : WorldState). IsReached (with_state p z)) a.run (IsReached-run p a.steps u r)
+IsKept-served : (deal : Dealing) (u x : WorldState) → Served deal u x → IsKept deal u → IsKept deal x
+IsKept-served deal u x a r = subst (λ (z : WorldState). IsKept deal z) a.run (IsKept-run deal a.steps u r)
 
 same_entry : (u x : WorldState) → length x.voters ≡ length u.voters → length x.clients ≡ length u.clients → one_entry x ≡ one_entry u
 same_entry u x voters clients i = voters i + clients i + 3
 
-serves_all : (laws : Laws) (p : Planned) (c k t : ℕ) (u : WorldState) → one_entry u ≡ k → total weight u ≤ t → IsReached (with_state p u) → Asks u c
-    → HasGrants (total asking_one u * k) u → (steps : List Step) × GetsIn (dealing_of p.plans) u c steps
+serves_all : (laws : Laws) (deal : Dealing) (c k t : ℕ) (u : WorldState) → one_entry u ≡ k → total weight u ≤ t → IsKept deal u → Asks u c
+    → HasGrants (total asking_one u * k) u → (steps : List Step) × GetsIn deal u c steps
 unfolding total weight asking_one
-serves_all laws p c k zero u is most r asks left =
+serves_all laws deal c k zero u is most r asks left =
     let some = sum_some (length u.clients) c (λ d. weight (client_at u.clients d).phase) asks.client in
     let mine : weight (client_at u.clients c).phase ≡ 2 = ap weight (asking_is (client_at u.clients c).phase asks.asks) in
     absurd (omega arith)
-serves_all laws p c k (suc t) u is most r asks left = elim (inside_below u (length u.clients)) [
+serves_all laws deal c k (suc t) u is most r asks left = elim (inside_below u (length u.clients)) [
   | inr one ↦
       let d = one.0 in
-      let gone = leaves laws (dealing_of p.plans) d u one.1 one.2 in
+      let gone = leaves laws deal d u one.1 one.2 in
       let x = gone.world in
       let was = inside_is (client_at u.clients d).phase one.2 in
       let apart : c ≢ d = λ same. false≢true (sym (ap is_inside (asking_is (client_at u.clients c).phase asks.asks)) ∙ ap (λ i. is_inside (client_at u.clients i).phase) same ∙ one.2) in
@@ -243,21 +243,21 @@ serves_all laws p c k (suc t) u is most r asks left = elim (inside_below u (leng
       let before : weight (client_at u.clients d).phase ≡ 1 = ap weight was in
       let less = total_less weight u x d gone.clients one.1 (omega arith) gone.others in
       let same = total_same asking_one u x d gone.clients (ap asking_one gone.idle ∙ sym (ap asking_one was)) gone.others in
-      let rest = serves_all laws p c k t x (same_entry u x (ap (λ vs. length vs) gone.voters) gone.clients ∙ is) (omega arith) (Reached-served p u x gone.served r)
+      let rest = serves_all laws deal c k t x (same_entry u x (ap (λ vs. length vs) gone.voters) gone.clients ∙ is) (omega arith) (IsKept-served deal u x gone.served r)
       (record { client = subst (λ n. c < n) (sym gone.clients) asks.client; asks = ap is_asking (gone.others c apart) ∙ asks.asks })
       (λ v within. subst (λ vs. v < length vs → (voter_at vs v).granted + total asking_one x * k ≤ (voter_at vs v).limit) (sym gone.voters)
       (λ there. subst (λ n. (voter_at u.voters v).granted + n * k ≤ (voter_at u.voters v).limit) (sym same) (left v there)) within) in
-      (gone.served.steps ++ rest.0, GetsIn-after (dealing_of p.plans) c u x rest.0 gone.served rest.1)
+      (gone.served.steps ++ rest.0, GetsIn-after deal c u x rest.0 gone.served rest.1)
   | inl none ↦
       let free : IsFree u = λ d. elim (cases_lt d (length u.clients)) [ inl within ↦ none d within | inr beyond ↦ outside_beyond u d beyond ] in
       let some = sum_some (length u.clients) c (λ d. asking_one (client_at u.clients d).phase) asks.client in
       let mine : asking_one (client_at u.clients c).phase ≡ 1 = ap asking_one (asking_is (client_at u.clients c).phase asks.asks) in
       let enough : 1 * k ≤ total asking_one u * k = mul-le-mul_right k (omega arith) in
-      let one = lets_in laws (with_state p u) c r asks free (λ v within. (let count = left v within in omega arith)) in
+      let one = lets_in laws deal u c r asks free (λ v within. (let count = left v within in omega arith)) in
       let e = one.who in
       let way = one.enters in
       let x = way.world in
-      let served = Served-enters (dealing_of p.plans) e (λ r. one_entry u) u way in
+      let served = Served-enters deal e (λ r. one_entry u) u way in
       elim (cases_eq e c) [
         | inl same ↦ (
           served.steps,
@@ -278,18 +278,17 @@ serves_all laws p c k (suc t) u is most r asks left = elim (inside_below u (leng
             let less = total_less weight u x e way.path.clients within (omega arith) way.phases in
             let fewer = total_less asking_one u x e way.path.clients within (omega arith) way.phases in
             let product : (total asking_one x + 1) * k ≤ total asking_one u * k = mul-le-mul_right k fewer in
-            let rest = serves_all laws p c k t x (same_entry u x way.path.voters way.path.clients ∙ is) (omega arith) (Reached-served p u x served r)
+            let rest = serves_all laws deal c k t x (same_entry u x way.path.voters way.path.clients ∙ is) (omega arith) (IsKept-served deal u x served r)
             (record { client = subst (λ n. c < n) (sym way.path.clients) asks.client; asks = ap is_asking (way.phases c (λ same. apart (sym same))) ∙ asks.asks })
             (λ v there. (let count = left v (subst (λ n. v < n) way.path.voters there) in let few = way.few v in let limit = way.limit v in omega arith)) in
-            (served.steps ++ rest.0, GetsIn-after (dealing_of p.plans) c u x rest.0 served rest.1)
+            (served.steps ++ rest.0, GetsIn-after deal c u x rest.0 served rest.1)
       ]
 ]
 
-pub everybody_gets_in : Laws → (w : Planned) (c : ℕ) → IsReached w → Asks w.state c → HasGrants (length w.state.clients * (length w.state.voters + length w.state.clients + 3)) w.state
-    → (steps : List Step) × GetsIn (dealing_of w.plans) w.state c steps
+pub everybody_gets_in : Laws → (deal : Dealing) (w : WorldState) (c : ℕ) → IsKept deal w → Asks w c → HasGrants (length w.clients * (length w.voters + length w.clients + 3)) w
+    → (steps : List Step) × GetsIn deal w c steps
 unfolding total
-everybody_gets_in laws w c r asks left =
-    let u = w.state in
-    let few : total asking_one u ≤ length u.clients = sum_most (length u.clients) (λ d. asking_one (client_at u.clients d).phase) (λ d. asking_most (client_at u.clients d).phase) in
-    let enough : total asking_one u * one_entry u ≤ length u.clients * one_entry u = mul-le-mul_right (one_entry u) few in
-    serves_all laws w c (one_entry u) (total weight u) u refl (omega arith) r asks (λ v within. (let count = left v within in omega arith))
+everybody_gets_in laws deal w c r asks left =
+    let few : total asking_one w ≤ length w.clients = sum_most (length w.clients) (λ d. asking_one (client_at w.clients d).phase) (λ d. asking_most (client_at w.clients d).phase) in
+    let enough : total asking_one w * one_entry w ≤ length w.clients * one_entry w = mul-le-mul_right (one_entry w) few in
+    serves_all laws deal c (one_entry w) (total weight w) w refl (omega arith) r asks (λ v within. (let count = left v within in omega arith))

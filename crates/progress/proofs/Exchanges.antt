@@ -22,11 +22,11 @@ use Rattle.requester.specs.Soundness.{IsSound}
 use Rattle.requester.specs.Steps as requester
 use Rattle.requester.specs.Words.{held_of, holds, holds_under, last_of}
 use Rattle.world.specs.declared.step.Step.TheVariants.{Deliver, RemindClient, RemindVoter}
-use Rattle.world.specs.Runs.{IsReached, after, run_of}
-use Rattle.world.specs.Steps.{Dealing, Planned, WorldState, after_voter, client_at, client_did, come, dealing_of, if_client, if_voter, say, step, voter_at, voter_did}
+use Rattle.world.specs.Runs.{after, run_of}
+use Rattle.world.specs.Steps.{Dealing, WorldState, after_voter, client_at, client_did, come, if_client, if_voter, say, step, voter_at, voter_did}
 use Rattle.progress.specs.LostVotes.{GoesOn, HasLostVote, HasReturnedVote, reminder_and_one}
 use Rattle.world.specs.Coherence.{Names}
-use Rattle.progress.proofs.Fitting.{Fits-reached}
+use Rattle.progress.proofs.Kept.{IsKept}
 use Rattle.progress.specs.Rules.{Laws}
 use Rattle.progress.proofs.Moves.{voter_here}
 
@@ -126,16 +126,14 @@ not_held x v n held g c sound is few names = false_from_ne_true (holds x v) (λ 
     let fresh = (sound.held v has).fresh in
     (let x : ⊥ = omega arith in x))
 
-pub goes_on : Laws → (plan : Planned) (v : ℕ) (g : Grant) → IsReached plan → HasReturnedVote plan.state v g → GoesOn (dealing_of plan.plans) plan.state v g
+pub goes_on : Laws → (deal : Dealing) (w : WorldState) (v : ℕ) (g : Grant) → IsKept deal w → HasReturnedVote w v g → GoesOn deal w v g
 unfolding spoken
-goes_on laws plan v g r back =
-    let w = plan.state in
-    let deal = dealing_of plan.plans in
+goes_on laws deal w v g r back =
     let c = g.client in
     let x = client_at w.clients c in
     let y = voter_at w.voters v in
-    let ok = laws.coherent plan r in
-    let fits = Fits-reached laws plan r in
+    let ok = (r []).coherent in
+    let fits = (r []).fits in
     let within = (ok.made v c g.stamp (inl (g, back.held, refl, refl))).client in
     let v_within = ok.members c v back.asked in
     let few = ok.numbered.few_voters in

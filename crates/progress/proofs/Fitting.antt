@@ -27,13 +27,13 @@ use Rattle.requester.specs.Soundness.{IsSound}
 use Rattle.requester.specs.Steps as requester
 use Rattle.requester.specs.Words.{held_of, holds, holds_under, is_asking, is_covered, is_current, is_idle, is_relinquished, last_of, members, is_inquired}
 use Rattle.world.specs.Coherence.{AskOk, IsCoherent, Names}
-use Rattle.world.specs.Runs.{IsReached, start}
-use Rattle.world.specs.Steps.{Planned, WorldState, client_at, step, voter_at}
+use Rattle.world.specs.Runs.{start}
+use Rattle.world.specs.Steps.{WorldState, client_at, step, voter_at}
 use Rattle.progress.proofs.Always.{asked_by, granted_later, new_voter}
 use Rattle.world.proofs.Reached.{client_new, client_past, new_clients, new_voters}
 use Rattle.progress.proofs.Behind.{ask-Ok, grant_moved, meets}
 use Rattle.progress.specs.Rules.{Laws}
-use Rattle.progress.proofs.Moves.{ClientMoved, Moved, VoterMoved, each_client, each_voter, kept-reached}
+use Rattle.progress.proofs.Moves.{ClientMoved, Moved, VoterMoved, each_client, each_voter}
 use Rattle.requester.proofs.SoundSteps.{is_asking-busy, holds_under-holds}
 use Rattle.world.proofs.Exclusion.{held_under}
 
@@ -294,19 +294,19 @@ Fits-client laws u x ok now k h = subst (λ (vs : List VoterState). Fits x.clien
 
 -- ---- a voter moves
 
-finished_ok : (x : ClientState) (v c client n : ℕ) (b : VoterBody) → (c ≡ client → AskOk x v b) → Finishes client b c n → (n ≤ x.stamp) × (is_idle x.phase ≡ false → n < x.stamp)
-finished_ok x v c client n (asks.Request s) asked may = let most = asked may.0 in let less = may.1 in (omega arith, λ _. omega arith)
-finished_ok x v c client n (asks.Relinquish g) asked may = absurd may
-finished_ok x v c client n (asks.Release s) asked may =
+finished_ok : (x : ClientState) (y : VoterState) (v c client n : ℕ) (b : VoterBody) → (c ≡ client → AskOk x y v client b) → Finishes client b c n → (n ≤ x.stamp) × (is_idle x.phase ≡ false → n < x.stamp)
+finished_ok x y v c client n (asks.Request s) asked may = let most = asked may.0 in let less = may.1 in (omega arith, λ _. omega arith)
+finished_ok x y v c client n (asks.Relinquish g) asked may = absurd may
+finished_ok x y v c client n (asks.Release s) asked may =
     let ok = asked may.0 in
     let most = ok.0 in
     let up = may.1 in
     (omega arith, λ busy. let less = ok.1 busy in omega arith)
 
-Unfinished-voter : (x : ClientState) (v c client : ℕ) (b : VoterBody) (y z : VoterState) → (c ≡ client → AskOk x v b) → FinishesBy y client b z → Unfinished x c y → Unfinished x c z
+Unfinished-voter : (x : ClientState) (v c client : ℕ) (b : VoterBody) (y z : VoterState) → (c ≡ client → AskOk x y v client b) → FinishesBy y client b z → Unfinished x c y → Unfinished x c z
 Unfinished-voter x v c client b y z asked by ok = elim (by c) [
   | inl stays ↦ let most = ok.most in record { most = omega arith; busy = λ busy. let less = ok.busy busy in omega arith }
-  | inr may ↦ let k = finished_ok x v c client (slice_index z.finished c) b asked may in record { most = k.0; busy = k.1 }
+  | inr may ↦ let k = finished_ok x y v c client (slice_index z.finished c) b asked may in record { most = k.0; busy = k.1 }
 ]
 
 Pair-voter : (laws : Laws) (u x : WorldState) → IsCoherent u → (k : VoterMoved u x) → (c : ℕ) → Pair c k.message.voter (client_at u.clients c) (voter_at u.voters k.message.voter)
@@ -331,7 +331,7 @@ Fits-voter laws u x ok k h = subst (λ (cs : List ClientState). Fits cs x.voters
   lacks = h.lacks;
 })
 
-Fits-moved : (laws : Laws) (u x : WorldState) → IsCoherent u → IsCoherent x → Moved u x → Fits u.clients u.voters → Fits x.clients x.voters
+pub Fits-moved : (laws : Laws) (u x : WorldState) → IsCoherent u → IsCoherent x → Moved u x → Fits u.clients u.voters → Fits x.clients x.voters
 Fits-moved laws u x ok now moved h = elim moved [
   | inl client ↦ Fits-client laws u x ok now client h
   | inr (inl voter) ↦ Fits-voter laws u x ok voter h
@@ -350,7 +350,7 @@ Pair-start c v i l j m = record {
   given = λ below g held. absurd (none-some g held);
 }
 
-Fits-start : (voters clients limit : ℕ) → Fits (start voters clients limit).clients (start voters clients limit).voters
+pub Fits-start : (voters clients limit : ℕ) → Fits (start voters clients limit).clients (start voters clients limit).voters
 unfolding new_clients new_voters
 Fits-start voters clients limit = record {
   pairs = λ c v.
@@ -360,6 +360,3 @@ Fits-start voters clients limit = record {
       (subst (λ (z : VoterState). Pair c v (requester.start x.0 x.1) z) (sym y.2) (Pair-start c v x.0 x.1 y.0 y.1));
   lacks = λ c. (let x = new_client clients limit c in subst (λ (z : ClientState). Lacks z) (sym x.2) (λ asks. absurd (false≢true asks)));
 }
-
-pub Fits-reached : (laws : Laws) (w : Planned) → IsReached w → Fits w.state.clients w.state.voters
-Fits-reached laws = kept-reached (λ w. Fits w.clients w.voters) laws.coherent Fits-start (Fits-moved laws)

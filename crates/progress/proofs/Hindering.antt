@@ -27,13 +27,14 @@ use Rattle.requester.specs.Soundness.{IsSound}
 use Rattle.requester.specs.Steps as requester
 use Rattle.requester.specs.Words.{held_of, holds, is_failed, is_hindered, is_member, is_relinquished, last_of, members}
 use Rattle.world.specs.declared.step.Step.TheVariants.{Deliver, RemindVoter}
-use Rattle.world.specs.Runs.{IsReached, run_of}
-use Rattle.world.specs.Steps.{Dealing, Planned, WorldState, client_at, client_did, dealing_of, events, step, voter_at}
+use Rattle.world.specs.Coherence.{IsCoherent}
+use Rattle.world.specs.Runs.{run_of}
+use Rattle.world.specs.Steps.{Dealing, WorldState, client_at, client_did, events, step, voter_at}
 use Rattle.progress.proofs.Exchanges.{after-deliver_client, after-remind_voter, get_next, reminded, spoken}
-use Rattle.progress.proofs.Fitting.{Fits-reached, Stays, Stays-fail, Stays-inquire, grant_is}
+use Rattle.progress.proofs.Fitting.{Stays, Stays-fail, Stays-inquire, grant_is}
 use Rattle.progress.specs.Rules.{Laws}
-use Rattle.progress.proofs.Moves.{client_here, client_others, each_set, with_state}
-use Rattle.progress.proofs.Placed.{Placed-reached}
+use Rattle.progress.proofs.Moves.{client_here, client_others, each_set}
+use Rattle.progress.proofs.Kept.{IsKept}
 use Rattle.progress.proofs.Ways.{Here, Here-went, Leads, asks_again, entry_waits, gets, has_range, hears, held_some, help_then, own_stamp}
 use Rattle.world.proofs.Exclusion.{held_under}
 use Rattle.world.proofs.Plans.{run_then}
@@ -81,11 +82,11 @@ given_last x cause o v contract given =
     let there = given.2 in
     sym (says_at x cause o.state o.out there.0 (requester.tell x v (asks.Relinquish (held_of x v))) contract.out there.1 there.2).0
 
-takes_meets : (laws : Laws) (x : ClientState) (m : ToClient) → (p : Planned) (u : WorldState) (d : ℕ) → IsReached (with_state p u) → client_at u.clients d ≡ x
+takes_meets : (laws : Laws) (x : ClientState) (m : ToClient) → (deal : Dealing) (u : WorldState) (d : ℕ) → IsKept deal u → client_at u.clients d ≡ x
     → d < length u.clients → m.client ≡ d → m.voter < length u.voters → MeetsContract x (requester.Takes m) (requester.take x m)
 unfolding requester.step
-takes_meets laws x m p u d r is within own voter =
-    let ok = laws.coherent (with_state p u) r in
+takes_meets laws x m deal u d r is within own voter =
+    let ok = (r []).coherent in
     let few = ok.numbered.few_voters in
     laws.client.meets x (requester.Takes m) (requester.take x m) (subst (λ (z : ClientState). IsSound z) is (ok.clients d))
     (own ∙ sym (ap (λ (z : ClientState). z.id) (sym is) ∙ ok.numbered.clients d within), omega arith) refl
@@ -110,15 +111,15 @@ compared_same true same v client s t e f = absurd (false≢true (sym e))
 compared_same false true v client s t e f = refl
 compared_same false false v client s t e f = absurd (false≢true f)
 
-beside_same : (v : VoterState) (client s : ℕ) (o : Option ℕ) → o ≡ Some s → voter.take_request_beside v client s o ≡ record { replies = voter.again v v.held client s; state = v }
+pub beside_same : (v : VoterState) (client s : ℕ) (o : Option ℕ) → o ≡ Some s → voter.take_request_beside v client s o ≡ record { replies = voter.again v v.held client s; state = v }
 unfolding voter.take_request_beside
 beside_same v client s o is = ap (voter.take_request_beside v client s) is ∙ compared_same (nat_lt s s) (s == s) v client s s (grind (arith, nat_tests)) (grind (arith, nat_tests))
 
-requested_not : (b : Bool) (v : VoterState) (client s : ℕ) → b ≡ false → voter.take_request_by b v client s ≡ voter.take_request_beside v client s (voter.current_stamp v client)
+pub requested_not : (b : Bool) (v : VoterState) (client s : ℕ) → b ≡ false → voter.take_request_by b v client s ≡ voter.take_request_beside v client s (voter.current_stamp v client)
 requested_not true v client s e = absurd (false≢true (sym e))
 requested_not false v client s e = refl
 
-eq_false : (a b : ℕ) → a ≢ b → (a == b) ≡ false
+pub eq_false : (a b : ℕ) → a ≢ b → (a == b) ≡ false
 eq_false a b other = false_from_ne_true (a == b) (λ is. other (grind (arith, nat_tests)))
 
 fails_again : (y : VoterState) (m : ToVoter) (s : ℕ) (g : Grant) (o : voter.Outcome) → m.body ≡ asks.Request s → slice_index y.finished m.client < s → y.held ≡ Some g
@@ -137,30 +138,29 @@ fails_again y m s g o is unfinished held other waits step =
     sym (unless-Some _ (voter.outcome_of y c m.body) o step) ∙ out
 
 -- the client is hindered, and each vote is held as before or was given back under the same grant
-record Failed (p : Planned) (c d q : ℕ) (u : WorldState) : Type 0 where
+record Failed (deal : Dealing) (c d q : ℕ) (u : WorldState) : Type 0 where
   world : WorldState
-  led : Led (dealing_of p.plans) c (only q 0) u world
+  led : Led deal c (only q 0) u world
   hindered : is_hindered (client_at world.clients d) ≡ true
   votes : (v : ℕ) → (held_of (client_at world.clients d) v ≡ held_of (client_at u.clients d) v) ⊎ (last_of (client_at world.clients d) v ≡ held_of (client_at u.clients d) v)
   others : (v : ℕ) → v ≢ q → voter_at world.voters v ≡ voter_at u.voters v
 
-fails : (laws : Laws) (p : Planned) (c d q : ℕ) (u : WorldState) → Here p d q u → d ≢ c → holds (client_at u.clients d) q ≡ false → (g : Grant)
+fails : (laws : Laws) (deal : Dealing) (c d q : ℕ) (u : WorldState) → Here deal d q u → d ≢ c → holds (client_at u.clients d) q ≡ false → (g : Grant)
     → (voter_at u.voters q).held ≡ Some g → g.client ≢ d
-    → IsEntry (voter_at u.voters q) d (client_at u.clients d).stamp → (voter_at u.voters q).granted < (voter_at u.voters q).limit → Failed p c d q u
+    → IsEntry (voter_at u.voters q) d (client_at u.clients d).stamp → (voter_at u.voters q).granted < (voter_at u.voters q).limit → Failed deal c d q u
 unfolding spoken requester.would_hold
-fails laws p c d q u h apart free g held other entry left =
-    let deal = dealing_of p.plans in
-    let ok = laws.coherent (with_state p u) h.reached in
+fails laws deal c d q u h apart free g held other entry left =
+    let ok = (h.reached []).coherent in
     let old = client_at u.clients d in
     let y = voter_at u.voters q in
     let s = old.stamp in
     let ask = requester.tell old q (asks.Request s) in
     let there = laws.client.requests old q h.asks h.asked free in
-    let heard = hears laws p d q u h (asks.Request s) there left in
+    let heard = hears laws deal d q u h (asks.Request s) there left in
     let w = heard.world in
     let id : old.id ≡ d = ok.numbered.clients d h.client in
     let voter_id : y.id ≡ q = ok.numbered.voters q (ok.members d q h.asked) in
-    let pair = (Fits-reached laws (with_state p u) h.reached).pairs d q in
+    let pair = (h.reached []).fits.pairs d q in
     let busy = is_asking-busy old.phase h.asks in
     let unfinished = subst (λ i. slice_index y.finished i < s) (sym id) (pair.unfinished.busy busy) in
     let waits = subst (λ i. get y.waiting i ≡ Some s) (sym id) (entry_waits y d s g entry held other) in
@@ -171,15 +171,15 @@ fails laws p c d q u h apart free g held other entry left =
     let sent : slice_get w.sent (length before) ≡ Some (kinds.ToClient m) =
     ap (λ ms. slice_get ms (length before)) (heard.sent ∙ ap (λ (o : voter.Outcome). before ++ map kinds.ToClient o.replies) outcome)
     ∙ get_next before (kinds.ToClient (voter.reply (voter.see y s) old.id (to_client.Fail s))) [] ∙ ap (λ (n : ToClient). Some (kinds.ToClient n)) is in
-    let here = Here-went p d q q u w heard.went h in
-    let now = laws.coherent (with_state p w) here.reached in
+    let here = Here-went deal d q q u w heard.went h in
+    let now = (here.reached []).coherent in
     let x = client_at w.clients d in
     let same : x ≡ old = ap (λ cs. client_at cs d) heard.same in
     let lacks = ap (λ (z : ClientState). holds z q) same ∙ free in
     let o = requester.take x m in
     let few : (voter_at w.voters q).granted ≤ y.granted + 0 = subst (λ (z : VoterState). z.granted ≤ y.granted + 0) (sym (heard.here ∙ ap (λ (k : voter.Outcome). k.state) outcome)) (omega arith) in
     let at = client_here w.clients d o.state here.client in
-    let contract = takes_meets laws x m p w d here.reached refl here.client refl (now.members d q here.asked) in
+    let contract = takes_meets laws x m deal w d here.reached refl here.client refl (now.members d q here.asked) in
     record {
       world = (client_did w d o).state;
       led = Led-takes deal c (only q 0) (length before) u w m (Led-went deal c q 0 u w heard.went few)
@@ -198,9 +198,9 @@ second_next : {A : Type 0} (xs : List A) (y z : A) (ys : List A) → slice_get (
 second_next [] y z ys = refl
 second_next (x ∷ xs) y z ys = second_next xs y z ys
 
-pub record Returns (p : Planned) (c d v : ℕ) (n : ℕ → ℕ) (g : Grant) (u : WorldState) : Type 0 where
+pub record Returns (deal : Dealing) (c d v : ℕ) (n : ℕ → ℕ) (g : Grant) (u : WorldState) : Type 0 where
   pub world : WorldState
-  pub led : Led (dealing_of p.plans) c n u world
+  pub led : Led deal c n u world
   pub voter : voter_at world.voters v ≡ voter_at u.voters v
   pub last : last_of (client_at world.clients d) v ≡ g.grant
 
@@ -223,20 +223,18 @@ Led-reminded deal c v u within = record {
 }
 
 -- the grant by which a client holds a vote is the one that has it
-held_grant : (laws : Laws) (p : Planned) (d v : ℕ) (u : WorldState) → IsReached (with_state p u) → (g : Grant) → (voter_at u.voters v).held ≡ Some g
-    → holds (client_at u.clients d) v ≡ true → g.grant ≡ held_of (client_at u.clients d) v
-held_grant laws p d v u r g held has =
-    let ok = laws.coherent (with_state p u) r in
+pub held_grant : (u : WorldState) → IsCoherent u → (d v : ℕ) (g : Grant) → (voter_at u.voters v).held ≡ Some g → holds (client_at u.clients d) v ≡ true
+    → g.grant ≡ held_of (client_at u.clients d) v
+held_grant u ok d v g held has =
     let x = client_at u.clients d in
     grant_is (voter_at u.voters v).held g d x.stamp (held_of x v) held (ok.held d v (held_of x v) (held_under x v has))
 
-gives_back : (laws : Laws) (p : Planned) (c d v : ℕ) (u : WorldState) → Here p d v u → d ≢ c → holds (client_at u.clients d) v ≡ true → is_hindered (client_at u.clients d) ≡ true
+gives_back : (laws : Laws) (deal : Dealing) (c d v : ℕ) (u : WorldState) → Here deal d v u → d ≢ c → holds (client_at u.clients d) v ≡ true → is_hindered (client_at u.clients d) ≡ true
     → (g : Grant) → (voter_at u.voters v).held ≡ Some g → g.client ≡ d
-    → (voter_at u.voters v).inquiring ≡ true → Returns p c d v none g u
+    → (voter_at u.voters v).inquiring ≡ true → Returns deal c d v none g u
 unfolding reminded
-gives_back laws p c d v u h apart has hindered g held own inquiring =
-    let deal = dealing_of p.plans in
-    let ok = laws.coherent (with_state p u) h.reached in
+gives_back laws deal c d v u h apart has hindered g held own inquiring =
+    let ok = (h.reached []).coherent in
     let x = client_at u.clients d in
     let y = voter_at u.voters v in
     let within = ok.members d v h.asked in
@@ -249,9 +247,9 @@ gives_back laws p c d v u h apart has hindered g held own inquiring =
     let sent : slice_get (reminded u v).sent (suc (length u.sent)) ≡ Some (kinds.ToClient m) =
     ap (λ rs. slice_get (u.sent ++ map kinds.ToClient rs) (suc (length u.sent))) more ∙ second_next u.sent (kinds.ToClient first) (kinds.ToClient m) [] in
     let o = requester.take x m in
-    let number = held_grant laws p d v u h.reached g held has in
+    let number = held_grant u (h.reached []).coherent d v g held has in
     let given = laws.client.gives x m (ok.clients d) h.asks has hindered (omega arith) (ap (λ n. to_client.Inquire n) number) in
-    let contract = takes_meets laws x m p u d h.reached refl h.client refl within in
+    let contract = takes_meets laws x m deal u d h.reached refl h.client refl within in
     record {
       world = (client_did (reminded u v) d o).state;
       led = Led-takes deal c none (suc (length u.sent)) u (reminded u v) m (Led-reminded deal c v u within) (omega arith) sent h.client apart (Stays-inquire x m g.grant refl);
@@ -265,31 +263,31 @@ gives_back laws p c d v u h apart has hindered g held own inquiring =
 abbrev IsLoose : ℕ → Grant → ClientState → Type 0
 IsLoose v g x = ((is_hindered x ≡ true) × (holds x v ≡ true)) ⊎ (last_of x v ≡ g.grant)
 
-record Loose (p : Planned) (c d v : ℕ) (n : ℕ → ℕ) (g : Grant) (u : WorldState) : Type 0 where
+record Loose (deal : Dealing) (c d v : ℕ) (n : ℕ → ℕ) (g : Grant) (u : WorldState) : Type 0 where
   world : WorldState
-  led : Led (dealing_of p.plans) c n u world
+  led : Led deal c n u world
   voter : voter_at world.voters v ≡ voter_at u.voters v
   loose : IsLoose v g (client_at world.clients d)
 
-Loose-then : (p : Planned) (c d v : ℕ) (n m k : ℕ → ℕ) (g : Grant) (u x : WorldState) → ((q : ℕ) → n q + m q ≤ k q) → Led (dealing_of p.plans) c n u x
-    → voter_at x.voters v ≡ voter_at u.voters v → Loose p c d v m g x → Loose p c d v k g u
-Loose-then p c d v n m k g u x most a same h = record {
+Loose-then : (deal : Dealing) (c d v : ℕ) (n m k : ℕ → ℕ) (g : Grant) (u x : WorldState) → ((q : ℕ) → n q + m q ≤ k q) → Led deal c n u x
+    → voter_at x.voters v ≡ voter_at u.voters v → Loose deal c d v m g x → Loose deal c d v k g u
+Loose-then deal c d v n m k g u x most a same h = record {
   world = h.world;
-  led = Led-more (dealing_of p.plans) c (λ q. n q + m q) k u h.world most (Led-then (dealing_of p.plans) c n m u x h.world a h.led);
+  led = Led-more deal c (λ q. n q + m q) k u h.world most (Led-then deal c n m u x h.world a h.led);
   voter = h.voter ∙ same;
   loose = h.loose;
 }
 
 -- the client has more votes, and the voter is as before
-record More (p : Planned) (c d v : ℕ) (n : ℕ → ℕ) (u : WorldState) : Type 0 where
+record More (deal : Dealing) (c d v : ℕ) (n : ℕ → ℕ) (u : WorldState) : Type 0 where
   world : WorldState
-  led : Led (dealing_of p.plans) c n u world
+  led : Led deal c n u world
   voter : voter_at world.voters v ≡ voter_at u.voters v
   held : (r : ℕ) → holds (client_at u.clients d) r ≡ true → holds (client_at world.clients d) r ≡ true
 
-abbrev Tried : Planned → ℕ → ℕ → ℕ → ℕ → Grant → WorldState → Type 0
-Tried p c d v q g u =
-    Somebody p (only q 1) u ⊎ Loose p c d v (only q 1) g u ⊎ ((m : More p c d v (only q 1) u) × (is_member (client_at u.clients d) q ≡ true → holds (client_at m.world.clients d) q ≡ true))
+abbrev Tried : Dealing → ℕ → ℕ → ℕ → ℕ → Grant → WorldState → Type 0
+Tried deal c d v q g u =
+    Somebody deal (only q 1) u ⊎ Loose deal c d v (only q 1) g u ⊎ ((m : More deal c d v (only q 1) u) × (is_member (client_at u.clients d) q ≡ true → holds (client_at m.world.clients d) q ≡ true))
 
 any_member : (f : ℕ → Bool) (l : List ℕ) (q : ℕ) → has l q ≡ true → f q ≡ true → list_any f l ≡ true
 any_member f [] q there is = absurd (false≢true there)
@@ -298,7 +296,7 @@ any_member f (x ∷ xs) q there is = elim (cases_eq x q) [
   | inr other ↦ (let rest = any_member f xs q (grind (arith, nat_tests)) is in grind (arith, nat_tests))
 ]
 
-hindered_by : (x : ClientState) (q : ℕ) → is_member x q ≡ true → is_relinquished x q ≡ true → is_hindered x ≡ true
+pub hindered_by : (x : ClientState) (q : ℕ) → is_member x q ≡ true → is_relinquished x q ≡ true → is_hindered x ≡ true
 hindered_by x q member given = any_member (λ v. is_failed x v || is_relinquished x v) (members x) q member (grind (arith, nat_tests))
 
 loose_by : (x z : ClientState) (v : ℕ) (g : Grant) → is_hindered z ≡ true → holds x v ≡ true → g.grant ≡ held_of x v → (held_of z v ≡ held_of x v) ⊎ (last_of z v ≡ held_of x v) → IsLoose v g z
@@ -307,33 +305,32 @@ loose_by x z v g hindered has number votes = elim votes [
   | inr given ↦ inr (given ∙ sym number)
 ]
 
-loose_from : (p : Planned) (c d v q : ℕ) (g : Grant) (u w : WorldState) → Led (dealing_of p.plans) c (only q 1) u w → v ≢ q → voter_at w.voters v ≡ voter_at u.voters v
+loose_from : (deal : Dealing) (c d v q : ℕ) (g : Grant) (u w : WorldState) → Led deal c (only q 1) u w → v ≢ q → voter_at w.voters v ≡ voter_at u.voters v
     → holds (client_at w.clients d) v ≡ true
-    → g.grant ≡ held_of (client_at w.clients d) v → Failed p c d q w → Loose p c d v (only q 1) g u
-loose_from p c d v q g u w led other same has number f = record {
+    → g.grant ≡ held_of (client_at w.clients d) v → Failed deal c d q w → Loose deal c d v (only q 1) g u
+loose_from deal c d v q g u w led other same has number f = record {
   world = f.world;
-  led = Led-more (dealing_of p.plans) c (λ r. only q 1 r + only q 0 r) (only q 1) u f.world (λ r. (let nothing = only_zero q r in omega arith))
-      (Led-then (dealing_of p.plans) c (only q 1) (only q 0) u w f.world led f.led);
+  led = Led-more deal c (λ r. only q 1 r + only q 0 r) (only q 1) u f.world (λ r. (let nothing = only_zero q r in omega arith))
+      (Led-then deal c (only q 1) (only q 0) u w f.world led f.led);
   voter = f.others v other ∙ same;
   loose = loose_by (client_at w.clients d) (client_at f.world.clients d) v g f.hindered has number (f.votes v);
 }
 
-tries : (laws : Laws) (p : Planned) (c d v q : ℕ) (g : Grant) (u : WorldState) → Here p d v u → d ≢ c → (voter_at u.voters v).held ≡ Some g → holds (client_at u.clients d) v ≡ true
+tries : (laws : Laws) (deal : Dealing) (c d v q : ℕ) (g : Grant) (u : WorldState) → Here deal d v u → d ≢ c → (voter_at u.voters v).held ≡ Some g → holds (client_at u.clients d) v ≡ true
     → is_member (client_at u.clients d) q ≡ true
-    → (voter_at u.voters q).granted + 2 ≤ (voter_at u.voters q).limit → Tried p c d v q g u
-tries laws p c d v q g u h apart held has member left = elim (holds (client_at u.clients d) q) as (λ b. holds (client_at u.clients d) q ≡ b → Tried p c d v q g u) [
-  | true ↦ λ got. inr (inr (record { world = u; led = Led-self (dealing_of p.plans) c (only q 1) u; voter = refl; held = λ r was. was }, λ _. got))
+    → (voter_at u.voters q).granted + 2 ≤ (voter_at u.voters q).limit → Tried deal c d v q g u
+tries laws deal c d v q g u h apart held has member left = elim (holds (client_at u.clients d) q) as (λ b. holds (client_at u.clients d) q ≡ b → Tried deal c d v q g u) [
+  | true ↦ λ got. inr (inr (record { world = u; led = Led-self deal c (only q 1) u; voter = refl; held = λ r was. was }, λ _. got))
   | false ↦ λ free.
-      let deal = dealing_of p.plans in
-      let spot : Here p d q u = record { reached = h.reached; client = h.client; asks = h.asks; asked = member } in
+      let spot : Here deal d q u = record { reached = h.reached; client = h.client; asks = h.asks; asked = member } in
       let other : v ≢ q = λ same. false≢true (sym free ∙ ap (λ i. holds (client_at u.clients d) i) (sym same) ∙ has) in
-      let asked_again = asks_again laws p d q u spot free (omega arith) in
+      let asked_again = asks_again laws deal d q u spot free (omega arith) in
       let w = asked_again.world in
       let x = client_at w.clients d in
       let y = voter_at w.voters q in
       let same : x ≡ client_at u.clients d = ap (λ cs. client_at cs d) asked_again.same in
-      let here = Here-went p d q q u w asked_again.went spot in
-      let ok = laws.coherent (with_state p w) here.reached in
+      let here = Here-went deal d q q u w asked_again.went spot in
+      let ok = (here.reached []).coherent in
       let led = Led-went deal c q 1 u w asked_again.went asked_again.few in
       let one_only : (r : ℕ) → only q 1 r + only q 0 r ≤ only q 1 r = λ r. (let nothing = only_zero q r in omega arith) in
       let lacks = ap (λ (z : ClientState). holds z q) same ∙ free in
@@ -348,8 +345,8 @@ tries laws p c d v q g u h apart held has member left = elim (holds (client_at u
         | inl mine ↦
             let stamp = own_stamp y d x.stamp k.0 (ok.voters q) asked_again.entry k.1 mine in
             elim (cases_lt (last_of x q) k.0.grant) [
-              | inl less ↦ elim (gets laws p d q w here lacks k.0 k.1 mine stamp less) [
-                | inl e ↦ inl (Somebody-led p c (only q 1) (only q 0) (only q 1) u w one_only led (somebody_at p d q (voter_at w.voters q).granted 0 w here.asks (omega arith) e))
+              | inl less ↦ elim (gets laws deal d q w here lacks k.0 k.1 mine stamp less) [
+                | inl e ↦ inl (Somebody-led deal c (only q 1) (only q 0) (only q 1) u w one_only led (somebody_at deal d q (voter_at w.voters q).granted 0 w here.asks (omega arith) e))
                 | inr on ↦
                     let more = Led-went deal c q 0 w on.0 on.1 (let count = ap (λ vs. (voter_at vs q).granted) on.3 in omega arith) in
                     inr (inr (
@@ -363,14 +360,14 @@ tries laws p c d v q g u h apart held has member left = elim (holds (client_at u
                     ))
               ]
               | inr most ↦
-                  let pair = (Fits-reached laws (with_state p w) here.reached).pairs d q in
+                  let pair = (here.reached []).fits.pairs d q in
                   let back = pair.given (omega arith) k.0 k.1 mine here.asks stamp most in
                   inr (inl (record { world = w; led = led; voter = kept; loose = inl (hindered_by x q here.asked back.1, has_it) }))
             ]
         | inr unlike ↦
-            let f = fails laws p c d q w here apart lacks k.0 k.1 unlike asked_again.entry (omega arith) in
-            let number = held_grant laws p d v w here.reached g (ap (λ (z : VoterState). z.held) kept ∙ held) has_it in
-            inr (inl (loose_from p c d v q g u w led other kept has_it number f))
+            let f = fails laws deal c d q w here apart lacks k.0 k.1 unlike asked_again.entry (omega arith) in
+            let number = held_grant w (here.reached []).coherent d v g (ap (λ (z : VoterState). z.held) kept ∙ held) has_it in
+            inr (inl (loose_from deal c d v q g u w led other kept has_it number f))
       ]
 ] refl
 
@@ -379,39 +376,38 @@ abbrev and_one : List ℕ → ℕ → ℕ
 and_one qs r = 1 + times_in qs r
 
 -- the client has the votes of these members, or somebody gets in, or it is loose
-record AllTried (p : Planned) (c d v : ℕ) (n : ℕ → ℕ) (qs : List ℕ) (u : WorldState) : Type 0 where
-  more : More p c d v n u
+record AllTried (deal : Dealing) (c d v : ℕ) (n : ℕ → ℕ) (qs : List ℕ) (u : WorldState) : Type 0 where
+  more : More deal c d v n u
   all : (r : ℕ) → has qs r ≡ true → is_member (client_at u.clients d) r ≡ true → holds (client_at more.world.clients d) r ≡ true
 
 pub has_rest : (q r : ℕ) (qs : List ℕ) → r ≢ q → has (q ∷ qs) r ≡ true → has qs r ≡ true
 has_rest q r qs other there = grind (arith, nat_tests)
 
-tries_all : (laws : Laws) (p : Planned) (c d v : ℕ) (g : Grant) (qs : List ℕ) (u : WorldState) → Here p d v u → d ≢ c → (voter_at u.voters v).held ≡ Some g
+tries_all : (laws : Laws) (deal : Dealing) (c d v : ℕ) (g : Grant) (qs : List ℕ) (u : WorldState) → Here deal d v u → d ≢ c → (voter_at u.voters v).held ≡ Some g
     → holds (client_at u.clients d) v ≡ true → CanGive (and_one qs) u
-    → Somebody p (times_in qs) u ⊎ Loose p c d v (times_in qs) g u ⊎ AllTried p c d v (times_in qs) qs u
-tries_all laws p c d v g [] u h apart held has_v left =
-    inr (inr (record { more = record { world = u; led = Led-self (dealing_of p.plans) c (times_in []) u; voter = refl; held = λ r was. was }; all = λ r there. absurd (false≢true there) }))
-tries_all laws p c d v g (q ∷ qs) u h apart held has_v left =
-    let deal = dealing_of p.plans in
-    let ok = laws.coherent (with_state p u) h.reached in
+    → Somebody deal (times_in qs) u ⊎ Loose deal c d v (times_in qs) g u ⊎ AllTried deal c d v (times_in qs) qs u
+tries_all laws deal c d v g [] u h apart held has_v left =
+    inr (inr (record { more = record { world = u; led = Led-self deal c (times_in []) u; voter = refl; held = λ r was. was }; all = λ r there. absurd (false≢true there) }))
+tries_all laws deal c d v g (q ∷ qs) u h apart held has_v left =
+    let ok = (h.reached []).coherent in
     let sum : (r : ℕ) → only q 1 r + times_in qs r ≤ times_in (q ∷ qs) r = λ r. (let more = times_more q r qs in omega arith) in
     let first : (r : ℕ) → only q 1 r ≤ times_in (q ∷ qs) r = λ r. (let more = times_more q r qs in omega arith) in
-    let one : Tried p c d v q g u = elim (is_member (client_at u.clients d) q) as (λ b. is_member (client_at u.clients d) q ≡ b → Tried p c d v q g u) [
-      | true ↦ λ member. tries laws p c d v q g u h apart held has_v member
+    let one : Tried deal c d v q g u = elim (is_member (client_at u.clients d) q) as (λ b. is_member (client_at u.clients d) q ≡ b → Tried deal c d v q g u) [
+      | true ↦ λ member. tries laws deal c d v q g u h apart held has_v member
           (let count = left q (ok.members d q member) in let more = times_more q q qs in let first = only_here q 1 q refl in omega arith)
       | false ↦ λ none. inr (inr (record { world = u; led = Led-self deal c (only q 1) u; voter = refl; held = λ r was. was }, λ member. absurd (false≢true (sym none ∙ member))))
     ] refl in
     elim one [
-      | inl e ↦ inl (Somebody-more p (only q 1) (times_in (q ∷ qs)) u first e)
-      | inr (inl loose) ↦ inr (inl (Loose-then p c d v none (only q 1) (times_in (q ∷ qs)) g u u (λ r. (let all = first r in omega arith)) (Led-self deal c none u) refl loose))
+      | inl e ↦ inl (Somebody-more deal (only q 1) (times_in (q ∷ qs)) u first e)
+      | inr (inl loose) ↦ inr (inl (Loose-then deal c d v none (only q 1) (times_in (q ∷ qs)) g u u (λ r. (let all = first r in omega arith)) (Led-self deal c none u) refl loose))
       | inr (inr on) ↦
           let m = on.0 in
           let x = m.world in
-          let next = Here-led p c (only q 1) d v u x m.led h in
-          elim (tries_all laws p c d v g qs x next apart (ap (λ (z : VoterState). z.held) m.voter ∙ held) (m.held v has_v)
+          let next = Here-led deal c (only q 1) d v u x m.led h in
+          elim (tries_all laws deal c d v g qs x next apart (ap (λ (z : VoterState). z.held) m.voter ∙ held) (m.held v has_v)
           (CanGive-led deal c (only q 1) (and_one qs) (and_one (q ∷ qs)) u x (λ r. (let all = sum r in omega arith)) m.led left)) [
-            | inl e ↦ inl (Somebody-led p c (only q 1) (times_in qs) (times_in (q ∷ qs)) u x sum m.led e)
-            | inr (inl loose) ↦ inr (inl (Loose-then p c d v (only q 1) (times_in qs) (times_in (q ∷ qs)) g u x sum m.led m.voter loose))
+            | inl e ↦ inl (Somebody-led deal c (only q 1) (times_in qs) (times_in (q ∷ qs)) u x sum m.led e)
+            | inr (inl loose) ↦ inr (inl (Loose-then deal c d v (only q 1) (times_in qs) (times_in (q ∷ qs)) g u x sum m.led m.voter loose))
             | inr (inr rest) ↦ inr (inr (record {
               more = record {
                 world = rest.more.world;
@@ -434,22 +430,21 @@ all_hold f (x ∷ xs) all =
     let rest = all_hold f xs (λ q there. all q (grind (arith, nat_tests))) in
     grind (arith, nat_tests)
 
-loosens : (laws : Laws) (p : Planned) (c d v : ℕ) (g : Grant) (u : WorldState) → Here p d v u → d ≢ c → (voter_at u.voters v).held ≡ Some g → holds (client_at u.clients d) v ≡ true
+loosens : (laws : Laws) (deal : Dealing) (c d v : ℕ) (g : Grant) (u : WorldState) → Here deal d v u → d ≢ c → (voter_at u.voters v).held ≡ Some g → holds (client_at u.clients d) v ≡ true
     → CanGive (λ r. 2) u
-    → Somebody p one_each u ⊎ Loose p c d v one_each g u
-loosens laws p c d v g u h apart held has_v left =
-    let deal = dealing_of p.plans in
+    → Somebody deal one_each u ⊎ Loose deal c d v one_each g u
+loosens laws deal c d v g u h apart held has_v left =
     let n = length u.voters in
     let qs = range_with_len 0 n in
-    elim (tries_all laws p c d v g qs u h apart held has_v (λ r within. (let count = left r within in let once = times_once 0 n r in omega arith))) [
-      | inl e ↦ inl (Somebody-more p (times_in qs) one_each u (times_once 0 n) e)
-      | inr (inl loose) ↦ inr (Loose-then p c d v none (times_in qs) one_each g u u (λ r. (let once = times_once 0 n r in omega arith)) (Led-self deal c none u) refl loose)
+    elim (tries_all laws deal c d v g qs u h apart held has_v (λ r within. (let count = left r within in let once = times_once 0 n r in omega arith))) [
+      | inl e ↦ inl (Somebody-more deal (times_in qs) one_each u (times_once 0 n) e)
+      | inr (inl loose) ↦ inr (Loose-then deal c d v none (times_in qs) one_each g u u (λ r. (let once = times_once 0 n r in omega arith)) (Led-self deal c none u) refl loose)
       | inr (inr all) ↦
           let x = all.more.world in
           let led = all.more.led in
-          let here = Here-led p c (times_in qs) d v u x led h in
-          let ok = laws.coherent (with_state p u) h.reached in
-          let lacks = (Fits-reached laws (with_state p x) here.reached).lacks d here.asks in
+          let here = Here-led deal c (times_in qs) d v u x led h in
+          let ok = (h.reached []).coherent in
+          let lacks = (here.reached []).fits.lacks d here.asks in
           absurd (false≢true (sym lacks ∙ all_hold (holds (client_at x.clients d)) (members (client_at x.clients d)) (λ q there.
           let member : is_member (client_at u.clients d) q ≡ true = ap (λ l. has l q) (sym (led.same d).quorum) ∙ there in
           let within = ok.members d q member in
@@ -458,12 +453,11 @@ loosens laws p c d v g u h apart held has_v left =
 
 -- ---- the vote goes back
 
-pub returns : (laws : Laws) (p : Planned) (c d v : ℕ) (g : Grant) (u : WorldState) → Leads u c → Here p d v u → d ≢ c → IsEntry (voter_at u.voters v) c (client_at u.clients c).stamp
+pub returns : (laws : Laws) (deal : Dealing) (c d v : ℕ) (g : Grant) (u : WorldState) → Leads u c → Here deal d v u → d ≢ c → IsEntry (voter_at u.voters v) c (client_at u.clients c).stamp
     → (voter_at u.voters v).held ≡ Some g → g.client ≡ d
-    → g.stamp ≡ (client_at u.clients d).stamp → holds (client_at u.clients d) v ≡ true → CanGive (λ r. 2) u → Somebody p one_each u ⊎ Returns p c d v one_each g u
-returns laws p c d v g u leads h apart entry held own stamp has_v left =
-    let deal = dealing_of p.plans in
-    elim (loosens laws p c d v g u h apart held has_v left) [
+    → g.stamp ≡ (client_at u.clients d).stamp → holds (client_at u.clients d) v ≡ true → CanGive (λ r. 2) u → Somebody deal one_each u ⊎ Returns deal c d v one_each g u
+returns laws deal c d v g u leads h apart entry held own stamp has_v left =
+    elim (loosens laws deal c d v g u h apart held has_v left) [
       | inl e ↦ inl e
       | inr loose ↦
           let x = loose.world in
@@ -471,11 +465,11 @@ returns laws p c d v g u leads h apart entry held own stamp has_v left =
           elim loose.loose [
             | inr last ↦ inr (record { world = x; led = led; voter = loose.voter; last = last })
             | inl stuck ↦
-                let here = Here-led p c one_each d v u x led h in
+                let here = Here-led deal c one_each d v u x led h in
                 let waits = entry_waits (voter_at u.voters v) c (client_at u.clients c).stamp g entry held (λ same. apart (sym own ∙ same)) in
                 let ahead = subst (λ (r : Request). precedes (the_request u c) r ≡ true) (sym (λ i. record { stamp = stamp i; client = own i })) (leads.first d apart h.asks) in
-                let inquiring = (Placed-reached laws (with_state p u) h.reached).back v g c (client_at u.clients c).stamp held waits ahead in
-                let back = gives_back laws p c d v x here apart stuck.1 stuck.0 g (ap (λ (z : VoterState). z.held) loose.voter ∙ held) own
+                let inquiring = (h.reached []).placed.back v g c (client_at u.clients c).stamp held waits ahead in
+                let back = gives_back laws deal c d v x here apart stuck.1 stuck.0 g (ap (λ (z : VoterState). z.held) loose.voter ∙ held) own
                 (ap (λ (z : VoterState). z.inquiring) loose.voter ∙ inquiring) in
                 inr (record {
                   world = back.world;

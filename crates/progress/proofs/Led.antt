@@ -5,9 +5,9 @@ use Rattle.requester.specs.declared.state.ClientState.{ClientState}
 use Rattle.requester.specs.declared.state.Seen.TheVariants.{Entered}
 use Rattle.requester.specs.declared.state.Phase.TheVariants.{Inside}
 use Rattle.requester.specs.Words.{holds, is_asking, members}
-use Rattle.world.specs.Steps.{Dealing, Planned, WorldState, client_at, dealing_of, events, voter_at}
+use Rattle.world.specs.Steps.{Dealing, WorldState, client_at, events, voter_at}
 use Rattle.progress.proofs.Moves.{each_but}
-use Rattle.progress.proofs.Ways.{EntersAt, Here, IsReached-path, Leads, Leads-same, Path, Path-self, Path-then, Went}
+use Rattle.progress.proofs.Ways.{EntersAt, Here, IsKept-path, Leads, Leads-same, Path, Path-self, Path-then, Went}
 use Rattle.progress.proofs.Counts.{CanGive, none, only, only_here}
 
 pub record SameRequest (x y : ClientState) : Type 0 where
@@ -66,9 +66,9 @@ Led-went deal c v n u x a few = record {
   limit = each_but (λ q y. y.limit ≡ (voter_at u.voters q).limit) (voter_at u.voters) (voter_at x.voters) v a.others a.limit (λ q. refl);
 }
 
-pub Here-led : (p : Planned) (c : ℕ) (n : ℕ → ℕ) (d v : ℕ) (u x : WorldState) → Led (dealing_of p.plans) c n u x → Here p d v u → Here p d v x
-Here-led p c n d v u x a h = record {
-  reached = IsReached-path p u x a.path h.reached;
+pub Here-led : (deal : Dealing) (c : ℕ) (n : ℕ → ℕ) (d v : ℕ) (u x : WorldState) → Led deal c n u x → Here deal d v u → Here deal d v x
+Here-led deal c n d v u x a h = record {
+  reached = IsKept-path deal u x a.path h.reached;
   client = subst (λ k. d < k) (sym a.path.clients) h.client;
   asks = ap is_asking (a.same d).phase ∙ h.asks;
   asked = ap (λ l. has l v) (a.same d).quorum ∙ h.asked;
@@ -89,20 +89,20 @@ pub record EntersBy (deal : Dealing) (e : ℕ) (n : ℕ → ℕ) (u : WorldState
   pub limit : (q : ℕ) → (voter_at world.voters q).limit ≡ (voter_at u.voters q).limit
 
 -- some client that asks gets in
-pub record Somebody (p : Planned) (n : ℕ → ℕ) (u : WorldState) : Type 0 where
+pub record Somebody (deal : Dealing) (n : ℕ → ℕ) (u : WorldState) : Type 0 where
   pub who : ℕ
   pub asks : is_asking (client_at u.clients who).phase ≡ true
-  pub enters : EntersBy (dealing_of p.plans) who n u
+  pub enters : EntersBy deal who n u
 
-pub Somebody-led : (p : Planned) (c : ℕ) (n m k : ℕ → ℕ) (u x : WorldState) → ((q : ℕ) → n q + m q ≤ k q) → Led (dealing_of p.plans) c n u x → Somebody p m x → Somebody p k u
-Somebody-led p c n m k u x most a one =
+pub Somebody-led : (deal : Dealing) (c : ℕ) (n m k : ℕ → ℕ) (u x : WorldState) → ((q : ℕ) → n q + m q ≤ k q) → Led deal c n u x → Somebody deal m x → Somebody deal k u
+Somebody-led deal c n m k u x most a one =
     let e = one.enters in
     record {
       who = one.who;
       asks = ap is_asking (sym (a.same one.who).phase) ∙ one.asks;
       enters = record {
         world = e.world;
-        path = Path-then (dealing_of p.plans) u x e.world a.path e.path;
+        path = Path-then deal u x e.world a.path e.path;
         visible = e.visible ∙ ap (λ es. es ++ events one.who Entered) a.visible;
         inside = e.inside;
         phases = λ d other. e.phases d other ∙ (a.same d).phase;
@@ -111,12 +111,12 @@ Somebody-led p c n m k u x most a one =
       };
     }
 
-pub Somebody-more : (p : Planned) (n k : ℕ → ℕ) (u : WorldState) → ((q : ℕ) → n q ≤ k q) → Somebody p n u → Somebody p k u
-Somebody-more p n k u most one = Somebody-led p 0 none n k u u (λ q. (let all = most q in omega arith)) (Led-self (dealing_of p.plans) 0 none u) one
+pub Somebody-more : (deal : Dealing) (n k : ℕ → ℕ) (u : WorldState) → ((q : ℕ) → n q ≤ k q) → Somebody deal n u → Somebody deal k u
+Somebody-more deal n k u most one = Somebody-led deal 0 none n k u u (λ q. (let all = most q in omega arith)) (Led-self deal 0 none u) one
 
-pub somebody_at : (p : Planned) (e v top n : ℕ) (u : WorldState) → is_asking (client_at u.clients e).phase ≡ true → top ≤ (voter_at u.voters v).granted + n
-    → EntersAt (dealing_of p.plans) e v top u → Somebody p (only v n) u
-somebody_at p e v top n u asks most a = record {
+pub somebody_at : (deal : Dealing) (e v top n : ℕ) (u : WorldState) → is_asking (client_at u.clients e).phase ≡ true → top ≤ (voter_at u.voters v).granted + n
+    → EntersAt deal e v top u → Somebody deal (only v n) u
+somebody_at deal e v top n u asks most a = record {
   who = e;
   asks = asks;
   enters = record {

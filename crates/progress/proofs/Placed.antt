@@ -24,14 +24,14 @@ use Rattle.requester.specs.Soundness.{IsSound}
 use Rattle.requester.specs.Steps as requester
 use Rattle.requester.specs.Words.{is_current, is_idle, is_inquired, is_member, members}
 use Rattle.world.specs.Coherence.{AskOk, IsCoherent, MessageOk}
-use Rattle.world.specs.Runs.{IsReached, start}
-use Rattle.world.specs.Steps.{Planned, WorldState, client_at, voter_at}
-use Rattle.progress.proofs.Always.{none_entry, new_voter}
+use Rattle.world.specs.Runs.{start}
+use Rattle.world.specs.Steps.{WorldState, client_at, voter_at}
+use Rattle.progress.proofs.Always.{Always, HasSeen, Heeds, Heeds-client, Heeds-sent, Heeds-voter, heeds, heeds_all, none_entry, new_voter}
 use Rattle.world.proofs.Reached.{new_voters}
-use Rattle.progress.proofs.Behind.{ask-Ok, meets}
+use Rattle.progress.proofs.Behind.{ask-Ok, is_current_of, meets}
 use Rattle.progress.proofs.Fitting.{current_busy, current_stamp, take-Ok}
 use Rattle.progress.specs.Rules.{Laws}
-use Rattle.progress.proofs.Moves.{ClientMoved, IsReminder, Moved, OnlySent, VoterMoved, all_sent, each_client, each_voter, kept-reached}
+use Rattle.progress.proofs.Moves.{ClientMoved, IsReminder, Moved, OnlySent, VoterMoved, all_sent, each_client, each_voter}
 
 -- a REQUEST for the request that runs went to a member of its quorum
 abbrev pub AskedBy : ClientState → ℕ → VoterBody → Type 0
@@ -54,9 +54,6 @@ pub record Placed (cs : List ClientState) (vs : List VoterState) (sent : List Me
 
 -- ---- words
 
-is_current_of : (x : ClientState) (s : ℕ) → is_idle x.phase ≡ false → s ≡ x.stamp → is_current x s ≡ true
-is_current_of x s busy same = grind (arith, nat_tests)
-
 idle_not_current : (x : ClientState) (s : ℕ) → is_idle x.phase ≡ true → is_current x s ≡ true → ⊥
 idle_not_current x s idle is = false≢true (sym (current_busy x s is) ∙ idle)
 
@@ -71,7 +68,7 @@ ran_before x z s later most is =
     let mine : s ≡ x.stamp = omega arith in
     (stamp, is_current_of x s (false-by _ _ (later.idle (sym stamp)) (current_busy z s is)) mine)
 
-same_members : (x z : ClientState) (cause : requester.Cause) (o : requester.Outcome) → IsSound x → requester.step x cause ≡ Ok o → o.state ≡ z → KeepsQuorum x cause z
+pub same_members : (x z : ClientState) (cause : requester.Cause) (o : requester.Outcome) → IsSound x → requester.step x cause ≡ Ok o → o.state ≡ z → KeepsQuorum x cause z
     → z.stamp ≡ x.stamp → members z ≡ members x
 same_members x z (requester.Asks q) o sound taken is keeps same =
     let stamp : x.clock + 1 ≡ z.stamp = ap (λ (p : requester.Outcome). p.state.stamp) (ask-Ok x q o taken) ∙ ap (λ (w : ClientState). w.stamp) is in
@@ -86,12 +83,12 @@ same_members x z requester.GivesUp o sound taken is keeps same = keeps.0
 abbrev AllAsked : ClientState → List ToVoter → Type 0
 AllAsked z out = AllByRecursion (λ m. AskedBy z m.voter m.body) out
 
-abbrev NoAsk : VoterBody → Type 0
+abbrev pub NoAsk : VoterBody → Type 0
 NoAsk (asks.Request s) = ⊥
 NoAsk (asks.Relinquish g) = Unit {0}
 NoAsk (asks.Release s) = Unit {0}
 
-abbrev NoAsks : List ToVoter → Type 0
+abbrev pub NoAsks : List ToVoter → Type 0
 NoAsks out = AllByRecursion (λ m. NoAsk m.body) out
 
 no-relinquish_if : (b : Bool) (x : ClientState) (v : ℕ) → NoAsks (requester.relinquish_if b x v).out
@@ -132,7 +129,7 @@ no-take_body x v (to_client.Locked t g) = no-locked_by _ _ x v t g
 no-take_body x v (to_client.Fail t) = no-failed_by _ x v
 no-take_body x v (to_client.Inquire g) = no-inquired_by _ _ x v
 
-no-take : (x : ClientState) (m : ToClient) → NoAsks (requester.take x m).out
+pub no-take : (x : ClientState) (m : ToClient) → NoAsks (requester.take x m).out
 unfolding requester.take
 no-take x m = no-take_body (requester.see x m.seen) m.voter m.body
 
@@ -145,7 +142,7 @@ none_asked : (z : ClientState) (out : List ToVoter) → NoAsks out → AllAsked 
 none_asked z [] none = tt
 none_asked z (m ∷ out) none = (no_ask z m.voter m.body none.0, none_asked z out none.1)
 
-idle_ask : (z : ClientState) (v : ℕ) (b : VoterBody) → is_idle z.phase ≡ true → AskedBy z v b
+pub idle_ask : (z : ClientState) (v : ℕ) (b : VoterBody) → is_idle z.phase ≡ true → AskedBy z v b
 idle_ask z v (asks.Request s) idle = λ is. absurd (idle_not_current z s idle is)
 idle_ask z v (asks.Relinquish g) idle = tt
 idle_ask z v (asks.Release s) idle = tt
@@ -177,10 +174,10 @@ sent_asked cs x z cause who y [] is id says all = tt
 sent_asked cs x z cause who y (m ∷ out) is id says all =
     (subst (λ (w : ClientState). AskedBy w m.voter m.body) (sym (ap (client_at cs) (says.0.0 ∙ id) ∙ is)) all.0, sent_asked cs x z cause who y out is id says.1 all.1)
 
-asked_later : (x z : ClientState) (v : ℕ) (b : VoterBody) → IsLater x z → (z.stamp ≡ x.stamp → members z ≡ members x) → AskOk x v b → AskedBy x v b → AskedBy z v b
-asked_later x z v (asks.Request s) later same ok h = λ is. (let before = ran_before x z s later ok is in ap (λ l. has l v) (same before.0) ∙ h before.1)
-asked_later x z v (asks.Relinquish g) later same ok h = tt
-asked_later x z v (asks.Release s) later same ok h = tt
+asked_later : (x z : ClientState) (y : VoterState) (v c : ℕ) (b : VoterBody) → IsLater x z → (z.stamp ≡ x.stamp → members z ≡ members x) → AskOk x y v c b → AskedBy x v b → AskedBy z v b
+asked_later x z y v c (asks.Request s) later same ok h = λ is. (let before = ran_before x z s later ok is in ap (λ l. has l v) (same before.0) ∙ h before.1)
+asked_later x z y v c (asks.Relinquish g) later same ok h = tt
+asked_later x z y v c (asks.Release s) later same ok h = tt
 
 -- what one client's step leaves of the clients
 record Later (who : ℕ) (cs ds : List ClientState) : Type 0 where
@@ -192,8 +189,8 @@ asked_still : (who : ℕ) (cs ds : List ClientState) (Y : ℕ → VoterState) �
 asked_still who cs ds Y k (kinds.ToClient m) ok h = tt
 asked_still who cs ds Y k (kinds.ToVoter m) ok h = elim (cases_eq m.client who) [
   | inl same ↦
-      subst (λ c. AskedBy (client_at ds c) m.voter m.body) (sym same) (asked_later (client_at cs who) (client_at ds who) m.voter m.body k.later k.same
-      (subst (λ c. AskOk (client_at cs c) m.voter m.body) same ok) (subst (λ c. AskedBy (client_at cs c) m.voter m.body) same h))
+      subst (λ c. AskedBy (client_at ds c) m.voter m.body) (sym same) (asked_later (client_at cs who) (client_at ds who) (Y m.voter) m.voter m.client m.body k.later k.same
+      (subst (λ c. AskOk (client_at cs c) (Y m.voter) m.voter m.client m.body) same ok) (subst (λ c. AskedBy (client_at cs c) m.voter m.body) same h))
   | inr other ↦ subst (λ (w : ClientState). AskedBy w m.voter m.body) (sym (k.others m.client other)) h
 ]
 
@@ -280,7 +277,7 @@ Placed-sent laws u x ok k h = subst (λ (cs : List ClientState). Placed cs x.vot
   back = h.back;
 }))
 
-Placed-moved : (laws : Laws) (u x : WorldState) → IsCoherent u → IsCoherent x → Moved u x → Placed u.clients u.voters u.sent → Placed x.clients x.voters x.sent
+pub Placed-moved : (laws : Laws) (u x : WorldState) → IsCoherent u → IsCoherent x → Moved u x → Placed u.clients u.voters u.sent → Placed x.clients x.voters x.sent
 Placed-moved laws u x ok now moved h = elim moved [
   | inl client ↦ Placed-client laws u x ok now client h
   | inr (inl voter) ↦ Placed-voter laws u x voter h
@@ -289,10 +286,10 @@ Placed-moved laws u x ok now moved h = elim moved [
 
 -- ---- every run
 
-abbrev IsPlacedWorld : WorldState → Type 0
+abbrev pub IsPlacedWorld : WorldState → Type 0
 IsPlacedWorld u = Placed u.clients u.voters u.sent
 
-Placed-start : (laws : Laws) (voters clients limit : ℕ) → IsPlacedWorld (start voters clients limit)
+pub Placed-start : (laws : Laws) (voters clients limit : ℕ) → IsPlacedWorld (start voters clients limit)
 unfolding new_voters
 Placed-start laws voters clients limit = record {
   asked = tt;
@@ -300,5 +297,29 @@ Placed-start laws voters clients limit = record {
   back = λ v. let new = new_voter voters limit v in subst (λ (y : VoterState). AsksBack y) (sym new.2) (laws.voter.asks_first new.0 new.1);
 }
 
-pub Placed-reached : (laws : Laws) (w : Planned) → IsReached w → Placed w.state.clients w.state.voters w.state.sent
-Placed-reached laws = kept-reached IsPlacedWorld laws.coherent (Placed-start laws) (Placed-moved laws)
+-- ---- what voters have seen
+
+pub Seen-client : (laws : Laws) (u x : WorldState) (e : ℕ) → IsCoherent u → IsCoherent x → ClientMoved u x → ((v : ℕ) → HasSeen e (client_at u.clients e) (voter_at u.voters v))
+    → (v : ℕ) → HasSeen e (client_at x.clients e) (voter_at x.voters v)
+Seen-client laws u x e ok now k a v =
+    let old = client_at u.clients k.who in
+    let new = client_at x.clients k.who in
+    let later = subst (λ (z : ClientState). IsLater old z) (sym k.here) (meets laws.client u x ok now k).later in
+    subst (λ (vs : List VoterState). HasSeen e (client_at x.clients e) (voter_at vs v)) (sym k.voters) (elim (cases_eq e k.who) [
+      | inl same ↦ λ s entry is.
+          let own : IsEntry (voter_at u.voters v) k.who s = subst (λ i. IsEntry (voter_at u.voters v) i s) same entry in
+          let runs : is_current new s ≡ true = subst (λ i. is_current (client_at x.clients i) s ≡ true) same is in
+          let before = ran_before old new s later (ok.made v k.who s own).reached runs in
+          a v s entry (subst (λ i. is_current (client_at u.clients i) s ≡ true) (sym same) before.1)
+      | inr other ↦ subst (λ (z : ClientState). HasSeen e z (voter_at u.voters v)) (sym (k.others e other)) (a v)
+    ])
+
+pub Heeds-moved : (laws : Laws) (c : ℕ) (w u : WorldState) → IsCoherent w → IsCoherent u → Moved w u → Heeds c w → Heeds c u
+Heeds-moved laws c w u ok now moved a = elim moved [
+  | inl client ↦ Heeds-client w u c client (Seen-client laws w u c ok now client a.seen) a
+  | inr (inl voter) ↦ Heeds-voter laws.voter w u c ok now voter a
+  | inr (inr sent) ↦ Heeds-sent laws.voter w u c ok sent a
+]
+
+pub Always-moved : (laws : Laws) (w u : WorldState) → IsCoherent w → IsCoherent u → Moved w u → Always w → Always u
+Always-moved laws w u ok now moved a = heeds_all u (λ c. Heeds-moved laws c w u ok now moved (heeds c w a))

@@ -30,15 +30,16 @@ use Rattle.requester.specs.Steps as requester
 use Rattle.requester.specs.Words.{holds, is_asking, is_covered, is_current, is_idle, is_inside, is_member, last_of, members}
 use Rattle.world.specs.declared.step.Step.{Step}
 use Rattle.world.specs.declared.step.Step.TheVariants.{Ask, Deliver, Leave, GiveUp, RemindClient, RemindVoter, Exchange}
-use Rattle.world.specs.Runs.{IsReached, after, run_of}
-use Rattle.world.specs.Steps.{Dealing, Planned, WorldState, client_at, client_did, dealing_of, events, step, voter_at, voter_did}
+use Rattle.world.specs.Runs.{after, run_of}
+use Rattle.world.specs.Steps.{Dealing, WorldState, client_at, client_did, events, step, voter_at, voter_did}
 use Rattle.progress.specs.LostVotes.{ComesBack, HasLostVote, reminder_and_two}
 use Rattle.progress.specs.WayIn.{Helps, IsWayIn}
 use Rattle.progress.proofs.Exchanges.{after-answer, after-deliver_client, after-release, after-remind_voter, after-said, answer, answered, get_next, reminded, not_held, spoken}
 use Rattle.progress.proofs.Behind.{grant_moves, the_request}
-use Rattle.progress.proofs.Fitting.{Fits-reached, current_busy, current_stamp}
+use Rattle.progress.proofs.Fitting.{current_busy, current_stamp}
 use Rattle.progress.specs.Rules.{Laws}
-use Rattle.progress.proofs.Moves.{IsReached-after, client_here, client_others, each_set, voter_here, voter_others, with_state}
+use Rattle.progress.proofs.Kept.{IsKept, IsKept-run}
+use Rattle.progress.proofs.Moves.{client_here, client_others, each_set, voter_here, voter_others}
 use Rattle.progress.proofs.Counting.{outside_asks}
 use Rattle.world.proofs.Plans.{run_then}
 use Rattle.requester.proofs.SoundSteps.{is_asking-busy}
@@ -56,10 +57,6 @@ helps_later m n Exchange most h = h
 
 pub help_then : (m n : ℕ) (a b : List Step) → m ≤ n → AllByRecursion (Helps m) a → AllByRecursion (Helps n) b → AllByRecursion (Helps m) (a ++ b)
 help_then m n a b most h k = AllByRecursion-append (Helps m) a b h (AllByRecursion-weaker (Helps n) (Helps m) (λ s. helps_later m n s most) b k)
-
-pub IsReached-run : (p : Planned) (steps : List Step) (u : WorldState) → IsReached (with_state p u) → IsReached (with_state p (run_of (dealing_of p.plans) steps u))
-IsReached-run p [] u r = r
-IsReached-run p (s ∷ steps) u r = IsReached-run p steps _ (IsReached-after (with_state p u) r s)
 
 -- Helping steps from one world to another, which has as many clients and voters.
 pub record Path (deal : Dealing) (u x : WorldState) : Type 0 where
@@ -83,8 +80,8 @@ Path-then deal u x z a b = record {
   voters = b.voters ∙ a.voters;
 }
 
-pub IsReached-path : (p : Planned) (u x : WorldState) → Path (dealing_of p.plans) u x → IsReached (with_state p u) → IsReached (with_state p x)
-IsReached-path p u x a r = subst (λ (z : WorldState). IsReached (with_state p z)) a.run (IsReached-run p a.steps u r)
+pub IsKept-path : (deal : Dealing) (u x : WorldState) → Path deal u x → IsKept deal u → IsKept deal x
+IsKept-path deal u x a r = subst (λ (z : WorldState). IsKept deal z) a.run (IsKept-run deal a.steps u r)
 
 -- the client is as before, except that its clock is later and it has more votes
 pub record Gains (x y : ClientState) : Type 0 where
@@ -173,15 +170,15 @@ enters_by deal c v top u e = record { steps = e.path.steps; way = record { helps
 
 -- ---- a client that asks, and one voter of its quorum
 
-pub record Here (p : Planned) (c v : ℕ) (u : WorldState) : Type 0 where
-  pub reached : IsReached (with_state p u)
+pub record Here (deal : Dealing) (c v : ℕ) (u : WorldState) : Type 0 where
+  pub reached : IsKept deal u
   pub client : c < length u.clients
   pub asks : is_asking (client_at u.clients c).phase ≡ true
   pub asked : is_member (client_at u.clients c) v ≡ true
 
-pub Here-went : (p : Planned) (c v q : ℕ) (u x : WorldState) → Went (dealing_of p.plans) q u x → Here p c v u → Here p c v x
-Here-went p c v q u x a h = record {
-  reached = IsReached-path p u x a.path h.reached;
+pub Here-went : (deal : Dealing) (c v q : ℕ) (u x : WorldState) → Went deal q u x → Here deal c v u → Here deal c v x
+Here-went deal c v q u x a h = record {
+  reached = IsKept-path deal u x a.path h.reached;
   client = subst (λ n. c < n) (sym a.path.clients) h.client;
   asks = ap is_asking (a.gains c).phase ∙ h.asks;
   asked = ap (λ l. has l v) (a.gains c).quorum ∙ h.asked;
@@ -232,22 +229,21 @@ Less-step laws c y m o ok own step = record {
 }
 
 -- a message of the client's reminder arrives at the voter
-pub record Heard (p : Planned) (c v : ℕ) (u : WorldState) (m : ToVoter) : Type 0 where
+pub record Heard (deal : Dealing) (c v : ℕ) (u : WorldState) (m : ToVoter) : Type 0 where
   pub world : WorldState
   pub outcome : voter.Outcome
   pub step : voter.step (voter_at u.voters v) m ≡ Some outcome
-  pub went : Went (dealing_of p.plans) v u world
+  pub went : Went deal v u world
   pub same : world.clients ≡ u.clients
   pub here : voter_at world.voters v ≡ outcome.state
   pub sent : world.sent ≡ (spoken u c).sent ++ map kinds.ToClient outcome.replies
 
-pub hears : (laws : Laws) (p : Planned) (c v : ℕ) (u : WorldState) → Here p c v u → (body : VoterBody)
+pub hears : (laws : Laws) (deal : Dealing) (c v : ℕ) (u : WorldState) → Here deal c v u → (body : VoterBody)
     → Contains (requester.remind (client_at u.clients c)) (requester.tell (client_at u.clients c) v body)
-    → (voter_at u.voters v).granted < (voter_at u.voters v).limit → Heard p c v u (requester.tell (client_at u.clients c) v body)
+    → (voter_at u.voters v).granted < (voter_at u.voters v).limit → Heard deal c v u (requester.tell (client_at u.clients c) v body)
 unfolding spoken
-hears laws p c v u h body there left =
-    let deal = dealing_of p.plans in
-    let ok = laws.coherent (with_state p u) h.reached in
+hears laws deal c v u h body there left =
+    let ok = (h.reached []).coherent in
     let m = requester.tell (client_at u.clients c) v body in
     let within = ok.members c v h.asked in
     let taken = laws.voter.takes (voter_at u.voters v) m (ok.voters v) left in
@@ -303,9 +299,9 @@ Gains-hold x n v g some within = record {
     holds_at q same = (let here : slice_index (slice_set x.held v g) q ≡ g = ap (slice_index (slice_set x.held v g)) same ∙ get_or-set_same x.held v g 0 within in grind (arith, nat_tests))
 
 -- the client gets in, or has the vote of this voter, and all voters are as before
-abbrev pub Gets : Planned → ℕ → ℕ → WorldState → Type 0
-Gets p c v u = EntersAt (dealing_of p.plans) c v (voter_at u.voters v).granted u
-    ⊎ ((x : WorldState) × Went (dealing_of p.plans) v u x × (holds (client_at x.clients c) v ≡ true) × (x.voters ≡ u.voters))
+abbrev pub Gets : Dealing → ℕ → ℕ → WorldState → Type 0
+Gets deal c v u = EntersAt deal c v (voter_at u.voters v).granted u
+    ⊎ ((x : WorldState) × Went deal v u x × (holds (client_at x.clients c) v ≡ true) × (x.voters ≡ u.voters))
 
 pub current_is : (x : ClientState) (s : ℕ) → is_asking x.phase ≡ true → s ≡ x.stamp → is_current x s ≡ true
 current_is x s asks same = by_phase x.phase (let e : (s == x.stamp) ≡ true = grind (arith, nat_tests) in e) asks
@@ -318,13 +314,12 @@ current_is x s asks same = by_phase x.phase (let e : (s == x.stamp) ≡ true = g
 pub fresh_is : (x : ClientState) (v g : ℕ) → is_member x v ≡ true → holds x v ≡ false → last_of x v < g → requester.is_fresh x v g ≡ true
 fresh_is x v g member free newer = grind (arith, nat_tests)
 
-pub gets : (laws : Laws) (p : Planned) (c v : ℕ) (u : WorldState) → Here p c v u → holds (client_at u.clients c) v ≡ false → (g : Grant) → (voter_at u.voters v).held ≡ Some g
+pub gets : (laws : Laws) (deal : Dealing) (c v : ℕ) (u : WorldState) → Here deal c v u → holds (client_at u.clients c) v ≡ false → (g : Grant) → (voter_at u.voters v).held ≡ Some g
     → g.client ≡ c → g.stamp ≡ (client_at u.clients c).stamp
-    → last_of (client_at u.clients c) v < g.grant → Gets p c v u
+    → last_of (client_at u.clients c) v < g.grant → Gets deal c v u
 unfolding reminded
-gets laws p c v u h free g held own same newer =
-    let deal = dealing_of p.plans in
-    let ok = laws.coherent (with_state p u) h.reached in
+gets laws deal c v u h free g held own same newer =
+    let ok = (h.reached []).coherent in
     let x = client_at u.clients c in
     let y = voter_at u.voters v in
     let within = ok.members c v h.asked in
@@ -353,7 +348,7 @@ gets laws p c v u h free g held own same newer =
       clients = length-set u.clients c (requester.enter_if b k).state;
       voters = refl;
     } in
-    elim (is_covered k) as (λ b. run_of deal (RemindVoter v ∷ Deliver (length u.sent) ∷ []) u ≡ (client_did (reminded u v) c (requester.enter_if b k)).state → Gets p c v u) [
+    elim (is_covered k) as (λ b. run_of deal (RemindVoter v ∷ Deliver (length u.sent) ∷ []) u ≡ (client_did (reminded u v) c (requester.enter_if b k)).state → Gets deal c v u) [
       | true ↦ λ ran. inl (record {
         world = (client_did (reminded u v) c (requester.enter_if true k)).state;
         path = goes true ran;
@@ -380,22 +375,21 @@ gets laws p c v u h free g held own same newer =
 
 -- ---- a vote whose request is over
 
-pub record Returned (p : Planned) (v : ℕ) (u : WorldState) (g : Grant) : Type 0 where
+pub record Returned (deal : Dealing) (v : ℕ) (u : WorldState) (g : Grant) : Type 0 where
   pub world : WorldState
   pub outcome : voter.Outcome
   pub step : voter.step (voter_at u.voters v) (answer u v g) ≡ Some outcome
   pub own : (answer u v g).client ≡ g.client
-  pub went : Went (dealing_of p.plans) v u world
+  pub went : Went deal v u world
   pub steps : went.path.steps ≡ reminder_and_two v (length u.sent) (length (reminded u v).sent)
   pub here : voter_at world.voters v ≡ outcome.state
   pub ends : (s : ℕ) → IsEntry outcome.state g.client s → ⊥
   pub others : (d s : ℕ) → d ≢ g.client → IsEntry (voter_at u.voters v) d s → IsEntry outcome.state d s
 
-pub comes : (laws : Laws) (p : Planned) (v : ℕ) (u : WorldState) → IsReached (with_state p u) → (g : Grant) → HasLostVote u v g → Returned p v u g
+pub comes : (laws : Laws) (deal : Dealing) (v : ℕ) (u : WorldState) → IsKept deal u → (g : Grant) → HasLostVote u v g → Returned deal v u g
 unfolding reminded
-comes laws p v u reached g lost =
-    let deal = dealing_of p.plans in
-    let ok = laws.coherent (with_state p u) reached in
+comes laws deal v u reached g lost =
+    let ok = (reached []).coherent in
     let y = voter_at u.voters v in
     let id : y.id ≡ v = ok.numbered.voters v lost.voter in
     let client = (ok.made v g.client g.stamp (inl (g, lost.held, refl, refl))).client in
@@ -442,13 +436,12 @@ comes laws p v u reached g lost =
       ];
     }
 
-pub comes_back : Laws → (w : Planned) (v : ℕ) (g : Grant) → IsReached w → HasLostVote w.state v g → ComesBack (dealing_of w.plans) w.state v g
+pub comes_back : Laws → (deal : Dealing) (u : WorldState) (v : ℕ) (g : Grant) → IsKept deal u → HasLostVote u v g → ComesBack deal u v g
 unfolding reminded
-comes_back laws w v g r lost =
-    let u = w.state in
-    let back = comes laws w v u r g lost in
-    let here : voter_at (run_of (dealing_of w.plans) (reminder_and_two v (length u.sent) (length (reminded u v).sent)) u).voters v ≡ back.outcome.state =
-    ap (λ steps. voter_at (run_of (dealing_of w.plans) steps u).voters v) (sym back.steps) ∙ ap (λ (x : WorldState). voter_at x.voters v) back.went.path.run ∙ back.here in
+comes_back laws deal u v g r lost =
+    let back = comes laws deal v u r g lost in
+    let here : voter_at (run_of deal (reminder_and_two v (length u.sent) (length (reminded u v).sent)) u).voters v ≡ back.outcome.state =
+    ap (λ steps. voter_at (run_of deal steps u).voters v) (sym back.steps) ∙ ap (λ (x : WorldState). voter_at x.voters v) back.went.path.run ∙ back.here in
     record {
       first = length u.sent;
       second = length (reminded u v).sent;
@@ -499,27 +492,27 @@ has_range low (suc n) d least less = elim (cases_eq low d) [
 -- ---- one vote
 
 -- the client gets in, or has the vote of this voter, which gave at most `top` grants so far
-abbrev pub Got : Planned → ℕ → ℕ → ℕ → WorldState → Type 0
-Got p c v top u =
-    EntersAt (dealing_of p.plans) c v top u
-    ⊎ ((x : WorldState) × Went (dealing_of p.plans) v u x × (holds (client_at x.clients c) v ≡ true) × ((voter_at x.voters v).granted ≤ top))
+abbrev pub Got : Dealing → ℕ → ℕ → ℕ → WorldState → Type 0
+Got deal c v top u =
+    EntersAt deal c v top u
+    ⊎ ((x : WorldState) × Went deal v u x × (holds (client_at x.clients c) v ≡ true) × ((voter_at x.voters v).granted ≤ top))
 
-pub Got-after : (p : Planned) (c v top : ℕ) (u x : WorldState) → Went (dealing_of p.plans) v u x → Got p c v top x → Got p c v top u
-Got-after p c v top u x a got = elim got [
-  | inl e ↦ inl (EntersAt-after (dealing_of p.plans) c v top u x a e)
-  | inr has ↦ inr (has.0, Went-then (dealing_of p.plans) v u x has.0 a has.1, has.2, has.3)
+pub Got-after : (deal : Dealing) (c v top : ℕ) (u x : WorldState) → Went deal v u x → Got deal c v top x → Got deal c v top u
+Got-after deal c v top u x a got = elim got [
+  | inl e ↦ inl (EntersAt-after deal c v top u x a e)
+  | inr has ↦ inr (has.0, Went-then deal v u x has.0 a has.1, has.2, has.3)
 ]
 
 -- either the client has the vote, or the rest does it
-pub got_or : (p : Planned) (c v top : ℕ) (u x : WorldState) → Went (dealing_of p.plans) v u x → (voter_at x.voters v).granted ≤ top → (holds (client_at x.clients c) v ≡ false → Got p c v top x)
-    → Got p c v top u
-got_or p c v top u x a few rest = elim (holds (client_at x.clients c) v) as (λ b. holds (client_at x.clients c) v ≡ b → Got p c v top u) [
+pub got_or : (deal : Dealing) (c v top : ℕ) (u x : WorldState) → Went deal v u x → (voter_at x.voters v).granted ≤ top → (holds (client_at x.clients c) v ≡ false → Got deal c v top x)
+    → Got deal c v top u
+got_or deal c v top u x a few rest = elim (holds (client_at x.clients c) v) as (λ b. holds (client_at x.clients c) v ≡ b → Got deal c v top u) [
   | true ↦ λ has. inr (x, a, has, few)
-  | false ↦ λ free. Got-after p c v top u x a (rest free)
+  | false ↦ λ free. Got-after deal c v top u x a (rest free)
 ] refl
 
-pub gets_here : (p : Planned) (c v top : ℕ) (u : WorldState) → (voter_at u.voters v).granted ≤ top → Gets p c v u → Got p c v top u
-gets_here p c v top u few got = elim got [
+pub gets_here : (deal : Dealing) (c v top : ℕ) (u : WorldState) → (voter_at u.voters v).granted ≤ top → Gets deal c v u → Got deal c v top u
+gets_here deal c v top u few got = elim got [
   | inl e ↦ inl (record {
     world = e.world;
     path = e.path;
@@ -579,8 +572,8 @@ new_is_own laws c y m o x k ok step leads before after held newer runs = elim (c
 ]
 
 -- The request is known. The other requests that are known and over are of clients in this list.
-pub record IsKnown (p : Planned) (c v top : ℕ) (alive : List ℕ) (u : WorldState) : Type 0 where
-  pub spot : Here p c v u
+pub record IsKnown (deal : Dealing) (c v top : ℕ) (alive : List ℕ) (u : WorldState) : Type 0 where
+  pub spot : Here deal c v u
   pub leads : Leads u c
   pub free : holds (client_at u.clients c) v ≡ false
   pub entry : IsEntry (voter_at u.voters v) c (client_at u.clients c).stamp
@@ -593,8 +586,8 @@ abbrev pub Settled : ℕ → ℕ → WorldState → Type 0
 Settled c v u = (g : Grant) → (voter_at u.voters v).held ≡ Some g → is_current (client_at u.clients g.client) g.stamp ≡ true → (g.client ≡ c) × (last_of (client_at u.clients c) v < g.grant)
 
 -- the request is known, and waits only for votes whose request is over
-pub record Ready (p : Planned) (c v top : ℕ) (alive : List ℕ) (u : WorldState) : Type 0 where
-  pub spot : Here p c v u
+pub record Ready (deal : Dealing) (c v top : ℕ) (alive : List ℕ) (u : WorldState) : Type 0 where
+  pub spot : Here deal c v u
   pub leads : Leads u c
   pub free : holds (client_at u.clients c) v ≡ false
   pub entry : IsEntry (voter_at u.voters v) c (client_at u.clients c).stamp
@@ -603,28 +596,28 @@ pub record Ready (p : Planned) (c v top : ℕ) (alive : List ℕ) (u : WorldStat
   pub left : (voter_at u.voters v).granted + length alive ≤ top
   pub room : top ≤ (voter_at u.voters v).limit
 
-pub Ready-back : (laws : Laws) (p : Planned) (c v top : ℕ) (alive : List ℕ) (u : WorldState) → Ready p c v top alive u → (g : Grant) → (voter_at u.voters v).held ≡ Some g
+pub Ready-back : (laws : Laws) (deal : Dealing) (c v top : ℕ) (alive : List ℕ) (u : WorldState) → Ready deal c v top alive u → (g : Grant) → (voter_at u.voters v).held ≡ Some g
     → is_current (client_at u.clients g.client) g.stamp ≡ false → has alive g.client ≡ true
-    → (back : Returned p v u g) → holds (client_at back.world.clients c) v ≡ false → Ready p c v top (remove_from g.client alive) back.world
-Ready-back laws p c v top alive u r g held over there back free =
+    → (back : Returned deal v u g) → holds (client_at back.world.clients c) v ≡ false → Ready deal c v top (remove_from g.client alive) back.world
+Ready-back laws deal c v top alive u r g held over there back free =
     let x = back.world in
     let y = voter_at u.voters v in
     let o = back.outcome in
     let m = answer u v g in
     let own_stamp_of = (client_at u.clients c).stamp in
-    let ok = laws.coherent (with_state p u) r.spot.reached in
+    let ok = (r.spot.reached []).coherent in
     let less = Less-step laws g.client y m o (ok.voters v) back.own back.step in
     let gains = back.went.gains c in
     let short = shorter g.client alive there in
     let left = r.left in
-    let leads = Leads-went (dealing_of p.plans) c v u x back.went r.leads in
+    let leads = Leads-went deal c v u x back.went r.leads in
     let other : g.client ≢ c = λ own. false≢true (sym (ap (λ d. is_current (client_at u.clients d) g.stamp) (sym own) ∙ over)
     ∙ current_is (client_at u.clients c) g.stamp r.spot.asks (own_stamp y c own_stamp_of g (ok.voters v) r.entry held own)) in
     let entry : IsEntry o.state c own_stamp_of = back.others c own_stamp_of (λ same. other (sym same)) r.entry in
     let runs : (d s : ℕ) → is_current (client_at x.clients d) s ≡ is_current (client_at u.clients d) s = λ d s. current_same (client_at u.clients d) (client_at x.clients d) s
     (back.went.gains d).phase (back.went.gains d).stamp in
     record {
-      spot = Here-went p c v v u x back.went r.spot;
+      spot = Here-went deal c v v u x back.went r.spot;
       leads = leads;
       free = free;
       entry = subst (λ s. IsEntry (voter_at x.voters v) c s) (sym gains.stamp) (subst (λ (z : VoterState). IsEntry z c own_stamp_of) (sym back.here) entry);
@@ -635,7 +628,7 @@ Ready-back laws p c v top alive u r g held over there back free =
           ]);
       settled = subst (λ (z : VoterState). (k : Grant) → z.held ≡ Some k → is_current (client_at x.clients k.client) k.stamp ≡ true → (k.client ≡ c)
           × (last_of (client_at x.clients c) v < k.grant)) (sym back.here) (λ k has now.
-          let last = ((Fits-reached laws (with_state p u) r.spot.reached).pairs c v).last in
+          let last = ((r.spot.reached []).fits.pairs c v).last in
           let same = gains.last v in
           elim (grant_moves _ y o.state k (laws.voter.numbers y m o (ok.voters v) back.step) has) [
             | inl was ↦ absurd (back.ends k.stamp (inl (k, has, ap (λ (n : Grant). n.client) (same_Some k g (sym was ∙ held)), refl)))
@@ -649,36 +642,36 @@ Ready-back laws p c v top alive u r g held over there back free =
       room = subst (λ n. top ≤ n) (sym back.went.limit) r.room;
     }
 
-pub look : (laws : Laws) (p : Planned) (c v top : ℕ) (alive : List ℕ) (u : WorldState) → Ready p c v top alive u
-    → ((rest : List ℕ) (x : WorldState) → length rest < length alive → Ready p c v top rest x → Got p c v top x) → Got p c v top u
-look laws p c v top alive u r again =
+pub look : (laws : Laws) (deal : Dealing) (c v top : ℕ) (alive : List ℕ) (u : WorldState) → Ready deal c v top alive u
+    → ((rest : List ℕ) (x : WorldState) → length rest < length alive → Ready deal c v top rest x → Got deal c v top x) → Got deal c v top u
+look laws deal c v top alive u r again =
     let y = voter_at u.voters v in
-    let ok = laws.coherent (with_state p u) r.spot.reached in
+    let ok = (r.spot.reached []).coherent in
     let g = held_some y c (client_at u.clients c).stamp (ok.voters v) r.entry y.held refl in
     let left = r.left in
-    elim (is_current (client_at u.clients g.0.client) g.0.stamp) as (λ b. is_current (client_at u.clients g.0.client) g.0.stamp ≡ b → Got p c v top u) [
+    elim (is_current (client_at u.clients g.0.client) g.0.stamp) as (λ b. is_current (client_at u.clients g.0.client) g.0.stamp ≡ b → Got deal c v top u) [
       | true ↦ λ runs.
           let settled = r.settled g.0 g.1 runs in
-          gets_here p c v top u (omega arith) (gets laws p c v u r.spot r.free g.0 g.1 settled.0 (own_stamp y c (client_at u.clients c).stamp g.0 (ok.voters v) r.entry g.1 settled.0) settled.1)
+          gets_here deal c v top u (omega arith) (gets laws deal c v u r.spot r.free g.0 g.1 settled.0 (own_stamp y c (client_at u.clients c).stamp g.0 (ok.voters v) r.entry g.1 settled.0) settled.1)
       | false ↦ λ over.
           let there = r.covers g.0.client g.0.stamp (inl (g.0, g.1, refl, refl)) over in
           let short = shorter g.0.client alive there in
           let room = r.room in
           let lost : HasLostVote u v g.0 = record { voter = ok.members c v r.spot.asked; held = g.1; over = over; left = omega arith } in
-          let back = comes laws p v u r.spot.reached g.0 lost in
+          let back = comes laws deal v u r.spot.reached g.0 lost in
           let less = Less-step laws g.0.client y (answer u v g.0) back.outcome (ok.voters v) back.own back.step in
           let few = less.few in
-          got_or p c v top u back.world back.went (subst (λ (z : VoterState). z.granted ≤ top) (sym back.here) (omega arith))
-          (λ free. again (remove_from g.0.client alive) back.world short (Ready-back laws p c v top alive u r g.0 g.1 over there back free))
+          got_or deal c v top u back.world back.went (subst (λ (z : VoterState). z.granted ≤ top) (sym back.here) (omega arith))
+          (λ free. again (remove_from g.0.client alive) back.world short (Ready-back laws deal c v top alive u r g.0 g.1 over there back free))
     ] refl
 
-pub frees : (laws : Laws) (p : Planned) (c v top fuel : ℕ) (alive : List ℕ) (u : WorldState) → length alive ≤ fuel → Ready p c v top alive u → Got p c v top u
-frees laws p c v top zero alive u most r = look laws p c v top alive u r (λ rest x less ready. absurd (omega arith))
-frees laws p c v top (suc n) alive u most r = look laws p c v top alive u r (λ rest x less ready. frees laws p c v top n rest x (omega arith) ready)
+pub frees : (laws : Laws) (deal : Dealing) (c v top fuel : ℕ) (alive : List ℕ) (u : WorldState) → length alive ≤ fuel → Ready deal c v top alive u → Got deal c v top u
+frees laws deal c v top zero alive u most r = look laws deal c v top alive u r (λ rest x less ready. absurd (omega arith))
+frees laws deal c v top (suc n) alive u most r = look laws deal c v top alive u r (λ rest x less ready. frees laws deal c v top n rest x (omega arith) ready)
 
-pub frees_up : (laws : Laws) (p : Planned) (c v top : ℕ) (alive : List ℕ) (u : WorldState) → IsKnown p c v top alive u → Settled c v u → Got p c v top u
-frees_up laws p c v top alive u k settled =
-    frees laws p c v top (length alive) alive u (omega arith) (record {
+pub frees_up : (laws : Laws) (deal : Dealing) (c v top : ℕ) (alive : List ℕ) (u : WorldState) → IsKnown deal c v top alive u → Settled c v u → Got deal c v top u
+frees_up laws deal c v top alive u k settled =
+    frees laws deal c v top (length alive) alive u (omega arith) (record {
       spot = k.spot;
       leads = k.leads;
       free = k.free;
@@ -690,17 +683,17 @@ frees_up laws p c v top alive u k settled =
     })
 
 -- a grant that its client, which asks, gave back
-pub gave_back : (laws : Laws) (p : Planned) (c v top d : ℕ) (alive : List ℕ) (u : WorldState) → IsKnown p c v top alive u → Here p d v u → (g : Grant)
+pub gave_back : (laws : Laws) (deal : Dealing) (c v top d : ℕ) (alive : List ℕ) (u : WorldState) → IsKnown deal c v top alive u → Here deal d v u → (g : Grant)
     → (voter_at u.voters v).held ≡ Some g → g.client ≡ d → g.stamp ≡ (client_at u.clients d).stamp
-    → g.grant ≤ last_of (client_at u.clients d) v → Got p c v top u
-gave_back laws p c v top d alive u k there g held own stamp few =
-    let ok = laws.coherent (with_state p u) there.reached in
+    → g.grant ≤ last_of (client_at u.clients d) v → Got deal c v top u
+gave_back laws deal c v top d alive u k there g held own stamp few =
+    let ok = (there.reached []).coherent in
     let x = client_at u.clients d in
     let y = voter_at u.voters v in
     let s = (client_at u.clients c).stamp in
     let within = ok.members d v there.asked in
     let voters = ok.numbered.few_voters in
-    let fits = (Fits-reached laws (with_state p u) there.reached) in
+    let fits = (there.reached []).fits in
     let pair = fits.pairs d v in
     let left = k.left in
     let room = k.room in
@@ -709,14 +702,14 @@ gave_back laws p c v top d alive u k there g held own stamp few =
     let body = asks.Relinquish (last_of x v) in
     let m = requester.tell x v body in
     let says = laws.client.returns x v there.asks there.asked free back.1 in
-    let heard = hears laws p d v u there body says (omega arith) in
+    let heard = hears laws deal d v u there body says (omega arith) in
     let o = heard.outcome in
     let id : m.client ≡ d = ok.numbered.clients d there.client in
     let new = laws.voter.goes_on y m o g (ok.voters v) held (id ∙ sym own) (ap (λ n. asks.Relinquish n) back.0) heard.step in
     let less = Less-step laws d y m o (ok.voters v) id heard.step in
     let z = heard.world in
     let gains = heard.went.gains c in
-    let leads = Leads-went (dealing_of p.plans) c v u z heard.went k.leads in
+    let leads = Leads-went deal c v u z heard.went k.leads in
     let entry : IsEntry o.state c s = elim (laws.voter.stays y m o c s (ok.voters v) heard.step k.entry) [
       | inl stays ↦ stays
       | inr finishes ↦ absurd finishes
@@ -726,8 +719,8 @@ gave_back laws p c v top d alive u k there g held own stamp few =
       | inr brings ↦ absurd brings
     ] in
     let count = less.few in
-    got_or p c v top u z heard.went (subst (λ (w : VoterState). w.granted ≤ top) (sym heard.here) (omega arith)) (λ lacks. frees laws p c v top (length alive) alive z (omega arith) (record {
-      spot = Here-went p c v v u z heard.went k.spot;
+    got_or deal c v top u z heard.went (subst (λ (w : VoterState). w.granted ≤ top) (sym heard.here) (omega arith)) (λ lacks. frees laws deal c v top (length alive) alive z (omega arith) (record {
+      spot = Here-went deal c v v u z heard.went k.spot;
       leads = leads;
       free = lacks;
       entry = subst (λ t. IsEntry (voter_at z.voters v) c t) (sym gains.stamp) (subst (λ (w : VoterState). IsEntry w c s) (sym heard.here) entry);
@@ -749,26 +742,26 @@ gave_back laws p c v top d alive u k there g held own stamp few =
 
 -- ---- the REQUEST of the client arrives
 
-pub record Requested (p : Planned) (c v : ℕ) (u : WorldState) : Type 0 where
+pub record Requested (deal : Dealing) (c v : ℕ) (u : WorldState) : Type 0 where
   pub world : WorldState
-  pub went : Went (dealing_of p.plans) v u world
+  pub went : Went deal v u world
   pub same : world.clients ≡ u.clients
   pub entry : IsEntry (voter_at world.voters v) c (client_at world.clients c).stamp
   pub few : (voter_at world.voters v).granted ≤ (voter_at u.voters v).granted + 1
 
-pub asks_again : (laws : Laws) (p : Planned) (c v : ℕ) (u : WorldState) → Here p c v u → holds (client_at u.clients c) v ≡ false → (voter_at u.voters v).granted < (voter_at u.voters v).limit
-    → Requested p c v u
-asks_again laws p c v u h free left =
-    let ok = laws.coherent (with_state p u) h.reached in
+pub asks_again : (laws : Laws) (deal : Dealing) (c v : ℕ) (u : WorldState) → Here deal c v u → holds (client_at u.clients c) v ≡ false → (voter_at u.voters v).granted < (voter_at u.voters v).limit
+    → Requested deal c v u
+asks_again laws deal c v u h free left =
+    let ok = (h.reached []).coherent in
     let x = client_at u.clients c in
     let y = voter_at u.voters v in
     let body = asks.Request x.stamp in
     let m = requester.tell x v body in
     let there = laws.client.requests x v h.asks h.asked free in
-    let heard = hears laws p c v u h body there left in
+    let heard = hears laws deal c v u h body there left in
     let o = heard.outcome in
     let id : m.client ≡ c = ok.numbered.clients c h.client in
-    let pair = (Fits-reached laws (with_state p u) h.reached).pairs c v in
+    let pair = (h.reached []).fits.pairs c v in
     let busy = is_asking-busy x.phase h.asks in
     let unfinished = subst (λ i. slice_index y.finished i < x.stamp) (sym id) (pair.unfinished.busy busy) in
     let most = subst (λ i. (s : ℕ) → IsEntry y i s → s ≤ x.stamp) (sym id) (λ s entry. (ok.made v c s entry).reached) in

@@ -1,4 +1,6 @@
+pub mod AfterLosses
 pub mod LostVotes
 pub mod Overtaking
+pub mod Rounds
 pub mod Rules
 pub mod WayIn

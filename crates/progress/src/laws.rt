@@ -2,13 +2,14 @@
 ghost use Rattle.std.specs.Prelude.{◌≡◌, ◌≢◌, ◌≤◌, ◌+◌, ◌*◌, ◌++◌, ℕ, List, length};
 ghost use Rattle.progress.specs.LostVotes.{ComesBack, GoesOn, HasLostVote, HasReturnedVote};
 ghost use Rattle.progress.specs.Overtaking.{IsKnownEverywhere, StillRuns, entries_of};
+ghost use Rattle.progress.specs.Rounds.{AreFairRounds, DoesNotGiveUp, IsFairRound, IsStill, block, give_ups_in, late_in, steps_of};
 ghost use Rattle.progress.specs.Rules.{Laws};
 ghost use Rattle.progress.specs.WayIn.{Asks, AsksAlone, GetsIn, HasGrants, IsFree, IsWayIn};
 ghost use Rattle.voter.specs.declared.state.Grant.{Grant};
 ghost use Rattle.world.specs.declared.step.Event.{Event};
 ghost use Rattle.world.specs.declared.step.Step.{Step};
 ghost use Rattle.world.specs.Runs.{IsReached, run_of};
-ghost use Rattle.world.specs.Steps.{Planned, dealing_of};
+ghost use Rattle.world.specs.Steps.{Dealing, Planned, WorldState, dealing_of};
 
 use requester::{
     clocks_never_fall, hindered_clients_give_votes_back, messages_are_in_range,
@@ -23,8 +24,8 @@ use voter::{
 };
 use world::worlds_stay_coherent;
 
-/// The rules that clients, voters and worlds keep, as the laws below state them.
-fn parts_keep_their_rules()
+/// The rules that clients, voters and worlds keep: all that proofs of progress use of them.
+pub fn worlds_keep_their_rules()
     ensures { Laws }
 {
     requesters_meet_the_contract();
@@ -62,7 +63,7 @@ pub fn nobody_overtakes_often()
         → IsKnownEverywhere w.state c → d ≢ c → StillRuns w.state (run_of (dealing_of w.plans) steps w.state) c
         → (run_of (dealing_of w.plans) steps w.state).visible ≡ w.state.visible ++ more → entries_of d more ≤ 2 }
 {
-    parts_keep_their_rules();
+    worlds_keep_their_rules();
 }
 
 /// No vote is lost for good: if its request is over, it comes back by one reminder of its voter and two
@@ -75,7 +76,7 @@ pub fn lost_votes_come_back()
     ensures { (w : Planned) (v : ℕ) (g : Grant) → IsReached w → HasLostVote w.state v g
         → ComesBack (dealing_of w.plans) w.state v g }
 {
-    parts_keep_their_rules();
+    worlds_keep_their_rules();
 }
 
 /// A vote that its client gave back while it asks goes on by one reminder of that client and one message
@@ -86,7 +87,7 @@ pub fn returned_votes_go_on()
     ensures { (w : Planned) (v : ℕ) (g : Grant) → IsReached w → HasReturnedVote w.state v g
         → GoesOn (dealing_of w.plans) w.state v g }
 {
-    parts_keep_their_rules();
+    worlds_keep_their_rules();
 }
 
 /// A client that asks while all others are idle gets in by reminders and by messages that are sent after
@@ -98,7 +99,7 @@ pub fn who_asks_alone_gets_in()
     ensures { (w : Planned) (c : ℕ) → IsReached w → AsksAlone w.state c
         → HasGrants (length w.state.clients + 2) w.state → (steps : List Step) × IsWayIn (dealing_of w.plans) w.state c steps }
 {
-    parts_keep_their_rules();
+    worlds_keep_their_rules();
 }
 
 /// Whenever clients ask and nobody is inside, some client gets in by reminders and by messages that are
@@ -111,7 +112,7 @@ pub fn somebody_can_enter()
         → HasGrants (length w.state.voters + length w.state.clients + 3) w.state
         → (steps : List Step) × (d : ℕ) × IsWayIn (dealing_of w.plans) w.state d steps }
 {
-    parts_keep_their_rules();
+    worlds_keep_their_rules();
 }
 
 /// A client that asks can still get in: by reminders, by messages that are sent after them, and by
@@ -124,5 +125,76 @@ pub fn everybody_can_enter()
         → HasGrants (length w.state.clients * (length w.state.voters + length w.state.clients + 3)) w.state
         → (steps : List Step) × GetsIn (dealing_of w.plans) w.state c steps }
 {
-    parts_keep_their_rules();
+    worlds_keep_their_rules();
+}
+
+/// There are any number of fair rounds in every world, one after the other: the premise of fair rounds can
+/// be met.
+pub fn fair_rounds_can_be_made()
+    ensures { (deal : Dealing) (w : WorldState) (k : ℕ) → (rounds : List (List Step))
+        × AreFairRounds deal w rounds × (length rounds ≡ k) }
+{}
+
+/// A fair round stays fair if steps before it and after it are counted to it.
+///
+/// So fair rounds need not be neighbours, and steps in which messages were lost cost nothing but
+/// themselves.
+pub fn rounds_may_be_longer()
+    ensures { (w : Planned) (before round more : List Step) → IsReached w
+        → IsFairRound (dealing_of w.plans) (run_of (dealing_of w.plans) before w.state) round
+        → IsFairRound (dealing_of w.plans) w.state (before ++ (round ++ more)) }
+{
+    worlds_keep_their_rules();
+}
+
+/// If a client asks, somebody asks, enters or gives up within n + 5 fair rounds, for n clients: nothing
+/// stands still for longer.
+///
+/// No REQUEST may come late, that is, later than in the round after that in which it was sent. Each voter
+/// has to have a grant left at the end. All else may be lost, late, repeated or out of order.
+pub fn fair_rounds_move_somebody()
+    ensures { (w : Planned) (c : ℕ) (rounds : List (List Step)) → IsReached w → Asks w.state c
+        → AreFairRounds (dealing_of w.plans) w.state rounds → late_in (dealing_of w.plans) 0 w.state rounds ≡ 0
+        → HasGrants 1 (run_of (dealing_of w.plans) (steps_of rounds) w.state)
+        → block (length w.state.clients) ≤ length rounds
+        → IsStill w.state (run_of (dealing_of w.plans) (steps_of rounds) w.state) → ⊥ }
+{
+    worlds_keep_their_rules();
+}
+
+/// If a client asks and does not give up, somebody enters within (n + 5) * (n + 2 g + l) fair rounds, for n
+/// clients, g withdrawals of others and l REQUESTs that come late.
+///
+/// Each voter has to have a grant left at the end.
+pub fn fair_rounds_let_somebody_in()
+    ensures { (w : Planned) (c : ℕ) (rounds : List (List Step)) (more : List Event) → IsReached w → Asks w.state c
+        → AreFairRounds (dealing_of w.plans) w.state rounds → DoesNotGiveUp c (steps_of rounds)
+        → HasGrants 1 (run_of (dealing_of w.plans) (steps_of rounds) w.state)
+        → block (length w.state.clients)
+        * (length w.state.clients + 2 * give_ups_in (steps_of rounds) + late_in (dealing_of w.plans) 0 w.state rounds)
+        ≤ length rounds
+        → (run_of (dealing_of w.plans) (steps_of rounds) w.state).visible ≡ w.state.visible ++ more
+        → (d : ℕ) × (1 ≤ entries_of d more) }
+{
+    worlds_keep_their_rules();
+}
+
+/// Whoever asks gets in: a client that asks, and does not give up, enters within
+/// (n + 5) * (5 n + 2 g + l) fair rounds, for n clients, g withdrawals of others and l REQUESTs that come
+/// late.
+///
+/// In a fair round everybody is reminded, the messages of the reminders and the replies to them arrive, and
+/// who was inside when it began leaves. All else is up to an adversary: what is lost, late, repeated or out
+/// of order, who asks again, and who gives up. Each voter has to have a grant left at the end.
+pub fn fair_rounds_let_everybody_in()
+    ensures { (w : Planned) (c : ℕ) (rounds : List (List Step)) (more : List Event) → IsReached w → Asks w.state c
+        → AreFairRounds (dealing_of w.plans) w.state rounds → DoesNotGiveUp c (steps_of rounds)
+        → HasGrants 1 (run_of (dealing_of w.plans) (steps_of rounds) w.state)
+        → block (length w.state.clients)
+        * (5 * length w.state.clients + 2 * give_ups_in (steps_of rounds) + late_in (dealing_of w.plans) 0 w.state rounds)
+        ≤ length rounds
+        → (run_of (dealing_of w.plans) (steps_of rounds) w.state).visible ≡ w.state.visible ++ more
+        → 1 ≤ entries_of c more }
+{
+    worlds_keep_their_rules();
 }

@@ -1,8 +1,8 @@
 //! Progress of the voting lock: laws on how requests go on, over every list of steps of a world.
 //!
 //! `world` proves that at most one client is inside. This crate proves that requests get on: what
-//! other clients can do to a request, and what reminders can do for it. It has no code, only laws
-//! over the definitions of `world`, `voter` and `requester`.
+//! other clients can do to a request, what reminders can do for it, and that whoever asks gets in. It
+//! has no code, only laws over the definitions of `world`, `voter` and `requester`.
 //!
 //! # What is proved
 //!
@@ -17,19 +17,48 @@
 //!   messages that are sent after them let a client in.
 //! - **Whoever asks can still get in** ([`everybody_can_enter`]): by reminders, by messages that are sent
 //!   after them, and by clients that leave.
+//! - **Whoever asks gets in** ([`fair_rounds_let_everybody_in`]): a client that asks, and does not give
+//!   up, enters within (n + 5) * (5 n + 2 g + l) fair rounds, for n clients, g withdrawals of others and
+//!   l REQUESTs that come late. Somebody enters within (n + 5) * (n + 2 g + l)
+//!   ([`fair_rounds_let_somebody_in`]), and nothing stands still for n + 5 rounds
+//!   ([`fair_rounds_move_somebody`]).
+//! - **Fair rounds need not be neighbours** ([`rounds_may_be_longer`]): steps before a fair round and after
+//!   it may be counted to it. Any number can be made in every world ([`fair_rounds_can_be_made`]).
 //!
-//! The last two are freedom from deadlock, in every world that was reached. They say that a way
-//! exists, and not that a run takes it: they are not liveness.
+//! In a fair round everybody is reminded, the messages of the reminders and the replies to them arrive,
+//! and who was inside when it began leaves. All else is up to an adversary.
 //!
-//! A law speaks of lists of steps, and not of time, threads or endless runs. It takes no schedule
-//! for granted: its premises say all that it needs.
+//! The two ways in are freedom from deadlock, in every world that was reached. They say that a way
+//! exists, and not that a run takes it. The laws on fair rounds are bounded waiting: they hold of every
+//! run that has these rounds.
+//!
+//! A law speaks of lists of steps, and not of time, threads or endless runs. Its premises say all that it
+//! needs of a schedule.
+//!
+//! # After losses
+//!
+//! Before the rounds anything may have happened, crashes and losses of saved states too. Then somebody
+//! enters within (n + 5) * (n + 2 g + l + v) fair rounds, for v voters
+//! ([`fair_rounds_let_somebody_in_after_losses`]). A client whose request is heard enters within
+//! (n + 5) * (5 n + 2 g + l + v) ([`fair_rounds_let_everybody_in_after_losses`]), and each request that was
+//! made after the last loss is heard ([`new_requests_are_heard`]).
+//!
+//! After crashes and incidents, the laws that name no rounds hold once all clients were idle:
+//! `progress_comes_back` of `leases`.
 //!
 //! Depends on `world`, `voter` and `requester`, and on the crates that these are made of.
 #![tactic(auto)]
 
+mod after_losses;
 mod laws;
 
+pub use after_losses::{
+    fair_rounds_let_everybody_in_after_losses, fair_rounds_let_somebody_in_after_losses,
+    new_requests_are_heard,
+};
 pub use laws::{
-    everybody_can_enter, lost_votes_come_back, nobody_overtakes_often, returned_votes_go_on,
-    somebody_can_enter, who_asks_alone_gets_in,
+    everybody_can_enter, fair_rounds_can_be_made, fair_rounds_let_everybody_in,
+    fair_rounds_let_somebody_in, fair_rounds_move_somebody, lost_votes_come_back,
+    nobody_overtakes_often, returned_votes_go_on, rounds_may_be_longer, somebody_can_enter,
+    who_asks_alone_gets_in, worlds_keep_their_rules,
 };

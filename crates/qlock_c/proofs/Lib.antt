@@ -1,2 +1,3 @@
 pub mod GuardLemmas
+pub mod ReplyLines
 pub mod StateLemmas

@@ -4,4 +4,5 @@ pub mod FenceSteps
 pub mod Lines
 pub mod Made
 pub mod Numbers
+pub mod QuorumSteps
 pub mod VoterSteps

@@ -1,6 +1,6 @@
 -- Messages as lines, each with its newline, and what a call writes.
 use Rattle.std.specs.Prelude.{ℕ, ℤ, ◌≡◌, ◌<◌, ◌≤◌, List, [], ◌∷◌, ◌++◌, drop, length}
-use Rattle.std.specs.List.{flat_map}
+use Rattle.std.specs.List.{AllByRecursion, flat_map}
 use Rattle.message.specs.declared.message.Message.{Message}
 use Rattle.message.specs.declared.message.Message.TheVariants as kinds
 use Rattle.message.specs.declared.message.ToClient.{ToClient}
@@ -20,6 +20,10 @@ lines_to_clients messages = flat_map (λ m. line_of (kinds.ToClient m)) messages
 -- the lines of these messages to voters, in order
 abbrev pub lines_to_voters : List ToVoter → List ℕ
 lines_to_voters messages = flat_map (λ m. line_of (kinds.ToVoter m)) messages
+
+-- each of these messages to clients has a line, so that its client takes it
+abbrev pub ClientsCanRead : List ToClient → Type 0
+ClientsCanRead messages = AllByRecursion (λ m. HasLine (kinds.ToClient m)) messages
 
 -- the bytes are the line of this message, without a newline, and it is for the voter with this number
 pub record IsToVoter (line : List ℕ) (id : ℕ) (message : ToVoter) : Type 0 where

@@ -1,12 +1,14 @@
 -- What the calls of a voter return and write. Each is said for the one voter that the bytes are, and
 -- for the one message that the line is. That a refused call writes nothing is a clause of each call.
-use Rattle.std.specs.Prelude.{ℕ, ℤ, ◌≡◌, ◌≤◌, List, Option, None, Some, slice_index, unwrap_or}
+use Rattle.std.specs.Prelude.{ℕ, ℤ, pos, ◌≡◌, ◌≤◌, List, Option, None, Some, slice_index, unwrap_or}
 use Rattle.numbers.specs.Bounds.{max_stamp}
 use Rattle.message.specs.declared.message.ToVoter.{ToVoter}
 use Rattle.voter.specs.declared.state.Grant.{Grant}
 use Rattle.voter.specs.declared.state.VoterState.{VoterState}
 use Rattle.voter.specs.Leases.{evict}
+use Rattle.voter.specs.Saved.{least_voter}
 use Rattle.voter.specs.Steps.{Outcome, current_stamp, remind, step}
+use Rattle.voter_node.specs.LeftOut.{HaveSameLeast}
 use Rattle.qlock_c.specs.Bytes.{IsNoVoter, IsVoter}
 use Rattle.qlock_c.specs.Lines.{IsToVoter, Sends, lines_to_clients}
 use Rattle.qlock_c.specs.Numbers.{done, refused}
@@ -61,3 +63,16 @@ pub record VoterShowsClient (state : List ℕ) (client stamp finished seen : ℕ
   pub no_voter : IsNoVoter state → result ≡ refused BadState
   pub shows : (voter : VoterState) → IsVoter state voter → (result ≡ done)
       × (stamp ≡ unwrap_or (current_stamp voter client) 0) × (finished ≡ slice_index voter.finished client) × (seen ≡ voter.seen)
+
+-- a voter forgets all but the least
+pub record VoterForgets (before after : List ℕ) (result : ℤ) : Type 0 where
+  pub no_voter : IsNoVoter before → result ≡ refused BadState
+  pub forgets : (voter : VoterState) → IsVoter before voter → (result ≡ done) × IsVoter after (least_voter voter)
+
+-- whether a voter has to be saved that was saved as the first bytes and is now the second: 1 if what has
+-- to survive of it changed, and 0 if not
+pub record VoterMustSave (saved live : List ℕ) (yes result : ℤ) : Type 0 where
+  pub none_saved : IsNoVoter saved → result ≡ refused BadState
+  pub none_live : IsNoVoter live → result ≡ refused BadState
+  pub must : (v w : VoterState) → IsVoter saved v → IsVoter live w → (HaveSameLeast v w → ⊥) → (result ≡ done) × (yes ≡ pos 1)
+  pub need_not : (v w : VoterState) → IsVoter saved v → IsVoter live w → HaveSameLeast v w → (result ≡ done) × (yes ≡ pos 0)

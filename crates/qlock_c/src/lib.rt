@@ -4,24 +4,31 @@
 //! Messages are lines of text, as `message` reads and writes them. No call takes memory, and there
 //! is nothing else that one call leaves to the next: calls on different states may run at once.
 //!
-//! - `src/voter_calls.rt`, `src/client_calls.rt`, `src/fence_calls.rt`: the functions that C calls.
+//! - `src/voter_calls.rt`, `src/client_calls.rt`, `src/fence_calls.rt`, `src/quorum_calls.rt`: the functions
+//!   that C calls.
+//! - `src/version.rt`: the version, as a number.
 //! - `src/saved_bytes.rt`: the states as bytes.
 //! - `src/lines.rt`: messages as lines, in a text of fixed room.
 //! - `src/refusal.rt`: why a call was refused, and the numbers that C sees.
+//! - `src/laws.rt`: each message that a voter sends has a line that its client takes.
 //!
 //! `include/qlock.h` at the top of the repository says the same for C, and `docs/embedding.md` how
 //! to use it.
 //!
 //! A call that does not return 0 writes nothing. Where a call that changes a state or sends returns 0,
 //! the automaton's own step gives the new state and the lines: `specs/VoterSteps.antt`,
-//! `specs/ClientSteps.antt` and `specs/FenceSteps.antt`.
+//! `specs/ClientSteps.antt` and `specs/FenceSteps.antt`. What is said of quorums is in
+//! `specs/QuorumSteps.antt`.
 //!
-//! Depends on `voter`, `requester`, `fence`, `message`, `words`, `quorum_set` and `numbers`.
+//! Depends on `voter`, `voter_node`, `requester`, `fence`, `message`, `words`, `quorum_set` and `numbers`.
 #![tactic(auto)]
 
 mod client_calls;
 mod fence_calls;
+mod laws;
 mod lines;
+mod quorum_calls;
 mod refusal;
 mod saved_bytes;
+mod version;
 mod voter_calls;

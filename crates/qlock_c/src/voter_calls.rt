@@ -8,7 +8,7 @@ ghost use Rattle.qlock_c.specs.Bytes.{IsVoter};
 ghost use Rattle.qlock_c.specs.Lines.{IsToVoter};
 ghost use Rattle.qlock_c.specs.Made.{AreInRange, AreWithin, IsMade};
 ghost use Rattle.qlock_c.specs.Numbers.{done, refused, returned};
-ghost use Rattle.qlock_c.specs.VoterSteps.{IsHeldBy, VoterEvicts, VoterExtends, VoterReminds, VoterShowsClient, VoterShowsHolder, VoterTakes};
+ghost use Rattle.qlock_c.specs.VoterSteps.{IsHeldBy, VoterEvicts, VoterExtends, VoterForgets, VoterMustSave, VoterReminds, VoterShowsClient, VoterShowsHolder, VoterTakes};
 
 use crate::lines::put_to_clients;
 use crate::refusal::{Refusal, number_of};
@@ -155,6 +155,26 @@ fn knows(
     Ok(())
 }
 
+fn forget(state: &mut [u8]) -> Result<(), Refusal>
+    ensures forgets { VoterForgets state.old state.new (returned result) }
+    ensures refused { OnErr result (state.new ≡ state.old) }
+{
+    let mut voter = load_voter(state)?;
+    voter.forget();
+    store_voter(&voter, state);
+    Ok(())
+}
+
+fn must_save(saved: &[u8], live: &[u8], yes: &mut i32) -> Result<(), Refusal>
+    ensures says { VoterMustSave saved.now live.now yes.new (returned result) }
+    ensures refused { OnErr result (yes.new ≡ yes.old) }
+{
+    let saved = load_voter(saved)?;
+    let live = load_voter(live)?;
+    *yes = i32::from(voter_node::must_save(&saved, &live));
+    Ok(())
+}
+
 /// Makes a new voter with this number, 0 to 63, that may give `limit` grants, 1 to 2^40.
 #[unsafe(no_mangle)]
 pub extern "C" fn qlock_voter_new(id: u8, limit: u64, state: &mut [u8]) -> i32
@@ -256,4 +276,24 @@ pub extern "C" fn qlock_voter_knows(
     ensures shows { client < max_clients → VoterShowsClient state.now client stamp.new finished.new seen.new result }
 {
     number_of(knows(state, client, stamp, finished, seen))
+}
+
+/// Forgets all but the least that has to survive a crash: the grant that holds the vote, and the number
+/// of grants.
+#[unsafe(no_mangle)]
+pub extern "C" fn qlock_voter_forget(state: &mut [u8]) -> i32
+    ensures refused { result ≢ done → state.new ≡ state.old }
+    ensures forgets { VoterForgets state.old state.new result }
+{
+    number_of(forget(state))
+}
+
+/// Writes 1 if a voter that was saved as `saved` and is now `live` has to be saved before its messages
+/// leave, where it forgets at each restart, and 0 if not.
+#[unsafe(no_mangle)]
+pub extern "C" fn qlock_voter_must_save(saved: &[u8], live: &[u8], yes: &mut i32) -> i32
+    ensures refused { result ≢ done → yes.new ≡ yes.old }
+    ensures says { VoterMustSave saved.now live.now yes.new result }
+{
+    number_of(must_save(saved, live, yes))
 }

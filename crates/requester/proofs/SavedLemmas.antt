@@ -253,7 +253,7 @@ covered_if false covered e t = absurd (false≢true t)
 -- ---- the least of a client
 
 pub least_is_sound : (x : ClientState) → IsSound x → IsSound (least_client x)
-least_is_sound x s = IsSound-clear_votes (least_client x) Idle refl s.id s.some s.limit s.places.last s.stamp s.clock tt (λ busy. absurd (false≢true (sym busy)))
+least_is_sound x s = IsSound-clear_votes (least_client x) Idle refl s.id s.some s.limit refl s.stamp s.clock tt (λ busy. absurd (false≢true (sym busy)))
 
 -- a set with bits is a set
 pub set_by_bits : (m : ℕ) (s : List ℕ) → members_of m ≡ s → IsSet s

@@ -44,10 +44,10 @@ pub record IsKept (x : ClientState) : Type 0 where
   pub sound : IsSound x
   pub sets : HasSets x
 
--- The least of a client: its clock, its last stamp, and the last grant of each voter that it gave
--- back. It is idle. Its number and its limit stay the same.
+-- The least of a client: its clock and its last stamp. It is idle. Its number and its limit stay the
+-- same.
 abbrev pub least_client : ClientState → ClientState
-least_client x = record (start x.id x.limit) { clock = x.clock; stamp = x.stamp; last = x.last }
+least_client x = record (start x.id x.limit) { clock = x.clock; stamp = x.stamp }
 
 -- What restoring checks
 

@@ -56,8 +56,9 @@ impl Requester {
     /// Returns a client that lost its state, with a clock that is at least the stamp of its last
     /// request. It is idle, and its next stamp is above the clock.
     ///
-    /// If it used a greater stamp before, two of its requests may have one pass. The clock may come
-    /// from a file with one number, written ahead, or from what a quorum of voters has seen.
+    /// If it used a greater stamp before, two of its requests may have one pass, and two clients may be
+    /// inside. The clock comes from a file with one number, written ahead. What a quorum of voters has
+    /// seen may be less than the last stamp.
     pub fn anew(id: u8, limit: u64, clock: u64) -> Self
         requires id { id < max_clients }
         requires least { 1 ≤ limit }
@@ -106,8 +107,8 @@ impl Requester {
         Some(Requester { state })
     }
 
-    /// Forgets all but the least that has to survive a crash: the clock, the last stamp, and the
-    /// last grants that were given back. The client is then idle.
+    /// Forgets all but the least that has to survive a crash: the clock and the last stamp. The
+    /// client is then idle.
     ///
     /// If it was inside, this opens the lock, so its work has to be done or undone. Its votes come
     /// back by the voters' reminders.

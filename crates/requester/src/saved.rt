@@ -84,6 +84,7 @@ impl ClientState {
         self.phase = Phase::Idle;
         self.quorum = ArrayVec::new();
         self.held = [0; MAX_VOTERS];
+        self.last = [0; MAX_VOTERS];
         self.failed = QSet::empty();
         self.relinquished = QSet::empty();
         self.inquired = QSet::empty();

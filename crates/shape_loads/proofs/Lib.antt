@@ -3,11 +3,5 @@ mod Duality
 mod Grids
 mod Majorities
 mod OneLoad
-mod Shown
 mod Sums
-mod TreeCounts
-mod TreeLights
-mod Trees
 mod Uniform
-mod Weights
-mod Wheels

@@ -6,10 +6,8 @@ ghost use Rattle.certificate.specs.Certificates.{Weighted, IsCertificate, busies
 ghost use Rattle.construct.specs.Cyclic.{cyclic_at};
 ghost use Rattle.construct.specs.Grid.{grid_system};
 ghost use Rattle.construct.specs.Majority.{majority_system};
-ghost use Rattle.construct.specs.Tree.{tree_system};
-ghost use Rattle.construct.specs.Wheel.{wheel_system};
 ghost use Rattle.planner.specs.Uniform.{IsUniform};
-ghost use Rattle.shape_loads.specs.ShapeLoads.{HasLoad, IsUnitPlan, ones_plan, tree_plan, wheel_plan};
+ghost use Rattle.shape_loads.specs.ShapeLoads.{HasLoad, IsUnitPlan, ones_plan};
 
 /// Two plans of one coterie for the same capacities have the same load: each is optimal.
 ///
@@ -48,20 +46,6 @@ pub fn grids_have_one_load()
 pub fn majorities_have_one_load()
     ensures load { (n : ℕ) (w : Weighted) → IsUnitPlan (majority_system n) w → HasLoad (n / 2 + 1) n w }
     ensures plan { (n : ℕ) → 0 < n → n ≤ 14 → IsUnitPlan (majority_system n) (ones_plan (majority_system n)) }
-{}
-
-/// Every plan of a tree of height h has the load 2 / (h + 2). The weights of `tree_plan` are such a
-/// plan.
-pub fn trees_have_one_load()
-    ensures load { (h : ℕ) (w : Weighted) → IsUnitPlan (tree_system h) w → HasLoad 2 (h + 2) w }
-    ensures plan { (h : ℕ) → h ≤ 3 → IsUnitPlan (tree_system h) (tree_plan h) }
-{}
-
-/// Every plan of a wheel with k voters on its rim has the load k / (2 * k - 1). The weights of
-/// `wheel_plan` are such a plan.
-pub fn wheels_have_one_load()
-    ensures load { (k : ℕ) (w : Weighted) → IsUnitPlan (wheel_system k) w → HasLoad k (2 * k - 1) w }
-    ensures plan { (k : ℕ) → 2 ≤ k → k ≤ 63 → IsUnitPlan (wheel_system k) (wheel_plan k) }
 {}
 
 /// Every plan of a cyclic coterie over a base of c places on a ring of n has the load c / n. All

@@ -1,4 +1,4 @@
-//! The loads of the coteries that `construct` makes, as laws.
+//! The loads of grids, majorities and cyclic coteries, as laws.
 //!
 //! A plan's certificate shows that this plan has the smallest load. These laws say what this load
 //! is, for every size of a shape, before there is a plan. All capacities are 1.
@@ -7,8 +7,6 @@
 //! |---|---|---|
 //! | grid of r rows of c voters | (r + c - 1) / (r * c) | [`grids_have_one_load`] |
 //! | majorities of n voters, h = n / 2 + 1 rounded down | h / n | [`majorities_have_one_load`] |
-//! | tree of height h | 2 / (h + 2) | [`trees_have_one_load`] |
-//! | wheel with k voters on its rim | k / (2 * k - 1) | [`wheels_have_one_load`] |
 //! | cyclic, with c places on a ring of n | c / n | [`cyclic_coteries_have_one_load`] |
 //!
 //! Naor and Wool (*The load, capacity, and availability of quorum systems*, SIAM J. Comput. 27(2),
@@ -19,9 +17,12 @@
 //! - **Plans have one load** ([`plans_have_one_load`]): two plans of one coterie for the same
 //!   capacities have the same load. The voters' weights of either plan show it.
 //! - **Uniform coteries have one load** ([`uniform_coteries_have_one_load`]): the size of a quorum,
-//!   divided by the number of voters. Grids, majorities and cyclic coteries are uniform.
-//! - **Each of the five shapes** has the load of the table. Explicit weights are a plan of each, so
-//!   no law is about nothing: all weights 1, or the weights of `wheel_plan` and `tree_plan`.
+//!   divided by the number of voters.
+//! - **Grids, majorities and cyclic coteries are uniform**, so they have the load of the table. All
+//!   weights 1 are a plan of each, so no law is about nothing.
+//!
+//! Trees and wheels are not uniform. There are four trees and 62 wheels, and a test of `test_planning`
+//! plans each of them.
 //!
 //! There is no code, only laws over the definitions of `certificate`, `construct` and `planner`.
 //!
@@ -33,5 +34,5 @@ mod laws;
 
 pub use laws::{
     cyclic_coteries_have_one_load, grids_have_one_load, majorities_have_one_load,
-    plans_have_one_load, trees_have_one_load, uniform_coteries_have_one_load, wheels_have_one_load,
+    plans_have_one_load, uniform_coteries_have_one_load,
 };

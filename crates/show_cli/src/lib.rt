@@ -15,7 +15,8 @@
 //!
 //! - of `deal`, also with `--even`, of `plan`, `without` and `bridge` the whole page is determined;
 //! - of `resilience` it is, except which set of voters it names and whether the search came to its end;
-//! - of `report` it is, except its head and its picture;
+//! - of `report` it is, except its head, its picture, which set of voters it names and whether the search
+//!   ended;
 //! - of `explain` the code is, but not what the text says; the page of all faults and the list of their
 //!   lines have each code once, in order;
 //! - a `fault` page ends with the code of a fault with which `qlock` may refuse the input, or it says

@@ -31,7 +31,8 @@ is_outside fault = false
 abbrev pub MayTurnDown : Command → List ℕ → Fault → Type 0
 MayTurnDown command input fault = OnFalse (is_outside fault) (IsRefusal command input fault)
 
--- the command refuses the input, and the page names the code of a fault with which it does
+-- The page names the code of a fault with which the command may refuse the input. Of an irregular coterie
+-- this may be `N1` though `plan` finds a plan.
 pub record IsRefusalPage (command : Command) (input page : List ℕ) : Type 0 where
   pub fault : Fault
   pub inside : is_outside fault ≡ false
@@ -39,7 +40,7 @@ pub record IsRefusalPage (command : Command) (input page : List ℕ) : Type 0 wh
   pub names : NamesCode (code_of fault) page
 
 -- The page says that there is no fault, and the command takes the input. Or the page names the code
--- of a fault with which the command refuses the input.
+-- of a fault with which the command may refuse the input.
 abbrev pub IsFaultPage : Command → List ℕ → List ℕ → Type 0
 IsFaultPage command input page =
     ((page ≡ codes "qlock does not refuse this input\n") × IsTaken command input) ⊎ IsRefusalPage command input page

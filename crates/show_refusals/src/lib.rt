@@ -14,8 +14,9 @@
 //!
 //! # What is proved
 //!
-//! A page ends with the code of a fault with which the command refuses the input. Or it says that
-//! there is no fault, and then the command takes the input. What else a page says is only tested.
+//! A page ends with the code of a fault with which the command may refuse the input: of an irregular
+//! coterie it may say `N1` though `plan` finds a plan. Or it says that there is no fault, and then the
+//! command takes the input. What else a page says is only tested.
 //!
 //! ```
 //! let page = fault_page(alloc, &Command::Plan, b"voters = [")?;

@@ -9,7 +9,8 @@
 //!
 //! The document begins with `<!DOCTYPE html>` and ends with `</html>`. All of it is determined, letter
 //! by letter, as `specs/Reports.antt` defines it from the plan and the names, except its head, which
-//! has the styles, and the picture. In particular:
+//! has the styles, the picture, which set of voters it names, and whether the search for a smallest one
+//! ended. In particular:
 //!
 //! - the figures of quorums and voters are those of `show_words`, and the numbers of the certificate
 //!   are those of `certificate`;

@@ -11,7 +11,7 @@ use std::alloc::{AllocError, Global};
 use stories::{Happening, Player, StoryScript, Turn};
 use voter::Voter;
 use ways::let_in;
-use world::{Step, World, WorldFault};
+use world::{SavedWorld, Step, World, WorldFault};
 
 /// Returns the client that has the vote of a voter, if there is one.
 fn holder_of(voter: Option<&Voter>) -> Option<u8> {
@@ -83,7 +83,7 @@ fn push_wait(text: &mut String, player: &Player, message: &Message) -> Result<()
     let ClientBody::Fail { .. } = message.body else {
         return Ok(());
     };
-    match holder_of(player.voter(message.voter)) {
+    match holder_of(player.world().voter(message.voter)) {
         Some(holder) => write!(text, "; client {holder} has the vote"),
         None => Ok(()),
     }
@@ -108,7 +108,7 @@ fn push_sent(
 }
 
 /// Appends the line of a client that entered or left, if one did.
-fn push_seen(text: &mut String, world: &World, seen: Seen) -> Result<(), AllocError> {
+fn push_seen(text: &mut String, world: &SavedWorld, seen: Seen) -> Result<(), AllocError> {
     let Some(event) = world.visible().last() else {
         return Ok(());
     };
@@ -120,30 +120,32 @@ fn push_seen(text: &mut String, world: &World, seen: Seen) -> Result<(), AllocEr
     }
 }
 
-/// Appends what arrives when a message is delivered.
+/// Appends what arrives when the message with this number is delivered, if it was sent.
 fn push_arrival(
     text: &mut String,
     named: &Named,
-    world: &World,
     number: u64,
+    message: Option<Message>,
 ) -> Result<(), AllocError> {
-    if number >= world.sent() as u64 {
-        return write!(text, "message {number} should arrive");
+    match message {
+        Some(message) => {
+            write!(text, "message {number} arrives: ")?;
+            push_message_words(text, named, &message)
+        }
+        None => write!(text, "message {number} should arrive"),
     }
-    write!(text, "message {number} arrives: ")?;
-    push_message_words(text, named, &world.message(number as usize))
 }
 
-/// Appends a step, before it is made.
+/// Appends a step, before it is made, with the message that arrives in it, if one does.
 fn push_step(
     text: &mut String,
     named: &Named,
-    world: &World,
     step: Step,
+    message: Option<Message>,
 ) -> Result<(), AllocError> {
     match step {
         Step::Ask(client) => write!(text, "client {client} wants the lock"),
-        Step::Deliver(number) => push_arrival(text, named, world, number),
+        Step::Deliver(number) => push_arrival(text, named, number, message),
         Step::Leave(client) => write!(text, "client {client} leaves"),
         Step::GiveUp(client) => write!(text, "client {client} gives up"),
         Step::RemindClient(client) => write!(text, "client {client} says again what it waits for"),
@@ -155,15 +157,26 @@ fn push_step(
     }
 }
 
+/// Returns the message that arrives in a step of a story, if one does.
+fn arrival(world: &SavedWorld, step: Step) -> Option<Message> {
+    let Step::Deliver(number) = step else {
+        return None;
+    };
+    if number >= world.sent() as u64 {
+        return None;
+    }
+    Some(world.message(number as usize))
+}
+
 /// Appends a turn, before it is made.
 fn push_turn(
     text: &mut String,
     named: &Named,
-    world: &World,
+    world: &SavedWorld,
     turn: Turn,
 ) -> Result<(), AllocError> {
     match turn {
-        Turn::Step(step) => push_step(text, named, world, step),
+        Turn::Step(step) => push_step(text, named, step, arrival(world, step)),
         Turn::CrashClient(client) => write!(
             text,
             "client {client} crashes, and restarts from what it saved"
@@ -339,6 +352,17 @@ fn push_stale_vote(
     }
 }
 
+/// Returns the message that arrives in a step of a way in, if one does.
+fn arrival_on_way(world: &World, step: Step) -> Option<Message> {
+    let Step::Deliver(number) = step else {
+        return None;
+    };
+    if number >= world.sent() as u64 {
+        return None;
+    }
+    Some(world.message(number as usize))
+}
+
 /// Appends a way by which a client gets in: who is reminded, and which messages arrive. Makes its
 /// steps.
 fn push_way_in(
@@ -354,7 +378,7 @@ fn push_way_in(
     write!(text, "\nA way for client {client} to get in:\n")?;
     for step in &way.steps {
         text.push_str("  ")?;
-        push_step(text, named, world, *step)?;
+        push_step(text, named, *step, arrival_on_way(world, *step))?;
         text.push('\n')?;
     }
     Ok(())
@@ -389,7 +413,7 @@ pub fn world_words(
 {
     let mut player = Player::new(alloc, plans, script)?;
     let turns = turns_words(alloc, named, &mut player, script.turns())?;
-    let mut world = player.end()?;
+    let mut world = player.end().into_world();
     let ending = ending_words(alloc, named, &mut world, script.clients())?;
     let page = format!(in alloc; "{turns}\nAt the end:\n{ending}")?;
     Ok(page)

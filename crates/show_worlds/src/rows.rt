@@ -7,7 +7,7 @@ use show_svg::{
 };
 use std::alloc::AllocError;
 use stories::{Happening, Moment, Story, Turn};
-use world::{Step, World, WorldFault};
+use world::{SavedWorld, Step, WorldFault};
 
 /// How far the words of a row are from the left edge.
 const LEFT: u64 = 20;
@@ -121,7 +121,7 @@ pub fn push_makers(out: &mut String, story: &Story, chart: &Chart) -> Result<(),
 }
 
 /// Returns the client that a message came to in a turn, or the client that made the turn.
-fn client_of(world: &World, turn: Turn) -> Option<u8> {
+fn client_of(world: &SavedWorld, turn: Turn) -> Option<u8> {
     match (turn, maker_of(turn)) {
         (Turn::Step(Step::Deliver(number)), _) => receiver_of(world, number as usize),
         (_, Some(Node::Client(client))) => Some(client),
@@ -130,7 +130,7 @@ fn client_of(world: &World, turn: Turn) -> Option<u8> {
 }
 
 /// Returns the client that receives a message, if a client does.
-fn receiver_of(world: &World, number: usize) -> Option<u8> {
+fn receiver_of(world: &SavedWorld, number: usize) -> Option<u8> {
     if number >= world.sent() {
         return None;
     }

@@ -1,3 +1,3 @@
-pub mod Moments
+pub mod Plays
 pub mod Scripts
 pub mod Turns

@@ -40,12 +40,6 @@ HasTurnLine (CrashVoter voter) = voter ≤ 255
 abbrev pub turn_form : Form Turn
 turn_form = record { word = turn_word; numbers = turn_numbers; fits = HasTurnLine }
 
--- the turn is a crash
-abbrev pub IsCrash : Turn → Type 0
-IsCrash (Makes step) = ⊥
-IsCrash (CrashClient client) = ⊤
-IsCrash (CrashVoter voter) = ⊤
-
 -- The form is that of lines
 
 -- the turn of a word and a number

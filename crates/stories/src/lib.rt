@@ -16,24 +16,21 @@
 //! or lets a client enter or leave. Other steps are silent. A crash brings it back to what it saved
 //! last. So a crash undoes exactly the silent steps since then, and nobody else knew of them.
 //!
-//! A [`Player`] has a world in which each client and each voter is as it was saved last, and beside it
-//! each of them as it is now. A silent step is made there alone. Before a step that saves, the messages
-//! that arrived silently arrive in the world. So a crash leaves the world as it is: those messages
-//! never arrived.
+//! A [`Player`] plays the turns in a [`SavedWorld`](world::SavedWorld), which saves, and brings back what
+//! was saved. It also counts how many messages each client and each voter took since it was saved: so
+//! many are forgotten in a crash.
 //!
 //! # What is proved
 //!
 //! - A text is read if and only if, without notes, it is the text of a script. Otherwise the fault names
 //!   its first bad line (`specs/Scripts.antt`).
-//! - A story has a moment for each turn of its script, in order.
-//! - The world of a story is one of `world`, of these plans. So at most one client is inside at a time.
-//!   A crash leaves it as it is.
+//! - A story's world is the one that `specs/Restarts.antt` of `world` gives for its turns: each step is
+//!   saved and then sent, and each crash is a restart. So at most one client is inside at a time.
+//! - A story has a moment for each turn of its script, in order. It says what the turn did: how many
+//!   messages were sent, from which number on, and whether a client entered or left; or the step's fault;
+//!   or how many messages were forgotten (`specs/Plays.antt`).
 //!
-//! That a silent step beside the world does what it does in the world is only tested, and so is what a
-//! moment says of its turn.
-//!
-//! Depends on `world`, `voter` and `requester`, on `replay` for the lines of steps, and on `dealer` for
-//! plans.
+//! Depends on `world`, on `replay` for the lines of steps, and on `dealer` for plans.
 //!
 //! ```
 //! let script = read_story(alloc, b"world 1 9\n# a note\nask 0\ncrash-client 0\n")?;
@@ -41,7 +38,6 @@
 //! ```
 #![tactic(auto)]
 
-mod ahead;
 mod happening;
 mod player;
 mod reading;

@@ -1,208 +1,181 @@
 //! A player of stories.
-ghost use Rattle.std.specs.Prelude.{◌≡◌, ◌<◌, IfOk};
-ghost use Rattle.numbers.specs.Bounds.{max_clients, max_voters};
-ghost use Rattle.stories.specs.Turns.{IsCrash};
+ghost use Rattle.std.specs.Prelude.{◌≡◌, IfErr, IfOk, OnErr, OnOk, slice_index, slice_set};
+ghost use Rattle.stories.specs.Plays.{count, count_on, first_scene, play, turn_did};
+ghost use Rattle.stories.specs.declared.turn.Turn.TheVariants as turns;
+ghost use Rattle.world.specs.States.{node_of};
 
-use crate::ahead::{
-    Ahead, Forecast, call_forecast, catch_up_all, client_like, client_takes, new_clients,
-    new_voters, reminder_forecast, restart, settle, voter_like, voter_takes,
-};
-use crate::happening::{Happening, make};
+use crate::happening::Happening;
 use crate::script::StoryScript;
 use crate::turn::Turn;
 use dealer::Plans;
-use message::{Message, ToClient, ToVoter};
-use requester::Requester;
 use std::alloc::{AllocError, Global};
 use std::marker::Model;
-use voter::Voter;
-use world::{Step, World, WorldFault};
+use world::{Maker, SavedWorld, Step, WorldFault};
 
-/// A world in which clients and voters crash and restart.
+/// A world whose clients and voters crash and restart, and how many messages each of them took since it
+/// saved its state last.
 ///
-/// Save, then send: a client or a voter saves its state at each step that sends a message or lets a
-/// client enter or leave. Contracts see the world in which each client and each voter is as it was
-/// saved last. Beside it the player keeps each of them as it is now.
+/// Contracts see it as a `Scene`.
 #[derive(Drop)]
 pub struct Player {
-    world: World,
-    clients: Vec<Ahead<Requester>>,
-    voters: Vec<Ahead<Voter>>,
+    world: SavedWorld,
+    clients: Vec<usize>,
+    voters: Vec<usize>,
 }
 
 impl Model for Player {
-    ghost use Rattle.world.specs.Steps.{Planned};
-    ghost use Rattle.world.specs.contracts.world.World as known;
+    ghost use Rattle.stories.specs.Plays.{Scene};
+    ghost use Rattle.std.specs.Coded.{codes};
+    ghost use Rattle.world.specs.contracts.saved.SavedWorld as known;
 
-    ghost Value = { Planned };
+    ghost Value = { Scene };
 
-    ghost coded = { known.the_row.coded };
+    ghost coded = { Prim.hlevel (codes, known.the_row.coded) };
 
-    ghost view = { λ p. p.world };
+    ghost view = { λ p. record { world = p.world; clients = p.clients.items; voters = p.voters.items } };
+}
+
+/// Returns a count: 0 if there is none with this number.
+fn count_of(counts: &[usize], number: u8) -> usize
+    ensures { result ≡ slice_index counts.now number }
+{
+    match counts.get(usize::from(number)) {
+        Some(count) => *count,
+        None => 0,
+    }
+}
+
+/// Sets a count, if there is one with this number.
+fn set_count(counts: &mut [usize], number: u8, count: usize)
+    ensures { counts.new ≡ slice_set counts.old number count }
+{
+    if usize::from(number) < counts.len() {
+        counts[usize::from(number)] = count;
+    }
+}
+
+/// Returns how a count goes on after a step.
+fn count_on(step: Step, silent: bool, count: usize) -> usize
+    ensures { result ≡ count_on step silent count }
+{
+    match (silent, step) {
+        (false, _) => 0,
+        (true, Step::Deliver(_)) => count.saturating_add(1),
+        (true, _) => count,
+    }
+}
+
+/// Counts a step of the client or the voter with this number.
+fn recount(counts: &mut [usize], number: u8, step: Step, silent: bool)
+    ensures { counts.new ≡ slice_set counts.old number (count_on step silent (slice_index counts.old number)) }
+{
+    let count = count_on(step, silent, count_of(counts, number));
+    set_count(counts, number, count);
+}
+
+/// Returns what a crash did, in which this number of messages was forgotten.
+fn crashed(restarted: Result<(), WorldFault>, forgotten: usize) -> Happening
+    ensures done { OnOk restarted (result ≡ Happening.Crashed forgotten) }
+    ensures refused { IfErr restarted (λ fault. result ≡ Happening.Refused fault) }
+{
+    match restarted {
+        Ok(()) => Happening::Crashed(forgotten),
+        Err(fault) => Happening::Refused(fault),
+    }
 }
 
 impl Player {
     /// Returns a player of a story in which nothing has happened yet. Fails only if memory runs out.
     pub fn new(alloc: Global, plans: Plans, script: &StoryScript) -> Result<Player, AllocError>
-        ensures { IfOk result (λ player. player.plans ≡ plans) }
+        ensures { IfOk result (λ player. player ≡ first_scene plans script.now.clients script.now.limit) }
     {
-        let limit = script.limit();
-        let clients = script.clients();
-        let world = World::new(alloc, plans, clients, limit)?;
-        let voters = new_voters(alloc, &world, limit)?;
+        let clients = vec![in alloc; 0; 64]?;
+        let voters = vec![in alloc; 0; 64]?;
+        let world = SavedWorld::new(alloc, plans, script.clients(), script.limit())?;
         Ok(Player {
             world,
-            clients: new_clients(alloc, clients, limit)?,
+            clients,
             voters,
         })
     }
 
-    /// Returns the world. It has all messages, and each client and voter as it was saved last.
-    pub fn world(&self) -> &World
-        ensures { result.now ≡ self.now }
+    /// Returns the world.
+    pub fn world(&self) -> &SavedWorld
+        ensures { result.now ≡ self.now.world }
     {
         &self.world
     }
 
-    /// Returns the voter with this number as it is now, if there is one.
-    pub fn voter(&self, number: u8) -> Option<&Voter> {
-        match self.voters.get(usize::from(number)) {
-            Some(who) => Some(&who.live),
-            None => None,
-        }
-    }
-
-    /// Makes a turn, and returns what it did. Fails only if memory runs out.
+    /// Makes a turn, and returns what it did. Fails only if memory runs out, and then changes nothing.
     pub fn play(&mut self, turn: Turn) -> Result<Happening, AllocError>
-        ensures plans { self.new.plans ≡ self.old.plans }
-        // A crash leaves the world as it is.
-        ensures crash { IsCrash turn → self.new ≡ self.old }
+        ensures did { IfOk result (λ h. h ≡ turn_did self.old turn) }
+        ensures played { OnOk result (self.new ≡ play self.old turn) }
+        ensures unchanged { OnErr result (self.new ≡ self.old) }
     {
         match turn {
             Turn::Step(step) => self.step(step),
-            Turn::CrashClient(client) => self.crash_client(client),
-            Turn::CrashVoter(voter) => self.crash_voter(voter),
+            Turn::CrashClient(client) => Ok(self.crash_client(client)),
+            Turn::CrashVoter(voter) => Ok(self.crash_voter(voter)),
         }
     }
 
     /// Makes a step.
     fn step(&mut self, step: Step) -> Result<Happening, AllocError>
-        ensures { self.new.plans ≡ self.old.plans }
+        ensures did { IfOk result (λ h. h ≡ turn_did self.old (turns.Step step)) }
+        ensures played { OnOk result (self.new ≡ play self.old (turns.Step step)) }
+        ensures unchanged { OnErr result (self.new ≡ self.old) }
     {
-        match step {
-            Step::Ask(client)
-            | Step::Leave(client)
-            | Step::GiveUp(client)
-            | Step::RemindClient(client) => self.call(client, step),
-            Step::RemindVoter(voter) => self.remind(voter),
-            Step::Deliver(number) => self.deliver(number),
-            Step::Exchange => make(&mut self.world, step),
+        let who = self.world.maker(step);
+        let first = self.world.sent();
+        match self.world.step(step) {
+            Ok(stepped) => {
+                self.count(who, step, stepped.is_silent());
+                Ok(Happening::Done {
+                    first,
+                    sent: stepped.sent,
+                    seen: stepped.seen,
+                })
+            }
+            Err(WorldFault::OutOfMemory) => Err(AllocError),
+            Err(fault) => Ok(Happening::Refused(fault)),
         }
     }
 
-    /// Makes a step that a client makes by itself.
-    fn call(&mut self, client: u8, step: Step) -> Result<Happening, AllocError>
-        ensures { self.new.plans ≡ self.old.plans }
+    /// Counts a step.
+    fn count(&mut self, who: Maker, step: Step, silent: bool)
+        ensures { self.new ≡ count (node_of who) (count_on step silent) self.old }
     {
-        let Some(who) = self.clients.get_mut(usize::from(client)) else {
-            return make(&mut self.world, step);
-        };
-        let forecast = call_forecast(&who.live, step);
-        let happening = settle(&mut self.world, &mut who.taken, forecast, step)?;
-        if let (Forecast::Saves, Some(saved)) = (forecast, self.world.client(client)) {
-            who.live = client_like(saved)?;
-        }
-        Ok(happening)
-    }
-
-    /// Has a voter send its reminder, which changes nothing at the voter.
-    fn remind(&mut self, voter: u8) -> Result<Happening, AllocError>
-        ensures { self.new.plans ≡ self.old.plans }
-    {
-        let step = Step::RemindVoter(voter);
-        let Some(who) = self.voters.get_mut(usize::from(voter)) else {
-            return make(&mut self.world, step);
-        };
-        let forecast = reminder_forecast(&who.live);
-        settle(&mut self.world, &mut who.taken, forecast, step)
-    }
-
-    /// Has a message arrive at its client.
-    fn deliver_to_client(&mut self, message: &ToClient, step: Step) -> Result<Happening, AllocError>
-        requires { message.now.voter < max_voters }
-        ensures { self.new.plans ≡ self.old.plans }
-    {
-        let Some(who) = self.clients.get_mut(usize::from(message.client)) else {
-            return make(&mut self.world, step);
-        };
-        let forecast = client_takes(&mut who.live, message);
-        settle(&mut self.world, &mut who.taken, forecast, step)
-    }
-
-    /// Has a message arrive at its voter.
-    fn deliver_to_voter(&mut self, message: &ToVoter, step: Step) -> Result<Happening, AllocError>
-        requires { message.now.client < max_clients }
-        ensures { self.new.plans ≡ self.old.plans }
-    {
-        let Some(who) = self.voters.get_mut(usize::from(message.voter)) else {
-            return make(&mut self.world, step);
-        };
-        let forecast = voter_takes(&mut who.live, message);
-        settle(&mut self.world, &mut who.taken, forecast, step)
-    }
-
-    /// Has a message arrive.
-    fn deliver(&mut self, number: u64) -> Result<Happening, AllocError>
-        ensures { self.new.plans ≡ self.old.plans }
-    {
-        let step = Step::Deliver(number);
-        if number >= self.world.sent() as u64 {
-            return make(&mut self.world, step);
-        }
-        match self.world.message(number as usize) {
-            Message::ToClient(message) => self.deliver_to_client(&message, step),
-            Message::ToVoter(message) => self.deliver_to_voter(&message, step),
+        match who {
+            Maker::Client(client) => recount(&mut self.clients, client, step, silent),
+            Maker::Voter(voter) => recount(&mut self.voters, voter, step, silent),
+            Maker::Nobody => {}
         }
     }
 
     /// Has a client crash, and restart from what it saved. Messages that it took since are forgotten.
-    fn crash_client(&mut self, client: u8) -> Result<Happening, AllocError>
-        ensures { self.new ≡ self.old }
+    fn crash_client(&mut self, client: u8) -> Happening
+        ensures did { result ≡ turn_did self.old (turns.CrashClient client) }
+        ensures played { self.new ≡ play self.old (turns.CrashClient client) }
     {
-        match (
-            self.world.client(client),
-            self.clients.get_mut(usize::from(client)),
-        ) {
-            (Some(saved), Some(who)) => Ok(restart(who, client_like(saved)?)),
-            _ => Ok(Happening::Refused(WorldFault::NoSuchClient(client))),
-        }
+        let forgotten = count_of(&self.clients, client);
+        set_count(&mut self.clients, client, 0);
+        crashed(self.world.restart_client(client), forgotten)
     }
 
     /// Has a voter crash, and restart from what it saved. Messages that it took since are forgotten.
-    fn crash_voter(&mut self, voter: u8) -> Result<Happening, AllocError>
-        ensures { self.new ≡ self.old }
+    fn crash_voter(&mut self, voter: u8) -> Happening
+        ensures did { result ≡ turn_did self.old (turns.CrashVoter voter) }
+        ensures played { self.new ≡ play self.old (turns.CrashVoter voter) }
     {
-        match (
-            self.world.voter(voter),
-            self.voters.get_mut(usize::from(voter)),
-        ) {
-            (Some(saved), Some(who)) => Ok(restart(who, voter_like(saved)?)),
-            _ => Ok(Happening::Refused(WorldFault::NoSuchVoter(voter))),
-        }
+        let forgotten = count_of(&self.voters, voter);
+        set_count(&mut self.voters, voter, 0);
+        crashed(self.world.restart_voter(voter), forgotten)
     }
 
-    /// Ends the story: each client and each voter saves its state. Returns the world, in which they are
-    /// as they are now. Fails only if memory runs out.
-    pub fn end(self) -> Result<World, AllocError>
-        ensures { IfOk result (λ world. world.plans ≡ self.plans) }
+    /// Ends the story, and returns the world.
+    pub fn end(self) -> SavedWorld
+        ensures { result ≡ self.world }
     {
-        let Player {
-            mut world,
-            mut clients,
-            mut voters,
-        } = self;
-        catch_up_all(&mut world, &mut clients)?;
-        catch_up_all(&mut world, &mut voters)?;
-        Ok(world)
+        self.world
     }
 }

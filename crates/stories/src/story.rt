@@ -1,6 +1,6 @@
 //! What the turns of a story did, one after the other.
 ghost use Rattle.std.specs.Prelude.{◌≡◌, IfOk};
-ghost use Rattle.stories.specs.Moments.{turns_of};
+ghost use Rattle.stories.specs.Plays.{first_scene, first_world, moments_of, world_after};
 
 use crate::happening::Happening;
 use crate::player::Player;
@@ -8,7 +8,7 @@ use crate::script::StoryScript;
 use crate::turn::Turn;
 use dealer::Plans;
 use std::alloc::{AllocError, Global};
-use world::World;
+use world::SavedWorld;
 
 /// A turn, and what it did.
 #[derive(Clone, Copy)]
@@ -22,8 +22,8 @@ pub struct Moment {
 /// A world after a story, and what each turn of the story did.
 #[derive(Drop)]
 pub struct Story {
-    /// The world after the last turn. It has all messages.
-    pub world: World,
+    /// The world after the last turn.
+    pub world: SavedWorld,
     /// The turns, in order.
     pub moments: Vec<Moment>,
 }
@@ -31,8 +31,10 @@ pub struct Story {
 /// Plays a story by these plans. Returns a moment for each turn, in order. Fails only if memory runs
 /// out.
 pub fn story_of(alloc: Global, plans: Plans, script: &StoryScript) -> Result<Story, AllocError>
-    ensures moments { IfOk result (λ story. turns_of story.moments.items ≡ script.now.turns) }
-    ensures plans { IfOk result (λ story. story.world.plans ≡ plans) }
+    ensures world { IfOk result (λ story.
+        story.world ≡ world_after script.now.turns (first_world plans script.now.clients script.now.limit)) }
+    ensures moments { IfOk result (λ story. story.moments.items
+        ≡ moments_of script.now.turns (first_scene plans script.now.clients script.now.limit)) }
 {
     let mut player = Player::new(alloc, plans, script)?;
     let mut moments = Vec::new(alloc);
@@ -44,6 +46,6 @@ pub fn story_of(alloc: Global, plans: Plans, script: &StoryScript) -> Result<Sto
             happening,
         })?;
     }
-    let world = player.end()?;
+    let world = player.end();
     Ok(Story { world, moments })
 }

@@ -30,12 +30,10 @@ pub(crate) enum VoterKeeps {
 pub(crate) enum ClientKeeps {
     /// All.
     All,
-    /// The least that has to survive: its clock, its stamp, and the last grants that it gave back.
+    /// The least that has to survive: its clock and its stamp. It is idle.
     Least,
     /// Its clock, its stamp and its request, with which it asks on.
     Request,
-    /// Its clock and its stamp. It is idle.
-    Clock,
     /// Nothing.
     Nothing,
 }
@@ -153,12 +151,6 @@ fn client_again(words: &[u64], keeps: ClientKeeps) -> Option<Requester> {
         ClientKeeps::Least => client.forget(),
         // The marks and the grants are the numbers from 7 on.
         ClientKeeps::Request => return Requester::restore(without(words, 7).as_slice()),
-        ClientKeeps::Clock => {
-            client.forget();
-            // The last grants that were given back are the numbers from 74 on.
-            let words = words_of_client(&client);
-            return Requester::restore(without(words.as_slice(), 74).as_slice());
-        }
         ClientKeeps::Nothing if id < 64 => return Some(Requester::new(id, LIMIT)),
         ClientKeeps::Nothing => return None,
     }
@@ -576,15 +568,14 @@ const STAMPS: [Row; 3] = [
 ];
 
 /// A client forgets the last grants that it gave back: it asks on, or its voter uses a number twice.
-const GRANTS: [Row; 8] = [
+const GRANTS: [Row; 7] = [
     (LATE_LOCKED, ALL, 1),
     (LATE_LOCKED, LEAST, 1),
     (LATE_LOCKED, keeping!(All, Request), 2),
     (REUSED_NUMBER, ALL, 1),
     (REUSED_NUMBER, LEAST, 1),
-    (REUSED_NUMBER, keeping!(Nothing, Least), 1),
-    (REUSED_NUMBER, keeping!(Least, Clock), 1),
-    (REUSED_NUMBER, keeping!(Nothing, Clock), 2),
+    (REUSED_NUMBER, keeping!(Nothing, All), 1),
+    (REUSED_NUMBER, keeping!(Nothing, Least), 2),
 ];
 
 #[test]

@@ -74,6 +74,29 @@ const ANEW_WITH_LESS: &[Step] = &[
     Step::Deliver("locked 0 1 1 1 1"),
 ];
 
+/// Client 1 leaves, loses its state before its RELEASE arrives, starts anew with this clock, and asks. The
+/// old LOCKED comes again, then client 0's request, and then the late RELEASE.
+macro_rules! late_release {
+    ($clock:literal) => {
+        &[
+            Step::Ask(1, &[0]),
+            Step::Deliver("request 1 0 1"),
+            Step::Deliver("locked 0 1 1 1 1"),
+            Step::Leave(1),
+            Step::Anew(1, $clock),
+            Step::Ask(1, &[0]),
+            Step::Deliver("locked 0 1 1 1 1"),
+            Step::Ask(0, &[0]),
+            Step::Deliver("request 0 0 1"),
+            Step::Deliver("release 1 0 1"),
+            Step::Deliver("locked 0 0 1 2 1"),
+        ]
+    };
+}
+
+/// Such runs with the last stamp as the clock, and with one less: how many clients are inside at the end.
+const CLOCKS: [(&[Step], usize); 2] = [(late_release!(1), 1), (late_release!(0), 2)];
+
 /// How many clients are inside at the end of a run, and the turns that a guard gives to the passes of
 /// clients 0 and 1: that of the first one, twice, of the second one, and of the first one again.
 type Ending = (usize, Option<[u64; 4]>);
@@ -130,6 +153,19 @@ fn another_grants_number_lets_nothing_go(rt: HostRuntime) {
 #[test]
 fn a_client_that_starts_anew_ends_its_old_request(rt: HostRuntime) {
     assert!(rt; lets_one_in(rt.alloc(), ANEW) == Ok(true));
+}
+
+/// Returns how many clients are inside at the end.
+fn inside_after(alloc: Global, steps: &[Step]) -> Result<usize, AllocError> {
+    let (inside, _) = ending(alloc, steps)?;
+    Ok(inside)
+}
+
+#[test]
+fn a_client_that_starts_anew_behind_its_stamp_lets_two_in(rt: HostRuntime) {
+    for (steps, wanted) in &CLOCKS {
+        assert!(rt; inside_after(rt.alloc(), steps) == Ok(*wanted));
+    }
 }
 
 #[test]

@@ -5,6 +5,7 @@
 //! - `evictions` has runs with grants that are let go, and with voters and clients without their states: two
 //!   clients may be inside, and what a guard does with their passes.
 //! - `fences` shows the passes of such a run to a guard.
+//! - `nodes` has voters that wait for their saves.
 //! - `saved` restores voters and clients from changed and shortened numbers.
 //! - `wrong_rules` has a history for each of five wrong rules, which `play` plays.
 //! - `ways_in` has worlds in which messages were lost, and who then gets in.
@@ -16,6 +17,8 @@ mod crashes;
 mod evictions;
 #[cfg(test)]
 mod fences;
+#[cfg(test)]
+mod nodes;
 #[cfg(test)]
 mod play;
 #[cfg(test)]

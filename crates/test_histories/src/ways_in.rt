@@ -10,7 +10,7 @@ use world::{Step, World};
 /// two voters are a quorum, and who gets in then, if anybody.
 type Row = (u64, &'static [Step], Option<u8>);
 
-const ROWS: [Row; 7] = [
+const ROWS: [Row; 8] = [
     // nobody asks
     (9, &[], None),
     // all messages of one client were lost
@@ -21,6 +21,12 @@ const ROWS: [Row; 7] = [
     (
         9,
         &[Ask(0), Ask(1), Ask(2), Deliver(0), Deliver(3), Deliver(5)],
+        Some(0),
+    ),
+    // one round of reminders is not enough
+    (
+        9,
+        &[Ask(1), Deliver(0), Ask(0), Ask(2), Deliver(5)],
         Some(0),
     ),
     // a RELEASE was lost, and its voter's vote is out to an idle client

@@ -148,3 +148,53 @@ fn a_dictator_is_planned(rt: HostRuntime) {
     let wanted = plan_text!("1/1", "1", "1", "1 0 0");
     assert!(rt; dictator_has_plan(rt.alloc(), wanted));
 }
+
+/// Returns the load of the plan of a shape whose voters all have capacity 1, if there is a plan.
+fn load_of(alloc: Global, shape: Shape) -> Option<(u64, u64)> {
+    let coterie = built(alloc, shape).ok()?;
+    let capacities = &[1; 64][..coterie.voters()];
+    Some(plan(alloc, &coterie, capacities).ok()?.load())
+}
+
+/// Returns whether this load is `share / all`.
+fn is_share(load: Option<(u64, u64)>, share: u64, all: u64) -> bool {
+    let Some((part, whole)) = load else {
+        return false;
+    };
+    u128::from(part) * u128::from(all) == u128::from(whole) * u128::from(share)
+}
+
+/// Returns whether a tree of this height has the load 2 / (h + 2).
+fn tree_has_its_load(alloc: Global, height: u32) -> bool {
+    is_share(
+        load_of(alloc, Shape::Tree(height)),
+        2,
+        u64::from(height) + 2,
+    )
+}
+
+/// Returns whether a wheel with k voters on its rim has the load k / (2 k - 1).
+fn wheel_has_its_load(alloc: Global, rims: u32) -> bool {
+    let share = u64::from(rims);
+    is_share(
+        load_of(alloc, Shape::Wheel(rims)),
+        share,
+        share.saturating_mul(2).saturating_sub(1),
+    )
+}
+
+/// Every size of a tree has the load of Agrawal and El Abbadi's trees.
+#[test]
+fn all_trees_have_their_load(rt: HostRuntime) {
+    for height in 0..4 {
+        assert!(rt; tree_has_its_load(rt.alloc(), height));
+    }
+}
+
+/// Every size of a wheel has the load that Naor and Wool determine.
+#[test]
+fn all_wheels_have_their_load(rt: HostRuntime) {
+    for rims in 2..64 {
+        assert!(rt; wheel_has_its_load(rt.alloc(), rims));
+    }
+}

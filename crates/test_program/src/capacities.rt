@@ -1,5 +1,7 @@
 //! Coteries and plans whose voters have capacities.
-use test_runs::{FAST_HUB, FAST_HUB_PLAN, MAJORITY, Row, WHEEL_PLAN, first_wrong, plan};
+use crate::plan;
+use crate::samples::{FAST_HUB, FAST_HUB_PLAN, MAJORITY, WHEEL_PLAN};
+use crate::served::{Row, first_wrong};
 
 /// The wheel with three rims, and a third key.
 macro_rules! wheel {

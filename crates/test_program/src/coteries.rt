@@ -1,12 +1,12 @@
 //! Coteries that are made, and coteries that are refused.
+use crate::plan;
+use crate::samples::{MAJORITY, WHEEL, WHEEL_PLAN};
+use crate::served::{Row, answer, answer_planned, coterie_of_letters, first_wrong};
 use coterie_file::{read_coterie, write_coterie};
 use std::alloc::{AllocError, Global};
 use std::sync::Wait;
 use std::thread::Threads;
 use std::time::Clock;
-use test_runs::{
-    MAJORITY, Row, WHEEL, WHEEL_PLAN, answer, answer_planned, coterie_of_letters, first_wrong, plan,
-};
 
 /// What `make` writes or refuses. It reads no input.
 const MADE: [Row; 8] = [

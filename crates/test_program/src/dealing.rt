@@ -1,5 +1,6 @@
 //! Tickets that are dealt.
-use test_runs::{LONGER_PLAN, Row, WHEEL, WHEEL_PLAN, first_wrong};
+use crate::samples::{LONGER_PLAN, WHEEL, WHEEL_PLAN};
+use crate::served::{Row, first_wrong};
 
 const DEALT: [Row; 5] = [
     (

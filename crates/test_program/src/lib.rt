@@ -6,9 +6,32 @@
 //! - `gates` holds up clients.
 //! - `limits` has the commands at the greatest sizes that they take.
 //! - `faults` has the line of every fault.
+//! - `devices` has each read and each write fail, for the commands of `tables`, and `prefixes` cuts
+//!   texts short.
 //!
-//! Depends on `test_runs`, which runs the commands, and on every crate that has faults.
+//! - `served` runs a command line, and compares what it writes with the rows of a table.
+//! - `samples` has coteries, plans, scripts and records that the tests share.
+//!
+//! Depends on every crate that has faults.
 #![tactic(auto)]
+
+/// The text of a plan: its load, its cycle, the quorums' weights and the voters' weights.
+#[macro_export]
+macro_rules! plan {
+    ($load:literal, $cycle:literal, $quorums:literal, $voters:literal) => {
+        concat!(
+            "quorum-plan 1\nload ",
+            $load,
+            "\ncycle ",
+            $cycle,
+            "\nquorum ",
+            $quorums,
+            "\nvoter ",
+            $voters,
+            "\n"
+        )
+    };
+}
 
 #[cfg(test)]
 mod capacities;
@@ -16,6 +39,8 @@ mod capacities;
 mod coteries;
 #[cfg(test)]
 mod dealing;
+#[cfg(test)]
+mod devices;
 #[cfg(test)]
 mod faults;
 #[cfg(test)]
@@ -25,8 +50,16 @@ mod limits;
 #[cfg(test)]
 mod plans;
 #[cfg(test)]
+mod prefixes;
+#[cfg(test)]
 mod records;
 #[cfg(test)]
 mod running;
+#[cfg(test)]
+mod samples;
+#[cfg(test)]
+mod served;
+#[cfg(test)]
+mod tables;
 #[cfg(test)]
 mod worlds;

@@ -1,11 +1,11 @@
 //! Plans that are checked, and plans that are found.
+use crate::plan;
+use crate::samples::{MAJORITY, WHEEL};
+use crate::served::{Row, answer, answer_planned, coterie_of_letters, first_wrong};
 use std::alloc::{AllocError, Global};
 use std::sync::Wait;
 use std::thread::Threads;
 use std::time::Clock;
-use test_runs::{
-    MAJORITY, Row, WHEEL, answer, answer_planned, coterie_of_letters, first_wrong, plan,
-};
 
 const CHECKED: [Row; 14] = [
     (

@@ -1,5 +1,6 @@
 //! Records that are replayed.
-use test_runs::{MAJORITY, MAJORITY_PLAN, RECORD_ACCOUNT, Row, first_wrong};
+use crate::samples::{MAJORITY, MAJORITY_PLAN, RECORD_ACCOUNT};
+use crate::served::{Row, first_wrong};
 
 /// The text of a record of three draws and two passes: its second draw, its second pass and its
 /// register.

@@ -1,5 +1,6 @@
 //! Worlds: scripts, and all that they write.
-use test_runs::{MAJORITY, MAJORITY_PLAN, ONE, ONE_PLAN, RACE, RACE_OUTPUT, Row, first_wrong};
+use crate::samples::{MAJORITY, MAJORITY_PLAN, ONE, ONE_PLAN, RACE, RACE_OUTPUT};
+use crate::served::{Row, first_wrong};
 
 /// A vote that arrives again, after its client gave it up.
 const LATE_VOTE: &str =

@@ -2,7 +2,8 @@
 //! 0 to 999.
 //!
 //! Whoever sends a message, enters or leaves is saved first; other steps are not saved. A restart
-//! gives a voter or a client the state again that it saved last, or the least of it.
+//! gives a voter or a client the state again that it saved last, or the least of it. At the end of each
+//! schedule nobody crashes any more: then each client asks, and gets in by reminders.
 ghost use Rattle.std.specs.Prelude.{◌<◌};
 
 use crate::schedule::below;
@@ -25,7 +26,13 @@ const CLIENTS: u8 = 4;
 const VOTERS: u8 = 4;
 
 /// The greatest stamp and the greatest number of a grant.
-const LIMIT: u64 = 1000;
+const LIMIT: u64 = 100_000;
+
+/// How many rounds of reminders there are at the end of a schedule.
+const ROUNDS: u32 = 32;
+
+/// More messages than a round sends.
+const MOST_SENT: u64 = 2000;
 
 /// How often, at least, a quarter of the schedules have to try each thing that is counted.
 const OFTEN: u64 = 100;
@@ -66,6 +73,8 @@ struct Cluster {
     next: u64,
     /// The client that is inside, by what was seen.
     inside: Option<u8>,
+    /// Which clients entered since nobody crashes any more.
+    entered: [bool; 4],
     /// Whether two were inside at once, or a saved state was refused.
     broken: bool,
     rng: Pcg64,
@@ -145,6 +154,7 @@ impl Cluster {
             sent: Vec::new(alloc),
             next: 0,
             inside: None,
+            entered: [false; 4],
             broken: false,
             rng: Pcg64::seed_from_u64(seed),
             tally,
@@ -169,6 +179,13 @@ impl Cluster {
         }
     }
 
+    /// Notes which client entered.
+    fn note_entry(&mut self, client: u8) {
+        if let Some(entered) = self.entered.get_mut(usize::from(client)) {
+            *entered = true;
+        }
+    }
+
     /// Notes that a client entered or left.
     fn see(&mut self, client: u8, seen: Seen) {
         match seen {
@@ -176,6 +193,7 @@ impl Cluster {
             Seen::Entered => {
                 self.broken |= self.inside.is_some();
                 self.inside = Some(client);
+                self.note_entry(client);
                 count(&mut self.tally.entries);
             }
             Seen::Left => {
@@ -430,15 +448,48 @@ impl Cluster {
     }
 }
 
+impl Cluster {
+    /// Has whoever is inside leave, and everybody remind. Then the messages of the reminders arrive, in
+    /// order, and all that are sent on their arrival.
+    fn round(&mut self) -> Result<(), AllocError> {
+        let first = self.sent.len() as u64;
+        for client in 0..CLIENTS {
+            self.leave(client)?;
+            self.remind_client(client)?;
+        }
+        for voter in 0..VOTERS {
+            self.remind_voter(voter)?;
+        }
+        for number in first..first.saturating_add(MOST_SENT) {
+            self.deliver(number)?;
+        }
+        Ok(())
+    }
+
+    /// Has nobody crash any more, and each client ask. Returns whether all of them entered.
+    fn gets_on(&mut self) -> Result<bool, AllocError> {
+        for client in 0..CLIENTS {
+            self.leave(client)?;
+            self.ask(client)?;
+        }
+        self.entered = [false; 4];
+        for _ in 0..ROUNDS {
+            self.round()?;
+        }
+        Ok(self.entered == [true; 4])
+    }
+}
+
 /// Plays the schedule of a seed, and adds what it tried. Returns whether at most one client was
-/// inside at a time, and no saved state was refused.
+/// inside at a time, no saved state was refused, and all got in at the end.
 fn plays(alloc: Global, seed: u64, tally: &mut Tally) -> Result<bool, AllocError> {
     let mut cluster = Cluster::new(alloc, seed, *tally)?;
     for _ in 0..STEPS {
         cluster.step()?;
     }
+    let all = cluster.gets_on()?;
     *tally = cluster.tally;
-    Ok(!cluster.broken)
+    Ok(all && !cluster.broken)
 }
 
 /// Returns what the schedules of 250 seeds tried, from the first seed on. Returns `None` if one of them

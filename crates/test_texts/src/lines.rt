@@ -101,3 +101,17 @@ fn lines_are_read_as_far_as_they_go(rt: HostRuntime) -> Result<(), Fail> {
     assert!(rt; next_line::<Draws>(last.1).is_none());
     Ok(())
 }
+
+/// The number of lines of a long text: more than a megabyte of them.
+const MANY: usize = 100_000;
+
+#[test]
+fn long_texts_are_read(rt: HostRuntime) -> Result<(), Fail> {
+    let mut text = String::new(rt.alloc());
+    for _ in 0..MANY {
+        text.push_str("register 7\n")?;
+    }
+    let (numbers, rest) = first_lines::<Registers>(rt.alloc(), text.as_bytes())?;
+    assert!(rt; (numbers.len() == MANY) & rest.is_empty());
+    Ok(())
+}

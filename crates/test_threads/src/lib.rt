@@ -4,8 +4,7 @@
 //! - `clusters` makes clusters for `drives`, `gates` and `exchanges`, in which the members' plan is
 //!   exchanged for another. `gate_order` looks when a gate is called.
 //! - `waits` looks when a member of a drive yields, sleeps and reminds.
-//! - `record_texts` reads records, `record_checks` checks them, and `records_of_runs` and
-//!   `runs_of_plans` make them.
+//! - `records_of_runs` and `runs_of_plans` make records, and have them checked.
 //!
 //! The tests are not in the crates that they test, so these are proved once, and not again together
 //! with their tests.
@@ -21,10 +20,6 @@ mod exchanges;
 mod gate_order;
 #[cfg(test)]
 mod gates;
-#[cfg(test)]
-mod record_checks;
-#[cfg(test)]
-mod record_texts;
 #[cfg(test)]
 mod records_of_runs;
 #[cfg(test)]

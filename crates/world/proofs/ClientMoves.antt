@@ -21,7 +21,7 @@ use Rattle.requester.specs.Words.{is_member, members, holds_under, last_of}
 use Rattle.world.specs.Ranges.{AreInRange, IsInRange, IsWithin}
 use Rattle.world.specs.Visible.{DoMeet, IsAmong}
 use Rattle.world.specs.Rules.{ClientLaws}
-use Rattle.world.proofs.Claims.{Bounds, Names, AskOk, MessageOk, ClientOk, IsClient, VoterOk, WorldOk, IsLive-before, IsLater-self, VoterOk-later}
+use Rattle.world.proofs.Claims.{Bounds, Names, AskOk, MessageOk, ClientOk, IsClient, VoterOk, WorldOk, IsAfter, IsAfter-later, IsAfter-self, IsLive-before, VoterOk-later}
 use Rattle.world.proofs.Claims.{MessageOk-later, put, put-each, put-same}
 
 -- what came: each LOCKED names voters and stamps that are in range, and is so
@@ -46,11 +46,17 @@ grant_within b X y c s g ok names =
 
 -- ---- what is sent
 
-says_ok : (b : Bounds) (x y : ClientState) (Y : ℕ → VoterState) (c : ℕ) (cause : client.Cause) → Came b x Y c cause → IsLater x y
-    → (v : ℕ) (body : VoterBody) → Says x cause y v body → AskOk y v body
-says_ok b x y Y c cause came later v (asks.Request s) says = let same = says in omega arith
-says_ok b x y Y c cause came later v (asks.Relinquish g) says = let same = says.0 in omega arith
-says_ok b x y Y c cause came later v (asks.Release s) says = elim says [
+-- a grant that a client gave back last counts no more
+last_not_live : (x : ClientState) (v s g : ℕ) → g ≡ last_of x v → IsLive x v s g → ⊥
+last_not_live x v s g same live = let above = live.fresh in omega arith
+
+says_ok : (b : Bounds) (x y : ClientState) (X : ℕ → ClientState) (Y : ℕ → VoterState) (c : ℕ) (cause : client.Cause) → ((v : ℕ) → VoterOk b X (Y v))
+    → ((v g : ℕ) → holds_under x v g ≡ true → Names (Y v).held c x.stamp g) → Came b x Y c cause → IsLater x y
+    → (v : ℕ) (body : VoterBody) → Says x cause y v body → AskOk y (Y v) v c body
+says_ok b x y X Y c cause voters held came later v (asks.Request s) says = let same = says in omega arith
+says_ok b x y X Y c cause voters held came later v (asks.Relinquish g) says =
+    ((voters v).sound.numbered (record { client = c; stamp = x.stamp; grant = g }) (held v g says.1), λ s live names. last_not_live y v s g says.0 live)
+says_ok b x y X Y c cause voters held came later v (asks.Release s) says = elim says [
   | inl own ↦ (let same = own.0 in omega arith, λ busy. absurd (false≢true (sym busy ∙ own.1)))
   | inr other ↦
       let was = came v s other.0.0 other.0.1 in
@@ -100,32 +106,36 @@ quorum_after b x y client.Leaves draws keeps was = subst (λ (q : List ℕ). (q 
 quorum_after b x y client.GivesUp draws keeps was = subst (λ (q : List ℕ). (q ≡ []) ⊎ IsAmong b.quorums q) (sym keeps.0) was
 
 -- what is known of one message that a client sends
-record Sent (b : Bounds) (c : ℕ) (y : ClientState) (m : ToVoter) : Type 0 where
+record Sent (b : Bounds) (c : ℕ) (y : ClientState) (Y : ℕ → VoterState) (m : ToVoter) : Type 0 where
   client : m.client ≡ c
   voter : m.voter < b.voters
   number : IsWithin b.limit (voter_number m.body)
-  ok : AskOk y m.voter m.body
+  ok : AskOk y (Y m.voter) m.voter c m.body
 
-asks_ok : (b : Bounds) (W : ℕ → ClientState) (Y : ℕ → VoterState) (c : ℕ) (y : ClientState) → W c ≡ y → (out : List ToVoter) → AllByRecursion (Sent b c y) out
+asks_ok : (b : Bounds) (W : ℕ → ClientState) (Y : ℕ → VoterState) (c : ℕ) (y : ClientState) → W c ≡ y → (out : List ToVoter) → AllByRecursion (Sent b c y Y) out
     → AllByRecursion (MessageOk W Y) (map kinds.ToVoter out)
 asks_ok b W Y c y is [] h = tt
-asks_ok b W Y c y is (m ∷ ms) h = (subst (λ (w : ClientState). AskOk w m.voter m.body) (sym (ap W h.0.client ∙ is)) h.0.ok, asks_ok b W Y c y is ms h.1)
+asks_ok b W Y c y is (m ∷ ms) h = (
+  subst (λ n. AskOk (W n) (Y m.voter) m.voter n m.body) (sym h.0.client) (subst (λ (w : ClientState). AskOk w (Y m.voter) m.voter c m.body) (sym is) h.0.ok),
+  asks_ok b W Y c y is ms h.1,
+)
 
-asks_range : (b : Bounds) (c : ℕ) (y : ClientState) → c < b.clients → (out : List ToVoter) → AllByRecursion (Sent b c y) out → AreInRange b.voters b.clients b.limit (map kinds.ToVoter out)
-asks_range b c y within [] h = tt
-asks_range b c y within (m ∷ ms) h = ((subst (λ n. n < b.clients) (sym h.0.client) within, h.0.voter, h.0.number), asks_range b c y within ms h.1)
+asks_range : (b : Bounds) (c : ℕ) (y : ClientState) (Y : ℕ → VoterState) → c < b.clients → (out : List ToVoter) → AllByRecursion (Sent b c y Y) out
+    → AreInRange b.voters b.clients b.limit (map kinds.ToVoter out)
+asks_range b c y Y within [] h = tt
+asks_range b c y Y within (m ∷ ms) h = ((subst (λ n. n < b.clients) (sym h.0.client) within, h.0.voter, h.0.number), asks_range b c y Y within ms h.1)
 
 all_sent : (b : Bounds) → DoMeet b.voters b.quorums → (X : ℕ → ClientState) (Y : ℕ → VoterState) → ((v : ℕ) → VoterOk b X (Y v)) → (c : ℕ) (x y : ClientState) (cause : client.Cause) → x.id ≡ c
     → ((v g : ℕ) → holds_under x v g ≡ true → Names (Y v).held c x.stamp g) → y.limit ≡ b.limit → IsLater x y
     → (members y ≡ []) ⊎ IsAmong b.quorums (members y) → Came b x Y c cause
-    → (out : List ToVoter) → AllSay x cause y out → AllInRange cause y out → AllByRecursion (Sent b c y) out
+    → (out : List ToVoter) → AllSay x cause y out → AllInRange cause y out → AllByRecursion (Sent b c y Y) out
 all_sent b meet X Y voters c x y cause id held limit later quorum came [] say range = tt
 all_sent b meet X Y voters c x y cause id held limit later quorum came (m ∷ ms) say range = (
   record {
     client = say.0.0 ∙ id;
     voter = reached_below b meet x y Y c cause came quorum m.voter range.0.0;
     number = number_within b x y X Y cause c voters held limit m.voter m.body say.0.1 range.0.2;
-    ok = says_ok b x y Y c cause came later m.voter m.body say.0.1;
+    ok = says_ok b x y X Y c cause voters held came later m.voter m.body say.0.1;
   },
   all_sent b meet X Y voters c x y cause id held limit later quorum came ms say.1 range.1,
 )
@@ -145,27 +155,24 @@ client_moves laws b meet X Y sent ok c within cause o accepts step came draws =
     let move = laws.meets x cause o here.sound accepts step in
     let range = laws.ranges x cause o here.sound accepts (comes_in_range b x Y c cause is.limit came) step in
     let W = put X c o.state in
-    let later : (q : ℕ) → IsLater (X q) (W q) = put-each (λ q y. IsLater (X q) y) X c o.state move.later (λ q. IsLater-self (X q)) in
+    let later : (q : ℕ) → IsAfter (X q) (W q) = put-each (λ q y. IsAfter (X q) y) X c o.state (IsAfter-later x o.state move.later) (λ q. IsAfter-self (X q)) in
     let quorum = quorum_after b x o.state cause draws move.quorum here.quorum in
     let held : (v g : ℕ) → holds_under x v g ≡ true → Names (Y v).held c x.stamp g = ok.held c in
     let sent_now = all_sent b meet X Y ok.voters c x o.state cause is.id held (move.limit ∙ is.limit) move.later quorum came o.out move.out range in
     record {
-      messages = AllByRecursion-append (MessageOk W Y) sent _ (MessageOk-later X W Y later sent ok.messages) (asks_ok b W Y c o.state (put-same X c o.state) o.out sent_now);
-      ranges = AllByRecursion-append (IsInRange b.voters b.clients b.limit) sent _ ok.ranges (asks_range b c o.state within o.out sent_now);
+      messages = AllByRecursion-append (MessageOk W Y) sent _ (MessageOk-later b X W Y later ok.voters sent ok.messages) (asks_ok b W Y c o.state (put-same X c o.state) o.out sent_now);
+      ranges = AllByRecursion-append (IsInRange b.voters b.clients b.limit) sent _ ok.ranges (asks_range b c o.state Y within o.out sent_now);
       held = put-each (λ q y. (v g : ℕ) → holds_under y v g ≡ true → Names (Y v).held q y.stamp g) X c o.state
           (λ v g holds. elim (move.held v g holds) [
             | inl was ↦ subst (λ s. Names (Y v).held c s g) (sym was.1) (held v g was.0)
             | inr got ↦ let heard = came v o.state.stamp g got.0 in heard.3 (IsLive-before x o.state v o.state.stamp g move.later heard.2 got.1)
           ]) ok.held;
-      clients = put-each (λ q y. ClientOk b y) X c o.state
-          (record {
-            sound = laws.stays x cause o here.sound accepts step;
-            last = λ v. elim (move.last v) [
-              | inl same ↦ let most = here.last v in omega arith
-              | inr was ↦ (grant_within b X (Y v) c x.stamp (last_of o.state v) (ok.voters v) (held v (last_of o.state v) was)).1
-            ];
-            quorum = quorum;
-          }) ok.clients;
+      last = put-each (λ q y. (v : ℕ) → last_of y v ≤ (Y v).granted) X c o.state
+          (λ v. elim (move.last v) [
+            | inl same ↦ let most = ok.last c v in omega arith
+            | inr was ↦ (ok.voters v).sound.numbered (record { client = c; stamp = x.stamp; grant = last_of o.state v }) (held v (last_of o.state v) was)
+          ]) ok.last;
+      clients = put-each (λ q y. ClientOk b y) X c o.state (record { sound = laws.stays x cause o here.sound accepts step; quorum = quorum }) ok.clients;
       voters = λ v. VoterOk-later b X W later (Y v) (ok.voters v);
       client_ids = put-each (λ q y. q < b.clients → IsClient q b.limit y) X c o.state (λ _. record { id = move.id ∙ is.id; limit = move.limit ∙ is.limit }) ok.client_ids;
       voter_ids = ok.voter_ids;
@@ -173,27 +180,33 @@ client_moves laws b meet X Y sent ok c within cause o accepts step came draws =
 
 -- ---- reminders
 
-repeats_ok : (x : ClientState) (v : ℕ) (body : VoterBody) → Repeats x v body → AskOk x v body
-repeats_ok x v (asks.Request s) says = let same = says in omega arith
-repeats_ok x v (asks.Relinquish g) says = let same = says in omega arith
-repeats_ok x v (asks.Release s) says = absurd says
+repeats_ok : (x : ClientState) (y : VoterState) (v c : ℕ) (body : VoterBody) → last_of x v ≤ y.granted → Repeats x v body → AskOk x y v c body
+repeats_ok x y v c (asks.Request s) last says = let same = says in omega arith
+repeats_ok x y v c (asks.Relinquish g) last says = ((let same = says in omega arith), λ s live names. last_not_live x v s g says live)
+repeats_ok x y v c (asks.Release s) last says = absurd says
 
-repeat_within : (b : Bounds) (x : ClientState) → ClientOk b x → x.limit ≡ b.limit → (v : ℕ) (body : VoterBody) → Repeats x v body → SaysInRange x.limit body → IsWithin b.limit (voter_number body)
-repeat_within b x ok limit v (asks.Request s) says within = let most = within.1 in (within.0, omega arith)
-repeat_within b x ok limit v (asks.Relinquish g) says within = let least = within in let most = ok.last v in let same = says in (least, omega arith)
-repeat_within b x ok limit v (asks.Release s) says within = absurd says
+repeat_within : (b : Bounds) (X : ℕ → ClientState) (x : ClientState) (y : VoterState) → VoterOk b X y → x.limit ≡ b.limit → (v : ℕ) (body : VoterBody) → last_of x v ≤ y.granted → Repeats x v body
+    → SaysInRange x.limit body → IsWithin b.limit (voter_number body)
+repeat_within b X x y ok limit v (asks.Request s) last says within = let most = within.1 in (within.0, omega arith)
+repeat_within b X x y ok limit v (asks.Relinquish g) last says within =
+    let least = within in
+    let same = says in
+    let most = ok.sound.granted in
+    let far = ok.limit in
+    (least, omega arith)
+repeat_within b X x y ok limit v (asks.Release s) last says within = absurd says
 
-all_repeated : (b : Bounds) → DoMeet b.voters b.quorums → (c : ℕ) (x : ClientState) → ClientOk b x → x.id ≡ c → x.limit ≡ b.limit → (out : List ToVoter) → AllRepeat x out
-    → RemindersInRange x out → AllByRecursion (Sent b c x) out
-all_repeated b meet c x ok id limit [] say range = tt
-all_repeated b meet c x ok id limit (m ∷ ms) say range = (
+all_repeated : (b : Bounds) → DoMeet b.voters b.quorums → (X : ℕ → ClientState) (Y : ℕ → VoterState) → ((v : ℕ) → VoterOk b X (Y v)) → (c : ℕ) (x : ClientState) → ClientOk b x → x.id ≡ c → x.limit ≡ b.limit
+    → ((v : ℕ) → last_of x v ≤ (Y v).granted) → (out : List ToVoter) → AllRepeat x out → RemindersInRange x out → AllByRecursion (Sent b c x Y) out
+all_repeated b meet X Y voters c x ok id limit last [] say range = tt
+all_repeated b meet X Y voters c x ok id limit last (m ∷ ms) say range = (
   record {
     client = say.0.0 ∙ id;
     voter = member_below b meet x ok.quorum m.voter range.0.0;
-    number = repeat_within b x ok limit m.voter m.body say.0.1 range.0.2;
-    ok = repeats_ok x m.voter m.body say.0.1;
+    number = repeat_within b X x (Y m.voter) (voters m.voter) limit m.voter m.body (last m.voter) say.0.1 range.0.2;
+    ok = repeats_ok x (Y m.voter) m.voter c m.body (last m.voter) say.0.1;
   },
-  all_repeated b meet c x ok id limit ms say.1 range.1,
+  all_repeated b meet X Y voters c x ok id limit last ms say.1 range.1,
 )
 
 pub client_reminds : ClientLaws → (b : Bounds) → DoMeet b.voters b.quorums → (X : ℕ → ClientState) (Y : ℕ → VoterState) (sent : List Message) → WorldOk b X Y sent → (c : ℕ) → c < b.clients
@@ -203,11 +216,12 @@ client_reminds laws b meet X Y sent ok c within =
     let is = ok.client_ids c within in
     let out = client.remind x in
     let here = ok.clients c in
-    let sent_now = all_repeated b meet c x here is.id is.limit out (laws.repeats x) (laws.reminders x here.sound) in
+    let sent_now = all_repeated b meet X Y ok.voters c x here is.id is.limit (ok.last c) out (laws.repeats x) (laws.reminders x here.sound) in
     record {
       messages = AllByRecursion-append (MessageOk X Y) sent _ ok.messages (asks_ok b X Y c x refl out sent_now);
-      ranges = AllByRecursion-append (IsInRange b.voters b.clients b.limit) sent _ ok.ranges (asks_range b c x within out sent_now);
+      ranges = AllByRecursion-append (IsInRange b.voters b.clients b.limit) sent _ ok.ranges (asks_range b c x Y within out sent_now);
       held = ok.held;
+      last = ok.last;
       clients = ok.clients;
       voters = ok.voters;
       client_ids = ok.client_ids;

@@ -7,7 +7,7 @@ use Rattle.message.specs.declared.message.Message.TheVariants as kinds
 use Rattle.world.specs.declared.fault.WorldFault.{WorldFault}
 use Rattle.world.specs.declared.step.Step.{Step}
 use Rattle.world.specs.Ranges.{IsAddressed, IsInRange, IsNumbered, IsSound}
-use Rattle.world.specs.Restarts.{Goes, Node, OneClient, OneVoter, Nobody, Saved, all_happen, begin, save_and_send, happens, maker, save_unless}
+use Rattle.world.specs.Restarts.{Goes, Node, OneClient, OneVoter, Nobody, Saved, all_happen, save_and_send, happens, maker, save_unless}
 use Rattle.world.specs.Runs.{AreLimits, after, run_of, start}
 use Rattle.world.specs.Steps.{WorldState, Dealing, Outcome, client_at, step}
 use Rattle.world.specs.Visible.{DealsFrom, DoMeet}
@@ -17,8 +17,8 @@ use Rattle.world.proofs.Added.{AreDrawn-run}
 use Rattle.world.proofs.Claims.{Bounds}
 use Rattle.world.proofs.ClientMoves.{member_below}
 use Rattle.world.proofs.Exclusion.{quorum_busy}
-use Rattle.world.proofs.Reached.{Given, RunOk}
-use Rattle.world.proofs.Restarts.{all_ok, begin_ok, live_ok}
+use Rattle.world.proofs.Reached.{Given, RunOk, start_ok}
+use Rattle.world.proofs.Restarts.{all_ok, live_ok, saved_now}
 
 -- ---- the live world
 
@@ -36,12 +36,16 @@ live_run : (deal : Dealing) (steps : List Step) (s : Saved) → (all_happen deal
 live_run deal [] s = refl
 live_run deal (t ∷ steps) s = live_run deal steps (happens deal s (Goes t)) ∙ ap (run_of deal steps) (live_gone s (maker s.live t) (step deal s.live t))
 
-run_ok : (b : Bounds) → Given b → (deal : Dealing) → DealsFrom b.quorums deal → (steps : List Step) → RunOk b (run_of deal steps (start b.voters b.clients b.limit))
-run_ok b given deal deals steps =
-    let first = begin b.voters b.clients b.limit in
+-- after any steps from such a world
+pub run_from : (b : Bounds) → Given b → (deal : Dealing) → DealsFrom b.quorums deal → (steps : List Step) (w : WorldState) → RunOk b w → RunOk b (run_of deal steps w)
+run_from b given deal deals steps w first_ok =
+    let first : Saved = record { live = w; clients = w.clients; voters = w.voters } in
     let s = all_happen deal (map Goes steps) first in
-    let ok = all_ok b given deal deals (map Goes steps) first (begin_ok b given) in
+    let ok = all_ok b given deal deals (map Goes steps) first (saved_now b w first_ok) in
     subst (λ (w : WorldState). RunOk b w) (live_run deal steps first) (record { clients = ok.sizes.0; voters = ok.sizes.1; world = live_ok b s ok; walked = ok.walked })
+
+pub run_ok : (b : Bounds) → Given b → (deal : Dealing) → DealsFrom b.quorums deal → (steps : List Step) → RunOk b (run_of deal steps (start b.voters b.clients b.limit))
+run_ok b given deal deals steps = run_from b given deal deals steps (start b.voters b.clients b.limit) (start_ok b given)
 
 -- ---- what holds of a run
 
@@ -49,7 +53,7 @@ IsAddressed-in_range : (b : Bounds) (w : WorldState) → length w.clients ≡ b.
 IsAddressed-in_range b w clients voters (kinds.ToVoter m) range = (subst (λ n. m.client < n) (sym clients) range.0, subst (λ n. m.voter < n) (sym voters) range.1)
 IsAddressed-in_range b w clients voters (kinds.ToClient m) range = (subst (λ n. m.client < n) (sym clients) range.0, subst (λ n. m.voter < n) (sym voters) range.1)
 
-numbered_by : (b : Bounds) → Given b → (w : WorldState) → RunOk b w → IsNumbered w
+pub numbered_by : (b : Bounds) → Given b → (w : WorldState) → RunOk b w → IsNumbered w
 numbered_by b given w ok =
     let clients = ok.clients in
     let voters = ok.voters in
@@ -76,7 +80,7 @@ every_run cs vs voters clients limit quorums deal steps limits meets deals =
 
 -- ---- what fits together
 
-coherent_by : (b : Bounds) → Given b → (w : WorldState) → RunOk b w → IsCoherent w
+pub coherent_by : (b : Bounds) → Given b → (w : WorldState) → RunOk b w → IsCoherent w
 coherent_by b given w ok = record {
   numbered = numbered_by b given w ok;
   clients = λ c. (ok.world.clients c).sound;

@@ -6,10 +6,13 @@ pub mod ClientMoves
 pub mod EveryRun
 pub mod Exclusion
 pub mod Fences
+pub mod Mixes
 pub mod Places
 pub mod Plans
 pub mod Reached
 pub mod Refused
 pub mod Restarts
+pub mod SavedWorlds
+pub mod SavingSteps
 pub mod Traces
 pub mod VoterMoves

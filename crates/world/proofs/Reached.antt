@@ -18,7 +18,7 @@ use Rattle.voter.specs.Steps as voter
 use Rattle.requester.specs.declared.state.ClientState.{ClientState}
 use Rattle.requester.specs.RequesterContract.{IsLive, Locks}
 use Rattle.requester.specs.Steps as client
-use Rattle.requester.specs.Words.{is_inside, held_of, holds_under}
+use Rattle.requester.specs.Words.{is_inside, held_of, holds_under, last_of}
 use Rattle.world.specs.Ranges.{IsWithin, ReportsWithin}
 use Rattle.world.specs.Runs.{AreLimits, start}
 use Rattle.world.specs.Steps.{WorldState, client_at, voter_at}
@@ -71,12 +71,14 @@ record Fresh (b : Bounds) (x : ClientState) : Type 0 where
   ok : ClientOk b x
   idle : is_inside x.phase ≡ false
   held : (v : ℕ) → held_of x v ≡ 0
+  last : (v : ℕ) → last_of x v ≡ 0
 
 Fresh-start : (b : Bounds) → Given b → (id limit : ℕ) → id < 64 → 1 ≤ limit → limit ≤ 2 ^ 40 → Fresh b (client.start id limit)
 Fresh-start b given id limit few least most = record {
-  ok = record { sound = given.client.first id limit few least most; last = λ v. (let none = slice_index-replicate_zero 64 v in omega arith); quorum = inl refl };
+  ok = record { sound = given.client.first id limit few least most; quorum = inl refl };
   idle = refl;
   held = λ v. slice_index-replicate_zero 64 v;
+  last = λ v. slice_index-replicate_zero 64 v;
 }
 
 -- a voter that received nothing
@@ -164,6 +166,7 @@ start_ok b given = record {
     messages = tt;
     ranges = tt;
     held = λ c v g is. absurd (none_held (client_at (new_clients b.clients b.limit) c) v g ((fresh_at b given c).held v) is);
+    last = λ c v. (let none = (fresh_at b given c).last v in omega arith);
     clients = λ c. (fresh_at b given c).ok;
     voters = λ v. unused_ok b (client_at (new_clients b.clients b.limit)) (voter_at (new_voters b.voters b.limit) v) (unused_at b given v);
     client_ids = λ c within. subst (λ (x : ClientState). IsClient c b.limit x) (sym (client_new b.clients b.limit c within)) (record { id = refl; limit = refl });

@@ -33,7 +33,7 @@ use Rattle.std.proofs.Common.{
   eqb,
   ltb,
 }
-use Rattle.std.specs.Prelude.{◌==◌, ◌&&◌, nat_lt, replicate, slice_get, slice_index, slice_set}
+use Rattle.std.specs.Prelude.{slice_get, slice_set}
 use Rattle.std.specs.FinMap as fin
 use Rattle.std.specs.Ordering.{nat_cmp}
 use Rattle.std.proofs.lemmas.Option.{none-some}
@@ -44,6 +44,8 @@ use Rattle.numbers.proofs.Lists.{AllByRecursion-weaker, AllByRecursion-get, slic
 use Rattle.message.specs.declared.message.ToVoter.{ToVoter}
 use Rattle.message.specs.declared.message.Message.{Message}
 use Rattle.message.specs.declared.message.Message.TheVariants as kinds
+use Rattle.message.specs.declared.message.VoterBody.{VoterBody}
+use Rattle.message.specs.declared.message.VoterBody.TheVariants as asks
 use Rattle.voter.specs.declared.state.VoterState.{VoterState}
 use Rattle.voter.specs.Steps as voter
 use Rattle.requester.specs.declared.fault.ClientFault.{ClientFault}
@@ -52,12 +54,13 @@ use Rattle.requester.specs.declared.state.Seen.{Seen}
 use Rattle.requester.specs.declared.state.Seen.TheVariants.{Nothing, Entered, Left}
 use Rattle.requester.specs.declared.state.Phase.{Phase}
 use Rattle.requester.specs.declared.state.Phase.TheVariants.{Idle, Asking, Inside}
-use Rattle.requester.specs.RequesterContract.{Accepts, IsLater, Sees}
+use Rattle.requester.specs.RequesterContract.{Accepts, Sees}
+use Rattle.requester.specs.Soundness as sound
 use Rattle.requester.specs.Steps as client
 use Rattle.requester.specs.Saved.{least_client}
 use Rattle.requester.proofs.SavedLemmas.{least_is_sound}
 use Rattle.voter.specs.Saved.{least_voter}
-use Rattle.requester.specs.Words.{is_inside, holds_under}
+use Rattle.requester.specs.Words.{is_idle, is_inside, holds_under, last_of, members}
 use Rattle.quorum_set.specs.declared.bridge.Side.{Side}
 use Rattle.quorum_set.specs.declared.bridge.Side.TheVariants.{First, Second}
 use Rattle.world.specs.declared.fault.WorldFault.{WorldFault}
@@ -66,26 +69,26 @@ use Rattle.world.specs.Ranges.{IsInRange}
 use Rattle.world.specs.Restarts.{Node, OneClient, OneVoter, Nobody, Saved, Happening, Goes, Saves, Forgets, Restarts, forget, crash_seen, come_back, if_there, receiver, save}
 use Rattle.world.specs.Restarts.{restart, is_silent, save_unless, save_and_send, happens, all_happen, begin}
 use Rattle.world.specs.Runs.{AreLimits, start}
-use Rattle.world.specs.Steps.{Dealing, Outcome, after_client, after_voter, client_at, client_did, come, draw_of, events, exchange, if_client, if_voter, next_ticket, quorum_dealt}
+use Rattle.world.specs.Steps.{Dealing, Outcome, WorldState, after_client, after_voter, client_at, client_did, come, draw_of, events, exchange, if_client, if_voter, next_ticket, quorum_dealt}
 use Rattle.world.specs.Steps.{say, step, voter_at, voter_did}
 use Rattle.world.specs.Visible.{DealsFrom, DoMeet, IsExclusive}
 use Rattle.world.specs.Rules.{ClientLaws, VoterLaws}
-use Rattle.world.proofs.Claims.{Bounds, Names, AskOk, ReportOk, MessageOk, ClientOk, IsClient, VoterOk, WorldOk, IsLater-self, VoterOk-later}
+use Rattle.world.proofs.Claims.{Bounds, Names, AskOk, ReportOk, MessageOk, ClientOk, IsClient, VoterOk, WorldOk, IsAfter, IsAfter-idle, IsAfter-self, VoterOk-later}
 use Rattle.world.proofs.Claims.{MessageOk-later, put, put-each, put-same}
 use Rattle.world.proofs.ClientMoves.{Came, Draws, client_moves, client_reminds}
 use Rattle.world.proofs.VoterMoves.{voter_moves, voter_reminds}
 use Rattle.world.proofs.Exclusion.{Walked, one_inside, Walked-step}
 use Rattle.world.proofs.Places.{client_at-set, voter_at-set}
-use Rattle.world.proofs.Reached.{Given, start_ok, came_by, accepts_among}
+use Rattle.world.proofs.Reached.{Given, RunOk, start_ok, came_by, accepts_among}
 
 -- ---- mixes
 
 -- at each number one of the two
-abbrev Mix : {A : Type 0} → (ℕ → A) → (ℕ → A) → (ℕ → A) → Type 0
+abbrev pub Mix : {A : Type 0} → (ℕ → A) → (ℕ → A) → (ℕ → A) → Type 0
 Mix L K X = (q : ℕ) → (X q ≡ L q) ⊎ (X q ≡ K q)
 
 -- the same at each number but one
-abbrev MixBut : {A : Type 0} → ℕ → (ℕ → A) → (ℕ → A) → (ℕ → A) → Type 0
+abbrev pub MixBut : {A : Type 0} → ℕ → (ℕ → A) → (ℕ → A) → (ℕ → A) → Type 0
 MixBut c L K X = (q : ℕ) → q ≢ c → (X q ≡ L q) ⊎ (X q ≡ K q)
 
 abbrev Mixes : Bounds → (ℕ → ClientState) → (ℕ → ClientState) → (ℕ → VoterState) → (ℕ → VoterState) → List Message → Type 0
@@ -106,25 +109,25 @@ by_number P X c x q here there = elim (eqb q c) as (λ b. eqb q c ≡ b → P (c
 unput : {A : Type 0} (X : ℕ → A) (c : ℕ) (x y : A) → X c ≡ y → put (put X c x) c y ≡ X
 unput X c x y is = λ i q. by_number (λ z. z ≡ X q) (put X c x) c y q (λ same. sym is ∙ ap X (sym same)) (λ other. put-other X c x q other) i
 
-Mix-back : {A : Type 0} (L K X : ℕ → A) (c : ℕ) → MixBut c L K X → Mix L K (put X c (L c))
+pub Mix-back : {A : Type 0} (L K X : ℕ → A) (c : ℕ) → MixBut c L K X → Mix L K (put X c (L c))
 Mix-back L K X c others q = by_number (λ z. (z ≡ L q) ⊎ (z ≡ K q)) X c (L c) q (λ same. inl (ap L (sym same))) (others q)
 
-MixBut-put : {A : Type 0} (L K X : ℕ → A) (c : ℕ) (x y : A) → Mix (put L c x) (put K c y) X → MixBut c L K X
+pub MixBut-put : {A : Type 0} (L K X : ℕ → A) (c : ℕ) (x y : A) → Mix (put L c x) (put K c y) X → MixBut c L K X
 MixBut-put L K X c x y mix q other = elim (mix q) [ inl e ↦ inl (e ∙ put-other L c x q other) | inr e ↦ inr (e ∙ put-other K c y q other) ]
 
-MixBut-put_left : {A : Type 0} (L K X : ℕ → A) (c : ℕ) (x : A) → Mix (put L c x) K X → MixBut c L K X
+pub MixBut-put_left : {A : Type 0} (L K X : ℕ → A) (c : ℕ) (x : A) → Mix (put L c x) K X → MixBut c L K X
 MixBut-put_left L K X c x mix q other = elim (mix q) [ inl e ↦ inl (e ∙ put-other L c x q other) | inr e ↦ inr e ]
 
 MixBut-put_right : {A : Type 0} (L K X : ℕ → A) (c : ℕ) (x : A) → Mix L (put K c x) X → MixBut c L K X
 MixBut-put_right L K X c x mix q other = elim (mix q) [ inl e ↦ inl e | inr e ↦ inr (e ∙ put-other K c x q other) ]
 
-Mix-with : {A : Type 0} (L K X : ℕ → A) (c : ℕ) → MixBut c L K X → (X c ≡ L c) ⊎ (X c ≡ K c) → Mix L K X
+pub Mix-with : {A : Type 0} (L K X : ℕ → A) (c : ℕ) → MixBut c L K X → (X c ≡ L c) ⊎ (X c ≡ K c) → Mix L K X
 Mix-with L K X c others at q = elim (cases_eq q c) [
   | inl same ↦ subst (λ n. (X n ≡ L n) ⊎ (X n ≡ K n)) (sym same) at
   | inr other ↦ others q other
 ]
 
-put-both : {A : Type 0} (L K X : ℕ → A) (c : ℕ) (x : A) → Mix (put L c x) (put K c x) X → X c ≡ x
+pub put-both : {A : Type 0} (L K X : ℕ → A) (c : ℕ) (x : A) → Mix (put L c x) (put K c x) X → X c ≡ x
 put-both L K X c x mix = elim (mix c) [ inl e ↦ e ∙ put-same L c x | inr e ↦ e ∙ put-same K c x ]
 
 -- ---- a client's step
@@ -167,28 +170,32 @@ client_quiet laws b meet L K M N sent all c cause o act none X Y mix other = eli
 
 -- ---- a voter's step
 
-record Votes (b : Bounds) (M : ℕ → VoterState) (sent : List Message) (m : ToVoter) (o : voter.Outcome) : Type 0 where
+-- what the message says is so in each mix
+abbrev pub IsAsked : Bounds → (ℕ → ClientState) → (ℕ → ClientState) → List Message → ToVoter → Type 0
+IsAsked b L K sent m = (X : ℕ → ClientState) (Y : ℕ → VoterState) → Mix L K X → WorldOk b X Y sent → AskOk (X m.client) (Y m.voter) m.voter m.client m.body
+
+record Votes (b : Bounds) (L K : ℕ → ClientState) (M : ℕ → VoterState) (sent : List Message) (m : ToVoter) (o : voter.Outcome) : Type 0 where
   range : IsInRange b.voters b.clients b.limit (kinds.ToVoter m)
-  asked : (X : ℕ → ClientState) (Y : ℕ → VoterState) → WorldOk b X Y sent → AskOk (X m.client) m.voter m.body
+  asked : IsAsked b L K sent m
   step : voter.step (M m.voter) m ≡ Some o
 
 voter_mix : VoterLaws → (b : Bounds) (L K : ℕ → ClientState) (M N : ℕ → VoterState) (sent : List Message) → Mixes b L K M N sent
-    → (m : ToVoter) (o : voter.Outcome) → Votes b M sent m o
+    → (m : ToVoter) (o : voter.Outcome) → Votes b L K M sent m o
     → (X : ℕ → ClientState) (Y : ℕ → VoterState) → Mix L K X → Y m.voter ≡ o.state → MixBut m.voter M N Y → WorldOk b X Y (sent ++ map kinds.ToClient o.replies)
 voter_mix laws b L K M N sent all m o act X Y mix here others =
     let Z = put Y m.voter (M m.voter) in
     let at : M m.voter ≡ Z m.voter = sym (put-same Y m.voter (M m.voter)) in
     let world = all X Z mix (Mix-back M N Y m.voter others) in
     subst (λ (W : ℕ → VoterState). WorldOk b X W (sent ++ map kinds.ToClient o.replies)) (unput Y m.voter (M m.voter) o.state here)
-    (voter_moves laws b X Z sent world m act.range (act.asked X Z world) o (subst (λ (y : VoterState). voter.step y m ≡ Some o) at act.step))
+    (voter_moves laws b X Z sent world m act.range (act.asked X Z mix world) o (subst (λ (y : VoterState). voter.step y m ≡ Some o) at act.step))
 
 voter_loud : VoterLaws → (b : Bounds) (L K : ℕ → ClientState) (M N : ℕ → VoterState) (sent : List Message) → Mixes b L K M N sent
-    → (m : ToVoter) (o : voter.Outcome) → Votes b M sent m o → Mixes b L K (put M m.voter o.state) (put N m.voter o.state) (sent ++ map kinds.ToClient o.replies)
+    → (m : ToVoter) (o : voter.Outcome) → Votes b L K M sent m o → Mixes b L K (put M m.voter o.state) (put N m.voter o.state) (sent ++ map kinds.ToClient o.replies)
 voter_loud laws b L K M N sent all m o act X Y other mix =
     voter_mix laws b L K M N sent all m o act X Y other (put-both M N Y m.voter o.state mix) (MixBut-put M N Y m.voter o.state o.state mix)
 
 voter_quiet : VoterLaws → (b : Bounds) (L K : ℕ → ClientState) (M N : ℕ → VoterState) (sent : List Message) → Mixes b L K M N sent
-    → (m : ToVoter) (o : voter.Outcome) → Votes b M sent m o → sent ≡ sent ++ map kinds.ToClient o.replies → Mixes b L K (put M m.voter o.state) N (sent ++ map kinds.ToClient o.replies)
+    → (m : ToVoter) (o : voter.Outcome) → Votes b L K M sent m o → sent ≡ sent ++ map kinds.ToClient o.replies → Mixes b L K (put M m.voter o.state) N (sent ++ map kinds.ToClient o.replies)
 voter_quiet laws b L K M N sent all m o act none X Y other mix = elim (mix m.voter) [
   | inl e ↦ voter_mix laws b L K M N sent all m o act X Y other (e ∙ put-same M m.voter o.state) (MixBut-put_left M N Y m.voter o.state mix)
   | inr e ↦ subst (λ (ms : List Message). WorldOk b X Y ms) none (all X Y other (Mix-with M N Y m.voter (MixBut-put_left M N Y m.voter o.state mix) (inr e)))
@@ -201,11 +208,11 @@ Mixes-fewer : (b : Bounds) (L K P R : ℕ → ClientState) (M N S T : ℕ → Vo
 Mixes-fewer b L K P R M N S T sent all clients voters X Y mix other = all X Y (clients X mix) (voters Y other)
 
 -- with the saved one at c made the live one
-Mix-saved : {A : Type 0} (L K : ℕ → A) (c : ℕ) (X : ℕ → A) → Mix L (put K c (L c)) X → Mix L K X
+pub Mix-saved : {A : Type 0} (L K : ℕ → A) (c : ℕ) (X : ℕ → A) → Mix L (put K c (L c)) X → Mix L K X
 Mix-saved L K c X mix = Mix-with L K X c (MixBut-put_right L K X c (L c) mix) (elim (mix c) [ inl e ↦ inl e | inr e ↦ inl (e ∙ put-same K c (L c)) ])
 
 -- with the live one at c made the saved one
-Mix-restarted : {A : Type 0} (L K : ℕ → A) (c : ℕ) (X : ℕ → A) → Mix (put L c (K c)) K X → Mix L K X
+pub Mix-restarted : {A : Type 0} (L K : ℕ → A) (c : ℕ) (X : ℕ → A) → Mix (put L c (K c)) K X → Mix L K X
 Mix-restarted L K c X mix = Mix-with L K X c (MixBut-put_left L K X c (K c) mix) (elim (mix c) [ inl e ↦ inr (e ∙ put-same L c (K c)) | inr e ↦ inr e ])
 
 -- ---- a world whose nodes are saved
@@ -240,16 +247,16 @@ Behind-kept K L c behind q = by_number (λ y. is_inside y.phase ≡ true → is_
 Behind-out : (K L : ℕ → ClientState) (c : ℕ) (x : ClientState) → is_inside x.phase ≡ false → Behind K L → Behind (put K c x) L
 Behind-out K L c x out behind q = by_number (λ y. is_inside y.phase ≡ true → is_inside (L q).phase ≡ true) K c x q (λ same e. absurd (false≢true (sym out ∙ e))) (λ _. behind q)
 
-silent_parts : (n : ℕ) (seen : Seen) → is_silent n seen ≡ true → (n ≡ 0) × (seen ≡ Nothing)
+pub silent_parts : (n : ℕ) (seen : Seen) → is_silent n seen ≡ true → (n ≡ 0) × (seen ≡ Nothing)
 silent_parts n Nothing e = (grind (arith, nat_tests), refl)
 silent_parts n Entered e = absurd (false≢true e)
 silent_parts n Left e = absurd (false≢true e)
 
-none_of : {A : Type 0} (f : A → Message) (sent : List Message) (out : List A) → length out ≡ 0 → sent ≡ sent ++ map f out
+pub none_of : {A : Type 0} (f : A → Message) (sent : List Message) (out : List A) → length out ≡ 0 → sent ≡ sent ++ map f out
 none_of f sent [] e = sym (append-nil sent)
 none_of f sent (x ∷ xs) e = absurd (omega arith)
 
-nothing_more : (sent more : List Message) → length more ≡ 0 → sent ≡ sent ++ more
+pub nothing_more : (sent more : List Message) → length more ≡ 0 → sent ≡ sent ++ more
 nothing_more sent [] e = sym (append-nil sent)
 nothing_more sent (x ∷ xs) e = absurd (omega arith)
 
@@ -304,7 +311,7 @@ client_gone b given s ok c cause o act true is =
       insides = subst (λ (W : ℕ → ClientState). Behind K W) same (Behind-live K L c o.state ok.insides (λ e. sym alike ∙ ok.insides c e));
     }
 
-client_tried : (b : Bounds) → Given b → (s : Saved) → SavedOk b s → (c : ℕ) → c < length s.live.clients → (cause : client.Cause)
+pub client_tried : (b : Bounds) → Given b → (s : Saved) → SavedOk b s → (c : ℕ) → c < length s.live.clients → (cause : client.Cause)
     → Accepts (client_at s.live.clients c) cause → CameAll b (client_at s.live.clients) s.live.sent c cause → Draws b cause
     → (r : Result client.Outcome ClientFault) → client.step (client_at s.live.clients c) cause ≡ r → SavedOk b (save_and_send s (OneClient c) (after_client s.live c r))
 client_tried b given s ok c within cause accepts came draws (Ok o) is =
@@ -327,7 +334,8 @@ client_drew b given s ok c within cause accepts came draws side (Err fault) is =
 
 -- ---- a voter's step, in the lists
 
-voter_gone : (b : Bounds) → Given b → (s : Saved) → SavedOk b s → (m : ToVoter) (o : voter.Outcome) → Votes b (voter_at s.live.voters) s.live.sent m o
+voter_gone : (b : Bounds) → Given b → (s : Saved) → SavedOk b s → (m : ToVoter) (o : voter.Outcome)
+    → Votes b (client_at s.live.clients) (client_at s.clients) (voter_at s.live.voters) s.live.sent m o
     → (silent : Bool) → is_silent (length o.replies) Nothing ≡ silent → SavedOk b (save_unless silent (OneVoter m.voter) (record s { live = (voter_did s.live m.voter o).state }))
 voter_gone b given s ok m o act false is =
     let M = voter_at s.live.voters in
@@ -364,8 +372,8 @@ voter_gone b given s ok m o act true is =
       insides = ok.insides;
     }
 
-voter_tried : (b : Bounds) → Given b → (s : Saved) → SavedOk b s → (m : ToVoter) → IsInRange b.voters b.clients b.limit (kinds.ToVoter m)
-    → ((X : ℕ → ClientState) (Y : ℕ → VoterState) → WorldOk b X Y s.live.sent → AskOk (X m.client) m.voter m.body)
+pub voter_tried : (b : Bounds) → Given b → (s : Saved) → SavedOk b s → (m : ToVoter) → IsInRange b.voters b.clients b.limit (kinds.ToVoter m)
+    → IsAsked b (client_at s.live.clients) (client_at s.clients) s.live.sent m
     → (r : Option voter.Outcome) → voter.step (voter_at s.live.voters m.voter) m ≡ r → SavedOk b (save_and_send s (OneVoter m.voter) (after_voter s.live m.voter r))
 voter_tried b given s ok m range asked (Some o) is = voter_gone b given s ok m o (record { range = range; asked = asked; step = is }) _ refl
 voter_tried b given s ok m range asked None is = ok
@@ -468,12 +476,19 @@ restart_ok b given (OneVoter v) s ok = elim (within_or s.live.voters v) [
 
 -- ---- all but the least is lost
 
-nothing_held_under : (v g : ℕ) → (nat_lt 0 (slice_index (replicate 64 0) v) && (slice_index (replicate 64 0) v == g)) ≡ true → ⊥
-nothing_held_under v g is = let none = slice_index-replicate_zero 64 v in grind (arith, nat_tests)
+-- the vote and the number of grants are the same
+record HasSameVote (y z : VoterState) : Type 0 where
+  held : y.held ≡ z.held
+  granted : y.granted ≡ z.granted
 
-reported_same : (X : ℕ → ClientState) (Y Z : ℕ → VoterState) → ((q : ℕ) → (Y q).held ≡ (Z q).held) → (m : Message) → MessageOk X Y m → MessageOk X Z m
-reported_same X Y Z same (kinds.ToVoter m) ok = ok
-reported_same X Y Z same (kinds.ToClient m) ok = subst (λ held. ReportOk (X m.client) held m.voter m.client m.body) (same m.voter) ok
+asked_same : (x : ClientState) (y z : VoterState) (v c : ℕ) (body : VoterBody) → HasSameVote y z → AskOk x y v c body → AskOk x z v c body
+asked_same x y z v c (asks.Request t) same ok = ok
+asked_same x y z v c (asks.Relinquish g) same ok = (subst (λ n. g ≤ n) same.granted ok.0, λ t live names. ok.1 t live (same.held ∙ names))
+asked_same x y z v c (asks.Release t) same ok = ok
+
+reported_same : (X : ℕ → ClientState) (Y Z : ℕ → VoterState) → ((q : ℕ) → HasSameVote (Y q) (Z q)) → (m : Message) → MessageOk X Y m → MessageOk X Z m
+reported_same X Y Z same (kinds.ToVoter m) ok = asked_same (X m.client) (Y m.voter) (Z m.voter) m.voter m.client m.body (same m.voter) ok
+reported_same X Y Z same (kinds.ToClient m) ok = subst (λ held. ReportOk (X m.client) held m.voter m.client m.body) (same m.voter).held ok
 
 least_voter_ok : (b : Bounds) (X : ℕ → ClientState) (y : VoterState) → VoterOk b X y → VoterOk b X (least_voter y)
 least_voter_ok b X y ok = record {
@@ -496,34 +511,59 @@ least_voter_ok b X y ok = record {
 voter_less : (b : Bounds) (X : ℕ → ClientState) (Y : ℕ → VoterState) (sent : List Message) (v : ℕ) → WorldOk b X Y sent → WorldOk b X (put Y v (least_voter (Y v))) sent
 voter_less b X Y sent v ok =
     let Z = put Y v (least_voter (Y v)) in
-    let same : (q : ℕ) → (Y q).held ≡ (Z q).held = λ q. by_number (λ z. (Y q).held ≡ z.held) Y v (least_voter (Y v)) q (λ is. ap (λ n. (Y n).held) is) (λ _. refl) in
+    let same : (q : ℕ) → HasSameVote (Y q) (Z q) = put-each (λ q z. HasSameVote (Y q) z) Y v (least_voter (Y v)) (record { held = refl; granted = refl }) (λ q. record { held = refl; granted = refl }) in
     record {
       messages = AllByRecursion-weaker (MessageOk X Y) (MessageOk X Z) (reported_same X Y Z same) sent ok.messages;
       ranges = ok.ranges;
-      held = λ c q g is. sym (same q) ∙ ok.held c q g is;
+      held = λ c q g is. sym (same q).held ∙ ok.held c q g is;
+      last = λ c q. subst (λ n. last_of (X c) q ≤ n) (same q).granted (ok.last c q);
       clients = ok.clients;
       voters = put-each (λ q z. VoterOk b X z) Y v (least_voter (Y v)) (least_voter_ok b X (Y v) (ok.voters v)) ok.voters;
       client_ids = ok.client_ids;
       voter_ids = put-each (λ q z. q < b.voters → z.id ≡ q) Y v (least_voter (Y v)) (ok.voter_ids v) ok.voter_ids;
     }
 
-least_is_later : (x : ClientState) → IsLater x (least_client x)
-least_is_later x = record { stamp = omega arith; last = λ v. omega arith; idle = λ _ _. refl }
+-- What a client comes back with, if it lost its state: it is idle, no stamp fell, and it gave back no
+-- grant that it had not given back before.
+pub record ComesBack (x y : ClientState) : Type 0 where
+  pub sound : sound.IsSound y
+  pub id : y.id ≡ x.id
+  pub limit : y.limit ≡ x.limit
+  pub stamp : x.stamp ≤ y.stamp
+  pub idle : is_idle y.phase ≡ true
+  pub last : (v : ℕ) → last_of y v ≤ last_of x v
+  pub quorum : members y ≡ []
 
-client_less : (b : Bounds) (X : ℕ → ClientState) (Y : ℕ → VoterState) (sent : List Message) (c : ℕ) → WorldOk b X Y sent → WorldOk b (put X c (least_client (X c))) Y sent
-client_less b X Y sent c ok =
-    let W = put X c (least_client (X c)) in
-    let later : (q : ℕ) → IsLater (X q) (W q) = put-each (λ q y. IsLater (X q) y) X c (least_client (X c)) (least_is_later (X c)) (λ q. IsLater-self (X q)) in
+held_busy : (x : ClientState) → sound.IsSound x → (v g : ℕ) → holds_under x v g ≡ true → is_idle x.phase ≡ false
+held_busy x ok v g is = (ok.held v (grind (arith, nat_tests))).busy
+
+pub client_less : (b : Bounds) (X : ℕ → ClientState) (Y : ℕ → VoterState) (sent : List Message) (c : ℕ) (y : ClientState) → WorldOk b X Y sent → ComesBack (X c) y → WorldOk b (put X c y) Y sent
+client_less b X Y sent c y ok back =
+    let W = put X c y in
+    let later : (q : ℕ) → IsAfter (X q) (W q) = put-each (λ q z. IsAfter (X q) z) X c y (IsAfter-idle (X c) y back.stamp back.idle) (λ q. IsAfter-self (X q)) in
     record {
-      messages = MessageOk-later X W Y later sent ok.messages;
+      messages = MessageOk-later b X W Y later ok.voters sent ok.messages;
       ranges = ok.ranges;
-      held = put-each (λ q y. (v g : ℕ) → holds_under y v g ≡ true → Names (Y v).held q y.stamp g) X c (least_client (X c)) (λ v g is. absurd (nothing_held_under v g is)) ok.held;
-      clients = put-each (λ q y. ClientOk b y) X c (least_client (X c)) (record { sound = least_is_sound (X c) (ok.clients c).sound; last = (ok.clients c).last; quorum = inl refl }) ok.clients;
+      held = put-each (λ q z. (v g : ℕ) → holds_under z v g ≡ true → Names (Y v).held q z.stamp g) X c y
+          (λ v g is. absurd (false≢true (sym (held_busy y back.sound v g is) ∙ back.idle))) ok.held;
+      last = put-each (λ q z. (v : ℕ) → last_of z v ≤ (Y v).granted) X c y (λ v. (let less = back.last v in let most = ok.last c v in omega arith)) ok.last;
+      clients = put-each (λ q z. ClientOk b z) X c y (record { sound = back.sound; quorum = inl back.quorum }) ok.clients;
       voters = λ v. VoterOk-later b X W later (Y v) (ok.voters v);
-      client_ids = put-each (λ q y. q < b.clients → IsClient q b.limit y) X c (least_client (X c))
-          (λ within. record { id = (ok.client_ids c within).id; limit = (ok.client_ids c within).limit }) ok.client_ids;
+      client_ids = put-each (λ q z. q < b.clients → IsClient q b.limit z) X c y
+          (λ within. record { id = back.id ∙ (ok.client_ids c within).id; limit = back.limit ∙ (ok.client_ids c within).limit }) ok.client_ids;
       voter_ids = ok.voter_ids;
     }
+
+least_comes_back : (x : ClientState) → sound.IsSound x → ComesBack x (least_client x)
+least_comes_back x ok = record {
+  sound = least_is_sound x ok;
+  id = refl;
+  limit = refl;
+  stamp = omega arith;
+  idle = refl;
+  last = λ v. (let none = slice_index-replicate_zero 64 v in omega arith);
+  quorum = refl;
+}
 
 Mix-other : {A : Type 0} (L K X : ℕ → A) (c : ℕ) → MixBut c L K X → Mix L K (put X c (K c))
 Mix-other L K X c others q = by_number (λ z. (z ≡ L q) ⊎ (z ≡ K q)) X c (K c) q (λ same. inr (ap K (sym same))) (others q)
@@ -536,7 +576,7 @@ client_forgets b L K M N sent c all X Y mix other =
       | inr e ↦
           let Z = put X c (K c) in
           subst (λ (W : ℕ → ClientState). WorldOk b W Y sent) (unput X c (K c) (least_client (Z c)) (e ∙ put-same K c (least_client (K c)) ∙ ap (λ x. least_client x) (sym (put-same X c (K c)))))
-          (client_less b Z Y sent c (all Z Y (Mix-other L K X c others) other))
+          (let world = all Z Y (Mix-other L K X c others) other in client_less b Z Y sent c (least_client (Z c)) world (least_comes_back (Z c) (world.clients c).sound))
     ]
 
 voter_forgets : (b : Bounds) (L K : ℕ → ClientState) (M N : ℕ → VoterState) (sent : List Message) (v : ℕ) → Mixes b L K M N sent → Mixes b L K M (put N v (least_voter (N v))) sent
@@ -632,12 +672,12 @@ voter_said b given s ok v within true is =
 
 -- ---- all that may happen
 
-if_one : (b : Bounds) (s : Saved) → SavedOk b s → (who : Node) (t : Bool) (c : ℕ) (next : Result Outcome WorldFault) → (t ≡ true → SavedOk b (save_and_send s who next)) → SavedOk b
+pub if_one : (b : Bounds) (s : Saved) → SavedOk b s → (who : Node) (t : Bool) (c : ℕ) (next : Result Outcome WorldFault) → (t ≡ true → SavedOk b (save_and_send s who next)) → SavedOk b
     (save_and_send s who (if_client t c next))
 if_one b s ok who true c next then = then refl
 if_one b s ok who false c next then = ok
 
-if_voter_one : (b : Bounds) (s : Saved) → SavedOk b s → (who : Node) (t : Bool) (v : ℕ) (next : Result Outcome WorldFault) → (t ≡ true → SavedOk b (save_and_send s who next)) → SavedOk b
+pub if_voter_one : (b : Bounds) (s : Saved) → SavedOk b s → (who : Node) (t : Bool) (v : ℕ) (next : Result Outcome WorldFault) → (t ≡ true → SavedOk b (save_and_send s who next)) → SavedOk b
     (save_and_send s who (if_voter t v next))
 if_voter_one b s ok who true v next then = then refl
 if_voter_one b s ok who false v next then = ok
@@ -657,7 +697,7 @@ comes_ok : (b : Bounds) → Given b → (s : Saved) → SavedOk b s → (k : ℕ
     → ((m : Message) → o ≡ Some m → IsInRange b.voters b.clients b.limit m) → SavedOk b (save_and_send s (receiver o) (come s.live k o))
 comes_ok b given s ok k None known range = ok
 comes_ok b given s ok k (Some (kinds.ToVoter m)) known range =
-    voter_tried b given s ok m (range (kinds.ToVoter m) refl) (λ X Y world. known X Y world (kinds.ToVoter m) refl) _ refl
+    voter_tried b given s ok m (range (kinds.ToVoter m) refl) (λ X Y mix world. known X Y world (kinds.ToVoter m) refl) _ refl
 comes_ok b given s ok k (Some (kinds.ToClient m)) known range =
     let within = range (kinds.ToClient m) refl in
     let few = given.limits.few_voters in
@@ -693,20 +733,21 @@ all_ok b given deal deals (h ∷ hs) s ok = all_ok b given deal deals hs (happen
 
 -- ---- the first world
 
-Mix-same : {A : Type 0} (L X : ℕ → A) → Mix L L X → L ≡ X
+pub Mix-same : {A : Type 0} (L X : ℕ → A) → Mix L L X → L ≡ X
 Mix-same L X mix = λ i q. sym (elim (mix q) [ inl e ↦ e | inr e ↦ e ]) i
 
+-- a world whose nodes are all saved as they are
+pub saved_now : (b : Bounds) (w : WorldState) → RunOk b w → SavedOk b (record { live = w; clients = w.clients; voters = w.voters })
+saved_now b w ok = record {
+  sizes = (ok.clients, ok.voters, ok.clients, ok.voters);
+  mixes = λ X Y mix other. subst (λ (V : ℕ → ClientState). WorldOk b V Y w.sent) (Mix-same (client_at w.clients) X mix)
+      (subst (λ (V : ℕ → VoterState). WorldOk b (client_at w.clients) V w.sent) (Mix-same (voter_at w.voters) Y other) ok.world);
+  walked = ok.walked;
+  insides = λ c e. e;
+}
+
 pub begin_ok : (b : Bounds) → Given b → SavedOk b (begin b.voters b.clients b.limit)
-begin_ok b given =
-    let w = start b.voters b.clients b.limit in
-    let ok = start_ok b given in
-    record {
-      sizes = (ok.clients, ok.voters, ok.clients, ok.voters);
-      mixes = λ X Y mix other. subst (λ (V : ℕ → ClientState). WorldOk b V Y w.sent) (Mix-same (client_at w.clients) X mix)
-          (subst (λ (V : ℕ → VoterState). WorldOk b (client_at w.clients) V w.sent) (Mix-same (voter_at w.voters) Y other) ok.world);
-      walked = ok.walked;
-      insides = λ c e. e;
-    }
+begin_ok b given = saved_now b (start b.voters b.clients b.limit) (start_ok b given)
 
 -- over every list of happenings
 pub every_restart : ClientLaws → VoterLaws → (voters clients limit : ℕ) (quorums : List (List ℕ)) (deal : Dealing) (hs : List Happening)

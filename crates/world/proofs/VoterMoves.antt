@@ -17,7 +17,7 @@ use Rattle.voter.specs.declared.state.Grant.{Grant}
 use Rattle.voter.specs.declared.state.VoterState.{VoterState}
 use Rattle.voter.specs.Replies.{AllCarry, AllReportPlace, ReportsPlace, seen_after}
 use Rattle.voter.specs.Steps as voter
-use Rattle.voter.specs.VoteMoves.{VoteMoves}
+use Rattle.voter.specs.VoteMoves.{GrantIsNew, VoteMoves}
 use Rattle.voter.specs.VoterContract.{AllReport, Brings, Ends, ReportsVote}
 use Rattle.requester.specs.declared.state.ClientState.{ClientState}
 use Rattle.requester.specs.RequesterContract.{IsLive}
@@ -26,7 +26,7 @@ use Rattle.requester.specs.Words.{holds, holds_under, held_of}
 use Rattle.world.specs.Ranges.{AreInRange, IsInRange, IsWithin, ReportsWithin}
 use Rattle.world.specs.Rules.{VoterLaws}
 use Rattle.world.proofs.Claims.{Bounds, AskOk, ReportOk, MessageOk, HeldOk, ClientOk, EntryOk, VoterOk, WorldOk, VotesKeep, SparesLive, AskOk-not_ends, Ends-client, Names-still}
-use Rattle.world.proofs.Claims.{MessageOk-keep, put, put-each, put-same}
+use Rattle.world.proofs.Claims.{GrantsMore, GrantsMore-self, MessageOk-keep, put, put-each, put-same}
 
 -- ---- what is replied
 
@@ -92,15 +92,15 @@ replies_range b X v y within ok (r ∷ rs) heard =
 
 -- ---- the voter afterwards
 
-EntryOk-brought : (b : Bounds) (X : ℕ → ClientState) (v c : ℕ) (body : VoterBody) → c < b.clients → IsWithin b.limit (voter_number body) → AskOk (X c) v body → (d s : ℕ)
+EntryOk-brought : (b : Bounds) (X : ℕ → ClientState) (y : VoterState) (v c : ℕ) (body : VoterBody) → c < b.clients → IsWithin b.limit (voter_number body) → AskOk (X c) y v c body → (d s : ℕ)
     → Brings c body d s → EntryOk b X d s
-EntryOk-brought b X v c (asks.Request stamp) client within ok d s brings = record {
+EntryOk-brought b X y v c (asks.Request stamp) client within ok d s brings = record {
   client = subst (λ n. n < b.clients) (sym brings.0) client;
   stamp = subst (λ n. IsWithin b.limit n) (sym brings.1) within;
   reached = subst (λ n. s ≤ (X n).stamp) (sym brings.0) (subst (λ n. n ≤ (X c).stamp) (sym brings.1) ok);
 }
-EntryOk-brought b X v c (asks.Relinquish g) client within ok d s brings = absurd brings
-EntryOk-brought b X v c (asks.Release stamp) client within ok d s brings = absurd brings
+EntryOk-brought b X y v c (asks.Relinquish g) client within ok d s brings = absurd brings
+EntryOk-brought b X y v c (asks.Release stamp) client within ok d s brings = absurd brings
 
 seen_within : (limit seen : ℕ) (body : VoterBody) → seen ≤ limit → IsWithin limit (voter_number body) → seen_after seen body ≤ limit
 seen_within limit seen (asks.Request s) h within = let most = within.1 in omega arith
@@ -116,6 +116,12 @@ new_numbered w n h is number g held =
     let here = ap (λ (k : Grant). k.grant) same in
     omega arith
 
+new_granted : (y w : VoterState) → GrantIsNew y w → GrantsMore y w
+new_granted y w new = (
+  (let more = new.granted in omega arith),
+  λ h held. (let number : h.grant ≡ new.grant.grant = ap (λ (k : Grant). k.grant) (same_Some h new.grant (sym held ∙ new.held)) in let next = new.number in inr (omega arith)),
+)
+
 numbered_after : (frees : Bool) (y w : VoterState) → VoteMoves frees y w → Numbered y → Numbered w
 numbered_after true y w moves was = elim moves [
   | inl ends ↦ λ g held. absurd (none-some g (sym ends.held ∙ held))
@@ -126,8 +132,15 @@ numbered_after false y w moves was = elim moves [
   | inr new ↦ new_numbered w y.granted new.1.grant new.1.held new.1.number
 ]
 
+-- a step gives no fewer grants, and a new one has the next number
+pub more_granted : (frees : Bool) (y w : VoterState) → VoteMoves frees y w → GrantsMore y w
+more_granted true y w (inl ends) = ((let same = ends.granted in omega arith), λ h held. absurd (none-some h (sym ends.held ∙ held)))
+more_granted true y w (inr new) = new_granted y w new
+more_granted false y w (inl stays) = ((let same = stays.granted in omega arith), λ h held. inl (sym stays.held ∙ held))
+more_granted false y w (inr new) = new_granted y w new.1
+
 voter_after : VoterLaws → (b : Bounds) (X : ℕ → ClientState) (y : VoterState) → VoterOk b X y → (m : ToVoter) → m.client < b.clients → IsWithin b.limit (voter_number m.body)
-    → AskOk (X m.client) m.voter m.body
+    → AskOk (X m.client) y m.voter m.client m.body
     → (o : voter.Outcome) → voter.step y m ≡ Some o → VoterOk b X o.state
 voter_after laws b X y ok m client within asked o step =
     let meets = laws.meets y m o step in
@@ -136,7 +149,7 @@ voter_after laws b X y ok m client within asked o step =
       sound = laws.stays y m o ok.sound step;
       entries = λ c s is. elim (meets.entries c s is) [
         | inl was ↦ ok.entries c s was
-        | inr brings ↦ EntryOk-brought b X m.voter m.client m.body client within asked c s brings
+        | inr brings ↦ EntryOk-brought b X y m.voter m.client m.body client within asked c s brings
       ];
       numbered = numbered_after _ y o.state (laws.numbers y m o ok.sound step) ok.numbered;
       limit = (let same = carry.limit in let most = ok.limit in omega arith);
@@ -164,7 +177,7 @@ held_keeps b X Y Z Killed keep spares clients ok c v g is = Names-still Y Z X Ki
 -- ---- a voter takes a step
 
 pub voter_moves : VoterLaws → (b : Bounds) (X : ℕ → ClientState) (Y : ℕ → VoterState) (sent : List Message) → WorldOk b X Y sent → (m : ToVoter)
-    → IsInRange b.voters b.clients b.limit (kinds.ToVoter m) → AskOk (X m.client) m.voter m.body
+    → IsInRange b.voters b.clients b.limit (kinds.ToVoter m) → AskOk (X m.client) (Y m.voter) m.voter m.client m.body
     → (o : voter.Outcome) → voter.step (Y m.voter) m ≡ Some o
     → WorldOk b X (put Y m.voter o.state) (sent ++ map kinds.ToClient o.replies)
 voter_moves laws b X Y sent ok m range asked o step =
@@ -175,19 +188,22 @@ voter_moves laws b X Y sent ok m range asked o step =
     let carry = laws.carries y m o step in
     let before = ok.voters m.voter in
     let after = voter_after laws b X y before m range.0 range.2 asked o step in
-    let Killed : ℕ → Grant → Type 0 = λ v h. (v ≡ m.voter) × Ends m.client m.body h in
+    let Killed : ℕ → Grant → Type 0 = λ v h. (v ≡ m.voter) × Ends m.client m.body h × ((Y m.voter).held ≡ Some h) in
     let keep : VotesKeep Y Z Killed = λ v. put-each (λ v z. (h : Grant) → (Y v).held ≡ Some h → (z.held ≡ Some h) ⊎ Killed v h) Y m.voter o.state
-    (λ h is. elim (meets.kept h is) [ inl stays ↦ inl stays | inr ended ↦ inr (refl, ended) ]) (λ v h is. inl is) v in
+    (λ h is. elim (meets.kept h is) [ inl stays ↦ inl stays | inr ended ↦ inr (refl, ended, is) ]) (λ v h is. inl is) v in
     let spares : SparesLive X Killed = λ v h live killed.
-    AskOk-not_ends (X h.client) v m.client m.body h (subst (λ n. AskOk (X h.client) n m.body) (sym killed.0)
-    (subst (λ n. AskOk (X n) m.voter m.body) (sym (Ends-client m.client m.body h killed.1)) asked)) live killed.1 in
+    let own = Ends-client m.client m.body h killed.1 in
+    AskOk-not_ends (X h.client) y m.voter m.client m.body h (subst (λ n. AskOk (X n) y m.voter m.client m.body) (sym own) asked) killed.2
+    (subst (λ n. IsLive (X h.client) n h.stamp h.grant) killed.0 live) killed.1 in
+    let more : (v : ℕ) → GrantsMore (Y v) (Z v) = put-each (λ v z. GrantsMore (Y v) z) Y m.voter o.state (more_granted _ y o.state (laws.numbers y m o before.sound step)) (λ v. GrantsMore-self (Y v)) in
     let heard = all_reported b m.voter (seen_after y.seen m.body) o.state (seen_within b.limit y.seen m.body before.seen range.2) o.replies meets.heard (laws.answers y m o before.sound step).place
     (subst (λ i. AllCarry i (seen_after y.seen m.body) o.replies) id carry.carried) in
     record {
-      messages = AllByRecursion-append (MessageOk X Z) sent _ (MessageOk-keep X Y Z Killed keep spares sent ok.messages)
+      messages = AllByRecursion-append (MessageOk X Z) sent _ (MessageOk-keep X Y Z Killed keep spares more sent ok.messages)
           (replies_ok b X Z m.voter o.state (put-same Y m.voter o.state) after o.replies heard);
       ranges = AllByRecursion-append (IsInRange b.voters b.clients b.limit) sent _ ok.ranges (replies_range b X m.voter o.state range.1 after o.replies heard);
       held = held_keeps b X Y Z Killed keep spares ok.clients ok.held;
+      last = λ c v. (let rises = (more v).0 in let most = ok.last c v in omega arith);
       clients = ok.clients;
       voters = put-each (λ v z. VoterOk b X z) Y m.voter o.state after ok.voters;
       client_ids = ok.client_ids;
@@ -205,6 +221,7 @@ voter_reminds laws b X Y sent ok v within =
       messages = AllByRecursion-append (MessageOk X Y) sent _ ok.messages (replies_ok b X Y v y refl here (voter.remind y) heard);
       ranges = AllByRecursion-append (IsInRange b.voters b.clients b.limit) sent _ ok.ranges (replies_range b X v y within here (voter.remind y) heard);
       held = ok.held;
+      last = ok.last;
       clients = ok.clients;
       voters = ok.voters;
       client_ids = ok.client_ids;

@@ -14,7 +14,7 @@ use Rattle.voter.specs.VoterContract.{IsEntry}
 use Rattle.requester.specs.declared.state.ClientState.{ClientState}
 use Rattle.requester.specs.RequesterContract.{IsLive}
 use Rattle.requester.specs.Soundness as client
-use Rattle.requester.specs.Words.{is_idle, is_member, holds_under, last_of}
+use Rattle.requester.specs.Words.{is_idle, is_member, holds_under}
 use Rattle.world.specs.Ranges.{IsNumbered}
 use Rattle.world.specs.Steps.{WorldState, client_at, voter_at}
 
@@ -22,13 +22,15 @@ use Rattle.world.specs.Steps.{WorldState, client_at, voter_at}
 abbrev pub Names : Option Grant → ℕ → ℕ → ℕ → Type 0
 Names held client stamp grant = held ≡ Some (record { client = client; stamp = stamp; grant = grant })
 
--- What holds of a message to a voter, by the client that sent it. A REQUEST carries a stamp that the
--- client reached. A RELINQUISH carries at most the last grant that it gave back. A RELEASE carries the
--- stamp of a request that is over.
-abbrev pub AskOk : ClientState → ℕ → VoterBody → Type 0
-AskOk x voter (asks.Request stamp) = stamp ≤ x.stamp
-AskOk x voter (asks.Relinquish grant) = grant ≤ last_of x voter
-AskOk x voter (asks.Release stamp) = (stamp ≤ x.stamp) × (is_idle x.phase ≡ false → stamp < x.stamp)
+-- What holds of a message to a voter, by the client that sent it and by the voter. A REQUEST carries a
+-- stamp that the client reached. A RELINQUISH carries the number of a grant that the voter gave. If
+-- this is the client's and has the vote, it counts no more. A RELEASE carries the stamp of a request
+-- that is over.
+abbrev pub AskOk : ClientState → VoterState → ℕ → ℕ → VoterBody → Type 0
+AskOk x y voter client (asks.Request stamp) = stamp ≤ x.stamp
+AskOk x y voter client (asks.Relinquish grant) =
+    (grant ≤ y.granted) × ((stamp : ℕ) → IsLive x voter stamp grant → Names y.held client stamp grant → ⊥)
+AskOk x y voter client (asks.Release stamp) = (stamp ≤ x.stamp) × (is_idle x.phase ≡ false → stamp < x.stamp)
 
 -- What holds of a message to a client, by the client and the voter's vote. A LOCKED carries a stamp
 -- that the client reached, and while it may still count, its grant has the vote.
@@ -40,7 +42,7 @@ ReportOk x held voter client (to_client.Inquire grant) = Unit {0}
 
 -- what holds of a message, by the clients and the voters
 abbrev pub MessageOk : (ℕ → ClientState) → (ℕ → VoterState) → Message → Type 0
-MessageOk X Y (kinds.ToVoter m) = AskOk (X m.client) m.voter m.body
+MessageOk X Y (kinds.ToVoter m) = AskOk (X m.client) (Y m.voter) m.voter m.client m.body
 MessageOk X Y (kinds.ToClient m) = ReportOk (X m.client) (Y m.voter).held m.voter m.client m.body
 
 -- each vote that a client holds is granted to its request, under the number that the client knows

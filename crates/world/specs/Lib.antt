@@ -3,6 +3,7 @@ pub mod Ranges
 pub mod Restarts
 pub mod Rules
 pub mod Runs
+pub mod SavedWorlds
 pub mod States
 pub mod Steps
 pub mod Visible

@@ -1,5 +1,5 @@
 -- A world as the code keeps it, and the room that a step needs.
-use Rattle.std.specs.Prelude.{◌+◌, ◌≤◌, vec_capacity, vec_len}
+use Rattle.std.specs.Prelude.{◌≡◌, ◌+◌, ◌≤◌, length, vec_capacity, vec_len}
 use Rattle.std.specs.List.{AllByRecursion}
 use Rattle.dealer.specs.Plans.{PlanPair}
 use Rattle.message.specs.Lines.{HasLine}
@@ -8,7 +8,11 @@ use Rattle.world.specs.declared.cycles.Cycles.{Cycles}
 use Rattle.world.specs.declared.moves.Ending.{Ending}
 use Rattle.world.specs.declared.moves.Ending.TheVariants as endings
 use Rattle.world.specs.declared.state.State.{State}
+use Rattle.world.specs.declared.stored.Maker.{Maker}
+use Rattle.world.specs.declared.stored.Maker.TheVariants as makers
+use Rattle.world.specs.declared.stored.Stored.{Stored}
 use Rattle.world.specs.Ranges.{IsNumbered}
+use Rattle.world.specs.Restarts.{Node, OneClient, OneVoter, Nobody, Saved}
 use Rattle.world.specs.Runs.{DrawsInOrder, IsReached}
 use Rattle.world.specs.Steps.{Planned, WorldState}
 use Rattle.world.specs.Visible.{IsExclusive}
@@ -50,3 +54,18 @@ plans_of c = record { first = c.first; second = c.second }
 abbrev pub cause_of : Ending → client.Cause
 cause_of endings.Leaves = client.Leaves
 cause_of endings.GivesUp = client.GivesUp
+
+-- the live world and the saved states that the code keeps
+abbrev pub saved_of : Stored → Saved
+saved_of s = record { live = contents_of s.state; clients = s.clients.items; voters = s.voters.items }
+
+-- there are as many saved clients and voters as live ones
+pub record IsStored (s : Stored) : Type 0 where
+  pub clients : length s.clients.items ≡ length s.state.clients.items
+  pub voters : length s.voters.items ≡ length s.state.voters.items
+
+-- the client or voter that makes a step, as the code has it
+abbrev pub node_of : Maker → Node
+node_of (makers.Client c) = OneClient c
+node_of (makers.Voter v) = OneVoter v
+node_of makers.Nobody = Nobody

@@ -1,13 +1,15 @@
 //! Laws: what is proved about the definitions.
-ghost use Rattle.std.specs.Prelude.{◌≡◌, ◌<◌, ◌⊎◌, ℕ, List, Ok};
+ghost use Rattle.std.specs.Prelude.{◌≡◌, ◌<◌, ◌⊎◌, ℕ, List, Ok, length, slice_set};
 ghost use Rattle.world.specs.declared.step.Step.{Step};
 ghost use Rattle.world.specs.Coherence.{IsCoherent};
 ghost use Rattle.world.specs.Ranges.{AreInRange, IsSound};
-ghost use Rattle.world.specs.Restarts.{Happening, HasVote, IsIn, IsNewer, IsSameRequest, all_happen, begin, pass_of, stamp_of};
+ghost use Rattle.dealer.specs.Plans.{ArePlans, PlanPair};
+ghost use Rattle.world.specs.Restarts.{Happening, HasVote, IsIn, IsNewer, IsSameRequest, OneClient, Restarts, all_happen, begin, pass_of, stamp_of};
 ghost use Rattle.world.specs.Rules.{ClientLaws, VoterLaws};
 ghost use Rattle.world.specs.Runs.{AreLimits, IsReached, run_of, start};
+ghost use Rattle.world.specs.SavedWorlds.{IsLed, IsSavedWorld, LoseNothing, LosesNothing, PlannedSaved, begin_by, happens_by, live_of};
 ghost use Rattle.world.specs.States.{IsWorld};
-ghost use Rattle.world.specs.Steps.{Adds, Dealing, Outcome, Planned, WorldState, step};
+ghost use Rattle.world.specs.Steps.{Adds, Dealing, Outcome, Planned, WorldState, client_at, step};
 ghost use Rattle.world.specs.Visible.{DealsFrom, DoMeet, IsExclusive};
 
 use dealer::tickets_name_quorums;
@@ -70,8 +72,8 @@ pub fn at_most_one_is_inside()
 /// - Save, then send: a step that sends a message, or lets a client enter or leave, is saved before
 ///   its messages are sent. Other steps need not be saved.
 /// - Of a voter's saved state only its grant and the number of its grants have to survive.
-/// - Of a client's saved state only its clock, its last stamp and the last grants that it gave back
-///   have to survive. It is then idle. If it was inside, it left by its crash.
+/// - Of a client's saved state only its clock and its last stamp have to survive. It is then idle. If
+///   it was inside, it left by its crash.
 pub fn at_most_one_is_inside_with_restarts()
     ensures { (voters clients limit : ℕ) (quorums : List (List ℕ)) (deal : Dealing) (happenings : List Happening)
         → AreLimits voters clients limit → DoMeet voters quorums → DealsFrom quorums deal
@@ -139,6 +141,41 @@ pub(crate) fn worlds_stay_sound()
     ensures { (w : Planned) → IsReached w → IsWorld w }
 {
     runs_are_sound();
+    coteries_meet();
+    bridges_meet();
+    tickets_name_quorums();
+}
+
+/// A restart takes back silent steps, and nothing else: whatever happens without the loss of a saved
+/// state, steps alone lead to the same live world.
+pub fn restarts_undo_silent_steps()
+    ensures { (voters clients limit : ℕ) (quorums : List (List ℕ)) (deal : Dealing) (happenings : List Happening)
+        → AreLimits voters clients limit → DoMeet voters quorums → DealsFrom quorums deal → LoseNothing happenings
+        → IsLed deal (start voters clients limit) (all_happen deal happenings (begin voters clients limit)).live }
+{
+    parts_keep_their_rules();
+}
+
+/// What holds of every world whose clients and voters are saved, while no saved state is lost. A client
+/// that restarts in it neither enters nor leaves.
+pub(crate) fn saved_worlds_stay_sound()
+    ensures first { (plans : PlanPair) (clients limit : ℕ)
+        → ArePlans plans → AreLimits plans.first.system.voters clients limit
+        → IsSavedWorld (record { plans = plans; saved = begin_by plans clients limit }) }
+    ensures happens { (w : PlannedSaved) (h : Happening)
+        → IsSavedWorld w → LosesNothing h → IsSavedWorld (happens_by w h) }
+    ensures live { (w : PlannedSaved) → IsSavedWorld w → IsWorld (live_of w) }
+    ensures restarts { (w : PlannedSaved) → IsSavedWorld w → (c : ℕ) → c < length w.saved.live.clients
+        → record w {
+          saved = record w.saved {
+            live = record w.saved.live {
+              clients = slice_set w.saved.live.clients c (client_at w.saved.clients c);
+            };
+          };
+        } ≡ happens_by w (Restarts (OneClient c)) }
+{
+    worlds_stay_sound();
+    parts_keep_their_rules();
     coteries_meet();
     bridges_meet();
     tickets_name_quorums();

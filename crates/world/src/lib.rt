@@ -1,14 +1,13 @@
 //! A world of the voting lock: some voters, some clients, and every message that was ever sent.
 //!
 //! A client that wants the lock draws the next ticket, which stands for a quorum of the plan's
-//! cycle. It asks the voters of this quorum and enters once it holds all their votes (Maekawa, "A
-//! sqrt(N) algorithm for mutual exclusion in decentralized systems", ACM TOCS 3(2), 1985).
+//! cycle. It asks its voters, and enters once it holds all votes (Maekawa, ACM TOCS 3(2), 1985).
 //!
 //! Nothing happens in a world by itself. Each [`Step`] is one call of a client or a voter, or the
 //! arrival of one message. The messages that a step sends are numbered and kept for good. A message
 //! may arrive late, again, or never. So a list of steps is one history of the lock over a network
 //! that loses, repeats and delays. [`run`] runs a whole list of steps in a new world; a [`World`]
-//! runs them one by one.
+//! runs them one by one. In a [`SavedWorld`] clients and voters also crash.
 //!
 //! A world has one plan, or two over a bridge: each quorum of one has a common voter with each
 //! quorum of the other. [`Step::Exchange`] exchanges the first plan for the second, whatever is
@@ -27,6 +26,9 @@
 //! - The same holds if clients and voters crash and restart from what they saved
 //!   ([`at_most_one_is_inside_with_restarts`]). Who has a vote later has it by a greater grant number
 //!   ([`later_votes_have_greater_numbers`], [`later_passes_are_newer`]).
+//! - A [`SavedWorld`] saves and sends, and restarts its clients and voters, exactly as the definition in
+//!   `specs/Restarts.antt`. A restart takes back silent steps, and nothing else: steps alone lead to the
+//!   same live world ([`restarts_undo_silent_steps`]).
 //! - The tickets of each plan are drawn in order, from 0 on.
 //! - Every message names a client and a voter of the world, and has its numbers in range
 //!   ([`messages_are_in_range`]). So each message has a line of text.
@@ -51,17 +53,21 @@ mod fault;
 mod laws;
 mod lists;
 mod moves;
+mod saved;
 mod state;
 mod step;
+mod stored;
 mod trace;
 mod world;
 
 pub use fault::WorldFault;
 pub use laws::{
     at_most_one_is_inside, at_most_one_is_inside_with_restarts, later_passes_are_newer,
-    later_votes_have_greater_numbers, messages_are_in_range, parts_keep_their_rules, steps_add,
-    worlds_stay_coherent,
+    later_votes_have_greater_numbers, messages_are_in_range, parts_keep_their_rules,
+    restarts_undo_silent_steps, steps_add, worlds_stay_coherent,
 };
+pub use saved::SavedWorld;
 pub use step::{Event, Step, Stepped};
+pub use stored::Maker;
 pub use trace::{Trace, run};
 pub use world::World;

@@ -1,4 +1,7 @@
 //! Steps of a world, and what they did.
+ghost use Rattle.std.specs.Prelude.{◌≡◌};
+ghost use Rattle.world.specs.Restarts.{is_silent};
+
 use requester::Seen;
 
 /// A step of a world.
@@ -37,4 +40,17 @@ pub struct Stepped {
     pub sent: usize,
     /// Whether a client entered or left. If so, it is the client of the world's last event.
     pub seen: Seen,
+}
+
+impl Stepped {
+    /// Returns whether the step was silent: it sent nothing, and let nobody enter or leave.
+    pub fn is_silent(&self) -> bool
+        ensures { result ≡ is_silent self.now.sent self.now.seen }
+    {
+        match self.seen {
+            Seen::Nothing => self.sent == 0,
+            Seen::Entered => false,
+            Seen::Left => false,
+        }
+    }
 }

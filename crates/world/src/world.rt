@@ -5,7 +5,8 @@ ghost use Rattle.numbers.specs.Bounds.{max_voters, max_clients, max_stamp};
 ghost use Rattle.requester.specs.Steps as requesters;
 ghost use Rattle.voter.specs.Steps as polls;
 ghost use Rattle.message.specs.Lines.{HasLine};
-ghost use Rattle.world.specs.Runs.{DrawsInOrder, start_by};
+ghost use Rattle.world.specs.Runs.{DrawsInOrder, IsReached, start_by};
+ghost use Rattle.world.specs.States.{contents_of, plans_of};
 ghost use Rattle.world.specs.Steps.{Refuses, outcome_of, step_of};
 ghost use Rattle.world.specs.Visible.{IsExclusive};
 
@@ -78,6 +79,24 @@ impl World {
                 replies: ArrayVec::new(),
             },
         })
+    }
+
+    /// Returns the world of these parts. Steps have led to it from a new one.
+    pub(crate) fn of(cycles: Cycles, state: State) -> World
+        requires { IsReached (record { plans = plans_of cycles; state = contents_of state }) }
+        ensures { result ≡ record { plans = plans_of cycles; state = contents_of state } }
+    {
+        worlds_stay_sound();
+        World { cycles, state }
+    }
+
+    /// Returns the cycles of the plans, and the state.
+    pub(crate) fn into_parts(self) -> (Cycles, State)
+        ensures plans { plans_of result.0 ≡ self.plans }
+        ensures state { contents_of result.1 ≡ self.state }
+        ensures reached { IsReached self }
+    {
+        (self.cycles, self.state)
     }
 
     /// Makes one step, and returns what it did. A step that fails changes nothing.
@@ -180,7 +199,7 @@ impl World {
 }
 
 /// Returns `count` new voters, numbered from 0.
-fn new_voters(alloc: Global, count: usize, limit: u64) -> Result<Vec<Voter>, AllocError>
+pub(crate) fn new_voters(alloc: Global, count: usize, limit: u64) -> Result<Vec<Voter>, AllocError>
     requires few { count ≤ max_voters }
     requires least { 1 ≤ limit }
     requires most { limit ≤ max_stamp }
@@ -194,7 +213,11 @@ fn new_voters(alloc: Global, count: usize, limit: u64) -> Result<Vec<Voter>, All
 }
 
 /// Returns `count` new clients, numbered from 0.
-fn new_clients(alloc: Global, count: u8, limit: u64) -> Result<Vec<Requester>, AllocError>
+pub(crate) fn new_clients(
+    alloc: Global,
+    count: u8,
+    limit: u64,
+) -> Result<Vec<Requester>, AllocError>
     requires few { count ≤ max_clients }
     requires least { 1 ≤ limit }
     requires most { limit ≤ max_stamp }

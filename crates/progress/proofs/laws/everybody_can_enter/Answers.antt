@@ -1,5 +1,7 @@
 use Rattle.progress.proofs.Everybody.{everybody_gets_in}
+use Rattle.progress.proofs.Kept.{IsKept-reached}
+use Rattle.world.specs.Steps.{dealing_of}
 use Rattle.progress.proofs.laws.everybody_can_enter.Goals as goal
 
 pub returns : goal.returns
-returns c = everybody_gets_in c.parts_keep_their_rules.ensures
+returns c w client r = everybody_gets_in c.worlds_keep_their_rules.ensures (dealing_of w.plans) w.state client (IsKept-reached c.worlds_keep_their_rules.ensures w r)

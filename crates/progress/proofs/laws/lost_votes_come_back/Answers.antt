@@ -1,5 +1,7 @@
 use Rattle.progress.proofs.Ways.{comes_back}
+use Rattle.progress.proofs.Kept.{IsKept-reached}
+use Rattle.world.specs.Steps.{dealing_of}
 use Rattle.progress.proofs.laws.lost_votes_come_back.Goals as goal
 
 pub returns : goal.returns
-returns c = comes_back c.parts_keep_their_rules.ensures
+returns c w v g r = comes_back c.worlds_keep_their_rules.ensures (dealing_of w.plans) w.state v g (IsKept-reached c.worlds_keep_their_rules.ensures w r)

@@ -1,5 +1,7 @@
 use Rattle.progress.proofs.Exchanges.{goes_on}
+use Rattle.progress.proofs.Kept.{IsKept-reached}
+use Rattle.world.specs.Steps.{dealing_of}
 use Rattle.progress.proofs.laws.returned_votes_go_on.Goals as goal
 
 pub returns : goal.returns
-returns c = goes_on c.parts_keep_their_rules.ensures
+returns c w v g r = goes_on c.worlds_keep_their_rules.ensures (dealing_of w.plans) w.state v g (IsKept-reached c.worlds_keep_their_rules.ensures w r)

@@ -1,10 +1,13 @@
-use Rattle.std.proofs.Common.{◌≡◌, take}
-use Rattle.stories.specs.Moments.{turns_of}
+use Rattle.std.proofs.Common.{◌≡◌, ◌++◌, drop}
+use Rattle.stories.specs.Plays.{first_scene, first_world, moments_of, world_after}
 use Rattle.stories.proofs.story.story_of.Given as goal
 
--- the moments so far are those of the turns so far
+-- the moments so far, and then those of the turns that are left, are those of the story; the turns that are
+-- left lead to its world
 abbrev pub invariant-loop-turn : goal.invariant-loop-turn
 invariant-loop-turn l = record {
-  moments : turns_of l.moments.items ≡ take l.turn-index l.turns;
-  plans : l.player.plans ≡ l.fn.plans;
+  moments : l.moments.items ++ moments_of (drop l.turn-index l.turns) l.player
+      ≡ moments_of l.turns (first_scene l.fn.plans l.fn.script.clients l.fn.script.limit);
+  world : world_after (drop l.turn-index l.turns) l.player.world
+      ≡ world_after l.turns (first_world l.fn.plans l.fn.script.clients l.fn.script.limit);
 }

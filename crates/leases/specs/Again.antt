@@ -1,0 +1,27 @@
+-- Worlds that steps lead to after incidents, once all clients were idle.
+use Rattle.std.specs.Prelude.{ℕ, ◌≡◌, true, List}
+use Rattle.requester.specs.Words.{is_idle}
+use Rattle.world.specs.declared.step.Step.{Step}
+use Rattle.world.specs.Restarts.{begin}
+use Rattle.world.specs.Runs.{AreLimits, run_of}
+use Rattle.world.specs.Steps.{Dealing, WorldState, client_at}
+use Rattle.world.specs.Visible.{DealsFrom, DoMeet}
+use Rattle.leases.specs.Comeback.{AreLawful, unseen}
+use Rattle.leases.specs.Incidents.{Incident, all_befall}
+
+-- Incidents befell a new world, and no message was made up but evictions and those that end a request
+-- which is over. Then all clients were idle, and these steps led to this world. What was seen before is
+-- left out.
+pub record IsReachedAgain (deal : Dealing) (w : WorldState) : Type 0 where
+  pub voters : ℕ
+  pub clients : ℕ
+  pub limit : ℕ
+  pub limits : AreLimits voters clients limit
+  pub quorums : List (List ℕ)
+  pub meet : DoMeet voters quorums
+  pub deals : DealsFrom quorums deal
+  pub incidents : List Incident
+  pub lawful : AreLawful deal (begin voters clients limit) incidents
+  pub idle : (c : ℕ) → is_idle (client_at (all_befall deal incidents (begin voters clients limit)).live.clients c).phase ≡ true
+  pub steps : List Step
+  pub state : w ≡ run_of deal steps (unseen (all_befall deal incidents (begin voters clients limit))).live

@@ -1,0 +1,57 @@
+//! Laws on fair rounds after losses of saved states.
+ghost use Rattle.std.specs.Prelude.{◌≡◌, ◌≤◌, ◌+◌, ◌*◌, ◌++◌, ℕ, List, length};
+ghost use Rattle.progress.specs.AfterLosses.{AskedSince, IsHeard, IsReachedAfterLosses};
+ghost use Rattle.progress.specs.Overtaking.{entries_of};
+ghost use Rattle.progress.specs.Rounds.{AreFairRounds, DoesNotGiveUp, block, give_ups_in, late_in, steps_of};
+ghost use Rattle.progress.specs.WayIn.{Asks, HasGrants};
+ghost use Rattle.world.specs.declared.step.Event.{Event};
+ghost use Rattle.world.specs.declared.step.Step.{Step};
+ghost use Rattle.world.specs.Runs.{run_of};
+ghost use Rattle.world.specs.Steps.{Dealing, WorldState};
+
+use crate::laws::worlds_keep_their_rules;
+use world::parts_keep_their_rules;
+
+/// Whatever happened before, losses of saved states too: if a client asks and does not give up, somebody
+/// enters within (n + 5) * (n + 2 g + l + v) fair rounds, for n clients, g withdrawals of others,
+/// l REQUESTs that come late, and v voters.
+///
+/// The rounds themselves are without crashes. A voter that lost its saved state may have forgotten that it
+/// asked for its vote: each voter may waste one block of n + 5 rounds. Each voter has to have a grant left
+/// at the end.
+pub fn fair_rounds_let_somebody_in_after_losses()
+    ensures { (deal : Dealing) (w : WorldState) (c : ℕ) (rounds : List (List Step)) (more : List Event) → IsReachedAfterLosses deal w → Asks w c
+        → AreFairRounds deal w rounds → DoesNotGiveUp c (steps_of rounds) → HasGrants 1 (run_of deal (steps_of rounds) w)
+        → block (length w.clients) * (length w.clients + 2 * give_ups_in (steps_of rounds) + late_in deal 0 w rounds + length w.voters) ≤ length rounds
+        → (run_of deal (steps_of rounds) w).visible ≡ w.visible ++ more
+        → (d : ℕ) × (1 ≤ entries_of d more) }
+{
+    worlds_keep_their_rules();
+    parts_keep_their_rules();
+}
+
+/// Whatever happened before, losses of saved states too: a client whose request is heard, and that does not
+/// give up, enters within (n + 5) * (5 n + 2 g + l + v) fair rounds, for n clients, g withdrawals of others,
+/// l REQUESTs that come late, and v voters.
+///
+/// A request is heard if each voter that knows it has seen its stamp. So is each request that was made
+/// after the last loss ([`new_requests_are_heard`]). The rounds themselves are without crashes.
+pub fn fair_rounds_let_everybody_in_after_losses()
+    ensures { (deal : Dealing) (w : WorldState) (c : ℕ) (rounds : List (List Step)) (more : List Event) → IsReachedAfterLosses deal w → IsHeard w c → Asks w c
+        → AreFairRounds deal w rounds → DoesNotGiveUp c (steps_of rounds) → HasGrants 1 (run_of deal (steps_of rounds) w)
+        → block (length w.clients) * (5 * length w.clients + 2 * give_ups_in (steps_of rounds) + late_in deal 0 w rounds + length w.voters) ≤ length rounds
+        → (run_of deal (steps_of rounds) w).visible ≡ w.visible ++ more
+        → 1 ≤ entries_of c more }
+{
+    worlds_keep_their_rules();
+    parts_keep_their_rules();
+}
+
+/// Each request that was made after the last loss, and still asks, is heard: each voter that knows it has
+/// seen its stamp.
+pub fn new_requests_are_heard()
+    ensures { (deal : Dealing) (w : WorldState) (c : ℕ) → (r : IsReachedAfterLosses deal w) → AskedSince deal w r c → Asks w c → IsHeard w c }
+{
+    worlds_keep_their_rules();
+    parts_keep_their_rules();
+}

@@ -1,0 +1,139 @@
+//! Texts that are cut short, and texts and numbers that are too long. Two things are tested in the
+//! crates that read them: that no prefix of a record is a record, and what happens with more than
+//! 64 voters or 4096 quorums.
+use crate::plan;
+use crate::samples::{FAST_HUB, FAST_HUB_PLAN, MAJORITY, MAJORITY_PLAN, ONE, WHEEL, WHEEL_PLAN};
+use crate::served::{Row, answer, answer_planned, first_wrong};
+use std::alloc::{AllocError, Global};
+use std::sync::Wait;
+use std::test::Fail;
+use std::thread::Threads;
+use std::time::Clock;
+
+/// Returns how many beginnings of a plan, without the whole of it, are refused as bad texts.
+fn refused_beginnings<T: Threads + Wait + Clock + Sync>(
+    rt: &T,
+    alloc: Global,
+    coterie: &str,
+    plan: &str,
+) -> Result<usize, AllocError> {
+    let mut refused: usize = 0;
+    for end in 0..plan.len() {
+        let beginning = std::str::from_utf8(&plan.as_bytes()[..end]).unwrap_or("");
+        let text = answer_planned(rt, alloc, "check", coterie, beginning)?;
+        if text.as_str().starts_with("P5 BadText ") {
+            refused = refused.saturating_add(1);
+        }
+    }
+    Ok(refused)
+}
+
+#[test]
+fn no_prefix_of_a_plan_is_one(rt: HostRuntime) -> Result<(), Fail> {
+    for (coterie, plan) in [
+        (MAJORITY, MAJORITY_PLAN),
+        (WHEEL, WHEEL_PLAN),
+        (FAST_HUB, FAST_HUB_PLAN),
+    ] {
+        let refused = refused_beginnings(&rt, rt.alloc(), coterie, plan)?;
+        assert!(rt; refused == plan.len());
+    }
+    Ok(())
+}
+
+/// Returns of how many beginnings of the majorities a plan is found, and how many are refused
+/// because they are no TOML or have other keys.
+fn planned_beginnings<T: Threads + Wait + Clock + Sync>(
+    rt: &T,
+    alloc: Global,
+) -> Result<(usize, usize), AllocError> {
+    let mut planned: usize = 0;
+    let mut refused: usize = 0;
+    for end in 0..MAJORITY.len() {
+        let text = answer(rt, alloc, "plan", &MAJORITY.as_bytes()[..end])?;
+        match text.as_str() {
+            MAJORITY_PLAN => planned = planned.saturating_add(1),
+            "F1 NotToml" | "F2 Keys" => refused = refused.saturating_add(1),
+            _ => {}
+        }
+    }
+    Ok((planned, refused))
+}
+
+#[test]
+fn of_a_coterie_s_prefixes_only_the_last_is_one(rt: HostRuntime) -> Result<(), Fail> {
+    // that one lacks only the newline at the end
+    let (planned, refused) = planned_beginnings(&rt, rt.alloc())?;
+    let last = MAJORITY.trim_end();
+    let text = answer(&rt, rt.alloc(), "plan", last.as_bytes())?;
+    assert!(rt;
+        (planned == 1)
+            & (refused == MAJORITY.len().saturating_sub(1))
+            & (text.as_str() == MAJORITY_PLAN)
+    );
+    Ok(())
+}
+
+#[test]
+fn brackets_without_an_end_are_no_coterie(rt: HostRuntime) -> Result<(), Fail> {
+    let brackets = "[".repeat(rt.alloc(), 100)?;
+    let text = format!(in rt.alloc(); "voters = {brackets}")?;
+    let written = answer(&rt, rt.alloc(), "plan", text.as_bytes())?;
+    assert!(rt; written.as_str() == "F1 NotToml");
+    Ok(())
+}
+
+/// Plans of one voter with numbers of seven digits and of eight.
+const NUMBERS: [Row; 7] = [
+    (
+        "check",
+        &[ONE, plan!("10000000/1", "1", "1", "1")],
+        "P5 BadText 2",
+    ),
+    (
+        "check",
+        &[ONE, plan!("1/10000000", "1", "1", "1")],
+        "P5 BadText 2",
+    ),
+    (
+        "check",
+        &[ONE, plan!("1/1", "10000000", "1", "1")],
+        "P5 BadText 3",
+    ),
+    (
+        "check",
+        &[ONE, plan!("1/1", "1", "10000000", "1")],
+        "P5 BadText 4",
+    ),
+    (
+        "check",
+        &[ONE, plan!("1/1", "1", "1", "10000000")],
+        "P5 BadText 5",
+    ),
+    (
+        "check",
+        &[ONE, plan!("1/1", "1", "1000000", "1000000")],
+        "P7 WrongCycle",
+    ),
+    (
+        "check",
+        &[ONE, plan!("1/1", "1", "9999999", "1")],
+        "P2 TooLarge",
+    ),
+];
+
+#[test]
+fn a_plan_s_numbers_have_seven_digits(rt: HostRuntime) -> Result<(), Fail> {
+    assert_eq!(rt; first_wrong(&rt, rt.alloc(), &NUMBERS)?, None);
+    Ok(())
+}
+
+#[test]
+fn the_longest_input(rt: HostRuntime) -> Result<(), Fail> {
+    let mut input = vec![in rt.alloc(); b'\n'; 16_777_217]?;
+    let too_long = answer(&rt, rt.alloc(), "check", &input)?;
+    input.pop();
+    let longest = answer(&rt, rt.alloc(), "check", &input)?;
+    assert!(rt; (too_long.as_str() == "I2 TooLong") & (longest.as_str() == "I1 MissingPart 2"));
+    Ok(())
+}

@@ -1,0 +1,57 @@
+//! How long a client waits, in fair rounds.
+
+/// How many schedules there are for each number of clients.
+pub const SCHEDULES: u64 = 150;
+
+/// The longest wait in schedules without withdrawals and without late REQUESTs, in fair rounds, for 1 to
+/// 5 clients. It is what this generator shows with these seeds. The bounds are 30, 70, 120, 180 and 250.
+pub const LONGEST_WAITS: [u64; 5] = [1, 6, 9, 12, 15];
+
+/// Returns within how many rounds a client has to be inside: the bound that `progress` proves.
+pub fn bound(clients: u8, give_ups: u64, late: u64) -> u64 {
+    let clients = u64::from(clients);
+    let moves = clients
+        .saturating_mul(5)
+        .saturating_add(give_ups.saturating_mul(2))
+        .saturating_add(late);
+    clients.saturating_add(5).saturating_mul(moves)
+}
+
+/// The wait of a request.
+#[derive(Clone, Copy, Default)]
+pub struct Wait {
+    /// The request's stamp, 0 if the client does not ask.
+    pub stamp: u64,
+    /// How many whole rounds have passed since the client asked.
+    pub rounds: u64,
+    /// How many withdrawals there were in these rounds.
+    give_ups: u64,
+    /// How many REQUESTs came late in these rounds.
+    late: u64,
+}
+
+impl Wait {
+    /// Returns the wait of a request under this stamp, in the round in which it began.
+    pub fn of(stamp: u64) -> Wait {
+        Wait {
+            stamp,
+            ..Wait::default()
+        }
+    }
+
+    /// Counts a whole round, with its withdrawals and late REQUESTs. In the first one no REQUEST is
+    /// late.
+    pub fn pass(&mut self, give_ups: u64, late: u64) {
+        if self.rounds > 0 {
+            self.late = self.late.saturating_add(late);
+        }
+        self.rounds = self.rounds.saturating_add(1);
+        self.give_ups = self.give_ups.saturating_add(give_ups);
+    }
+
+    /// Returns whether the client has to be inside by now: whether as many rounds have passed as the
+    /// proved bound says.
+    pub fn is_over(&self, clients: u8) -> bool {
+        self.rounds >= bound(clients, self.give_ups, self.late)
+    }
+}

@@ -1,0 +1,49 @@
+#!/bin/sh
+# Tries the service where its packages are: vet, tests with the race detector, the guard in SQLite and PostgreSQL, and a trial
+# of two and a half minutes with kills, stops, frozen servers, lost states, lost messages, and an exchange of the plan and back. It
+# takes some five minutes.
+#
+#     service/check.sh [SECONDS]       (how long the trial is)
+#
+# Without the packages it says how to install them, and ends with status 0. Builds the libraries where it has to (./library).
+set -eu
+here=$(CDPATH= cd -- "$(dirname -- "$(readlink -f -- "$0")")" && pwd)
+root=$here/..
+go=$here/go
+
+missing=
+for package in gcc pkg-config golang-go nats-server golang-github-nats-io-go-nats-dev golang-github-coreos-bbolt-dev \
+    golang-github-prometheus-client-golang-dev golang-github-burntsushi-toml-dev golang-github-spf13-cobra-dev; do
+    dpkg-query -W -f '${Status}' "$package" 2> /dev/null | grep -q 'ok installed' || missing="$missing $package"
+done
+if [ -n "$missing" ]; then
+    echo "service: left out; apt-get install$missing"
+    exit 0
+fi
+build=${QLOCK_BUILD:-$root/build}
+[ -e "$build/libqlock.a" ] && [ -e "$build/libqlock_plan.a" ] || "$root/library"
+
+packages="./qlock ./locks ./guard ./transport ./internal/bus ./internal/config ./internal/event ./internal/exchange ./internal/local ./internal/measure \
+    ./internal/operator ./internal/remind ./internal/voter ./internal/wire ./internal/worlds ./cmd/qlock-voter ./cmd/qlockctl ./trial ./bench"
+laid=$(gofmt -l "$here/qlock" "$here/locks" "$here/guard" "$here/transport" "$here/internal" "$here/cmd" "$here/trial" "$here/bench")
+[ -z "$laid" ] || { echo "service: gofmt would change $laid" >&2; exit 1; }
+# shellcheck disable=SC2086
+"$go" vet $packages
+tests="$go test -race -count=1 -timeout 600s $packages"
+if ls /usr/lib/postgresql/*/bin/initdb > /dev/null 2>&1; then
+    # shellcheck disable=SC2086
+    "$here/guard/sql/check.sh" $tests
+else
+    # shellcheck disable=SC2086
+    $tests
+    echo "service: the guard was not tried in PostgreSQL; apt-get install postgresql"
+fi
+
+"$here/build" cmd/qlock-voter cmd/qlockctl trial
+folder=$(mktemp -d "${TMPDIR:-$here/out}/trial-XXXXXX")
+trap 'rm -rf "$folder"' EXIT
+# a TTL that a machine with much else to do keeps, too
+"$here/out/bin/trial" --bin "$here/out/bin" --coterie "$here/wheel-4.toml" --folder "$folder/cluster" --ttl 5s --for "${1:-150}s" \
+    --exchange "$here/wheel-4-grown.toml"
+"$here/out/bin/trial" --bin "$here/out/bin" --coterie "$here/wheel-4.toml" --folder "$folder/open" --for 60s --open-guard
+echo "service: passed"

@@ -1,0 +1,86 @@
+// Command qlockctl is for operators of a lock service, and for scripts that need a lock.
+package main
+
+import (
+	"context"
+	"errors"
+	"fmt"
+	"os"
+	"os/signal"
+	"syscall"
+	"time"
+
+	"calvundek.example/service/internal/config"
+	"calvundek.example/service/internal/operator"
+	"calvundek.example/service/locks"
+	"calvundek.example/service/transport"
+	"github.com/spf13/cobra"
+)
+
+// settings are the flags of all commands.
+type settings struct {
+	cluster string
+	access  config.Access
+	timeout time.Duration
+	json    bool
+}
+
+// status is an exit status that a command wants, and why. If the reason is nil nothing is printed.
+type status struct {
+	code int
+	why  error
+}
+
+func (s status) Error() string { return fmt.Sprint(s.why) }
+func (s status) Unwrap() error { return s.why }
+
+func main() {
+	ctx, stop := signal.NotifyContext(context.Background(), syscall.SIGINT, syscall.SIGTERM)
+	defer stop()
+	err := command(ctx).Execute()
+	if err == nil {
+		return
+	}
+	end := status{code: 1, why: err}
+	if errors.As(err, &end); end.why != nil {
+		fmt.Fprintln(os.Stderr, "qlockctl:", end.why)
+	}
+	os.Exit(end.code)
+}
+
+func command(ctx context.Context) *cobra.Command {
+	s := &settings{}
+	root := &cobra.Command{Use: "qlockctl", Short: "Operate a lock service", SilenceUsage: true, SilenceErrors: true}
+	flags := root.PersistentFlags()
+	flags.StringVarP(&s.cluster, "cluster", "c", "/etc/qlock/cluster.toml", "the cluster's file")
+	flags.StringVar(&s.access.User, "user", "", "the user of NATS")
+	flags.StringVar(&s.access.Secret, "secret", "", "the file of the user's password")
+	flags.StringVar(&s.access.Cert, "cert", "", "the file of a certificate")
+	flags.StringVar(&s.access.Key, "key", "", "the file of the certificate's key")
+	flags.DurationVar(&s.timeout, "timeout", 3*time.Second, "how long to wait for replies of voters")
+	flags.BoolVar(&s.json, "json", false, "print JSON")
+	root.AddCommand(initCommand(s), statusCommand(ctx, s), reportCommand(ctx, s), evictCommand(ctx, s), unlockCommand(ctx, s),
+		exchangeCommand(ctx, s), retireCommand(ctx, s), runCommand(ctx, s))
+	return root
+}
+
+// ask asks voters, and hands their replies to a function.
+func (s *settings) ask(ctx context.Context, use func(ctx context.Context, cluster *config.Cluster, console *operator.Console) error) error {
+	cluster, err := config.ReadCluster(s.cluster)
+	if err != nil {
+		return err
+	}
+	link, err := transport.Connect(cluster, s.access, "qlockctl")
+	if err != nil {
+		return err
+	}
+	defer link.Close()
+	ctx, cancel := context.WithTimeout(ctx, s.timeout)
+	defer cancel()
+	return use(ctx, cluster, operator.New(cluster, link))
+}
+
+// client returns the configuration of a client.
+func (s *settings) client(prefix string) locks.Config {
+	return locks.Config{Cluster: s.cluster, Prefix: prefix, User: s.access.User, Secret: s.access.Secret, Cert: s.access.Cert, Key: s.access.Key}
+}

@@ -1,0 +1,338 @@
+package main
+
+import (
+	"context"
+	"encoding/json"
+	"errors"
+	"fmt"
+	"math/bits"
+	"os"
+	"sort"
+	"strconv"
+	"strings"
+	"time"
+
+	"calvundek.example/service/internal/config"
+	"calvundek.example/service/internal/operator"
+	"calvundek.example/service/internal/voter"
+	"calvundek.example/service/qlock"
+	"github.com/spf13/cobra"
+)
+
+// The errors of commands.
+var (
+	errSilent = errors.New("some voters did not reply")
+	errFree   = errors.New("nobody has the votes of a quorum")
+)
+
+func initCommand(s *settings) *cobra.Command {
+	c := &config.Cluster{}
+	var coterie string
+	command := &cobra.Command{Use: "init", Args: cobra.NoArgs, Short: "Make the cluster's file, with a plan of a coterie",
+		RunE: func(*cobra.Command, []string) error { return initialise(s.cluster, coterie, c) }}
+	flags := command.Flags()
+	flags.StringVar(&c.ID, "id", "", "the cluster's name")
+	flags.StringVar(&coterie, "coterie", "", "the file of the coterie")
+	flags.StringSliceVar(&c.Servers, "servers", []string{"nats://127.0.0.1:4222"}, "the servers of NATS")
+	flags.StringVar(&c.CA, "ca", "", "the file of the authority that signs the servers' certificates")
+	flags.DurationVar(&c.TTL.Duration, "ttl", 10*time.Second, "for how long a silent client keeps what others want")
+	for _, name := range []string{"id", "coterie"} {
+		if err := command.MarkFlagRequired(name); err != nil {
+			panic(err)
+		}
+	}
+	return command
+}
+
+// initialise plans, and makes the cluster's file. It never writes over one.
+func initialise(path, coterieFile string, c *config.Cluster) error {
+	coterie, err := os.ReadFile(coterieFile)
+	if err != nil {
+		return err
+	}
+	plan, err := qlock.FindPlan(string(coterie))
+	if err != nil {
+		return fmt.Errorf("%s: %w", coterieFile, err)
+	}
+	c.Coterie, c.Plan = plan.Coterie, plan.Text
+	if err := c.Check(); err != nil {
+		return err
+	}
+	text, err := c.Text()
+	if err != nil {
+		return err
+	}
+	file, err := os.OpenFile(path, os.O_WRONLY|os.O_CREATE|os.O_EXCL, 0o644)
+	if err != nil {
+		return err
+	}
+	_, err = file.Write(text)
+	if closed := file.Close(); err == nil {
+		err = closed
+	}
+	if err == nil {
+		fmt.Printf("%s: %d voters, load %d/%d\n", path, len(plan.Names), plan.LoadP, plan.LoadQ)
+	}
+	return err
+}
+
+// answer is one voter's reply, as --json prints it.
+type answer struct {
+	Voter string          `json:"voter"`
+	Reply json.RawMessage `json:"reply,omitempty"`
+	Error string          `json:"error,omitempty"`
+}
+
+// printJSON prints replies as JSON.
+func printJSON(replies []operator.Reply) error {
+	answers := make([]answer, 0, len(replies))
+	for _, r := range replies {
+		one := answer{Voter: r.Name}
+		if r.Err != nil {
+			one.Error = r.Err.Error()
+		} else {
+			one.Reply = r.Body
+		}
+		answers = append(answers, one)
+	}
+	return json.NewEncoder(os.Stdout).Encode(answers)
+}
+
+// complete returns an error if some voter did not reply.
+func complete(replies []operator.Reply) error {
+	var missing []string
+	for _, r := range replies {
+		if r.Err != nil {
+			missing = append(missing, r.Name)
+		}
+	}
+	if missing != nil {
+		return fmt.Errorf("%w: %s", errSilent, strings.Join(missing, ", "))
+	}
+	return nil
+}
+
+// simple makes a command that asks all voters the same, and prints a line for each.
+func simple(ctx context.Context, s *settings, command *cobra.Command, words func(args []string) (string, error), line func(r operator.Reply) (string, error)) *cobra.Command {
+	command.RunE = func(_ *cobra.Command, args []string) error {
+		text, err := words(args)
+		if err != nil {
+			return err
+		}
+		return s.ask(ctx, func(ctx context.Context, _ *config.Cluster, console *operator.Console) error {
+			replies, err := console.Ask(ctx, text, console.All()...)
+			if err != nil {
+				return err
+			}
+			if s.json {
+				err = printJSON(replies)
+			} else {
+				err = printLines(replies, line)
+			}
+			if err != nil {
+				return err
+			}
+			return complete(replies)
+		})
+	}
+	return command
+}
+
+func printLines(replies []operator.Reply, line func(r operator.Reply) (string, error)) error {
+	for _, r := range replies {
+		text := ""
+		if r.Err != nil {
+			text = r.Err.Error()
+		} else {
+			var err error
+			if text, err = line(r); err != nil {
+				return fmt.Errorf("%s: %w", r.Name, err)
+			}
+		}
+		fmt.Printf("%-12s %s\n", r.Name, text)
+	}
+	return nil
+}
+
+func statusCommand(ctx context.Context, s *settings) *cobra.Command {
+	command := &cobra.Command{Use: "status", Args: cobra.NoArgs, Short: "Show each voter"}
+	return simple(ctx, s, command, func([]string) (string, error) { return "status", nil }, func(r operator.Reply) (string, error) {
+		var one voter.Status
+		if err := json.Unmarshal(r.Body, &one); err != nil {
+			return "", err
+		}
+		return fmt.Sprintf("locks=%d busy=%d sessions=%d granted=%d runs=%s lost=%d identity=%.8s", one.Locks, one.Busy,
+			len(one.Sessions), one.Granted, time.Duration(one.Runs*float64(time.Second)).Round(time.Second), one.Block, one.Identity) +
+			plans(one.Planned), nil
+	})
+}
+
+func evictCommand(ctx context.Context, s *settings) *cobra.Command {
+	command := &cobra.Command{Use: "evict CLIENT", Args: cobra.ExactArgs(1), Short: "End a client's session, and let all go that it has",
+		Long: "Ends a client's session, and lets all go that it has. The client may still believe that it has its locks: only guards " +
+			"refuse what it writes then. `qlockctl report` shows the numbers of clients."}
+	return simple(ctx, s, command, func(args []string) (string, error) {
+		if number, err := strconv.Atoi(args[0]); err != nil || number < 0 || number >= qlock.MaxClients {
+			return "", fmt.Errorf("%q is no client number, 0 to %d", args[0], qlock.MaxClients-1)
+		}
+		return "evict " + args[0], nil
+	}, letGo)
+}
+
+// letGo returns the line of a reply to `evict` and `unlock`.
+func letGo(r operator.Reply) (string, error) {
+	var gone voter.LetGo
+	err := json.Unmarshal(r.Body, &gone)
+	return fmt.Sprintf("let_go=%d", gone.LetGo), err
+}
+
+func unlockCommand(ctx context.Context, s *settings) *cobra.Command {
+	return &cobra.Command{Use: "unlock LOCK", Args: cobra.ExactArgs(1), Short: "Let a lock go, whoever has it",
+		Long: "Lets the grants of a lock go that the client has who has the votes of a quorum. That client may still believe that it " +
+			"has the lock: only the guard refuses what it writes then.",
+		RunE: func(_ *cobra.Command, args []string) error {
+			return s.ask(ctx, func(ctx context.Context, cluster *config.Cluster, console *operator.Console) error {
+				return unlock(ctx, s, cluster, console, args[0])
+			})
+		}}
+}
+
+// unlock finds who has a lock, and lets these grants go and no newer ones.
+func unlock(ctx context.Context, s *settings, cluster *config.Cluster, console *operator.Console, lock string) error {
+	replies, err := console.Ask(ctx, "lock "+lock, console.All()...)
+	if err != nil {
+		return err
+	}
+	votes := map[[2]uint64]uint64{} // by client and stamp: who granted
+	grants := map[int]uint64{}
+	for _, r := range replies {
+		var v voter.VoteView
+		if r.Err == nil && json.Unmarshal(r.Body, &v) == nil && v.Client >= 0 {
+			votes[[2]uint64{uint64(v.Client), v.Stamp}] |= 1 << r.Voter
+			grants[r.Voter] = v.Grant
+		}
+	}
+	for _, mask := range votes {
+		if cluster.HasAny(mask) {
+			return letGoAll(ctx, s, console, lock, mask, grants)
+		}
+	}
+	return fmt.Errorf("%s: %w", lock, errFree)
+}
+
+func letGoAll(ctx context.Context, s *settings, console *operator.Console, lock string, mask uint64, grants map[int]uint64) error {
+	var all []operator.Reply
+	for ; mask != 0; mask &= mask - 1 {
+		one := bits.TrailingZeros64(mask)
+		replies, err := console.Ask(ctx, fmt.Sprintf("unlock %s %d", lock, grants[one]), one)
+		if err != nil {
+			return err
+		}
+		all = append(all, replies...)
+	}
+	if s.json {
+		if err := printJSON(all); err != nil {
+			return err
+		}
+	} else if err := printLines(all, letGo); err != nil {
+		return err
+	}
+	return complete(all)
+}
+
+// use is how often a voter is asked: its share by the plan, and its share of the grants.
+type use struct {
+	Voter   string  `json:"voter"`
+	Planned float64 `json:"planned_share"`
+	Grants  uint64  `json:"grants"`
+	Share   float64 `json:"share"`
+}
+
+// holding is one vote of a lock that somebody has or waits for.
+type holding struct {
+	Voter string `json:"voter"`
+	voter.VoteView
+}
+
+// report is what `report` prints.
+type report struct {
+	Cluster string    `json:"cluster"`
+	Load    string    `json:"load"`
+	Use     []use     `json:"use"`
+	Votes   []holding `json:"votes"`
+	Silent  []string  `json:"silent,omitempty"`
+}
+
+func reportCommand(ctx context.Context, s *settings) *cobra.Command {
+	return &cobra.Command{Use: "report", Args: cobra.NoArgs, Short: "Show who has which votes, who waits, and the use of voters beside the plan",
+		RunE: func(*cobra.Command, []string) error {
+			return s.ask(ctx, func(ctx context.Context, cluster *config.Cluster, console *operator.Console) error {
+				replies, err := console.Ask(ctx, "status", console.All()...)
+				if err != nil {
+					return err
+				}
+				r := newReport(cluster, replies)
+				if s.json {
+					err = json.NewEncoder(os.Stdout).Encode(r)
+				} else {
+					r.print()
+				}
+				if err != nil {
+					return err
+				}
+				return complete(replies)
+			})
+		}}
+}
+
+// newReport collects what the voters replied.
+func newReport(cluster *config.Cluster, replies []operator.Reply) report {
+	plan := cluster.Planned
+	r := report{Cluster: cluster.ID, Load: fmt.Sprintf("%d/%d", plan.LoadP, plan.LoadQ), Votes: []holding{}}
+	planned, grants := 0, uint64(0)
+	for number, name := range cluster.Names() {
+		one := use{Voter: name}
+		uses := 0
+		for _, quorum := range plan.Quorums {
+			uses += int(quorum >> number & 1)
+		}
+		one.Planned, planned = float64(uses), planned+uses
+		r.Use = append(r.Use, one)
+	}
+	for _, reply := range replies {
+		var status voter.Status
+		if reply.Err != nil || json.Unmarshal(reply.Body, &status) != nil {
+			r.Silent = append(r.Silent, reply.Name)
+			continue
+		}
+		r.Use[reply.Voter].Grants, grants = status.Granted, grants+status.Granted
+		for _, v := range status.Votes {
+			r.Votes = append(r.Votes, holding{reply.Name, v})
+		}
+	}
+	for i := range r.Use {
+		r.Use[i].Planned /= float64(planned)
+		if grants > 0 {
+			r.Use[i].Share = float64(r.Use[i].Grants) / float64(grants)
+		}
+	}
+	sort.SliceStable(r.Votes, func(i, j int) bool { return r.Votes[i].Lock < r.Votes[j].Lock })
+	return r
+}
+
+func (r report) print() {
+	fmt.Printf("cluster %s, load %s\n\nvoter        planned   share   grants\n", r.Cluster, r.Load)
+	for _, one := range r.Use {
+		fmt.Printf("%-12s %5.1f %%  %5.1f %%  %d\n", one.Voter, 100*one.Planned, 100*one.Share, one.Grants)
+	}
+	if len(r.Votes) > 0 {
+		fmt.Println("\nlock                 voter        client  since s  waiting")
+	}
+	for _, v := range r.Votes {
+		var waiting []string
+		for _, w := range v.Waiting {
+			waiting = append(waiting, fmt.Sprintf("%d (%.1f s)", w.Client, w.Waits))
+		}
+		fmt.Printf("%-20s %-12s %6d  %7.1f  %s\n", v.Lock, v.Voter, v.Client, v.Held, strings.Join(waiting, ", "))
+	}
+}

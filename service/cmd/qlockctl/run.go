@@ -1,0 +1,115 @@
+package main
+
+import (
+	"context"
+	"encoding/hex"
+	"errors"
+	"fmt"
+	"os"
+	"os/exec"
+	"syscall"
+	"time"
+
+	"calvundek.example/service/locks"
+	"github.com/spf13/cobra"
+)
+
+// Exit statuses of `run` besides that of the program.
+const (
+	exitNoLock = 75 // the lock was not to be had in time
+	exitLost   = 76 // the lock may have been lost while the program ran
+)
+
+var errLost = errors.New("the lock may be somebody else's, and the program was ended")
+
+func runCommand(ctx context.Context, s *settings) *cobra.Command {
+	var wait, grace time.Duration
+	var prefix string
+	command := &cobra.Command{Use: "run LOCK PROGRAM [ARGUMENT..]", Args: cobra.MinimumNArgs(2), Short: "Run a program that needs a lock",
+		Long: "Takes a lock, runs a program, and gives the lock back. The program finds its pass in QLOCK_PASS, in hexadecimal: " +
+			"what it shows to the guard. If the lock may be lost, the program and all processes of its group get SIGTERM, and " +
+			"then SIGKILL. It can't read from a terminal.\n\nThe exit status is that of the program, 75 if the lock was not " +
+			"to be had in time, or 76 if the lock may have been lost.",
+		RunE: func(_ *cobra.Command, args []string) error {
+			return run(ctx, s.client(prefix), wait, grace, args[0], args[1:])
+		}}
+	command.Flags().DurationVar(&wait, "wait", time.Minute, "how long to wait for the lock")
+	command.Flags().DurationVar(&grace, "grace", time.Second, "how long after SIGTERM SIGKILL is sent")
+	command.Flags().StringVar(&prefix, "prefix", "", "the first part of the session's name, as the user's permissions need it")
+	command.Flags().SetInterspersed(false)
+	return command
+}
+
+// run runs a program under a lock.
+func run(ctx context.Context, config locks.Config, wait, grace time.Duration, lock string, words []string) (err error) {
+	limit, cancel := context.WithTimeout(ctx, wait)
+	defer cancel()
+	client, err := locks.Open(limit, config)
+	if err != nil {
+		return status{exitNoLock, err}
+	}
+	defer func() {
+		brief, cancel := context.WithTimeout(context.Background(), 5*time.Second)
+		defer cancel()
+		if closed := client.Close(brief); err == nil && closed != nil && !errors.Is(closed, locks.ErrLost) {
+			fmt.Fprintln(os.Stderr, "qlockctl: the lock is let go after the TTL:", closed)
+		}
+	}()
+	held, err := client.Lock(limit, lock)
+	if err != nil {
+		return status{exitNoLock, fmt.Errorf("%s: %w", lock, err)}
+	}
+	work, done := held.Context(ctx)
+	defer done()
+	code, err := runProgram(work, grace, words, "QLOCK_PASS="+hex.EncodeToString(held.Token()))
+	lost := work.Err() != nil && ctx.Err() == nil
+	_ = held.Unlock() // an error says that it is lost, which the context said before
+	switch {
+	case lost:
+		return status{exitLost, fmt.Errorf("%s: %w", lock, errLost)}
+	case err != nil:
+		return err
+	case code != 0:
+		return status{code: code}
+	}
+	return nil
+}
+
+// runProgram runs a program until it ends, or the context does. It returns the program's exit status. The program has a
+// process group of its own, so that all of it gets the signals.
+func runProgram(ctx context.Context, grace time.Duration, words []string, environment string) (int, error) {
+	program := exec.Command(words[0], words[1:]...)
+	program.Env = append(os.Environ(), environment)
+	program.SysProcAttr = &syscall.SysProcAttr{Setpgid: true}
+	program.Stdin, program.Stdout, program.Stderr = os.Stdin, os.Stdout, os.Stderr
+	if err := program.Start(); err != nil {
+		return 0, err
+	}
+	ended := make(chan error, 1)
+	go func() { ended <- program.Wait() }()
+	select {
+	case err := <-ended:
+		return exitCode(err)
+	case <-ctx.Done():
+		_ = syscall.Kill(-program.Process.Pid, syscall.SIGTERM)
+	}
+	select {
+	case err := <-ended:
+		return exitCode(err)
+	case <-time.After(grace):
+		_ = syscall.Kill(-program.Process.Pid, syscall.SIGKILL)
+		return exitCode(<-ended)
+	}
+}
+
+// exitCode returns the exit status of a program, as a shell counts it.
+func exitCode(err error) (int, error) {
+	var exit *exec.ExitError
+	if !errors.As(err, &exit) {
+		return 0, err
+	}
+	if state, ok := exit.Sys().(syscall.WaitStatus); ok && state.Signaled() {
+		return 128 + int(state.Signal()), nil
+	}
+	return exit.ExitCode(), nil
+}

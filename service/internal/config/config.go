@@ -1,0 +1,224 @@
+// Package config reads the two files of a process: the cluster's, which all processes share and `qlockctl init` makes,
+// and a voter's own.
+package config
+
+import (
+	"bytes"
+	"crypto/rand"
+	"crypto/sha256"
+	"encoding/hex"
+	"errors"
+	"fmt"
+	"strconv"
+	"time"
+
+	"calvundek.example/service/internal/wire"
+	"calvundek.example/service/qlock"
+	"github.com/BurntSushi/toml"
+)
+
+// The errors of this package.
+var (
+	ErrConfig = errors.New("bad configuration")
+	ErrPlaces = errors.New("a voter has another number in the new plan: list the same voters in the same order, new ones behind them")
+	ErrBridge = errors.New("some quorum of the old plan has no common voter with some quorum of the new one")
+)
+
+// Duration is a time that is written as "250ms".
+type Duration struct{ time.Duration }
+
+// UnmarshalText reads a duration.
+func (d *Duration) UnmarshalText(text []byte) (err error) {
+	d.Duration, err = time.ParseDuration(string(text))
+	return err
+}
+
+// MarshalText writes a duration.
+func (d Duration) MarshalText() ([]byte, error) { return []byte(d.String()), nil }
+
+// Cluster is what voters and clients have to agree on.
+type Cluster struct {
+	ID      string   `toml:"id"`
+	Servers []string `toml:"servers"`
+	TTL     Duration `toml:"ttl"`
+	CA      string   `toml:"ca,omitempty"` // the file of the authority that signs the servers' certificates
+	Coterie string   `toml:"coterie"`
+	Plan    string   `toml:"plan"`
+
+	Generation uint64 `toml:"generation,omitzero"` // how often the plan was exchanged
+	OldCoterie string `toml:"old_coterie,omitempty"`
+	OldPlan    string `toml:"old_plan,omitempty"` // the plan before, until it is retired
+
+	Planned    *qlock.Plan `toml:"-"` // the plan, once it was checked
+	OldPlanned *qlock.Plan `toml:"-"` // nil if none is being exchanged
+}
+
+// Access is how a process shows the servers of NATS who it is. All of it may be empty.
+type Access struct {
+	User   string `toml:"user"`
+	Secret string `toml:"secret"` // the file of the password
+	Cert   string `toml:"cert"`   // the files of a certificate and of its key
+	Key    string `toml:"key"`
+}
+
+// Voter is the configuration of one voter.
+type Voter struct {
+	Cluster  string   `toml:"cluster"` // the cluster's file
+	Voter    string   `toml:"voter"`   // its name in the coterie
+	Data     string   `toml:"data"`    // the folder of its state
+	Lost     uint64   `toml:"lost"`    // how often it lost its state; noted before a new one is made
+	Listen   string   `toml:"listen"`  // the address of /metrics and /healthz, none if it is empty
+	MaxLocks int      `toml:"max_locks"`
+	First    Duration `toml:"remind_first"`
+	Most     Duration `toml:"remind_most"`
+	Access
+}
+
+// ReadCluster reads a cluster's file, and checks it and its plan.
+func ReadCluster(path string) (*Cluster, error) {
+	c := &Cluster{TTL: Duration{10 * time.Second}}
+	if err := decode(path, c); err != nil {
+		return nil, err
+	}
+	if err := c.Check(); err != nil {
+		return nil, fmt.Errorf("%s: %w", path, err)
+	}
+	return c, nil
+}
+
+// Check checks a cluster, and its plan.
+func (c *Cluster) Check() (err error) {
+	switch {
+	case !wire.IsID([]byte(c.ID)):
+		return fmt.Errorf("%w: id is %q, and has to be 1 to 32 letters, digits, - and _", ErrConfig, c.ID)
+	case len(c.Servers) == 0:
+		return fmt.Errorf("%w: there are no servers", ErrConfig)
+	case c.TTL.Duration < 200*time.Millisecond:
+		return fmt.Errorf("%w: ttl is %v, and has to be 200ms or longer", ErrConfig, c.TTL)
+	}
+	if c.Planned, err = qlock.ReadPlan(c.Coterie, c.Plan); err != nil {
+		return fmt.Errorf("%w: %v", ErrConfig, err)
+	}
+	if c.OldPlanned = nil; c.OldCoterie == "" {
+		return nil
+	}
+	if c.OldPlanned, err = qlock.ReadPlan(c.OldCoterie, c.OldPlan); err != nil || c.Generation == 0 {
+		return fmt.Errorf("%w: old_coterie, old_plan or generation: %v", ErrConfig, err)
+	}
+	if err := CheckExchange(c.OldPlanned, c.Planned); err != nil {
+		return fmt.Errorf("%w: %v", ErrConfig, err)
+	}
+	return nil
+}
+
+// CheckExchange returns an error unless one plan may be exchanged for another while both are in use: each voter keeps its
+// number, and each quorum of one meets each one of the other.
+func CheckExchange(old, now *qlock.Plan) error {
+	for i := 0; i < len(old.Names) && i < len(now.Names); i++ {
+		if old.Names[i] != now.Names[i] {
+			return fmt.Errorf("%w: %d is %q and %q", ErrPlaces, i, old.Names[i], now.Names[i])
+		}
+	}
+	if !old.IsBridged(now) {
+		return ErrBridge
+	}
+	return nil
+}
+
+// Names returns the names of all voters by their numbers, also of those that only one of two plans has.
+func (c *Cluster) Names() []string {
+	if c.OldPlanned != nil && len(c.OldPlanned.Names) > len(c.Planned.Names) {
+		return c.OldPlanned.Names
+	}
+	return c.Planned.Names
+}
+
+// Number returns the number of a voter by its name, -1 if no plan has it.
+func (c *Cluster) Number(name string) int {
+	for number, other := range c.Names() {
+		if other == name {
+			return number
+		}
+	}
+	return -1
+}
+
+// HasQuorums returns whether a set of voters contains a quorum of each plan.
+func (c *Cluster) HasQuorums(voters uint64) bool {
+	return c.Planned.HasQuorum(voters) && (c.OldPlanned == nil || c.OldPlanned.HasQuorum(voters))
+}
+
+// HasAny returns whether a set of voters contains a quorum of any plan.
+func (c *Cluster) HasAny(voters uint64) bool {
+	return c.Planned.HasQuorum(voters) || c.OldPlanned != nil && c.OldPlanned.HasQuorum(voters)
+}
+
+// Marks returns what messages say of the plan, and of the one before it while it is exchanged.
+func (c *Cluster) Marks() []string {
+	if c.OldPlanned == nil {
+		return []string{Mark(c.Generation, c.Coterie)}
+	}
+	return []string{Mark(c.Generation, c.Coterie), Mark(c.Generation-1, c.OldCoterie)}
+}
+
+// Text returns the text of a cluster's file.
+func (c *Cluster) Text() ([]byte, error) {
+	var text bytes.Buffer
+	err := toml.NewEncoder(&text).Encode(c)
+	return text.Bytes(), err
+}
+
+// ReadVoter reads a voter's file, and that of its cluster.
+func ReadVoter(path string) (*Voter, *Cluster, error) {
+	v := &Voter{MaxLocks: 100000, First: Duration{250 * time.Millisecond}, Most: Duration{5 * time.Second}}
+	if err := decode(path, v); err != nil {
+		return nil, nil, err
+	}
+	if v.Data == "" || v.MaxLocks < 1 || v.First.Duration <= 0 || v.Most.Duration < v.First.Duration {
+		return nil, nil, fmt.Errorf("%s: %w: data, max_locks, remind_first or remind_most", path, ErrConfig)
+	}
+	cluster, err := ReadCluster(v.Cluster)
+	if err != nil {
+		return nil, nil, err
+	}
+	if cluster.Number(v.Voter) < 0 {
+		return nil, nil, fmt.Errorf("%s: %w: the coterie has no voter %q", path, ErrConfig, v.Voter)
+	}
+	return v, cluster, nil
+}
+
+// decode reads a file. A key that nothing reads is refused.
+func decode(path string, into interface{}) error {
+	meta, err := toml.DecodeFile(path, into)
+	if err != nil {
+		return fmt.Errorf("%w: %s: %v", ErrConfig, path, err)
+	}
+	if unknown := meta.Undecoded(); len(unknown) > 0 {
+		return fmt.Errorf("%w: %s: unknown key %s", ErrConfig, path, unknown[0])
+	}
+	return nil
+}
+
+// Hash returns a part of the SHA-256 of a text, in hexadecimal.
+func Hash(text string) string {
+	sum := sha256.Sum256([]byte(text))
+	return hex.EncodeToString(sum[:6])
+}
+
+// Mark returns what a message says of a coterie, and of how often the plan was exchanged before it. Who has another one
+// drops the message.
+func Mark(generation uint64, coterie string) string {
+	if generation == 0 {
+		return Hash(coterie)
+	}
+	return Hash(strconv.FormatUint(generation, 10) + " " + coterie)
+}
+
+// Nonce returns 128 random bits in hexadecimal.
+func Nonce() (string, error) {
+	b := make([]byte, 16)
+	if _, err := rand.Read(b); err != nil {
+		return "", err
+	}
+	return hex.EncodeToString(b), nil
+}

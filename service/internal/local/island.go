@@ -1,0 +1,104 @@
+package local
+
+import (
+	"bytes"
+	"fmt"
+	"os"
+	"os/exec"
+	"path/filepath"
+	"strings"
+)
+
+// serverAddress is where the servers are if processes have network namespaces.
+const serverAddress = "10.77.255.1"
+
+// Island is the network namespace of one process, with one cable to the servers. It needs root and iproute2, and nftables
+// for one direction.
+type Island struct {
+	name, cable string
+	number      int
+}
+
+// ip runs commands of ip, one for each line.
+func ip(lines string) error {
+	for _, line := range strings.Split(strings.TrimSpace(lines), "\n") {
+		if out, err := exec.Command("ip", strings.Fields(line)...).CombinedOutput(); err != nil {
+			return fmt.Errorf("ip %s: %s", strings.TrimSpace(line), bytes.TrimSpace(out))
+		}
+	}
+	return nil
+}
+
+// newIsland makes a namespace, from which the servers can be reached.
+func newIsland(number int) (*Island, error) {
+	i := &Island{fmt.Sprintf("qlock-%d-%d", os.Getpid(), number), fmt.Sprintf("ql%d-%d", os.Getpid(), number), number}
+	return i, ip(fmt.Sprintf(`netns add %[1]s
+		link add %[2]s type veth peer name eth0 netns %[1]s
+		addr add 10.77.%[3]d.1/30 dev %[2]s
+		link set %[2]s up
+		-n %[1]s link set lo up
+		-n %[1]s addr add 10.77.%[3]d.2/30 dev eth0
+		-n %[1]s link set eth0 up
+		-n %[1]s route add default via 10.77.%[3]d.1`, i.name, i.cable, number))
+}
+
+// remove removes the namespace, and with it its cable.
+func (i *Island) remove() { _ = ip("netns del " + i.name) }
+
+// Cut cuts the island off, or connects it again.
+func (i *Island) Cut(cut bool) error {
+	if cut {
+		return ip("link set " + i.cable + " down")
+	}
+	return ip("link set " + i.cable + " up")
+}
+
+// Mute drops all that leaves the island, while what comes to it arrives, or ends that.
+func (i *Island) Mute(mute bool) error {
+	rules := "add table inet qlock; add chain inet qlock out { type filter hook output priority 0; policy drop; }"
+	if !mute {
+		rules = "delete table inet qlock"
+	}
+	if out, err := exec.Command("ip", "netns", "exec", i.name, "nft", rules).CombinedOutput(); err != nil {
+		return fmt.Errorf("nft: %s", bytes.TrimSpace(out))
+	}
+	return nil
+}
+
+// within returns the words that run a program on the island.
+func (i *Island) within(words []string) []string {
+	return append([]string{"ip", "netns", "exec", i.name}, words...)
+}
+
+// addAddress gives this machine the servers' address, and returns what takes it away.
+func addAddress() (func(), error) {
+	_ = ip("addr del " + serverAddress + "/32 dev lo") // of a trial that was killed
+	return func() { _ = ip("addr del " + serverAddress + "/32 dev lo") }, ip("addr add " + serverAddress + "/32 dev lo")
+}
+
+// smallDisk mounts a small file system over a voter's folder, and returns what takes it away. It needs root.
+func smallDisk(folder string) (func(), error) {
+	if err := os.MkdirAll(folder, 0o700); err != nil {
+		return nil, err
+	}
+	if out, err := exec.Command("mount", "-t", "tmpfs", "-o", "size=8m", "none", folder).CombinedOutput(); err != nil {
+		return nil, fmt.Errorf("mount: %s", bytes.TrimSpace(out))
+	}
+	return func() { _ = exec.Command("umount", "-l", folder).Run() }, nil
+}
+
+// FillDisk fills the small disk of the first voter, and EmptyDisk makes room again.
+func (c *Cluster) FillDisk() error {
+	file, err := os.Create(filepath.Join(c.Data(0), "full"))
+	if err != nil {
+		return err
+	}
+	defer file.Close()
+	for block := make([]byte, 4096); err == nil; {
+		_, err = file.Write(block)
+	}
+	return nil // there is no room any more
+}
+
+// EmptyDisk makes room again.
+func (c *Cluster) EmptyDisk() error { return os.Remove(filepath.Join(c.Data(0), "full")) }

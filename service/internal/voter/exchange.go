@@ -1,0 +1,277 @@
+package voter
+
+import (
+	"encoding/base64"
+	"encoding/json"
+	"errors"
+	"fmt"
+	"strconv"
+	"time"
+
+	"calvundek.example/service/internal/config"
+	"calvundek.example/service/internal/wire"
+	"calvundek.example/service/qlock"
+)
+
+// The errors of an exchange of plans.
+var (
+	ErrUnderWay = errors.New("a plan is being exchanged already: retire the old one first")
+	ErrSettle   = errors.New("the last retirement is not complete: call `qlockctl retire` again")
+	ErrNumber   = errors.New("the plan is not the next one of this voter's")
+	ErrLong     = errors.New("the plan is too long to be sent")
+	ErrLag      = errors.New("clients still have requests of the old plan")
+)
+
+// mostPlan is how many bytes the two texts of a plan may have, to be sent in one message.
+const mostPlan = 96 << 10
+
+// Texts are a coterie and a plan of it.
+type Texts struct {
+	Coterie string `json:"coterie"`
+	Plan    string `json:"plan"`
+}
+
+// Generations are the plan that a voter has, and the one before it until that is retired. A voter takes one plan after
+// another, each once.
+type Generations struct {
+	Number  uint64   `json:"number"` // of the plan: how often it was exchanged
+	Now     Texts    `json:"now"`
+	Old     *Texts   `json:"old,omitempty"`
+	Settled bool     `json:"settled"`        // what was reserved by older plans is known here, so the next exchange may begin
+	Past    []string `json:"past,omitempty"` // the marks of the plans that were retired
+}
+
+// NewGenerations returns the plans of a cluster's file.
+func NewGenerations(c *config.Cluster) Generations {
+	g := Generations{Number: c.Generation, Now: Texts{c.Coterie, c.Plan}, Settled: c.Generation == 0}
+	if c.OldPlanned != nil {
+		g.Old = &Texts{c.OldCoterie, c.OldPlan}
+	}
+	return g
+}
+
+// mark returns the mark of the plan, and oldMark that of the one before it, "" if it is retired.
+func (g *Generations) mark() string { return config.Mark(g.Number, g.Now.Coterie) }
+
+func (g *Generations) oldMark() string {
+	if g.Old == nil {
+		return ""
+	}
+	return config.Mark(g.Number-1, g.Old.Coterie)
+}
+
+// oldest returns the number of the oldest plan that is not retired.
+func (g *Generations) oldest() uint64 {
+	if g.Old == nil {
+		return g.Number
+	}
+	return g.Number - 1
+}
+
+// knows returns whether a mark is that of a plan which this voter has or had.
+func (g *Generations) knows(mark string) bool {
+	for _, past := range g.Past {
+		if past == mark {
+			return true
+		}
+	}
+	return mark == g.mark() || mark == g.oldMark()
+}
+
+// retire returns the plans without the old one.
+func (g Generations) retire() Generations {
+	if g.Old != nil {
+		g.Past = append(g.Past[:len(g.Past):len(g.Past)], g.oldMark())
+	}
+	g.Old, g.Settled = nil, false
+	return g
+}
+
+// follow returns the plans of a state that is opened with the plans of a file, and whether it changed. The file may be one
+// of before an exchange, or of after those that this voter slept through.
+func (g Generations) follow(file Generations) (_ Generations, changed bool, err error) {
+	switch {
+	case file.Number <= g.Number && g.knows(file.mark()):
+		return g, false, nil
+	case file.Number > g.Number:
+		now := g.retire()
+		file.Past = append(now.Past, g.mark())
+		return file, true, nil
+	}
+	return g, false, ErrOther
+}
+
+// next returns the plans once a new one is taken beside the one in use. The proved library says whether they are bridged.
+func (g Generations) next(number uint64, texts Texts) (Generations, error) {
+	switch {
+	case number == g.Number && texts == g.Now:
+		return g, nil // it has it already
+	case g.Old != nil:
+		return g, ErrUnderWay
+	case !g.Settled:
+		return g, ErrSettle
+	case number != g.Number+1:
+		return g, ErrNumber
+	case len(texts.Coterie)+len(texts.Plan) > mostPlan:
+		return g, ErrLong
+	}
+	old, err := qlock.ReadPlan(g.Now.Coterie, g.Now.Plan)
+	if err != nil {
+		return g, err
+	}
+	now, err := qlock.ReadPlan(texts.Coterie, texts.Plan)
+	if err != nil {
+		return g, err
+	}
+	if err := config.CheckExchange(old, now); err != nil {
+		return g, err
+	}
+	before := g.Now
+	return Generations{Number: number, Now: texts, Old: &before, Past: g.Past}, nil
+}
+
+// setPlans notes which plans this voter has. They are saved before anything leaves.
+func (d *Daemon) setPlans(g Generations) {
+	d.plans, d.newPlans = g, true
+	d.markPlans()
+}
+
+func (d *Daemon) markPlans() {
+	d.mark, d.oldMark, d.marks = d.plans.mark(), d.plans.oldMark(), map[string]string{}
+}
+
+// hears notes by which plan a session speaks, while there are two.
+func (d *Daemon) hears(h wire.Header) {
+	if d.oldMark == "" {
+		return
+	}
+	if len(d.marks) > 16*qlock.MaxClients { // most are of sessions that are gone
+		d.marks = map[string]string{}
+	}
+	d.marks[h.Name] = h.Coterie
+}
+
+// speaks returns the mark in a message to a session: that of the plan by which it spoke last. One that was not heard yet
+// may know the old plan only.
+func (d *Daemon) speaks(name string) string {
+	switch {
+	case d.oldMark == "":
+		return d.mark
+	case d.marks[name] == d.mark:
+		return d.mark
+	}
+	return d.oldMark
+}
+
+// announce tells a session which plans there are, if there was ever another one.
+func (d *Daemon) announce(name string) {
+	if d.plans.Number > 0 {
+		d.tell(name, "generation %d %s %d", d.plans.Number, d.mark, d.plans.oldest())
+	}
+}
+
+// tellPlan sends the plan to a session.
+func (d *Daemon) tellPlan(name string) {
+	encode := base64.StdEncoding.EncodeToString
+	d.tell(name, "plan %d %s %s", d.plans.Number, encode([]byte(d.plans.Now.Coterie)), encode([]byte(d.plans.Now.Plan)))
+}
+
+// Planned is the reply to `exchange`, `retire` and `settle`: which plans a voter has.
+type Planned struct {
+	Generation uint64 `json:"generation"`
+	Oldest     uint64 `json:"oldest"`
+	Settled    bool   `json:"settled"`
+}
+
+func (d *Daemon) planned(err error) interface{} {
+	if err != nil {
+		return Refused{err.Error()}
+	}
+	return Planned{d.plans.Number, d.plans.oldest(), d.plans.Settled}
+}
+
+// exchange obeys `exchange NUMBER COTERIE PLAN`, `retire NUMBER` or `settle NUMBER SESSIONS`.
+func (d *Daemon) exchange(words []string, now time.Time) interface{} {
+	number, err := strconv.ParseUint(words[1], 10, 64)
+	switch {
+	case err == nil && words[0] == "exchange" && len(words) == 4:
+		return d.planned(d.takePlan(number, words[2], words[3]))
+	case err == nil && words[0] == "retire" && len(words) == 2:
+		return d.planned(d.retire(number, now))
+	case err == nil && words[0] == "settle" && len(words) == 3:
+		return d.planned(d.settle(number, words[2], now))
+	}
+	return Refused{"unknown command"}
+}
+
+// takePlan takes a plan beside the one in use.
+func (d *Daemon) takePlan(number uint64, coterie, plan string) error {
+	first, err := base64.StdEncoding.DecodeString(coterie)
+	if err != nil {
+		return err
+	}
+	second, err := base64.StdEncoding.DecodeString(plan)
+	if err != nil {
+		return err
+	}
+	g, err := d.plans.next(number, Texts{string(first), string(second)})
+	if err == nil && g.Number != d.plans.Number {
+		d.setPlans(g)
+		d.log.Write("exchange", "generation", number)
+	}
+	return err
+}
+
+// retire refuses the old plan from now on. No session that was heard within the TTL may have a request of it. A session that is
+// silent is ended: it may have one.
+func (d *Daemon) retire(number uint64, now time.Time) error {
+	if number != d.plans.Number {
+		return ErrNumber
+	}
+	if d.plans.Old == nil {
+		return nil
+	}
+	var lag, silent []int
+	for client, row := range d.table.rows {
+		switch {
+		case !row.Open || d.asksBy[client] >= number:
+		case d.table.isDead(client, now):
+			silent = append(silent, client)
+		default:
+			lag = append(lag, client)
+		}
+	}
+	if len(lag) > 0 {
+		return fmt.Errorf("%w: %v", ErrLag, lag)
+	}
+	for _, client := range silent {
+		d.table.expel(client)
+		d.recount(client)
+	}
+	d.setPlans(d.plans.retire())
+	d.log.Write("retire", "generation", number, "ended", len(silent))
+	return nil
+}
+
+// settle takes what a quorum of the old plan knew of sessions, after it refused that plan.
+func (d *Daemon) settle(number uint64, text string, now time.Time) error {
+	if number != d.plans.Number || d.plans.Old != nil {
+		return ErrNumber
+	}
+	rows := map[int]Session{}
+	if err := json.Unmarshal([]byte(text), &rows); err != nil {
+		return err
+	}
+	for client, row := range rows {
+		if client >= 0 && client < qlock.MaxClients && d.table.learn(client, row, now) {
+			d.recount(client)
+		}
+	}
+	if !d.plans.Settled {
+		g := d.plans
+		g.Settled = true
+		d.setPlans(g)
+		d.log.Write("settled", "generation", number)
+	}
+	return nil
+}

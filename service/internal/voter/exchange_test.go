@@ -1,0 +1,168 @@
+package voter
+
+import (
+	"encoding/base64"
+	"encoding/json"
+	"errors"
+	"fmt"
+	"io"
+	"testing"
+	"time"
+
+	"calvundek.example/service/internal/config"
+	"calvundek.example/service/internal/event"
+	"calvundek.example/service/qlock"
+)
+
+const (
+	two   = "voters = [\"a\", \"b\", \"c\"]\nquorums = [[\"a\", \"b\"], [\"a\", \"c\"], [\"b\", \"c\"]]\n"
+	all   = "voters = [\"a\", \"b\", \"c\"]\nquorums = [[\"a\", \"b\", \"c\"]]\n"
+	one   = "voters = [\"a\", \"b\", \"c\"]\nquorums = [[\"a\"]]\n"
+	moved = "voters = [\"b\", \"a\", \"c\"]\nquorums = [[\"a\", \"b\", \"c\"]]\n"
+)
+
+// texts returns a coterie with its plan.
+func texts(t *testing.T, coterie string) Texts {
+	t.Helper()
+	plan, err := qlock.FindPlan(coterie)
+	if err != nil {
+		t.Fatal(err)
+	}
+	return Texts{coterie, plan.Text}
+}
+
+// A voter takes the next plan if it is bridged with its own, and no other, and one after another.
+func TestWhichPlansAreTaken(t *testing.T) {
+	first := Generations{Now: texts(t, two), Settled: true}
+	for _, wrong := range []struct {
+		what   string
+		number uint64
+		next   Texts
+		why    error
+	}{
+		{"a plan that is not bridged", 1, texts(t, one), config.ErrBridge},
+		{"a plan with other places", 1, texts(t, moved), config.ErrPlaces},
+		{"a later plan", 2, texts(t, all), ErrNumber},
+		{"another plan of the same number", 0, texts(t, all), ErrNumber},
+		{"no plan", 1, Texts{all, ""}, qlock.Refused},
+	} {
+		if _, err := first.next(wrong.number, wrong.next); !errors.Is(err, wrong.why) {
+			t.Errorf("%s: %v", wrong.what, err)
+		}
+	}
+	second, err := first.next(1, texts(t, all))
+	if err != nil || second.oldest() != 0 || second.oldMark() != first.mark() {
+		t.Fatal(second, err)
+	}
+	if again, err := second.next(1, texts(t, all)); err != nil || again.Old == nil {
+		t.Error("the same plan again:", err)
+	}
+	if _, err := second.next(2, texts(t, two)); !errors.Is(err, ErrUnderWay) {
+		t.Error("a second exchange:", err)
+	}
+	retired := second.retire()
+	if _, err := retired.next(2, texts(t, two)); !errors.Is(err, ErrSettle) {
+		t.Error("before all is known:", err)
+	}
+	retired.Settled = true
+	third, err := retired.next(2, texts(t, two))
+	if err != nil || third.mark() == first.mark() || !third.knows(first.mark()) {
+		t.Error("back to the first coterie:", err)
+	}
+}
+
+// A state is opened with the file of before an exchange, of it, or of a later one, and with no other.
+func TestWhichFilesAreFollowed(t *testing.T) {
+	first := Generations{Now: texts(t, two), Settled: true}
+	second, err := first.next(1, texts(t, all))
+	if err != nil {
+		t.Fatal(err)
+	}
+	for _, one := range []struct {
+		what        string
+		state, file Generations
+		number      uint64
+		err         error
+	}{
+		{"the same", first, first, 0, nil},
+		{"a newer file", first, second, 1, nil},
+		{"a newer file without the old plan", first, second.retire(), 1, nil},
+		{"an older file", second, first, 1, nil},
+		{"an older file after all", second.retire(), first, 1, nil},
+		{"another coterie", first, Generations{Now: texts(t, all)}, 0, ErrOther},
+		{"another older coterie", second, Generations{Now: texts(t, all)}, 0, ErrOther},
+		{"another coterie of this number", second, Generations{Number: 1, Now: texts(t, one)}, 0, ErrOther},
+	} {
+		g, _, err := one.state.follow(one.file)
+		if !errors.Is(err, one.err) || err == nil && (g.Number != one.number || !g.knows(one.state.mark())) {
+			t.Errorf("%s: plan %d, %v", one.what, g.Number, err)
+		}
+	}
+}
+
+// What a voter learns of sessions raises what is reserved, and ends no session but for a newer one.
+func TestLearn(t *testing.T) {
+	now := time.Unix(1000, 0)
+	table := newTable(now)
+	table.admit(3, "a", 5, 100, now)
+	for _, one := range []struct {
+		what string
+		row  Session
+		want Session
+	}{
+		{"an older session that reserved more", Session{Name: "b", Epoch: 4, Reserved: 300}, Session{"a", 5, 0, 300, true, true}},
+		{"one that is over elsewhere", Session{Name: "x", Epoch: 5, Reserved: 200}, Session{"a", 5, 0, 300, true, true}},
+		{"a newer one", Session{"c", 6, 250, 260, true, true}, Session{"c", 6, 250, 300, true, true}},
+	} {
+		table.learn(3, one.row, now)
+		if table.rows[3] != one.want {
+			t.Errorf("%s: %v", one.what, table.rows[3])
+		}
+	}
+}
+
+// A plan is retired once no session that is heard has a request of the old one, and sessions that are silent are ended.
+func TestRetire(t *testing.T) {
+	now := time.Unix(1000, 0)
+	d := &Daemon{plans: Generations{Now: texts(t, two), Settled: true}, table: *newTable(now), busy: map[*vote]struct{}{}, log: event.To(io.Discard)}
+	d.markPlans()
+	encode := base64.StdEncoding.EncodeToString
+	next := texts(t, all)
+	obey := func(words ...string) error {
+		switch reply := d.exchange(words, now).(type) {
+		case Refused:
+			return errors.New(reply.Error)
+		default:
+			return nil
+		}
+	}
+	if err := obey("exchange", "1", encode([]byte(next.Coterie)), encode([]byte(next.Plan))); err != nil || !d.newPlans {
+		t.Fatal(err)
+	}
+	d.table.admit(3, "a", 1, 10, now)
+	d.table.admit(4, "b", 1, 10, now)
+	now = now.Add(2 * time.Second)
+	d.table.admit(4, "b", 1, 10, now)
+	if err := obey("retire", "1"); err == nil || err.Error() != fmt.Sprintf("%v: [4]", ErrLag) {
+		t.Error("client 4 may have a request of the old plan:", err)
+	}
+	d.asksBy[4] = 1
+	if err := obey("retire", "1"); err != nil || d.oldMark != "" || d.table.rows[3].Open || !d.table.rows[4].Open {
+		t.Error("client 3 is silent:", err)
+	}
+	if d.table.admit(3, "a", 1, 10, now) != taken {
+		t.Error("a session that was ended goes on")
+	}
+	rows, err := json.Marshal(map[int]Session{7: {Name: "c", Epoch: 2, Reserved: 50}})
+	if err != nil {
+		t.Fatal(err)
+	}
+	if err := obey("settle", "1", string(rows)); err != nil || !d.plans.Settled || d.table.rows[7].Reserved != 50 {
+		t.Error(err)
+	}
+	for _, words := range [][]string{{"retire", "2"}, {"settle", "0", "{}"}, {"exchange", "x"}, {"exchange", "2", "!", "!"}, {"other", "1"}} {
+		if obey(words...) == nil {
+			t.Error(words)
+		}
+	}
+}

@@ -1,0 +1,174 @@
+package voter
+
+import (
+	"encoding/json"
+	"fmt"
+	"sort"
+	"strings"
+	"time"
+
+	"calvundek.example/service/internal/config"
+	"calvundek.example/service/internal/wire"
+	"calvundek.example/service/qlock"
+)
+
+// mostShown is how many votes one reply shows. Those that somebody has or waits for come first.
+const mostShown = 1000
+
+// Status is what an operator sees of a voter.
+type Status struct {
+	Meta
+	Locks   int     `json:"locks"`
+	Busy    int     `json:"busy"`    // votes that somebody has or waits for
+	Granted uint64  `json:"granted"` // grants given since the start
+	Runs    float64 `json:"runs_seconds"`
+	Planned
+	Sessions []SessionView `json:"sessions"`
+	Votes    []VoteView    `json:"votes"`
+	Dropped  int           `json:"dropped,omitempty"` // votes for which the reply has no room
+}
+
+// SessionView is what an operator sees of an open session. Its name is a secret, so a hash of it is shown.
+type SessionView struct {
+	Number   int     `json:"number"`
+	Epoch    uint64  `json:"epoch"`
+	Reserved uint64  `json:"reserved"`
+	Hash     string  `json:"hash"`
+	Silent   float64 `json:"silent_seconds"`
+	Requests int     `json:"requests"`
+}
+
+// VoteView is what an operator sees of a vote.
+type VoteView struct {
+	Lock    string       `json:"lock"`
+	Client  int          `json:"client"` // who has it, -1 for nobody
+	Stamp   uint64       `json:"stamp,omitempty"`
+	Grant   uint64       `json:"grant,omitempty"`
+	Held    float64      `json:"held_seconds,omitempty"`
+	Waiting []WaiterView `json:"waiting,omitempty"`
+}
+
+// WaiterView is what an operator sees of a request that waits.
+type WaiterView struct {
+	Client int     `json:"client"`
+	Stamp  uint64  `json:"stamp"`
+	Waits  float64 `json:"waits_seconds"`
+}
+
+// LetGo is the reply to `evict` and `unlock`: how many grants were let go.
+type LetGo struct {
+	LetGo int `json:"let_go"`
+}
+
+// Refused is the reply to what an operator may not do, or what is not known.
+type Refused struct {
+	Error string `json:"error"`
+}
+
+// answer is a reply to an operator, and the mark of the plan by which he asked.
+type answer struct {
+	mark string
+	body []byte
+}
+
+// operate does what an operator asks, and replies after the save.
+func (d *Daemon) operate(message []byte, now time.Time) {
+	h, lines, err := wire.Read(message)
+	if err != nil || !d.isOurs(h) || h.Kind != wire.FromOperator {
+		d.m.foreign.Inc()
+		return
+	}
+	reply, err := json.Marshal(d.obey(strings.Fields(string(lines)), now))
+	if err != nil {
+		reply = []byte(`{"error":"no reply can be written"}`)
+	}
+	d.replies[wire.OperatorBox(d.cluster.ID, h.Name)] = answer{h.Coterie, reply}
+}
+
+// obey does what these words say: `status`, `lock LOCK`, `sessions`, `evict NUMBER`, `unlock LOCK GRANT`, or what exchange obeys.
+func (d *Daemon) obey(words []string, now time.Time) interface{} {
+	switch {
+	case len(words) == 1 && words[0] == "status":
+		return d.status(now)
+	case len(words) == 1 && words[0] == "sessions":
+		return d.table.rows[:]
+	case len(words) == 2 && words[0] == "lock":
+		if v := d.votes[words[1]]; v != nil {
+			return view(v, now)
+		}
+		return VoteView{Lock: words[1], Client: -1}
+	case len(words) == 2 && words[0] == "evict":
+		if number := wire.Number([]byte(words[1])); number >= 0 && number < qlock.MaxClients {
+			return d.evict(number, now)
+		}
+	case len(words) == 3 && words[0] == "unlock":
+		var grant uint64
+		if _, err := fmt.Sscan(words[2], &grant); err == nil && grant > 0 {
+			return d.unlock(words[1], grant, now)
+		}
+	}
+	if len(words) > 1 {
+		return d.exchange(words, now)
+	}
+	return Refused{"unknown command"}
+}
+
+// evict ends a client's session, and lets all go that it has. What it waits for is let go once it gets it.
+func (d *Daemon) evict(number int, now time.Time) LetGo {
+	d.table.expel(number)
+	gone := 0
+	for v := range d.busy {
+		if v.isHolder(number) && d.letGo(v, now) {
+			gone++
+		}
+	}
+	d.recount(number)
+	d.log.Write("evicted", "client", number, "grants", gone)
+	return LetGo{gone}
+}
+
+// unlock lets one grant of a lock go.
+func (d *Daemon) unlock(lock string, grant uint64, now time.Time) LetGo {
+	v := d.votes[lock]
+	if v == nil || v.held.Number != grant || !d.letGo(v, now) {
+		return LetGo{0}
+	}
+	d.log.Write("unlocked", "lock", lock, "grant", grant)
+	return LetGo{1}
+}
+
+func (d *Daemon) status(now time.Time) Status {
+	s := Status{Meta: d.store.meta, Locks: len(d.votes), Busy: len(d.busy), Granted: d.granted, Runs: now.Sub(d.started).Seconds(),
+		Planned: Planned{d.plans.Number, d.plans.oldest(), d.plans.Settled}, Sessions: []SessionView{}, Votes: []VoteView{}}
+	for number, row := range d.table.rows {
+		if row.Open {
+			s.Sessions = append(s.Sessions, SessionView{number, row.Epoch, row.Reserved, config.Hash(row.Name),
+				now.Sub(d.table.heard[number]).Seconds(), d.requests[number]})
+		}
+	}
+	for v := range d.busy {
+		s.Votes = append(s.Votes, view(v, now))
+	}
+	sort.Slice(s.Votes, func(i, j int) bool { return s.Votes[i].Lock < s.Votes[j].Lock })
+	if len(s.Votes) > mostShown {
+		s.Dropped = len(s.Votes) - mostShown
+		s.Votes = s.Votes[:mostShown]
+	}
+	return s
+}
+
+// view returns what an operator sees of a vote.
+func view(v *vote, now time.Time) VoteView {
+	shown := VoteView{Lock: v.name, Client: -1}
+	if v.held.Number > 0 {
+		shown.Client, shown.Stamp, shown.Grant = int(v.held.Client), v.held.Stamp, v.held.Number
+		shown.Held = now.Sub(v.since).Seconds()
+	}
+	for client, one := range v.asks {
+		if !v.isHolder(client) {
+			shown.Waiting = append(shown.Waiting, WaiterView{client, one.stamp, now.Sub(one.since).Seconds()})
+		}
+	}
+	sort.Slice(shown.Waiting, func(i, j int) bool { return shown.Waiting[i].Stamp < shown.Waiting[j].Stamp })
+	return shown
+}

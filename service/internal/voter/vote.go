@@ -1,0 +1,128 @@
+package voter
+
+import (
+	"time"
+
+	"calvundek.example/service/internal/remind"
+	"calvundek.example/service/qlock"
+)
+
+// ask is a request that has the vote or waits for it.
+type ask struct {
+	stamp uint64
+	since time.Time
+}
+
+// vote is the vote for one lock, and beside the proved voter what the loop looks at often.
+type vote struct {
+	*qlock.Voter
+	name  string
+	held  qlock.Grant
+	since time.Time    // when it was granted
+	asks  map[int]ask  // by client: who has it, and who waits
+	timer remind.Timer // for the reminder of whoever has it
+}
+
+// isHolder returns whether the client has the vote.
+func (v *vote) isHolder(client int) bool {
+	return v.held.Number > 0 && v.held.Client == uint64(client)
+}
+
+// isWanted returns whether somebody waits for the vote.
+func (v *vote) isWanted() bool {
+	return len(v.asks) > 1 || len(v.asks) == 1 && v.held.Number == 0
+}
+
+// add makes a lock known to the daemon.
+func (d *Daemon) add(name string, voter *qlock.Voter) *vote {
+	v := &vote{Voter: voter, name: name, timer: remind.Timer{First: d.own.First.Duration, Most: d.own.Most.Duration}}
+	d.votes[name] = v
+	return v
+}
+
+// restore adds a vote that was saved. It forgets who waits, as only the grant and the number of grants are sure to be those
+// of the last step (Voter.MustSave): clients that wait ask again.
+func (d *Daemon) restore(name string, state []byte, now time.Time) error {
+	voter, err := qlock.RestoreVoter(state)
+	if err != nil {
+		return err
+	}
+	if err := voter.Forget(); err != nil {
+		return err
+	}
+	v := d.add(name, voter)
+	held, err := v.Held()
+	if err != nil || held.Number == 0 {
+		return err
+	}
+	if err := d.noteAsk(v, int(held.Client), now); err != nil {
+		return err
+	}
+	return d.noteGrant(v, now)
+}
+
+// noteAsk notes whether a client has the vote or waits for it, after a step that may have changed it.
+func (d *Daemon) noteAsk(v *vote, client int, now time.Time) error {
+	known, err := v.Knows(uint8(client))
+	if err != nil {
+		return err
+	}
+	before, asked := v.asks[client]
+	if known.Stamp == before.stamp {
+		return nil
+	}
+	if asked {
+		d.count(client, before, -1)
+		delete(v.asks, client)
+	}
+	if known.Stamp > 0 {
+		if v.asks == nil {
+			v.asks = map[int]ask{}
+		}
+		v.asks[client] = ask{known.Stamp, now}
+		d.count(client, v.asks[client], 1)
+		v.timer.Sooner(now)
+	}
+	if len(v.asks) == 0 {
+		v.asks = nil
+		delete(d.busy, v)
+	} else {
+		d.busy[v] = struct{}{}
+	}
+	return nil
+}
+
+// count counts the requests of the session that a number has now. Those of its earlier sessions don't count: nobody of
+// this session waits for them.
+func (d *Daemon) count(client int, one ask, by int) {
+	if one.stamp > d.table.rows[client].Base {
+		d.requests[client] += by
+	}
+}
+
+// recount counts anew, once a number has a new session.
+func (d *Daemon) recount(client int) {
+	d.requests[client] = 0
+	for v := range d.busy {
+		if one, asked := v.asks[client]; asked {
+			d.count(client, one, 1)
+		}
+	}
+}
+
+// noteGrant notes who has the vote, after a step that may have changed it.
+func (d *Daemon) noteGrant(v *vote, now time.Time) error {
+	held, err := v.Held()
+	if err != nil {
+		return err
+	}
+	if held.Number != v.held.Number {
+		v.held, v.since = held, now
+		if held.Number > 0 {
+			d.m.grants.Inc()
+			d.granted++
+		}
+	}
+	v.timer.Of(held.Number, now)
+	return nil
+}

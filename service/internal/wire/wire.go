@@ -1,0 +1,189 @@
+// Package wire has the messages between voters, clients and operators: a header line, and lines of locks, "LOCK LINE",
+// or of control, ". WORDS". One message may have the lines of many locks.
+//
+//	qlock1 CLUSTER COTERIE c NUMBER EPOCH RESERVED SESSION SEQ SAVES   from a client's session
+//	qlock1 CLUSTER COTERIE v NUMBER BLOCK IDENTITY SAVES               from a voter
+//	qlock1 CLUSTER COTERIE o NAME                                      from an operator
+package wire
+
+import (
+	"bytes"
+	"errors"
+	"fmt"
+	"strconv"
+	"strings"
+)
+
+// MostBytes is how long a message may be: a quarter of what NATS takes.
+const MostBytes = 256 << 10
+
+// ErrForeign is returned for a message that is not of this protocol.
+var ErrForeign = errors.New("wire: no message of this protocol")
+
+// Kind says what a sender is.
+type Kind byte
+
+// The kinds of senders.
+const (
+	FromClient   Kind = 'c'
+	FromVoter    Kind = 'v'
+	FromOperator Kind = 'o'
+)
+
+// Header says who sends a message.
+type Header struct {
+	Cluster, Coterie string // the cluster's name, and the hash of its coterie
+	Kind             Kind
+	Number           int    // of a client or a voter
+	Epoch            uint64 // of a client: which session of its number it is, 0 while it has none
+	Reserved         uint64 // of a client: no stamp of the session is greater
+	Seq              uint64 // of a client: counts its heartbeats
+	Block            uint64 // of a voter: how often it lost its state
+	Saves            uint64 // of a voter: counts its saves; of a client: the highest count that it heard of the receiver
+	Name             string // a session's, an operator's, or a voter's identity
+}
+
+// Append appends the header's line.
+func (h Header) Append(out []byte) []byte {
+	out = append(out, fmt.Sprintf("qlock1 %s %s %c ", h.Cluster, h.Coterie, h.Kind)...)
+	switch h.Kind {
+	case FromClient:
+		out = append(out, fmt.Sprintf("%d %d %d %s %d %d\n", h.Number, h.Epoch, h.Reserved, h.Name, h.Seq, h.Saves)...)
+	case FromVoter:
+		out = append(out, fmt.Sprintf("%d %d %s %d\n", h.Number, h.Block, h.Name, h.Saves)...)
+	default:
+		out = append(out, h.Name+"\n"...)
+	}
+	return out
+}
+
+// Read reads the header of a message, and returns the lines behind it.
+func Read(message []byte) (h Header, lines []byte, err error) {
+	first, lines, found := bytes.Cut(message, []byte("\n"))
+	words := bytes.Fields(first)
+	if !found || len(words) < 5 || string(words[0]) != "qlock1" || len(words[3]) != 1 {
+		return h, nil, ErrForeign
+	}
+	h.Cluster, h.Coterie, h.Kind = string(words[1]), string(words[2]), Kind(words[3][0])
+	if !h.read(words[4:]) {
+		return h, nil, ErrForeign
+	}
+	return h, lines, nil
+}
+
+// read reads the words behind the kind of a sender, and returns whether they are right.
+func (h *Header) read(words [][]byte) bool {
+	switch {
+	case h.Kind == FromClient && len(words) == 6:
+		h.Name = string(words[3])
+		return h.number(words[0]) && long(words[1], &h.Epoch) && long(words[2], &h.Reserved) && long(words[4], &h.Seq) &&
+			long(words[5], &h.Saves)
+	case h.Kind == FromVoter && len(words) == 4:
+		h.Name = string(words[2])
+		return h.number(words[0]) && long(words[1], &h.Block) && long(words[3], &h.Saves)
+	case h.Kind == FromOperator && len(words) == 1:
+		h.Name = string(words[0])
+		return true
+	}
+	return false
+}
+
+// number reads the number of a client or a voter.
+func (h *Header) number(word []byte) bool {
+	h.Number = Number(word)
+	return h.Number >= 0 && h.Number < 64
+}
+
+// long reads a number of 64 bits.
+func long(word []byte, n *uint64) (ok bool) {
+	var err error
+	*n, err = strconv.ParseUint(string(word), 10, 64)
+	return err == nil
+}
+
+// Next returns the first of these lines, as the lock's name or "." and what is behind it, and the other lines.
+func Next(lines []byte) (lock, line, rest []byte, found bool) {
+	line, rest, found = bytes.Cut(lines, []byte("\n"))
+	if !found {
+		return nil, nil, nil, false
+	}
+	lock, line, _ = bytes.Cut(line, []byte(" "))
+	return lock, line, rest, true
+}
+
+// Split hands lines to a function as messages with this header, none of them much longer than MostBytes.
+func (h Header) Split(lines []byte, send func(message []byte)) {
+	for len(lines) > 0 {
+		end := len(lines)
+		if end > MostBytes {
+			end = bytes.LastIndexByte(lines[:MostBytes], '\n') + 1
+		}
+		send(append(h.Append(make([]byte, 0, 160+end)), lines[:end]...))
+		lines = lines[end:]
+	}
+}
+
+// Number returns the small number in a word, -1 if there is none.
+func Number(word []byte) int {
+	n, err := strconv.ParseUint(string(word), 10, 31)
+	if err != nil {
+		return -1
+	}
+	return int(n)
+}
+
+// Ends returns the second and the third word of a line of the automata: who sent it, and whom it is for. Both are -1 if
+// it is no such line.
+func Ends(line []byte) (from, to int) {
+	words := bytes.SplitN(line, []byte(" "), 4)
+	if len(words) < 4 {
+		return -1, -1
+	}
+	return Number(words[1]), Number(words[2])
+}
+
+// Stamp returns the fourth word of a line of the automata, the stamp of a REQUEST, 0 if there is none.
+func Stamp(line []byte) uint64 {
+	words := bytes.SplitN(line, []byte(" "), 5)
+	if len(words) < 4 {
+		return 0
+	}
+	stamp, err := strconv.ParseUint(string(words[3]), 10, 64)
+	if err != nil {
+		return 0
+	}
+	return stamp
+}
+
+// IsName returns whether a word may name a lock: 1 to 64 of A-Z a-z 0-9 _ - . : with no dot first.
+func IsName(name []byte) bool {
+	return len(name) > 0 && len(name) <= 64 && name[0] != '.' && only(name, "_-.:")
+}
+
+// IsID returns whether a word may name a cluster, a part of a subject: 1 to 32 of A-Z a-z 0-9 _ -
+func IsID(name []byte) bool { return len(name) > 0 && len(name) <= 32 && only(name, "_-") }
+
+// only returns whether a word has letters, digits and these marks only.
+func only(word []byte, marks string) bool {
+	for _, b := range word {
+		letter := b >= 'a' && b <= 'z' || b >= 'A' && b <= 'Z' || b >= '0' && b <= '9'
+		if !letter && strings.IndexByte(marks, b) < 0 {
+			return false
+		}
+	}
+	return true
+}
+
+// VoterBox returns the mailbox of a voter.
+func VoterBox(cluster string, voter int) string { return fmt.Sprintf("qlock.%s.v.%d", cluster, voter) }
+
+// AdminBox returns the mailbox in which a voter takes what operators ask.
+func AdminBox(cluster string, voter int) string {
+	return fmt.Sprintf("qlock.%s.admin.%d", cluster, voter)
+}
+
+// SessionBox returns the mailbox of a client's session.
+func SessionBox(cluster, session string) string { return "qlock." + cluster + ".c." + session }
+
+// OperatorBox returns the mailbox of an operator.
+func OperatorBox(cluster, name string) string { return "qlock." + cluster + ".o." + name }

@@ -1,0 +1,67 @@
+package wire
+
+import (
+	"bytes"
+	"strings"
+	"testing"
+)
+
+// What is written is read back.
+func TestHeaders(t *testing.T) {
+	for _, h := range []Header{
+		{Cluster: "prod", Coterie: "0a1b", Kind: FromClient, Number: 63, Epoch: 4, Reserved: 1 << 40, Seq: 9, Saves: 3, Name: "app.77"},
+		{Cluster: "prod", Coterie: "0a1b", Kind: FromVoter, Number: 5, Block: 2, Saves: 7, Name: "id"},
+		{Cluster: "prod", Coterie: "0a1b", Kind: FromOperator, Name: "op"},
+	} {
+		got, lines, err := Read(append(h.Append(nil), "orders request 1 2 3\n"...))
+		if err != nil || got != h || string(lines) != "orders request 1 2 3\n" {
+			t.Errorf("%v, not %v: %v", got, h, err)
+		}
+	}
+}
+
+// Anything else is foreign, and nothing panics.
+func TestForeign(t *testing.T) {
+	for _, text := range []string{"", "\n", "qlock1", "qlock2 a b o x\n", "qlock1 a b o x", "qlock1 a b c 1 2 3 n\n",
+		"qlock1 a b c 64 2 3 n 4 5\n", "qlock1 a b c 1 x 3 n 4 5\n", "qlock1 a b c 1 2 3 n 4 -5\n", "qlock1 a b v -1 0 n 1\n", "qlock1 a b v 1 0 n\n",
+		"qlock1 a b q n\n", "qlock1 a b vv 1 0 n 1\n"} {
+		if _, _, err := Read([]byte(text)); err != ErrForeign {
+			t.Errorf("%q: %v", text, err)
+		}
+	}
+}
+
+// A long batch is sent as several messages, and no line is cut.
+func TestSplit(t *testing.T) {
+	line := "orders " + strings.Repeat("x", 99) + "\n"
+	lines := bytes.Repeat([]byte(line), 2*MostBytes/len(line))
+	h, count, total := Header{Cluster: "a", Coterie: "b", Kind: FromOperator, Name: "n"}, 0, 0
+	h.Split(lines, func(message []byte) {
+		_, rest, err := Read(message)
+		if err != nil || len(message) > MostBytes+160 || !bytes.HasSuffix(rest, []byte(line)) || len(rest)%len(line) != 0 {
+			t.Error(len(message), err)
+		}
+		count, total = count+1, total+len(rest)
+	})
+	if count < 2 || total != len(lines) {
+		t.Error(count, total)
+	}
+}
+
+func TestNames(t *testing.T) {
+	for name, want := range map[string]bool{"orders": true, "a.b:c-d_E9": true, "": false, ".": false, ".a": false, "a b": false,
+		"a/b": false, "ü": false, strings.Repeat("a", 64): true, strings.Repeat("a", 65): false} {
+		if IsName([]byte(name)) != want {
+			t.Errorf("%q", name)
+		}
+	}
+	if IsID([]byte("a.b")) || !IsID([]byte("prod-1")) {
+		t.Error("a cluster's name is a part of a subject")
+	}
+	if from, to := Ends([]byte("request 5 0 17")); from != 5 || to != 0 || Stamp([]byte("request 5 0 17")) != 17 {
+		t.Error(from, to)
+	}
+	if from, to := Ends([]byte("request 5")); from != -1 || to != -1 {
+		t.Error(from, to)
+	}
+}

@@ -1,0 +1,335 @@
+// Package locks is the client of the lock service. A Client is one session: the voters lease it a number of 0 to 63. It
+// keeps nothing on disk.
+//
+//	client, err := locks.Open(ctx, locks.Config{Cluster: "/etc/qlock/cluster.toml"})
+//	held, err := client.Lock(ctx, "orders")
+//	err = write(held.Token(), ...)          // the guard admits the token and writes, in one transaction
+//	err = held.Unlock()
+//	err = client.Close(ctx)                 // waits until all votes are given back
+//
+// A client that stands still for longer than the TTL may lose a lock and write late. Held.Lost says so once it can, and
+// only a guard beside the data (package guard) refuses such a write.
+package locks
+
+import (
+	"context"
+	"errors"
+	"fmt"
+	"time"
+
+	"calvundek.example/service/internal/config"
+	"calvundek.example/service/internal/wire"
+	"calvundek.example/service/qlock"
+	"calvundek.example/service/transport"
+	"github.com/prometheus/client_golang/prometheus"
+)
+
+// The errors of this package. errors.Is finds them.
+var (
+	ErrClosed   = errors.New("locks: the client is closed")
+	ErrLost     = errors.New("locks: the session is over: another one has its number, or an operator ended it")
+	ErrName     = errors.New("locks: a lock's name has 1 to 64 of A-Z a-z 0-9 _ - . : and no dot first")
+	ErrPrefix   = errors.New("locks: a prefix has at most 31 of A-Z a-z 0-9 _ - . : and no dot first")
+	ErrNested   = errors.New("locks: the context is that of a holder of this lock, who would wait for himself")
+	ErrNotHeld  = errors.New("locks: the lock was given back before")
+	ErrNoQuorum = errors.New("locks: no quorum of voters replied")
+	ErrNumbers  = errors.New("locks: all client numbers are in use")
+	ErrRetired  = errors.New("locks: the plan of the cluster's file is retired; take the newest file")
+)
+
+// Config is how to reach a cluster.
+type Config struct {
+	Cluster   string              // the cluster's file, the same for all processes
+	Prefix    string              // of the session's mailbox: with "app" it is qlock.CLUSTER.c.app.NAME, which a user may be permitted
+	User      string              // the user of NATS; none if empty
+	Secret    string              // the file of the user's password
+	Cert, Key string              // the files of a certificate and its key; none if empty
+	Heartbeat time.Duration       // a quarter of the TTL, at most 500 ms, if 0
+	FailOver  time.Duration       // for how long a voter is silent before it is passed over; 4 heartbeats if 0
+	Transport transport.Transport // NATS with the cluster's servers if nil; it is not closed with the client
+}
+
+// Stats counts what a client did.
+type Stats struct {
+	Passes       uint64 // locks that were given back
+	Requests     uint64
+	FailOvers    uint64 // requests given up since a voter of their quorum was silent
+	GivenUp      uint64 // requests given up since nobody wanted the lock any more
+	LetGo        uint64 // requests that a voter let go
+	Reminders    uint64
+	Reservations uint64 // blocks of stamps that were reserved after the first one
+	Refused      uint64 // messages and lines that were dropped
+	Lost         uint64 // locks that may have been lost while they were held
+}
+
+// Client has locks. Many goroutines may call it at once.
+type Client struct {
+	cluster *config.Cluster
+	config  Config
+	carrier transport.Transport
+	close   func() // of the carrier
+
+	messages <-chan []byte
+	calls    chan func()
+	ended    chan struct{} // closed at the end, and why says why
+	why      error
+	stopped  chan struct{} // closed when the loop has ended
+
+	session
+	plans
+	locks  map[string]*lock
+	busy   map[*lock]struct{} // locks that ask, are inside, or are wanted
+	ticket int
+	out    [qlock.MaxVoters][]byte // lines that leave at the end of this turn of the loop, by voter
+	room   []byte
+	stats  Stats
+	waits  prometheus.Histogram
+}
+
+// Held is a lock that is held. It belongs to whoever called Lock.
+type Held struct {
+	client *Client
+	lock   *lock
+	quorum uint64
+	stamp  uint64
+	token  []byte
+	lost   chan struct{}
+	over   bool
+}
+
+// Open connects, and gets a number from a quorum of voters.
+func Open(ctx context.Context, c Config) (*Client, error) {
+	cluster, err := config.ReadCluster(c.Cluster)
+	if err != nil {
+		return nil, err
+	}
+	return open(ctx, cluster, c)
+}
+
+func open(ctx context.Context, cluster *config.Cluster, c Config) (*Client, error) {
+	client, err := newClient(cluster, c)
+	if err != nil {
+		return nil, err
+	}
+	if client.messages, err = client.carrier.Listen(wire.SessionBox(cluster.ID, client.header.Name)); err == nil {
+		err = client.begin(ctx)
+	}
+	if err != nil {
+		client.close()
+		return nil, err
+	}
+	client.firstTicket()
+	go client.run()
+	return client, nil
+}
+
+func newClient(cluster *config.Cluster, c Config) (*Client, error) {
+	if c.Heartbeat == 0 {
+		c.Heartbeat = shorter(cluster.TTL.Duration/4, 500*time.Millisecond)
+	}
+	if c.FailOver == 0 {
+		c.FailOver = 4 * c.Heartbeat
+	}
+	name, err := config.Nonce()
+	if err != nil {
+		return nil, err
+	}
+	if c.Prefix != "" {
+		name = c.Prefix + "." + name
+	}
+	if !wire.IsName([]byte(name)) {
+		return nil, fmt.Errorf("%w: %q", ErrPrefix, c.Prefix)
+	}
+	client := &Client{cluster: cluster, plans: newPlans(cluster), waits: newWaits(), config: c, carrier: c.Transport, close: func() {},
+		calls: make(chan func()), ended: make(chan struct{}), stopped: make(chan struct{}), locks: map[string]*lock{}, busy: map[*lock]struct{}{}}
+	client.session = newSession(cluster, name)
+	if client.carrier == nil {
+		access := config.Access{User: c.User, Secret: c.Secret, Cert: c.Cert, Key: c.Key}
+		link, err := transport.Connect(cluster, access, "qlock client")
+		if err != nil {
+			return nil, err
+		}
+		client.carrier, client.close = link, link.Close
+	}
+	return client, nil
+}
+
+func shorter(a, b time.Duration) time.Duration {
+	if a < b {
+		return a
+	}
+	return b
+}
+
+// Lock waits until the caller has the lock, or the context ends. A goroutine that has it and calls Lock of it again would
+// wait for itself: with a context of Held.Context that is ErrNested.
+func (c *Client) Lock(ctx context.Context, name string) (*Held, error) {
+	if !wire.IsName([]byte(name)) {
+		return nil, fmt.Errorf("%w: %q", ErrName, name)
+	}
+	if isNested(ctx, c, name) {
+		return nil, fmt.Errorf("%w: %q", ErrNested, name)
+	}
+	w := &waiter{got: make(chan *Held, 1), since: time.Now()}
+	if err := c.call(func() error { return c.enqueue(name, w) }); err != nil {
+		return nil, err
+	}
+	select {
+	case held, open := <-w.got:
+		if !open {
+			return nil, ErrClosed
+		}
+		return held, nil
+	case <-c.ended:
+		return nil, c.why
+	case <-ctx.Done():
+		_ = c.call(func() error { c.dequeue(name, w); return nil })
+		return nil, ctx.Err()
+	}
+}
+
+// Token returns the pass: what is shown to the guard, with each write.
+func (h *Held) Token() []byte { return append([]byte(nil), h.token...) }
+
+// Lost is closed when the lock may be somebody else's. The guard refuses what is written later, if somebody else wrote
+// since. End the work then, and call Unlock: until then votes that are left keep others out. It is also closed by Unlock.
+func (h *Held) Lost() <-chan struct{} { return h.lost }
+
+// Unlock gives the lock back. It returns ErrNotHeld for the second time.
+func (h *Held) Unlock() error {
+	return h.client.call(func() error { return h.client.unlock(h) })
+}
+
+// nest is the key of what a holder's context says.
+type nest struct {
+	client *Client
+	name   string
+}
+
+// Context returns a context for work that needs the lock: it ends when the lock may be lost, is given back, or the parent
+// ends. The function that it returns frees what the context needs.
+func (h *Held) Context(parent context.Context) (context.Context, context.CancelFunc) {
+	ctx, cancel := context.WithCancel(context.WithValue(parent, nest{h.client, h.lock.name}, h))
+	go func() {
+		select {
+		case <-h.lost:
+			cancel()
+		case <-ctx.Done():
+		}
+	}()
+	return ctx, cancel
+}
+
+// isNested returns whether a context is that of a holder who has not given the lock back.
+func isNested(ctx context.Context, c *Client, name string) bool {
+	held, found := ctx.Value(nest{c, name}).(*Held)
+	if !found {
+		return false
+	}
+	select {
+	case <-held.lost:
+		return false
+	default:
+		return true
+	}
+}
+
+// Number returns the number of the client's session. Operators see it.
+func (c *Client) Number() int { return c.header.Number }
+
+// Stats returns what the client did so far.
+func (c *Client) Stats() (s Stats) {
+	if c.call(func() error { s = c.stats; return nil }) != nil {
+		<-c.stopped
+		s = c.stats
+	}
+	return s
+}
+
+// Close refuses calls of Lock, also those that wait, waits until all locks are given back and each voter that is there says so, and ends the
+// session. If the context ends first, the TTL frees what is left.
+func (c *Client) Close(ctx context.Context) error {
+	if err := c.call(func() error { c.drain(); return nil }); err != nil {
+		return err
+	}
+	var err error
+	select {
+	case <-c.drained:
+	case <-c.ended:
+		err = c.why
+	case <-ctx.Done():
+		err = ctx.Err()
+	}
+	_ = c.call(func() error { c.end(ErrClosed); return nil })
+	<-c.stopped
+	return err
+}
+
+// call runs a function in the loop.
+func (c *Client) call(f func() error) error {
+	var err error
+	done := make(chan struct{})
+	select {
+	case c.calls <- func() { err = f(); close(done) }:
+	case <-c.ended:
+		return c.why
+	}
+	<-done
+	return err
+}
+
+// run is the loop.
+func (c *Client) run() {
+	ticker := time.NewTicker(25 * time.Millisecond)
+	defer close(c.stopped)
+	defer c.close()
+	defer ticker.Stop()
+	for c.why == nil {
+		select {
+		case m := <-c.messages:
+			c.message(m)
+			for i := len(c.messages); i > 0 && c.why == nil; i-- {
+				c.message(<-c.messages)
+			}
+		case f := <-c.calls:
+			f()
+		case now := <-ticker.C:
+			c.round(now)
+			if c.draining {
+				c.finish() // a voter may have become silent since the last one closed the session
+			}
+		}
+		c.flush()
+	}
+}
+
+// end ends the client: all calls return why.
+func (c *Client) end(why error) {
+	if c.why != nil {
+		return
+	}
+	c.why = why
+	for l := range c.busy {
+		if l.held != nil {
+			c.lose(l.held)
+		}
+	}
+	close(c.ended)
+}
+
+// flush sends what this turn of the loop made. A client has nothing to save: its stamps are reserved (session.go).
+func (c *Client) flush() {
+	for voter := range c.peers {
+		if len(c.out[voter]) == 0 {
+			continue
+		}
+		box := wire.VoterBox(c.cluster.ID, voter)
+		header := c.header
+		header.Coterie = c.speaks(voter)
+		header.Saves = c.peers[voter].saves // so an older copy of its state notices that it is one
+		header.Split(c.out[voter], func(message []byte) {
+			_ = c.carrier.Send(box, message) // a reminder repeats what is lost
+		})
+		c.out[voter] = c.out[voter][:0]
+	}
+}

@@ -1,0 +1,175 @@
+package locks
+
+// How a client goes from one plan to the next one.
+//
+//  1. A voter says that it has a newer plan. The client fetches it, and checks that both are bridged (qlock_bridge).
+//  2. The voters that say so contain a quorum of each plan. From then on the client asks by the new plan. Claims and
+//     reservations need a quorum of both. A voter takes one plan after another, each once. Any two quorums of the old plan
+//     meet, so no client uses another new plan.
+//  3. Heartbeats say the oldest plan of which a request is left. Voters retire a plan only if none is left.
+//  4. A voter says that the old plan is retired. The client forgets it.
+
+import (
+	"bytes"
+	"encoding/base64"
+
+	"calvundek.example/service/internal/config"
+	"calvundek.example/service/internal/wire"
+	"calvundek.example/service/qlock"
+)
+
+// known is a plan, and what messages say of it.
+type known struct {
+	*qlock.Plan
+	mark string
+}
+
+// plans are those that a client knows of.
+type plans struct {
+	plan       known  // by which it asks
+	generation uint64 // its number
+	older      *known // the one before it, until it is retired
+	next       *known // the one after it, until enough voters have it
+}
+
+func newPlans(c *config.Cluster) plans {
+	marks := c.Marks()
+	newest := known{c.Planned, marks[0]}
+	if c.OldPlanned == nil {
+		return plans{plan: newest, generation: c.Generation}
+	}
+	return plans{plan: known{c.OldPlanned, marks[1]}, generation: c.Generation - 1, next: &newest}
+}
+
+// hasQuorum returns whether a set of voters contains a quorum of each plan that is in use.
+func (p *plans) hasQuorum(voters uint64) bool {
+	return p.plan.HasQuorum(voters) && (p.older == nil || p.older.HasQuorum(voters))
+}
+
+// names returns the names of all voters by their numbers.
+func (p *plans) names() []string {
+	names := p.plan.Names
+	for _, other := range []*known{p.older, p.next} {
+		if other != nil && len(other.Names) > len(names) {
+			names = other.Names
+		}
+	}
+	return names
+}
+
+// accepts returns whether a voter's message is of a plan that the client knows.
+func (p *plans) accepts(mark string) bool {
+	return mark == p.plan.mark || p.older != nil && mark == p.older.mark || p.next != nil && mark == p.next.mark
+}
+
+// speaks returns the mark in a message to a voter: of the plan by which the client asks, or of the one before if the voter did
+// not say yet that it has it.
+func (c *Client) speaks(voter int) string {
+	if c.older != nil && c.peers[voter].mark != c.plan.mark {
+		return c.older.mark
+	}
+	return c.plan.mark
+}
+
+// oldest returns the number of the oldest plan of which a request is left.
+func (c *Client) oldest() uint64 {
+	oldest := c.generation
+	for l := range c.busy {
+		if l.shown.Phase != qlock.Idle && l.plan < oldest {
+			oldest = l.plan
+		}
+	}
+	return oldest
+}
+
+// firstTicket lets clients begin at different places of the cycle.
+func (c *Client) firstTicket() { c.ticket = c.header.Number * len(c.plan.Quorums) / qlock.MaxClients }
+
+// findPlans takes from a message of another plan only what it says of plans.
+func (c *Client) findPlans(voter int, lines []byte) {
+	for {
+		lock, line, rest, found := wire.Next(lines)
+		if !found {
+			return
+		}
+		if lines = rest; string(lock) == "." {
+			c.controlPlans(voter, bytes.Fields(line))
+		}
+	}
+}
+
+// controlPlans takes `generation NUMBER MARK OLDEST` and `plan NUMBER COTERIE PLAN`, and returns whether it was one of these.
+func (c *Client) controlPlans(voter int, words [][]byte) bool {
+	if len(words) != 4 || string(words[0]) != "generation" && string(words[0]) != "plan" {
+		return false
+	}
+	newest, ok := number(words[1])
+	if !ok {
+		return true
+	}
+	if string(words[0]) == "plan" {
+		c.fetched(newest, string(words[2]), string(words[3]))
+	} else if oldest, ok := number(words[3]); ok {
+		c.noteGeneration(voter, newest, string(words[2]), oldest)
+	}
+	return true
+}
+
+// noteGeneration notes the newest plan that a voter has, and the oldest one that is not retired there.
+func (c *Client) noteGeneration(voter int, newest uint64, mark string, oldest uint64) {
+	c.peers[voter].mark = mark
+	retired := oldest > c.generation
+	switch {
+	case c.next != nil && mark == c.next.mark:
+		if c.next.HasQuorum(c.having(mark)) && (retired || c.plan.HasQuorum(c.having(mark))) {
+			c.adopt(retired)
+		}
+	case retired:
+		c.end(ErrRetired)
+	case newest == c.generation+1 && c.next == nil:
+		c.out[voter] = append(c.out[voter], ". plan\n"...)
+	case newest == c.generation && oldest == newest && mark == c.plan.mark && c.older != nil:
+		c.older = nil
+	}
+}
+
+// having returns the voters that said that they have a plan.
+func (c *Client) having(mark string) (mask uint64) {
+	for v := range c.peers {
+		if c.peers[v].mark == mark {
+			mask |= 1 << v
+		}
+	}
+	return mask
+}
+
+// fetched takes the next plan, if it is one that may be used beside this one.
+func (c *Client) fetched(number uint64, coterie, plan string) {
+	if c.next != nil || number != c.generation+1 {
+		return
+	}
+	first, err := base64.StdEncoding.DecodeString(coterie)
+	if err != nil {
+		return
+	}
+	second, err := base64.StdEncoding.DecodeString(plan)
+	if err != nil {
+		return
+	}
+	next, err := qlock.ReadPlan(string(first), string(second))
+	if err != nil || config.CheckExchange(c.plan.Plan, next) != nil {
+		return
+	}
+	c.next = &known{next, config.Mark(number, string(first))}
+	c.meet(len(next.Names))
+}
+
+// adopt asks by the next plan from now on.
+func (c *Client) adopt(retired bool) {
+	before := c.plan
+	c.plan, c.generation, c.older, c.next = *c.next, c.generation+1, &before, nil
+	c.firstTicket()
+	if retired {
+		c.older = nil
+	}
+}

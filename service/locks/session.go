@@ -1,0 +1,551 @@
+package locks
+
+// How a client gets its number, and why it needs no file.
+//
+// A session is a number of 0 to 63, an epoch and a name. Each voter keeps, for each number, the newest epoch, the name of
+// its session, and the highest stamp that was reserved.
+//
+//  1. hello: the voters say which numbers are free, and their epochs.
+//  2. claim NUMBER EPOCH, one more than any epoch that was seen. A voter accepts an epoch once, and only if the number is
+//     free, or its session was silent for the TTL. It says what was reserved so far.
+//  3. A quorum accepted. Any two quorums share a voter, so an epoch has one session, and what an earlier session reserved
+//     at a quorum is known. The session begins above that.
+//  4. A stamp is used only once a quorum has acknowledged that it is reserved. Heartbeats carry what is to be reserved.
+//
+// While a plan is exchanged, a quorum is one of each plan (plans.go).
+//
+// So all stamps of a session are above those of the sessions before it, and no stamp is used twice. That is all that a
+// client made anew needs (qlock_client_anew).
+
+import (
+	"bytes"
+	"context"
+	"errors"
+	"fmt"
+	"math/rand"
+	"time"
+
+	"calvundek.example/service/internal/config"
+	"calvundek.example/service/internal/wire"
+	"calvundek.example/service/qlock"
+	"golang.org/x/sys/unix"
+)
+
+const (
+	block = 4096            // stamps that are reserved at once
+	brief = 2 * time.Second // for which a claim waits for a quorum
+)
+
+// errTaken is why a claim failed: another session was faster.
+var errTaken = errors.New("locks: another session has the number")
+
+// peer is a voter, as a session knows it.
+type peer struct {
+	identity string
+	block    uint64                   // how often the voter lost its state
+	mark     string                   // of the newest plan that it has, once it said so
+	saves    uint64                   // the highest count of its saves that it told
+	heard    time.Time                // when a message came
+	known    time.Duration            // when the newest heartbeat left that it acknowledged, by uptime
+	sent     map[uint64]time.Duration // when heartbeats left that it did not acknowledge
+	reserved uint64                   // what it acknowledged as reserved
+	requests uint64                   // how many of this session it said that it has
+	drained  bool                     // it has no request of this session any more
+	closed   bool                     // it ended this session
+}
+
+// session is a client's number, and what the voters say of it.
+type session struct {
+	header   wire.Header
+	peers    []peer
+	beat     time.Time // when the last heartbeat left
+	reserved uint64    // what a quorum acknowledged as reserved; the header has what was asked for
+	used     uint64    // no stamp that this number used so far is above it
+	idle     uint64    // the first heartbeat since nothing is asked or held any more, 0 if something is
+	draining bool
+	drained  chan struct{} // closed once all is given back
+	done     bool          // it is closed
+
+	// while a number is claimed
+	opening bool
+	epochs  [qlock.MaxClients]uint64
+	states  [qlock.MaxClients]int // the worst that a voter said of a number: 0 taken, 2 silent for the TTL, 1 free
+	asked   int
+	claimed uint64 // the epoch that is claimed, 0 while a number is chosen
+	refused bool
+	replied uint64 // the voters that replied to what is asked now
+}
+
+func newSession(cluster *config.Cluster, name string) session {
+	s := session{asked: -1, drained: make(chan struct{}), header: wire.Header{Cluster: cluster.ID, Kind: wire.FromClient, Name: name}}
+	s.meet(len(cluster.Names()))
+	return s
+}
+
+// meet lets a session have at least so many voters. New ones were heard just now.
+func (s *session) meet(voters int) {
+	for len(s.peers) < voters {
+		s.peers = append(s.peers, peer{sent: map[uint64]time.Duration{}, heard: time.Now(), known: uptime()})
+	}
+}
+
+// begin gets a number, and reserves its first stamps. If another session was faster it takes another number.
+func (c *Client) begin(ctx context.Context) error {
+	c.opening = true
+	for {
+		if err := c.choose(ctx); err != nil {
+			return err
+		}
+		err := c.claim(ctx)
+		claimed := c.replied
+		if err == nil {
+			err = c.reserveFirst(ctx)
+		}
+		if err == nil {
+			c.opening = false
+			return nil
+		}
+		if c.why != nil {
+			return c.why
+		}
+		c.abandon(claimed)
+		if ctx.Err() != nil {
+			return err
+		}
+	}
+}
+
+// reserveFirst reserves the first stamps of a number that a quorum gave to this session.
+func (c *Client) reserveFirst(ctx context.Context) error {
+	now, up := time.Now(), uptime()
+	for v := range c.peers {
+		c.peers[v].heard, c.peers[v].known = now, up
+	}
+	c.header.Number, c.header.Epoch, c.header.Reserved = c.asked, c.claimed, c.used+block
+	err := c.rounds(ctx, func() { c.heartbeat(time.Now()) }, func() bool { return c.refused || c.reserved >= c.header.Reserved })
+	if err == nil && c.refused {
+		err = errTaken
+	}
+	return err
+}
+
+// abandon gives a number back that some voters gave to this session. It never claims this epoch again: the line that
+// gives it back may come late.
+func (c *Client) abandon(voters uint64) {
+	c.header.Number, c.header.Epoch, c.header.Reserved, c.reserved = 0, 0, 0, 0
+	for v := range c.peers {
+		c.peers[v].reserved, c.peers[v].sent = 0, map[uint64]time.Duration{}
+		if c.out[v] = c.out[v][:0]; voters>>v&1 == 1 {
+			c.out[v] = append(c.out[v], fmt.Sprintf(". drop %d %d\n", c.asked, c.claimed)...)
+		}
+	}
+	c.epochs[c.asked] = c.claimed
+	c.flush()
+}
+
+// choose asks the voters which numbers are free, and chooses one. It waits for one if there is none.
+func (c *Client) choose(ctx context.Context) error {
+	for {
+		c.replied, c.claimed = 0, 0
+		for i := range c.states {
+			c.states[i] = 1
+		}
+		if err := c.rounds(ctx, func() { c.say("hello") }, c.isAnswered); err != nil {
+			return err
+		}
+		for _, want := range []int{1, 2} {
+			for i, first := 0, rand.Intn(qlock.MaxClients); i < qlock.MaxClients; i++ {
+				if number := (first + i) % qlock.MaxClients; c.states[number] == want {
+					c.asked = number
+					return nil
+				}
+			}
+		}
+		select {
+		case <-time.After(c.cluster.TTL.Duration / 10):
+		case <-ctx.Done():
+			return fmt.Errorf("%w: %v", ErrNumbers, ctx.Err())
+		}
+	}
+}
+
+// claim claims the number that was chosen, under a new epoch.
+func (c *Client) claim(ctx context.Context) error {
+	c.claimed = c.epochs[c.asked] + 1
+	c.replied, c.refused, c.used = 0, false, 0
+	short, cancel := context.WithTimeout(ctx, brief)
+	defer cancel()
+	text := fmt.Sprintf("claim %d %d", c.asked, c.claimed)
+	if err := c.rounds(short, func() { c.say(text) }, func() bool { return c.refused || c.isAnswered() }); err != nil {
+		return err
+	}
+	if !c.isAnswered() {
+		return errTaken
+	}
+	c.refused = false
+	return nil
+}
+
+// isAnswered returns whether a quorum replied.
+func (c *Client) isAnswered() bool { return c.hasQuorum(c.replied) }
+
+// say says a control line to all voters.
+func (c *Client) say(text string) {
+	for v := range c.peers {
+		c.out[v] = append(c.out[v], ". "+text+"\n"...)
+	}
+}
+
+// rounds says something again and again until it is done.
+func (c *Client) rounds(ctx context.Context, say func(), done func() bool) error {
+	for wait := 100 * time.Millisecond; ; wait += 100 * time.Millisecond {
+		say()
+		c.flush()
+		timer := time.NewTimer(wait)
+		for waits := true; waits && !done(); {
+			select {
+			case m := <-c.messages:
+				c.message(m)
+			case <-timer.C:
+				waits = false
+			case <-ctx.Done():
+				timer.Stop()
+				return fmt.Errorf("%w: %v", ErrNoQuorum, ctx.Err())
+			}
+		}
+		timer.Stop()
+		if c.why != nil {
+			return c.why
+		}
+		if done() {
+			return nil
+		}
+	}
+}
+
+// use notes that a stamp is used. It reserves more before the block is spent.
+func (c *Client) use(stamp uint64, now time.Time) {
+	if stamp > c.used {
+		c.used = stamp
+	}
+	if stamp+block/2 > c.reserved {
+		c.reserve(stamp, now)
+	}
+}
+
+// reserve asks the voters to keep that stamps above this one may be used.
+func (c *Client) reserve(stamp uint64, now time.Time) {
+	if c.header.Reserved >= stamp+block/2 {
+		return // asked already; heartbeats repeat it
+	}
+	c.stats.Reservations++
+	c.header.Reserved = stamp + block
+	c.heartbeat(now)
+}
+
+// noteReserved notes what a quorum has acknowledged as reserved.
+func (c *Client) noteReserved() {
+	before := c.reserved
+	for v := range c.peers {
+		if stamp := c.peers[v].reserved; stamp > c.reserved && stamp <= c.header.Reserved && c.hasQuorum(c.reservers(stamp)) {
+			c.reserved = stamp
+		}
+	}
+	if c.reserved == before {
+		return
+	}
+	for l := range c.busy {
+		c.pump(l)
+	}
+}
+
+// reservers returns the voters that keep this stamp as reserved.
+func (c *Client) reservers(stamp uint64) (mask uint64) {
+	for v := range c.peers {
+		if c.peers[v].reserved >= stamp {
+			mask |= 1 << v
+		}
+	}
+	return mask
+}
+
+// heartbeat shows that the session is there. What may have been lost before is lost first: replies to this heartbeat say
+// nothing of the time before it.
+func (c *Client) heartbeat(now time.Time) {
+	c.lapse()
+	c.beat = now
+	c.header.Seq++
+	switch {
+	case len(c.busy) > 0:
+		c.idle = 0
+	case c.idle == 0:
+		c.idle = c.header.Seq
+	default:
+		c.disclaim(now)
+	}
+	up, open := uptime(), fmt.Sprintf(". open %d\n", c.oldest())
+	for v := range c.peers {
+		p := &c.peers[v]
+		for seq, left := range p.sent {
+			if up-left > c.cluster.TTL.Duration {
+				delete(p.sent, seq)
+			}
+		}
+		if p.closed {
+			continue
+		}
+		p.sent[c.header.Seq] = up
+		c.out[v] = append(c.out[v], open...)
+		if c.draining && p.drained {
+			c.out[v] = append(c.out[v], ". close\n"...)
+		}
+	}
+}
+
+// disclaim ends what voters still have of a session that wants nothing: a RELEASE was lost.
+func (c *Client) disclaim(now time.Time) {
+	var voters uint64
+	for v := range c.peers {
+		if c.peers[v].requests > 0 {
+			voters |= 1 << v
+		}
+	}
+	if voters == 0 {
+		return
+	}
+	for _, l := range c.locks {
+		if lines, err := l.Disclaim(voters, c.room[:0]); err == nil {
+			c.room = lines
+			c.send(l, lines, now)
+		}
+	}
+}
+
+// uptime is a clock that also goes on while the machine sleeps. That of package time does not.
+func uptime() time.Duration {
+	var t unix.Timespec
+	_ = unix.ClockGettime(unix.CLOCK_BOOTTIME, &t)
+	return time.Duration(t.Nano())
+}
+
+// doubtful returns the voters that may have let votes go: none of their replies is of a heartbeat that left in the last
+// 0.8 TTL. They may do so a TTL after it arrived.
+func (c *Client) doubtful() (mask uint64) {
+	up := uptime()
+	for v := range c.peers {
+		if up-c.peers[v].known > c.cluster.TTL.Duration*8/10 {
+			mask |= 1 << v
+		}
+	}
+	return mask
+}
+
+// silent returns the voters of which nothing came for the fail-over time.
+func (c *Client) silent(now time.Time) (mask uint64) {
+	for v := range c.peers {
+		if now.Sub(c.peers[v].heard) > c.config.FailOver {
+			mask |= 1 << v
+		}
+	}
+	return mask
+}
+
+// message takes a message of a voter.
+func (c *Client) message(data []byte) {
+	h, lines, err := wire.Read(data)
+	if err != nil || h.Cluster != c.header.Cluster || h.Kind != wire.FromVoter || h.Number >= len(c.peers) {
+		c.stats.Refused++
+		return
+	}
+	if !c.accepts(h.Coterie) {
+		c.stats.Refused++
+		c.findPlans(h.Number, lines)
+		return
+	}
+	if !c.recognise(h) {
+		c.stats.Refused++
+		return
+	}
+	c.peers[h.Number].heard = time.Now()
+	for {
+		lock, line, rest, found := wire.Next(lines)
+		if !found {
+			return
+		}
+		lines = rest
+		if string(lock) == "." {
+			c.control(h.Number, bytes.Fields(line))
+		} else if from, _ := wire.Ends(line); from == h.Number && c.header.Epoch > 0 && wire.IsName(lock) {
+			c.take(lock, line)
+		} else {
+			c.stats.Refused++
+		}
+	}
+}
+
+// recognise returns whether a message is of the voter that was there before. One that was made again after its state was
+// lost takes its place: it forgot whom it granted its votes, so all requests that have one are over.
+func (c *Client) recognise(h wire.Header) bool {
+	p := &c.peers[h.Number]
+	if p.identity == "" {
+		p.identity, p.block = h.Name, h.Block
+	}
+	if p.identity == h.Name {
+		if h.Saves > p.saves {
+			p.saves = h.Saves
+		}
+		return true
+	}
+	if h.Block <= p.block {
+		return false
+	}
+	p.identity, p.block, p.saves, p.reserved = h.Name, h.Block, h.Saves, 0
+	for l := range c.busy {
+		if l.shown.Phase != qlock.Idle && l.shown.Quorum>>h.Number&1 == 1 {
+			c.spoil(l)
+		}
+	}
+	return true
+}
+
+// control takes a control line of a voter.
+func (c *Client) control(voter int, words [][]byte) {
+	if len(words) == 3 && string(words[0]) == "gone" {
+		if stamp, ok := number(words[2]); ok {
+			c.gone(string(words[1]), stamp)
+		}
+		return
+	}
+	if c.controlPlans(voter, words) {
+		return
+	}
+	var n [5]uint64
+	if len(words) < 3 || len(words) > 1+len(n) {
+		return
+	}
+	for i, word := range words[1:] {
+		value, ok := number(word)
+		if !ok {
+			return
+		}
+		n[i] = value
+	}
+	if n[0] >= qlock.MaxClients {
+		return
+	}
+	mine := int(n[0]) == c.header.Number && n[1] == c.header.Epoch && c.header.Epoch > 0
+	switch string(words[0]) {
+	case "number":
+		if c.claimed > 0 {
+			return // a late reply, which says nothing of the claim
+		}
+		c.noteNumber(voter, int(n[0]), n[1], int(n[2]))
+	case "claimed", "refused":
+		if c.header.Epoch == 0 && int(n[0]) == c.asked && n[1] == c.claimed && c.claimed > 0 {
+			c.noteClaim(voter, string(words[0]) == "claimed", n[2])
+		}
+	case "opened":
+		if mine {
+			c.opened(voter, n[2], n[3], n[4])
+		}
+	case "closed", "taken":
+		if mine {
+			c.over(voter)
+		}
+	}
+}
+
+// noteNumber notes what a voter says of a number.
+func (c *Client) noteNumber(voter, which int, epoch uint64, state int) {
+	if epoch > c.epochs[which] {
+		c.epochs[which] = epoch
+	}
+	if state == 0 || c.states[which] == 1 {
+		c.states[which] = state
+	}
+	c.replied |= 1 << voter
+}
+
+// noteClaim notes a voter's reply to a claim.
+func (c *Client) noteClaim(voter int, granted bool, reserved uint64) {
+	if !granted {
+		c.refused = true
+		return
+	}
+	c.replied |= 1 << voter
+	if reserved > c.used {
+		c.used = reserved
+	}
+}
+
+// opened takes the reply to a heartbeat: what the voter keeps as reserved, which heartbeat it heard, and how many requests
+// of this session it has.
+func (c *Client) opened(voter int, reserved, seq, requests uint64) {
+	p := &c.peers[voter]
+	if reserved > p.reserved {
+		p.reserved = reserved
+	}
+	if left, ok := p.sent[seq]; ok && left > p.known {
+		p.known = left
+	}
+	p.requests = requests
+	if c.draining && requests == 0 && c.idle > 0 && seq >= c.idle {
+		p.drained = true // for good, as nothing is asked any more
+	}
+	if p.drained && !p.closed {
+		c.out[voter] = append(c.out[voter], ". close\n"...) // heartbeats repeat it
+	}
+	c.noteReserved()
+}
+
+// over notes that this session is over at a voter. That is an error, unless it is being closed.
+func (c *Client) over(voter int) {
+	if c.opening {
+		c.refused = true
+		return
+	}
+	if !c.draining || !c.peers[voter].drained {
+		c.end(ErrLost)
+		return
+	}
+	c.peers[voter].closed = true
+	c.finish()
+}
+
+// drain begins to close the session.
+func (c *Client) drain() {
+	c.draining, c.idle = true, 0
+	for l := range c.busy {
+		for _, w := range l.queue {
+			close(w.got)
+		}
+		l.queue = nil
+		c.pump(l)
+	}
+	c.heartbeat(time.Now())
+}
+
+// finish ends a drain once all voters that are there have closed the session, and they contain a quorum.
+func (c *Client) finish() {
+	var closed uint64
+	for v := range c.peers {
+		if c.peers[v].closed {
+			closed |= 1 << v
+		}
+	}
+	all := uint64(1)<<len(c.peers) - 1
+	if !c.done && (closed|c.silent(time.Now()))&all == all && c.hasQuorum(closed) {
+		c.done = true
+		close(c.drained)
+	}
+}
+
+func number(word []byte) (n uint64, ok bool) {
+	for _, b := range word {
+		if b < '0' || b > '9' || n > 1<<60 {
+			return 0, false
+		}
+		n = 10*n + uint64(b-'0')
+	}
+	return n, len(word) > 0
+}

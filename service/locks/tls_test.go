@@ -1,0 +1,237 @@
+package locks
+
+import (
+	"context"
+	"crypto/ecdsa"
+	"crypto/elliptic"
+	"crypto/rand"
+	"crypto/x509"
+	"crypto/x509/pkix"
+	"encoding/pem"
+	"fmt"
+	"io"
+	"math/big"
+	"net"
+	"os"
+	"os/exec"
+	"path/filepath"
+	"testing"
+	"time"
+
+	"calvundek.example/service/internal/config"
+	"calvundek.example/service/internal/event"
+	"calvundek.example/service/internal/local"
+	"calvundek.example/service/internal/operator"
+	"calvundek.example/service/internal/voter"
+	"calvundek.example/service/internal/wire"
+	"calvundek.example/service/internal/worlds"
+	"calvundek.example/service/transport"
+)
+
+// serverFile is a server with TLS that wants certificates of its clients, and says what each user may do. docs/service.md
+// has the same for five voters.
+const serverFile = `listen: "127.0.0.1:%d"
+tls { cert_file: "%s/server.pem", key_file: "%s/server.key", ca_file: "%s/ca.pem", verify: true }
+authorization { users: [
+  { user: voter-a, password: secret-a, permissions: {
+      subscribe: ["qlock.test.v.0", "qlock.test.admin.0"], publish: ["qlock.test.c.>", "qlock.test.o.*"] } }
+  { user: voter-b, password: secret-b, permissions: {
+      subscribe: ["qlock.test.v.1", "qlock.test.admin.1"], publish: ["qlock.test.c.>", "qlock.test.o.*"] } }
+  { user: voter-c, password: secret-c, permissions: {
+      subscribe: ["qlock.test.v.2", "qlock.test.admin.2"], publish: ["qlock.test.c.>", "qlock.test.o.*"] } }
+  { user: shop, password: secret-shop, permissions: { subscribe: ["qlock.test.c.shop.*"], publish: ["qlock.test.v.*"] } }
+  { user: spy, password: secret-spy, permissions: { subscribe: ["qlock.test.c.spy.*"], publish: ["qlock.test.v.*"] } }
+  { user: operator, password: secret-operator, permissions: { subscribe: ["qlock.test.o.*"], publish: ["qlock.test.admin.*"] } }
+] }
+`
+
+// authority makes an authority and certificates of it in a folder: NAME.pem and NAME.key.
+func authority(t *testing.T, folder string, names ...string) {
+	t.Helper()
+	caKey := newKey(t)
+	ca := &x509.Certificate{SerialNumber: big.NewInt(1), Subject: pkix.Name{CommonName: "ca"}, NotBefore: time.Now().Add(-time.Hour),
+		NotAfter: time.Now().Add(time.Hour), IsCA: true, BasicConstraintsValid: true, KeyUsage: x509.KeyUsageCertSign}
+	sign(t, folder, "ca", ca, ca, caKey, caKey)
+	for i, name := range names {
+		one := &x509.Certificate{SerialNumber: big.NewInt(int64(i + 2)), Subject: pkix.Name{CommonName: name}, NotBefore: ca.NotBefore,
+			NotAfter: ca.NotAfter, IPAddresses: []net.IP{net.IPv4(127, 0, 0, 1)}, KeyUsage: x509.KeyUsageDigitalSignature,
+			ExtKeyUsage: []x509.ExtKeyUsage{x509.ExtKeyUsageServerAuth, x509.ExtKeyUsageClientAuth}}
+		sign(t, folder, name, one, ca, newKey(t), caKey)
+	}
+}
+
+func newKey(t *testing.T) *ecdsa.PrivateKey {
+	t.Helper()
+	key, err := ecdsa.GenerateKey(elliptic.P256(), rand.Reader)
+	if err != nil {
+		t.Fatal(err)
+	}
+	return key
+}
+
+func sign(t *testing.T, folder, name string, one, by *x509.Certificate, key, byKey *ecdsa.PrivateKey) {
+	t.Helper()
+	certificate, err := x509.CreateCertificate(rand.Reader, one, by, &key.PublicKey, byKey)
+	if err != nil {
+		t.Fatal(err)
+	}
+	secret, err := x509.MarshalECPrivateKey(key)
+	if err != nil {
+		t.Fatal(err)
+	}
+	write(t, filepath.Join(folder, name+".pem"), string(pem.EncodeToMemory(&pem.Block{Type: "CERTIFICATE", Bytes: certificate})))
+	write(t, filepath.Join(folder, name+".key"), string(pem.EncodeToMemory(&pem.Block{Type: "EC PRIVATE KEY", Bytes: secret})))
+}
+
+func write(t *testing.T, path, text string) {
+	t.Helper()
+	if err := os.WriteFile(path, []byte(text), 0o600); err != nil {
+		t.Fatal(err)
+	}
+}
+
+// secured starts a server with TLS and users, and returns the cluster and the folder of the certificates.
+func secured(t *testing.T) (*config.Cluster, string) {
+	t.Helper()
+	server, err := local.NATSServer()
+	if err != nil {
+		t.Skip("apt-get install nats-server")
+	}
+	folder := t.TempDir()
+	authority(t, folder, "server", "process")
+	for _, user := range []string{"a", "b", "c", "shop", "spy", "operator"} {
+		write(t, filepath.Join(folder, user+".secret"), "secret-"+user+"\n")
+	}
+	ports, err := local.FreePorts(1)
+	if err != nil {
+		t.Fatal(err)
+	}
+	write(t, filepath.Join(folder, "nats.conf"), fmt.Sprintf(serverFile, ports[0], folder, folder, folder))
+	run := exec.Command(server, "-c", filepath.Join(folder, "nats.conf"))
+	if err := run.Start(); err != nil {
+		t.Fatal(err)
+	}
+	t.Cleanup(func() { _ = run.Process.Kill(); _ = run.Wait() })
+	cluster := worlds.NewCluster(t, worlds.Majority, 2*time.Second)
+	cluster.Servers, cluster.CA = []string{fmt.Sprintf("tls://127.0.0.1:%d", ports[0])}, filepath.Join(folder, "ca.pem")
+	return cluster, folder
+}
+
+func access(folder, user, secret string) config.Access {
+	return config.Access{User: user, Secret: filepath.Join(folder, secret+".secret"),
+		Cert: filepath.Join(folder, "process.pem"), Key: filepath.Join(folder, "process.key")}
+}
+
+// connect connects a user.
+func connect(t *testing.T, cluster *config.Cluster, access config.Access) *transport.NATS {
+	t.Helper()
+	link, err := transport.Connect(cluster, access, "test")
+	if err != nil {
+		t.Fatal(err)
+	}
+	t.Cleanup(link.Close)
+	return link
+}
+
+// With certificates and users a client passes and an operator sees it. Another client hears nothing of it, and can't
+// speak to voters as an operator, or as a voter to it.
+func TestCertificatesAndUsers(t *testing.T) {
+	cluster, folder := secured(t)
+	for i, name := range cluster.Planned.Names {
+		own := worlds.NewVoter(name, filepath.Join(folder, "voter-"+name))
+		if _, err := voter.Init(own, cluster); err != nil {
+			t.Fatal(err)
+		}
+		d, err := voter.Open(own, cluster, connect(t, cluster, access(folder, "voter-"+name, name)), event.To(io.Discard))
+		if err != nil {
+			t.Fatal(i, err)
+		}
+		ctx, cancel := context.WithCancel(context.Background())
+		ended := make(chan error, 1)
+		go func() { ended <- d.Run(ctx) }()
+		t.Cleanup(func() {
+			cancel()
+			if err := <-ended; err != nil {
+				t.Error(err)
+			}
+		})
+	}
+	shop := connect(t, cluster, access(folder, "shop", "shop"))
+	client, err := open(within(t, 20*time.Second), cluster, Config{Prefix: "shop", Transport: shop})
+	if err != nil {
+		t.Fatal(err)
+	}
+	spy := connect(t, cluster, access(folder, "spy", "spy"))
+	var heard []<-chan []byte
+	for _, box := range []string{"qlock.test.c.shop.*", "qlock.test.c.*.*", "qlock.test.v.0", "qlock.test.o.*", ">"} {
+		messages, err := spy.Listen(box)
+		if err != nil {
+			t.Fatal(err)
+		}
+		heard = append(heard, messages)
+	}
+	operators := wire.Header{Cluster: "test", Coterie: config.Hash(cluster.Coterie), Kind: wire.FromOperator, Name: "spy"}
+	_ = spy.Send(wire.AdminBox("test", 0), append(operators.Append(nil), fmt.Sprintf("evict %d\n", client.Number())...))
+	_ = spy.Send(wire.SessionBox("test", client.header.Name), []byte("anything"))
+	held := take(t, client, "x")
+	time.Sleep(700 * time.Millisecond) // some heartbeats
+	console := operator.New(cluster, connect(t, cluster, access(folder, "operator", "operator")))
+	replies, err := console.Ask(within(t, 10*time.Second), "lock x", console.All()...)
+	if err != nil {
+		t.Fatal(err)
+	}
+	for _, r := range replies {
+		if r.Err != nil {
+			t.Errorf("%s: %v", r.Name, r.Err)
+		}
+	}
+	select {
+	case <-held.Lost():
+		t.Error("a client could evict another one")
+	default:
+	}
+	for i, messages := range heard {
+		select {
+		case message := <-messages:
+			t.Errorf("%d: heard %q", i, message)
+		default:
+		}
+	}
+	if refused := client.Stats().Refused; refused > 0 {
+		t.Errorf("%d messages were not those of voters", refused)
+	}
+	if err := held.Unlock(); err != nil {
+		t.Error(err)
+	}
+	if err := client.Close(within(t, 20*time.Second)); err != nil {
+		t.Error(err)
+	}
+}
+
+// Without a certificate, with a wrong password, or with a server of another authority there is no connection.
+func TestWrongCertificatesAndUsers(t *testing.T) {
+	cluster, folder := secured(t)
+	other := t.TempDir()
+	authority(t, other, "process")
+	right := access(folder, "shop", "shop")
+	for what, how := range map[string]func(a *config.Access, c *config.Cluster){
+		"a wrong password":    func(a *config.Access, _ *config.Cluster) { a.Secret = filepath.Join(folder, "spy.secret") },
+		"no user":             func(a *config.Access, _ *config.Cluster) { a.User = "" },
+		"no certificate":      func(a *config.Access, _ *config.Cluster) { a.Cert = "" },
+		"another authority":   func(_ *config.Access, c *config.Cluster) { c.CA = filepath.Join(other, "ca.pem") },
+		"another's signature": func(a *config.Access, _ *config.Cluster) { a.Cert, a.Key = other+"/process.pem", other+"/process.key" },
+		"everything is right": func(*config.Access, *config.Cluster) {},
+	} {
+		a, c := right, *cluster
+		how(&a, &c)
+		link := connect(t, &c, a)
+		connected := false
+		for i := 0; i < 20 && !connected; i++ {
+			time.Sleep(50 * time.Millisecond)
+			connected = link.Connected()
+		}
+		if connected != (what == "everything is right") {
+			t.Errorf("%s: connected is %v", what, connected)
+		}
+	}
+}

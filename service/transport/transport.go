@@ -1,0 +1,21 @@
+// Package transport carries messages between voters and clients. NATS is one transport; another one has two methods.
+package transport
+
+// Transport carries messages to mailboxes. It may lose, repeat, delay and reorder them, and may not make any up or change
+// one. Several goroutines may call it at once.
+type Transport interface {
+	// Send sends a message to a mailbox. It does not wait until it arrives. What it can't send is lost: a reminder
+	// repeats it.
+	Send(mailbox string, message []byte) error
+	// Listen returns the messages that come to a mailbox from now on. Those that find no room are lost.
+	Listen(mailbox string) (<-chan []byte, error)
+}
+
+// Link is what a transport may have besides: whether it is connected. A voter shows it, and begins all leases anew when
+// it was away.
+type Link interface {
+	// Connected returns whether messages can leave now.
+	Connected() bool
+	// Returns returns how often the connection came back.
+	Returns() uint64
+}

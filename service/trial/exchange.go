@@ -1,0 +1,78 @@
+package main
+
+import (
+	"errors"
+	"fmt"
+	"time"
+)
+
+var errExchange = errors.New("a plan is not exchanged")
+
+// exchanged is what the plan's exchanges are counted as.
+const exchanged = "plans exchanged and retired"
+
+// mover exchanges the plan of a trial and back, one step for each burst of incidents. Voters that only the new coterie has
+// come and go.
+type mover struct {
+	*player
+	coteries []string // of the exchanges that are still to be made
+	retires  bool     // the next step is to retire the old plan
+}
+
+func newMover(p *player) *mover {
+	m := &mover{player: p}
+	if p.options.exchange != "" {
+		m.coteries = []string{p.options.exchange, p.options.Coterie}
+	}
+	return m
+}
+
+// begin begins the next step while all is calm, and leaves the rest to a goroutine that goes on during the burst.
+func (m *mover) begin() error {
+	switch {
+	case m.retires:
+		m.retires = false
+		m.insist(func() error {
+			err := m.cluster.Retire()
+			if err == nil {
+				m.note(exchanged)
+			}
+			return err
+		})
+	case len(m.coteries) > 0:
+		coterie := m.coteries[0]
+		if err := m.cluster.Exchange(coterie); err != nil {
+			return err
+		}
+		for len(m.lost) < len(m.cluster.Voters) {
+			m.lost = append(m.lost, 0)
+		}
+		m.coteries, m.retires = m.coteries[1:], true
+		m.insist(func() error { return m.cluster.Install(coterie) })
+	case m.options.exchange != "":
+		m.cluster.Dismiss()
+	}
+	return nil
+}
+
+// insist does something again until it succeeds: voters are killed meanwhile.
+func (m *mover) insist(do func() error) {
+	m.back.Add(1)
+	go func() {
+		defer m.back.Done()
+		var err error
+		for end := time.Now().Add(2 * time.Minute); time.Now().Before(end) && m.failed() == nil; time.Sleep(200 * time.Millisecond) {
+			if err = do(); err == nil {
+				return
+			}
+		}
+		m.fail(fmt.Errorf("%w: %v", errExchange, err))
+	}()
+}
+
+// note counts something that happened.
+func (p *player) note(what string) {
+	p.mutex.Lock()
+	defer p.mutex.Unlock()
+	p.counts[what]++
+}

@@ -1,0 +1,182 @@
+// Command trial tries the service on this machine: it kills, stops and freezes voters, clients and servers of NATS, takes
+// the states of voters away, and loses and repeats messages, while a witness outside of the clients judges.
+//
+// The witness has to find nothing of these:
+//
+//   - two inside, of which none was let go: neither stood still, nor was told so by Held.Lost;
+//   - a write of a pass after one of a later pass;
+//   - a lost update;
+//   - a wait longer than 3 TTL after the last incident. Incidents come in bursts, after which all is there again.
+package main
+
+import (
+	"errors"
+	"fmt"
+	"math/rand"
+	"os"
+	"os/signal"
+	"path/filepath"
+	"sort"
+	"strconv"
+	"syscall"
+	"time"
+
+	"calvundek.example/service/internal/local"
+	"github.com/spf13/cobra"
+)
+
+var (
+	errFaults      = errors.New("the trial found faults")
+	errInterrupted = errors.New("interrupted")
+)
+
+// options of a trial.
+type options struct {
+	local.Options
+	open            bool
+	length          time.Duration
+	passes          int
+	workers, places int
+	each            int
+	percent         int
+	seed            int64
+	exchange        string
+}
+
+func main() {
+	if err := command().Execute(); err != nil {
+		fmt.Fprintln(os.Stderr, "trial:", err)
+		os.Exit(1)
+	}
+}
+
+func command() *cobra.Command {
+	var o options
+	root := &cobra.Command{Use: "trial", Args: cobra.NoArgs, SilenceUsage: true, SilenceErrors: true,
+		RunE: func(*cobra.Command, []string) error { return run(o) }}
+	flags := root.Flags()
+	flags.StringVar(&o.Folder, "folder", "", "a new folder for the cluster, on a disk that syncs")
+	flags.StringVar(&o.Bin, "bin", "", "the folder of qlock-voter and qlockctl")
+	flags.StringVar(&o.Coterie, "coterie", "", "the file of the coterie")
+	flags.DurationVar(&o.TTL, "ttl", 2*time.Second, "the TTL")
+	flags.DurationVar(&o.length, "for", 2*time.Minute, "how long the trial takes at least")
+	flags.IntVar(&o.passes, "passes", 0, "how many passes it makes at least")
+	flags.IntVar(&o.workers, "clients", 6, "how many clients")
+	flags.IntVar(&o.places, "places", 6, "how many locks")
+	flags.IntVar(&o.each, "each", 4, "how many goroutines of each client pass through the locks")
+	flags.IntVar(&o.percent, "noise", 1, "how many of 100 messages are lost, and how many repeated, in each direction of each client")
+	flags.Int64Var(&o.seed, "seed", 1, "the seed of the incidents")
+	flags.BoolVar(&o.Islands, "partitions", false, "also cut voters and clients off, by network namespaces; needs root")
+	flags.BoolVar(&o.SmallDisk, "full-disk", false, "also fill a voter's disk; needs root")
+	flags.StringVar(&o.exchange, "exchange", "", "the file of a coterie for which the plan is exchanged meanwhile, and back")
+	flags.BoolVar(&o.open, "open-guard", false, "let the guard admit everything, and stop clients: the witness has to find that")
+	root.AddCommand(&cobra.Command{Use: "worker CLUSTER WITNESS NAME PLACES EACH PERCENT", Args: cobra.ExactArgs(6), Hidden: true,
+		RunE: func(_ *cobra.Command, words []string) error {
+			var numbers [3]int
+			for i := range numbers {
+				var err error
+				if numbers[i], err = strconv.Atoi(words[3+i]); err != nil {
+					return err
+				}
+			}
+			return work(words[0], words[1], words[2], numbers[0], numbers[1], numbers[2])
+		}})
+	return root
+}
+
+// run runs a trial, and prints what it found.
+func run(o options) error {
+	cluster, err := local.Start(o.Options)
+	if err != nil {
+		return err
+	}
+	defer cluster.End()
+	path := filepath.Join(o.Folder, "witness")
+	w, err := newWitness(path, o.TTL)
+	if err != nil {
+		return err
+	}
+	w.open = o.open
+	p := &player{cluster: cluster, witness: w, ttl: o.TTL, options: o, random: rand.New(rand.NewSource(o.seed)),
+		away: map[*local.Process]bool{}, lost: make([]int, len(cluster.Voters)), counts: map[string]int{}}
+	self, err := os.Executable()
+	if err != nil {
+		return err
+	}
+	for i := 0; i < o.workers; i++ {
+		name := fmt.Sprintf("client-%d", i)
+		worker, err := cluster.Process(name, self, "worker", cluster.File, path, name, fmt.Sprint(o.places), fmt.Sprint(o.each), fmt.Sprint(o.percent))
+		if err != nil {
+			return err
+		}
+		p.workers = append(p.workers, worker)
+	}
+	signals := make(chan os.Signal, 1)
+	signal.Notify(signals, syscall.SIGINT, syscall.SIGTERM)
+	go func() {
+		<-signals
+		p.fail(errInterrupted)
+	}()
+	began, mover := time.Now(), newMover(p)
+	for err == nil && (time.Since(began) < o.length || w.look().Passes < o.passes) && !(o.open && w.look().faults() > 0) {
+		if err = p.calm(); err == nil {
+			err = p.check()
+		}
+		if err == nil {
+			err = mover.begin()
+		}
+		if err == nil {
+			err = p.burst(5 * time.Second)
+		}
+	}
+	if err == nil {
+		err = p.calm()
+	}
+	took := time.Since(began)
+	found := w.end()
+	show(found, p.counts, took)
+	if err != nil {
+		return err
+	}
+	return verdict(found, p.counts, o)
+}
+
+func show(f findings, counts map[string]int, took time.Duration) {
+	fmt.Printf("%d passes and %d writes in %.0f s, %.0f passes a second; longest wait after the last incident %.2f s\n",
+		f.Passes, f.Writes, took.Seconds(), float64(f.Passes)/took.Seconds(), f.LongestWait.Seconds())
+	var names []string
+	for name := range counts {
+		names = append(names, name)
+	}
+	sort.Strings(names)
+	for _, name := range names {
+		fmt.Printf("  %d %s\n", counts[name], name)
+	}
+	fmt.Printf("locks that were lost while held: %d; entries while one that was let go was inside: %d; shows that the guard refused: %d\n",
+		f.Lost, f.Met, f.Refused)
+	fmt.Printf("two inside that were not let go: %d; writes of a pass after one of a later pass: %d; lost updates: %d; waits longer than 3 TTL: %d\n",
+		f.TwoInside, f.Torn, f.LostUpdates, f.LongWaits)
+}
+
+// verdict returns an error if the witness found something, or the trial tried too little.
+func verdict(f findings, counts map[string]int, o options) error {
+	if o.open && f.Torn > 0 {
+		fmt.Println("the witness found the open guard, as it has to")
+		return nil
+	}
+	if o.open || f.faults() > 0 {
+		return errFaults
+	}
+	if o.exchange != "" && counts[exchanged] < 2 {
+		return fmt.Errorf("%w: the plan was not exchanged and back", errFaults)
+	}
+	if f.Passes == 0 || f.Lost == 0 {
+		return fmt.Errorf("%w: too little happened", errFaults)
+	}
+	for _, kind := range kinds {
+		if counts[kind.name] == 0 && o.length >= 2*time.Minute && (kind.has == nil || kind.has(o)) {
+			return fmt.Errorf("%w: no %s", errFaults, kind.name)
+		}
+	}
+	return nil
+}

@@ -1,0 +1,295 @@
+package main
+
+import (
+	"bufio"
+	"encoding/hex"
+	"fmt"
+	"net"
+	"strconv"
+	"strings"
+	"sync"
+	"time"
+
+	"calvundek.example/service/qlock"
+)
+
+// place is what one lock protects: a count with its guard. The witness knows who says to be inside.
+type place struct {
+	fence  *qlock.Fence
+	count  int
+	last   string          // the pass that was admitted last
+	over   map[string]bool // passes after which another one was admitted
+	inside map[string]bool // workers
+}
+
+// worker is what the witness knows of a worker.
+type worker struct {
+	excused bool      // it stood still, or a voter lost its state while it was inside: it may have been let go
+	waits   time.Time // since when it waits, zero if it does not
+}
+
+// findings are what the witness counts.
+type findings struct {
+	Passes, Writes               int
+	TwoInside                    int // two inside, and none of them was let go
+	Torn                         int // writes of a pass after one of a later pass
+	LostUpdates                  int // writes that were admitted and did not follow the last one
+	LongWaits                    int // waits longer than 3 TTL after the last incident, with a quorum there
+	Met, Refused, Lost, LostLate int
+	LongestWait                  time.Duration
+}
+
+// faults returns how many faults were found.
+func (f findings) faults() int { return f.TwoInside + f.Torn + f.LostUpdates + f.LongWaits }
+
+// witness judges. It is outside of the workers' processes, and calls the library only for the guard.
+type witness struct {
+	mutex    sync.Mutex
+	listener net.Listener
+	places   map[string]*place
+	workers  map[string]*worker
+	found    findings
+	said     int
+	calm     time.Time // of the last incident
+	ttl      time.Duration
+	open     bool // the guard admits everything: a fault on purpose
+}
+
+func newWitness(path string, ttl time.Duration) (*witness, error) {
+	l, err := net.Listen("unix", path)
+	if err != nil {
+		return nil, err
+	}
+	w := &witness{listener: l, places: map[string]*place{}, workers: map[string]*worker{}, ttl: ttl, calm: time.Now()}
+	go func() {
+		for {
+			c, err := l.Accept()
+			if err != nil {
+				return
+			}
+			go w.serve(c)
+		}
+	}()
+	return w, nil
+}
+
+// complain prints the first faults.
+func (w *witness) complain(format string, words ...interface{}) {
+	if w.said++; w.said <= 20 {
+		fmt.Printf("%s "+format+"\n", append([]interface{}{time.Now().Format("15:04:05.000")}, words...)...)
+	}
+}
+
+// serve talks with one worker. If it was killed, it is out of all places.
+func (w *witness) serve(c net.Conn) {
+	defer c.Close()
+	in, name := bufio.NewScanner(c), ""
+	for in.Scan() {
+		words := strings.Fields(in.Text())
+		w.mutex.Lock()
+		if words[0] == "name" {
+			name = words[1]
+			w.workers[name] = &worker{}
+		}
+		reply := w.judge(name, words)
+		w.mutex.Unlock()
+		if _, err := fmt.Fprintln(c, reply); err != nil {
+			break
+		}
+	}
+	w.mutex.Lock()
+	defer w.mutex.Unlock()
+	for _, p := range w.places {
+		delete(p.inside, name)
+	}
+	delete(w.workers, name)
+}
+
+// judge takes a line of a worker, and returns the reply.
+func (w *witness) judge(name string, words []string) string {
+	one := w.workers[name]
+	switch words[0] {
+	case "wait":
+		one.waits = time.Now()
+	case "nowait":
+		one.waits = time.Time{}
+	case "enter":
+		w.enter(name, w.place(words[1]))
+	case "read":
+		return w.read(w.place(words[1]), words[2])
+	case "write":
+		return w.write(w.place(words[1]), words[2], words[3])
+	case "lost":
+		delete(w.place(words[1]).inside, name)
+		w.found.Lost++
+	case "leave":
+		delete(w.place(words[1]).inside, name)
+		one.excused = false
+		w.found.Passes++
+	}
+	return "ok"
+}
+
+func (w *witness) place(name string) *place {
+	if w.places[name] == nil {
+		fence, err := qlock.NewFence()
+		if err != nil {
+			panic(err)
+		}
+		w.places[name] = &place{fence: fence, over: map[string]bool{}, inside: map[string]bool{}}
+	}
+	return w.places[name]
+}
+
+// enter notes that a worker is inside, and who was there already.
+func (w *witness) enter(name string, p *place) {
+	w.endWait(name)
+	for other := range p.inside {
+		if w.workers[other].excused || w.workers[name].excused {
+			w.found.Met++
+		} else {
+			w.found.TwoInside++
+			w.complain("two inside: %s and %s", other, name)
+		}
+	}
+	p.inside[name] = true
+}
+
+// endWait judges a wait that ended.
+func (w *witness) endWait(name string) {
+	one := w.workers[name]
+	w.judgeWait(name, one)
+	one.waits = time.Time{}
+}
+
+// judgeWait judges how long a worker has waited since the last incident. Each wait counts once.
+func (w *witness) judgeWait(name string, one *worker) {
+	if one.waits.IsZero() {
+		return
+	}
+	since := one.waits
+	if w.calm.After(since) {
+		since = w.calm
+	}
+	waited := time.Since(since)
+	if waited > w.found.LongestWait {
+		w.found.LongestWait = waited
+	}
+	if waited > 3*w.ttl {
+		w.found.LongWaits++
+		w.complain("%s waits %v after the last incident", name, waited)
+		one.waits = time.Time{}
+	}
+}
+
+// read shows a pass, and returns the count: what decides a write is read under the same pass.
+func (w *witness) read(p *place, pass string) string {
+	if !w.admit(p, pass) {
+		return "late"
+	}
+	return strconv.Itoa(p.count)
+}
+
+// write admits a pass and writes, in one step.
+func (w *witness) write(p *place, pass, count string) string {
+	if !w.admit(p, pass) {
+		return "late"
+	}
+	if count != strconv.Itoa(p.count+1) {
+		w.found.LostUpdates++
+		w.complain("%s is written over %d", count, p.count)
+	}
+	p.count++
+	w.found.Writes++
+	return "ok"
+}
+
+// admit shows a pass to the guard. It remembers by itself which passes are over.
+func (w *witness) admit(p *place, pass string) bool {
+	bytes, err := hex.DecodeString(pass)
+	if err != nil {
+		return false
+	}
+	if _, err := p.fence.Admit(bytes); err != nil {
+		w.found.Refused++
+		if !w.open {
+			return false
+		}
+	}
+	if p.over[pass] {
+		w.found.Torn++
+		w.complain("a pass comes back after a later one")
+	}
+	if p.last != "" && p.last != pass {
+		p.over[p.last] = true
+	}
+	p.last = pass
+	return true
+}
+
+// incident notes that something happens now, so waits count from here.
+func (w *witness) incident() {
+	w.mutex.Lock()
+	defer w.mutex.Unlock()
+	w.calm = time.Now()
+}
+
+// watch looks at those that still wait.
+func (w *witness) watch() {
+	w.mutex.Lock()
+	defer w.mutex.Unlock()
+	for name, one := range w.workers {
+		w.judgeWait(name, one)
+	}
+}
+
+// excuse notes that a process stands still, so its workers may be let go before they know.
+func (w *witness) excuse(process string) {
+	w.mutex.Lock()
+	defer w.mutex.Unlock()
+	for name, one := range w.workers {
+		if strings.HasPrefix(name, process+"/") {
+			one.excused = true
+		}
+	}
+}
+
+// isInside returns whether a worker of a process is inside somewhere.
+func (w *witness) isInside(process string) bool {
+	w.mutex.Lock()
+	defer w.mutex.Unlock()
+	for _, p := range w.places {
+		for name := range p.inside {
+			if strings.HasPrefix(name, process+"/") {
+				return true
+			}
+		}
+	}
+	return false
+}
+
+// excuseInside notes that a voter lost its state: whoever is inside may have lost its vote before it knows.
+func (w *witness) excuseInside() {
+	w.mutex.Lock()
+	defer w.mutex.Unlock()
+	for _, p := range w.places {
+		for name := range p.inside {
+			w.workers[name].excused = true
+		}
+	}
+}
+
+// look returns what was found so far.
+func (w *witness) look() findings {
+	w.mutex.Lock()
+	defer w.mutex.Unlock()
+	return w.found
+}
+
+// end returns what was found.
+func (w *witness) end() findings {
+	w.listener.Close()
+	w.mutex.Lock()
+	defer w.mutex.Unlock()
+	return w.found
+}
