@@ -27,7 +27,7 @@ pub fn word_argument<'a>(alloc: Global, name: &'a str, help: &'a str) -> Arg<'a>
 }
 
 /// Returns an argument that has to be there: a number from `least` to `most`.
-pub(crate) fn number_argument<'a>(
+pub fn number_argument<'a>(
     alloc: Global,
     name: &'a str,
     help: &'a str,

@@ -49,7 +49,7 @@ pub fn text_at<'a>(texts: &[&'a str], i: usize) -> &'a str
 }
 
 /// Returns the number that an argument is, if it is at least `least` and at most `most`.
-pub(crate) fn number_of(used: &ArgMatches, name: &str, least: u64, most: u64) -> Option<u64>
+pub fn number_of(used: &ArgMatches, name: &str, least: u64, most: u64) -> Option<u64>
     ensures some { IfSome result (HasNumber name.now least most (rows_of (found_of used.now))) }
     ensures none { result ≡ None → (number : ℕ) → ¬ HasNumber name.now least most (rows_of (found_of used.now)) number }
 {
