@@ -72,8 +72,8 @@ abbrev pub late_steps : ℕ → List Message → List Step → ℕ
 late_steps old sent [] = 0
 late_steps old sent (s ∷ steps) = late_step old sent s + late_steps old sent steps
 
--- How many REQUESTs arrive later than in the round after that in which they were sent. `old` messages
--- were sent before the previous round began; in the first round no REQUEST is late.
+-- How often REQUESTs arrive later than in the round after that in which they were sent. `old` messages
+-- were sent before the previous round began; in the first of these rounds no REQUEST is late.
 abbrev pub late_in : Dealing → ℕ → WorldState → List (List Step) → ℕ
 late_in deal old w [] = 0
 late_in deal old w (r ∷ rs) = late_steps old w.sent r + late_in deal (length w.sent) (run_of deal r w) rs

@@ -12,9 +12,9 @@ ghost use Rattle.world.specs.Steps.{Dealing, WorldState};
 use crate::laws::worlds_keep_their_rules;
 use world::parts_keep_their_rules;
 
-/// Whatever happened before, losses of saved states too: if a client asks and does not give up, somebody
-/// enters within (n + 5) * (n + 2 g + l + v) fair rounds, for n clients, g withdrawals of others,
-/// l REQUESTs that come late, and v voters.
+/// After any crashes, restarts, and losses of all but the least of a saved state: if a client asks and does
+/// not give up, somebody enters within (n + 5) * (n + 2 g + l + v) fair rounds, for n clients, g withdrawals
+/// of others, l arrivals of late REQUESTs, and v voters.
 ///
 /// The rounds themselves are without crashes. A voter that lost its saved state may have forgotten that it
 /// asked for its vote: each voter may waste one block of n + 5 rounds. Each voter has to have a grant left
@@ -30,12 +30,13 @@ pub fn fair_rounds_let_somebody_in_after_losses()
     parts_keep_their_rules();
 }
 
-/// Whatever happened before, losses of saved states too: a client whose request is heard, and that does not
-/// give up, enters within (n + 5) * (5 n + 2 g + l + v) fair rounds, for n clients, g withdrawals of others,
-/// l REQUESTs that come late, and v voters.
+/// After any crashes, restarts, and losses of all but the least of a saved state: a client whose request is
+/// heard, and that does not give up, enters within (n + 5) * (5 n + 2 g + l + v) fair rounds, for n clients,
+/// g withdrawals of others, l arrivals of late REQUESTs, and v voters.
 ///
 /// A request is heard if each voter that knows it has seen its stamp. So is each request that was made
-/// after the last loss ([`new_requests_are_heard`]). The rounds themselves are without crashes.
+/// after the last crash, restart and loss ([`new_requests_are_heard`]). The rounds themselves are without
+/// crashes. Each voter has to have a grant left at the end.
 pub fn fair_rounds_let_everybody_in_after_losses()
     ensures { (deal : Dealing) (w : WorldState) (c : ℕ) (rounds : List (List Step)) (more : List Event) → IsReachedAfterLosses deal w → IsHeard w c → Asks w c
         → AreFairRounds deal w rounds → DoesNotGiveUp c (steps_of rounds) → HasGrants 1 (run_of deal (steps_of rounds) w)
@@ -47,8 +48,8 @@ pub fn fair_rounds_let_everybody_in_after_losses()
     parts_keep_their_rules();
 }
 
-/// Each request that was made after the last loss, and still asks, is heard: each voter that knows it has
-/// seen its stamp.
+/// Each request that was made after the last crash, restart and loss, and still asks, is heard: each voter
+/// that knows it has seen its stamp.
 pub fn new_requests_are_heard()
     ensures { (deal : Dealing) (w : WorldState) (c : ℕ) → (r : IsReachedAfterLosses deal w) → AskedSince deal w r c → Asks w c → IsHeard w c }
 {

@@ -128,8 +128,9 @@ pub fn everybody_can_enter()
     worlds_keep_their_rules();
 }
 
-/// There are any number of fair rounds in every world, one after the other: the premise of fair rounds can
-/// be met.
+/// There are any number of fair rounds in every world, one after the other: that rounds are fair can be met.
+///
+/// It says nothing of late REQUESTs, and of the grants that are left.
 pub fn fair_rounds_can_be_made()
     ensures { (deal : Dealing) (w : WorldState) (k : ℕ) → (rounds : List (List Step))
         × AreFairRounds deal w rounds × (length rounds ≡ k) }
@@ -137,8 +138,8 @@ pub fn fair_rounds_can_be_made()
 
 /// A fair round stays fair if steps before it and after it are counted to it.
 ///
-/// So fair rounds need not be neighbours, and steps in which messages were lost cost nothing but
-/// themselves.
+/// So fair rounds need not be neighbours, and messages that are lost between them cost nothing. Withdrawals
+/// and late REQUESTs between them count in the bounds.
 pub fn rounds_may_be_longer()
     ensures { (w : Planned) (before round more : List Step) → IsReached w
         → IsFairRound (dealing_of w.plans) (run_of (dealing_of w.plans) before w.state) round
@@ -163,9 +164,10 @@ pub fn fair_rounds_move_somebody()
 }
 
 /// If a client asks and does not give up, somebody enters within (n + 5) * (n + 2 g + l) fair rounds, for n
-/// clients, g withdrawals of others and l REQUESTs that come late.
+/// clients, g withdrawals of others and l arrivals of late REQUESTs.
 ///
-/// Each voter has to have a grant left at the end.
+/// Each arrival counts, also of the same REQUEST again, and each withdrawal, also one that is refused. Each
+/// voter has to have a grant left at the end.
 pub fn fair_rounds_let_somebody_in()
     ensures { (w : Planned) (c : ℕ) (rounds : List (List Step)) (more : List Event) → IsReached w → Asks w.state c
         → AreFairRounds (dealing_of w.plans) w.state rounds → DoesNotGiveUp c (steps_of rounds)
@@ -180,12 +182,14 @@ pub fn fair_rounds_let_somebody_in()
 }
 
 /// Whoever asks gets in: a client that asks, and does not give up, enters within
-/// (n + 5) * (5 n + 2 g + l) fair rounds, for n clients, g withdrawals of others and l REQUESTs that come
-/// late.
+/// (n + 5) * (5 n + 2 g + l) fair rounds, for n clients, g withdrawals of others and l arrivals of late
+/// REQUESTs. Each arrival counts, also of the same REQUEST again, and each withdrawal, also one that is
+/// refused.
 ///
-/// In a fair round everybody is reminded, the messages of the reminders and the replies to them arrive, and
-/// who was inside when it began leaves. All else is up to an adversary: what is lost, late, repeated or out
-/// of order, who asks again, and who gives up. Each voter has to have a grant left at the end.
+/// In a fair round everybody is reminded, the messages of the reminders arrive, what is sent on their arrival
+/// arrives too, and who was inside when it began leaves. All else is up to an adversary: what is lost, late,
+/// repeated or out of order, who asks again, and who gives up. Nobody crashes. Each voter has to have a grant
+/// left at the end.
 pub fn fair_rounds_let_everybody_in()
     ensures { (w : Planned) (c : ℕ) (rounds : List (List Step)) (more : List Event) → IsReached w → Asks w.state c
         → AreFairRounds (dealing_of w.plans) w.state rounds → DoesNotGiveUp c (steps_of rounds)
