@@ -35,6 +35,9 @@
 //!
 //! It is not promised that anybody enters.
 //!
+//! A [`SavedWorld`] can be taken apart into its [`Cycles`] and its [`Stored`] state, for worlds in which more
+//! happens than steps and crashes.
+//!
 //! Depends on `dealer`, whose cycles give the quorums, and on `voter` and `requester`. It also
 //! depends on `message`, `certificate`, `quorum_set` and `numbers`.
 //!
@@ -60,14 +63,17 @@ mod stored;
 mod trace;
 mod world;
 
+pub use cycles::Cycles;
 pub use fault::WorldFault;
 pub use laws::{
     at_most_one_is_inside, at_most_one_is_inside_with_restarts, later_passes_are_newer,
     later_votes_have_greater_numbers, messages_are_in_range, parts_keep_their_rules,
     restarts_undo_silent_steps, steps_add, worlds_stay_coherent,
 };
+pub use lists::note;
 pub use saved::SavedWorld;
+pub use state::State;
 pub use step::{Event, Step, Stepped};
-pub use stored::Maker;
+pub use stored::{Maker, Stored, copy_client, copy_voter};
 pub use trace::{Trace, run};
 pub use world::World;

@@ -3,8 +3,8 @@ ghost use Rattle.std.specs.Prelude.{◌≡◌, ◌<◌, ◌≤◌, IfErr, IfOk, 
 ghost use Rattle.numbers.specs.Bounds.{max_voters, max_clients, max_stamp};
 ghost use Rattle.message.specs.Lines.{HasLine};
 ghost use Rattle.world.specs.Restarts.{Goes, OneClient, OneVoter, Restarts, maker};
-ghost use Rattle.world.specs.States.{node_of};
-ghost use Rattle.world.specs.SavedWorlds.{begin_by, happens_by, live_of, live_step_of};
+ghost use Rattle.world.specs.States.{node_of, plans_of, saved_of};
+ghost use Rattle.world.specs.SavedWorlds.{IsSavedWorld, begin_by, happens_by, live_of, live_step_of};
 ghost use Rattle.world.specs.Steps.{Refuses, outcome_of};
 ghost use Rattle.world.specs.Visible.{IsExclusive};
 
@@ -185,6 +185,15 @@ impl SavedWorld {
     {
         saved_worlds_stay_sound();
         &self.stored.state.visible
+    }
+
+    /// Returns the cycles of the plans, and the state with what is saved.
+    pub fn into_parts(self) -> (Cycles, Stored)
+        ensures plans { plans_of result.0 ≡ self.plans }
+        ensures stored { saved_of result.1 ≡ self.saved }
+        ensures kept { IsSavedWorld self }
+    {
+        (self.cycles, self.stored)
     }
 
     /// Returns the live world. Steps alone lead to it, without those that restarts took back.

@@ -187,7 +187,9 @@ impl State {
         Ok(self.tell(message.client, seen))
     }
 
-    fn vote(&mut self, message: &ToVoter, room: bool) -> Result<Stepped, WorldFault>
+    /// Has a voter take a message. Without room for its replies, it fails with the voter's fault, else with
+    /// out of memory.
+    pub fn vote(&mut self, message: &ToVoter, room: bool) -> Result<Stepped, WorldFault>
         requires room { room ≡ true → HasRoom self.old }
         requires voter { message.now.voter < length self.old.voters.items }
         requires id { (voter_at self.old.voters.items message.now.voter).id ≡ message.now.voter }

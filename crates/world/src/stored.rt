@@ -122,7 +122,7 @@ impl Stored {
     }
 
     /// Saves a client or a voter as it is, unless its step was silent.
-    fn save_unless(&mut self, silent: bool, who: Maker)
+    pub fn save_unless(&mut self, silent: bool, who: Maker)
         requires { IsStored self.old }
         ensures { saved_of self.new ≡ save_unless silent (node_of who) (saved_of self.old) }
     {

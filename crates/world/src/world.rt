@@ -82,7 +82,7 @@ impl World {
     }
 
     /// Returns the world of these parts. Steps have led to it from a new one.
-    pub(crate) fn of(cycles: Cycles, state: State) -> World
+    pub fn of(cycles: Cycles, state: State) -> World
         requires { IsReached (record { plans = plans_of cycles; state = contents_of state }) }
         ensures { result ≡ record { plans = plans_of cycles; state = contents_of state } }
     {
