@@ -164,7 +164,7 @@ pub record SameAsk (x y : ClientState) : Type 0 where
   pub asks : is_asking y.phase ≡ is_asking x.phase
   pub quorum : is_asking x.phase ≡ true → members y ≡ members x
 
-same_between : (x y z : ClientState) → Lasts x y → Lasts y z → z.stamp ≡ x.stamp → (is_asking x.phase ≡ true → is_asking z.phase ≡ true) → SameAsk x y
+pub same_between : (x y z : ClientState) → Lasts x y → Lasts y z → z.stamp ≡ x.stamp → (is_asking x.phase ≡ true → is_asking z.phase ≡ true) → SameAsk x y
 same_between x y z a b end asks =
     let first = a.stamp in
     let second = b.stamp in

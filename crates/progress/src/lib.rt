@@ -59,6 +59,6 @@ pub use after_losses::{
 pub use laws::{
     everybody_can_enter, fair_rounds_can_be_made, fair_rounds_let_everybody_in,
     fair_rounds_let_somebody_in, fair_rounds_move_somebody, lost_votes_come_back,
-    nobody_overtakes_often, returned_votes_go_on, rounds_may_be_longer, somebody_can_enter,
+    nobody_overtakes_often, patient_rounds_let_everybody_in, returned_votes_go_on, rounds_may_be_longer, somebody_can_enter,
     who_asks_alone_gets_in, worlds_keep_their_rules,
 };
