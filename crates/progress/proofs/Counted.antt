@@ -23,7 +23,6 @@ use Rattle.progress.proofs.Counting.{enters_by}
 use Rattle.progress.proofs.Fitting.{take-Ok}
 use Rattle.progress.proofs.Hearing.{HasHeard, RunsBeside, Ticks-moved, Trails, heard_kept, hears}
 use Rattle.progress.proofs.Known.{known_after, within_by}
-
 use Rattle.progress.proofs.Moves.{ClientMoved, Makes, Moved, Moved-by, MovedBy, each_client}
 use Rattle.progress.proofs.Outstanding.{step-GivesUp, step-Leaves}
 use Rattle.progress.proofs.Overdue.{along-and, runs_until}
@@ -200,12 +199,12 @@ in_round laws p w c d other u a before heard (t ∷ steps) x all wait since k ro
     let here = all.0 in
     let after = along-first (Trails p w c) MovedBy deal steps y all.2 in
     let gave : t ≡ GiveUp d → is_asking (client_at x.clients d).phase ≡ true → stamp_of w d < stamp_of x d → HasHeard w c d x = λ is asks newer.
-        let waited = (subst (HasWaited u x) is wait.0) asks in
-        let rises = since.lasts.stamp in
-        let same : stamp_of x d ≡ stamp_of a d = omega arith in
-        let high = heard (omega arith) (since.lasts.asks same asks) (omega arith) in
-        let clock = since.clock in
-        omega arith in
+    let waited = (subst (HasWaited u x) is wait.0) asks in
+    let rises = since.lasts.stamp in
+    let same : stamp_of x d ≡ stamp_of a d = omega arith in
+    let high = heard (omega arith) (since.lasts.asks same asks) (omega arith) in
+    let clock = since.clock in
+    omega arith in
     let one = room_step laws p w c d other t x y here after all.1 gave k room in
     let moved = Moved-by t x y all.1 in
     let lasts = Lasts-moved laws x y (here.reached []).coherent (after.reached []).coherent moved d in

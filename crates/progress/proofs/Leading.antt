@@ -73,7 +73,7 @@ pub is_own : (laws : Laws) (p : Course) (w : WorldState) (m v : ℕ) → Seeks w
 is_own laws p w m v f x calm g held own = (
   own,
   own_stamp (voter_at x.voters v) m (client_at w.clients m).stamp g ((steady_ok laws p w (Only m) x calm).voters v) (calm.known m v f.asks f.member) held own
-  ∙ ap (λ i. (client_at w.clients i).stamp) (sym own),
+      ∙ ap (λ i. (client_at w.clients i).stamp) (sym own),
 )
 
 -- ---- INQUIRE
@@ -260,10 +260,10 @@ own_marked laws p none w m v f round x all fair stage =
         | inr (inl few) ↦ mark (inr (inl few))
         | inr (inr hold) ↦ elim (voter_at x.voters v).inquiring as (λ b. (voter_at x.voters v).inquiring ≡ b → OwnStage (Marked v) m v z) [
           | false ↦ λ quiet. mark (inl (record {
-              own = own;
-              fresh = (let number = held_grant x ok m v g now.1 hold in let fresh = ((ok.clients m).held v hold).fresh in omega arith);
-              quiet = quiet;
-            }))
+            own = own;
+            fresh = (let number = held_grant x ok m v g now.1 hold in let fresh = ((ok.clients m).held v hold).fresh in omega arith);
+            quiet = quiet;
+          }))
           | true ↦ λ inquiring.
               let P = Steady p w D in
               elim (along-or P (Quietly w m) deal (AskedFor v g) (OwnStage Never m v)

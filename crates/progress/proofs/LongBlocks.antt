@@ -24,7 +24,7 @@ use Rattle.progress.specs.Rounds.{AreFairRounds, late_in, late_step, late_steps,
 use Rattle.progress.specs.Patience.{long_block}
 use Rattle.progress.specs.Rules.{Laws}
 use Rattle.progress.specs.WayIn.{Asks, HasGrants}
-use Rattle.progress.proofs.Ahead.{NotBehind, not_behind_kept}
+use Rattle.progress.proofs.Ahead.{NotBehind}
 use Rattle.progress.proofs.Along.{Along, along-first, along-kept, along-last, along-split, along-weaker, next}
 use Rattle.progress.proofs.Arrivals.{get_after}
 use Rattle.progress.proofs.Behind.{the_request}
@@ -32,10 +32,10 @@ use Rattle.progress.proofs.Blocks.{grown_on, since}
 use Rattle.progress.proofs.Fitting.{current_busy, current_stamp}
 use Rattle.progress.proofs.Hindering.{all_hold}
 use Rattle.progress.proofs.Known.{entry_kept, known_after}
-use Rattle.progress.proofs.Leading.{Clear, NotAhead, OwnStage, Quietly, along-quiet, four_settle, quietly_moved}
+use Rattle.progress.proofs.Leading.{Clear, NotAhead, OwnStage, Quietly, along-quiet, four_settle, own_stage_kept, quietly_moved}
 use Rattle.progress.proofs.Moves.{Moved-by, MovedBy}
 use Rattle.progress.proofs.Overdue.{Only, along-all, catches_up}
-use Rattle.progress.proofs.Stages.{Never}
+use Rattle.progress.proofs.Stages.{Never, Never-lasting}
 use Rattle.progress.proofs.Steady.{Seeks, Steady}
 use Rattle.progress.proofs.Still.{RunsOn, SameAsk}
 use Rattle.progress.proofs.Sure.{Course, IsSure}
@@ -209,11 +209,11 @@ along-join P R deal [] b x h k = k
 along-join P R deal (s ∷ a) b x h k = (h.0, h.1, along-join P R deal a b (next deal x s) h.2 k)
 
 -- the votes of all members at the end
-has_all : (laws : Laws) (p : Course) → ((u : ℕ) → p.old u ≡ 0) → (b : WorldState) (m v : ℕ) → Seeks b (Only m) m v → (r1 r2 r3 r4 r5 r6 r7 q1 q2 q3 q4 : List Step) (rest : List (List Step))
-    → ClearRounds p b m (r1 ∷ r2 ∷ r3 ∷ r4 ∷ r5 ∷ r6 ∷ r7 ∷ q1 ∷ q2 ∷ q3 ∷ q4 ∷ rest) b → AreFairRounds p.deal b (r1 ∷ r2 ∷ r3 ∷ r4 ∷ r5 ∷ r6 ∷ r7 ∷ q1 ∷ q2 ∷ q3 ∷ q4 ∷ rest)
+has_all : (laws : Laws) (p : Course) → ((u : ℕ) → p.old u ≡ 0) → (b : WorldState) (m v : ℕ) → Seeks b (Only m) m v → (r1 r2 r3 r4 r5 r6 r7 : List Step) (rest : List (List Step))
+    → ClearRounds p b m (r1 ∷ r2 ∷ r3 ∷ r4 ∷ r5 ∷ r6 ∷ r7 ∷ rest) b → AreFairRounds p.deal b (r1 ∷ r2 ∷ r3 ∷ r4 ∷ r5 ∷ r6 ∷ r7 ∷ rest)
     → length b.clients ≤ length rest → m < length b.clients
-    → holds (client_at (run_of p.deal (steps_of (r1 ∷ r2 ∷ r3 ∷ r4 ∷ r5 ∷ r6 ∷ r7 ∷ q1 ∷ q2 ∷ q3 ∷ q4 ∷ rest)) b).clients m) v ≡ true
-has_all laws p none b m v f r1 r2 r3 r4 r5 r6 r7 q1 q2 q3 q4 rest all fair long within =
+    → holds (client_at (run_of p.deal (steps_of (r1 ∷ r2 ∷ r3 ∷ r4 ∷ r5 ∷ r6 ∷ r7 ∷ rest)) b).clients m) v ≡ true
+has_all laws p none b m v f r1 r2 r3 r4 r5 r6 r7 rest all fair long within =
     let deal = p.deal in
     let P = Clear p b m in
     let R = Quietly b m in
@@ -225,52 +225,45 @@ has_all laws p none b m v f r1 r2 r3 r4 r5 r6 r7 q1 q2 q3 q4 rest all fair long 
     let x5 = run_of deal r5 x4 in
     let x6 = run_of deal r6 x5 in
     let x7 = run_of deal r7 x6 in
-    let y1 = run_of deal q1 x7 in
-    let y2 = run_of deal q2 y1 in
-    let y3 = run_of deal q3 y2 in
-    let y4 = run_of deal q4 y3 in
     let five = r1 ++ (r2 ++ (r3 ++ (r4 ++ r5))) in
     let seven = five ++ (r6 ++ r7) in
-    let four = q1 ++ (q2 ++ (q3 ++ q4)) in
+    let four = r1 ++ (r2 ++ (r3 ++ r4)) in
     let to_five : run_of deal five b ≡ x5 = run_then deal r1 (r2 ++ (r3 ++ (r4 ++ r5))) b ∙ run_then deal r2 (r3 ++ (r4 ++ r5)) x1 ∙ run_then deal r3 (r4 ++ r5) x2 ∙ run_then deal r4 r5 x3 in
     let to_seven : run_of deal seven b ≡ x7 = run_then deal five (r6 ++ r7) b ∙ ap (run_of deal (r6 ++ r7)) to_five ∙ run_then deal r6 r7 x5 in
-    let to_four : run_of deal four x7 ≡ y4 = run_then deal q1 (q2 ++ (q3 ++ q4)) x7 ∙ run_then deal q2 (q3 ++ q4) y1 ∙ run_then deal q3 q4 y2 in
+    let to_four : run_of deal four b ≡ x4 = run_then deal r1 (r2 ++ (r3 ++ r4)) b ∙ run_then deal r2 (r3 ++ r4) x1 ∙ run_then deal r3 r4 x2 in
     let A5 : Along P R deal five b = along-join P R deal r1 (r2 ++ (r3 ++ (r4 ++ r5))) b all.0 (along-join P R deal r2 (r3 ++ (r4 ++ r5)) x1 all.1.0 (along-join P R deal r3 (r4 ++ r5) x2 all.1.1.0
     (along-join P R deal r4 r5 x3 all.1.1.1.0 all.1.1.1.1.0))) in
     let A67 : Along P R deal (r6 ++ r7) x5 = along-join P R deal r6 r7 x5 all.1.1.1.1.1.0 all.1.1.1.1.1.1.0 in
     let A7 : Along P R deal seven b = along-join P R deal five (r6 ++ r7) b A5 (subst (Along P R deal (r6 ++ r7)) (sym to_five) A67) in
-    let after_seven = all.1.1.1.1.1.1.1 in
-    let A4 : Along P R deal four x7 = along-join P R deal q1 (q2 ++ (q3 ++ q4)) x7 after_seven.0 (along-join P R deal q2 (q3 ++ q4) y1 after_seven.1.0 (along-join P R deal q3 q4 y2 after_seven.1.1.0 after_seven.1.1.1.0)) in
+    let A4 : Along P R deal four b = along-join P R deal r1 (r2 ++ (r3 ++ r4)) b all.0 (along-join P R deal r2 (r3 ++ r4) x1 all.1.0 (along-join P R deal r3 r4 x2 all.1.1.0 all.1.1.1.0)) in
     let steadily : Along (Steady p b D) MovedBy deal seven b = along-weaker P (Steady p b D) MovedBy deal (λ y h. h.steady) seven b (along-quiet P deal b m seven b A7) in
     let fair_five : AreFairRounds deal b (r1 ∷ r2 ∷ r3 ∷ r4 ∷ r5 ∷ []) = (fair.0, (fair.1.0, (fair.1.1.0, (fair.1.1.1.0, (fair.1.1.1.1.0, tt))))) in
     let fair_two : AreFairRounds deal x5 (r6 ∷ r7 ∷ []) = (fair.1.1.1.1.1.0, (fair.1.1.1.1.1.1.0, tt)) in
     let ahead7 : NotBehind b m v x7 = subst (NotBehind b m v) to_seven
     (catches_up laws p b m v f r1 r2 r3 r4 r5 r6 r7 steadily fair_five (subst (λ (u : WorldState). AreFairRounds deal u (r6 ∷ r7 ∷ [])) (sym to_five) fair_two)) in
-    let fair_seven = fair.1.1.1.1.1.1.1 in
-    let quiet_four : Along (Steady p b D) R deal four x7 = along-weaker P (Steady p b D) R deal (λ y h. h.steady) four x7 A4 in
-    let stage : OwnStage Never m v y4 = subst (OwnStage Never m v) to_four (four_settle laws p none b m v f q1 q2 q3 q4 x7 quiet_four (fair_seven.0, (fair_seven.1.0, (fair_seven.1.1.0, (fair_seven.1.1.1.0, tt))))) in
-    let ahead4 : NotBehind b m v y4 = subst (NotBehind b m v) to_four
-    (along-kept (Steady p b D) R deal (NotBehind b m v) (λ s x y before after moved. not_behind_kept laws p b D m v f s x y before after (quietly_moved b m s x y moved)) four x7 quiet_four ahead7) in
-    let clear4 : Clear p b m y4 = subst (Clear p b m) to_four (along-last P R deal four x7 A4) in
+    let quiet_four : Along (Steady p b D) R deal four b = along-weaker P (Steady p b D) R deal (λ y h. h.steady) four b A4 in
+    let stage4 : OwnStage Never m v x4 = subst (OwnStage Never m v) to_four (four_settle laws p none b m v f r1 r2 r3 r4 b quiet_four (fair.0, (fair.1.0, (fair.1.1.0, (fair.1.1.1.0, tt))))) in
+    let keep : (s : Step) (x y : WorldState) → P x → P y → R s x y → OwnStage Never m v x → OwnStage Never m v y = λ s x y before after moved. own_stage_kept laws p none b m v f Never (Never-lasting v) s x y before.steady after.steady moved in
+    let stage5 : OwnStage Never m v x5 = along-kept P R deal (OwnStage Never m v) keep r5 x4 all.1.1.1.1.0 stage4 in
+    let stage : OwnStage Never m v x7 = subst (OwnStage Never m v) (run_then deal r6 r7 x5) (along-kept P R deal (OwnStage Never m v) keep (r6 ++ r7) x5 A67 stage5) in
+    let clear7 : Clear p b m x7 = subst (Clear p b m) (run_then deal r6 r7 x5) (along-last P R deal (r6 ++ r7) x5 A67) in
     let there = has_range 0 (length b.clients) m (omega arith) (omega arith) in
     let short = shorter m (range_with_len 0 (length b.clients)) there in
     let count = length-range_with_len 0 (length b.clients) in
-    let goes : run_of deal (steps_of (r1 ∷ r2 ∷ r3 ∷ r4 ∷ r5 ∷ r6 ∷ r7 ∷ q1 ∷ q2 ∷ q3 ∷ q4 ∷ rest)) b ≡ run_of deal (steps_of rest) y4 =
-    run_then deal r1 (steps_of (r2 ∷ r3 ∷ r4 ∷ r5 ∷ r6 ∷ r7 ∷ q1 ∷ q2 ∷ q3 ∷ q4 ∷ rest)) b ∙ run_then deal r2 (steps_of (r3 ∷ r4 ∷ r5 ∷ r6 ∷ r7 ∷ q1 ∷ q2 ∷ q3 ∷ q4 ∷ rest)) x1
-    ∙ run_then deal r3 (steps_of (r4 ∷ r5 ∷ r6 ∷ r7 ∷ q1 ∷ q2 ∷ q3 ∷ q4 ∷ rest)) x2 ∙ run_then deal r4 (steps_of (r5 ∷ r6 ∷ r7 ∷ q1 ∷ q2 ∷ q3 ∷ q4 ∷ rest)) x3
-    ∙ run_then deal r5 (steps_of (r6 ∷ r7 ∷ q1 ∷ q2 ∷ q3 ∷ q4 ∷ rest)) x4 ∙ run_then deal r6 (steps_of (r7 ∷ q1 ∷ q2 ∷ q3 ∷ q4 ∷ rest)) x5 ∙ run_then deal r7 (steps_of (q1 ∷ q2 ∷ q3 ∷ q4 ∷ rest)) x6
-    ∙ run_then deal q1 (steps_of (q2 ∷ q3 ∷ q4 ∷ rest)) x7 ∙ run_then deal q2 (steps_of (q3 ∷ q4 ∷ rest)) y1 ∙ run_then deal q3 (steps_of (q4 ∷ rest)) y2 ∙ run_then deal q4 (steps_of rest) y3 in
+    let goes : run_of deal (steps_of (r1 ∷ r2 ∷ r3 ∷ r4 ∷ r5 ∷ r6 ∷ r7 ∷ rest)) b ≡ run_of deal (steps_of rest) x7 =
+    run_then deal r1 (steps_of (r2 ∷ r3 ∷ r4 ∷ r5 ∷ r6 ∷ r7 ∷ rest)) b ∙ run_then deal r2 (steps_of (r3 ∷ r4 ∷ r5 ∷ r6 ∷ r7 ∷ rest)) x1 ∙ run_then deal r3 (steps_of (r4 ∷ r5 ∷ r6 ∷ r7 ∷ rest)) x2
+    ∙ run_then deal r4 (steps_of (r5 ∷ r6 ∷ r7 ∷ rest)) x3 ∙ run_then deal r5 (steps_of (r6 ∷ r7 ∷ rest)) x4 ∙ run_then deal r6 (steps_of (r7 ∷ rest)) x5 ∙ run_then deal r7 (steps_of rest) x6 in
     ap (λ (u : WorldState). holds (client_at u.clients m) v) goes
-    ∙ wins laws p none b m v f rest y4 (remove_from m (range_with_len 0 (length b.clients))) after_seven.1.1.1.1 fair_seven.1.1.1.1 (omega arith) stage ahead4 (olds_others laws p b y4 m v f clear4)
+    ∙ wins laws p none b m v f rest x7 (remove_from m (range_with_len 0 (length b.clients))) all.1.1.1.1.1.1.1 fair.1.1.1.1.1.1.1 (omega arith) stage ahead7 (olds_others laws p b x7 m v f clear7)
 
-block_ends : (laws : Laws) (p : Course) → ((u : ℕ) → p.old u ≡ 0) → (w : WorldState) (c : ℕ) (r0 r1 r2 r3 r4 r5 r6 r7 q1 q2 q3 q4 : List Step) (rest : List (List Step)) → IsSure p w → Asks w c
-    → AreFairRounds p.deal w (r0 ∷ r1 ∷ r2 ∷ r3 ∷ r4 ∷ r5 ∷ r6 ∷ r7 ∷ q1 ∷ q2 ∷ q3 ∷ q4 ∷ rest) → late_in p.deal 0 w (r0 ∷ r1 ∷ r2 ∷ r3 ∷ r4 ∷ r5 ∷ r6 ∷ r7 ∷ q1 ∷ q2 ∷ q3 ∷ q4 ∷ rest) ≡ 0
-    → HasGrants 1 (run_of p.deal (steps_of (r0 ∷ r1 ∷ r2 ∷ r3 ∷ r4 ∷ r5 ∷ r6 ∷ r7 ∷ q1 ∷ q2 ∷ q3 ∷ q4 ∷ rest)) w) → length w.clients ≤ length rest
-    → ((d : ℕ) → turns_up_to p.deal (client_at w.clients c).stamp d (steps_of (r0 ∷ r1 ∷ r2 ∷ r3 ∷ r4 ∷ r5 ∷ r6 ∷ r7 ∷ q1 ∷ q2 ∷ q3 ∷ q4 ∷ rest)) w ≡ 0) → ⊥
-block_ends laws p none w c r0 r1 r2 r3 r4 r5 r6 r7 q1 q2 q3 q4 rest r asks fair late left long still =
+block_ends : (laws : Laws) (p : Course) → ((u : ℕ) → p.old u ≡ 0) → (w : WorldState) (c : ℕ) (r0 r1 r2 r3 r4 r5 r6 r7 : List Step) (rest : List (List Step)) → IsSure p w → Asks w c
+    → AreFairRounds p.deal w (r0 ∷ r1 ∷ r2 ∷ r3 ∷ r4 ∷ r5 ∷ r6 ∷ r7 ∷ rest) → late_in p.deal 0 w (r0 ∷ r1 ∷ r2 ∷ r3 ∷ r4 ∷ r5 ∷ r6 ∷ r7 ∷ rest) ≡ 0
+    → HasGrants 1 (run_of p.deal (steps_of (r0 ∷ r1 ∷ r2 ∷ r3 ∷ r4 ∷ r5 ∷ r6 ∷ r7 ∷ rest)) w) → length w.clients ≤ length rest
+    → ((d : ℕ) → turns_up_to p.deal (client_at w.clients c).stamp d (steps_of (r0 ∷ r1 ∷ r2 ∷ r3 ∷ r4 ∷ r5 ∷ r6 ∷ r7 ∷ rest)) w ≡ 0) → ⊥
+block_ends laws p none w c r0 r1 r2 r3 r4 r5 r6 r7 rest r asks fair late left long still =
     let deal = p.deal in
     let s = (client_at w.clients c).stamp in
-    let more = r1 ∷ r2 ∷ r3 ∷ r4 ∷ r5 ∷ r6 ∷ r7 ∷ q1 ∷ q2 ∷ q3 ∷ q4 ∷ rest in
+    let more = r1 ∷ r2 ∷ r3 ∷ r4 ∷ r5 ∷ r6 ∷ r7 ∷ rest in
     let b = run_of deal r0 w in
     let z = run_of deal (steps_of (r0 ∷ more)) w in
     let P = Tame p w s in
@@ -298,14 +291,14 @@ block_ends laws p none w c r0 r1 r2 r3 r4 r5 r6 r7 q1 q2 q3 q4 rest r asks fair 
     false≢true (sym lacks ∙ all_hold (holds (client_at z.clients m)) (members (client_at z.clients m)) (λ v there.
     let member : is_member (client_at b.clients m) v ≡ true = ap (λ l. has l v) (first.quorum asking) ∙ ap (λ l. has l v) (sym (last.quorum asking)) ∙ there in
     ap (λ (u : WorldState). holds (client_at u.clients m) v) (run_then deal r0 (steps_of more) w)
-    ∙ has_all laws p none b m v (record { asks = refl; member = member }) r1 r2 r3 r4 r5 r6 r7 q1 q2 q3 q4 rest rounds fair.1 (omega arith) (omega arith)))
+    ∙ has_all laws p none b m v (record { asks = refl; member = member }) r1 r2 r3 r4 r5 r6 r7 rest rounds fair.1 (omega arith) (omega arith)))
 
 -- in a long block some request that is not later than that of the client c begins or ends
 pub long_block_moves : (laws : Laws) (p : Course) → ((u : ℕ) → p.old u ≡ 0) → (w : WorldState) (c : ℕ) (rounds : List (List Step)) → IsSure p w → Asks w c → AreFairRounds p.deal w rounds
     → late_in p.deal 0 w rounds ≡ 0 → HasGrants 1 (run_of p.deal (steps_of rounds) w) → long_block (length w.clients) ≤ length rounds
     → ((d : ℕ) → turns_up_to p.deal (client_at w.clients c).stamp d (steps_of rounds) w ≡ 0) → ⊥
-long_block_moves laws p none w c (r0 ∷ r1 ∷ r2 ∷ r3 ∷ r4 ∷ r5 ∷ r6 ∷ r7 ∷ q1 ∷ q2 ∷ q3 ∷ q4 ∷ rest) r asks fair late left long still =
-    block_ends laws p none w c r0 r1 r2 r3 r4 r5 r6 r7 q1 q2 q3 q4 rest r asks fair late left (omega arith) still
+long_block_moves laws p none w c (r0 ∷ r1 ∷ r2 ∷ r3 ∷ r4 ∷ r5 ∷ r6 ∷ r7 ∷ rest) r asks fair late left long still =
+    block_ends laws p none w c r0 r1 r2 r3 r4 r5 r6 r7 rest r asks fair late left (omega arith) still
 long_block_moves laws p none w c [] r asks fair late left long still = omega arith
 long_block_moves laws p none w c (r0 ∷ []) r asks fair late left long still = omega arith
 long_block_moves laws p none w c (r0 ∷ r1 ∷ []) r asks fair late left long still = omega arith
@@ -314,7 +307,3 @@ long_block_moves laws p none w c (r0 ∷ r1 ∷ r2 ∷ r3 ∷ []) r asks fair la
 long_block_moves laws p none w c (r0 ∷ r1 ∷ r2 ∷ r3 ∷ r4 ∷ []) r asks fair late left long still = omega arith
 long_block_moves laws p none w c (r0 ∷ r1 ∷ r2 ∷ r3 ∷ r4 ∷ r5 ∷ []) r asks fair late left long still = omega arith
 long_block_moves laws p none w c (r0 ∷ r1 ∷ r2 ∷ r3 ∷ r4 ∷ r5 ∷ r6 ∷ []) r asks fair late left long still = omega arith
-long_block_moves laws p none w c (r0 ∷ r1 ∷ r2 ∷ r3 ∷ r4 ∷ r5 ∷ r6 ∷ r7 ∷ []) r asks fair late left long still = omega arith
-long_block_moves laws p none w c (r0 ∷ r1 ∷ r2 ∷ r3 ∷ r4 ∷ r5 ∷ r6 ∷ r7 ∷ q1 ∷ []) r asks fair late left long still = omega arith
-long_block_moves laws p none w c (r0 ∷ r1 ∷ r2 ∷ r3 ∷ r4 ∷ r5 ∷ r6 ∷ r7 ∷ q1 ∷ q2 ∷ []) r asks fair late left long still = omega arith
-long_block_moves laws p none w c (r0 ∷ r1 ∷ r2 ∷ r3 ∷ r4 ∷ r5 ∷ r6 ∷ r7 ∷ q1 ∷ q2 ∷ q3 ∷ []) r asks fair late left long still = omega arith

@@ -198,16 +198,16 @@ tame_next : (laws : Laws) (p : Course) (w : WorldState) (s : ℕ) (t : Step) (x 
 tame_next laws p w s t x y before reached left moved none =
     let ahead : (d : ℕ) → asks_up_to s y d ≡ asks_up_to s w d = λ d. no_turn (asks_up_to s x d) (asks_up_to s y d) (none d) ∙ before.ahead d in
     let same : (d : ℕ) → asks_up_to s w d ≡ true → SameAsk (client_at w.clients d) (client_at y.clients d) = λ d is.
-        let was = before.same d is in
-        let asks_x = up_to_asks s x d (before.ahead d ∙ is) in
-        let asks_y = up_to_asks s y d (ahead d ∙ is) in
-        let stays = stamp_stays t x y d moved (asks_y ∙ sym asks_x) in
-        let lasts = Lasts-moved laws x y (before.reached []).coherent (reached []).coherent (Moved-by t x y moved) d in
-        record {
-          stamp = stays ∙ was.stamp;
-          asks = asks_y ∙ sym asks_x ∙ was.asks;
-          quorum = λ asks. lasts.quorum stays asks_y ∙ was.quorum asks;
-        } in
+    let was = before.same d is in
+    let asks_x = up_to_asks s x d (before.ahead d ∙ is) in
+    let asks_y = up_to_asks s y d (ahead d ∙ is) in
+    let stays = stamp_stays t x y d moved (asks_y ∙ sym asks_x) in
+    let lasts = Lasts-moved laws x y (before.reached []).coherent (reached []).coherent (Moved-by t x y moved) d in
+    record {
+      stamp = stays ∙ was.stamp;
+      asks = asks_y ∙ sym asks_x ∙ was.asks;
+      quorum = λ asks. lasts.quorum stays asks_y ∙ was.quorum asks;
+    } in
     let grows = Grows-moved x y (Moved-by t x y moved) in
     let first = before.grows.sent in
     let second = grows.sent in

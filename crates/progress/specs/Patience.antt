@@ -36,4 +36,4 @@ ArePatient deal w rounds = WaitFrom deal w w w rounds
 -- the rounds of one block, for n clients: in as many a request that is not later than a given one begins
 -- or ends
 abbrev pub long_block : ℕ → ℕ
-long_block n = n + 12
+long_block n = n + 8

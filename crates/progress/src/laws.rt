@@ -205,7 +205,7 @@ pub fn fair_rounds_let_everybody_in()
 }
 
 /// Whoever asks gets in, at no price for withdrawals, if clients are patient: a client that asks, and does
-/// not give up, enters within (n + 12) * (3 n + l) fair rounds, for n clients and l REQUESTs that come late.
+/// not give up, enters within (n + 8) * (3 n + l) fair rounds, for n clients and l REQUESTs that come late.
 ///
 /// Clients are patient if whoever gives up a request that it made in one of these rounds has waited for two
 /// whole rounds before. It does not matter how many withdrawals there are. All else is up to an adversary, as
