@@ -1,8 +1,8 @@
 -- which grants are ahead of a request that waits: once a voter's grant is not behind it, it stays so, and a
 -- vote is asked for only by a REQUEST that precedes it
-use Rattle.std.proofs.Common.{◌≡◌, ◌≢◌, ℕ, ◌+◌, ◌<◌, ◌≤◌, Bool, true, false, List, [], ◌∷◌, Option, Some, None, refl, sym, ap, subst, ◌∙◌, ◌⊎◌, inl, inr, arith}
+use Rattle.std.proofs.Common.{◌≡◌, ℕ, ◌<◌, Bool, true, false, List, Option, Some, None, refl, sym, ap, subst, ◌∙◌, ◌⊎◌, inl, inr, arith}
 use Rattle.std.specs.Prelude.{slice_index}
-use Rattle.std.proofs.lemmas.Bool.{cases_eq, cases_lt, false≢true}
+use Rattle.std.proofs.lemmas.Bool.{cases_eq, false≢true}
 use Rattle.std.proofs.lemmas.Bool.Decides.{nat_tests}
 use Rattle.std.proofs.lemmas.Option.{none-some, same_Some}
 use Rattle.message.specs.declared.message.ToVoter.{ToVoter}
@@ -17,7 +17,6 @@ use Rattle.voter.specs.VoterContract.{IsEntry}
 use Rattle.voter.specs.Waiting.{front, precedes}
 use Rattle.voter.proofs.Cases.{by_admit, by_release, by_request}
 use Rattle.voter.proofs.Effects.{step-Some}
-use Rattle.requester.specs.Words.{is_member}
 use Rattle.world.specs.declared.step.Step.{Step}
 use Rattle.world.specs.Steps.{WorldState, client_at, voter_at}
 use Rattle.progress.specs.Rules.{Laws}

@@ -1,7 +1,6 @@
 -- how often a patient client begins or stops to ask ahead of a request that is known everywhere: three times
-use Rattle.std.proofs.Common.{◌≡◌, ◌≢◌, ℕ, zero, suc, ◌+◌, ◌*◌, ◌<◌, ◌≤◌, Bool, true, false, List, [], ◌∷◌, ◌++◌, length, Ok, refl, sym, ap, subst, ◌∙◌, ◌⊎◌, inl, inr, arith}
+use Rattle.std.proofs.Common.{◌≡◌, ◌≢◌, ℕ, ◌+◌, ◌<◌, ◌≤◌, Bool, true, false, List, [], ◌∷◌, ◌++◌, Ok, refl, sym, ap, subst, ◌∙◌, ◌⊎◌, inl, inr, arith}
 use Rattle.std.proofs.lemmas.Bool.{cases_eq, cases_lt, false≢true, false_from_ne_true}
-use Rattle.std.proofs.lemmas.Bool.Decides.{nat_tests}
 use Rattle.numbers.specs.Sets.{has}
 use Rattle.voter.specs.VoterContract.{IsEntry}
 use Rattle.requester.specs.declared.state.ClientState.{ClientState}
@@ -13,11 +12,10 @@ use Rattle.world.specs.declared.step.Step.{Step}
 use Rattle.world.specs.declared.step.Step.TheVariants.{GiveUp, RemindClient}
 use Rattle.world.specs.Runs.{run_of}
 use Rattle.world.specs.Steps.{Dealing, WorldState, client_at, voter_at}
-use Rattle.world.proofs.Plans.{run_then}
 use Rattle.progress.specs.Patience.{HasWaited, HaveWaited, WaitFrom}
 use Rattle.progress.specs.Rounds.{AreFairRounds, IsFairRound, steps_of}
-use Rattle.progress.specs.Rules.{ClientLaws, Laws}
-use Rattle.progress.proofs.Along.{Along, along-first, along-last, along-split, along-weaker, next, reminded_at}
+use Rattle.progress.specs.Rules.{Laws}
+use Rattle.progress.proofs.Along.{Along, along-first, along-last, along-split, next, reminded_at}
 use Rattle.progress.proofs.Behind.{meets, stamp_of}
 use Rattle.progress.proofs.Counting.{enters_by}
 use Rattle.progress.proofs.Fitting.{take-Ok}
@@ -27,7 +25,7 @@ use Rattle.progress.proofs.Moves.{ClientMoved, Makes, Moved, Moved-by, MovedBy, 
 use Rattle.progress.proofs.Outstanding.{step-GivesUp, step-Leaves}
 use Rattle.progress.proofs.Overdue.{along-and, runs_until}
 use Rattle.progress.proofs.Still.{Lasts, Lasts-moved, Lasts-run, Lasts-self, Lasts-then, RunsOn}
-use Rattle.progress.proofs.Sure.{Course, IsSure}
+use Rattle.progress.proofs.Sure.{Course}
 use Rattle.progress.proofs.Tame.{above_bound, asks_up_to, turns_up_to, up_to_asks, up_to_is, up_to_stamp}
 use Rattle.progress.proofs.Turns.{asks_then, inside_by, stamp-take, step-Asks, turn}
 
@@ -223,7 +221,7 @@ abbrev KnownBy : WorldState → ℕ → WorldState → WorldState → Type 0
 KnownBy w d v a = stamp_of w d < stamp_of a d → is_asking (client_at a.clients d).phase ≡ true → stamp_of a d ≡ stamp_of v d
     → (q : ℕ) → is_member (client_at a.clients d) q ≡ true → IsEntry (voter_at a.voters q) d (stamp_of a d)
 
-turns_up_to-append : (deal : Dealing) (s d : ℕ) (a b : List Step) (x : WorldState) → turns_up_to deal s d (a ++ b) x ≡ turns_up_to deal s d a x + turns_up_to deal s d b (run_of deal a x)
+pub turns_up_to-append : (deal : Dealing) (s d : ℕ) (a b : List Step) (x : WorldState) → turns_up_to deal s d (a ++ b) x ≡ turns_up_to deal s d a x + turns_up_to deal s d b (run_of deal a x)
 turns_up_to-append deal s d [] b x = omega arith
 turns_up_to-append deal s d (t ∷ a) b x = (let rest = turns_up_to-append deal s d a b (next deal x t) in omega arith)
 

@@ -1,15 +1,12 @@
 -- a request that ran for two fair rounds has heard of each request that was known everywhere before it was made
-use Rattle.std.proofs.Common.{◌≡◌, ◌≢◌, ℕ, ◌+◌, ◌<◌, ◌≤◌, Bool, true, false, List, [], ◌∷◌, ◌++◌, Option, None, Some, Ok, length, refl, sym, ap, subst, ◌∙◌, ◌⊎◌, inl, inr, arith}
+use Rattle.std.proofs.Common.{◌≡◌, ℕ, ◌<◌, ◌≤◌, Bool, true, false, List, [], ◌∷◌, Option, None, Some, length, refl, sym, ap, subst, ◌∙◌, ◌⊎◌, inl, inr, arith}
 use Rattle.std.specs.Prelude.{◌==◌, max, slice_get, slice_index}
-use Rattle.std.specs.List.{AllByRecursion}
-use Rattle.std.proofs.lemmas.Bool.{cases_eq, cases_lt, false≢true}
+use Rattle.std.proofs.lemmas.Bool.{cases_lt}
 use Rattle.std.proofs.lemmas.Bool.Decides.{nat_tests}
 use Rattle.numbers.specs.Sets.{has}
-use Rattle.message.specs.declared.message.ClientBody.TheVariants as to_client
 use Rattle.message.specs.declared.message.Message.{Message}
 use Rattle.message.specs.declared.message.Message.TheVariants as kinds
 use Rattle.message.specs.declared.message.ToClient.{ToClient}
-use Rattle.message.specs.declared.message.VoterBody.TheVariants as asks
 use Rattle.voter.specs.declared.state.Grant.{Grant}
 use Rattle.voter.specs.declared.state.VoterState.{VoterState}
 use Rattle.voter.specs.Steps as voter
@@ -23,24 +20,22 @@ use Rattle.world.specs.Coherence.{IsCoherent}
 use Rattle.world.specs.declared.step.Step.{Step}
 use Rattle.world.specs.declared.step.Step.TheVariants.{Deliver, RemindClient}
 use Rattle.world.specs.Runs.{run_of}
-use Rattle.world.specs.Steps.{Dealing, WorldState, client_at, voter_at}
+use Rattle.world.specs.Steps.{WorldState, client_at, voter_at}
 use Rattle.world.proofs.Exclusion.{held_under}
 use Rattle.progress.specs.Overtaking.{IsKnownEverywhere, StillRuns}
-use Rattle.progress.specs.Rounds.{IsReminded}
 use Rattle.progress.specs.Rules.{ClientLaws, Laws}
 use Rattle.progress.specs.WayIn.{HasGrants}
-use Rattle.progress.proofs.Along.{Along, Reminded, along-first, along-kept, along-last, next, reminded_at, spot_after, spot_before, spot_end, spot_through}
+use Rattle.progress.proofs.Along.{Along, Reminded, next, spot_after, spot_before, spot_end, spot_through}
 use Rattle.progress.proofs.Always.{Heeds}
 use Rattle.progress.proofs.Arrivals.{client_takes, message_stays, replied, voter_takes}
 use Rattle.progress.proofs.Behind.{Behind, Behind-first, Behind-moved, IsLater-moved, given_at, stamp_of}
 use Rattle.progress.proofs.Counting.{IsLater-run, still_before}
 use Rattle.progress.proofs.Inquiries.{replies_again}
 use Rattle.progress.proofs.Known.{asks_for, entry_kept, request_to}
-use Rattle.progress.proofs.Moves.{ClientMoved, Moved, Moved-by, MovedBy, MovedBy-step, each_client}
+use Rattle.progress.proofs.Moves.{Moved, Moved-by, MovedBy, MovedBy-step, each_client}
 use Rattle.progress.proofs.Placed.{Heeds-moved}
 use Rattle.progress.proofs.Still.{RunsOn, left_before}
 use Rattle.progress.proofs.Sure.{Course, IsSure, IsSure-after, stays_coherent}
-use Rattle.progress.proofs.Ways.{current_is}
 
 -- ---- worlds in which the request of the client c still runs
 

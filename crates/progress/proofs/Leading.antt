@@ -1,9 +1,8 @@
 -- how the votes come to a request that precedes all others that run, once no voter's grant is behind it; later
 -- requests may begin and end meanwhile
-use Rattle.std.proofs.Common.{◌≡◌, ◌≢◌, ℕ, ◌+◌, ◌<◌, ◌≤◌, Bool, true, false, List, [], ◌∷◌, ◌++◌, length, Some, refl, sym, ap, subst, subst₂, ◌∙◌, ◌⊎◌, inl, inr, arith}
-use Rattle.std.specs.Prelude.{nat_lt, slice_index}
-use Rattle.std.proofs.lemmas.Bool.{cases_eq, cases_lt, false≢true, false_from_ne_true}
-use Rattle.std.proofs.lemmas.Bool.Decides.{nat_tests}
+use Rattle.std.proofs.Common.{◌≡◌, ◌≢◌, ℕ, ◌<◌, ◌≤◌, true, false, List, [], ◌∷◌, ◌++◌, length, Some, refl, sym, ap, subst, subst₂, ◌∙◌, ◌⊎◌, inl, inr, arith}
+use Rattle.std.specs.Prelude.{slice_index}
+use Rattle.std.proofs.lemmas.Bool.{cases_eq, false≢true, false_from_ne_true}
 use Rattle.std.proofs.lemmas.Option.{same_Some}
 use Rattle.message.specs.declared.message.ToClient.{ToClient}
 use Rattle.message.specs.declared.message.VoterBody.TheVariants as asks
@@ -15,7 +14,7 @@ use Rattle.voter.specs.VoterContract.{IsEntry}
 use Rattle.voter.specs.Waiting.{precedes}
 use Rattle.requester.specs.declared.state.ClientState.{ClientState}
 use Rattle.requester.specs.Steps as requester
-use Rattle.requester.specs.Words.{held_of, holds, is_current, is_inquired, is_member, last_of}
+use Rattle.requester.specs.Words.{held_of, holds, is_current, last_of}
 use Rattle.requester.proofs.SoundSteps.{is_asking-busy}
 use Rattle.world.specs.declared.step.Step.{Step}
 use Rattle.world.specs.declared.step.Step.TheVariants.{Deliver, RemindClient, RemindVoter}
@@ -37,7 +36,7 @@ use Rattle.progress.proofs.Overdue.{Only, gives_back}
 use Rattle.progress.proofs.Stages.{GivenBack, GivenBack-lasting, IsLasting, IsSettled, Marked, Marked-lasting, Never, Never-lasting, Told, Told-lasting}
 use Rattle.progress.proofs.Steady.{AskedFor, IsOf, Seeks, Steady, With, asked, asks_now, fate_goes, held_exists, not_given_back, steady_ok, told, voter_below, voter_within}
 use Rattle.progress.proofs.Sure.{Course, Sure}
-use Rattle.progress.proofs.Taking.{Fate, Returns}
+use Rattle.progress.proofs.Taking.{Returns}
 use Rattle.progress.proofs.Ways.{own_stamp}
 
 -- ---- worlds in which the request leads

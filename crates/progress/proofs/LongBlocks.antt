@@ -1,8 +1,8 @@
 -- in a long block of fair rounds a request that is not later than a given one begins or ends
-use Rattle.std.proofs.Common.{append_assoc, ◌≡◌, ◌≢◌, ℕ, ◌+◌, ◌<◌, ◌≤◌, Bool, true, false, List, [], ◌∷◌, ◌++◌, length, Some, refl, sym, ap, subst, ◌∙◌, ◌⊎◌, inl, inr, arith}
+use Rattle.std.proofs.Common.{append_assoc, ◌≡◌, ◌≢◌, ℕ, ◌<◌, ◌≤◌, true, false, List, [], ◌∷◌, ◌++◌, length, refl, sym, ap, subst, ◌∙◌, inl, inr, arith}
 use Rattle.std.specs.Prelude.{slice_get}
 use Rattle.std.specs.List.{range_with_len}
-use Rattle.std.proofs.lemmas.Bool.{cases_eq, cases_lt, false≢true, false_from_ne_true}
+use Rattle.std.proofs.lemmas.Bool.{cases_eq, false≢true, false_from_ne_true}
 use Rattle.std.proofs.lemmas.Bool.Decides.{nat_tests}
 use Rattle.std.proofs.lemmas.List.{append-nil}
 use Rattle.std.proofs.lemmas.List.FromFn.{length-range_with_len}
@@ -14,9 +14,8 @@ use Rattle.message.specs.declared.request.Request.{Request}
 use Rattle.voter.specs.VoterContract.{IsEntry}
 use Rattle.voter.specs.Waiting.{precedes}
 use Rattle.requester.specs.declared.state.ClientState.{ClientState}
-use Rattle.requester.specs.Words.{holds, is_asking, is_current, is_idle, is_member, members}
+use Rattle.requester.specs.Words.{holds, is_asking, is_current, is_member, members}
 use Rattle.world.specs.declared.step.Step.{Step}
-use Rattle.world.specs.declared.step.Step.TheVariants.{Deliver, Leave, RemindClient}
 use Rattle.world.specs.Runs.{run_of}
 use Rattle.world.specs.Steps.{Dealing, WorldState, client_at, voter_at}
 use Rattle.world.proofs.Plans.{run_then}
@@ -32,7 +31,7 @@ use Rattle.progress.proofs.Blocks.{grown_on, since}
 use Rattle.progress.proofs.Fitting.{current_busy, current_stamp}
 use Rattle.progress.proofs.Hindering.{all_hold}
 use Rattle.progress.proofs.Known.{entry_kept, known_after}
-use Rattle.progress.proofs.Leading.{Clear, NotAhead, OwnStage, Quietly, along-quiet, four_settle, own_stage_kept, quietly_moved}
+use Rattle.progress.proofs.Leading.{Clear, NotAhead, OwnStage, Quietly, along-quiet, four_settle, own_stage_kept}
 use Rattle.progress.proofs.Moves.{Moved-by, MovedBy}
 use Rattle.progress.proofs.Overdue.{Only, along-all, catches_up}
 use Rattle.progress.proofs.Stages.{Never, Never-lasting}

@@ -1,12 +1,11 @@
 -- a vote that was granted to a later request comes back within seven rounds, whether that request runs on,
 -- is given up, or enters
-use Rattle.std.proofs.Common.{◌≡◌, ◌≢◌, ℕ, ◌+◌, ◌<◌, ◌≤◌, Bool, true, false, List, [], ◌∷◌, ◌++◌, length, Some, refl, sym, ap, subst, ◌∙◌, ◌⊎◌, inl, inr, arith}
+use Rattle.std.proofs.Common.{◌≡◌, ◌≢◌, ℕ, ◌<◌, ◌≤◌, true, false, List, [], ◌∷◌, ◌++◌, length, Some, refl, sym, ap, subst, ◌∙◌, ◌⊎◌, inl, inr, arith}
 use Rattle.std.specs.Prelude.{nat_lt, slice_get}
 use Rattle.std.specs.List.{Contains}
-use Rattle.std.proofs.lemmas.Bool.{cases_eq, cases_lt, false≢true}
+use Rattle.std.proofs.lemmas.Bool.{cases_lt, false≢true}
 use Rattle.std.proofs.lemmas.Bool.Decides.{nat_tests}
 use Rattle.std.proofs.lemmas.Option.{same_Some}
-use Rattle.numbers.specs.Sets.{has}
 use Rattle.message.specs.declared.message.ClientBody.TheVariants as to_client
 use Rattle.message.specs.declared.message.Message.{Message}
 use Rattle.message.specs.declared.message.Message.TheVariants as kinds
@@ -22,13 +21,11 @@ use Rattle.voter.specs.Waiting.{precedes}
 use Rattle.requester.specs.declared.state.ClientState.{ClientState}
 use Rattle.requester.specs.Steps as requester
 use Rattle.requester.specs.Words.{holds, is_asking, is_current, is_idle, is_inquired, is_inside, is_member, last_of}
-use Rattle.requester.proofs.SoundSteps.{is_asking-busy}
-use Rattle.world.specs.Coherence.{IsCoherent}
 use Rattle.world.specs.declared.step.Step.{Step}
 use Rattle.world.specs.declared.step.Step.TheVariants.{Deliver, Leave, RemindClient, RemindVoter}
 use Rattle.world.specs.Runs.{run_of}
 use Rattle.world.specs.Steps.{Dealing, WorldState, client_at, voter_at}
-use Rattle.progress.specs.Rounds.{AreFairRounds, IsFairRound, IsReminded}
+use Rattle.progress.specs.Rounds.{AreFairRounds, IsReminded}
 use Rattle.progress.specs.Rules.{Laws}
 use Rattle.progress.proofs.Ahead.{NotBehind, not_behind_kept, own_not, vote_or_ahead}
 use Rattle.progress.proofs.Along.{Along, Reminded, along-first, along-kept, along-last, along-or, along-split, along-weaker, next, reminded_at, spot_after, spot_before, spot_end, spot_in}
@@ -38,9 +35,10 @@ use Rattle.progress.proofs.Falls.{HasVote, locked_to}
 use Rattle.progress.proofs.Hindering.{held_grant}
 use Rattle.progress.proofs.Inquiries.{ends_up_to}
 use Rattle.progress.proofs.Known.{entry_kept, idle_by, inside_busy, known_after, left_idle, within_by}
+use Rattle.progress.proofs.Leftover.{release_to}
 use Rattle.progress.proofs.Moves.{Moved-by, MovedBy}
-use Rattle.progress.proofs.Stages.{GivenBack, GivenBack-lasting, Told}
-use Rattle.progress.proofs.Steady.{AskedFor, HasMarked, IsOf, Seeks, Steady, With, asked, fate_goes, held_exists, live_member, mark_goes, not_given_back, not_marked, steady_ok, told, voter_below, voter_within}
+use Rattle.progress.proofs.Stages.{GivenBack, GivenBack-lasting}
+use Rattle.progress.proofs.Steady.{AskedFor, HasMarked, IsOf, Seeks, Steady, With, asked, fate_goes, held_exists, mark_goes, not_given_back, not_marked, steady_ok, told, voter_below, voter_within}
 use Rattle.progress.proofs.Still.{Lasts, Lasts-moved, Lasts-run, Lasts-self, Lasts-then, RunsOn, SameAsk, same_between}
 use Rattle.progress.proofs.Sure.{Course, IsSure}
 use Rattle.progress.proofs.Ways.{entry_waits, not_current, own_stamp}
@@ -267,10 +265,6 @@ leaves_by laws p w D d t round x all leaves h =
                 inr (omega arith, left_idle laws deal u d (within_by u d (inside_busy (client_at u.clients d).phase still)) still)
           ] refl)
     ] refl
-
--- RELEASE of the client d to the voter v
-abbrev release_to : ℕ → ℕ → ℕ → ToVoter
-release_to d v s = record { client = d; voter = v; body = asks.Release s }
 
 -- the reminder of the voter frees the vote of a request that is over
 pub not_over : (laws : Laws) (p : Course) (w : WorldState) (D : ℕ → Type 0) (m v : ℕ) → Seeks w D m v → (g : Grant) → (x z : WorldState)

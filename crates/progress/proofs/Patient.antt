@@ -1,7 +1,7 @@
 -- whoever asks enters after so many fair rounds, if clients are patient: withdrawals have no price
-use Rattle.std.proofs.Common.{◌≡◌, ◌≢◌, ℕ, zero, suc, ◌+◌, ◌*◌, ◌<◌, ◌≤◌, Bool, true, false, List, [], ◌∷◌, ◌++◌, length, refl, sym, ap, subst, ◌∙◌, ◌⊎◌, inl, inr, arith}
+use Rattle.std.proofs.Common.{◌≡◌, ℕ, zero, suc, ◌+◌, ◌*◌, ◌<◌, ◌≤◌, Bool, true, false, List, [], ◌∷◌, ◌++◌, length, refl, sym, ap, subst, ◌∙◌, inl, inr, arith}
 use Rattle.std.specs.Prelude.{◌&&◌, nat_le}
-use Rattle.std.proofs.Math.Nat.{mul_comm, suc-mul}
+use Rattle.std.proofs.Math.Nat.{suc-mul}
 use Rattle.std.proofs.lemmas.Bool.{cases_eq, cases_lt, false≢true}
 use Rattle.std.proofs.lemmas.List.{append_assoc, append_cancel_left, get_or_past}
 use Rattle.numbers.specs.Sets.{has}
@@ -25,7 +25,7 @@ use Rattle.progress.specs.WayIn.{Asks, HasGrants}
 use Rattle.progress.proofs.Along.{along-last, next}
 use Rattle.progress.proofs.Always.{Heeds, heeds}
 use Rattle.progress.proofs.Behind.{stamp_of}
-use Rattle.progress.proofs.Counted.{three_turns}
+use Rattle.progress.proofs.Counted.{three_turns, turns_up_to-append}
 use Rattle.progress.proofs.Counting.{entries_of-append}
 use Rattle.progress.proofs.Hearing.{trails_along}
 use Rattle.progress.proofs.Kept.{IsKept-reached}
@@ -82,14 +82,10 @@ none_beyond laws p s d (t ∷ steps) x r beyond =
 unfoldable all_up_to : Dealing → ℕ → ℕ → List Step → WorldState → ℕ
 all_up_to deal s n steps x = sum_below (λ d. turns_up_to deal s d steps x) n
 
-up_to-append : (deal : Dealing) (s d : ℕ) (a b : List Step) (x : WorldState) → turns_up_to deal s d (a ++ b) x ≡ turns_up_to deal s d a x + turns_up_to deal s d b (run_of deal a x)
-up_to-append deal s d [] b x = omega arith
-up_to-append deal s d (t ∷ a) b x = (let rest = up_to-append deal s d a b (next deal x t) in omega arith)
-
 all_up_to-append : (deal : Dealing) (s n : ℕ) (a b : List Step) (x : WorldState) → all_up_to deal s n (a ++ b) x ≡ all_up_to deal s n a x + all_up_to deal s n b (run_of deal a x)
 unfolding all_up_to
 all_up_to-append deal s n a b x =
-    sum_below-same n (λ d. turns_up_to deal s d (a ++ b) x) (λ d. turns_up_to deal s d a x + turns_up_to deal s d b (run_of deal a x)) (λ d _. up_to-append deal s d a b x)
+    sum_below-same n (λ d. turns_up_to deal s d (a ++ b) x) (λ d. turns_up_to deal s d a x + turns_up_to deal s d b (run_of deal a x)) (λ d _. turns_up_to-append deal s d a b x)
     ∙ sum_below-add n (λ d. turns_up_to deal s d a x) (λ d. turns_up_to deal s d b (run_of deal a x))
 
 none_of_sum : (deal : Dealing) (s n d : ℕ) (steps : List Step) (x : WorldState) → d < n → all_up_to deal s n steps x ≡ 0 → turns_up_to deal s d steps x ≡ 0

@@ -228,7 +228,7 @@ no_requests : (w : WorldState) (out : List ToVoter) → NoAsks out → AllByRecu
 no_requests w [] none = tt
 no_requests w (m ∷ out) none = (no_request w m.client m.body none.0, no_requests w out none.1)
 
-no_asks_to : (x : ClientState) (b : VoterBody) (vs : List ℕ) → NoAsk b → NoAsks (map (λ v. requester.tell x v b) vs)
+pub no_asks_to : (x : ClientState) (b : VoterBody) (vs : List ℕ) → NoAsk b → NoAsks (map (λ v. requester.tell x v b) vs)
 no_asks_to x b [] none = tt
 no_asks_to x b (v ∷ vs) none = (none, no_asks_to x b vs none)
 
@@ -252,7 +252,7 @@ asking_by Idle x is = tt
 asking_by Asking x is = asking_all x _ is
 asking_by Inside x is = tt
 
-reminds_asking : (x : ClientState) → AllByRecursion (λ (m : ToVoter). is_asking x.phase ≡ true) (requester.remind x)
+pub reminds_asking : (x : ClientState) → AllByRecursion (λ (m : ToVoter). is_asking x.phase ≡ true) (requester.remind x)
 unfolding requester.remind
 reminds_asking x = asking_by x.phase x refl
 

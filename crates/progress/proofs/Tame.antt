@@ -1,20 +1,17 @@
 -- stretches in which no request with a stamp up to a bound begins or ends; requests with higher stamps come and go
-use Rattle.std.proofs.Common.{◌≡◌, ◌≢◌, ℕ, ◌+◌, ◌<◌, ◌≤◌, Bool, true, false, List, [], ◌∷◌, ◌++◌, map, length, Some, Ok, refl, sym, ap, subst, ◌∙◌, ◌⊎◌, inl, inr, arith, append_assoc}
-use Rattle.std.specs.Prelude.{◌&&◌, nat_le, slice_get}
+use Rattle.std.proofs.Common.{◌≡◌, ℕ, ◌+◌, ◌<◌, ◌≤◌, Bool, true, false, List, [], ◌∷◌, ◌++◌, map, length, Ok, refl, sym, ap, subst, ◌∙◌, ◌⊎◌, inl, inr, arith, append_assoc}
+use Rattle.std.specs.Prelude.{◌&&◌, nat_le}
 use Rattle.std.specs.List.{AllByRecursion, Contains}
-use Rattle.std.proofs.lemmas.Bool.{cases_eq, cases_lt, false≢true}
+use Rattle.std.proofs.lemmas.Bool.{cases_lt, false≢true}
 use Rattle.std.proofs.lemmas.Bool.Decides.{nat_tests}
-use Rattle.std.proofs.lemmas.List.{append-nil, get_or_past}
+use Rattle.std.proofs.lemmas.List.{append-nil}
 use Rattle.numbers.proofs.Lists.{AllByRecursion-append}
 use Rattle.message.specs.declared.message.Message.{Message}
 use Rattle.message.specs.declared.message.Message.TheVariants as kinds
 use Rattle.message.specs.declared.message.ToVoter.{ToVoter}
 use Rattle.message.specs.declared.message.VoterBody.{VoterBody}
 use Rattle.message.specs.declared.message.VoterBody.TheVariants as asks
-use Rattle.voter.specs.Steps as voter
 use Rattle.requester.specs.declared.state.ClientState.{ClientState}
-use Rattle.requester.specs.declared.state.Phase.{Phase}
-use Rattle.requester.specs.declared.state.Phase.TheVariants.{Idle, Asking, Inside}
 use Rattle.requester.specs.RequesterContract.{AllRepeat, Repeats}
 use Rattle.requester.specs.Steps as requester
 use Rattle.requester.specs.Words.{is_asking, is_idle, is_inside, members}
@@ -26,7 +23,7 @@ use Rattle.world.specs.Runs.{run_of}
 use Rattle.world.specs.Steps.{Dealing, WorldState, client_at, voter_at}
 use Rattle.progress.specs.Rules.{Laws}
 use Rattle.progress.specs.WayIn.{HasGrants}
-use Rattle.progress.proofs.Along.{Along, along-first, along-kept, next, spot_after, spot_before, spot_end, spot_in, spot_through}
+use Rattle.progress.proofs.Along.{Along, along-first, along-kept, next, spot_end, spot_in, spot_through}
 use Rattle.progress.proofs.Behind.{ask-Ok}
 use Rattle.progress.proofs.Fitting.{take-Ok}
 use Rattle.progress.proofs.Known.{idle_by, inside_busy, left_idle, within_by}
@@ -34,9 +31,9 @@ use Rattle.progress.proofs.Longer.{Grows, Grows-moved}
 use Rattle.progress.proofs.Moves.{ClientMoved, IsReminder, Moved, Moved-by, MovedBy, MovedBy-step, all_sent}
 use Rattle.progress.proofs.Outstanding.{step-GivesUp, step-Leaves}
 use Rattle.progress.proofs.Placed.{NoAsk, NoAsks, no-take}
-use Rattle.progress.proofs.Still.{Lasts-moved, SameAsk, left_before}
+use Rattle.progress.proofs.Still.{Lasts-moved, SameAsk, left_before, no_asks_to, reminds_asking}
 use Rattle.progress.proofs.Sure.{Course, IsSure, IsSure-after}
-use Rattle.progress.proofs.Turns.{no_turn, stamp_stays, turn}
+use Rattle.progress.proofs.Turns.{idle_not_asking, no_turn, stamp_stays, turn}
 
 -- ---- requests up to a stamp
 
@@ -101,10 +98,6 @@ fits_none : (w : WorldState) (s : ℕ) (out : List ToVoter) → NoAsks out → A
 fits_none w s [] none = tt
 fits_none w s (m ∷ out) none = (fit_none w s m.client m.body none.0, fits_none w s out none.1)
 
-no_asks_to : (x : ClientState) (b : VoterBody) (vs : List ℕ) → NoAsk b → NoAsks (map (λ v. requester.tell x v b) vs)
-no_asks_to x b [] none = tt
-no_asks_to x b (v ∷ vs) none = (none, no_asks_to x b vs none)
-
 fits_to : (w : WorldState) (s : ℕ) (x : ClientState) (t : ℕ) (vs : List ℕ) → FitBody w s x.id (asks.Request t) → AllByRecursion (IsFitAt w s) (map kinds.ToVoter (map (λ v. requester.tell x v (asks.Request t)) vs))
 fits_to w s x t [] fit = tt
 fits_to w s x t (v ∷ vs) fit = (fit, fits_to w s x t vs fit)
@@ -135,19 +128,6 @@ client_sends w s x y k id own ahead same requester.Leaves step =
 client_sends w s x y k id own ahead same requester.GivesUp step =
     let old = client_at x.clients k.who in
     fits_none w s k.outcome.out (subst (λ (r : requester.Outcome). NoAsks r.out) (give_up-Ok old k.outcome (step-GivesUp old k.outcome step)).1 (no_asks_to old (asks.Release old.stamp) (members old) tt))
-
-asking_all : (x : ClientState) (out : List ToVoter) → is_asking x.phase ≡ true → AllByRecursion (λ (m : ToVoter). is_asking x.phase ≡ true) out
-asking_all x [] asks = tt
-asking_all x (m ∷ out) asks = (asks, asking_all x out asks)
-
-asking_by : (q : Phase) (x : ClientState) → is_asking x.phase ≡ is_asking q → AllByRecursion (λ (m : ToVoter). is_asking x.phase ≡ true) (requester.remind_in q x)
-asking_by Idle x is = tt
-asking_by Asking x is = asking_all x _ is
-asking_by Inside x is = tt
-
-reminds_asking : (x : ClientState) → AllByRecursion (λ (m : ToVoter). is_asking x.phase ≡ true) (requester.remind x)
-unfolding requester.remind
-reminds_asking x = asking_by x.phase x refl
 
 fit_repeat : (w : WorldState) (s who v : ℕ) (x : ClientState) (b : VoterBody) → ((t : ℕ) → t ≡ x.stamp → FitBody w s who (asks.Request t)) → Repeats x v b → FitBody w s who b
 fit_repeat w s who v x (asks.Request t) fit says = fit t says
@@ -250,11 +230,6 @@ tame_along laws p w s steps r left none = tame_from laws p w s steps w (record {
 abbrev pub IsAway : ℕ → ℕ → WorldState → Type 0
 IsAway s d x = (is_idle (client_at x.clients d).phase ≡ true) ⊎ (s < (client_at x.clients d).stamp)
 
-idle_not_asks : (q : Phase) → is_idle q ≡ true → is_asking q ≡ false
-idle_not_asks Idle idle = refl
-idle_not_asks Asking idle = absurd (false≢true idle)
-idle_not_asks Inside idle = refl
-
 pub away_kept : (laws : Laws) (p : Course) (w : WorldState) (s d : ℕ) → asks_up_to s w d ≡ false → (t : Step) (x y : WorldState) → Tame p w s x → Tame p w s y → MovedBy t x y → IsAway s d x → IsAway s d y
 away_kept laws p w s d not t x y before after moved h =
     let lasts = Lasts-moved laws x y (before.reached []).coherent (after.reached []).coherent (Moved-by t x y moved) d in
@@ -264,7 +239,7 @@ away_kept laws p w s d not t x y before after moved h =
       | inl idle ↦ elim (is_asking (client_at y.clients d).phase) as (λ b. is_asking (client_at y.clients d).phase ≡ b → IsAway s d y) [
         | true ↦ λ asks. inr (above_bound s y d (after.ahead d ∙ not) asks)
         | false ↦ λ quiet.
-            let stays = stamp_stays t x y d moved (quiet ∙ sym (idle_not_asks (client_at x.clients d).phase idle)) in
+            let stays = stamp_stays t x y d moved (quiet ∙ sym (idle_not_asking (client_at x.clients d).phase idle)) in
             inl (lasts.idle stays idle)
       ] refl
     ]

@@ -225,7 +225,7 @@ pub asks_then : (x : ClientState) (q : List ℕ) (o : requester.Outcome) → req
 unfolding requester.step
 asks_then x q o e = ap (λ (r : requester.Outcome). is_asking r.state.phase) (sym (ask_ok x q o e).2)
 
-idle_not_asking : (q : Phase) → is_idle q ≡ true → is_asking q ≡ false
+pub idle_not_asking : (q : Phase) → is_idle q ≡ true → is_asking q ≡ false
 idle_not_asking Idle idle = refl
 idle_not_asking Asking idle = absurd (false≢true idle)
 idle_not_asking Inside idle = refl

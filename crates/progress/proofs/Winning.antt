@@ -1,15 +1,12 @@
 -- the request that precedes all others that run has all votes in the end: each round frees a vote that an older
 -- request left behind
-use Rattle.std.proofs.Common.{◌≡◌, ◌≢◌, ℕ, ◌+◌, ◌<◌, ◌≤◌, true, false, List, [], ◌∷◌, ◌++◌, length, Some, refl, sym, ap, subst, subst₂, ◌∙◌, ◌⊎◌, inl, inr, arith}
+use Rattle.std.proofs.Common.{◌≡◌, ◌≢◌, ℕ, ◌<◌, ◌≤◌, true, false, List, [], ◌∷◌, length, Some, refl, sym, ap, subst, subst₂, ◌∙◌, ◌⊎◌, inl, inr, arith}
 use Rattle.std.specs.Prelude.{nat_lt, slice_get}
 use Rattle.std.specs.List.{range_with_len}
-use Rattle.std.proofs.lemmas.Bool.{cases_eq, cases_lt, false≢true}
+use Rattle.std.proofs.lemmas.Bool.{cases_eq, false≢true}
 use Rattle.std.proofs.lemmas.Bool.Decides.{nat_tests}
-use Rattle.std.proofs.lemmas.List.FromFn.{length-range_with_len}
-use Rattle.std.proofs.lemmas.Option.{same_Some}
 use Rattle.numbers.specs.Sets.{has}
 use Rattle.message.specs.declared.message.ClientBody.TheVariants as to_client
-use Rattle.message.specs.declared.message.Message.{Message}
 use Rattle.message.specs.declared.message.Message.TheVariants as kinds
 use Rattle.message.specs.declared.message.ToClient.{ToClient}
 use Rattle.message.specs.declared.message.ToVoter.{ToVoter}
@@ -24,7 +21,7 @@ use Rattle.voter.specs.VoterContract.{Brings, Ends, IsEntry}
 use Rattle.voter.specs.Waiting.{precedes}
 use Rattle.requester.specs.declared.state.ClientState.{ClientState}
 use Rattle.requester.specs.Steps as requester
-use Rattle.requester.specs.Words.{holds, is_idle, is_member, last_of}
+use Rattle.requester.specs.Words.{holds, is_idle, last_of}
 use Rattle.requester.proofs.SoundSteps.{is_asking-busy}
 use Rattle.world.specs.Coherence.{AskOk}
 use Rattle.world.specs.declared.step.Step.{Step}
@@ -34,8 +31,8 @@ use Rattle.world.specs.Steps.{WorldState, client_at, voter_at}
 use Rattle.world.proofs.Plans.{run_then}
 use Rattle.progress.specs.Rounds.{AreFairRounds, IsReminded, steps_of}
 use Rattle.progress.specs.Rules.{Laws}
-use Rattle.progress.proofs.Ahead.{NotBehind, not_behind_kept, own_not}
-use Rattle.progress.proofs.Along.{Along, Reminded, along-first, along-kept, along-last, along-or, along-split, along-weaker, next, reminded_at, spot_after, spot_before, spot_end, spot_through}
+use Rattle.progress.proofs.Ahead.{NotBehind, not_behind_kept}
+use Rattle.progress.proofs.Along.{Along, Reminded, along-first, along-kept, along-last, along-or, along-weaker, next, reminded_at, spot_after, spot_before, spot_end, spot_through}
 use Rattle.progress.proofs.Always.{asked_by}
 use Rattle.progress.proofs.Arrivals.{answered, client_takes, message_stays, reminds_first, voter_takes}
 use Rattle.progress.proofs.Behind.{the_request}
@@ -45,10 +42,11 @@ use Rattle.progress.proofs.Hindering.{held_grant}
 use Rattle.progress.proofs.Inquiries.{ends_up_to}
 use Rattle.progress.proofs.Known.{voter_after}
 use Rattle.progress.proofs.Leading.{Clear, NotAhead, OwnStage, Quietly, along-quiet, is_own, own_stage_kept, quietly_moved, settled_kept}
+use Rattle.progress.proofs.Leftover.{release_to}
 use Rattle.progress.proofs.Moves.{Moved-by, MovedBy}
 use Rattle.progress.proofs.Overdue.{Only}
 use Rattle.progress.proofs.Stages.{IsSettled, Never, Never-lasting}
-use Rattle.progress.proofs.Steady.{IsOf, Seeks, Steady, With, asks_now, fate_goes, held_exists, steady_ok, told, voter_below, voter_within}
+use Rattle.progress.proofs.Steady.{Seeks, Steady, With, asks_now, fate_goes, held_exists, steady_ok, told, voter_below, voter_within}
 use Rattle.progress.proofs.Sure.{Course}
 use Rattle.progress.proofs.Ways.{has_range, own_stamp, remove_from, shorter, still_there}
 
@@ -166,10 +164,6 @@ won_on laws p none w m v f g s x y before after moved h =
     }
 
 -- ---- the reminder of a voter whose grant is over
-
--- RELEASE of the client d to the voter v
-abbrev release_to : ℕ → ℕ → ℕ → ToVoter
-release_to d v s = record { client = d; voter = v; body = asks.Release s }
 
 -- the request has the vote, or one client fewer has a request that is over
 abbrev Nearer : WorldState → ℕ → ℕ → List ℕ → WorldState → Type 0
