@@ -61,7 +61,7 @@ comes_in_time old k sent m t is body none =
     in_time _ old k refl (ap (late_body old k) (sym body) ∙ ap (late_message old k) (sym is) ∙ none)
 
 -- the message came since the world w
-since : (w x : WorldState) (sent more : List Message) (old k : ℕ) (m : ToVoter) (t : ℕ) → x.sent ≡ sent ++ more → length w.sent ≤ old → length w.sent ≤ length sent
+pub since : (w x : WorldState) (sent more : List Message) (old k : ℕ) (m : ToVoter) (t : ℕ) → x.sent ≡ sent ++ more → length w.sent ≤ old → length w.sent ≤ length sent
     → slice_get x.sent k ≡ Some (kinds.ToVoter m) → m.body ≡ asks.Request t → late_step old sent (Deliver k) ≡ 0 → length w.sent ≤ k
 since w x sent more old k m t grown least long is body none = elim (cases_lt k (length sent)) [
   | inl less ↦
@@ -94,7 +94,7 @@ calmly p w s x y sent more old calm grown least long none moved = elim moved [
   | inr (inr k) ↦ inr (inr k)
 ]
 
-grown_on : (x y : WorldState) → Moved x y → (out : List Message) × (y.sent ≡ x.sent ++ out)
+pub grown_on : (x y : WorldState) → Moved x y → (out : List Message) × (y.sent ≡ x.sent ++ out)
 grown_on x y moved = elim moved [
   | inl k ↦ (_, k.sent)
   | inr (inl k) ↦ (_, k.sent)
@@ -315,7 +315,7 @@ wins_rounds laws p w m v f (r ∷ rs) x alive all fair less stage over =
 
 -- ---- a whole block
 
-one_entry : (y : VoterState) (c s t : ℕ) → voter.IsSound y → IsEntry y c s → IsEntry y c t → s ≡ t
+pub one_entry : (y : VoterState) (c s t : ℕ) → voter.IsSound y → IsEntry y c s → IsEntry y c t → s ≡ t
 one_entry y c s t ok a b = same_Some s t (sym (current_stamp-entry y c s (orderly y ok) a) ∙ current_stamp-entry y c t (orderly y ok) b)
 
 -- requests that are over are of other clients than the first
@@ -360,7 +360,7 @@ wins_all laws p w m v f a b c d rest x all fair long =
     ∙ wins_rounds laws p w m v f rest x4 (remove_from m (range_with_len 0 (length w.clients))) all.1.1.1.1 fair.1.1.1.1 (omega arith) fourth (over_others laws p w x4 m v f calm)
 
 -- the first client that asks
-first_asker : (w : WorldState) (c : ℕ) → Asks w c
+pub first_asker : (w : WorldState) (c : ℕ) → Asks w c
     → (m : ℕ) × (is_asking (client_at w.clients m).phase ≡ true) × ((v : ℕ) → is_member (client_at w.clients m) v ≡ true → First w m v)
 first_asker w c asks = elim (first_below w (length w.clients)) [
   | inl none ↦ absurd (false≢true (sym (none c asks.client) ∙ asks.asks))

@@ -116,7 +116,7 @@ before_most : (g : Grant) (r : Request) → precedes (request_of g) r ≡ true �
 before_most g r before = grind (arith, nat_tests)
 
 -- a client that is inside has the vote of a voter that the request asked
-enters_by : (laws : ClientLaws) (w u : WorldState) (c d : ℕ) → IsCoherent u → Behind w c u → is_idle (client_at u.clients c).phase ≡ false → d ≢ c → is_inside (client_at u.clients d).phase ≡ true
+pub enters_by : (laws : ClientLaws) (w u : WorldState) (c d : ℕ) → IsCoherent u → Behind w c u → is_idle (client_at u.clients c).phase ≡ false → d ≢ c → is_inside (client_at u.clients d).phase ≡ true
     → EntersBy w c d (client_at u.clients d)
 enters_by laws w u c d ok h busy other inside =
     let y = client_at u.clients d in
@@ -225,14 +225,14 @@ Entries-moved laws w u x c d ok now before h busy other moved e = elim moved [
 
 -- ---- over all steps
 
-IsLater-run : (laws : Laws) (deal : Dealing) (steps : List Step) (u : WorldState) → StaysCoherent deal u → (c : ℕ)
+pub IsLater-run : (laws : Laws) (deal : Dealing) (steps : List Step) (u : WorldState) → StaysCoherent deal u → (c : ℕ)
     → IsLater (client_at u.clients c) (client_at (run_of deal steps u).clients c)
 IsLater-run laws deal steps u r c = kept-by (λ x. IsLater (client_at u.clients c) (client_at x.clients c))
     (λ x y ok now moved h. IsLater-then (client_at u.clients c) (client_at x.clients c) (client_at y.clients c) h (IsLater-moved laws.client x y ok now moved c))
     deal steps u r (IsLater-self (client_at u.clients c))
 
 -- a request that still runs later runs before
-still_before : (w u z : WorldState) (c : ℕ) → stamp_of w c ≤ stamp_of u c → IsLater (client_at u.clients c) (client_at z.clients c) → StillRuns w z c → StillRuns w u c
+pub still_before : (w u z : WorldState) (c : ℕ) → stamp_of w c ≤ stamp_of u c → IsLater (client_at u.clients c) (client_at z.clients c) → StillRuns w z c → StillRuns w u c
 still_before w u z c least later runs =
     let rises = later.stamp in
     let stamp = runs.same in

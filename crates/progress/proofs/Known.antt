@@ -151,7 +151,7 @@ idle_kept laws p w d s x y before after moved idle =
     (Lasts-moved laws x y (before.reached []).coherent (after.reached []).coherent (Moved-by s x y moved) d).idle
     ((after.same d).stamp ∙ sym (before.same d).stamp) idle
 
-left_idle : (laws : Laws) (deal : Dealing) (x : WorldState) (d : ℕ) → d < length x.clients → is_inside (client_at x.clients d).phase ≡ true
+pub left_idle : (laws : Laws) (deal : Dealing) (x : WorldState) (d : ℕ) → d < length x.clients → is_inside (client_at x.clients d).phase ≡ true
     → is_idle (client_at (next deal x (Leave d)).clients d).phase ≡ true
 unfolding step requester.step
 left_idle laws deal x d within inside =
@@ -160,12 +160,12 @@ left_idle laws deal x d within inside =
     ∙ ap (λ r. after x (after_client x d r)) (laws.client.left (client_at x.clients d) inside) in
     ap (λ (u : WorldState). is_idle (client_at u.clients d).phase) goes ∙ ap (λ (z : ClientState). is_idle z.phase) (client_here x.clients d o.state within)
 
-idle_by : (q : Phase) → is_asking q ≡ false → is_inside q ≡ false → is_idle q ≡ true
+pub idle_by : (q : Phase) → is_asking q ≡ false → is_inside q ≡ false → is_idle q ≡ true
 idle_by Idle not outside = refl
 idle_by Asking not outside = absurd (false≢true (sym not))
 idle_by Inside not outside = absurd (false≢true (sym outside))
 
-inside_busy : (q : Phase) → is_inside q ≡ true → is_idle q ≡ false
+pub inside_busy : (q : Phase) → is_inside q ≡ true → is_idle q ≡ false
 inside_busy Idle inside = absurd (false≢true inside)
 inside_busy Asking inside = refl
 inside_busy Inside inside = refl

@@ -158,7 +158,7 @@ won_on laws p w m v f g s x y before after moved h =
 -- ---- the reminder of a voter whose grant is over
 
 -- RELEASE of the client d to the voter v
-abbrev release_to : ℕ → ℕ → ℕ → ToVoter
+abbrev pub release_to : ℕ → ℕ → ℕ → ToVoter
 release_to d v s = record { client = d; voter = v; body = asks.Release s }
 
 -- the first has the vote, or one client fewer has a request that is over

@@ -164,7 +164,7 @@ pub record SameAsk (x y : ClientState) : Type 0 where
   pub asks : is_asking y.phase ≡ is_asking x.phase
   pub quorum : is_asking x.phase ≡ true → members y ≡ members x
 
-same_between : (x y z : ClientState) → Lasts x y → Lasts y z → z.stamp ≡ x.stamp → (is_asking x.phase ≡ true → is_asking z.phase ≡ true) → SameAsk x y
+pub same_between : (x y z : ClientState) → Lasts x y → Lasts y z → z.stamp ≡ x.stamp → (is_asking x.phase ≡ true → is_asking z.phase ≡ true) → SameAsk x y
 same_between x y z a b end asks =
     let first = a.stamp in
     let second = b.stamp in
@@ -228,7 +228,7 @@ no_requests : (w : WorldState) (out : List ToVoter) → NoAsks out → AllByRecu
 no_requests w [] none = tt
 no_requests w (m ∷ out) none = (no_request w m.client m.body none.0, no_requests w out none.1)
 
-no_asks_to : (x : ClientState) (b : VoterBody) (vs : List ℕ) → NoAsk b → NoAsks (map (λ v. requester.tell x v b) vs)
+pub no_asks_to : (x : ClientState) (b : VoterBody) (vs : List ℕ) → NoAsk b → NoAsks (map (λ v. requester.tell x v b) vs)
 no_asks_to x b [] none = tt
 no_asks_to x b (v ∷ vs) none = (none, no_asks_to x b vs none)
 
@@ -252,7 +252,7 @@ asking_by Idle x is = tt
 asking_by Asking x is = asking_all x _ is
 asking_by Inside x is = tt
 
-reminds_asking : (x : ClientState) → AllByRecursion (λ (m : ToVoter). is_asking x.phase ≡ true) (requester.remind x)
+pub reminds_asking : (x : ClientState) → AllByRecursion (λ (m : ToVoter). is_asking x.phase ≡ true) (requester.remind x)
 unfolding requester.remind
 reminds_asking x = asking_by x.phase x refl
 

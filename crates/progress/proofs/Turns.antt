@@ -77,12 +77,12 @@ entered_by before after who Nothing sees out now = absurd (false≢true (sym out
 entered_by before after who Entered sees out now = (let one = one_entered who in omega arith)
 entered_by before after who Left sees out now = absurd (false≢true (sym out ∙ sees.0))
 
-inside_by : (q : Phase) → is_idle q ≡ false → is_asking q ≡ false → is_inside q ≡ true
+pub inside_by : (q : Phase) → is_idle q ≡ false → is_asking q ≡ false → is_inside q ≡ true
 inside_by Idle busy not = absurd (false≢true (sym busy))
 inside_by Asking busy not = absurd (false≢true (sym not))
 inside_by Inside busy not = refl
 
-step-Asks : (x : ClientState) (q : List ℕ) (o : requester.Outcome) → requester.step x (requester.Asks q) ≡ Ok o → is_idle x.phase ≡ true
+pub step-Asks : (x : ClientState) (q : List ℕ) (o : requester.Outcome) → requester.step x (requester.Asks q) ≡ Ok o → is_idle x.phase ≡ true
 unfolding requester.step
 step-Asks x q o e = (ask_ok x q o e).0
 
@@ -214,18 +214,18 @@ stamp-locked : (x : ClientState) (v t g : ℕ) → (requester.take_locked x v t 
 unfolding requester.take_locked
 stamp-locked x v t g = stamp-locked_by _ _ x v t g
 
-stamp-take : (x : ClientState) (m : ToClient) (b : ClientBody) → m.body ≡ b → (requester.take x m).state.stamp ≡ x.stamp
+pub stamp-take : (x : ClientState) (m : ToClient) (b : ClientBody) → m.body ≡ b → (requester.take x m).state.stamp ≡ x.stamp
 unfolding requester.take
 stamp-take x m (to_client.Locked t g) is =
     subst (λ c. (requester.take_body (requester.see x m.seen) m.voter c).state.stamp ≡ x.stamp) (sym is) (stamp-locked (requester.see x m.seen) m.voter t g)
 stamp-take x m (to_client.Fail t) is = (Stays-fail x m t is).stamp
 stamp-take x m (to_client.Inquire g) is = (Stays-inquire x m g is).stamp
 
-asks_then : (x : ClientState) (q : List ℕ) (o : requester.Outcome) → requester.step x (requester.Asks q) ≡ Ok o → is_asking o.state.phase ≡ true
+pub asks_then : (x : ClientState) (q : List ℕ) (o : requester.Outcome) → requester.step x (requester.Asks q) ≡ Ok o → is_asking o.state.phase ≡ true
 unfolding requester.step
 asks_then x q o e = ap (λ (r : requester.Outcome). is_asking r.state.phase) (sym (ask_ok x q o e).2)
 
-idle_not_asking : (q : Phase) → is_idle q ≡ true → is_asking q ≡ false
+pub idle_not_asking : (q : Phase) → is_idle q ≡ true → is_asking q ≡ false
 idle_not_asking Idle idle = refl
 idle_not_asking Asking idle = absurd (false≢true idle)
 idle_not_asking Inside idle = refl

@@ -44,17 +44,17 @@ use Rattle.progress.proofs.Turns.{all_give_ups, all_turns, all_turns-append, ask
 
 -- ---- rounds in two parts
 
-steps-append : (a b : List (List Step)) → steps_of (a ++ b) ≡ steps_of a ++ steps_of b
+pub steps-append : (a b : List (List Step)) → steps_of (a ++ b) ≡ steps_of a ++ steps_of b
 steps-append [] b = refl
 steps-append (r ∷ a) b = ap (λ l. r ++ l) (steps-append a b) ∙ sym (append_assoc r (steps_of a) (steps_of b))
 
-fair-split : (deal : Dealing) (a b : List (List Step)) (x : WorldState) → AreFairRounds deal x (a ++ b) → AreFairRounds deal x a × AreFairRounds deal (run_of deal (steps_of a) x) b
+pub fair-split : (deal : Dealing) (a b : List (List Step)) (x : WorldState) → AreFairRounds deal x (a ++ b) → AreFairRounds deal x a × AreFairRounds deal (run_of deal (steps_of a) x) b
 fair-split deal [] b x h = (tt, h)
 fair-split deal (r ∷ a) b x h =
     let rest = fair-split deal a b (run_of deal r x) h.1 in
     ((h.0, rest.0), subst (λ (u : WorldState). AreFairRounds deal u b) (sym (run_then deal r (steps_of a) x)) rest.1)
 
-late-split : (deal : Dealing) (old : ℕ) (a b : List (List Step)) (x : WorldState)
+pub late-split : (deal : Dealing) (old : ℕ) (a b : List (List Step)) (x : WorldState)
     → (later : ℕ) × (late_in deal old x (a ++ b) ≡ late_in deal old x a + late_in deal later (run_of deal (steps_of a) x) b)
 late-split deal old [] b x = (old, omega arith)
 late-split deal old (r ∷ a) b x =
@@ -87,15 +87,15 @@ none_late_step sent (RemindVoter v) = refl
 none_late_step sent Exchange = refl
 
 -- in the first round no REQUEST is late
-none_late : (sent : List Message) (steps : List Step) → late_steps 0 sent steps ≡ 0
+pub none_late : (sent : List Message) (steps : List Step) → late_steps 0 sent steps ≡ 0
 none_late sent [] = refl
 none_late sent (s ∷ steps) = (let here = none_late_step sent s in let rest = none_late sent steps in omega arith)
 
-late-more : (deal : Dealing) (old : ℕ) (rounds : List (List Step)) (x : WorldState) → late_in deal 0 x rounds ≤ late_in deal old x rounds
+pub late-more : (deal : Dealing) (old : ℕ) (rounds : List (List Step)) (x : WorldState) → late_in deal 0 x rounds ≤ late_in deal old x rounds
 late-more deal old [] x = omega arith
 late-more deal old (r ∷ rs) x = (let none = none_late x.sent r in omega arith)
 
-split_rounds : (m : ℕ) (rounds : List (List Step)) → m ≤ length rounds → (a : List (List Step)) × (b : List (List Step)) × (rounds ≡ a ++ b) × (length a ≡ m) × (length rounds ≡ m + length b)
+pub split_rounds : (m : ℕ) (rounds : List (List Step)) → m ≤ length rounds → (a : List (List Step)) × (b : List (List Step)) × (rounds ≡ a ++ b) × (length a ≡ m) × (length rounds ≡ m + length b)
 split_rounds zero rounds most = ([], rounds, refl, refl, omega arith)
 split_rounds (suc m) [] most = absurd (omega arith)
 split_rounds (suc m) (r ∷ rs) most =
@@ -109,7 +109,7 @@ is_one true some = refl
 is_one false some = absurd (omega arith)
 
 -- a client that asks, and neither enters nor gives up, asks on
-asks_on : (laws : Laws) (p : Course) (c : ℕ) (steps : List Step) (x : WorldState) (more : List Event) → IsSure p x → (run_of p.deal steps x).visible ≡ x.visible ++ more
+pub asks_on : (laws : Laws) (p : Course) (c : ℕ) (steps : List Step) (x : WorldState) (more : List Event) → IsSure p x → (run_of p.deal steps x).visible ≡ x.visible ++ more
     → entries_of c more ≡ 0 → own_give_ups c steps ≡ 0 → asks_at x c ≡ true → (asks_at (run_of p.deal steps x) c ≡ true) × (turns p.deal c steps x ≡ 0)
 asks_on laws p c steps x more r visible none stays asking =
     let deal = p.deal in
@@ -300,7 +300,7 @@ somebody_enters laws w c rounds more r asks fair stays left long visible =
 -- ---- whoever asked enters
 
 -- the request of the client runs on, all along
-runs_along : (laws : Laws) (p : Course) (w : WorldState) (c : ℕ) (steps : List Step) (x : WorldState) → IsSure p x → SameAsk (client_at w.clients c) (client_at x.clients c)
+pub runs_along : (laws : Laws) (p : Course) (w : WorldState) (c : ℕ) (steps : List Step) (x : WorldState) → IsSure p x → SameAsk (client_at w.clients c) (client_at x.clients c)
     → is_asking (client_at w.clients c).phase ≡ true → turns p.deal c steps x ≡ 0 → HasGrants 1 (run_of p.deal steps x)
     → Along (RunsOn p w c) MovedBy p.deal steps x
 runs_along laws p w c [] x r same asking none left = record { reached = r; same = same; left = left_before laws p [] x r left }
@@ -398,7 +398,7 @@ not_entered laws p x c k r rs more few_x reached heeded asks fair stays left tot
     let fewer = give_ups-append r rest in
     omega arith
 
-split_total : (b t len : ℕ) → 1 ≤ t → b * t ≤ len → (k : ℕ) × (t ≡ suc k) × (k * b + b ≤ len)
+pub split_total : (b t len : ℕ) → 1 ≤ t → b * t ≤ len → (k : ℕ) × (t ≡ suc k) × (k * b + b ≤ len)
 split_total b zero len some most = absurd (omega arith)
 split_total b (suc k) len some most = (k, refl, (let turned = mul_comm b (suc k) in let product = suc-mul k b in omega arith))
 

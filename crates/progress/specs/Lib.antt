@@ -1,6 +1,7 @@
 pub mod AfterLosses
 pub mod LostVotes
 pub mod Overtaking
+pub mod Patience
 pub mod Rounds
 pub mod Rules
 pub mod WayIn

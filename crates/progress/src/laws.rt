@@ -2,6 +2,7 @@
 ghost use Rattle.std.specs.Prelude.{◌≡◌, ◌≢◌, ◌≤◌, ◌+◌, ◌*◌, ◌++◌, ℕ, List, length};
 ghost use Rattle.progress.specs.LostVotes.{ComesBack, GoesOn, HasLostVote, HasReturnedVote};
 ghost use Rattle.progress.specs.Overtaking.{IsKnownEverywhere, StillRuns, entries_of};
+ghost use Rattle.progress.specs.Patience.{ArePatient, long_block};
 ghost use Rattle.progress.specs.Rounds.{AreFairRounds, DoesNotGiveUp, IsFairRound, IsStill, block, give_ups_in, late_in, steps_of};
 ghost use Rattle.progress.specs.Rules.{Laws};
 ghost use Rattle.progress.specs.WayIn.{Asks, AsksAlone, GetsIn, HasGrants, IsFree, IsWayIn};
@@ -196,6 +197,25 @@ pub fn fair_rounds_let_everybody_in()
         → HasGrants 1 (run_of (dealing_of w.plans) (steps_of rounds) w.state)
         → block (length w.state.clients)
         * (5 * length w.state.clients + 2 * give_ups_in (steps_of rounds) + late_in (dealing_of w.plans) 0 w.state rounds)
+        ≤ length rounds
+        → (run_of (dealing_of w.plans) (steps_of rounds) w.state).visible ≡ w.state.visible ++ more
+        → 1 ≤ entries_of c more }
+{
+    worlds_keep_their_rules();
+}
+
+/// Whoever asks gets in, at no price for withdrawals, if clients are patient: a client that asks, and does
+/// not give up, enters within (n + 8) * (3 n + l) fair rounds, for n clients and l REQUESTs that come late.
+///
+/// Clients are patient if whoever gives up a request that it made in one of these rounds has waited for two
+/// whole rounds before. It does not matter how many withdrawals there are. All else is up to an adversary, as
+/// in [`fair_rounds_let_everybody_in`]. Each voter has to have a grant left at the end.
+pub fn patient_rounds_let_everybody_in()
+    ensures { (w : Planned) (c : ℕ) (rounds : List (List Step)) (more : List Event) → IsReached w → Asks w.state c
+        → AreFairRounds (dealing_of w.plans) w.state rounds → ArePatient (dealing_of w.plans) w.state rounds
+        → DoesNotGiveUp c (steps_of rounds) → HasGrants 1 (run_of (dealing_of w.plans) (steps_of rounds) w.state)
+        → long_block (length w.state.clients)
+        * (3 * length w.state.clients + late_in (dealing_of w.plans) 0 w.state rounds)
         ≤ length rounds
         → (run_of (dealing_of w.plans) (steps_of rounds) w.state).visible ≡ w.state.visible ++ more
         → 1 ≤ entries_of c more }

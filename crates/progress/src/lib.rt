@@ -22,6 +22,9 @@
 //!   l REQUESTs that come late. Somebody enters within (n + 5) * (n + 2 g + l)
 //!   ([`fair_rounds_let_somebody_in`]), and nothing stands still for n + 5 rounds
 //!   ([`fair_rounds_move_somebody`]).
+//! - **Patience** ([`patient_rounds_let_everybody_in`]): if whoever gives up has waited for two whole rounds
+//!   before, a client that asks enters within (n + 8) * (3 n + l) fair rounds, however many requests are
+//!   given up.
 //! - **Fair rounds need not be neighbours** ([`rounds_may_be_longer`]): steps before a fair round and after
 //!   it may be counted to it. Any number can be made in every world ([`fair_rounds_can_be_made`]).
 //!
@@ -59,6 +62,6 @@ pub use after_losses::{
 pub use laws::{
     everybody_can_enter, fair_rounds_can_be_made, fair_rounds_let_everybody_in,
     fair_rounds_let_somebody_in, fair_rounds_move_somebody, lost_votes_come_back,
-    nobody_overtakes_often, returned_votes_go_on, rounds_may_be_longer, somebody_can_enter,
-    who_asks_alone_gets_in, worlds_keep_their_rules,
+    nobody_overtakes_often, patient_rounds_let_everybody_in, returned_votes_go_on,
+    rounds_may_be_longer, somebody_can_enter, who_asks_alone_gets_in, worlds_keep_their_rules,
 };

@@ -1,0 +1,308 @@
+-- in a long block of fair rounds a request that is not later than a given one begins or ends
+use Rattle.std.proofs.Common.{append_assoc, ◌≡◌, ◌≢◌, ℕ, ◌<◌, ◌≤◌, true, false, List, [], ◌∷◌, ◌++◌, length, refl, sym, ap, subst, ◌∙◌, inl, inr, arith}
+use Rattle.std.specs.Prelude.{slice_get}
+use Rattle.std.specs.List.{range_with_len}
+use Rattle.std.proofs.lemmas.Bool.{cases_eq, false≢true, false_from_ne_true}
+use Rattle.std.proofs.lemmas.Bool.Decides.{nat_tests}
+use Rattle.std.proofs.lemmas.List.{append-nil}
+use Rattle.std.proofs.lemmas.List.FromFn.{length-range_with_len}
+use Rattle.numbers.specs.Sets.{has}
+use Rattle.message.specs.declared.message.Message.{Message}
+use Rattle.message.specs.declared.message.Message.TheVariants as kinds
+use Rattle.message.specs.declared.message.VoterBody.TheVariants as asks
+use Rattle.message.specs.declared.request.Request.{Request}
+use Rattle.voter.specs.VoterContract.{IsEntry}
+use Rattle.voter.specs.Waiting.{precedes}
+use Rattle.requester.specs.declared.state.ClientState.{ClientState}
+use Rattle.requester.specs.Words.{holds, is_asking, is_current, is_member, members}
+use Rattle.world.specs.declared.step.Step.{Step}
+use Rattle.world.specs.Runs.{run_of}
+use Rattle.world.specs.Steps.{Dealing, WorldState, client_at, voter_at}
+use Rattle.world.proofs.Plans.{run_then}
+use Rattle.progress.specs.Rounds.{AreFairRounds, late_in, late_step, late_steps, steps_of}
+use Rattle.progress.specs.Patience.{long_block}
+use Rattle.progress.specs.Rules.{Laws}
+use Rattle.progress.specs.WayIn.{Asks, HasGrants}
+use Rattle.progress.proofs.Ahead.{NotBehind}
+use Rattle.progress.proofs.Along.{Along, along-first, along-kept, along-last, along-split, along-weaker, next}
+use Rattle.progress.proofs.Arrivals.{get_after}
+use Rattle.progress.proofs.Behind.{the_request}
+use Rattle.progress.proofs.Blocks.{grown_on, since}
+use Rattle.progress.proofs.Fitting.{current_busy, current_stamp}
+use Rattle.progress.proofs.Hindering.{all_hold}
+use Rattle.progress.proofs.Known.{entry_kept, known_after}
+use Rattle.progress.proofs.Leading.{Clear, NotAhead, OwnStage, Quietly, along-quiet, four_settle, own_stage_kept}
+use Rattle.progress.proofs.Moves.{Moved-by, MovedBy}
+use Rattle.progress.proofs.Overdue.{Only, along-all, catches_up}
+use Rattle.progress.proofs.Stages.{Never, Never-lasting}
+use Rattle.progress.proofs.Steady.{Seeks, Steady}
+use Rattle.progress.proofs.Still.{RunsOn, SameAsk}
+use Rattle.progress.proofs.Sure.{Course, IsSure}
+use Rattle.progress.proofs.Tame.{FitBody, IsAway, IsFitAt, Tame, asks_up_to, away_after, away_kept, tame_along, turns_up_to, up_to_asks, up_to_is, up_to_stamp}
+use Rattle.progress.proofs.Together.{asks_within, first_below}
+use Rattle.progress.proofs.Ways.{has_range, remove_from, shorter}
+use Rattle.progress.proofs.Winning.{ClearRounds, olds_others, wins}
+
+-- ---- the first request
+
+-- The client m asks, and precedes all others that ask; its stamp is at most s.
+record IsFirst (w : WorldState) (s m : ℕ) : Type 0 where
+  ahead : asks_up_to s w m ≡ true
+  first : (d : ℕ) → d ≢ m → is_asking (client_at w.clients d).phase ≡ true → precedes (the_request w m) (the_request w d) ≡ true
+
+precedes_most : (a b : Request) → precedes a b ≡ true → a.stamp ≤ b.stamp
+precedes_most a b is = grind (arith, nat_tests)
+
+first_of : (w : WorldState) (c : ℕ) → Asks w c → (m : ℕ) × IsFirst w (client_at w.clients c).stamp m
+first_of w c asks = elim (first_below w (length w.clients)) [
+  | inl none ↦ absurd (false≢true (sym (none c asks.client) ∙ asks.asks))
+  | inr best ↦
+      let m = best.0 in
+      let first : (d : ℕ) → d ≢ m → is_asking (client_at w.clients d).phase ≡ true → precedes (the_request w m) (the_request w d) ≡ true = λ d other too. best.2 d (asks_within w d too) other too in
+      let most : (client_at w.clients m).stamp ≤ (client_at w.clients c).stamp = elim (cases_eq c m) [
+        | inl same ↦ (let e = ap (λ i. (client_at w.clients i).stamp) same in omega arith)
+        | inr other ↦ precedes_most (the_request w m) (the_request w c) (first c other asks.asks)
+      ] in
+      (m, record { ahead = up_to_is (client_at w.clients c).stamp w m best.1 most; first = first })
+]
+
+-- ---- worlds in which it leads
+
+same_from : (w b x : ClientState) → is_asking w.phase ≡ true → SameAsk w b → SameAsk w x → SameAsk b x
+same_from w b x asks first second = record {
+  stamp = second.stamp ∙ sym first.stamp;
+  asks = second.asks ∙ sym first.asks;
+  quorum = λ _. second.quorum asks ∙ sym (first.quorum asks);
+}
+
+-- its request is known, and who does not ask under such a stamp is idle or has a higher one
+record Ready (w : WorldState) (s m : ℕ) (x : WorldState) : Type 0 where
+  known : (v : ℕ) → is_member (client_at w.clients m) v ≡ true → IsEntry (voter_at x.voters v) m (client_at w.clients m).stamp
+  away : (d : ℕ) → asks_up_to s w d ≡ false → IsAway s d x
+
+runs_by : (p : Course) (w : WorldState) (s m : ℕ) → IsFirst w s m → (x : WorldState) → Tame p w s x → RunsOn p w m x
+runs_by p w s m f x here = record { reached = here.reached; same = here.same m f.ahead; left = here.left }
+
+ready_kept : (laws : Laws) (p : Course) (w : WorldState) (s m : ℕ) → IsFirst w s m → (t : Step) (x y : WorldState) → Tame p w s x → Tame p w s y → MovedBy t x y → Ready w s m x → Ready w s m y
+ready_kept laws p w s m f t x y before after moved h = record {
+  known = λ v member. entry_kept laws p w m v (up_to_asks s w m f.ahead) t x y (runs_by p w s m f x before) (runs_by p w s m f y after) moved (h.known v member);
+  away = λ d not. away_kept laws p w s d not t x y before after moved (h.away d not);
+}
+
+-- two requests do not precede each other
+twice_first : (m d sm sb t sd : ℕ) → sb ≡ sm → t ≡ sd → precedes (record { stamp = sm; client = m }) (record { stamp = sd; client = d }) ≡ true
+    → precedes (record { stamp = t; client = d }) (record { stamp = sb; client = m }) ≡ true → ⊥
+twice_first m d sm sb t sd first second a b = grind (arith, nat_tests)
+
+not_self : (m d t s : ℕ) → d ≡ m → t ≡ s → precedes (record { stamp = t; client = d }) (record { stamp = s; client = m }) ≡ true → ⊥
+not_self m d t s client stamp is = grind (arith, nat_tests)
+
+clear_at : (p : Course) (w : WorldState) (s m : ℕ) → IsFirst w s m → (b x : WorldState) → Tame p w s b → Tame p w s x → Ready w s m x → Clear p b m x
+clear_at p w s m f b x base here ready =
+    let asking = up_to_asks s w m f.ahead in
+    let first = base.same m f.ahead in
+    let now = here.same m f.ahead in
+    let same = same_from (client_at w.clients m) (client_at b.clients m) (client_at x.clients m) asking first now in
+    record {
+      steady = record {
+        reached = here.reached;
+        left = here.left;
+        asks = λ e is. subst (λ i. is_asking (client_at b.clients i).phase ≡ true) (sym is) (first.asks ∙ asking);
+        same = λ e is. subst (λ i. SameAsk (client_at b.clients i) (client_at x.clients i)) (sym is) same;
+        known = λ e v is. subst (λ i. is_member (client_at b.clients i) v ≡ true → IsEntry (voter_at x.voters v) i (client_at b.clients i).stamp) (sym is)
+            (λ member. subst (λ n. IsEntry (voter_at x.voters v) m n) (sym first.stamp) (ready.known v (ap (λ l. has l v) (sym (first.quorum asking)) ∙ member)));
+      };
+      count = here.grows.clients ∙ sym base.grows.clients;
+      over = λ d t ahead. false_from_ne_true (is_current (client_at x.clients d) t) (λ is.
+          let busy = current_busy (client_at x.clients d) t is in
+          let stamp = current_stamp (client_at x.clients d) t is in
+          let bound = up_to_stamp s w m f.ahead in
+          let most = precedes_most (record { stamp = t; client = d }) (the_request b m) ahead in
+          let base_stamp = first.stamp in
+          elim (asks_up_to s w d) as (λ q. asks_up_to s w d ≡ q → ⊥) [
+            | false ↦ λ not. elim (ready.away d not) [
+              | inl idle ↦ false≢true (sym busy ∙ idle)
+              | inr more ↦ omega arith
+            ]
+            | true ↦ λ up. (let number = stamp ∙ (here.same d up).stamp in elim (cases_eq d m) [
+              | inl own ↦ not_self m d t (client_at b.clients m).stamp own (number ∙ ap (λ i. (client_at w.clients i).stamp) own ∙ sym base_stamp) ahead
+              | inr other ↦ twice_first m d (client_at w.clients m).stamp (client_at b.clients m).stamp t (client_at w.clients d).stamp base_stamp number (f.first d other (up_to_asks s w d up)) ahead
+            ])
+          ] refl);
+    }
+
+-- ---- no REQUEST that precedes it comes
+
+later_by : (m c n s sm : ℕ) → sm ≤ s → s < n → precedes (record { stamp = sm; client = m }) (record { stamp = n; client = c }) ≡ true
+later_by m c n s sm most more = grind (arith, nat_tests)
+
+moved_stamp : (m d sm sb t sd : ℕ) → sb ≡ sm → t ≡ sd → precedes (record { stamp = sm; client = m }) (record { stamp = sd; client = d }) ≡ true
+    → precedes (record { stamp = sb; client = m }) (record { stamp = t; client = d }) ≡ true
+moved_stamp m d sm sb t sd first second a = grind (arith, nat_tests)
+
+fit_not_ahead : (p : Course) (w : WorldState) (s m : ℕ) → IsFirst w s m → (b : WorldState) → Tame p w s b → (c n : ℕ) → FitBody w s c (asks.Request n) → NotAhead b m c n
+fit_not_ahead p w s m f b base c n fit =
+    let stamp = (base.same m f.ahead).stamp in
+    let bound = up_to_stamp s w m f.ahead in
+    elim fit [
+      | inl more ↦ inr (later_by m c n s (client_at b.clients m).stamp (omega arith) more)
+      | inr runs ↦ elim (cases_eq c m) [
+        | inl own ↦ inl (own, runs.1 ∙ ap (λ i. (client_at w.clients i).stamp) own ∙ sym stamp)
+        | inr other ↦ inr (moved_stamp m c (client_at w.clients m).stamp (client_at b.clients m).stamp n (client_at w.clients c).stamp stamp runs.1 (f.first c other (up_to_asks s w c runs.0)))
+      ]
+    ]
+
+quietly : (p : Course) (w : WorldState) (s m : ℕ) → IsFirst w s m → (b : WorldState) → Tame p w s b → (t : Step) (x y : WorldState) (sent more : List Message) (old : ℕ) → Tame p w s x → x.sent ≡ sent ++ more
+    → length w.sent ≤ old → length w.sent ≤ length sent → late_step old sent t ≡ 0 → MovedBy t x y → Quietly b m t x y
+quietly p w s m f b base t x y sent more old here grown least long none moved = elim moved [
+  | inl k ↦ inl k
+  | inr (inl k) ↦ inr (inl (
+    k.0,
+    k.1,
+    λ n body.
+        let r = k.0.message in
+        let late = since w x sent more old k.0.place r n grown least long k.0.came body (ap (late_step old sent) (sym k.1) ∙ none) in
+        let sends = here.sends in
+        let fit = get_after (IsFitAt w s) w.sent sends.more k.0.place (kinds.ToVoter r) late (ap (λ ms. slice_get ms k.0.place) (sym sends.sent) ∙ k.0.came) sends.fit in
+        fit_not_ahead p w s m f b base r.client n (subst (λ q. FitBody w s r.client q) body fit),
+  ))
+  | inr (inr k) ↦ inr (inr k)
+]
+
+-- tame, and ready
+abbrev Both : Course → WorldState → ℕ → ℕ → WorldState → Type 0
+Both p w s m x = Tame p w s x × Ready w s m x
+
+quiet_steps : (p : Course) (w : WorldState) (s m : ℕ) → IsFirst w s m → (b : WorldState) → Tame p w s b → (sent : List Message) (old : ℕ) → length w.sent ≤ old → length w.sent ≤ length sent
+    → (steps : List Step) (x : WorldState) (more : List Message) → x.sent ≡ sent ++ more → Along (Both p w s m) MovedBy p.deal steps x → late_steps old sent steps ≡ 0
+    → Along (Clear p b m) (Quietly b m) p.deal steps x
+quiet_steps p w s m f b base sent old least long [] x more grown h late = clear_at p w s m f b x base h.0 h.1
+quiet_steps p w s m f b base sent old least long (t ∷ steps) x more grown h late =
+    let y = next p.deal x t in
+    let here : late_step old sent t ≡ 0 = omega arith in
+    let rest : late_steps old sent steps ≡ 0 = omega arith in
+    let out = grown_on x y (Moved-by t x y h.1) in (
+      clear_at p w s m f b x base h.0.0 h.0.1,
+      quietly p w s m f b base t x y sent more old h.0.0 grown least long here h.1,
+      quiet_steps p w s m f b base sent old least long steps y (more ++ out.0) (out.1 ∙ ap (λ ms. ms ++ out.0) grown ∙ append_assoc sent more out.0) h.2 rest,
+    )
+
+clear_rounds : (p : Course) (w : WorldState) (s m : ℕ) → IsFirst w s m → (b : WorldState) → Tame p w s b → (rounds : List (List Step)) (x : WorldState) (old : ℕ) → length w.sent ≤ old
+    → Along (Both p w s m) MovedBy p.deal (steps_of rounds) x → late_in p.deal old x rounds ≡ 0 → ClearRounds p b m rounds x
+clear_rounds p w s m f b base [] x old least h late = clear_at p w s m f b x base h.0 h.1
+clear_rounds p w s m f b base (r ∷ rs) x old least h late =
+    let deal = p.deal in
+    let z = run_of deal r x in
+    let parts = along-split (Both p w s m) MovedBy deal r (steps_of rs) x h in
+    let here : late_steps old x.sent r ≡ 0 = omega arith in
+    let rest : late_in deal (length x.sent) z rs ≡ 0 = omega arith in
+    let now = along-first (Both p w s m) MovedBy deal r x parts.0 in (
+      quiet_steps p w s m f b base x.sent old least now.0.grows.sent r x [] (sym (append-nil x.sent)) parts.0 here,
+      clear_rounds p w s m f b base rs z (length x.sent) now.0.grows.sent parts.1 rest,
+    )
+
+-- ---- a whole block
+
+along-join : (P : WorldState → Type 0) (R : Step → WorldState → WorldState → Type 0) (deal : Dealing) (a b : List Step) (x : WorldState) → Along P R deal a x → Along P R deal b (run_of deal a x) → Along P R deal (a ++ b) x
+along-join P R deal [] b x h k = k
+along-join P R deal (s ∷ a) b x h k = (h.0, h.1, along-join P R deal a b (next deal x s) h.2 k)
+
+-- the votes of all members at the end
+has_all : (laws : Laws) (p : Course) → ((u : ℕ) → p.old u ≡ 0) → (b : WorldState) (m v : ℕ) → Seeks b (Only m) m v → (r1 r2 r3 r4 r5 r6 r7 : List Step) (rest : List (List Step))
+    → ClearRounds p b m (r1 ∷ r2 ∷ r3 ∷ r4 ∷ r5 ∷ r6 ∷ r7 ∷ rest) b → AreFairRounds p.deal b (r1 ∷ r2 ∷ r3 ∷ r4 ∷ r5 ∷ r6 ∷ r7 ∷ rest)
+    → length b.clients ≤ length rest → m < length b.clients
+    → holds (client_at (run_of p.deal (steps_of (r1 ∷ r2 ∷ r3 ∷ r4 ∷ r5 ∷ r6 ∷ r7 ∷ rest)) b).clients m) v ≡ true
+has_all laws p none b m v f r1 r2 r3 r4 r5 r6 r7 rest all fair long within =
+    let deal = p.deal in
+    let P = Clear p b m in
+    let R = Quietly b m in
+    let D = Only m in
+    let x1 = run_of deal r1 b in
+    let x2 = run_of deal r2 x1 in
+    let x3 = run_of deal r3 x2 in
+    let x4 = run_of deal r4 x3 in
+    let x5 = run_of deal r5 x4 in
+    let x6 = run_of deal r6 x5 in
+    let x7 = run_of deal r7 x6 in
+    let five = r1 ++ (r2 ++ (r3 ++ (r4 ++ r5))) in
+    let seven = five ++ (r6 ++ r7) in
+    let four = r1 ++ (r2 ++ (r3 ++ r4)) in
+    let to_five : run_of deal five b ≡ x5 = run_then deal r1 (r2 ++ (r3 ++ (r4 ++ r5))) b ∙ run_then deal r2 (r3 ++ (r4 ++ r5)) x1 ∙ run_then deal r3 (r4 ++ r5) x2 ∙ run_then deal r4 r5 x3 in
+    let to_seven : run_of deal seven b ≡ x7 = run_then deal five (r6 ++ r7) b ∙ ap (run_of deal (r6 ++ r7)) to_five ∙ run_then deal r6 r7 x5 in
+    let to_four : run_of deal four b ≡ x4 = run_then deal r1 (r2 ++ (r3 ++ r4)) b ∙ run_then deal r2 (r3 ++ r4) x1 ∙ run_then deal r3 r4 x2 in
+    let A5 : Along P R deal five b = along-join P R deal r1 (r2 ++ (r3 ++ (r4 ++ r5))) b all.0 (along-join P R deal r2 (r3 ++ (r4 ++ r5)) x1 all.1.0 (along-join P R deal r3 (r4 ++ r5) x2 all.1.1.0
+    (along-join P R deal r4 r5 x3 all.1.1.1.0 all.1.1.1.1.0))) in
+    let A67 : Along P R deal (r6 ++ r7) x5 = along-join P R deal r6 r7 x5 all.1.1.1.1.1.0 all.1.1.1.1.1.1.0 in
+    let A7 : Along P R deal seven b = along-join P R deal five (r6 ++ r7) b A5 (subst (Along P R deal (r6 ++ r7)) (sym to_five) A67) in
+    let A4 : Along P R deal four b = along-join P R deal r1 (r2 ++ (r3 ++ r4)) b all.0 (along-join P R deal r2 (r3 ++ r4) x1 all.1.0 (along-join P R deal r3 r4 x2 all.1.1.0 all.1.1.1.0)) in
+    let steadily : Along (Steady p b D) MovedBy deal seven b = along-weaker P (Steady p b D) MovedBy deal (λ y h. h.steady) seven b (along-quiet P deal b m seven b A7) in
+    let fair_five : AreFairRounds deal b (r1 ∷ r2 ∷ r3 ∷ r4 ∷ r5 ∷ []) = (fair.0, (fair.1.0, (fair.1.1.0, (fair.1.1.1.0, (fair.1.1.1.1.0, tt))))) in
+    let fair_two : AreFairRounds deal x5 (r6 ∷ r7 ∷ []) = (fair.1.1.1.1.1.0, (fair.1.1.1.1.1.1.0, tt)) in
+    let ahead7 : NotBehind b m v x7 = subst (NotBehind b m v) to_seven
+    (catches_up laws p b m v f r1 r2 r3 r4 r5 r6 r7 steadily fair_five (subst (λ (u : WorldState). AreFairRounds deal u (r6 ∷ r7 ∷ [])) (sym to_five) fair_two)) in
+    let quiet_four : Along (Steady p b D) R deal four b = along-weaker P (Steady p b D) R deal (λ y h. h.steady) four b A4 in
+    let stage4 : OwnStage Never m v x4 = subst (OwnStage Never m v) to_four (four_settle laws p none b m v f r1 r2 r3 r4 b quiet_four (fair.0, (fair.1.0, (fair.1.1.0, (fair.1.1.1.0, tt))))) in
+    let keep : (s : Step) (x y : WorldState) → P x → P y → R s x y → OwnStage Never m v x → OwnStage Never m v y = λ s x y before after moved. own_stage_kept laws p none b m v f Never (Never-lasting v) s x y before.steady after.steady moved in
+    let stage5 : OwnStage Never m v x5 = along-kept P R deal (OwnStage Never m v) keep r5 x4 all.1.1.1.1.0 stage4 in
+    let stage : OwnStage Never m v x7 = subst (OwnStage Never m v) (run_then deal r6 r7 x5) (along-kept P R deal (OwnStage Never m v) keep (r6 ++ r7) x5 A67 stage5) in
+    let clear7 : Clear p b m x7 = subst (Clear p b m) (run_then deal r6 r7 x5) (along-last P R deal (r6 ++ r7) x5 A67) in
+    let there = has_range 0 (length b.clients) m (omega arith) (omega arith) in
+    let short = shorter m (range_with_len 0 (length b.clients)) there in
+    let count = length-range_with_len 0 (length b.clients) in
+    let goes : run_of deal (steps_of (r1 ∷ r2 ∷ r3 ∷ r4 ∷ r5 ∷ r6 ∷ r7 ∷ rest)) b ≡ run_of deal (steps_of rest) x7 =
+    run_then deal r1 (steps_of (r2 ∷ r3 ∷ r4 ∷ r5 ∷ r6 ∷ r7 ∷ rest)) b ∙ run_then deal r2 (steps_of (r3 ∷ r4 ∷ r5 ∷ r6 ∷ r7 ∷ rest)) x1 ∙ run_then deal r3 (steps_of (r4 ∷ r5 ∷ r6 ∷ r7 ∷ rest)) x2
+    ∙ run_then deal r4 (steps_of (r5 ∷ r6 ∷ r7 ∷ rest)) x3 ∙ run_then deal r5 (steps_of (r6 ∷ r7 ∷ rest)) x4 ∙ run_then deal r6 (steps_of (r7 ∷ rest)) x5 ∙ run_then deal r7 (steps_of rest) x6 in
+    ap (λ (u : WorldState). holds (client_at u.clients m) v) goes
+    ∙ wins laws p none b m v f rest x7 (remove_from m (range_with_len 0 (length b.clients))) all.1.1.1.1.1.1.1 fair.1.1.1.1.1.1.1 (omega arith) stage ahead7 (olds_others laws p b x7 m v f clear7)
+
+block_ends : (laws : Laws) (p : Course) → ((u : ℕ) → p.old u ≡ 0) → (w : WorldState) (c : ℕ) (r0 r1 r2 r3 r4 r5 r6 r7 : List Step) (rest : List (List Step)) → IsSure p w → Asks w c
+    → AreFairRounds p.deal w (r0 ∷ r1 ∷ r2 ∷ r3 ∷ r4 ∷ r5 ∷ r6 ∷ r7 ∷ rest) → late_in p.deal 0 w (r0 ∷ r1 ∷ r2 ∷ r3 ∷ r4 ∷ r5 ∷ r6 ∷ r7 ∷ rest) ≡ 0
+    → HasGrants 1 (run_of p.deal (steps_of (r0 ∷ r1 ∷ r2 ∷ r3 ∷ r4 ∷ r5 ∷ r6 ∷ r7 ∷ rest)) w) → length w.clients ≤ length rest
+    → ((d : ℕ) → turns_up_to p.deal (client_at w.clients c).stamp d (steps_of (r0 ∷ r1 ∷ r2 ∷ r3 ∷ r4 ∷ r5 ∷ r6 ∷ r7 ∷ rest)) w ≡ 0) → ⊥
+block_ends laws p none w c r0 r1 r2 r3 r4 r5 r6 r7 rest r asks fair late left long still =
+    let deal = p.deal in
+    let s = (client_at w.clients c).stamp in
+    let more = r1 ∷ r2 ∷ r3 ∷ r4 ∷ r5 ∷ r6 ∷ r7 ∷ rest in
+    let b = run_of deal r0 w in
+    let z = run_of deal (steps_of (r0 ∷ more)) w in
+    let P = Tame p w s in
+    let all = tame_along laws p w s (steps_of (r0 ∷ more)) r left still in
+    let parts = along-split P MovedBy deal r0 (steps_of more) w all in
+    let best = first_of w c asks in
+    let m = best.0 in
+    let f = best.1 in
+    let asking = up_to_asks s w m f.ahead in
+    let within = asks_within w m asking in
+    let runs = along-weaker P (RunsOn p w m) MovedBy deal (runs_by p w s m f) r0 w parts.0 in
+    let ready : Ready w s m b = record {
+      known = λ v member. known_after laws p w r0 m v runs (fair.0.clients m within) asking member;
+      away = λ d not. away_after laws p w s d not r0 parts.0 (fair.0.leaves d);
+    } in
+    let base = along-last P MovedBy deal r0 w parts.0 in
+    let both = along-all P MovedBy deal (Ready w s m) (ready_kept laws p w s m f) (steps_of more) b parts.1 ready in
+    let late_more : late_in deal (length w.sent) b more ≡ 0 = omega arith in
+    let rounds = clear_rounds p w s m f b base more b (length w.sent) (omega arith) both late_more in
+    let first = base.same m f.ahead in
+    let end = along-last P MovedBy deal (steps_of (r0 ∷ more)) w all in
+    let last = end.same m f.ahead in
+    let lacks = (end.reached []).fits.lacks m (last.asks ∙ asking) in
+    let count = base.grows.clients in
+    false≢true (sym lacks ∙ all_hold (holds (client_at z.clients m)) (members (client_at z.clients m)) (λ v there.
+    let member : is_member (client_at b.clients m) v ≡ true = ap (λ l. has l v) (first.quorum asking) ∙ ap (λ l. has l v) (sym (last.quorum asking)) ∙ there in
+    ap (λ (u : WorldState). holds (client_at u.clients m) v) (run_then deal r0 (steps_of more) w)
+    ∙ has_all laws p none b m v (record { asks = refl; member = member }) r1 r2 r3 r4 r5 r6 r7 rest rounds fair.1 (omega arith) (omega arith)))
+
+-- in a long block some request that is not later than that of the client c begins or ends
+pub long_block_moves : (laws : Laws) (p : Course) → ((u : ℕ) → p.old u ≡ 0) → (w : WorldState) (c : ℕ) (rounds : List (List Step)) → IsSure p w → Asks w c → AreFairRounds p.deal w rounds
+    → late_in p.deal 0 w rounds ≡ 0 → HasGrants 1 (run_of p.deal (steps_of rounds) w) → long_block (length w.clients) ≤ length rounds
+    → ((d : ℕ) → turns_up_to p.deal (client_at w.clients c).stamp d (steps_of rounds) w ≡ 0) → ⊥
+long_block_moves laws p none w c (r0 ∷ r1 ∷ r2 ∷ r3 ∷ r4 ∷ r5 ∷ r6 ∷ r7 ∷ rest) r asks fair late left long still =
+    block_ends laws p none w c r0 r1 r2 r3 r4 r5 r6 r7 rest r asks fair late left (omega arith) still
+long_block_moves laws p none w c [] r asks fair late left long still = omega arith
+long_block_moves laws p none w c (r0 ∷ []) r asks fair late left long still = omega arith
+long_block_moves laws p none w c (r0 ∷ r1 ∷ []) r asks fair late left long still = omega arith
+long_block_moves laws p none w c (r0 ∷ r1 ∷ r2 ∷ []) r asks fair late left long still = omega arith
+long_block_moves laws p none w c (r0 ∷ r1 ∷ r2 ∷ r3 ∷ []) r asks fair late left long still = omega arith
+long_block_moves laws p none w c (r0 ∷ r1 ∷ r2 ∷ r3 ∷ r4 ∷ []) r asks fair late left long still = omega arith
+long_block_moves laws p none w c (r0 ∷ r1 ∷ r2 ∷ r3 ∷ r4 ∷ r5 ∷ []) r asks fair late left long still = omega arith
+long_block_moves laws p none w c (r0 ∷ r1 ∷ r2 ∷ r3 ∷ r4 ∷ r5 ∷ r6 ∷ []) r asks fair late left long still = omega arith
