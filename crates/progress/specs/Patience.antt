@@ -17,23 +17,24 @@ HasWaited u x (RemindClient c) = Unit {0}
 HasWaited u x (RemindVoter v) = Unit {0}
 HasWaited u x Exchange = Unit {0}
 
--- whoever gives up in these steps made the request before the world u
+-- whoever gives up in these steps made the request before the world u; withdrawals that are refused don't count
 abbrev pub HaveWaited : Dealing → WorldState → WorldState → List Step → Type 0
 HaveWaited deal u x [] = Unit {0}
 HaveWaited deal u x (s ∷ steps) = HasWaited u x s × HaveWaited deal u (after x (step deal x s)) steps
 
--- The same in each of these rounds, where u is the world in which the round before the last one began:
--- so the request ran for two whole rounds. The first rounds begin in u, v and w.
+-- The same in each of these rounds. The first of them begins in w, and the two rounds before it began in v
+-- and in u: whoever gives up in it made the request before u. So the request ran for two whole rounds.
 abbrev pub WaitFrom : Dealing → WorldState → WorldState → WorldState → List (List Step) → Type 0
 WaitFrom deal u v w [] = Unit {0}
 WaitFrom deal u v w (r ∷ rs) = HaveWaited deal u w r × WaitFrom deal v w (run_of deal r w) rs
 
--- Clients are patient in these rounds: whoever gives up a request that it made in one of them has waited
--- for two whole rounds before. Requests that were made before may be given up at any time.
+-- Clients are patient in these rounds: a request that is made in one of them runs for two whole rounds before
+-- it is given up. Made in round i, it may be given up from round i + 3 on. Requests that were made before may
+-- be given up at any time.
 abbrev pub ArePatient : Dealing → WorldState → List (List Step) → Type 0
 ArePatient deal w rounds = WaitFrom deal w w w rounds
 
--- the rounds of one block, for n clients: in as many a request that is not later than a given one begins
--- or ends
+-- The rounds of one block, for n clients. In as many, without a late REQUEST, some request begins or ends that
+-- is not later than a given one which runs.
 abbrev pub long_block : ℕ → ℕ
 long_block n = n + 8

@@ -205,10 +205,11 @@ pub fn fair_rounds_let_everybody_in()
 }
 
 /// Whoever asks gets in, at no price for withdrawals, if clients are patient: a client that asks, and does
-/// not give up, enters within (n + 8) * (3 n + l) fair rounds, for n clients and l REQUESTs that come late.
+/// not give up, enters within (n + 8) * (3 n + l) fair rounds, for n clients and l arrivals of late REQUESTs.
 ///
-/// Clients are patient if whoever gives up a request that it made in one of these rounds has waited for two
-/// whole rounds before. It does not matter how many withdrawals there are. All else is up to an adversary, as
+/// Clients are patient if a request that is made in these rounds runs for two whole rounds before it is given
+/// up: made in round i, it may be given up from round i + 3 on. It does not matter how many withdrawals there
+/// are. Without withdrawals all clients are patient. All else is up to an adversary, as
 /// in [`fair_rounds_let_everybody_in`]. Each voter has to have a grant left at the end.
 pub fn patient_rounds_let_everybody_in()
     ensures { (w : Planned) (c : ℕ) (rounds : List (List Step)) (more : List Event) → IsReached w → Asks w.state c

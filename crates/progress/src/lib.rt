@@ -19,12 +19,12 @@
 //!   after them, and by clients that leave.
 //! - **Whoever asks gets in** ([`fair_rounds_let_everybody_in`]): a client that asks, and does not give
 //!   up, enters within (n + 5) * (5 n + 2 g + l) fair rounds, for n clients, g withdrawals of others and
-//!   l REQUESTs that come late. Somebody enters within (n + 5) * (n + 2 g + l)
+//!   l arrivals of late REQUESTs. Somebody enters within (n + 5) * (n + 2 g + l)
 //!   ([`fair_rounds_let_somebody_in`]), and nothing stands still for n + 5 rounds
 //!   ([`fair_rounds_move_somebody`]).
-//! - **Patience** ([`patient_rounds_let_everybody_in`]): if whoever gives up has waited for two whole rounds
-//!   before, a client that asks enters within (n + 8) * (3 n + l) fair rounds, however many requests are
-//!   given up.
+//! - **Patience** ([`patient_rounds_let_everybody_in`]): a client that asks, and does not give up, enters
+//!   within (n + 8) * (3 n + l) fair rounds, however many others give up, if each request that is made in
+//!   these rounds runs for two whole rounds before it is given up.
 //! - **Fair rounds need not be neighbours** ([`rounds_may_be_longer`]): steps before a fair round and after
 //!   it may be counted to it. Any number can be made in every world ([`fair_rounds_can_be_made`]).
 //!
