@@ -22,16 +22,16 @@ abbrev pub HaveWaited : Dealing → WorldState → WorldState → List Step → 
 HaveWaited deal u x [] = Unit {0}
 HaveWaited deal u x (s ∷ steps) = HasWaited u x s × HaveWaited deal u (after x (step deal x s)) steps
 
--- The same in each of these rounds, where u is the world in which the round before the last one began:
--- so the request ran for two whole rounds. The first rounds begin in u, v and w.
-abbrev pub WaitFrom : Dealing → WorldState → WorldState → WorldState → List (List Step) → Type 0
-WaitFrom deal u v w [] = Unit {0}
-WaitFrom deal u v w (r ∷ rs) = HaveWaited deal u w r × WaitFrom deal v w (run_of deal r w) rs
+-- Whoever gives up in one of these rounds made the request before the two rounds that precede it. These
+-- rounds begin in the world w, the round before them began in v, and the one before that in u.
+abbrev pub ArePatientFrom : Dealing → WorldState → WorldState → WorldState → List (List Step) → Type 0
+ArePatientFrom deal u v w [] = Unit {0}
+ArePatientFrom deal u v w (r ∷ rs) = HaveWaited deal u w r × ArePatientFrom deal v w (run_of deal r w) rs
 
 -- Clients are patient in these rounds: whoever gives up a request that it made in one of them has waited
--- for two whole rounds before. Requests that were made before may be given up at any time.
+-- for two whole rounds. Requests that were made before may be given up at any time.
 abbrev pub ArePatient : Dealing → WorldState → List (List Step) → Type 0
-ArePatient deal w rounds = WaitFrom deal w w w rounds
+ArePatient deal w rounds = ArePatientFrom deal w w w rounds
 
 -- the rounds of one block, for n clients: in as many a request that is not later than a given one begins
 -- or ends
