@@ -152,3 +152,40 @@ reminded_at P R deal steps x s h a =
       heard = λ k least less. heard_at P R deal a.rest (next deal spot.before s) (run_of deal steps x) k spot.ends spot.follow
           (subst (λ (u : WorldState). IsAnswered deal u a.rest k) goes (a.arrive k least (subst (λ (u : WorldState). k < length u.sent) (sym goes) less)));
     }
+
+-- ---- weaker properties
+
+pub along-into : (P Q : WorldState → Type 0) (R S : Step → WorldState → WorldState → Type 0) (deal : Dealing) → ((x : WorldState) → P x → Q x) → ((s : Step) (x y : WorldState) → R s x y → S s x y)
+    → (steps : List Step) (x : WorldState) → Along P R deal steps x → Along Q S deal steps x
+along-into P Q R S deal f g [] x h = f x h
+along-into P Q R S deal f g (s ∷ steps) x h = (f x h.0, g s x (next deal x s) h.1, along-into P Q R S deal f g steps (next deal x s) h.2)
+
+spot-into : (P Q : WorldState → Type 0) (R S : Step → WorldState → WorldState → Type 0) (deal : Dealing) → ((x : WorldState) → P x → Q x) → ((s : Step) (x y : WorldState) → R s x y → S s x y)
+    → (x z : WorldState) (s : Step) → Spot P R deal x z s → Spot Q S deal x z s
+spot-into P Q R S deal f g x z s spot = record {
+  before = spot.before;
+  first = spot.first;
+  rest = spot.rest;
+  reaches = spot.reaches;
+  lead = along-into P Q R S deal f g spot.first x spot.lead;
+  here = f spot.before spot.here;
+  moved = g s spot.before (next deal spot.before s) spot.moved;
+  follow = along-into P Q R S deal f g spot.rest (next deal spot.before s) spot.follow;
+  ends = spot.ends;
+}
+
+heard-into : (P Q : WorldState → Type 0) (R S : Step → WorldState → WorldState → Type 0) (deal : Dealing) → ((x : WorldState) → P x → Q x) → ((s : Step) (x y : WorldState) → R s x y → S s x y)
+    → (x z : WorldState) (k : ℕ) → Heard P R deal x z k → Heard Q S deal x z k
+unfolding spot-into
+heard-into P Q R S deal f g x z k h = record {
+  spot = spot-into P Q R S deal f g x z (Deliver k) h.spot;
+  replies = λ j least less. spot-into P Q R S deal f g (next deal h.spot.before (Deliver k)) z (Deliver j) (h.replies j least less);
+}
+
+pub reminded-into : (P Q : WorldState → Type 0) (R S : Step → WorldState → WorldState → Type 0) (deal : Dealing) → ((x : WorldState) → P x → Q x) → ((s : Step) (x y : WorldState) → R s x y → S s x y)
+    → (x z : WorldState) (s : Step) → Reminded P R deal x z s → Reminded Q S deal x z s
+unfolding spot-into
+reminded-into P Q R S deal f g x z s h = record {
+  spot = spot-into P Q R S deal f g x z s h.spot;
+  heard = λ k least less. heard-into P Q R S deal f g (next deal h.spot.before s) z k (h.heard k least less);
+}

@@ -28,17 +28,18 @@ use Rattle.world.proofs.Plans.{run_then}
 use Rattle.progress.specs.Rounds.{AreFairRounds, IsReminded, IsStill, block, late_body, late_in, late_message, late_step, late_steps, steps_of}
 use Rattle.progress.specs.Rules.{Laws}
 use Rattle.progress.specs.WayIn.{Asks, HasGrants}
+use Rattle.progress.proofs.Steady.{GivenBack, GivenBack-lasting, HasMarked, HasVote, Marked, Marked-lasting, Never, Never-lasting, Told, Told-lasting}
 use Rattle.progress.proofs.Along.{Along, along-first, along-kept, along-last, along-or, along-split, along-weaker, next, reminded_at}
 use Rattle.progress.proofs.Arrivals.{get_after}
-use Rattle.progress.proofs.Falls.{HasVote, With, asked, told}
+use Rattle.progress.proofs.Falls.{With, asked, told}
 use Rattle.progress.proofs.Hindering.{all_hold, held_grant}
 use Rattle.progress.proofs.Inquiries.{orderly}
 use Rattle.progress.proofs.Known.{entry_kept, idle_after, idle_kept, known_after, within_by}
 use Rattle.progress.proofs.Leftover.{AreOver, IsFirsts, Won, firsts_on, nearer, won_on}
-use Rattle.progress.proofs.Marked.{HasMarked, not_given_back, not_marked}
+use Rattle.progress.proofs.Falls.{not_given_back, not_marked}
 use Rattle.progress.proofs.Moves.{Moved, Moved-by, MovedBy}
 use Rattle.progress.proofs.Olds.{AreOld, KeepsOlds, keeps_none}
-use Rattle.progress.proofs.Stages.{Calm, Calmly, First, GivenBack, GivenBack-lasting, Marked, Marked-lasting, Never, Never-lasting, Stage, Told, Told-lasting, asks_now, calm_ok, fate_goes, held_exists, holds_on}
+use Rattle.progress.proofs.Stages.{Calm, Calmly, First, Stage, asks_now, calm_ok, fate_goes, held_exists, holds_on}
 use Rattle.progress.proofs.Stages.{stage_by, stage_from, stage_kept, stage_over, voter_below, voter_within}
 use Rattle.progress.proofs.Still.{Early, IsLiveAt, LiveBody, early_along, is_live, live_asks, live_is, RunsOn, runs_on}
 use Rattle.progress.proofs.Sure.{Course, IsSure, IsSure-reached, course_of}
@@ -81,9 +82,10 @@ calm_on laws p w s x y after calm moved = record {
 calmly : (p : Course) (w : WorldState) (s : Step) (x y : WorldState) (sent more : List Message) (old : ℕ) → Calm p w x → x.sent ≡ sent ++ more → length w.sent ≤ old → length w.sent ≤ length sent
     → late_step old sent s ≡ 0 → MovedBy s x y → Calmly w s x y
 calmly p w s x y sent more old calm grown least long none moved = elim moved [
-  | inl k ↦ inl k.0
+  | inl k ↦ inl k
   | inr (inl k) ↦ inr (inl (
     k.0,
+    k.1,
     λ t body.
         let m = k.0.message in
         let late = since w x sent more old k.0.place m t grown least long k.0.came body (ap (late_step old sent) (sym k.1) ∙ none) in

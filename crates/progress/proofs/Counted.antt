@@ -12,7 +12,7 @@ use Rattle.world.specs.declared.step.Step.{Step}
 use Rattle.world.specs.declared.step.Step.TheVariants.{GiveUp, RemindClient}
 use Rattle.world.specs.Runs.{run_of}
 use Rattle.world.specs.Steps.{Dealing, WorldState, client_at, voter_at}
-use Rattle.progress.specs.Patience.{HasWaited, HaveWaited, WaitFrom}
+use Rattle.progress.specs.Patience.{ArePatientFrom, HasWaited, HaveWaited}
 use Rattle.progress.specs.Rounds.{AreFairRounds, IsFairRound, steps_of}
 use Rattle.progress.specs.Rules.{Laws}
 use Rattle.progress.proofs.Along.{Along, along-first, along-last, along-split, next, reminded_at}
@@ -264,7 +264,7 @@ known_next laws p w c d x round all fair newer asks same q member =
     (known_after laws p x round d q runs (fair.clients d (within_by x d (is_asking-busy (client_at x.clients d).phase asks_x))) asks_x before)
 
 all_rounds : (laws : Laws) (p : Course) (w : WorldState) (c d : ℕ) → d ≢ c → (rounds : List (List Step)) (u v x : WorldState) → stamp_of u d ≤ stamp_of v d → stamp_of v d ≤ stamp_of x d
-    → HeardBy w c d u x → KnownBy w d v x → Along (Trails p w c) MovedBy p.deal (steps_of rounds) x → AreFairRounds p.deal x rounds → WaitFrom p.deal u v x rounds → (k : ℕ) → Room w c d k x
+    → HeardBy w c d u x → KnownBy w d v x → Along (Trails p w c) MovedBy p.deal (steps_of rounds) x → AreFairRounds p.deal x rounds → ArePatientFrom p.deal u v x rounds → (k : ℕ) → Room w c d k x
     → turns_up_to p.deal (stamp_of w c) d (steps_of rounds) x ≤ k
 all_rounds laws p w c d other [] u v x first second heard known all fair wait k room = omega arith
 all_rounds laws p w c d other (r ∷ rs) u v x first second heard known all fair wait k room =
@@ -281,6 +281,6 @@ all_rounds laws p w c d other (r ∷ rs) u v x first second heard known all fair
 
 -- A patient client turns at most three times ahead of a request that is known everywhere.
 pub three_turns : (laws : Laws) (p : Course) (w : WorldState) (c d : ℕ) → d ≢ c → (rounds : List (List Step)) (u v : WorldState) → stamp_of u d ≤ stamp_of v d → stamp_of v d ≤ stamp_of w d
-    → Along (Trails p w c) MovedBy p.deal (steps_of rounds) w → AreFairRounds p.deal w rounds → WaitFrom p.deal u v w rounds → turns_up_to p.deal (stamp_of w c) d (steps_of rounds) w ≤ 3
+    → Along (Trails p w c) MovedBy p.deal (steps_of rounds) w → AreFairRounds p.deal w rounds → ArePatientFrom p.deal u v w rounds → turns_up_to p.deal (stamp_of w c) d (steps_of rounds) w ≤ 3
 three_turns laws p w c d other rounds u v first second all fair wait =
     all_rounds laws p w c d other rounds u v w first second (λ newer. absurd (omega arith)) (λ newer. absurd (omega arith)) all fair wait 3 (inl (refl, refl))

@@ -23,14 +23,14 @@ use Rattle.world.specs.declared.step.Step.TheVariants.{Deliver, RemindVoter}
 use Rattle.world.specs.Coherence.{AskOk}
 use Rattle.world.specs.Steps.{WorldState, client_at, voter_at}
 use Rattle.progress.specs.Rules.{Laws}
+use Rattle.progress.proofs.Steady.{HasVote, Never, Never-lasting, locked_to}
 use Rattle.progress.proofs.Along.{Reminded, next, spot_after, spot_before, spot_end, spot_through}
 use Rattle.progress.proofs.Always.{asked_by}
 use Rattle.progress.proofs.Arrivals.{answered, client_takes, message_stays, reminds_first, voter_takes}
-use Rattle.progress.proofs.Falls.{HasVote, locked_to}
 use Rattle.progress.proofs.Hindering.{held_grant}
 use Rattle.progress.proofs.Inquiries.{ends_up_to}
 use Rattle.progress.proofs.Known.{voter_after}
-use Rattle.progress.proofs.Stages.{Calm, Calmly, First, IsSettled, Never, Never-lasting, Stage, asks_now, calm_ok, calmly_moved, fate_goes, held_exists, settled_kept, stage_kept, voter_below, voter_within}
+use Rattle.progress.proofs.Stages.{Calm, Calmly, First, IsSettled, Stage, asks_now, calm_ok, calmly_moved, fate_goes, held_exists, settled_kept, stage_kept, voter_below, voter_within}
 use Rattle.progress.proofs.Still.{is_live, live_asks, live_stamp}
 use Rattle.progress.proofs.Sure.{Course}
 use Rattle.progress.proofs.Ways.{not_current, own_stamp, remove_from, still_there}
@@ -65,11 +65,11 @@ brings_live w c d s (asks.Release t) live brings = absurd brings
 
 known_before : (laws : Laws) (p : Course) (w : WorldState) (v : ℕ) (s : Step) (x y : WorldState) → Calmly w s x y → WereKnown w v x y
 known_before laws p w v s x y moved = elim moved [
-  | inl k ↦ λ d t entry over. subst (λ (vs : List VoterState). IsEntry (voter_at vs v) d t) k.voters entry
+  | inl k ↦ λ d t entry over. subst (λ (vs : List VoterState). IsEntry (voter_at vs v) d t) k.0.voters entry
   | inr (inl k) ↦ voter_after (λ q z. (d t : ℕ) → IsEntry z d t → is_live w d t ≡ false → IsEntry (voter_at x.voters q) d t) x y k.0 v
       (λ _ d t entry over. elim ((laws.voter.meets (voter_at x.voters k.0.message.voter) k.0.message k.0.outcome k.0.step).entries d t entry) [
         | inl before ↦ before
-        | inr brings ↦ absurd (false≢true (sym over ∙ brings_live w k.0.message.client d t k.0.message.body k.1 brings))
+        | inr brings ↦ absurd (false≢true (sym over ∙ brings_live w k.0.message.client d t k.0.message.body k.2 brings))
       ])
       (λ d t entry over. entry)
   | inr (inr k) ↦ λ d t entry over. subst (λ (vs : List VoterState). IsEntry (voter_at vs v) d t) k.voters entry
@@ -104,7 +104,7 @@ ends_not w x y v g c (asks.Release t) has z is busy stamp fresh live mine asked 
 
 firsts_held : (laws : Laws) (p : Course) (w : WorldState) (m v : ℕ) → First w m v → (g : Grant) → (s : Step) (x y : WorldState) → Calm p w x → Calm p w y → Calmly w s x y → IsFirsts w m v g x → HasVote v g y
 firsts_held laws p w m v f g s x y before after moved h = elim moved [
-  | inl k ↦ ap (λ (vs : List VoterState). (voter_at vs v).held) k.voters ∙ h.held
+  | inl k ↦ ap (λ (vs : List VoterState). (voter_at vs v).held) k.0.voters ∙ h.held
   | inr (inl k) ↦ elim (cases_eq v k.0.message.voter) [
     | inr other ↦ ap (λ (z : VoterState). z.held) (k.0.others v other) ∙ h.held
     | inl same ↦
@@ -118,7 +118,7 @@ firsts_held laws p w m v f g s x y before after moved h = elim moved [
         let fresh : last_of z q < g.grant = subst (λ i. last_of z i < g.grant) same (subst (λ c. last_of (client_at x.clients c) v < g.grant) (sym h.settled.own) h.settled.fresh) in
         ap (λ (vs : VoterState). vs.held) (ap (voter_at y.voters) same ∙ k.0.here) ∙ elim ((laws.voter.meets (voter_at x.voters q) k.0.message k.0.outcome k.0.step).kept g held) [
           | inl stays ↦ stays
-          | inr ends ↦ absurd (ends_not w x (voter_at x.voters q) q g k.0.message.client k.0.message.body held z refl (is_asking-busy z.phase (asks_now p w x d before asking)) stamp fresh k.1 h.live (asked_by x y ok k.0 d) ends)
+          | inr ends ↦ absurd (ends_not w x (voter_at x.voters q) q g k.0.message.client k.0.message.body held z refl (is_asking-busy z.phase (asks_now p w x d before asking)) stamp fresh k.2 h.live (asked_by x y ok k.0 d) ends)
         ]
   ]
   | inr (inr k) ↦ ap (λ (vs : List VoterState). (voter_at vs v).held) k.voters ∙ h.held

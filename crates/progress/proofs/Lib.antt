@@ -26,7 +26,6 @@ pub mod Longer
 pub mod Losses
 pub mod Makers
 pub mod Making
-pub mod Marked
 pub mod Moves
 pub mod Olds
 pub mod Outstanding

@@ -34,8 +34,7 @@ use Rattle.progress.proofs.Known.{entry_kept, known_after}
 use Rattle.progress.proofs.Leading.{Clear, NotAhead, OwnStage, Quietly, along-quiet, four_settle, own_stage_kept}
 use Rattle.progress.proofs.Moves.{Moved-by, MovedBy}
 use Rattle.progress.proofs.Overdue.{Only, along-all, catches_up}
-use Rattle.progress.proofs.Stages.{Never, Never-lasting}
-use Rattle.progress.proofs.Steady.{Seeks, Steady}
+use Rattle.progress.proofs.Steady.{Never, Never-lasting, Seeks, Steady}
 use Rattle.progress.proofs.Still.{RunsOn, SameAsk}
 use Rattle.progress.proofs.Sure.{Course, IsSure}
 use Rattle.progress.proofs.Tame.{FitBody, IsAway, IsFitAt, Tame, asks_up_to, away_after, away_kept, tame_along, turns_up_to, up_to_asks, up_to_is, up_to_stamp}

@@ -1,7 +1,7 @@
 -- how far a vote has come back, in stretches in which nobody asks, enters or gives up and no REQUEST comes
 -- late
-use Rattle.std.proofs.Common.{◌≡◌, ◌≢◌, ℕ, ◌+◌, ◌<◌, ◌≤◌, true, false, List, [], Some, Ok, refl, sym, ap, subst, ◌∙◌, ◌⊎◌, inl, inr, arith}
-use Rattle.std.specs.Prelude.{length, nat_lt, slice_index}
+use Rattle.std.proofs.Common.{◌≡◌, ◌≢◌, ℕ, ◌<◌, ◌≤◌, true, false, List, [], Some, refl, sym, ap, subst, ◌∙◌, ◌⊎◌, inl, inr, arith}
+use Rattle.std.specs.Prelude.{length, slice_index}
 use Rattle.std.proofs.lemmas.Bool.{cases_eq, cases_lt, false≢true, false_from_ne_true}
 use Rattle.std.proofs.lemmas.Option.{same_Some}
 use Rattle.numbers.specs.Sets.{has}
@@ -16,25 +16,26 @@ use Rattle.voter.specs.Entries.{request_of}
 use Rattle.voter.specs.VoterContract.{IsEntry}
 use Rattle.voter.specs.Waiting.{precedes}
 use Rattle.requester.specs.declared.state.ClientState.{ClientState}
-use Rattle.requester.specs.RequesterContract.{KeepsQuorum}
 use Rattle.requester.specs.Steps as requester
-use Rattle.requester.specs.Words.{held_of, holds, is_asking, is_idle, is_inquired, is_member, last_of}
+use Rattle.requester.specs.Words.{held_of, is_asking, is_idle, is_member, last_of}
 use Rattle.requester.proofs.SoundSteps.{is_asking-busy}
 use Rattle.world.specs.declared.step.Step.{Step}
+use Rattle.world.specs.declared.step.Step.TheVariants.{Deliver}
 use Rattle.world.specs.Coherence.{IsCoherent}
 use Rattle.world.specs.Steps.{WorldState, client_at, voter_at}
 use Rattle.progress.specs.Rules.{Laws}
-use Rattle.progress.proofs.Behind.{ask-Ok, grant_moved, meets, the_request}
-use Rattle.progress.proofs.Fitting.{take-Ok}
+use Rattle.progress.proofs.Behind.{grant_moved, the_request}
 use Rattle.progress.proofs.Inquiries.{asks_no_more}
 use Rattle.progress.proofs.Known.{voter_after}
 use Rattle.progress.proofs.Hindering.{held_grant}
-use Rattle.progress.proofs.Moves.{Came, ClientMoved, Moved, OnlySent, VoterMoved}
+use Rattle.progress.proofs.Moves.{Came, ClientMoved, Makes, Moved, Moved-by, MovedBy, OnlySent, VoterMoved}
 use Rattle.progress.proofs.Outstanding.{came_noted}
 use Rattle.progress.proofs.Placed.{AskedAt, AskedBy}
+use Rattle.progress.proofs.Steady as steady
+use Rattle.progress.proofs.Steady.{GivenBack, IsLasting, Marked, Never, Steady, Told}
 use Rattle.progress.proofs.Still.{Early, is_live, live_asks, live_stamp}
 use Rattle.progress.proofs.Sure.{Course}
-use Rattle.progress.proofs.Taking.{Fate, Fate-take, Returns}
+use Rattle.progress.proofs.Taking.{Fate, Returns}
 use Rattle.progress.proofs.Ways.{current_is, entry_waits, held_some}
 
 -- ---- calm worlds
@@ -49,14 +50,31 @@ pub record Calm (p : Course) (w x : WorldState) : Type 0 where
 
 -- a step by which no REQUEST comes that is over
 abbrev pub Calmly : WorldState → Step → WorldState → WorldState → Type 0
-Calmly w s x y = ClientMoved x y ⊎ ((k : VoterMoved x y) × ((t : ℕ) → k.message.body ≡ asks.Request t → is_live w k.message.client t ≡ true)) ⊎ OnlySent x y
+Calmly w s x y =
+    ((k : ClientMoved x y) × Makes s k.who k.cause) ⊎ ((k : VoterMoved x y) × (s ≡ Deliver k.place) × ((t : ℕ) → k.message.body ≡ asks.Request t → is_live w k.message.client t ≡ true)) ⊎ OnlySent x y
 
-pub calmly_moved : (w : WorldState) (s : Step) (x y : WorldState) → Calmly w s x y → Moved x y
-calmly_moved w s x y moved = elim moved [
+pub calmly_by : (w : WorldState) (s : Step) (x y : WorldState) → Calmly w s x y → MovedBy s x y
+calmly_by w s x y moved = elim moved [
   | inl client ↦ inl client
-  | inr (inl voter) ↦ inr (inl voter.0)
+  | inr (inl voter) ↦ inr (inl (voter.0, voter.1))
   | inr (inr sent) ↦ inr (inr sent)
 ]
+
+pub calmly_moved : (w : WorldState) (s : Step) (x y : WorldState) → Calmly w s x y → Moved x y
+calmly_moved w s x y moved = Moved-by s x y (calmly_by w s x y moved)
+
+-- the client asks in the world w
+abbrev pub AsksIn : WorldState → ℕ → Type 0
+AsksIn w d = is_asking (client_at w.clients d).phase ≡ true
+
+pub steadily : (p : Course) (w x : WorldState) → Calm p w x → Steady p w (AsksIn w) x
+steadily p w x calm = record {
+  reached = calm.early.reached;
+  left = calm.early.left;
+  asks = λ d is. is;
+  same = λ d _. calm.early.same d;
+  known = λ d v is. calm.known d v is;
+}
 
 -- the first of the clients that ask, and a voter of its quorum
 pub record First (w : WorldState) (m v : ℕ) : Type 0 where
@@ -91,45 +109,6 @@ pub held_exists : (laws : Laws) (p : Course) (w x : WorldState) (d v : ℕ) → 
 held_exists laws p w x d v calm asking member =
     held_some (voter_at x.voters v) d (client_at w.clients d).stamp ((calm_ok laws p w x calm).voters v) (calm.known d v asking member) (voter_at x.voters v).held refl
 
--- ---- what a step does to a client that asks
-
-idle_absurd : (p : Course) (w x : WorldState) (d : ℕ) → Calm p w x → is_asking (client_at w.clients d).phase ≡ true → is_idle (client_at x.clients d).phase ≡ true → ⊥
-idle_absurd p w x d calm asking idle = false≢true (sym (is_asking-busy (client_at x.clients d).phase (asks_now p w x d calm asking)) ∙ idle)
-
--- the client took this message
-abbrev pub Took : WorldState → WorldState → ℕ → Type 0
-Took x y d = (m : ToClient) × (client_at y.clients d ≡ (requester.take (client_at x.clients d) m).state) × Came x d (requester.Takes m)
-
-took_by : (laws : Laws) (p : Course) (w x y : WorldState) (k : ClientMoved x y) → Calm p w x → Calm p w y → is_asking (client_at w.clients k.who).phase ≡ true → (cause : requester.Cause)
-    → Came x k.who cause → requester.step (client_at x.clients k.who) cause ≡ Ok k.outcome → cause ≡ k.cause → Took x y k.who
-took_by laws p w x y k before after asking (requester.Asks q) came step is =
-    let stamp : (client_at x.clients k.who).clock + 1 ≡ k.outcome.state.stamp = ap (λ (o : requester.Outcome). o.state.stamp) (ask-Ok (client_at x.clients k.who) q k.outcome step) in
-    let now : k.outcome.state.stamp ≡ (client_at x.clients k.who).stamp = ap (λ (z : ClientState). z.stamp) (sym k.here) ∙ (after.early.same k.who).stamp ∙ sym (before.early.same k.who).stamp in
-    let behind = ((calm_ok laws p w x before).clients k.who).clock in
-    absurd (omega arith)
-took_by laws p w x y k before after asking (requester.Takes m) came step is =
-    (m, k.here ∙ sym (ap (λ (o : requester.Outcome). o.state) (take-Ok (client_at x.clients k.who) m k.outcome step)), came)
-took_by laws p w x y k before after asking requester.Leaves came step is =
-    let contract = meets laws.client x y (calm_ok laws p w x before) (calm_ok laws p w y after) k in
-    let idle = (subst (λ c. KeepsQuorum (client_at x.clients k.who) c k.outcome.state) (sym is) contract.quorum).1 in
-    absurd (idle_absurd p w y k.who after asking (ap (λ (z : ClientState). is_idle z.phase) k.here ∙ idle))
-took_by laws p w x y k before after asking requester.GivesUp came step is =
-    let contract = meets laws.client x y (calm_ok laws p w x before) (calm_ok laws p w y after) k in
-    let idle = (subst (λ c. KeepsQuorum (client_at x.clients k.who) c k.outcome.state) (sym is) contract.quorum).1 in
-    absurd (idle_absurd p w y k.who after asking (ap (λ (z : ClientState). is_idle z.phase) k.here ∙ idle))
-
--- the client is as before, or took a message
-pub client_goes : (laws : Laws) (p : Course) (w : WorldState) (s : Step) (x y : WorldState) (d : ℕ) → Calm p w x → Calm p w y → Calmly w s x y → is_asking (client_at w.clients d).phase ≡ true
-    → (client_at y.clients d ≡ client_at x.clients d) ⊎ Took x y d
-client_goes laws p w s x y d before after moved asking = elim moved [
-  | inl k ↦ elim (cases_eq d k.who) [
-    | inl same ↦ inr (subst (λ i. Took x y i) (sym same) (took_by laws p w x y k before after (subst (λ i. is_asking (client_at w.clients i).phase ≡ true) same asking) k.cause k.came k.step refl))
-    | inr other ↦ inl (k.others d other)
-  ]
-  | inr (inl k) ↦ inl (ap (λ (cs : List ClientState). client_at cs d) k.0.clients)
-  | inr (inr k) ↦ inl (ap (λ (cs : List ClientState). client_at cs d) k.clients)
-]
-
 -- ---- what a step does to a grant
 
 -- a REQUEST that runs is known to its voter
@@ -154,10 +133,10 @@ request_known laws p w x y k t calm is live =
 pub inquiry_goes : (laws : Laws) (p : Course) (w : WorldState) (s : Step) (x y : WorldState) (v : ℕ) → Calm p w x → Calmly w s x y → (g : Grant) → (voter_at y.voters v).held ≡ Some g
     → (voter_at y.voters v).inquiring ≡ true → ((voter_at x.voters v).held ≡ Some g) × ((voter_at x.voters v).inquiring ≡ true)
 inquiry_goes laws p w s x y v calm moved = elim moved [
-  | inl k ↦ subst (λ (vs : List VoterState). Was v vs) (sym k.voters) (λ g held is. (held, is))
+  | inl k ↦ subst (λ (vs : List VoterState). Was v vs) (sym k.0.voters) (λ g held is. (held, is))
   | inr (inl k) ↦ voter_after (λ q z. (g : Grant) → z.held ≡ Some g → z.inquiring ≡ true → ((voter_at x.voters q).held ≡ Some g) × ((voter_at x.voters q).inquiring ≡ true)) x y k.0 v
       (λ _. asks_no_more (voter_at x.voters k.0.message.voter) k.0.message k.0.outcome ((calm_ok laws p w x calm).voters k.0.message.voter)
-      (λ t is. request_known laws p w x y k.0 t calm is (k.1 t is)) k.0.step)
+      (λ t is. request_known laws p w x y k.0 t calm is (k.2 t is)) k.0.step)
       (λ g held is. (held, is))
   | inr (inr k) ↦ subst (λ (vs : List VoterState). Was v vs) (sym k.voters) (λ g held is. (held, is))
 ]
@@ -206,7 +185,7 @@ new_settled laws p w s x y m before after moved k f g held live =
 pub grant_goes : (laws : Laws) (p : Course) (w : WorldState) (s : Step) (x y : WorldState) (m v : ℕ) → Calm p w x → Calm p w y → Calmly w s x y → First w m v
     → (g : Grant) → (voter_at y.voters v).held ≡ Some g → is_live w g.client g.stamp ≡ true → ((voter_at x.voters v).held ≡ Some g) ⊎ IsSettled m v y g
 grant_goes laws p w s x y m v before after moved f g held live = elim moved [
-  | inl k ↦ inl (ap (λ (vs : List VoterState). (voter_at vs v).held) (sym k.voters) ∙ held)
+  | inl k ↦ inl (ap (λ (vs : List VoterState). (voter_at vs v).held) (sym k.0.voters) ∙ held)
   | inr (inl k) ↦ elim (cases_eq v k.0.message.voter) [
     | inl same ↦ subst (λ q. ((voter_at x.voters q).held ≡ Some g) ⊎ IsSettled m q y g) (sym same)
         (new_settled laws p w s x y m before after (inr (inl k)) k.0 (subst (λ q. First w m q) same f) g
@@ -221,14 +200,7 @@ grant_goes laws p w s x y m v before after moved f g held live = elim moved [
 -- what a step does to a vote of a client that asks
 pub fate_goes : (laws : Laws) (p : Course) (w : WorldState) (s : Step) (x y : WorldState) (d v : ℕ) → Calm p w x → Calm p w y → Calmly w s x y → is_asking (client_at w.clients d).phase ≡ true → v < 64
     → (client_at y.clients d ≡ client_at x.clients d) ⊎ ((t : ToClient) × Came x d (requester.Takes t) × Fate t (client_at x.clients d) (client_at y.clients d) v)
-fate_goes laws p w s x y d v before after moved asking below = elim (client_goes laws p w s x y d before after moved asking) [
-  | inl same ↦ inl same
-  | inr took ↦ inr (
-    took.0,
-    took.2,
-    subst (λ (z : ClientState). Fate took.0 (client_at x.clients d) z v) (sym took.1) (Fate-take (client_at x.clients d) took.0 v ((calm_ok laws p w x before).clients d) below),
-  )
-]
+fate_goes laws p w s x y d v before after moved asking below = steady.fate_goes laws p w (AsksIn w) s x y d v (steadily p w x before) (steadily p w y after) (calmly_by w s x y moved) asking below
 
 -- a vote that is given back was asked for, unless its grant is old
 pub returned_asked : (laws : Laws) (p : Course) (w x y : WorldState) (d v : ℕ) → Calm p w x → (t : ToClient) → Came x d (requester.Takes t) → Returns t (client_at x.clients d) (client_at y.clients d) v
@@ -271,18 +243,10 @@ settled_kept laws p w s x y m v before after moved f g was held h = record {
 abbrev pub Stage : (S : ClientState → Grant → Type 0) → WorldState → ℕ → ℕ → WorldState → Type 0
 Stage S w m v x = (g : Grant) → (voter_at x.voters v).held ≡ Some g → is_live w g.client g.stamp ≡ true → IsSettled m v x g ⊎ S (client_at x.clients g.client) g
 
--- S is kept by each message that a client takes
-abbrev pub IsLasting : ℕ → (ClientState → Grant → Type 0) → Type 0
-IsLasting v S = (t : ToClient) (a b : ClientState) (g : Grant) → (holds a v ≡ true → g.grant ≡ held_of a v) → Fate t a b v → S a g → S b g
-
 pub mark_goes : (laws : Laws) (p : Course) (w : WorldState) (S : ClientState → Grant → Type 0) (v : ℕ) → IsLasting v S → (s : Step) (x y : WorldState) → Calm p w x → Calm p w y → Calmly w s x y
     → v < 64 → (g : Grant) → (voter_at x.voters v).held ≡ Some g → is_live w g.client g.stamp ≡ true → S (client_at x.clients g.client) g → S (client_at y.clients g.client) g
 mark_goes laws p w S v lasting s x y before after moved below g held live h =
-    let d = g.client in
-    elim (fate_goes laws p w s x y d v before after moved (live_asks w d g.stamp live) below) [
-      | inl same ↦ subst (λ (z : ClientState). S z g) (sym same) h
-      | inr took ↦ lasting took.0 (client_at x.clients d) (client_at y.clients d) g (λ has. held_grant x (before.early.reached []).coherent d v g held has) took.2 h
-    ]
+    steady.mark_goes laws p w (AsksIn w) S v lasting s x y (steadily p w x before) (steadily p w y after) (calmly_by w s x y moved) below g held (live_asks w g.client g.stamp live, live_stamp w g.client g.stamp live) h
 
 pub stage_kept : (laws : Laws) (p : Course) (w : WorldState) (m v : ℕ) → First w m v → (S : ClientState → Grant → Type 0) → IsLasting v S → (s : Step) (x y : WorldState) → Calm p w x → Calm p w y
     → Calmly w s x y → Stage S w m v x → Stage S w m v y
@@ -293,48 +257,6 @@ stage_kept laws p w m v f S lasting s x y before after moved h g held live = eli
   ]
   | inr new ↦ inl new
 ]
-
--- the stages: the client knows of the grant; it has a mark; it gave the grant back; the grant is settled
-abbrev pub Told : ℕ → ClientState → Grant → Type 0
-Told v x g = (g.grant ≤ last_of x v) ⊎ (holds x v ≡ true)
-
-abbrev pub Marked : ℕ → ClientState → Grant → Type 0
-Marked v x g = (g.grant ≤ last_of x v) ⊎ ((holds x v ≡ true) × (is_inquired x v ≡ true))
-
-abbrev pub GivenBack : ℕ → ClientState → Grant → Type 0
-GivenBack v x g = g.grant ≤ last_of x v
-
-abbrev pub Never : ClientState → Grant → Type 0
-Never x g = ⊥
-
-given_on : (v : ℕ) (t : ToClient) (a b : ClientState) (g : Grant) → (holds a v ≡ true → g.grant ≡ held_of a v) → Fate t a b v → g.grant ≤ last_of a v → g.grant ≤ last_of b v
-given_on v t a b g number (inl stays) few = (let last = stays.last in omega arith)
-given_on v t a b g number (inr (inl comes)) few = (let last = comes.last in omega arith)
-given_on v t a b g number (inr (inr back)) few = (let last = back.gone.last in let same = number back.gone.had in omega arith)
-
-pub Never-lasting : (v : ℕ) → IsLasting v Never
-Never-lasting v t a b g number fate h = h
-
-pub GivenBack-lasting : (v : ℕ) → IsLasting v (GivenBack v)
-GivenBack-lasting v t a b g number fate h = given_on v t a b g number fate h
-
-told_on : (v : ℕ) (t : ToClient) (a b : ClientState) (g : Grant) → (holds a v ≡ true → g.grant ≡ held_of a v) → Fate t a b v → holds a v ≡ true → Told v b g
-told_on v t a b g number (inl stays) has = inr (ap (λ n. nat_lt 0 n) stays.held ∙ has)
-told_on v t a b g number (inr (inl comes)) has = inr comes.has
-told_on v t a b g number (inr (inr back)) has = inl (let last = back.gone.last in let same = number has in omega arith)
-
-pub Told-lasting : (v : ℕ) → IsLasting v (Told v)
-Told-lasting v t a b g number fate (inl few) = inl (given_on v t a b g number fate few)
-Told-lasting v t a b g number fate (inr has) = told_on v t a b g number fate has
-
-marked_on : (v : ℕ) (t : ToClient) (a b : ClientState) (g : Grant) → (holds a v ≡ true → g.grant ≡ held_of a v) → Fate t a b v → holds a v ≡ true → is_inquired a v ≡ true → Marked v b g
-marked_on v t a b g number (inl stays) has mark = inr (ap (λ n. nat_lt 0 n) stays.held ∙ has, stays.marked mark)
-marked_on v t a b g number (inr (inl comes)) has mark = absurd (false≢true (sym comes.free ∙ has))
-marked_on v t a b g number (inr (inr back)) has mark = inl (let last = back.gone.last in let same = number has in omega arith)
-
-pub Marked-lasting : (v : ℕ) → IsLasting v (Marked v)
-Marked-lasting v t a b g number fate (inl few) = inl (given_on v t a b g number fate few)
-Marked-lasting v t a b g number fate (inr mark) = marked_on v t a b g number fate mark.0 mark.1
 
 -- ---- the grant stays, or the next one is settled
 

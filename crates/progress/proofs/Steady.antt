@@ -33,17 +33,75 @@ use Rattle.progress.proofs.Along.{Reminded, next, spot_after, spot_before, spot_
 use Rattle.progress.proofs.Arrivals.{client_takes, message_stays, reminds_first, reminds_second, replied, says, voter_takes}
 use Rattle.progress.proofs.Behind.{ask-Ok, meets}
 use Rattle.progress.proofs.Exchanges.{not_held}
-use Rattle.progress.proofs.Falls.{HasVote, locked_to}
 use Rattle.progress.proofs.Fitting.{take-Ok}
 use Rattle.progress.proofs.Hindering.{all_hold, held_grant, hindered_by}
 use Rattle.progress.proofs.Inquiries.{again_fails, again_locks, replies_again}
 use Rattle.progress.proofs.Known.{asks_for, request_to, within_by}
 use Rattle.progress.proofs.Moves.{Came, ClientMoved, Moved-by, MovedBy}
-use Rattle.progress.proofs.Stages.{GivenBack, GivenBack-lasting, IsLasting, Marked, Marked-lasting, Told, Told-lasting}
 use Rattle.progress.proofs.Still.{RunsOn, SameAsk}
 use Rattle.progress.proofs.Sure.{Course, IsSure}
 use Rattle.progress.proofs.Taking.{Fate, Fate-take, marks-take}
 use Rattle.progress.proofs.Ways.{current_is, fresh_is, held_some, own_stamp}
+
+-- ---- grants
+
+-- the grant has the vote
+abbrev pub HasVote : ℕ → Grant → WorldState → Type 0
+HasVote v g x = (voter_at x.voters v).held ≡ Some g
+
+-- LOCKED of the voter v to the client d
+abbrev pub locked_to : ℕ → ℕ → ℕ → ℕ → ℕ → ToClient
+locked_to v d seen stamp grant = record { voter = v; client = d; seen = seen; body = to_client.Locked stamp grant }
+
+-- ---- stages
+
+-- S is kept by each message that a client takes
+abbrev pub IsLasting : ℕ → (ClientState → Grant → Type 0) → Type 0
+IsLasting v S = (t : ToClient) (a b : ClientState) (g : Grant) → (holds a v ≡ true → g.grant ≡ held_of a v) → Fate t a b v → S a g → S b g
+
+-- the stages: the client knows of the grant; it has a mark; it gave the grant back; the grant is settled
+abbrev pub Told : ℕ → ClientState → Grant → Type 0
+Told v x g = (g.grant ≤ last_of x v) ⊎ (holds x v ≡ true)
+
+abbrev pub Marked : ℕ → ClientState → Grant → Type 0
+Marked v x g = (g.grant ≤ last_of x v) ⊎ ((holds x v ≡ true) × (is_inquired x v ≡ true))
+
+abbrev pub GivenBack : ℕ → ClientState → Grant → Type 0
+GivenBack v x g = g.grant ≤ last_of x v
+
+abbrev pub Never : ClientState → Grant → Type 0
+Never x g = ⊥
+
+given_on : (v : ℕ) (t : ToClient) (a b : ClientState) (g : Grant) → (holds a v ≡ true → g.grant ≡ held_of a v) → Fate t a b v → g.grant ≤ last_of a v → g.grant ≤ last_of b v
+given_on v t a b g number (inl stays) few = (let last = stays.last in omega arith)
+given_on v t a b g number (inr (inl comes)) few = (let last = comes.last in omega arith)
+given_on v t a b g number (inr (inr back)) few = (let last = back.gone.last in let same = number back.gone.had in omega arith)
+
+pub Never-lasting : (v : ℕ) → IsLasting v Never
+Never-lasting v t a b g number fate h = h
+
+pub GivenBack-lasting : (v : ℕ) → IsLasting v (GivenBack v)
+GivenBack-lasting v t a b g number fate h = given_on v t a b g number fate h
+
+told_on : (v : ℕ) (t : ToClient) (a b : ClientState) (g : Grant) → (holds a v ≡ true → g.grant ≡ held_of a v) → Fate t a b v → holds a v ≡ true → Told v b g
+told_on v t a b g number (inl stays) has = inr (ap (λ n. nat_lt 0 n) stays.held ∙ has)
+told_on v t a b g number (inr (inl comes)) has = inr comes.has
+told_on v t a b g number (inr (inr back)) has = inl (let last = back.gone.last in let same = number has in omega arith)
+
+pub Told-lasting : (v : ℕ) → IsLasting v (Told v)
+Told-lasting v t a b g number fate (inl few) = inl (given_on v t a b g number fate few)
+Told-lasting v t a b g number fate (inr has) = told_on v t a b g number fate has
+
+marked_on : (v : ℕ) (t : ToClient) (a b : ClientState) (g : Grant) → (holds a v ≡ true → g.grant ≡ held_of a v) → Fate t a b v → holds a v ≡ true → is_inquired a v ≡ true → Marked v b g
+marked_on v t a b g number (inl stays) has mark = inr (ap (λ n. nat_lt 0 n) stays.held ∙ has, stays.marked mark)
+marked_on v t a b g number (inr (inl comes)) has mark = absurd (false≢true (sym comes.free ∙ has))
+marked_on v t a b g number (inr (inr back)) has mark = inl (let last = back.gone.last in let same = number has in omega arith)
+
+pub Marked-lasting : (v : ℕ) → IsLasting v (Marked v)
+Marked-lasting v t a b g number fate (inl few) = inl (given_on v t a b g number fate few)
+Marked-lasting v t a b g number fate (inr mark) = marked_on v t a b g number fate mark.0 mark.1
+
+-- ---- clients that ask all along
 
 -- Each client in D asks as in the world w, and each voter of its quorum knows its request. Each voter has
 -- a grant left.
@@ -63,6 +121,7 @@ pub record Seeks (w : WorldState) (D : ℕ → Type 0) (m v : ℕ) : Type 0 wher
   pub asks : D m
   pub member : is_member (client_at w.clients m) v ≡ true
 
+-- such a world, and besides
 abbrev pub With : Course → WorldState → (ℕ → Type 0) → (WorldState → Type 0) → WorldState → Type 0
 With p w D K x = Steady p w D x × K x
 
@@ -236,7 +295,7 @@ told laws p w D m v f g live x z r =
     ] (refl {a = holds old v})
 
 -- INQUIRE of a vote that is held: it is marked, or given back
-inquire_marks : (laws : Laws) (p : Course) (w : WorldState) (D : ℕ → Type 0) (x : WorldState) (d v : ℕ) (g : Grant) (t : ToClient) → Steady p w D x → D d → t.voter ≡ v → v < 64
+pub inquire_marks : (laws : Laws) (p : Course) (w : WorldState) (D : ℕ → Type 0) (x : WorldState) (d v : ℕ) (g : Grant) (t : ToClient) → Steady p w D x → D d → t.voter ≡ v → v < 64
     → g.grant ≡ held_of (client_at x.clients d) v → t.body ≡ to_client.Inquire g.grant → holds (client_at x.clients d) v ≡ true → Marked v (requester.take (client_at x.clients d) t).state g
 inquire_marks laws p w D x d v g t calm asking from below number is hold =
     let old = client_at x.clients d in

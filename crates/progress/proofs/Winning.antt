@@ -37,7 +37,6 @@ use Rattle.progress.proofs.Always.{asked_by}
 use Rattle.progress.proofs.Arrivals.{answered, client_takes, message_stays, reminds_first, voter_takes}
 use Rattle.progress.proofs.Behind.{the_request}
 use Rattle.progress.proofs.Blocks.{one_entry}
-use Rattle.progress.proofs.Falls.{HasVote, locked_to}
 use Rattle.progress.proofs.Hindering.{held_grant}
 use Rattle.progress.proofs.Inquiries.{ends_up_to}
 use Rattle.progress.proofs.Known.{voter_after}
@@ -45,8 +44,8 @@ use Rattle.progress.proofs.Leading.{Clear, NotAhead, OwnStage, Quietly, along-qu
 use Rattle.progress.proofs.Leftover.{release_to}
 use Rattle.progress.proofs.Moves.{Moved-by, MovedBy}
 use Rattle.progress.proofs.Overdue.{Only}
-use Rattle.progress.proofs.Stages.{IsSettled, Never, Never-lasting}
-use Rattle.progress.proofs.Steady.{Seeks, Steady, With, asks_now, fate_goes, held_exists, steady_ok, told, voter_below, voter_within}
+use Rattle.progress.proofs.Stages.{IsSettled}
+use Rattle.progress.proofs.Steady.{HasVote, Never, Never-lasting, Seeks, Steady, With, asks_now, fate_goes, held_exists, locked_to, steady_ok, told, voter_below, voter_within}
 use Rattle.progress.proofs.Sure.{Course}
 use Rattle.progress.proofs.Ways.{has_range, own_stamp, remove_from, shorter, still_there}
 

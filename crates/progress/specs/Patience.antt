@@ -24,15 +24,15 @@ HaveWaited deal u x (s ∷ steps) = HasWaited u x s × HaveWaited deal u (after 
 
 -- The same in each of these rounds. The first of them begins in w, and the two rounds before it began in v
 -- and in u: whoever gives up in it made the request before u. So the request ran for two whole rounds.
-abbrev pub WaitFrom : Dealing → WorldState → WorldState → WorldState → List (List Step) → Type 0
-WaitFrom deal u v w [] = Unit {0}
-WaitFrom deal u v w (r ∷ rs) = HaveWaited deal u w r × WaitFrom deal v w (run_of deal r w) rs
+abbrev pub ArePatientFrom : Dealing → WorldState → WorldState → WorldState → List (List Step) → Type 0
+ArePatientFrom deal u v w [] = Unit {0}
+ArePatientFrom deal u v w (r ∷ rs) = HaveWaited deal u w r × ArePatientFrom deal v w (run_of deal r w) rs
 
 -- Clients are patient in these rounds: a request that is made in one of them runs for two whole rounds before
 -- it is given up. Made in round i, it may be given up from round i + 3 on. Requests that were made before may
 -- be given up at any time.
 abbrev pub ArePatient : Dealing → WorldState → List (List Step) → Type 0
-ArePatient deal w rounds = WaitFrom deal w w w rounds
+ArePatient deal w rounds = ArePatientFrom deal w w w rounds
 
 -- The rounds of one block, for n clients. In as many, without a late REQUEST, some request begins or ends that
 -- is not later than a given one which runs.
