@@ -6,10 +6,11 @@ _qlock_show() {
         A1 A2 A3 A4 A5 A6 A7 U1 U2 U3 C1 C2 C3 C4 V1 K2 B2 B3 Q1 Q2 S1 S2 S3 L1 L2 M1 B1 K1 K3 K4 U4 J1"
     [ "${COMP_WORDS[COMP_CWORD - 1]}" = -f ] && return
     case $COMP_CWORD in
-        1) COMPREPLY=($(compgen -W "plan deal report without resilience bridge world explain fault picture" -- "$word")) ;;
+        1) COMPREPLY=($(compgen -W "plan deal report without resilience bridge world waiting explain fault picture" -- "$word")) ;;
         2)
             case ${COMP_WORDS[1]} in
                 deal) COMPREPLY=($(compgen -W "--even" -- "$word")) ;;
+                waiting) COMPREPLY=($(compgen -W "--round" -- "$word")) ;;
                 explain) COMPREPLY=($(compgen -W "all $codes" -- "$word")) ;;
                 picture) COMPREPLY=($(compgen -W "load cycle world" -- "$word")) ;;
                 fault) COMPREPLY=($(compgen -W "make plan check deal world run replay" -- "$word")) ;;

@@ -198,6 +198,9 @@ done
 } > "$work/ends"
 compare "$work/ends" show-ends-of-long-pages.out
 shown explain-disjoint /dev/null explain E7
+shown waiting-five /dev/null waiting 5 --round 2
+shown waiting-nine-of-which-two-give-up /dev/null waiting 9 2
+shown waiting-most /dev/null waiting 64 1000000 --round 86400
 shown explain-list /dev/null explain
 shown fault-disjoint refused-disjoint.toml fault plan
 shown fault-plan refused-plan.txt fault check
@@ -229,6 +232,7 @@ shown without-most-of-two-centres three-centres.toml without a1 a2 a3 c1 c2
 program=$show
 example show-unknown-voter three-racks.toml 1 without a1 a9
 example show-unknown-code /dev/null 2 explain E9
+example show-waiting-of-nobody /dev/null 2 waiting 0
 example show-unknown-picture /dev/null 2 picture plan
 example show-fault-of-no-command /dev/null 2 fault make circle 3
 # an exchange for a coterie of c alone, which a quorum of the first does not have, and for one of other voters
@@ -251,6 +255,16 @@ parts seven-of-nine.toml "$work/nine" > "$work/input"
 shown bridge-seven-of-nine-to-nine "$work/input" bridge
 "$show" without a1 a2 a3 a4 a5 < three-centres.toml > "$work/left"
 shown bridge-three-centres-to-two /dev/null bridge -f three-centres.toml -f "$work/left"
+
+# at a terminal: that the input is read from it, and how to see where it is wrong
+if command -v python3 > /dev/null; then
+    {
+        "$here/terminal.py" refused-disjoint.toml "$qlock" plan
+        "$here/terminal.py" wheel-3.toml "$show" resilience
+        "$here/terminal.py" /dev/null "$qlock" make wheel 2
+    } > "$work/terminal"
+    compare "$work/terminal" terminal.out
+fi
 
 # helps NAME PROGRAM: the help of a program and of each command that it lists, where it is printed, and the status
 helps() {

@@ -177,6 +177,7 @@ try 'show without, none left' '' "$work/majority.toml" without v0 v1
 try 'show resilience' '' "$root/examples/three-racks.toml" resilience
 try 'show bridge' '' "$work/bridge" bridge
 try 'show fault check' '' "$root/examples/refused-plan.txt" fault check
+try 'show waiting' '' /dev/null waiting 5 2 --round 2
 try 'show explain E7' '' /dev/null explain E7
 
 # whether the member said this, and nothing else

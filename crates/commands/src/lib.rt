@@ -44,7 +44,7 @@ pub use laws::{named_commands_are_in_range, refusals_come_of_the_input};
 pub use lines::{push_account, push_ratio};
 pub use parts::split_part;
 pub use plan_inputs::{InputFault, Planned};
-pub use serving::{execute, input_for, write_answer};
+pub use serving::{execute, input_for, reads_input, write_answer};
 pub use statuses::{status_of, usage_status};
 pub use whole_io::{DeviceFault, Watched};
 pub use words::read_words;

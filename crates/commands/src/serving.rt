@@ -14,6 +14,21 @@ use std::alloc::Global;
 use std::io::{Read, Write};
 use whole_io::{Watched, read_input, write_output};
 
+/// Returns whether a command reads its input. All but `make` do.
+pub fn reads_input(command: &Command) -> bool
+    ensures { result ≡ reads_input command.now }
+{
+    match command {
+        Command::Make(_) => false,
+        Command::Plan
+        | Command::Check
+        | Command::Deal(_)
+        | Command::World
+        | Command::Run { .. }
+        | Command::Replay => true,
+    }
+}
+
 /// Returns the input of a command: all of it, or nothing if the command doesn't read it.
 ///
 /// Fails with a failed read, an input of more than 16,777,216 bytes, or out of memory.

@@ -7,6 +7,10 @@ ghost use Rattle.commands.specs.Statuses.{status_of, usage_status};
 use crate::files::Unread;
 use clap::error::ErrorKind;
 use commands::{DeviceFault, Fault, Usage, status_of, usage_status};
+use std::io::IsTerminal;
+
+/// The exit status of a refused input.
+const INPUT_REFUSED: u8 = 1;
 
 /// What a request for help gets besides: how files are named.
 const FILES_HELP: &str = "
@@ -48,6 +52,24 @@ pub fn refuse_words<R: Eprint>(rt: &R, usage: &Usage) -> u8
         }
     }
     usage_status(usage)
+}
+
+/// Tells who sits at a terminal that standard input is read from it, and how it ends.
+pub fn tell_of_reading<R: Eprint, I: IsTerminal>(rt: &R, input: &I) {
+    if input.is_terminal() {
+        let _ = rt.eprintln(
+            "The input is read from the terminal, and ends with Ctrl-D. Files are named by -f FILE.",
+        );
+    }
+}
+
+/// Tells who sits at a terminal how to see where an input is wrong, if it was refused.
+pub fn tell_of_fault<R: Eprint, E: IsTerminal>(rt: &R, error: &E, status: u8) {
+    if status == INPUT_REFUSED && error.is_terminal() {
+        let _ = rt.eprintln(
+            "qlock-show fault, with the same words and the same input, says where.",
+        );
+    }
 }
 
 /// Prints the fault of a file that was not read, with its name. Returns the exit status: 3 if it

@@ -7,7 +7,11 @@
 
 ghost use Rattle.commands.specs.Commands.{IsInRange};
 
-use host::{command_line_of, read_files, refuse_words, report, report_unread};
+use commands::reads_input;
+use host::{
+    command_line_of, read_files, refuse_words, report, report_unread, tell_of_fault,
+    tell_of_reading,
+};
 use qlock_cli::{Command, NoGate, Usage, Watched, execute, execute_run, read_words};
 use std::io;
 use std::io::Read;
@@ -41,7 +45,9 @@ fn serve_input<R: Read + Drop, T: Threads + Wait + Clock + Sync>(
         }
         _ => execute(rt.alloc(), command, &mut reader, &mut writer),
     };
-    report(rt, &served)
+    let status = report(rt, &served);
+    tell_of_fault(rt, &rt.stderr(), status);
+    status
 }
 
 /// Serves the command over these files, or over standard input if there are none. Returns the exit
@@ -55,7 +61,11 @@ fn serve<T: Threads + Wait + Clock + Sync>(
     requires in_range { IsInRange command.now }
 {
     if files.is_empty() {
-        return serve_input(rt, threads, command, rt.reader());
+        let input = rt.reader();
+        if reads_input(command) {
+            tell_of_reading(rt, &input);
+        }
+        return serve_input(rt, threads, command, input);
     }
     match read_files(rt, files) {
         Ok(input) => serve_input(rt, threads, command, input.as_slice()),

@@ -12,8 +12,10 @@ ghost use Rattle.show_cli.specs.Commands.{IsShown};
 ghost use Rattle.qlock_show.specs.HelpRequests.{AsksForText};
 
 use commands::{DeviceFault, Fault, Usage, Watched};
-use host::{command_line_of, files_help, read_files, refuse_words, report, report_unread};
-use show_cli::{ShowCommand, read_show_words, show};
+use host::{
+    command_line_of, files_help, read_files, refuse_words, report, report_unread, tell_of_reading,
+};
+use show_cli::{ShowCommand, read_show_words, reads_page_input, show};
 use std::io;
 use std::io::Read;
 use std::process::ExitCode;
@@ -62,7 +64,11 @@ fn serve(rt: &HostRuntime, command: &ShowCommand, files: &[String]) -> u8
     requires { IsShown command.now }
 {
     if files.is_empty() {
-        return serve_input(rt, command, rt.reader());
+        let input = rt.reader();
+        if reads_page_input(command) {
+            tell_of_reading(rt, &input);
+        }
+        return serve_input(rt, command, input);
     }
     match read_files(rt, files) {
         Ok(input) => serve_input(rt, command, input.as_slice()),

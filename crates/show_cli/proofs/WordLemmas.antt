@@ -6,9 +6,10 @@ use Rattle.show_faults.specs.Codes.{IsNoneOf, code_in, fault_codes}
 use Rattle.command_line.specs.Words.{HasNumber, RefusesByClap}
 use Rattle.command_line.specs.declared.usage.Usage.{Usage}
 use Rattle.command_line.specs.declared.usage.Usage.TheVariants.{Arguments, OutOfMemory, Refused}
-use Rattle.show_cli.specs.Words.{NamesNone, Refuses, RefusesUse, picture_word, show_app}
+use Rattle.show_waiting.specs.declared.waiting.Waiting.{Waiting as Question}
+use Rattle.show_cli.specs.Words.{IsNamedBy, NamesNone, Refuses, RefusesUse, picture_word, show_app}
 use Rattle.show_cli.specs.declared.command.Picture.{Picture}
-use Rattle.show_cli.specs.declared.command.ShowCommand.TheVariants.{Deal, DealEven, Explain, ExplainAll, ListFaults, Picture as Show, Without}
+use Rattle.show_cli.specs.declared.command.ShowCommand.TheVariants.{Deal, DealEven, Explain, ExplainAll, ListFaults, Picture as Show, Waiting, Without}
 
 -- where `deal` was used with no number in range, it names nothing
 pub NamesNone-deal : (rows : List Row) → ((n : ℕ) → HasNumber (codes "N") 0 100000 rows n → ⊥) → NamesNone (Some (codes "deal", rows))
@@ -20,6 +21,11 @@ NamesNone-deal rows none command named = search rules
 pub NamesNone-without : (rows : List Row) → None ≡ all_of (codes "NAMES") rows → NamesNone (Some (codes "without", rows))
 NamesNone-without rows absent (Without names) named = let bad : None ≡ Some (map string_bytes names.items) = absent ∙ named.1 in cc
 NamesNone-without rows absent command named = search rules
+
+-- nor does `waiting`, where a number is missing or out of range
+pub NamesNone-waiting : (rows : List Row) → ((w : Question) → IsNamedBy (Some (codes "waiting", rows)) (Waiting w) → ⊥) → NamesNone (Some (codes "waiting", rows))
+NamesNone-waiting rows none (Waiting w) named = none w named
+NamesNone-waiting rows none command named = search rules
 
 -- nor does `explain` with another word than `all` and than those that begin with a code
 pub NamesNone-explain : (rows : List Row) (text : Text) → first_of (codes "CODE") rows ≡ Some text → (text ≡ codes "all" → ⊥) → All (IsNoneOf (code_in text)) fault_codes

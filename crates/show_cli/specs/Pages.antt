@@ -6,6 +6,7 @@ use Rattle.show_faults.specs.Texts.{text_of}
 use Rattle.show_report.specs.Reports.{IsReport}
 use Rattle.show_tickets.specs.EvenOrder.{IsEvenPage}
 use Rattle.show_tickets.specs.Rounds.{deal_page_text}
+use Rattle.show_waiting.specs.Waiting.{waiting_text}
 use Rattle.show_words.specs.Plans.{IsPlanPage}
 use Rattle.show_words.specs.Worlds.{IsWorldPage}
 use Rattle.show_svg.specs.Pictures.{IsEnded}
@@ -72,6 +73,7 @@ IsPage (show.Without words) input page = IsWithoutOf (map string_bytes words.ite
 IsPage show.Resilience input page = IsResilienceOf input page
 IsPage show.Bridge input page = IsBridgeOf input page
 IsPage show.World input page = IsStoryWords input page
+IsPage (show.Waiting w) input page = page ≡ waiting_text w
 IsPage (show.Explain explanation) input page = page ≡ text_of explanation.now
 IsPage show.ExplainAll input page = IsFaultsPage page
 IsPage show.ListFaults input page = IsFaultsList page
@@ -87,6 +89,7 @@ RefusesPage (show.Without words) input fault = RefusesWithout (map string_bytes 
 RefusesPage show.Resilience input fault = Refuses fault (coterie_part input)
 RefusesPage show.Bridge input fault = Refuses fault (pair_in input)
 RefusesPage show.World input fault = RefusesStory input fault
+RefusesPage (show.Waiting w) input fault = fault ≡ OutOfMemory
 RefusesPage (show.Explain explanation) input fault = fault ≡ OutOfMemory
 RefusesPage show.ExplainAll input fault = fault ≡ OutOfMemory
 RefusesPage show.ListFaults input fault = fault ≡ OutOfMemory
@@ -101,8 +104,9 @@ IsShownBy view command input (Err fault) = RefusesPage command input fault
 
 -- Devices
 
--- whether a command reads its input; `explain` and `fault make` don't
+-- whether a command reads its input; `waiting`, `explain` and `fault make` don't
 abbrev pub reads_page_input : ShowCommand → Bool
+reads_page_input (show.Waiting w) = false
 reads_page_input (show.Explain explanation) = false
 reads_page_input show.ExplainAll = false
 reads_page_input show.ListFaults = false

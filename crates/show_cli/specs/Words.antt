@@ -1,20 +1,21 @@
 -- The command line: which command its words name.
-use Rattle.std.specs.Prelude.{◌≡◌, ◌⊎◌, List, [], ◌∷◌, Option, None, Some, String, codes, map, string_bytes, true, unwrap_or, ⊤}
+use Rattle.std.specs.Prelude.{◌≡◌, ◌⊎◌, ℕ, List, [], ◌∷◌, Option, None, Some, String, codes, false, map, string_bytes, true, unwrap_or, ⊤}
 use Rattle.std.specs.declared.alloc.Global.{Global}
 use Rattle.clap.specs.Lexer.{usize_max}
 use Rattle.clap.specs.Words.{App, IsAmong, Row, Rule, Text, all_of, fault_of, first_of, kind_of, new_app, new_rule, subcommand_of, with_rule}
 use Rattle.clap.specs.declared.builder.action.ArgAction.TheVariants.{SetTrue}
 use Rattle.clap.specs.declared.builder.range.ValueRange.{ValueRange}
+use Rattle.numbers.specs.Bounds.{max_clients}
 use Rattle.show_faults.specs.Codes.{IsFaultCode, code_in}
 use Rattle.show_faults.specs.declared.explanation.Explanation.{Explanation}
 use Rattle.command_line.specs.Words as qlock
-use Rattle.command_line.specs.Words.{HasNumber, deal_app, required_subcommand, with_subcommands, word_rule}
+use Rattle.command_line.specs.Words.{HasNumber, deal_app, required_subcommand, number_rule, with_rules, with_subcommands, word_rule}
 use Rattle.command_line.specs.declared.usage.Usage.{Usage}
 use Rattle.command_line.specs.declared.usage.Usage.TheVariants.{Arguments, OutOfMemory, Refused}
 use Rattle.show_cli.specs.declared.command.Picture.{Picture}
 use Rattle.show_cli.specs.declared.command.Picture.TheVariants.{Cycle, Load, World as Messages}
 use Rattle.show_cli.specs.declared.command.ShowCommand.{ShowCommand}
-use Rattle.show_cli.specs.declared.command.ShowCommand.TheVariants.{Bridge, Deal, DealEven, Explain, ExplainAll, Fault, ListFaults, Picture as Show, Plan, Report, Resilience, Without, World}
+use Rattle.show_cli.specs.declared.command.ShowCommand.TheVariants.{Bridge, Deal, DealEven, Explain, ExplainAll, Fault, ListFaults, Picture as Show, Plan, Report, Resilience, Waiting, Without, World}
 
 -- The command lines of the program.
 
@@ -50,6 +51,20 @@ fault_app = with_rule (new_app (codes "fault")) (words_rule (codes "WORDS"))
 abbrev pub picture_app : App
 picture_app = with_rule (new_app (codes "picture")) (word_rule (codes "KIND"))
 
+-- a number that may be left out, from `least` to `most`
+abbrev pub optional_rule : Text → ℕ → ℕ → Rule
+optional_rule name least most = record (number_rule name least most) { required = false }
+
+-- --round SECONDS
+abbrev pub round_rule : Rule
+round_rule = record (optional_rule (codes "round") 1 86400) { long = Some (codes "round"); value_names = 1 }
+
+-- qlock-show waiting, with CLIENTS, WITHDRAWALS, which may be left out, and --round
+abbrev pub waiting_app : App
+waiting_app =
+    with_rules (new_app (codes "waiting"))
+    (number_rule (codes "CLIENTS") 1 max_clients ∷ optional_rule (codes "WITHDRAWALS") 0 1000000 ∷ round_rule ∷ [])
+
 -- the same app, which has a version
 abbrev pub with_version : App → App
 with_version a = record a { top = record a.top { has_version = true } }
@@ -69,9 +84,9 @@ abbrev pub coteries_app : App
 coteries_app =
     with_subcommands reports_app (without_app ∷ new_app (codes "resilience") ∷ new_app (codes "bridge") ∷ [])
 
--- and with `explain`, `fault` and `picture`: the whole command line
+-- and with `waiting`, `explain`, `fault` and `picture`: the whole command line
 abbrev pub show_app : App
-show_app = with_subcommands coteries_app (explain_app ∷ fault_app ∷ picture_app ∷ [])
+show_app = with_subcommands coteries_app (waiting_app ∷ explain_app ∷ fault_app ∷ picture_app ∷ [])
 
 -- Which command words name.
 
@@ -87,6 +102,11 @@ IsEven rows = first_of (codes "even") rows ≡ Some (codes "true")
 -- these texts are the values of NAMES
 abbrev pub HasNames : List Row → List (String Global) → Type 0
 HasNames rows names = all_of (codes "NAMES") rows ≡ Some (map string_bytes names)
+
+-- the number is the value of the argument with this name; or there is none, and it was left out
+abbrev pub MayHaveNumber : Text → ℕ → ℕ → List Row → Option ℕ → Type 0
+MayHaveNumber name least most rows None = first_of name rows ≡ None
+MayHaveNumber name least most rows (Some n) = HasNumber name least most rows n
 
 -- a command line of `qlock`: the words behind `fault`
 abbrev pub qlock_words : List Row → List Text
@@ -109,6 +129,11 @@ IsNamedBy (Some used) Resilience = used.0 ≡ codes "resilience"
 IsNamedBy (Some used) Bridge = used.0 ≡ codes "bridge"
 IsNamedBy (Some used) World = used.0 ≡ codes "world"
 IsNamedBy (Some used) Report = used.0 ≡ codes "report"
+IsNamedBy (Some used) (Waiting w) =
+    (used.0 ≡ codes "waiting")
+    × HasNumber (codes "CLIENTS") 1 max_clients used.1 w.clients
+    × MayHaveNumber (codes "WITHDRAWALS") 0 1000000 used.1 w.withdrawals
+    × MayHaveNumber (codes "round") 1 86400 used.1 w.round
 IsNamedBy (Some used) (Explain explanation) = (used.0 ≡ codes "explain") × HasCode used.1 explanation.now
 IsNamedBy (Some used) ExplainAll = (used.0 ≡ codes "explain") × (first_of (codes "CODE") used.1 ≡ Some (codes "all"))
 IsNamedBy (Some used) ListFaults = (used.0 ≡ codes "explain") × (first_of (codes "CODE") used.1 ≡ None)

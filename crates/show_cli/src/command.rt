@@ -1,6 +1,7 @@
 //! The commands of the program.
 use commands::Command;
 use show_faults::Explanation;
+use show_waiting::Waiting;
 
 /// What a picture shows.
 #[derive(Clone, Copy)]
@@ -32,6 +33,8 @@ pub enum ShowCommand {
     Bridge,
     /// Tell a script's run in words.
     World,
+    /// Show how long a client waits at most until it is inside.
+    Waiting(Waiting),
     /// Explain a fault.
     Explain(&'static Explanation),
     /// Explain all faults, in Markdown.

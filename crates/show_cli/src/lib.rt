@@ -13,7 +13,7 @@
 //!
 //! The input is read to its end, and what is written is a page of the command for what was read:
 //!
-//! - of `deal`, also with `--even`, of `plan`, `without` and `bridge` the whole page is determined;
+//! - of `deal`, also with `--even`, of `plan`, `without`, `bridge` and `waiting` the whole page is determined;
 //! - of `resilience` it is, except which set of voters it names and whether the search came to its end;
 //! - of `report` it is, except its head, its picture, which set of voters it names and whether the search
 //!   ended;
@@ -44,5 +44,5 @@ mod serving;
 mod words;
 
 pub use command::{Picture, ShowCommand};
-pub use serving::show;
+pub use serving::{reads_page_input, show};
 pub use words::read_show_words;

@@ -7,6 +7,7 @@ ghost use Rattle.commands.specs.Devices.{IsOwn};
 ghost use Rattle.show_cli.specs.Commands.{IsShown};
 ghost use Rattle.show_refusals.specs.Pages.{IsFaultPage};
 ghost use Rattle.show_cli.specs.Pages.{IsShownBy};
+ghost use Rattle.show_waiting.specs.Waiting.{IsInRange as IsAnswered, waiting_text};
 
 use crate::command::{Picture, ShowCommand};
 use crate::losses::{borne_page, left_page, pair_page};
@@ -17,6 +18,7 @@ use show_plans::{cycle_picture, load_picture};
 use show_refusals::fault_page;
 use show_report::report_page;
 use show_tickets::{even_page, rounds_page};
+use show_waiting::{Waiting, waiting_page};
 use show_words::{plan_words, world_words};
 use show_worlds::world_picture;
 use std::alloc::Global;
@@ -150,6 +152,18 @@ fn story_picture(alloc: Global, input: &[u8]) -> Result<String, Fault>
     }
 }
 
+/// Returns the page of how long a client waits at most.
+fn wait_page(alloc: Global, waiting: &Waiting) -> Result<String, Fault>
+    requires { IsAnswered waiting.now }
+    ensures page { IfOk result (λ page. string_bytes page ≡ waiting_text waiting.now) }
+    ensures memory { IfErr result (λ fault. fault ≡ Fault.OutOfMemory) }
+{
+    match waiting_page(alloc, waiting) {
+        Ok(page) => Ok(page),
+        Err(_) => Err(Fault::OutOfMemory),
+    }
+}
+
 /// Returns the page of an explanation.
 fn explain_page(alloc: Global, explanation: &Explanation) -> Result<String, Fault>
     ensures page { IfOk result (λ page. string_bytes page ≡ text_of explanation.now) }
@@ -213,6 +227,7 @@ pub(crate) fn page_of(alloc: Global, command: &ShowCommand, input: &[u8]) -> Res
         ShowCommand::Bridge => pair_page(alloc, input),
         ShowCommand::World => world_page(alloc, input),
         ShowCommand::Picture(Picture::World) => story_picture(alloc, input),
+        ShowCommand::Waiting(waiting) => wait_page(alloc, waiting),
         ShowCommand::Explain(explanation) => explain_page(alloc, explanation),
         ShowCommand::ExplainAll => explain_all_page(alloc),
         ShowCommand::ListFaults => list_page(alloc),

@@ -11,33 +11,21 @@ ghost use Rattle.show_cli.specs.Pages.{ComesOfShowing, EndsAfterPage, LeavesShow
 
 use crate::command::ShowCommand;
 use crate::pages::page_of;
-use commands::{Command, Fault, Watched};
+use commands::{Fault, Watched, reads_input};
 use std::alloc::Global;
 use std::io::{Read, Write};
 use whole_io::{read_input, write_output};
 
-/// Returns whether a command of `qlock` reads its input.
-fn reads_qlock_input(command: &Command) -> bool
-    ensures { result ≡ reads_input command.now }
-{
-    match command {
-        Command::Make(_) => false,
-        Command::Plan
-        | Command::Check
-        | Command::Deal(_)
-        | Command::World
-        | Command::Run { .. }
-        | Command::Replay => true,
-    }
-}
-
-/// Returns whether a command reads its input.
-fn reads_page_input(command: &ShowCommand) -> bool
+/// Returns whether a command reads its input. `waiting` and `explain` don't, and neither does `fault make`.
+pub fn reads_page_input(command: &ShowCommand) -> bool
     ensures { result ≡ reads_page_input command.now }
 {
     match command {
-        ShowCommand::Explain(_) | ShowCommand::ExplainAll | ShowCommand::ListFaults => false,
-        ShowCommand::Fault(command) => reads_qlock_input(command),
+        ShowCommand::Waiting(_)
+        | ShowCommand::Explain(_)
+        | ShowCommand::ExplainAll
+        | ShowCommand::ListFaults => false,
+        ShowCommand::Fault(command) => reads_input(command),
         ShowCommand::Plan
         | ShowCommand::Report
         | ShowCommand::Deal(_)

@@ -1,24 +1,35 @@
 //! The command line: which command its words name.
-ghost use Rattle.std.specs.Prelude.{◌≡◌, ◌++◌, ◌∷◌, false, true, IfErr, IfOk, IfSome, None, OnOk, codes, map, string_bytes};
+ghost use Rattle.std.specs.Prelude.{◌≡◌, ℕ, ◌++◌, ◌∷◌, Option, false, true, IfErr, IfOk, IfSome, None, OnOk, codes, map, string_bytes};
 ghost use Rattle.clap.specs.Words.{app_of, found_of, rows_of, rule_of, subcommand_rows_of};
 ghost use Rattle.command_line.specs.Words.{IsLocal, used_as};
 ghost use Rattle.command_line.specs.declared.usage.Usage.TheVariants.{Arguments};
 ghost use Rattle.show_cli.specs.Commands.{IsShown};
 ghost use Rattle.show_cli.specs.declared.command.Picture.{Picture};
-ghost use Rattle.show_cli.specs.Words.{IsEven, IsNamedBy, Names, Refuses, RefusesUse, coteries_app, even_rule, explain_app, fault_app, pages_app, picture_app, picture_word, qlock_words, reports_app, show_app, tickets_app, without_app, words_rule};
+ghost use Rattle.show_cli.specs.Words.{IsEven, IsNamedBy, Names, Refuses, RefusesUse, coteries_app, MayHaveNumber, even_rule, explain_app, fault_app, optional_rule, pages_app, picture_app, picture_word, qlock_words, reports_app, round_rule, show_app, tickets_app, waiting_app, without_app, words_rule};
 
 use crate::command::{Picture, ShowCommand};
 use clap::{Arg, ArgAction, ArgMatches};
 use command_line::{
-    bare_command, read_matches, text_at, text_of, texts_of, tickets_argument, tickets_of, used_in,
-    word_argument,
+    bare_command, number_argument, number_of, read_matches, text_at, text_of, texts_of,
+    tickets_argument, tickets_of, used_in, word_argument,
 };
 use commands::{Command, Usage, read_words};
+use numbers::MAX_CLIENTS;
 use show_faults::explanation_of;
+use show_waiting::Waiting;
 use std::alloc::{AllocError, Global};
 
 /// The version of the program, as in `CHANGELOG.md`.
 const VERSION: &str = "0.2.0";
+
+/// The most clients of `waiting`.
+const MOST_CLIENTS: u64 = MAX_CLIENTS as u64;
+
+/// The most withdrawals of `waiting`.
+const MOST_WITHDRAWALS: u64 = 1_000_000;
+
+/// The longest round of `waiting`, in seconds: a day.
+const LONGEST_ROUND: u64 = 86_400;
 
 /// Returns the flag `--even`.
 fn even_argument<'a>(alloc: Global) -> Arg<'a>
@@ -64,6 +75,63 @@ fn without_command<'a>(alloc: Global) -> Result<clap::Command<'a>, AllocError>
         "Write the coterie that is left when these voters fail, for qlock plan: a coterie",
     )
     .arg(words_argument(alloc, "NAMES", "The names of the voters that fail"))
+}
+
+/// Returns an argument that may be left out: a number from `least` to `most`.
+fn optional_argument<'a>(
+    alloc: Global,
+    name: &'a str,
+    help: &'a str,
+    least: u64,
+    most: u64,
+) -> Arg<'a>
+    ensures rule { rule_of result ≡ optional_rule name.now least most }
+    ensures local { result.global ≡ false }
+{
+    number_argument(alloc, name, help, least, most).required(false)
+}
+
+/// Returns the option `--round SECONDS`.
+fn round_argument<'a>(alloc: Global) -> Arg<'a>
+    ensures rule { rule_of result ≡ round_rule }
+    ensures local { result.global ≡ false }
+{
+    optional_argument(
+        alloc,
+        "round",
+        "How many seconds a fair round takes, 1 to 86400",
+        1,
+        LONGEST_ROUND,
+    )
+    .long("round")
+    .value_name("SECONDS")
+}
+
+/// Returns the subcommand `waiting CLIENTS [WITHDRAWALS]`, with the option `--round`.
+fn waiting_command<'a>(alloc: Global) -> Result<clap::Command<'a>, AllocError>
+    ensures app { IfOk result (λ c. app_of c ≡ waiting_app) }
+    ensures local { IfOk result IsLocal }
+{
+    bare_command(
+        alloc,
+        "waiting",
+        "Show how long a client waits at most until it is inside, in fair rounds; standard input is not read",
+    )
+    .arg(number_argument(
+        alloc,
+        "CLIENTS",
+        "How many clients there are, 1 to 64",
+        1,
+        MOST_CLIENTS,
+    ))?
+    .arg(optional_argument(
+        alloc,
+        "WITHDRAWALS",
+        "How many others give up while one waits, 0 to 1000000; 0 if it is left out",
+        0,
+        MOST_WITHDRAWALS,
+    ))?
+    .arg(round_argument(alloc))
 }
 
 /// Returns the subcommand `explain CODE`, of which the code may be left out.
@@ -165,6 +233,7 @@ fn show_command<'a>(alloc: Global) -> Result<clap::Command<'a>, AllocError>
     ensures { IfOk result (λ c. app_of c ≡ show_app) }
 {
     coteries_command(alloc)?
+        .subcommand(waiting_command(alloc)?)?
         .subcommand(explain_command(alloc)?)?
         .subcommand(fault_command(alloc)?)?
         .subcommand(picture_command(alloc)?)
@@ -207,6 +276,51 @@ fn deal_of(used: &ArgMatches) -> Result<ShowCommand, Usage>
     } else {
         Ok(ShowCommand::Deal(tickets))
     }
+}
+
+/// Returns the number that an argument is, if it is there and in range; or that it was left out.
+fn number_if_given(
+    used: &ArgMatches,
+    name: &str,
+    least: u64,
+    most: u64,
+) -> Result<Option<u64>, Usage>
+    ensures given { IfOk result (MayHaveNumber name.now least most (rows_of (found_of used.now))) }
+    ensures refused { IfErr result (λ usage. (usage ≡ Arguments)
+        × ((number : Option ℕ) → ¬ MayHaveNumber name.now least most (rows_of (found_of used.now)) number)) }
+{
+    if text_of(used, name).is_none() {
+        return Ok(None);
+    }
+    match number_of(used, name, least, most) {
+        Some(number) => Ok(Some(number)),
+        None => Err(Usage::Arguments),
+    }
+}
+
+/// Returns `waiting` with its numbers.
+fn waiting_of(used: &ArgMatches) -> Result<ShowCommand, Usage>
+    ensures named { IfOk result (IsNamedBy (used_as (codes "waiting") used.now)) }
+    ensures refused { IfErr result (RefusesUse (used_as (codes "waiting") used.now)) }
+    ensures memory { IfErr result (λ usage. usage ≡ Arguments) }
+    ensures shown { IfOk result IsShown }
+{
+    let Some(clients) = number_of(used, "CLIENTS", 1, MOST_CLIENTS) else {
+        return Err(Usage::Arguments);
+    };
+    let withdrawals = match number_if_given(used, "WITHDRAWALS", 0, MOST_WITHDRAWALS) {
+        Ok(withdrawals) => withdrawals,
+        Err(usage) => return Err(usage),
+    };
+    let round = match number_if_given(used, "round", 1, LONGEST_ROUND) {
+        Ok(round) => round,
+        Err(usage) => return Err(usage),
+    };
+    Ok(ShowCommand::Waiting(Waiting {
+        clients,
+        withdrawals,
+        round,
+    }))
 }
 
 /// Returns `explain` with the fault that its word names, or that explains or lists all faults.
@@ -329,6 +443,7 @@ fn command_named(alloc: Global, name: &str, used: &ArgMatches) -> Result<ShowCom
         "bridge" => Ok(ShowCommand::Bridge),
         "without" => without_of(alloc, used),
         "deal" => deal_of(used),
+        "waiting" => waiting_of(used),
         "explain" => explain_of(used),
         "fault" => fault_of(alloc, used),
         "picture" => picture_of(used),

@@ -13,8 +13,8 @@
 //! The definitions in `specs/` determine the pages of [`without_page`] and [`bridge_page`] letter by
 //! letter, from the coteries with their names and capacities. That of [`resilience_page`] they
 //! determine except for one set of voters, and whether it is a smallest one: the set meets every
-//! quorum, and if the page says that it is a smallest one, none is smaller. That the search ends is
-//! only tested.
+//! quorum, and if the page says that it is a smallest one, none is smaller. That the search ends
+//! within a million steps is only tested.
 //!
 //! Depends on `failures`, which finds what is left, on `quorum_set`, and on `coterie_file` for
 //! names and texts.

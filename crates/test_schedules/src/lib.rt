@@ -17,7 +17,7 @@
 //!
 //! In 1,350 schedules worlds are played in fair rounds: `duties` lists what a round owes, `rounds` plays,
 //! and between the duties an adversary does anything else. Whoever asks is inside within the rounds that
-//! `progress` proves, and the longest waits are stored. A separate checker, `fair`, tests by the
+//! `progress` proves, and the longest waits are those that `show_waiting` prints. A separate checker, `fair`, tests by the
 //! definition that the rounds are fair. With each of three wrong rules a client waits for longer than
 //! the bound.
 #![tactic(auto)]

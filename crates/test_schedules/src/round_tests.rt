@@ -6,7 +6,8 @@ use crate::fair::{Made, is_fair};
 use crate::plans::Kind;
 use crate::rounds::{Game, Play, Tally, inside_of, new_world, played, sizes_of};
 use crate::rules::Rule;
-use crate::waits::{LONGEST_WAITS, SCHEDULES, bound};
+use crate::waits::{SCHEDULES, bound};
+use show_waiting::longest_wait;
 use std::alloc::{AllocError, Global};
 use world::Step::{Deliver, Leave, RemindClient, RemindVoter};
 use world::{Step, World};
@@ -105,7 +106,7 @@ fn bounds_are_those_of_the_law(rt: HostRuntime) {
 #[test]
 fn whoever_asks_is_inside_in_time(rt: HostRuntime) {
     for clients in 1..6u8 {
-        let longest = LONGEST_WAITS[usize::from(clients) - 1];
+        let longest = longest_wait(u64::from(clients));
         assert!(rt; is_stored(rt.alloc(), clients, longest) == Ok(true));
     }
 }

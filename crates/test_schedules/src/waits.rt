@@ -3,10 +3,6 @@
 /// How many schedules there are for each number of clients.
 pub const SCHEDULES: u64 = 150;
 
-/// The longest wait in schedules without withdrawals and without late REQUESTs, in fair rounds, for 1 to
-/// 5 clients. It is what this generator shows with these seeds. The bounds are 30, 70, 120, 180 and 250.
-pub const LONGEST_WAITS: [u64; 5] = [1, 6, 9, 12, 15];
-
 /// Returns within how many rounds a client has to be inside: the bound that `progress` proves.
 pub fn bound(clients: u8, give_ups: u64, late: u64) -> u64 {
     let clients = u64::from(clients);

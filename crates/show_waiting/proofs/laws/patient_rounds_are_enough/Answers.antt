@@ -1,0 +1,10 @@
+use Rattle.std.proofs.Common.{length}
+use Rattle.progress.specs.Rounds.{late_in}
+use Rattle.world.specs.Steps.{dealing_of}
+use Rattle.show_waiting.proofs.WaitingLemmas.{patient_bound-of_law}
+use Rattle.show_waiting.proofs.laws.patient_rounds_are_enough.Goals as goal
+
+pub returns : goal.returns
+returns c = λ w k rounds more reached asks fair patient goes_on grants none enough seen.
+    c.patient_rounds_let_everybody_in.ensures w k rounds more reached asks fair patient goes_on grants
+    (patient_bound-of_law (length w.state.clients) (late_in (dealing_of w.plans) 0 w.state rounds) (length rounds) none enough) seen

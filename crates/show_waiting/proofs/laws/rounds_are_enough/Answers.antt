@@ -1,0 +1,10 @@
+use Rattle.std.proofs.Common.{length}
+use Rattle.progress.specs.Rounds.{give_ups_in, late_in, steps_of}
+use Rattle.world.specs.Steps.{dealing_of}
+use Rattle.show_waiting.proofs.WaitingLemmas.{bound-of_law}
+use Rattle.show_waiting.proofs.laws.rounds_are_enough.Goals as goal
+
+pub returns : goal.returns
+returns c = λ w k rounds more reached asks fair goes_on grants none enough seen.
+    c.fair_rounds_let_everybody_in.ensures w k rounds more reached asks fair goes_on grants
+    (bound-of_law (length w.state.clients) (give_ups_in (steps_of rounds)) (late_in (dealing_of w.plans) 0 w.state rounds) (length rounds) none enough) seen
