@@ -16,11 +16,12 @@ const Room = 1 << 16
 // NATS is a connection to one of the servers of NATS. If it fails, it goes on to the next one, for ever.
 type NATS struct{ connection *nats.Conn }
 
-// Connect begins to connect to a cluster's servers. It returns before a connection is there. A server that stands still
-// is left after three seconds.
+// Connect begins to connect to a cluster's servers, to the first in their order that is there. It returns before a
+// connection is there. A server that stands still is left after three seconds. Where all processes have one order, their
+// messages take one server.
 func Connect(cluster *config.Cluster, access config.Access, name string) (*NATS, error) {
 	options := []nats.Option{
-		nats.Name(name), nats.NoEcho(), nats.IgnoreAuthErrorAbort(), nats.Timeout(time.Second),
+		nats.Name(name), nats.NoEcho(), nats.DontRandomize(), nats.IgnoreAuthErrorAbort(), nats.Timeout(time.Second),
 		nats.MaxReconnects(-1), nats.RetryOnFailedConnect(true),
 		nats.ReconnectWait(100 * time.Millisecond), nats.ReconnectJitter(100*time.Millisecond, 200*time.Millisecond),
 		nats.ReconnectBufSize(-1), // what can't leave is lost, and not sent late
