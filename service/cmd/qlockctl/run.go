@@ -7,6 +7,7 @@ import (
 	"fmt"
 	"os"
 	"os/exec"
+	"runtime"
 	"syscall"
 	"time"
 
@@ -16,8 +17,11 @@ import (
 
 // Exit statuses of `run` besides that of the program.
 const (
-	exitNoLock = 75 // the lock was not to be had in time
-	exitLost   = 76 // the lock may have been lost while the program ran
+	exitNoLock   = 75  // the lock was not to be had in time
+	exitLost     = 76  // the lock may have been lost while the program ran
+	exitSettings = 78  // a file of the settings can't be used, or the lock has a bad name
+	exitNoStart  = 126 // the program can't be started
+	exitNone     = 127 // there is no such program
 )
 
 var errLost = errors.New("the lock may be somebody else's, and the program was ended")
@@ -28,8 +32,10 @@ func runCommand(ctx context.Context, s *settings) *cobra.Command {
 	command := &cobra.Command{Use: "run LOCK PROGRAM [ARGUMENT..]", Args: cobra.MinimumNArgs(2), Short: "Run a program that needs a lock",
 		Long: "Takes a lock, runs a program, and gives the lock back. The program finds its pass in QLOCK_PASS, in hexadecimal: " +
 			"what it shows to the guard. If the lock may be lost, the program and all processes of its group get SIGTERM, and " +
-			"then SIGKILL. It can't read from a terminal.\n\nThe exit status is that of the program, 75 if the lock was not " +
-			"to be had in time, or 76 if the lock may have been lost.",
+			"then SIGKILL. If this command itself is killed, the program is killed, too, but not what it started. It can't read " +
+			"from a terminal.\n\nThe exit status is that of the program, 75 if the lock was not to be had in time, 76 if the " +
+			"lock may have been lost, 78 if the settings or the lock's name can't be used, 126 if the program can't be " +
+			"started, or 127 if there is none.",
 		RunE: func(_ *cobra.Command, args []string) error {
 			return run(ctx, s.client(prefix), wait, grace, args[0], args[1:])
 		}}
@@ -46,7 +52,7 @@ func run(ctx context.Context, config locks.Config, wait, grace time.Duration, lo
 	defer cancel()
 	client, err := locks.Open(limit, config)
 	if err != nil {
-		return status{exitNoLock, err}
+		return withoutLock(limit, err)
 	}
 	defer func() {
 		brief, cancel := context.WithTimeout(context.Background(), 5*time.Second)
@@ -56,8 +62,10 @@ func run(ctx context.Context, config locks.Config, wait, grace time.Duration, lo
 		}
 	}()
 	held, err := client.Lock(limit, lock)
-	if err != nil {
-		return status{exitNoLock, fmt.Errorf("%s: %w", lock, err)}
+	if errors.Is(err, context.DeadlineExceeded) {
+		return status{exitNoLock, fmt.Errorf("%s: somebody else had the lock for %v", lock, wait)}
+	} else if err != nil {
+		return withoutLock(limit, fmt.Errorf("%s: %w", lock, err))
 	}
 	work, done := held.Context(ctx)
 	defer done()
@@ -67,20 +75,32 @@ func run(ctx context.Context, config locks.Config, wait, grace time.Duration, lo
 	switch {
 	case lost:
 		return status{exitLost, fmt.Errorf("%s: %w", lock, errLost)}
+	case errors.Is(err, os.ErrNotExist) || errors.Is(err, exec.ErrNotFound):
+		return status{exitNone, err}
 	case err != nil:
-		return err
+		return status{exitNoStart, err}
 	case code != 0:
 		return status{code: code}
 	}
 	return nil
 }
 
+// withoutLock returns the status of a command that has no lock: 75 if its time is over, and 78 if time would not help.
+func withoutLock(limit context.Context, err error) error {
+	if limit.Err() == nil {
+		return status{exitSettings, err}
+	}
+	return status{exitNoLock, err}
+}
+
 // runProgram runs a program until it ends, or the context does. It returns the program's exit status. The program has a
-// process group of its own, so that all of it gets the signals.
+// process group of its own, so that all of it gets the signals. It is killed when this process is.
 func runProgram(ctx context.Context, grace time.Duration, words []string, environment string) (int, error) {
+	runtime.LockOSThread() // the program is killed when the thread ends that started it
+	defer runtime.UnlockOSThread()
 	program := exec.Command(words[0], words[1:]...)
 	program.Env = append(os.Environ(), environment)
-	program.SysProcAttr = &syscall.SysProcAttr{Setpgid: true}
+	program.SysProcAttr = &syscall.SysProcAttr{Setpgid: true, Pdeathsig: syscall.SIGKILL}
 	program.Stdin, program.Stdout, program.Stderr = os.Stdin, os.Stdout, os.Stderr
 	if err := program.Start(); err != nil {
 		return 0, err

@@ -1,7 +1,11 @@
 package main
 
 import (
+	"bytes"
 	"context"
+	"fmt"
+	"os"
+	"os/exec"
 	"testing"
 	"time"
 )
@@ -24,6 +28,38 @@ func TestRunProgram(t *testing.T) {
 		cancel()
 		if err != nil || code != want || time.Since(began) > 20*time.Second {
 			t.Errorf("%s: %d, %v", text, code, err)
+		}
+	}
+}
+
+// A program is killed with the process that runs it.
+func TestProgramIsKilledWithRun(t *testing.T) {
+	if os.Getenv("QLOCK_RUNS") != "" {
+		_, _ = runProgram(context.Background(), time.Second, []string{"sh", "-c", "echo $$; exec sleep 60"}, "A=b")
+		return
+	}
+	run := exec.Command(os.Args[0], "-test.run", "^TestProgramIsKilledWithRun$")
+	run.Env = append(os.Environ(), "QLOCK_RUNS=1")
+	out, err := run.StdoutPipe()
+	if err != nil {
+		t.Fatal(err)
+	}
+	if err := run.Start(); err != nil {
+		t.Fatal(err)
+	}
+	var program int
+	if _, err := fmt.Fscan(out, &program); err != nil {
+		t.Fatal(err)
+	}
+	_ = run.Process.Kill()
+	_ = run.Wait()
+	for end := time.Now().Add(5 * time.Second); ; time.Sleep(10 * time.Millisecond) {
+		stat, err := os.ReadFile(fmt.Sprintf("/proc/%d/stat", program))
+		if err != nil || bytes.Contains(stat, []byte(") Z ")) {
+			return
+		}
+		if time.Now().After(end) {
+			t.Fatal("the program goes on")
 		}
 	}
 }
