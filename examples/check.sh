@@ -186,7 +186,7 @@ shown deal-fast-majority fast-majority-planned.txt deal 1
 shown deal-wheel-3-fast-hub wheel-3-fast-hub-planned.txt deal 7
 shown deal-even-wheel-3 wheel-3-planned.txt deal --even 5
 shown deal-even-wheel-3-fast-hub wheel-3-fast-hub-planned.txt deal --even 7
-for world in race late-message withdrawal refusals lost-release crash exchange most; do
+for world in race late-message withdrawal refusals lost-release crash exchange eviction rebirth three-passes most; do
     shown "world-$world" "world-$world.txt" world
 done
 # how long pages end: of the most tickets in each order, and of a script of 100,000 steps and one more

@@ -20,6 +20,6 @@ planned() {
 for coterie in grid-3-3 majority-5 wheel-3 wheel-3-fast-hub cyclic-7 tree-2 three-racks weighted-votes; do
     planned "$coterie"
 done
-for world in race late-message withdrawal crash exchange; do
+for world in race late-message withdrawal crash exchange eviction; do
     "$root/qlock-show" picture world < "$root/examples/world-$world.txt" > "$folder/world-$world.svg"
 done

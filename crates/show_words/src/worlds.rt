@@ -5,13 +5,14 @@ ghost use Rattle.show_words.specs.Worlds.{IsWorldPage};
 use crate::names::{name_of, push_names};
 use coterie_file::Named;
 use dealer::Plans;
+use incidents::IncidentWorld;
 use message::{ClientBody, Message, ToClient, ToVoter, VoterBody};
 use requester::{Phase, Requester, Seen};
 use std::alloc::{AllocError, Global};
-use stories::{Happening, Player, StoryScript, Turn};
-use voter::Voter;
+use stories::{Happening, Late, Player, StoryScript, Turn};
+use voter::{Grant, Voter};
 use ways::let_in;
-use world::{SavedWorld, Step, World, WorldFault};
+use world::{Step, World};
 
 /// Returns the client that has the vote of a voter, if there is one.
 fn holder_of(voter: Option<&Voter>) -> Option<u8> {
@@ -108,14 +109,20 @@ fn push_sent(
 }
 
 /// Appends the line of a client that entered or left, if one did.
-fn push_seen(text: &mut String, world: &SavedWorld, seen: Seen) -> Result<(), AllocError> {
-    let Some(event) = world.visible().last() else {
+fn push_seen(text: &mut String, player: &Player, seen: Seen) -> Result<(), AllocError> {
+    let Some(event) = player.world().visible().last() else {
         return Ok(());
     };
     let client = event.client;
     match seen {
         Seen::Nothing => Ok(()),
-        Seen::Entered => write!(text, "    client {client} is inside: it has the lock\n"),
+        Seen::Entered if player.is_calm() => {
+            write!(text, "    client {client} is inside: it has the lock\n")
+        }
+        Seen::Entered => write!(
+            text,
+            "    client {client} is inside: it believes that it has the lock\n"
+        ),
         Seen::Left => write!(text, "    client {client} is no longer inside\n"),
     }
 }
@@ -158,7 +165,7 @@ fn push_step(
 }
 
 /// Returns the message that arrives in a step of a story, if one does.
-fn arrival(world: &SavedWorld, step: Step) -> Option<Message> {
+fn arrival(world: &IncidentWorld, step: Step) -> Option<Message> {
     let Step::Deliver(number) = step else {
         return None;
     };
@@ -172,7 +179,7 @@ fn arrival(world: &SavedWorld, step: Step) -> Option<Message> {
 fn push_turn(
     text: &mut String,
     named: &Named,
-    world: &SavedWorld,
+    world: &IncidentWorld,
     turn: Turn,
 ) -> Result<(), AllocError> {
     match turn {
@@ -185,6 +192,18 @@ fn push_turn(
             let name = name_of(named, voter);
             write!(text, "{name} crashes, and restarts from what it saved")
         }
+        Turn::Evict(voter) => {
+            let name = name_of(named, voter);
+            write!(text, "{name} lets its grant go, without asking")
+        }
+        Turn::RebornVoter(voter) => {
+            let name = name_of(named, voter);
+            write!(text, "{name} lost its state, and is reborn")
+        }
+        Turn::AnewClient(client) => {
+            write!(text, "client {client} lost its state, and starts anew")
+        }
+        Turn::Show(client) => write!(text, "client {client} shows its pass to the guard"),
     }
 }
 
@@ -200,6 +219,85 @@ fn push_forgotten(text: &mut String, messages: usize) -> Result<(), AllocError> 
     }
 }
 
+/// Appends the line of a grant that a voter let go.
+fn push_evicted(text: &mut String, grant: Grant) -> Result<(), AllocError> {
+    let client = grant.client;
+    let number = grant.grant;
+    write!(
+        text,
+        "    client {client} had the vote by it (grant {number}), and is not told\n"
+    )
+}
+
+/// Appends why the guard refuses a pass.
+fn push_late(text: &mut String, named: &Named, late: Late) -> Result<(), AllocError> {
+    let name = name_of(named, late.voter);
+    let shown = late.shown;
+    let seen = late.seen;
+    write!(
+        text,
+        "the guard refuses it: it shows grant {shown} of {name}, and the guard saw grant {seen}\n"
+    )
+}
+
+/// Appends the lines of the messages that were sent from a number on.
+fn push_all_sent(
+    text: &mut String,
+    named: &Named,
+    player: &Player,
+    first: usize,
+    sent: usize,
+) -> Result<(), AllocError> {
+    for number in first..first.saturating_add(sent) {
+        push_sent(text, named, player, number)?;
+    }
+    Ok(())
+}
+
+/// Appends what befell a voter or a client beyond a step or a crash.
+fn push_incident(
+    text: &mut String,
+    named: &Named,
+    player: &Player,
+    happening: Happening,
+) -> Result<(), AllocError> {
+    match happening {
+        Happening::Evicted { grant, first, sent } => {
+            push_evicted(text, grant)?;
+            push_all_sent(text, named, player, first, sent)
+        }
+        Happening::NoGrant(voter) => {
+            let name = name_of(named, voter);
+            write!(text, "    refused: {name} has given no grant\n")
+        }
+        Happening::Reborn(granted) => {
+            let next = granted.saturating_add(1);
+            write!(text, "    its next grant has number {next}\n")
+        }
+        Happening::Anew { clock, seen } => {
+            write!(text, "    its clock is at its last stamp, {clock}\n")?;
+            push_seen(text, player, seen)
+        }
+        _ => Ok(()),
+    }
+}
+
+/// Appends what the guard did with a pass.
+fn push_guarded(text: &mut String, named: &Named, happening: Happening) -> Result<(), AllocError> {
+    match happening {
+        Happening::Admitted(turn) => write!(text, "    the guard admits it: turn {turn}\n"),
+        Happening::Late(late) => {
+            text.push_str("    ")?;
+            push_late(text, named, late)
+        }
+        Happening::NoTurn => text.push_str("    the guard refuses it: no turn is left\n"),
+        Happening::NoPass(client) => {
+            write!(text, "    refused: client {client} was never inside\n")
+        }
+        _ => Ok(()),
+    }
+}
+
 /// Appends what a turn did.
 fn push_happening(
     text: &mut String,
@@ -211,11 +309,15 @@ fn push_happening(
         Happening::Refused(fault) => write!(text, "    refused: {fault}\n"),
         Happening::Crashed(messages) => push_forgotten(text, messages),
         Happening::Done { first, sent, seen } => {
-            for number in first..first.saturating_add(sent) {
-                push_sent(text, named, player, number)?;
-            }
-            push_seen(text, player.world(), seen)
+            push_all_sent(text, named, player, first, sent)?;
+            push_seen(text, player, seen)
         }
+        Happening::Evicted { .. }
+        | Happening::NoGrant(_)
+        | Happening::Reborn(_)
+        | Happening::Anew { .. } => push_incident(text, named, player, happening),
+        Happening::Admitted(_) | Happening::Late(_) | Happening::NoTurn | Happening::NoPass(_) =>
+            push_guarded(text, named, happening),
     }
 }
 
@@ -238,7 +340,7 @@ fn push_moment(
 fn push_missing(
     text: &mut String,
     named: &Named,
-    world: &World,
+    world: &IncidentWorld,
     client: u8,
     voter: u8,
 ) -> Result<(), AllocError> {
@@ -254,7 +356,7 @@ fn push_missing(
 fn push_waiting(
     text: &mut String,
     named: &Named,
-    world: &World,
+    world: &IncidentWorld,
     client: &Requester,
 ) -> Result<(), AllocError> {
     let mut between = "";
@@ -272,7 +374,7 @@ fn push_waiting(
 fn push_client(
     text: &mut String,
     named: &Named,
-    world: &World,
+    world: &IncidentWorld,
     client: &Requester,
 ) -> Result<(), AllocError> {
     let number = client.id();
@@ -308,7 +410,7 @@ fn turns_words(
 fn clients_words(
     alloc: Global,
     named: &Named,
-    world: &World,
+    world: &IncidentWorld,
     clients: u8,
 ) -> Result<String, AllocError> {
     let mut text = String::new(alloc);
@@ -326,7 +428,7 @@ fn clients_words(
 fn push_stale_vote(
     text: &mut String,
     named: &Named,
-    world: &World,
+    world: &IncidentWorld,
     number: u8,
 ) -> Result<(), AllocError> {
     let Some(grant) = world.voter(number).and_then(Voter::held) else {
@@ -384,25 +486,86 @@ fn push_way_in(
     Ok(())
 }
 
-/// Returns what is so at the end: what each client does, which votes are out for nothing, and, if
-/// clients wait while nobody is inside, a way in.
+/// Appends the line of a client that is inside by a grant that its voter let go, if it is.
+fn push_let_go(
+    text: &mut String,
+    named: &Named,
+    world: &IncidentWorld,
+    client: &Requester,
+    voter: u8,
+) -> Result<(), AllocError> {
+    let Some(grant) = client.held(voter) else {
+        return Ok(());
+    };
+    let current = world.voter(voter).and_then(Voter::held);
+    if current.is_some_and(|held| held.grant == grant) {
+        return Ok(());
+    }
+    let number = client.id();
+    let name = name_of(named, voter);
+    write!(text, "  client {number}: {name} let its grant {grant} go\n")
+}
+
+/// Appends which grants of a client that is inside were let go, and why the guard refuses its pass, if it
+/// does.
+fn push_guard_end(
+    text: &mut String,
+    named: &Named,
+    player: &Player,
+    client: &Requester,
+) -> Result<(), AllocError> {
+    if client.phase() != Phase::Inside {
+        return Ok(());
+    }
+    for voter in client.quorum() {
+        push_let_go(text, named, player.world(), client, *voter)?;
+    }
+    let number = client.id();
+    match player.refusal(number) {
+        Some(late) => {
+            write!(text, "  client {number}: ")?;
+            push_late(text, named, late)
+        }
+        None => Ok(()),
+    }
+}
+
+/// Returns what is so at the end: what each client does, whom the guard refuses, and which votes are out
+/// for nothing.
 fn ending_words(
     alloc: Global,
     named: &Named,
-    world: &mut World,
+    player: &Player,
     clients: u8,
 ) -> Result<String, AllocError> {
+    let world = player.world();
     let mut text = clients_words(alloc, named, world, clients)?;
+    for number in 0..clients {
+        match world.client(number) {
+            Some(client) => push_guard_end(&mut text, named, player, client)?,
+            None => {}
+        }
+    }
     for voter in 0..64u8 {
         push_stale_vote(&mut text, named, world, voter)?;
     }
-    push_way_in(alloc, &mut text, named, world)?;
+    Ok(text)
+}
+
+/// Returns a way in, if clients wait while nobody is inside. Returns nothing after evictions, rebirths and
+/// clients anew.
+fn way_words(alloc: Global, named: &Named, player: Player) -> Result<String, AllocError> {
+    let mut text = String::new(alloc);
+    if player.is_calm() {
+        let mut world = player.into_world();
+        push_way_in(alloc, &mut text, named, &mut world)?;
+    }
     Ok(text)
 }
 
 /// Returns a story in words: a line for each turn, a line for each message that it sends, and at the
-/// end what each client does and whom it waits for. If clients wait while nobody is inside, a way in
-/// follows. The plans are of coteries with these names. Fails only if memory runs out.
+/// end what each client does, whom it waits for, and whom the guard refuses. If clients wait while nobody
+/// is inside, a way in follows. The plans are of coteries with these names. Fails only if memory runs out.
 pub fn world_words(
     alloc: Global,
     named: &Named,
@@ -413,8 +576,8 @@ pub fn world_words(
 {
     let mut player = Player::new(alloc, plans, script)?;
     let turns = turns_words(alloc, named, &mut player, script.turns())?;
-    let mut world = player.end().into_world();
-    let ending = ending_words(alloc, named, &mut world, script.clients())?;
-    let page = format!(in alloc; "{turns}\nAt the end:\n{ending}")?;
+    let ending = ending_words(alloc, named, &player, script.clients())?;
+    let way = way_words(alloc, named, player)?;
+    let page = format!(in alloc; "{turns}\nAt the end:\n{ending}{way}")?;
     Ok(page)
 }

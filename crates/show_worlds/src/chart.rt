@@ -37,8 +37,8 @@ pub fn shown_moments(story: &Story) -> &[Moment] {
 /// Returns how many messages a step sent.
 fn sent_by(moment: &Moment) -> usize {
     match moment.happening {
-        Happening::Done { sent, .. } => sent,
-        Happening::Refused(_) | Happening::Crashed(_) => 0,
+        Happening::Done { sent, .. } | Happening::Evicted { sent, .. } => sent,
+        _ => 0,
     }
 }
 
@@ -85,8 +85,13 @@ pub fn maker_of(turn: Turn) -> Option<Node> {
             | Step::GiveUp(client)
             | Step::RemindClient(client),
         )
-        | Turn::CrashClient(client) => Some(Node::Client(client)),
-        Turn::Step(Step::RemindVoter(voter)) | Turn::CrashVoter(voter) => Some(Node::Voter(voter)),
+        | Turn::CrashClient(client)
+        | Turn::AnewClient(client)
+        | Turn::Show(client) => Some(Node::Client(client)),
+        Turn::Step(Step::RemindVoter(voter))
+        | Turn::CrashVoter(voter)
+        | Turn::Evict(voter)
+        | Turn::RebornVoter(voter) => Some(Node::Voter(voter)),
         Turn::Step(Step::Deliver(_) | Step::Exchange) => None,
     }
 }

@@ -1,13 +1,13 @@
 //! Where the columns of clients and voters are in the picture of a world.
 use crate::chart::{Node, maker_of};
 use coterie_file::Named;
+use incidents::IncidentWorld;
 use message::Message;
 use quorum_set::QSet;
 use show_svg::{LETTER, Point, line, upright_words, words};
 use show_words::name_of;
 use std::alloc::{AllocError, Global};
 use stories::{Moment, Turn};
-use world::SavedWorld;
 
 /// How far the first column is from the left edge.
 const LEFT: u64 = 250;
@@ -69,7 +69,7 @@ impl Lanes {
     }
 
     /// Adds the client or the voter that does this by itself.
-    fn mark_maker(&mut self, world: &SavedWorld, turn: Turn) {
+    fn mark_maker(&mut self, world: &IncidentWorld, turn: Turn) {
         match maker_of(turn) {
             Some(Node::Client(client)) => {
                 if world.client(client).is_some() {
@@ -100,7 +100,7 @@ impl Lanes {
     }
 
     /// Adds the clients and voters of the first messages.
-    fn mark_messages(&mut self, world: &SavedWorld, messages: usize) {
+    fn mark_messages(&mut self, world: &IncidentWorld, messages: usize) {
         for number in 0..messages.min(world.sent()) {
             let message = world.message(number);
             self.mark_message(&message);
@@ -108,7 +108,7 @@ impl Lanes {
     }
 
     /// Returns the columns of what occurs in these turns and in the first messages.
-    pub fn of(world: &SavedWorld, moments: &[Moment], messages: usize) -> Lanes {
+    pub fn of(world: &IncidentWorld, moments: &[Moment], messages: usize) -> Lanes {
         let mut lanes = Lanes::none();
         for moment in moments {
             lanes.mark_maker(world, moment.turn);

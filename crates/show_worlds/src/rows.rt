@@ -1,13 +1,17 @@
 //! The rows of a world's picture: what each turn is, and who is inside.
 use crate::chart::{Chart, Node, maker_of, shown_moments};
+use coterie_file::Named;
+use incidents::IncidentWorld;
 use message::Message;
 use requester::Seen;
 use show_svg::{
-    Area, Point, circle, close_group, close_text, close_title, line, open_text, open_titled, rect,
+    Area, Point, circle, close_group, close_text, close_title, line, open_text, open_titled,
+    push_escaped, rect,
 };
+use show_words::name_of;
 use std::alloc::AllocError;
-use stories::{Happening, Moment, Story, Turn};
-use world::{SavedWorld, Step, WorldFault};
+use stories::{Happening, Late, Moment, Story, Turn};
+use world::{Step, WorldFault};
 
 /// How far the words of a row are from the left edge.
 const LEFT: u64 = 20;
@@ -20,6 +24,18 @@ pub const MAKER: &str = "fill=\"#222222\"";
 
 /// The style of a square where a client or a voter crashes.
 pub const CRASH: &str = "fill=\"#b22222\"";
+
+/// The style of a ring where a voter lets its grant go.
+const EVICTION: &str = "fill=\"#ffffff\" stroke=\"#b22222\" stroke-width=\"2\"";
+
+/// The style of a square where a voter or a client comes back without its state.
+const REBIRTH: &str = "fill=\"#ffffff\" stroke=\"#b22222\" stroke-width=\"1.5\"";
+
+/// The style of a dot where a client shows a pass that the guard admits.
+const PASS: &str = "fill=\"#1b7a3d\"";
+
+/// The style of a dot where a client shows a pass that the guard refuses.
+const LATE: &str = "fill=\"#b22222\"";
 
 /// Where the faint line of a row begins.
 const GUIDE: u64 = 145;
@@ -43,18 +59,54 @@ fn push_turn(out: &mut String, turn: Turn) -> Result<(), AllocError> {
         Turn::Step(step) => push_step(out, step),
         Turn::CrashClient(client) => write!(out, "crash-client {client}"),
         Turn::CrashVoter(voter) => write!(out, "crash-voter {voter}"),
+        Turn::Evict(voter) => write!(out, "evict {voter}"),
+        Turn::RebornVoter(voter) => write!(out, "reborn-voter {voter}"),
+        Turn::AnewClient(client) => write!(out, "anew-client {client}"),
+        Turn::Show(client) => write!(out, "show {client}"),
     }
+}
+
+/// The style of the words below a row of what was refused.
+const REFUSED: &str = "font-size=\"9\" font-weight=\"bold\" fill=\"#b22222\"";
+
+/// The style of the words below a row of a pass that was admitted.
+const ADMITTED: &str = "font-size=\"9\" font-weight=\"bold\" fill=\"#1b7a3d\"";
+
+/// Returns where the words below a row are.
+fn below(y: u64) -> Point {
+    Point::at(LEFT + 18, y.saturating_add(13))
 }
 
 /// Appends the sign of a refused step, and why it was refused.
 fn push_refusal(out: &mut String, y: u64, fault: WorldFault) -> Result<(), AllocError> {
-    let place = Point::at(LEFT + 18, y.saturating_add(13));
-    open_text(
-        out,
-        place,
-        "font-size=\"9\" font-weight=\"bold\" fill=\"#b22222\"",
-    )?;
+    open_text(out, below(y), REFUSED)?;
     write!(out, "&#215; refused: {fault}")?;
+    close_text(out)
+}
+
+/// Appends why the guard refused a pass.
+fn push_late(out: &mut String, named: &Named, y: u64, late: Late) -> Result<(), AllocError> {
+    let shown = late.shown;
+    let seen = late.seen;
+    open_text(out, below(y), REFUSED)?;
+    out.push_str("&#215; refused: ")?;
+    push_escaped(out, name_of(named, late.voter))?;
+    write!(out, " {shown} &lt; {seen}")?;
+    close_text(out)
+}
+
+/// Appends the turn that the guard gave to a pass.
+fn push_admitted(out: &mut String, y: u64, turn: u64) -> Result<(), AllocError> {
+    open_text(out, below(y), ADMITTED)?;
+    write!(out, "admitted: turn {turn}")?;
+    close_text(out)
+}
+
+/// Appends why a turn was refused that the world knows no fault for.
+fn push_none(out: &mut String, y: u64, why: &str) -> Result<(), AllocError> {
+    open_text(out, below(y), REFUSED)?;
+    out.push_str("&#215; refused: ")?;
+    out.push_str(why)?;
     close_text(out)
 }
 
@@ -69,6 +121,22 @@ pub fn push_crash(out: &mut String, place: Point) -> Result<(), AllocError> {
     rect(out, area, CRASH)
 }
 
+/// Appends a ring at a place, for a grant that is let go.
+pub fn push_eviction(out: &mut String, place: Point) -> Result<(), AllocError> {
+    circle(out, place, 50, EVICTION)
+}
+
+/// Appends an empty square at a place, for one that comes back without its state.
+pub fn push_rebirth(out: &mut String, place: Point) -> Result<(), AllocError> {
+    let area = Area {
+        x: place.x.saturating_sub(4),
+        y: place.y.saturating_sub(4),
+        width: 8,
+        height: 8,
+    };
+    rect(out, area, REBIRTH)
+}
+
 /// Appends a mark at the column of the client or the voter that does this by itself, if one does: a
 /// square for a crash, else a dot.
 fn push_maker(out: &mut String, chart: &Chart, y: u64, moment: &Moment) -> Result<(), AllocError> {
@@ -79,7 +147,11 @@ fn push_maker(out: &mut String, chart: &Chart, y: u64, moment: &Moment) -> Resul
     match moment.happening {
         Happening::Done { .. } => circle(out, place, 35, MAKER),
         Happening::Crashed(_) => push_crash(out, place),
-        Happening::Refused(_) => Ok(()),
+        Happening::Evicted { .. } => push_eviction(out, place),
+        Happening::Reborn(_) | Happening::Anew { .. } => push_rebirth(out, place),
+        Happening::Admitted(_) => circle(out, place, 50, PASS),
+        Happening::Late(_) | Happening::NoTurn => circle(out, place, 50, LATE),
+        Happening::Refused(_) | Happening::NoGrant(_) | Happening::NoPass(_) => Ok(()),
     }
 }
 
@@ -95,19 +167,40 @@ fn push_words(out: &mut String, chart: &Chart, row: u64, turn: Turn) -> Result<(
     close_text(out)
 }
 
-/// Appends the row of a turn: its words, and why it was refused if it was.
-fn push_row(out: &mut String, chart: &Chart, row: u64, moment: &Moment) -> Result<(), AllocError> {
+/// Appends the row of a turn: its words, why it was refused if it was, and what the guard did with a pass.
+fn push_row(
+    out: &mut String,
+    named: &Named,
+    chart: &Chart,
+    row: u64,
+    moment: &Moment,
+) -> Result<(), AllocError> {
     push_words(out, chart, row, moment.turn)?;
+    let y = chart.row(row);
     match moment.happening {
-        Happening::Refused(fault) => push_refusal(out, chart.row(row), fault),
-        Happening::Done { .. } | Happening::Crashed(_) => Ok(()),
+        Happening::Refused(fault) => push_refusal(out, y, fault),
+        Happening::Admitted(turn) => push_admitted(out, y, turn),
+        Happening::Late(late) => push_late(out, named, y, late),
+        Happening::NoTurn => push_none(out, y, "no turn is left"),
+        Happening::NoGrant(_) => push_none(out, y, "no grant is given"),
+        Happening::NoPass(_) => push_none(out, y, "no pass"),
+        Happening::Done { .. }
+        | Happening::Crashed(_)
+        | Happening::Evicted { .. }
+        | Happening::Reborn(_)
+        | Happening::Anew { .. } => Ok(()),
     }
 }
 
 /// Appends a row for each turn.
-pub fn push_rows(out: &mut String, story: &Story, chart: &Chart) -> Result<(), AllocError> {
+pub fn push_rows(
+    out: &mut String,
+    named: &Named,
+    story: &Story,
+    chart: &Chart,
+) -> Result<(), AllocError> {
     for (row, moment) in shown_moments(story).iter().enumerate() {
-        push_row(out, chart, row as u64, moment)?;
+        push_row(out, named, chart, row as u64, moment)?;
     }
     Ok(())
 }
@@ -121,7 +214,7 @@ pub fn push_makers(out: &mut String, story: &Story, chart: &Chart) -> Result<(),
 }
 
 /// Returns the client that a message came to in a turn, or the client that made the turn.
-fn client_of(world: &SavedWorld, turn: Turn) -> Option<u8> {
+fn client_of(world: &IncidentWorld, turn: Turn) -> Option<u8> {
     match (turn, maker_of(turn)) {
         (Turn::Step(Step::Deliver(number)), _) => receiver_of(world, number as usize),
         (_, Some(Node::Client(client))) => Some(client),
@@ -130,7 +223,7 @@ fn client_of(world: &SavedWorld, turn: Turn) -> Option<u8> {
 }
 
 /// Returns the client that receives a message, if a client does.
-fn receiver_of(world: &SavedWorld, number: usize) -> Option<u8> {
+fn receiver_of(world: &IncidentWorld, number: usize) -> Option<u8> {
     if number >= world.sent() {
         return None;
     }
@@ -143,16 +236,20 @@ fn receiver_of(world: &SavedWorld, number: usize) -> Option<u8> {
 /// Returns whether a client entered or left in a turn.
 fn seen_in(moment: &Moment) -> Seen {
     match moment.happening {
-        Happening::Done { seen, .. } => seen,
-        Happening::Refused(_) | Happening::Crashed(_) => Seen::Nothing,
+        Happening::Done { seen, .. } | Happening::Anew { seen, .. } => seen,
+        _ => Seen::Nothing,
     }
 }
 
-/// Returns where the client that is inside after this row leaves: how far that row is from the
-/// upper edge, or how far the end of all rows is if the client does not leave.
-fn leave_height(chart: &Chart, moments: &[Moment], row: usize) -> u64 {
+/// Returns where a client that is inside after this row leaves: how far that row is from the upper
+/// edge, or how far the end of all rows is if the client does not leave.
+fn leave_height(chart: &Chart, story: &Story, row: usize, client: u8) -> u64 {
+    let moments = shown_moments(story);
     for (later, moment) in moments.iter().enumerate() {
-        if later > row && seen_in(moment) == Seen::Left {
+        if later > row
+            && seen_in(moment) == Seen::Left
+            && client_of(&story.world, moment.turn) == Some(client)
+        {
             return chart.row(later as u64);
         }
     }
@@ -195,7 +292,7 @@ fn push_entry(
     }
     match client_of(&story.world, moment.turn) {
         Some(client) => {
-            let foot = leave_height(chart, shown_moments(story), row);
+            let foot = leave_height(chart, story, row, client);
             push_bar(out, chart, client, row, foot)
         }
         None => Ok(()),

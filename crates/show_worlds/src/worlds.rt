@@ -94,7 +94,7 @@ fn push_chart(
 ) -> Result<(), AllocError> {
     let foot = chart.foot(shown_moments(story).len());
     let heights = (chart.top, foot);
-    push_rows(out, story, chart)?;
+    push_rows(out, named, story, chart)?;
     chart.lanes.push_clients(alloc, out, named, heights)?;
     chart.lanes.push_voters(out, named, heights)?;
     push_bars(out, story, chart)?;

@@ -1,1 +1,3 @@
+pub mod GuardLemmas
+pub mod PlayLemmas
 pub mod Readings

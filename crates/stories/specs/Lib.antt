@@ -1,3 +1,4 @@
+pub mod Guards
 pub mod Plays
 pub mod Scripts
 pub mod Turns

@@ -1,8 +1,12 @@
--- The lines of a story: the steps of a script, an exchange of the plan, and crashes.
+-- The lines of a story: the steps of a script, an exchange of the plan, crashes, and what goes beyond them.
 --
 --     exchange             later requests use the second plan
 --     crash-client C       client C crashes, and restarts from what it saved
 --     crash-voter V        the same of voter V
+--     evict V              voter V lets its current grant go
+--     reborn-voter V       voter V lost its state, and comes back with the number of grants that it gave
+--     anew-client C        client C lost its state, and starts anew with its last stamp as its clock
+--     show C               client C shows the guard the pass that it had when it was inside last
 --
 -- All other lines are those of a script. C and V are at most 255.
 use Rattle.std.specs.Prelude.{ℕ, ◌≡◌, ◌≤◌, List, [], ◌∷◌, codes, Option, Some, None, ⊤, if◌then◌else◌}
@@ -13,7 +17,7 @@ use Rattle.text_lines.specs.Forms.{Form, IsForm, IsWord}
 use Rattle.world.specs.declared.step.Step.TheVariants.{Ask, Deliver, Leave, GiveUp, RemindClient, RemindVoter, Exchange}
 use Rattle.replay.specs.Scripts.{HasStepLine, step_number, step_word}
 use Rattle.stories.specs.declared.turn.Turn.{Turn}
-use Rattle.stories.specs.declared.turn.Turn.TheVariants.{CrashClient, CrashVoter, Step as Makes}
+use Rattle.stories.specs.declared.turn.Turn.TheVariants.{CrashClient, CrashVoter, Evict, RebornVoter, AnewClient, Show, Step as Makes}
 
 -- the word of a turn: that of its step, if a script has a line for it
 abbrev pub turn_word : Turn → List ℕ
@@ -21,6 +25,10 @@ turn_word (Makes Exchange) = codes "exchange"
 turn_word (Makes step) = step_word step
 turn_word (CrashClient client) = codes "crash-client"
 turn_word (CrashVoter voter) = codes "crash-voter"
+turn_word (Evict voter) = codes "evict"
+turn_word (RebornVoter voter) = codes "reborn-voter"
+turn_word (AnewClient client) = codes "anew-client"
+turn_word (Show client) = codes "show"
 
 -- the number of a turn, of a message, a client or a voter; an exchange has none
 abbrev pub turn_numbers : Turn → List ℕ
@@ -28,6 +36,10 @@ turn_numbers (Makes Exchange) = []
 turn_numbers (Makes step) = step_number step ∷ []
 turn_numbers (CrashClient client) = client ∷ []
 turn_numbers (CrashVoter voter) = voter ∷ []
+turn_numbers (Evict voter) = voter ∷ []
+turn_numbers (RebornVoter voter) = voter ∷ []
+turn_numbers (AnewClient client) = client ∷ []
+turn_numbers (Show client) = client ∷ []
 
 -- which turns have a line; of a script's steps those that have one there
 abbrev pub HasTurnLine : Turn → Type 0
@@ -35,6 +47,10 @@ HasTurnLine (Makes Exchange) = ⊤
 HasTurnLine (Makes step) = HasStepLine step
 HasTurnLine (CrashClient client) = client ≤ 255
 HasTurnLine (CrashVoter voter) = voter ≤ 255
+HasTurnLine (Evict voter) = voter ≤ 255
+HasTurnLine (RebornVoter voter) = voter ≤ 255
+HasTurnLine (AnewClient client) = client ≤ 255
+HasTurnLine (Show client) = client ≤ 255
 
 -- the line of a turn
 abbrev pub turn_form : Form Turn
@@ -53,7 +69,11 @@ turn_by word n =
     if bytes_eq word (codes "remind-client") then Some (Makes (RemindClient n)) else
     if bytes_eq word (codes "remind-voter") then Some (Makes (RemindVoter n)) else
     if bytes_eq word (codes "crash-client") then Some (CrashClient n) else
-    if bytes_eq word (codes "crash-voter") then Some (CrashVoter n) else None
+    if bytes_eq word (codes "crash-voter") then Some (CrashVoter n) else
+    if bytes_eq word (codes "evict") then Some (Evict n) else
+    if bytes_eq word (codes "reborn-voter") then Some (RebornVoter n) else
+    if bytes_eq word (codes "anew-client") then Some (AnewClient n) else
+    if bytes_eq word (codes "show") then Some (Show n) else None
 
 turn_by-word : (t : Turn) → HasTurnLine t → turn_by (turn_word t) (get_or (turn_numbers t) 0 0) ≡ Some t
 unfolding turn_by

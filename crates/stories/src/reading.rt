@@ -50,12 +50,20 @@ fn turn_of(word: &[u8], number: u64) -> Option<Turn>
     if word == b"crash-voter".as_slice() {
         return Some(Turn::CrashVoter(who));
     }
+    if word == b"reborn-voter".as_slice() {
+        return Some(Turn::RebornVoter(who));
+    }
+    if word == b"anew-client".as_slice() {
+        return Some(Turn::AnewClient(who));
+    }
     match word {
         b"ask" => Some(Turn::Step(Step::Ask(who))),
         b"leave" => Some(Turn::Step(Step::Leave(who))),
         b"give-up" => Some(Turn::Step(Step::GiveUp(who))),
         b"remind-client" => Some(Turn::Step(Step::RemindClient(who))),
         b"remind-voter" => Some(Turn::Step(Step::RemindVoter(who))),
+        b"evict" => Some(Turn::Evict(who)),
+        b"show" => Some(Turn::Show(who)),
         _ => None,
     }
 }

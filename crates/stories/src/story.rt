@@ -1,14 +1,16 @@
 //! What the turns of a story did, one after the other.
-ghost use Rattle.std.specs.Prelude.{◌≡◌, IfOk};
-ghost use Rattle.stories.specs.Plays.{first_scene, first_world, moments_of, world_after};
+ghost use Rattle.std.specs.Prelude.{◌≡◌, IfOk, true};
+ghost use Rattle.std.specs.List.{list_all};
+ghost use Rattle.incidents.specs.Calls.{IsCalm};
+ghost use Rattle.stories.specs.Plays.{first_scene, first_world, is_calm, moments_of, world_after};
 
 use crate::happening::Happening;
 use crate::player::Player;
 use crate::script::StoryScript;
 use crate::turn::Turn;
 use dealer::Plans;
+use incidents::IncidentWorld;
 use std::alloc::{AllocError, Global};
-use world::SavedWorld;
 
 /// A turn, and what it did.
 #[derive(Clone, Copy)]
@@ -23,7 +25,7 @@ pub struct Moment {
 #[derive(Drop)]
 pub struct Story {
     /// The world after the last turn.
-    pub world: SavedWorld,
+    pub world: IncidentWorld,
     /// The turns, in order.
     pub moments: Vec<Moment>,
 }
@@ -35,6 +37,8 @@ pub fn story_of(alloc: Global, plans: Plans, script: &StoryScript) -> Result<Sto
         story.world ≡ world_after script.now.turns (first_world plans script.now.clients script.now.limit)) }
     ensures moments { IfOk result (λ story. story.moments.items
         ≡ moments_of script.now.turns (first_scene plans script.now.clients script.now.limit)) }
+    // Without evictions, rebirths and clients anew all holds that holds of a saved world.
+    ensures calm { IfOk result (λ story. list_all is_calm script.now.turns ≡ true → IsCalm story.world) }
 {
     let mut player = Player::new(alloc, plans, script)?;
     let mut moments = Vec::new(alloc);

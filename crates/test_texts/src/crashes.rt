@@ -8,10 +8,16 @@ use stories::{Happening, Moment, read_story, story_of};
 use test_plans::majority_plan;
 
 /// Texts with the number of their turns, and the number of the first bad line or 0.
-const TEXTS: [(&str, usize, usize); 9] = [
+const TEXTS: [(&str, usize, usize); 11] = [
     ("world 1 9\n", 0, 0),
     ("# a note\n\nworld 64 9\n\nask 0\n#\nexchange\n", 2, 0),
     ("world 1 9\ncrash-client 255\ncrash-voter 0\n", 2, 0),
+    (
+        "world 1 9\nevict 255\nreborn-voter 0\nanew-client 7\nshow 255\n",
+        4,
+        0,
+    ),
+    ("world 1 9\nevict\n", 0, 2),
     ("", 0, 1),
     ("# a note\n\nask 0\n", 0, 3),
     ("world 1 9\n# a note\nexchange 1\n", 0, 3),

@@ -1,0 +1,3 @@
+pub mod CallLemmas
+pub mod Keeping
+pub mod Pieces
