@@ -1,5 +1,5 @@
 -- Lemmas on which command words name.
-use Rattle.std.proofs.Common.{◌≡◌, ℕ, List, [], sym, ap, subst, ◌∙◌, rules, codes, Some, None, inl, inr, All, map, string_bytes}
+use Rattle.std.proofs.Common.{◌≡◌, ℕ, List, Option, [], sym, ap, subst, ◌∙◌, rules, codes, Some, None, inl, inr, All, map, string_bytes}
 use Rattle.std.proofs.lemmas.Option.{same_Some}
 use Rattle.clap.specs.Words.{Row, Text, all_of, fault_of, first_of, subcommand_of}
 use Rattle.show_faults.specs.Codes.{IsNoneOf, code_in, fault_codes}
@@ -7,7 +7,7 @@ use Rattle.command_line.specs.Words.{HasNumber, RefusesByClap}
 use Rattle.command_line.specs.declared.usage.Usage.{Usage}
 use Rattle.command_line.specs.declared.usage.Usage.TheVariants.{Arguments, OutOfMemory, Refused}
 use Rattle.show_waiting.specs.declared.waiting.Waiting.{Waiting as Question}
-use Rattle.show_cli.specs.Words.{IsNamedBy, NamesNone, Refuses, RefusesUse, picture_word, show_app}
+use Rattle.show_cli.specs.Words.{IsNamedBy, MayHaveNumber, NamesNone, Refuses, RefusesUse, picture_word, show_app}
 use Rattle.show_cli.specs.declared.command.Picture.{Picture}
 use Rattle.show_cli.specs.declared.command.ShowCommand.TheVariants.{Deal, DealEven, Explain, ExplainAll, ListFaults, Picture as Show, Waiting, Without}
 
@@ -21,6 +21,12 @@ NamesNone-deal rows none command named = search rules
 pub NamesNone-without : (rows : List Row) → None ≡ all_of (codes "NAMES") rows → NamesNone (Some (codes "without", rows))
 NamesNone-without rows absent (Without names) named = let bad : None ≡ Some (map string_bytes names.items) = absent ∙ named.1 in cc
 NamesNone-without rows absent command named = search rules
+
+-- a word that is there, and is no number in range
+pub MayHaveNumber-none : (name : Text) (least most : ℕ) (rows : List Row) (text : Text) → Some text ≡ first_of name rows → ((n : ℕ) → HasNumber name least most rows n → ⊥)
+    → (number : Option ℕ) → MayHaveNumber name least most rows number → ⊥
+MayHaveNumber-none name least most rows text there none None absent = let bad : Some text ≡ None = there ∙ absent in cc
+MayHaveNumber-none name least most rows text there none (Some n) has = none n has
 
 -- nor does `waiting`, where a number is missing or out of range
 pub NamesNone-waiting : (rows : List Row) → ((w : Question) → IsNamedBy (Some (codes "waiting", rows)) (Waiting w) → ⊥) → NamesNone (Some (codes "waiting", rows))

@@ -84,9 +84,13 @@ abbrev pub coteries_app : App
 coteries_app =
     with_subcommands reports_app (without_app ∷ new_app (codes "resilience") ∷ new_app (codes "bridge") ∷ [])
 
--- and with `waiting`, `explain`, `fault` and `picture`: the whole command line
+-- and with `waiting`
+abbrev pub waits_app : App
+waits_app = with_subcommands coteries_app (waiting_app ∷ [])
+
+-- and with `explain`, `fault` and `picture`: the whole command line
 abbrev pub show_app : App
-show_app = with_subcommands coteries_app (waiting_app ∷ explain_app ∷ fault_app ∷ picture_app ∷ [])
+show_app = with_subcommands waits_app (explain_app ∷ fault_app ∷ picture_app ∷ [])
 
 -- Which command words name.
 

@@ -5,7 +5,7 @@ ghost use Rattle.command_line.specs.Words.{IsLocal, used_as};
 ghost use Rattle.command_line.specs.declared.usage.Usage.TheVariants.{Arguments};
 ghost use Rattle.show_cli.specs.Commands.{IsShown};
 ghost use Rattle.show_cli.specs.declared.command.Picture.{Picture};
-ghost use Rattle.show_cli.specs.Words.{IsEven, IsNamedBy, Names, Refuses, RefusesUse, coteries_app, MayHaveNumber, even_rule, explain_app, fault_app, optional_rule, pages_app, picture_app, picture_word, qlock_words, reports_app, round_rule, show_app, tickets_app, waiting_app, without_app, words_rule};
+ghost use Rattle.show_cli.specs.Words.{IsEven, IsNamedBy, Names, Refuses, RefusesUse, coteries_app, MayHaveNumber, even_rule, explain_app, fault_app, optional_rule, pages_app, picture_app, picture_word, qlock_words, reports_app, round_rule, show_app, tickets_app, waiting_app, waits_app, without_app, words_rule};
 
 use crate::command::{Picture, ShowCommand};
 use clap::{Arg, ArgAction, ArgMatches};
@@ -228,12 +228,18 @@ fn coteries_command<'a>(alloc: Global) -> Result<clap::Command<'a>, AllocError>
         ))
 }
 
+/// Returns the command line with `waiting` too.
+fn waits_command<'a>(alloc: Global) -> Result<clap::Command<'a>, AllocError>
+    ensures { IfOk result (λ c. app_of c ≡ waits_app) }
+{
+    coteries_command(alloc)?.subcommand(waiting_command(alloc)?)
+}
+
 /// Returns the whole command line.
 fn show_command<'a>(alloc: Global) -> Result<clap::Command<'a>, AllocError>
     ensures { IfOk result (λ c. app_of c ≡ show_app) }
 {
-    coteries_command(alloc)?
-        .subcommand(waiting_command(alloc)?)?
+    waits_command(alloc)?
         .subcommand(explain_command(alloc)?)?
         .subcommand(fault_command(alloc)?)?
         .subcommand(picture_command(alloc)?)
@@ -289,12 +295,12 @@ fn number_if_given(
     ensures refused { IfErr result (λ usage. (usage ≡ Arguments)
         × ((number : Option ℕ) → ¬ MayHaveNumber name.now least most (rows_of (found_of used.now)) number)) }
 {
-    if text_of(used, name).is_none() {
-        return Ok(None);
-    }
-    match number_of(used, name, least, most) {
-        Some(number) => Ok(Some(number)),
-        None => Err(Usage::Arguments),
+    match text_of(used, name) {
+        None => Ok(None),
+        Some(_) => match number_of(used, name, least, most) {
+            Some(number) => Ok(Some(number)),
+            None => Err(Usage::Arguments),
+        },
     }
 }
 
