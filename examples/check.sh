@@ -1,11 +1,11 @@
 #!/bin/sh
 # Runs every example and compares what it prints with what stands in expected/: the output in NAME.out, or for an example
-# that is refused its one line in NAME.err. Compares docs/faults.md with what `explain all` writes, each of its blocks with what
-# `explain CODE` writes, and its faults with those of the tests. Draws the pictures of docs/pictures/ and compares them too;
-# where xmllint is found (Debian: libxml2-utils), each has to be well-formed XML.
+# that is refused its one line in NAME.err. The page of `explain all` has to have each fault of `explain` once and in order, with
+# the text of `explain CODE` below it, and these faults are those of the tests. Draws the pictures of docs/pictures/ and compares
+# them too; where xmllint is found (Debian: libxml2-utils), each has to be well-formed XML.
 #
 #     examples/check.sh            says which examples differ, and ends with status 1 where one does
-#     examples/check.sh --write    writes expected/ anew, and docs/faults.md and docs/pictures
+#     examples/check.sh --write    writes expected/ anew, and docs/pictures
 set -eu
 here=$(CDPATH= cd -- "$(dirname -- "$0")" && pwd)
 qlock=$here/../qlock
@@ -288,21 +288,31 @@ echo "qlock-show $(sed -n 's/^## \([0-9.]*\).*/\1/p' "$here/../CHANGELOG.md" | h
 "$show" --version > "$work/out"
 if diff -u "$work/wanted" "$work/out"; then passed=$((passed + 1)); else failed=$((failed + 1)); fi
 
-# the page of all faults
+# the page of all faults: each fault of the list has a heading, once and in order
 "$show" explain all > "$work/page"
-compare "$work/page" ../../docs/faults.md
+"$show" explain | cut -d ' ' -f 1,2 > "$work/wanted"
+sed -n 's/^### //p' "$work/page" > "$work/out"
+if diff -u "$work/wanted" "$work/out"; then passed=$((passed + 1)); else failed=$((failed + 1)); fi
 
 # what the page says of a code: the block below its heading
 of_page() {
     awk -v code="$1" '/^### / { here = $2 == code } /^```$/ { inside = !inside; next } here && inside' "$work/page"
 }
 
-# of each code the same by itself
-for code in $(sed -n 's/^### \([^ ]*\) .*/\1/p' "$work/page"); do
+# of each code the text is that of `explain CODE`: the line of the fault, what it means, an example, and what leads to it
+"$show" explain > "$work/list"
+while read -r line; do
+    code=${line%% *}
     of_page "$code" > "$work/wanted"
     "$show" explain "$code" > "$work/out"
-    if diff -u "$work/wanted" "$work/out"; then passed=$((passed + 1)); else failed=$((failed + 1)); fi
-done
+    if diff -u "$work/wanted" "$work/out" && [ "$(head -n 1 "$work/out")" = "$line" ] \
+        && [ "$(grep -c -e '^For example:$' -e '^What usually led to it:$' "$work/out")" = 2 ]; then
+        passed=$((passed + 1))
+    else
+        echo "explain $code: not what the page says, or a part is missing" >&2
+        failed=$((failed + 1))
+    fi
+done < "$work/list"
 
 # of each line CODE NAME ARGUMENTS.. the code, the name and the number of arguments
 shapes() {

@@ -10,8 +10,8 @@
    - The blocks of one call may not overlap: the texts may be the same block, but what is written to is a place of its own.
 
    What each call returns: QLOCK_DONE, or why it was refused. If QLOCK_REFUSED is returned, `out` has the line of the fault and
-   `*written` its length, as in `E7 Disjoint 0 1`, with neither a newline nor a zero at its end; docs/faults.md says what each
-   line means. If another number than QLOCK_DONE and QLOCK_REFUSED is returned, nothing was written.
+   `*written` its length, as in `E7 Disjoint 0 1`, with neither a newline nor a zero at its end; `qlock-show explain` says
+   what each line means. If another number than QLOCK_DONE and QLOCK_REFUSED is returned, nothing was written.
 
    Memory comes from malloc, and all of it is given back before a call returns. There is no global, so calls may run at once in
    several threads. So these calls need what malloc needs:

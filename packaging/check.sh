@@ -55,6 +55,11 @@ uses() (
         && "$1/qlock-show" report < "$work/wheel-3-planned.txt" | grep -q '</html>'
 )
 
+# explains PLACE: its programs and the page of all faults agree
+explains() {
+    "$1/bin/qlock-show" explain all | cmp - "$1/share/doc/qlock/faults.md"
+}
+
 # compiles NAME WORDS..: a C program is compiled with these words, and plans
 compiles() {
     name=$1
@@ -76,6 +81,7 @@ holds uses "$place/bin"
 holds compiles use-archive -I"$place/include" "$place/lib/libqlock_plan.a" "$place/lib/libqlock.a"
 holds shared "$place/lib"
 holds test -s "$place/share/doc/qlock/claims.md"
+holds explains "$place"
 [ ! -e "$place/bin/qlockctl" ] || holds "$place/bin/qlockctl" --help
 
 echo "packaging: the wheel"
@@ -101,6 +107,7 @@ if [ "$(id -u)" = 0 ] && command -v dpkg > /dev/null && [ -e "$packages/qlock_${
     installed=$(for it in "$packages"/*.deb; do dpkg-deb -f "$it" Package; done)
     holds dpkg -i "$packages"/*.deb
     holds uses /usr/bin
+    holds explains /usr
     # shellcheck disable=SC2046
     holds compiles use-installed $(pkg-config --cflags --libs qlock qlock_plan)
     holds test -e /usr/share/man/man1/qlock.1.gz

@@ -1,4 +1,4 @@
-"""Why a coterie or a plan was refused: a class for each fault, named as in its line. `docs/faults.md` explains each."""
+"""Why a coterie or a plan was refused: a class for each fault, named as in its line. `qlock-show explain CODE` explains it."""
 from typing import Dict, Type
 
 from .faults import Refused

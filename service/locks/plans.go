@@ -8,6 +8,15 @@ package locks
 //     meet, so no client uses another new plan.
 //  3. Heartbeats say the oldest plan of which a request is left. Voters retire a plan only if none is left.
 //  4. A voter says that the old plan is retired. The client forgets it.
+//
+// Why one is inside: two requests of one plan meet in a voter, and so do two of the old and the new plan, as they are
+// bridged. Nobody has a request of the old plan when a third one begins: the voters that retire it meet each of its
+// quorums, and each of them heard from each session either that no such request is left, or nothing for a TTL. In that
+// case Lost has closed.
+//
+// Why no stamp is used twice: what was reserved with a quorum of the old plan alone, before a client knew of the new one,
+// is known to the voters that retire it: they meet that quorum, and refuse the old plan from then on. `qlockctl retire`
+// reads their sessions afterwards, and a quorum of the new plan saves them before the next exchange.
 
 import (
 	"bytes"

@@ -69,7 +69,7 @@ func (r Refusal) Error() string {
 	return fmt.Sprintf("qlock: unknown refusal %d", int32(r))
 }
 
-// Fault is the fault of a coterie or of a plan: a line that docs/faults.md explains. It is a Refused.
+// Fault is the fault of a coterie or of a plan: a line that `qlock-show explain` explains. It is a Refused.
 type Fault string
 
 // Error returns the line of the fault.

@@ -13,8 +13,7 @@
 //! - The page has the texts of one explanation for each code, in order, behind headings; the list has
 //!   a line for each code.
 //!
-//! The page is stored as `docs/faults.md`, and `examples/check.sh` compares it. Nothing is proved of
-//! what the explanations say.
+//! Packages ship the page as `faults.md`. Nothing is proved of what the explanations say.
 //!
 //! This crate depends on no other.
 //!

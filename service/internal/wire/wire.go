@@ -4,6 +4,19 @@
 //	qlock1 CLUSTER COTERIE c NUMBER EPOCH RESERVED SESSION SEQ SAVES   from a client's session
 //	qlock1 CLUSTER COTERIE v NUMBER BLOCK IDENTITY SAVES               from a voter
 //	qlock1 CLUSTER COTERIE o NAME                                      from an operator
+//
+// COTERIE is a part of the SHA-256 of the coterie and of how often the plan was exchanged. A voter counts its saves, and a
+// session says the highest count that it heard of the receiver. Lines of control, and the replies:
+//
+//	hello         number N EPOCH FREE for each number
+//	claim N EPOCH claimed N EPOCH RESERVED, or refused N EPOCH
+//	drop N EPOCH  none: a claim had no quorum
+//	open PLAN     opened N EPOCH RESERVED SEQ REQUESTS, and after an exchange generation PLAN COTERIE OLDEST. This is the
+//	              heartbeat; PLAN is the number of the oldest plan of which a request is left
+//	plan          plan PLAN COTERIE-TEXT PLAN-TEXT
+//	close         closed N EPOCH
+//
+// A voter also sends "gone LOCK STAMP" when it let a request go, and "taken N EPOCH" to a session that is over.
 package wire
 
 import (
