@@ -52,8 +52,12 @@ class Copy:
         # rt works at the top of a repository
         os.mkdir(os.path.join(self.folder, ".git"))
         shutil.copy(os.path.join(ROOT, "HANDLES"), self.folder)
+        self.list_crates(self.crates)
+
+    def list_crates(self, crates):
+        """Writes the crates.txt of the copy: these crates."""
         with open(os.path.join(self.folder, "crates.txt"), "w", encoding="utf-8") as file:
-            file.writelines(f"{LISTED[crate]}\n" for crate in sorted(self.crates))
+            file.writelines(f"{LISTED[crate]}\n" for crate in sorted(crates))
 
     def take(self, crate, part, name):
         """Copies a file or folder of a crate, if it is there, under this name."""
