@@ -12,7 +12,7 @@
 //! - So is the number for patient clients, if a request that is made in these rounds runs for two whole rounds
 //!   before it is given up ([`patient_rounds_are_enough`]).
 //!
-//! That the longest waits are those of tests is tested (`test_schedules`). How long a round takes is the
+//! That the longest waits are those of tests is tested (`test_rounds`). How long a round takes is the
 //! user's word.
 //!
 //! Depends on `progress` for the definition of rounds and the law.
@@ -27,4 +27,4 @@ mod laws;
 mod waiting;
 
 pub use laws::{patient_rounds_are_enough, rounds_are_enough};
-pub use waiting::{Waiting, longest_wait, waiting_page};
+pub use waiting::{Waiting, bound, longest_wait, waiting_page};

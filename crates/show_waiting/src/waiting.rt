@@ -32,8 +32,9 @@ fn withdrawals_of(waiting: &Waiting) -> u64
     waiting.withdrawals.unwrap_or(0)
 }
 
-/// Returns after how many fair rounds a client that asks has entered.
-fn bound(clients: u64, withdrawals: u64) -> u64
+/// Returns after how many fair rounds a client that asks has entered, for a number of withdrawals of
+/// others, if no REQUEST comes late.
+pub fn bound(clients: u64, withdrawals: u64) -> u64
     requires clients { clients ≤ max_clients }
     requires few { withdrawals ≤ 1000000 }
     ensures value { result ≡ bound clients withdrawals }

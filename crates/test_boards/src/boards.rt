@@ -146,32 +146,6 @@ fn offered_vote_is_settled(rt: HostRuntime) {
     assert!(rt; settled);
 }
 
-/// Returns whether the root gives the seats of voter 0 and of client 0 once, and no other.
-fn gives_once(board: &Board, root: &mut BoardRoot) -> bool
-    requires table { root.old.table ≡ board.now.table }
-{
-    let others = root.has_voter(1) | root.has_client(1) | root.has_client(64);
-    let voter = match voter_of(root, board) {
-        Some(seat) => seat.voter() == 0,
-        None => false,
-    };
-    let client = match client_of(root, board, 0) {
-        Some(seat) => seat.client() == 0,
-        None => false,
-    };
-    let again = root.has_voter(0) | root.has_client(0);
-    voter & client & !others & !again
-}
-
-#[test]
-fn seats_are_given_once(rt: HostRuntime) {
-    let once = match board_of(rt.alloc(), 1, 1) {
-        Some((board, mut root)) => gives_once(&board, &mut root),
-        None => false,
-    };
-    assert!(rt; once);
-}
-
 /// Closes a board after client 0 has joined, and returns the fault.
 fn closed_without_voter(board: Board, mut root: BoardRoot, client: ClientSeat) -> Option<BoardFault>
     requires root { root.table ≡ board.table }

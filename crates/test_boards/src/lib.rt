@@ -1,8 +1,9 @@
 //! Tests of boards and of the nodes on them through public calls. This crate has nothing but tests.
 //!
-//! - `boards` has votes and the register, on one thread and on two, and `bridged` has the quorums of
-//!   two coteries.
+//! - `boards` has votes and the register, on one thread and on two.
 //! - `nodes` has nodes and mailboxes, and `services` has each voter serve each client.
+//!
+//! What contracts determine is not tested again, except by worked examples.
 //!
 //! The tests are not in the crates that they test, so these are proved once, and not again together
 //! with their tests.
@@ -10,8 +11,6 @@
 
 #[cfg(test)]
 mod boards;
-#[cfg(test)]
-mod bridged;
 #[cfg(test)]
 mod nodes;
 #[cfg(test)]

@@ -106,14 +106,14 @@ pub(crate) struct World {
 }
 
 /// Returns the numbers of a saved voter.
-pub(crate) fn words_of_voter(voter: &Voter) -> SavedWords {
+fn words_of_voter(voter: &Voter) -> SavedWords {
     let mut words = ArrayVec::new();
     voter.save(&mut words);
     words
 }
 
 /// Returns the numbers of a saved client.
-pub(crate) fn words_of_client(client: &Requester) -> SavedWords {
+fn words_of_client(client: &Requester) -> SavedWords {
     let mut words = ArrayVec::new();
     client.save(&mut words);
     words
@@ -225,7 +225,7 @@ impl World {
     }
 
     /// Returns the numbers of a saved voter, or nothing if there is none with this number.
-    pub(crate) fn voter_words(&self, voter: u8) -> SavedWords {
+    fn voter_words(&self, voter: u8) -> SavedWords {
         match self.voters.get(usize::from(voter)) {
             Some(voter) => words_of_voter(voter),
             None => ArrayVec::new(),
@@ -233,7 +233,7 @@ impl World {
     }
 
     /// Returns the numbers of a saved client, or nothing if there is none with this number.
-    pub(crate) fn client_words(&self, client: u8) -> SavedWords {
+    fn client_words(&self, client: u8) -> SavedWords {
         match self.clients.get(usize::from(client)) {
             Some(client) => words_of_client(client),
             None => ArrayVec::new(),
@@ -470,7 +470,7 @@ const LATE_RELEASE: &[Step] = &[
 
 /// Client 2 gives voter 0's first grant back and crashes. Client 1 enters with voter 0's second
 /// grant. Then the LOCKED of the first grant arrives at client 2 once more.
-pub(crate) const LATE_LOCKED: &[Step] = &[
+const LATE_LOCKED: &[Step] = &[
     Step::Ask(1, &[0, 1]),
     Step::Ask(2, &[0, 2]),
     Step::Ask(0, &[1, 2]),

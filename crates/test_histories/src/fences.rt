@@ -39,11 +39,6 @@ pub(crate) fn turns(first: &Pass, second: &Pass) -> [u64; 4] {
     ]
 }
 
-#[test]
-fn zeros_are_no_pass(rt: HostRuntime) {
-    assert!(rt; Pass::of([0; 64]).is_none());
-}
-
 /// The stamp of a client, and its pass; `None` if it is not inside.
 type Shown = Option<(u64, Pass)>;
 

@@ -6,7 +6,6 @@
 //!   clients may be inside, and what a guard does with their passes.
 //! - `fences` shows the passes of such a run to a guard.
 //! - `nodes` has voters that wait for their saves.
-//! - `saved` restores voters and clients from changed and shortened numbers.
 //! - `wrong_rules` has a history for each of five wrong rules, which `play` plays.
 //! - `ways_in` has worlds in which messages were lost, and who then gets in.
 #![tactic(auto)]
@@ -21,8 +20,6 @@ mod fences;
 mod nodes;
 #[cfg(test)]
 mod play;
-#[cfg(test)]
-mod saved;
 #[cfg(test)]
 mod ways_in;
 #[cfg(test)]

@@ -1,7 +1,7 @@
-//! Voters that run as nodes: what has to be saved, and what a crash before a save loses.
+//! Voters that run as nodes: what has to be saved.
 use message::{ToVoter, VoterBody};
 use voter::Voter;
-use voter_node::{NodeFault, VoterNode};
+use voter_node::VoterNode;
 
 /// Has the node take a client's REQUEST with stamp 1. Returns whether it did.
 fn ask(node: &mut VoterNode, client: u8) -> bool {
@@ -35,21 +35,4 @@ fn saves() -> [(bool, usize); 3] {
 #[test]
 fn a_grant_has_to_be_saved_and_a_fail_has_not(rt: HostRuntime) {
     assert!(rt; saves() == [(true, 1), (false, 1), (false, 0)]);
-}
-
-/// Returns how many reminders a node takes before it has to be saved.
-fn reminders() -> u32 {
-    let mut node = VoterNode::new(Voter::new(0, 9));
-    let _ = ask(&mut node, 0);
-    for taken in 0..300 {
-        if node.remind() == Err(NodeFault::SaveFirst) {
-            return taken;
-        }
-    }
-    300
-}
-
-#[test]
-fn a_node_is_saved_before_its_outbox_is_full(rt: HostRuntime) {
-    assert!(rt; reminders() == 253);
 }

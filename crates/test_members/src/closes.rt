@@ -1,137 +1,12 @@
-//! Closing a cluster: worked records, and members that are missing or inside.
+//! Closing a cluster from which members are missing, or in which they are inside.
 ghost use Rattle.std.specs.Prelude.{◌≡◌};
 
-use crate::scripts::{Act, Asked, ENTERED, LEAVE, NOTHING, Script, blank_of, plays};
-use board::BoardFault;
-use members::{
-    Blank, CloseFault, Cluster, ClusterFault, ClusterName, Draw, Member, Pass, RunRecord,
-};
+use crate::scripts::{Act, Asked, ENTERED, NOTHING, Script, blank_of, plays};
+use members::{Blank, CloseFault, Cluster, ClusterName, Member};
 use requester::Seen;
 use std::alloc::{AllocError, Global};
 use std::marker::Brand;
 use std::sync::Wait;
-use std::test::Fail;
-
-/// What a test looks at in a record: its draws, its passes and its register. No message was lost.
-struct Wanted<'a> {
-    draws: &'a [Draw],
-    passes: &'a [Pass],
-    register: u64,
-}
-
-/// A script, and the record of the cluster that played it.
-const RECORDS: [(Script, Wanted); 4] = [
-    (
-        &[],
-        Wanted {
-            draws: &[],
-            passes: &[],
-            register: 0,
-        },
-    ),
-    (
-        &[
-            (0, Act::Ask(0, 0)),
-            (0, NOTHING),
-            (0, ENTERED),
-            (0, Act::Pass(Ok(0))),
-            (0, Act::Pass(Ok(1))),
-            (0, LEAVE),
-        ],
-        Wanted {
-            draws: &[(0, 0, 0)],
-            passes: &[(0, 0), (0, 1)],
-            register: 2,
-        },
-    ),
-    // draws are in the order of tickets, and passes in the order of their numbers
-    (
-        &[
-            (0, Act::Ask(0, 0)),
-            (1, Act::Ask(1, 1)),
-            (0, NOTHING),
-            (0, ENTERED),
-            (0, Act::Pass(Ok(0))),
-            (0, LEAVE),
-            (1, NOTHING),
-            (1, NOTHING),
-            (1, ENTERED),
-            (1, Act::Pass(Ok(1))),
-            (1, LEAVE),
-            (0, Act::Ask(2, 2)),
-            (0, NOTHING),
-            (0, ENTERED),
-            (0, Act::Pass(Ok(2))),
-            (0, LEAVE),
-        ],
-        Wanted {
-            draws: &[(0, 0, 0), (1, 1, 1), (0, 2, 2)],
-            passes: &[(0, 0), (1, 1), (0, 2)],
-            register: 3,
-        },
-    ),
-    (
-        &[
-            (1, Act::Ask(0, 0)),
-            (1, NOTHING),
-            (1, ENTERED),
-            (1, Act::Pass(Ok(0))),
-            (1, LEAVE),
-        ],
-        Wanted {
-            draws: &[(1, 0, 0)],
-            passes: &[(1, 0)],
-            register: 1,
-        },
-    ),
-];
-
-/// Returns whether the record is the one that is wanted.
-fn is_wanted(record: &RunRecord, wanted: &Wanted) -> bool {
-    (record.draws.as_slice() == wanted.draws)
-        & record.draws2.is_empty()
-        & (record.passes.as_slice() == wanted.passes)
-        & (record.register == wanted.register)
-        & (record.lost == 0)
-}
-
-/// Opens a cluster, plays a script on it, closes it, and returns its record. Returns `None` if the
-/// script or the close goes wrong, or memory runs out.
-fn recorded<N: ClusterName>(
-    rt: &impl Wait,
-    alloc: Global,
-    blank: Blank,
-    script: Script,
-) -> Option<RunRecord>
-    requires { blank ≡ N.cluster }
-{
-    let (cluster, mut members) = blank.open::<N>(alloc).ok()?;
-    let done = plays(rt, &cluster, members.as_mut_slice(), script);
-    let record = cluster.close(alloc, members).ok()?;
-    if done == script.len() {
-        Some(record)
-    } else {
-        None
-    }
-}
-
-/// Returns whether a cluster of two members that plays this script has this record.
-fn has_record(rt: &impl Wait, alloc: Global, script: Script, wanted: &Wanted) -> bool {
-    let Some(blank) = blank_of(alloc, Asked::AnyTwo, 2) else {
-        return false;
-    };
-    match recorded::<Brand>(rt, alloc, blank, script) {
-        Some(record) => is_wanted(&record, wanted),
-        None => false,
-    }
-}
-
-#[test]
-fn records_have_what_the_members_did(rt: HostRuntime) {
-    for (script, wanted) in &RECORDS {
-        assert!(rt; has_record(&rt, rt.alloc(), script, wanted));
-    }
-}
 
 /// How a close is tried first: not at all, or without the last member, or with all members.
 #[derive(Clone, Copy)]
@@ -338,12 +213,4 @@ fn a_member_that_is_gone_is_missing(rt: HostRuntime) {
         None => None,
     };
     assert_eq!(rt; missing, Some(1));
-}
-
-#[test]
-fn a_loss_prints_as_its_fault(rt: HostRuntime) -> Result<(), Fail> {
-    let lost: CloseFault<Brand> = CloseFault::Lost(ClusterFault::Board(BoardFault::VoteOut(2)));
-    let text = lost.to_string(rt.alloc())?;
-    assert!(rt; text.as_str() == "B2 VoteOut 2");
-    Ok(())
 }

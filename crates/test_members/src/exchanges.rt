@@ -2,25 +2,7 @@
 //! three.
 use crate::scripts::{Act, Asked, ENTERED, LEAVE, NOTHING, stuck_at};
 use dealer::Receipt;
-use members::ClusterFault;
 use quorum_set::Side;
-
-const EXCHANGED: Act = Act::Exchange(Ok(()));
-
-const NO_SECOND: Act = Act::Exchange(Err(ClusterFault::NoSecondPlan));
-
-/// The plans, and two exchanges.
-const EXCHANGES: [(Asked, [(usize, Act); 2]); 2] = [
-    (Asked::AnyTwo, [(0, NO_SECOND), (0, NO_SECOND)]),
-    (Asked::AnyTwoThenAll, [(0, EXCHANGED), (0, NO_SECOND)]),
-];
-
-#[test]
-fn plan_is_exchanged_once(rt: HostRuntime) {
-    for (asked, script) in &EXCHANGES {
-        assert_eq!(rt; stuck_at(&rt, rt.alloc(), *asked, 1, script), None);
-    }
-}
 
 /// The first ticket of a plan.
 const FIRST: Receipt = Receipt {
@@ -31,7 +13,7 @@ const FIRST: Receipt = Receipt {
 /// A member exchanges its plan while it asks, and asks again later.
 const BY_BOTH: [(usize, Act); 14] = [
     (0, Act::Ask(0, 0)),
-    (0, EXCHANGED),
+    (0, Act::Exchange(Ok(()))),
     (0, NOTHING),
     (0, ENTERED),
     (0, Act::Pass(Ok(0))),

@@ -1,31 +1,17 @@
-//! Tests of the planning crates through their public calls. This crate has nothing but tests.
+//! Tests of the crates of planning and dealing through their public calls. This crate has nothing but
+//! tests.
 //!
-//! - `sets` has sets and coteries.
 //! - `coterie_texts` reads and writes coteries, and `shapes` constructs them.
 //! - `fractions` computes.
 //! - `failing` has voters fail.
-//! - `certificates` checks weights and reads plans, `searches` solves, and `plans` finds them.
+//! - `certificates` copies plans, `searches` solves, and `plans` finds them.
+//! - `pairs` puts two plans together, and `offices` deals, also with two threads.
+//!
+//! What contracts determine is not tested again, except by worked examples of the definitions.
 //!
 //! The tests are not in the crates that they test, so these are proved once, and not again together
 //! with their tests.
 #![tactic(auto)]
-
-/// The text of a plan: its load, its cycle, the quorums' weights and the voters' weights. With
-/// capacities, these are in the middle.
-macro_rules! plan_text {
-    ($load:literal, $cycle:literal, $quorums:literal, $voters:literal) => {
-        concat!(
-            "quorum-plan 1\nload ", $load, "\ncycle ", $cycle, "\nquorum ", $quorums, "\nvoter ",
-            $voters, "\n"
-        )
-    };
-    ($load:literal, $cycle:literal, $capacities:literal, $quorums:literal, $voters:literal) => {
-        concat!(
-            "quorum-plan 2\nload ", $load, "\ncycle ", $cycle, "\ncapacity ", $capacities,
-            "\nquorum ", $quorums, "\nvoter ", $voters, "\n"
-        )
-    };
-}
 
 #[cfg(test)]
 mod certificates;
@@ -36,10 +22,12 @@ mod failing;
 #[cfg(test)]
 mod fractions;
 #[cfg(test)]
+mod offices;
+#[cfg(test)]
+mod pairs;
+#[cfg(test)]
 mod plans;
 #[cfg(test)]
 mod searches;
-#[cfg(test)]
-mod sets;
 #[cfg(test)]
 mod shapes;

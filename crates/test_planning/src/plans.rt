@@ -1,36 +1,8 @@
-//! Plans that are found, and searches that end without one.
-use crate::sets::coterie_of;
+//! The loads of trees and wheels of each size, and a search that ends without a plan.
 use crate::shapes::{Shape, built};
-use certificate::write_plan;
 use planner::{Cause, PlannerFault, plan};
 use quorum_set::{Coterie, QSet};
 use std::alloc::{AllocError, Global};
-use test_plans::are_capacities;
-
-/// Returns whether the plan of a coterie has this text, or its fault.
-fn is_planned(
-    alloc: Global,
-    coterie: &Coterie,
-    capacities: &[u64],
-    wanted: &str,
-) -> Result<bool, PlannerFault> {
-    if !are_capacities(capacities, coterie.voters()) {
-        return Ok(false);
-    }
-    let plan = plan(alloc, coterie, capacities)?;
-    Ok(write_plan(alloc, &plan)?.as_str() == wanted)
-}
-
-/// A shape, the capacities of its voters, and the text of its plan.
-type Planned = (Shape, &'static [u64], &'static str);
-
-/// Returns whether the coterie of a shape has its plan.
-fn has_plan(alloc: Global, row: &Planned) -> bool {
-    match built(alloc, row.0) {
-        Ok(coterie) => is_planned(alloc, &coterie, row.1, row.2) == Ok(true),
-        Err(_) => false,
-    }
-}
 
 /// Returns 33 of 64 voters: `start`, and then each time five times the last one plus `step`, modulo
 /// 64.
@@ -60,93 +32,15 @@ fn walks(alloc: Global) -> Result<Vec<QSet>, AllocError> {
 /// Returns the fault of the coterie of all walks, if no plan is found.
 fn fault_of_walks(alloc: Global) -> Option<PlannerFault> {
     let walks = Coterie::of(64, walks(alloc).ok()?).ok()?;
-    is_planned(alloc, &walks, &[1; 64], "").err()
+    if walks.voters() != 64 {
+        return None;
+    }
+    plan(alloc, &walks, &[1; 64]).err()
 }
 
 #[test]
 fn numbers_that_grow_too_large_end_the_search(rt: HostRuntime) {
     assert!(rt; fault_of_walks(rt.alloc()) == Some(PlannerFault::NoPlan(Cause::Overflow)));
-}
-
-/// Wheels, uniform coteries, and coteries of voters with capacities, and their plans.
-const PLANNED: [Planned; 10] = [
-    (
-        Shape::Wheel(3),
-        &[1; 4],
-        plan_text!("3/5", "5", "1 1 1 2", "2 1 1 1"),
-    ),
-    (
-        Shape::Wheel(4),
-        &[1; 5],
-        plan_text!("4/7", "7", "1 1 1 1 3", "3 1 1 1 1"),
-    ),
-    (
-        Shape::Majority(3),
-        &[1; 3],
-        plan_text!("2/3", "3", "1 1 1", "1 1 1"),
-    ),
-    (
-        Shape::Majority(1),
-        &[1; 1],
-        plan_text!("1/1", "1", "1", "1"),
-    ),
-    (
-        Shape::Cyclic(7, &[0, 1, 3]),
-        &[1; 7],
-        plan_text!("3/7", "7", "1 1 1 1 1 1 1", "1 1 1 1 1 1 1"),
-    ),
-    (
-        Shape::Grid(2, 2),
-        &[1; 4],
-        plan_text!("3/4", "4", "1 1 1 1", "1 1 1 1"),
-    ),
-    (
-        Shape::Wheel(3),
-        &[2, 1, 1, 1],
-        plan_text!("3/7", "7", "2 1 1 1", "2 2 2 1", "2 1 1 1"),
-    ),
-    (
-        Shape::Wheel(3),
-        &[1000, 1, 1, 1],
-        plan_text!("1/3", "3", "1000 1 1 1", "1 1 1 0", "0 1 1 1"),
-    ),
-    (
-        Shape::Majority(3),
-        &[2, 2, 2],
-        plan_text!("1/3", "3", "2 2 2", "1 1 1", "1 1 1"),
-    ),
-    (
-        Shape::Cyclic(7, &[0, 1, 3]),
-        &[3; 7],
-        plan_text!(
-            "1/7",
-            "7",
-            "3 3 3 3 3 3 3",
-            "1 1 1 1 1 1 1",
-            "1 1 1 1 1 1 1"
-        ),
-    ),
-];
-
-#[test]
-fn shapes_are_planned(rt: HostRuntime) {
-    for row in &PLANNED {
-        assert!(rt; has_plan(rt.alloc(), row));
-    }
-}
-
-/// Returns whether the coterie of one of three voters alone has this plan.
-fn dictator_has_plan(alloc: Global, wanted: &str) -> bool {
-    match coterie_of(alloc, 3, &[&[0]]) {
-        Some(dictator) => is_planned(alloc, &dictator, &[1; 3], wanted) == Ok(true),
-        None => false,
-    }
-}
-
-#[test]
-fn a_dictator_is_planned(rt: HostRuntime) {
-    let wanted = plan_text!("1/1", "1", "1", "1 0 0");
-    assert!(rt; dictator_has_plan(rt.alloc(), wanted));
 }
 
 /// Returns the load of the plan of a shape whose voters all have capacity 1, if there is a plan.

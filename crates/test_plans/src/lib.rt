@@ -12,13 +12,16 @@
 //! capacities. Nothing but safety is proved here, and what capacities are. What is returned is a plan
 //! because `certificate` checked it.
 //!
-//! [`bridged_plans`] puts two of them together, between which a plan is exchanged.
+//! [`bridged_plans`] puts two of them together, between which a plan is exchanged. [`Kind`] names those
+//! that schedules use.
 //!
 //! Depends on `numbers`, `quorum_set`, `certificate` and `dealer`.
 #![tactic(auto)]
 
+mod kinds;
 mod plans;
 
+pub use kinds::Kind;
 pub use plans::{
     are_capacities, bridged_plans, coterie_of, even_plan, grid_plan, lone_plan, majority_plan,
     plan_of, plan_with, set_of, sets_of, unit_capacities, wheel_plan, whole_plan,

@@ -1,6 +1,6 @@
-//! Coteries that are made, and coteries that are refused.
+//! Coteries that are made and read again, and coteries that are refused.
 use crate::plan;
-use crate::samples::{MAJORITY, WHEEL, WHEEL_PLAN};
+use crate::samples::{WHEEL, WHEEL_PLAN};
 use crate::served::{Row, answer, answer_planned, coterie_of_letters, first_wrong};
 use coterie_file::{read_coterie, write_coterie};
 use std::alloc::{AllocError, Global};
@@ -8,31 +8,28 @@ use std::sync::Wait;
 use std::thread::Threads;
 use std::time::Clock;
 
-/// What `make` writes or refuses. It reads no input.
-const MADE: [Row; 8] = [
-    ("make majority 3", &["is not read"], MAJORITY),
-    ("make wheel 3", &["is not read"], WHEEL),
-    ("make grid 1 5", &["is not read"], "G1 BadSize"),
-    ("make majority 15", &["is not read"], "G2 TooLarge"),
-    ("make tree 4", &["is not read"], "G2 TooLarge"),
-    ("make cyclic 4 0 2", &["is not read"], "E7 Disjoint 0 1"),
-    ("make cyclic 2 0 1", &["is not read"], "E8 Contained 0 1"),
-    ("make cyclic 7", &["is not read"], "G1 BadSize"),
+/// Shapes that `make` refuses.
+const REFUSED: [Row; 7] = [
+    ("make grid 1 5", &[], "G1 BadSize"),
+    ("make majority 15", &[], "G2 TooLarge"),
+    ("make tree 4", &[], "G2 TooLarge"),
+    ("make cyclic 4 0 2", &[], "E7 Disjoint 0 1"),
+    ("make cyclic 2 0 1", &[], "E8 Contained 0 1"),
+    ("make cyclic 7 0 3 3", &[], "G1 BadSize"),
+    ("make cyclic 65 0", &[], "G2 TooLarge"),
 ];
 
 #[test]
-fn shapes_are_made(rt: HostRuntime) {
-    assert!(rt; first_wrong(&rt, rt.alloc(), &MADE) == Ok(None));
+fn shapes_are_refused(rt: HostRuntime) {
+    assert!(rt; first_wrong(&rt, rt.alloc(), &REFUSED) == Ok(None));
 }
 
 /// Shapes, and how many lines their texts have.
-const LINES: [(&str, usize); 7] = [
-    ("make grid 2 2", 7),
+const LINES: [(&str, usize); 5] = [
     ("make grid 8 8", 67),
     ("make majority 14", 3006),
     ("make tree 3", 258),
     ("make wheel 63", 67),
-    ("make cyclic 7 0 1 3", 10),
     ("make cyclic 13 0 1 3 9", 16),
 ];
 
@@ -62,12 +59,7 @@ fn shapes_read_back(rt: HostRuntime) {
 }
 
 /// Shapes, plans of them, and what `check` writes.
-const CERTIFICATES: [(&str, &str, &str); 3] = [
-    (
-        "make grid 2 2",
-        plan!("3/4", "4", "1 1 1 1", "1 1 1 1"),
-        "load 3/4 cycle 4\n",
-    ),
+const CERTIFICATES: [(&str, &str, &str); 2] = [
     (
         "make tree 2",
         plan!(
@@ -158,27 +150,4 @@ const TEXTS: [Row; 5] = [
 #[test]
 fn texts_are_refused(rt: HostRuntime) {
     assert!(rt; first_wrong(&rt, rt.alloc(), &TEXTS) == Ok(None));
-}
-
-/// Bytes that are no text, and how `check` refuses them.
-const BYTES: [(&[u8], &str); 2] = [
-    (b"\xff%%\n", "I1 MissingPart 2"),
-    (b"\xff\n%%\n", "F1 NotToml"),
-];
-
-/// Returns whether `check` writes this for an input of bytes.
-fn is_answer<T: Threads + Wait + Clock + Sync>(
-    rt: &T,
-    alloc: Global,
-    input: &[u8],
-    wanted: &str,
-) -> Result<bool, AllocError> {
-    Ok(answer(rt, alloc, "check", input)?.as_str() == wanted)
-}
-
-#[test]
-fn bytes_are_refused(rt: HostRuntime) {
-    for (input, wanted) in &BYTES {
-        assert!(rt; is_answer(&rt, rt.alloc(), input, wanted) == Ok(true));
-    }
 }

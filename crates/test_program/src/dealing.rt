@@ -2,16 +2,11 @@
 use crate::samples::{LONGER_PLAN, WHEEL, WHEEL_PLAN};
 use crate::served::{Row, first_wrong};
 
-const DEALT: [Row; 5] = [
+const DEALT: [Row; 4] = [
     (
         "deal 0",
         &[WHEEL, WHEEL_PLAN],
         "voter v0 0\nvoter v1 0\nvoter v2 0\nvoter v3 0\nbusiest 0\n",
-    ),
-    (
-        "deal 5",
-        &[WHEEL, WHEEL_PLAN],
-        "0 0\n1 1\n2 2\n3 3\n4 3\nvoter v0 3\nvoter v1 3\nvoter v2 3\nvoter v3 3\nbusiest 3\n",
     ),
     (
         "deal 7",

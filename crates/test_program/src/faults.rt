@@ -9,6 +9,7 @@ use construct::ConstructFault;
 use coterie_file::FileFault;
 use dealer::{DealFault, OfficeFault, Plans};
 use fraction::FracFault;
+use members::CloseFault;
 use message::MessageFault;
 use planner::{Cause, PlannerFault};
 use qlock_cli::{DeviceFault, Fault, InputFault};
@@ -321,6 +322,8 @@ fn faults_of_closed_clusters(rt: HostRuntime) -> Result<(), Fail> {
     };
     let blank = Blank::new(alloc, Plans::single(plan), 2, 1)?;
     let text = closed_without_one::<Brand>(alloc, blank)?;
-    assert!(rt; text.as_str() == "K3 MembersOut 1");
+    let lost: CloseFault<Brand> = CloseFault::Lost(ClusterFault::Board(BoardFault::VoteOut(2)));
+    let lost = lost.to_string(alloc)?;
+    assert!(rt; (text.as_str() == "K3 MembersOut 1") & (lost.as_str() == "B2 VoteOut 2"));
     Ok(())
 }

@@ -1,42 +1,52 @@
-//! Texts that are cut short, and texts and numbers that are too long. Two things are tested in the
-//! crates that read them: that no prefix of a record is a record, and what happens with more than
-//! 64 voters or 4096 quorums.
+//! Texts that are cut short, and texts and numbers that are too long. `test_planning` has more than 64
+//! voters or 4096 quorums.
 use crate::plan;
-use crate::samples::{FAST_HUB, FAST_HUB_PLAN, MAJORITY, MAJORITY_PLAN, ONE, WHEEL, WHEEL_PLAN};
-use crate::served::{Row, answer, answer_planned, first_wrong};
+use crate::samples::{
+    FAST_HUB, FAST_HUB_PLAN, MAJORITY, MAJORITY_PLAN, ONE, RECORD, WHEEL, WHEEL_PLAN,
+};
+use crate::served::{Row, answer, first_wrong, joined};
 use std::alloc::{AllocError, Global};
 use std::sync::Wait;
 use std::test::Fail;
 use std::thread::Threads;
 use std::time::Clock;
 
-/// Returns how many beginnings of a plan, without the whole of it, are refused as bad texts.
+/// Returns how many beginnings of a text, without the whole of it, are refused with this fault as the last
+/// part of a command's input.
 fn refused_beginnings<T: Threads + Wait + Clock + Sync>(
     rt: &T,
     alloc: Global,
-    coterie: &str,
-    plan: &str,
+    line: &str,
+    parts: &[&str],
+    text: &str,
+    fault: &str,
 ) -> Result<usize, AllocError> {
+    let before = joined(alloc, parts)?;
     let mut refused: usize = 0;
-    for end in 0..plan.len() {
-        let beginning = std::str::from_utf8(&plan.as_bytes()[..end]).unwrap_or("");
-        let text = answer_planned(rt, alloc, "check", coterie, beginning)?;
-        if text.as_str().starts_with("P5 BadText ") {
+    for end in 0..text.len() {
+        let beginning = std::str::from_utf8(&text.as_bytes()[..end]).unwrap_or("");
+        let input = format!(in alloc; "{before}%%\n{beginning}")?;
+        let written = answer(rt, alloc, line, input.as_bytes())?;
+        if written.as_str().starts_with(fault) {
             refused = refused.saturating_add(1);
         }
     }
     Ok(refused)
 }
 
+/// Commands, the first parts of their inputs, the last part, and the fault of each beginning of it.
+const CUT: [(&str, &[&str], &str, &str); 4] = [
+    ("check", &[MAJORITY], MAJORITY_PLAN, "P5 BadText "),
+    ("check", &[WHEEL], WHEEL_PLAN, "P5 BadText "),
+    ("check", &[FAST_HUB], FAST_HUB_PLAN, "P5 BadText "),
+    ("replay", &[MAJORITY, MAJORITY_PLAN], RECORD, "A7 BadLine "),
+];
+
 #[test]
-fn no_prefix_of_a_plan_is_one(rt: HostRuntime) -> Result<(), Fail> {
-    for (coterie, plan) in [
-        (MAJORITY, MAJORITY_PLAN),
-        (WHEEL, WHEEL_PLAN),
-        (FAST_HUB, FAST_HUB_PLAN),
-    ] {
-        let refused = refused_beginnings(&rt, rt.alloc(), coterie, plan)?;
-        assert!(rt; refused == plan.len());
+fn no_prefix_of_a_plan_or_a_record_is_one(rt: HostRuntime) -> Result<(), Fail> {
+    for (line, parts, text, fault) in &CUT {
+        let refused = refused_beginnings(&rt, rt.alloc(), line, parts, text, fault)?;
+        assert!(rt; refused == text.len());
     }
     Ok(())
 }
@@ -83,48 +93,16 @@ fn brackets_without_an_end_are_no_coterie(rt: HostRuntime) -> Result<(), Fail> {
     Ok(())
 }
 
-/// Plans of one voter with numbers of seven digits and of eight.
-const NUMBERS: [Row; 7] = [
-    (
-        "check",
-        &[ONE, plan!("10000000/1", "1", "1", "1")],
-        "P5 BadText 2",
-    ),
-    (
-        "check",
-        &[ONE, plan!("1/10000000", "1", "1", "1")],
-        "P5 BadText 2",
-    ),
-    (
-        "check",
-        &[ONE, plan!("1/1", "10000000", "1", "1")],
-        "P5 BadText 3",
-    ),
-    (
-        "check",
-        &[ONE, plan!("1/1", "1", "10000000", "1")],
-        "P5 BadText 4",
-    ),
-    (
-        "check",
-        &[ONE, plan!("1/1", "1", "1", "10000000")],
-        "P5 BadText 5",
-    ),
-    (
-        "check",
-        &[ONE, plan!("1/1", "1", "1000000", "1000000")],
-        "P7 WrongCycle",
-    ),
-    (
-        "check",
-        &[ONE, plan!("1/1", "1", "9999999", "1")],
-        "P2 TooLarge",
-    ),
-];
+/// A plan of one voter with a number of eight digits.
+const EIGHT_DIGITS: [Row; 1] = [(
+    "check",
+    &[ONE, plan!("10000000/1", "1", "1", "1")],
+    "P5 BadText 2",
+)];
 
 #[test]
 fn a_plan_s_numbers_have_seven_digits(rt: HostRuntime) -> Result<(), Fail> {
-    assert_eq!(rt; first_wrong(&rt, rt.alloc(), &NUMBERS)?, None);
+    assert_eq!(rt; first_wrong(&rt, rt.alloc(), &EIGHT_DIGITS)?, None);
     Ok(())
 }
 

@@ -1,5 +1,5 @@
-//! Records that are replayed.
-use crate::samples::{MAJORITY, MAJORITY_PLAN, RECORD_ACCOUNT};
+//! Records that are refused. `tables` has those that are replayed.
+use crate::samples::{MAJORITY, MAJORITY_PLAN};
 use crate::served::{Row, first_wrong};
 
 /// The text of a record of three draws and two passes: its second draw, its second pass and its
@@ -18,12 +18,7 @@ macro_rules! record {
     };
 }
 
-const REPLAYED: [Row; 12] = [
-    (
-        "replay",
-        &[MAJORITY, MAJORITY_PLAN, record!("0 1 1", "1 1", "2")],
-        RECORD_ACCOUNT,
-    ),
+const REPLAYED: [Row; 7] = [
     (
         "replay",
         &[MAJORITY, MAJORITY_PLAN, record!("0 0 0", "1 1", "2")],
@@ -56,33 +51,12 @@ const REPLAYED: [Row; 12] = [
     ),
     (
         "replay",
-        &[MAJORITY, MAJORITY_PLAN, record!("0 1 1", "1", "2")],
-        "A7 BadLine 6",
-    ),
-    // the record is the third part
-    (
-        "replay",
-        &[MAJORITY, MAJORITY_PLAN, "quorum-record 1\nregister 0\n"],
-        "drawn 0\nvoter v0 0\nvoter v1 0\nvoter v2 0\nbusiest 0\nregister 0\n",
-    ),
-    (
-        "replay",
         &[MAJORITY, MAJORITY_PLAN, "register 0\n"],
         "A7 BadLine 1",
-    ),
-    (
-        "replay",
-        &[MAJORITY, MAJORITY_PLAN, "quorum-record 1\nregister 0\n%%\n"],
-        "A7 BadLine 3",
-    ),
-    (
-        "replay",
-        &[MAJORITY, "quorum-plan 1\nquorum-record 1\nregister 0\n"],
-        "I1 MissingPart 3",
     ),
 ];
 
 #[test]
-fn records_are_replayed(rt: HostRuntime) {
+fn records_are_refused(rt: HostRuntime) {
     assert!(rt; first_wrong(&rt, rt.alloc(), &REPLAYED) == Ok(None));
 }

@@ -1,5 +1,5 @@
-//! Worlds: scripts, and all that they write.
-use crate::samples::{MAJORITY, MAJORITY_PLAN, ONE, ONE_PLAN, RACE, RACE_OUTPUT};
+//! Worlds: scripts, and all that they write. `tables` has one more.
+use crate::samples::{MAJORITY, MAJORITY_PLAN, ONE, ONE_PLAN};
 use crate::served::{Row, first_wrong};
 
 /// A vote that arrives again, after its client gave it up.
@@ -37,8 +37,7 @@ const REMINDED: &str =
 const REMINDED_OUTPUT: &str =
     "m 0 request 0 0 1\nm 1 request 0 0 1\nm 2 locked 0 0 1 1 1\nm 3 locked 0 0 1 1 1\nm 4 locked 0 0 1 1 1\nenter 0\n! C3 NotAsking\n! C1 Busy\n! U2 NoSuchClient 7\n! U3 NoSuchVoter 3\n";
 
-const PLAYED: [Row; 7] = [
-    ("world", &[MAJORITY, MAJORITY_PLAN, RACE], RACE_OUTPUT),
+const PLAYED: [Row; 6] = [
     (
         "world",
         &[MAJORITY, MAJORITY_PLAN, LATE_VOTE],
@@ -56,7 +55,7 @@ fn scripts_are_played(rt: HostRuntime) {
     assert!(rt; first_wrong(&rt, rt.alloc(), &PLAYED) == Ok(None));
 }
 
-const REFUSED: [Row; 6] = [
+const REFUSED: [Row; 3] = [
     ("world", &[MAJORITY, MAJORITY_PLAN, ""], "A7 BadLine 1"),
     (
         "world",
@@ -65,20 +64,9 @@ const REFUSED: [Row; 6] = [
     ),
     (
         "world",
-        &[MAJORITY, MAJORITY_PLAN, "world 0 1000\n"],
-        "A7 BadLine 1",
-    ),
-    (
-        "world",
         &[MAJORITY, MAJORITY_PLAN, "world 1 1000\nask 256\n"],
         "A7 BadLine 2",
     ),
-    (
-        "world",
-        &[MAJORITY, MAJORITY_PLAN, "world 1 1000\nask 0\nask 0"],
-        "A7 BadLine 3",
-    ),
-    ("world", &[MAJORITY, MAJORITY_PLAN], "I1 MissingPart 3"),
 ];
 
 #[test]

@@ -5,10 +5,8 @@
 ghost use Rattle.std.specs.Prelude.{◌≡◌, ◌<◌, ◌≤◌, ◌^◌, IfSome};
 
 use crate::messages::add_line;
-use arrayvec::ArrayVec;
 use message::{Message, ToClient, ToVoter, read_message};
-use quorum_set::QSet;
-use requester::{ClientFault, Messages, Phase, Reply, Requester, Seen};
+use requester::{ClientFault, Reply, Requester, Seen};
 use std::alloc::{AllocError, Global};
 use std::test::Fail;
 use test_plans::set_of;
@@ -33,18 +31,13 @@ fn lines(alloc: Global, messages: &[ToVoter]) -> Result<String, AllocError> {
     Ok(text)
 }
 
-/// Returns the lines of the messages, and what is seen, or the fault.
-fn called(
-    alloc: Global,
-    out: &Messages,
-    seen: Result<Seen, ClientFault>,
-) -> Result<String, AllocError> {
-    let mut text = lines(alloc, out.as_slice())?;
-    match seen {
-        Ok(Seen::Nothing) => (),
-        Ok(Seen::Entered) => text.push_str("entered")?,
-        Ok(Seen::Left) => text.push_str("left")?,
-        Err(fault) => write!(text, "{fault}")?,
+/// Returns the lines of the messages, and what is seen.
+fn called(alloc: Global, reply: &Reply) -> Result<String, AllocError> {
+    let mut text = lines(alloc, reply.out.as_slice())?;
+    match reply.seen {
+        Seen::Nothing => (),
+        Seen::Entered => text.push_str("entered")?,
+        Seen::Left => text.push_str("left")?,
     }
     Ok(text)
 }
@@ -58,17 +51,6 @@ fn ask(client: &mut Requester) -> Result<Reply, ClientFault>
         return Err(ClientFault::Busy);
     }
     client.ask(&quorum)
-}
-
-/// Has the client ask voters 0 and 1, with a buffer.
-fn ask_into(client: &mut Requester, out: &mut Messages) -> Result<Seen, ClientFault>
-    ensures id { client.new.id ≡ client.old.id }
-{
-    let quorum = set_of(&[0, 1]);
-    if quorum.len() == 0 {
-        return Err(ClientFault::Busy);
-    }
-    client.ask_into(&quorum, out)
 }
 
 /// Returns the reply to a step. Fails with `Busy` if it is neither a call nor a message.
@@ -87,40 +69,13 @@ fn reply_to(client: &mut Requester, step: &str) -> Result<Reply, ClientFault>
     }
 }
 
-/// Does what [`reply_to`] does, with the messages in `out`.
-fn seen_at(client: &mut Requester, step: &str, out: &mut Messages) -> Result<Seen, ClientFault>
-    requires id { client.old.id ≡ 0 }
-    ensures id { client.new.id ≡ 0 }
-{
-    match step {
-        "ask" => ask_into(client, out),
-        "leave" => client.leave_into(out),
-        "give up" => client.give_up_into(out),
-        _ => match heard(step) {
-            Some(message) => Ok(client.take_into(&message, out)),
-            None => Err(ClientFault::Busy),
-        },
-    }
-}
-
-/// Returns whether the client says that it would refuse a step.
-fn would_refuse(client: &Requester, step: &str) -> bool {
-    let fault = match step {
-        "ask" => client.ask_fault(),
-        "leave" => client.leave_fault(),
-        "give up" => client.give_up_fault(),
-        _ => None,
-    };
-    fault.is_some()
-}
-
 /// Returns the reply to a step as text.
 fn replied(alloc: Global, client: &mut Requester, step: &str) -> Result<String, AllocError>
     requires id { client.old.id ≡ 0 }
     ensures id { client.new.id ≡ 0 }
 {
     match reply_to(client, step) {
-        Ok(reply) => called(alloc, &reply.out, Ok(reply.seen)),
+        Ok(reply) => called(alloc, &reply),
         Err(fault) => fault.to_string(alloc),
     }
 }
@@ -133,36 +88,18 @@ fn shown(alloc: Global, client: &Requester, step: &str) -> Result<String, AllocE
     format!(in alloc; "{}", client.held(0).unwrap_or(0))
 }
 
-/// Returns whether a client replies to each step with the text next to it, and says before whether
-/// it would refuse.
+/// Returns whether a client replies to each step with the text next to it.
 fn plays(alloc: Global, limit: u64, script: &[(&str, &str)]) -> Result<bool, AllocError>
     requires least { 1 ≤ limit }
     requires most { limit ≤ 2 ^ 40 }
 {
     let mut client = Requester::new(0, limit);
     for (step, want) in script {
-        let refuses = would_refuse(&client, step);
         let got = match *step {
             "remind" | "held" => shown(alloc, &client, step)?,
             _ => replied(alloc, &mut client, step)?,
         };
-        if (got.as_str() != *want) | (refuses != want.starts_with("C")) {
-            return Ok(false);
-        }
-    }
-    Ok(true)
-}
-
-/// Returns whether a client replies to each step in one buffer with the text next to it.
-fn plays_into(alloc: Global, limit: u64, script: &[(&str, &str)]) -> Result<bool, AllocError>
-    requires least { 1 ≤ limit }
-    requires most { limit ≤ 2 ^ 40 }
-{
-    let mut client = Requester::new(0, limit);
-    let mut out = ArrayVec::new();
-    for (step, want) in script {
-        let seen = seen_at(&mut client, step, &mut out);
-        if called(alloc, &out, seen)?.as_str() != *want {
+        if got.as_str() != *want {
             return Ok(false);
         }
     }
@@ -222,23 +159,6 @@ const REFUSED: &[(&str, &str)] = &[
     ("ask", "C4 StampsSpent"),
 ];
 
-/// Each call follows each other one.
-const IN_TURN: &[(&str, &str)] = &[
-    ("ask", "request 0 0 1;request 0 1 1;"),
-    ("ask", "C1 Busy"),
-    ("fail 1 0 1 1", ""),
-    ("locked 0 0 1 1 1", ""),
-    ("inquire 0 0 1 1", "relinquish 0 0 1;"),
-    ("locked 0 0 1 1 1", ""),
-    ("locked 0 0 1 2 1", ""),
-    ("locked 1 0 1 5 1", "entered"),
-    ("leave", "release 0 0 1;release 0 1 1;left"),
-    ("leave", "C2 NotInside"),
-    ("ask", "request 0 0 2;request 0 1 2;"),
-    ("give up", "release 0 0 2;release 0 1 2;"),
-    ("give up", "C3 NotAsking"),
-];
-
 #[test]
 fn vote_that_is_given_back_is_won_again_and_released(rt: HostRuntime) -> Result<(), Fail> {
     assert!(rt; plays(rt.alloc(), 9, GIVEN_BACK)?);
@@ -258,42 +178,7 @@ fn vote_that_is_asked_for_goes_back_on_the_next_fail(rt: HostRuntime) -> Result<
 }
 
 #[test]
-fn refusals_are_predicted(rt: HostRuntime) -> Result<(), Fail> {
+fn calls_are_refused_in_other_phases(rt: HostRuntime) -> Result<(), Fail> {
     assert!(rt; plays(rt.alloc(), 1, REFUSED)?);
     Ok(())
-}
-
-#[test]
-fn one_buffer_serves_each_call(rt: HostRuntime) -> Result<(), Fail> {
-    assert!(rt; plays_into(rt.alloc(), 9, IN_TURN)?);
-    Ok(())
-}
-
-/// Returns whether a client that asked shows a grant that it takes, and would not hold it twice.
-fn holds_once(client: &mut Requester, message: &ToClient) -> bool
-    requires client { message.now.client ≡ client.old.id }
-    requires voter { message.now.voter < 64 }
-{
-    let would = client.would_hold(message);
-    let reply = client.take(message);
-    let again = client.would_hold(message);
-    let read = (client.id(), client.stamp(), client.held(0));
-    would
-        & reply.out.is_empty()
-        & !again
-        & (read == (0, 1, Some(4)))
-        & (client.quorum() == [0, 1].as_slice())
-        & client.spent()
-}
-
-#[test]
-fn readers(rt: HostRuntime) {
-    let mut client = Requester::new(0, 9);
-    let first = client.phase();
-    let asked = ask(&mut client).is_ok();
-    let read = match heard("locked 0 0 1 4 9") {
-        Some(message) => holds_once(&mut client, &message),
-        None => false,
-    };
-    assert!(rt; asked & read & (first == Phase::Idle) & (client.phase() == Phase::Asking));
 }

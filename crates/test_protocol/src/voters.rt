@@ -2,7 +2,6 @@
 ghost use Rattle.std.specs.Prelude.{◌≡◌, ◌<◌, ◌≤◌, ◌^◌, IfSome};
 
 use crate::messages::add_line;
-use arrayvec::ArrayVec;
 use message::{Message, ToVoter, read_message};
 use std::alloc::{AllocError, Global};
 use std::test::Fail;
@@ -107,17 +106,6 @@ fn former_front_receives_fail(rt: HostRuntime) -> Result<(), Fail> {
     Ok(())
 }
 
-/// Returns whether a new voter has nothing to repeat.
-fn starts_silent() -> bool {
-    let voter = Voter::new(0, 2);
-    voter.held().is_none() & voter.remind().is_empty()
-}
-
-#[test]
-fn new_voter_has_nothing_to_repeat(rt: HostRuntime) {
-    assert!(rt; starts_silent());
-}
-
 /// Returns whether the voter gave grant 1 to client 1 under stamp 5, and frees it by this message.
 fn holds(voter: &Voter, release: Option<ToVoter>) -> bool {
     let grant = Grant {
@@ -147,44 +135,5 @@ fn vote_is_held_and_reported_again(rt: HostRuntime) -> Result<(), Fail> {
     let held = holds(&voter, asked("release 1 0 5"));
     let again = lines(rt.alloc(), &voter.remind())?;
     assert!(rt; held & (again.as_str() == "locked 0 1 5 1 5;inquire 0 1 1 5;"));
-    Ok(())
-}
-
-/// Returns whether a voter that takes each line in turn replies in one buffer with the lines next
-/// to it.
-fn plays_into(alloc: Global, limit: u64, script: &[(&str, &str)]) -> Result<bool, AllocError>
-    requires least { 1 ≤ limit }
-    requires most { limit ≤ 2 ^ 40 }
-{
-    let mut voter = Voter::new(0, limit);
-    let mut replies = ArrayVec::new();
-    for (line, want) in script {
-        let Some(message) = asked(line) else {
-            return Ok(false);
-        };
-        let taken = voter.take_into(&message, &mut replies);
-        let mut got = lines(alloc, &replies)?;
-        if let Err(fault) = taken {
-            write!(got, "{fault}")?;
-        }
-        if got.as_str() != *want {
-            return Ok(false);
-        }
-    }
-    Ok(true)
-}
-
-#[test]
-fn one_buffer_serves_each_message(rt: HostRuntime) -> Result<(), Fail> {
-    let script = [
-        ("request 2 0 2", "locked 0 2 2 1 2;"),
-        ("request 3 0 3", "fail 0 3 3 3;"),
-        ("request 1 0 1", "inquire 0 2 1 3;fail 0 3 3 3;"),
-        ("release 0 0 1", ""),
-        ("relinquish 2 0 1", "locked 0 1 1 2 3;"),
-        ("release 1 0 1", "V1 GrantsSpent"),
-        ("release 2 0 2", ""),
-    ];
-    assert!(rt; plays_into(rt.alloc(), 2, script.as_slice())?);
     Ok(())
 }

@@ -1,8 +1,8 @@
 //! A world that is run step by step, and what can be seen of it.
 ghost use Rattle.std.specs.Prelude.{◌≤◌, ◌^◌};
 
-use crate::plans::Kind;
 use std::alloc::{AllocError, Global};
+use test_plans::Kind;
 use world::{Event, Step, Stepped, Trace, World, WorldFault};
 
 /// How many clients a world has, and its limit of stamps and grants.

@@ -14,33 +14,13 @@
 //!
 //! `world` proves this of every list; here it is seen of three thousand. The tests also count what the
 //! lists tried, so that none passes because nothing happened.
-//!
-//! In 1,350 schedules worlds are played in fair rounds: `duties` lists what a round owes, `rounds` plays,
-//! and between the duties an adversary does anything else. Whoever asks is inside within the rounds that
-//! `progress` proves, and the longest waits are those that `show_waiting` prints. A separate checker, `fair`, tests by the
-//! definition that the rounds are fair. With each of three wrong rules a client waits for longer than
-//! the bound.
 #![tactic(auto)]
 
 #[cfg(test)]
-mod duties;
-#[cfg(test)]
-mod fair;
-#[cfg(test)]
 mod fold;
 #[cfg(test)]
-mod plans;
-#[cfg(test)]
 mod restarts;
-#[cfg(test)]
-mod round_tests;
-#[cfg(test)]
-mod rounds;
-#[cfg(test)]
-mod rules;
 #[cfg(test)]
 mod schedule;
 #[cfg(test)]
 mod tests;
-#[cfg(test)]
-mod waits;

@@ -2,12 +2,12 @@
 ghost use Rattle.std.specs.Prelude.{◌<◌, ◌≤◌};
 
 use crate::fold::{Fold, Sizes};
-use crate::plans::Kind;
 use message::{ClientBody, Message};
 use rand_core::{Rng, SeedableRng};
 use rand_pcg::Pcg64;
 use requester::Seen;
 use std::alloc::{AllocError, Global};
+use test_plans::Kind;
 use world::{Step, Stepped, WorldFault};
 
 /// How many steps a schedule of one plan has.

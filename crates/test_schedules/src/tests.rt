@@ -1,9 +1,10 @@
+//! Tests of the lock by schedules: at most one client is inside.
 ghost use Rattle.std.specs.Prelude.{◌<◌};
 
 use crate::fold::{Fold, is_exclusive};
-use crate::plans::Kind;
 use crate::schedule::{Schedule, Tally, drawn};
 use std::alloc::{AllocError, Global};
+use test_plans::Kind;
 use world::{Event, Step, Trace, run};
 
 /// How often, at least, the schedules of a row have to try each thing that is counted.

@@ -1,4 +1,4 @@
-//! Stories: which texts are read, and what a crash undoes.
+//! Stories: notes in them, what a crash undoes, and a long one.
 use certificate::Plan;
 use dealer::Plans;
 use replay::ReplayFault;
@@ -7,39 +7,29 @@ use std::test::Fail;
 use stories::{Happening, Moment, read_story, story_of};
 use test_plans::majority_plan;
 
-/// Texts with the number of their turns, and the number of the first bad line or 0.
-const TEXTS: [(&str, usize, usize); 11] = [
-    ("world 1 9\n", 0, 0),
-    ("# a note\n\nworld 64 9\n\nask 0\n#\nexchange\n", 2, 0),
-    ("world 1 9\ncrash-client 255\ncrash-voter 0\n", 2, 0),
+/// Texts with the number of their turns, or the first bad line.
+const TEXTS: [(&str, Result<usize, ReplayFault>); 4] = [
+    ("# a note\n\nworld 64 9\n\nask 0\n#\nexchange\n", Ok(2)),
+    ("# a note\n\nask 0\n", Err(ReplayFault::BadLine(3))),
     (
-        "world 1 9\nevict 255\nreborn-voter 0\nanew-client 7\nshow 255\n",
-        4,
-        0,
+        "world 1 9\ncrash-client 256\n",
+        Err(ReplayFault::BadLine(2)),
     ),
-    ("world 1 9\nevict\n", 0, 2),
-    ("", 0, 1),
-    ("# a note\n\nask 0\n", 0, 3),
-    ("world 1 9\n# a note\nexchange 1\n", 0, 3),
-    ("world 1 9\ncrash-client 256\n", 0, 2),
-    ("world 1 9\n\n# no newline", 0, 3),
-    ("world 1 9\n # no note\n", 0, 2),
+    ("world 1 9\n # no note\n", Err(ReplayFault::BadLine(2))),
 ];
 
-/// Returns whether a text is read with this number of turns, or refused for this line.
-fn reads(alloc: Global, text: &str, turns: usize, bad: usize) -> bool {
+/// Returns how many turns a text has, or its fault.
+fn turns_of(alloc: Global, text: &str) -> Result<usize, ReplayFault> {
     match read_story(alloc, text.as_bytes()) {
-        Ok(script) => (bad == 0) & (script.turns().len() == turns),
-        Err(ReplayFault::BadLine(line)) => line == bad,
-        Err(_) => false,
+        Ok(script) => Ok(script.turns().len()),
+        Err(fault) => Err(fault),
     }
 }
 
 #[test]
 fn notes_are_left_out(rt: HostRuntime) {
-    for (text, turns, bad) in TEXTS {
-        let reads = reads(rt.alloc(), text, turns, bad);
-        assert!(rt; reads);
+    for (text, wanted) in &TEXTS {
+        assert!(rt; turns_of(rt.alloc(), text) == *wanted);
     }
 }
 

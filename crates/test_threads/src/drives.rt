@@ -11,7 +11,7 @@ use std::test::Fail;
 use std::thread::Threads;
 use std::time::Clock;
 use test_gate::Meeting;
-use test_plans::{grid_plan, majority_plan};
+use test_plans::majority_plan;
 
 #[test]
 fn two_members_run_at_once(rt: HostRuntime) -> Result<(), Fail> {
@@ -53,14 +53,6 @@ fn members_come_as_far_as_they_may(rt: HostRuntime) -> Result<(), Fail> {
         };
         assert_eq!(rt; outcome, Some(wanted), "{passes} passes");
     }
-    Ok(())
-}
-
-#[test]
-fn four_members_make_four_hundred_passes(rt: HostRuntime) -> Result<(), Fail> {
-    let alloc = rt.alloc();
-    let outcome = driven(&rt, alloc, grid_plan(alloc), (4, 100, 100, MANY), &NoGate)?;
-    assert_eq!(rt; outcome, Some(done(4, 400)));
     Ok(())
 }
 

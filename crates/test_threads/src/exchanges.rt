@@ -12,7 +12,7 @@ use std::sync::Wait;
 use std::test::Fail;
 use std::thread::Threads;
 use std::time::Clock;
-use test_plans::{bridged_plans, grid_plan, majority_plan, wheel_plan, whole_plan};
+use test_plans::{bridged_plans, majority_plan, whole_plan};
 
 /// Returns the record of a drive with this number of passes of each member.
 fn driven<N: ClusterName + Send + Sync, R: Threads + Wait + Clock + Sync>(
@@ -87,45 +87,6 @@ fn half_of_the_passes_use_each_plan(rt: HostRuntime) -> Result<(), Fail> {
             &[10],
             &[10, 10, 10],
             (10, 10)
-        )
-    );
-    Ok(())
-}
-
-#[test]
-fn whole_cycles_of_both_plans_are_even(rt: HostRuntime) -> Result<(), Fail> {
-    let alloc = rt.alloc();
-    let plans = bridged_plans(alloc, grid_plan(alloc), wheel_plan(alloc));
-    let Some(blank) = blank_by(alloc, plans, 4, 100) else {
-        panic!(rt; "no cluster")
-    };
-    let Some(record) = driven::<Brand, _>(&rt, alloc, blank, 100)? else {
-        panic!(rt; "no record")
-    };
-    assert_eq!(rt; record.register, 400);
-    let (old, new) = (grid_plan(alloc), wheel_plan(alloc));
-    let shares = [50, 50, 50, 50];
-    assert!(rt;
-        has_account(
-            alloc,
-            old,
-            Side::First,
-            &record,
-            &shares,
-            &[150, 150, 150, 150],
-            (200, 150)
-        )
-    );
-    let shares = [40, 40, 40, 80];
-    assert!(rt;
-        has_account(
-            alloc,
-            new,
-            Side::Second,
-            &record,
-            &shares,
-            &[120, 120, 120, 120],
-            (200, 120)
         )
     );
     Ok(())

@@ -4,7 +4,9 @@
 //! - `clusters` makes clusters for `drives`, `gates` and `exchanges`, in which the members' plan is
 //!   exchanged for another. `gate_order` looks when a gate is called.
 //! - `waits` looks when a member of a drive yields, sleeps and reminds.
-//! - `records_of_runs` and `runs_of_plans` make records, and have them checked.
+//! - `records_of_runs` has the record of a run in which a client never passes.
+//!
+//! What contracts determine is not tested again, except by worked examples.
 //!
 //! The tests are not in the crates that they test, so these are proved once, and not again together
 //! with their tests.
@@ -22,7 +24,5 @@ mod gate_order;
 mod gates;
 #[cfg(test)]
 mod records_of_runs;
-#[cfg(test)]
-mod runs_of_plans;
 #[cfg(test)]
 mod waits;

@@ -1,0 +1,513 @@
+//! Worlds in fair rounds, between whose duties an adversary does anything else.
+//!
+//! The adversary has idle clients ask, and clients leave early or give up. It has messages arrive
+//! again, late or out of order, and all that no duty names it may lose. If there are two plans, it
+//! exchanges the first.
+ghost use Rattle.std.specs.Prelude.{◌<◌, ◌≤◌};
+
+use crate::duties::Duties;
+use crate::rules::{Rule, client_of, is_release, is_request, is_vote_of_other, message_of, takes};
+use crate::waits::Wait;
+use message::Message;
+use rand_core::{Rng, SeedableRng};
+use rand_pcg::Pcg64;
+use requester::{Phase, Seen};
+use std::alloc::{AllocError, Global};
+use test_plans::Kind;
+use world::{Step, World};
+
+/// How many steps a round may have before it is given up. None needs this many.
+const MOST_STEPS: u32 = 4000;
+
+/// The greatest stamp and the greatest number of a grant: more than any schedule needs.
+const LIMIT: u64 = 1_000_000_000;
+
+/// In which order duties are done.
+#[derive(Clone, Copy)]
+enum Order {
+    /// In any.
+    Any,
+    /// The oldest first.
+    Oldest,
+    /// The newest first.
+    Newest,
+}
+
+/// How an adversary plays.
+#[derive(Clone, Copy)]
+struct Style {
+    order: Order,
+    /// Of eight steps, how many are the adversary's.
+    busy: u64,
+    /// Whether there are withdrawals, and REQUESTs that come late.
+    rough: bool,
+    /// Whether all is done against client 0: its messages arrive by duties alone, and others leave as
+    /// late as they may.
+    hostile: bool,
+    /// Whether other clients get their votes as soon as a round begins, and ask as soon as it ends.
+    grabs: bool,
+}
+
+/// A schedule: what is drawn, and how.
+#[derive(Clone, Copy)]
+pub struct Game {
+    /// The coteries.
+    pub kind: Kind,
+    /// How many clients there are.
+    pub clients: u8,
+    /// Whether clients give up, and REQUESTs come late.
+    pub rough: bool,
+    /// The rule that voters and clients follow.
+    pub rule: Rule,
+    ghost some: { 1 ≤ clients },
+    ghost few: { clients ≤ 64 },
+}
+
+/// What schedules tried.
+#[derive(Clone, Copy, Default)]
+pub struct Tally {
+    /// How many rounds there were.
+    pub rounds: u64,
+    /// How many clients entered.
+    pub entries: u64,
+    /// How many clients gave up.
+    pub give_ups: u64,
+    /// How many REQUESTs came late.
+    pub late: u64,
+    /// How many messages arrived again.
+    pub repeats: u64,
+    /// How many messages never arrived.
+    pub losses: u64,
+    /// How often a plan was exchanged.
+    pub exchanges: u64,
+    /// The longest wait, in rounds.
+    pub longest: u64,
+    /// How often a client was not inside in time.
+    pub overdue: u64,
+    /// How many rounds were not ended.
+    pub unfinished: u64,
+}
+
+/// A world that is played in fair rounds.
+#[derive(Drop)]
+pub struct Play {
+    world: World,
+    game: Game,
+    style: Style,
+    rng: Pcg64,
+    voters: u8,
+    duties: Duties,
+    /// The wait of each client.
+    waits: Vec<Wait>,
+    /// For each message, by number, whether it arrived.
+    came: Vec<bool>,
+    /// How many messages had been sent when the last round began.
+    old: usize,
+    /// How many messages had been sent when this round began.
+    young: usize,
+    /// The withdrawals and the late REQUESTs of this round.
+    give_ups: u64,
+    late: u64,
+    /// All steps.
+    steps: Vec<Step>,
+    /// How many steps had been made when each round began.
+    starts: Vec<usize>,
+    tally: Tally,
+    ghost some: { 1 ≤ voters },
+}
+
+/// Counts one more.
+fn count(number: &mut u64) {
+    *number = number.saturating_add(1);
+}
+
+/// Returns the new world of a game.
+pub fn new_world(alloc: Global, game: Game) -> Result<World, AllocError> {
+    let plans = game.kind.plans(alloc).ok_or(AllocError)?;
+    World::new(alloc, plans, game.clients, LIMIT)
+}
+
+/// Returns a number below the bound.
+fn below(rng: &mut Pcg64, bound: u64) -> u64
+    requires { 0 < bound }
+    ensures { result < bound }
+{
+    rng.next_u64() % bound
+}
+
+/// Draws how an adversary plays.
+fn draw_style(rng: &mut Pcg64, rough: bool) -> Style {
+    let order = match below(rng, 3) {
+        0 => Order::Any,
+        1 => Order::Oldest,
+        _ => Order::Newest,
+    };
+    let grabs = below(rng, 2) == 0;
+    Style {
+        order,
+        busy: if grabs { below(rng, 2) } else { below(rng, 7) },
+        rough,
+        hostile: below(rng, 4) != 0,
+        grabs,
+    }
+}
+
+/// Returns the stamp of a client that asks, or 0 if it does not.
+fn asking_stamp(world: &World, client: u8) -> u64 {
+    match world.client(client) {
+        Some(client) if client.phase() == Phase::Asking => client.stamp(),
+        _ => 0,
+    }
+}
+
+/// Returns the client that is inside, if one is.
+pub fn inside_of(world: &World) -> Option<u8> {
+    match world.visible().last() {
+        Some(event) if event.entered => Some(event.client),
+        _ => None,
+    }
+}
+
+impl Play {
+    /// Returns the play of a seed, with no round yet.
+    fn new(alloc: Global, game: Game, seed: u64) -> Result<Play, AllocError> {
+        let mut rng = Pcg64::seed_from_u64(seed);
+        let style = draw_style(&mut rng, game.rough);
+        let world = new_world(alloc, game)?;
+        let mut waits = Vec::new(alloc);
+        for _ in 0..game.clients {
+            waits.push(Wait::default())?;
+        }
+        Ok(Play {
+            world,
+            game,
+            style,
+            rng,
+            voters: game.kind.voters(),
+            duties: Duties::new(alloc),
+            waits,
+            came: Vec::new(alloc),
+            old: 0,
+            young: 0,
+            give_ups: 0,
+            late: 0,
+            steps: Vec::new(alloc),
+            starts: Vec::new(alloc),
+            tally: Tally::default(),
+        })
+    }
+
+    fn draw(&mut self, bound: u64) -> u64
+        requires { 0 < bound }
+        ensures { result < bound }
+    {
+        below(&mut self.rng, bound)
+    }
+
+    /// Notes that a message arrives, and whether it comes again or late.
+    fn note_arrival(&mut self, number: u64) -> Result<(), AllocError> {
+        for _ in self.came.len()..self.world.sent() {
+            self.came.push(false)?;
+        }
+        if self.is_late(number) {
+            count(&mut self.late);
+        }
+        if let Some(came) = self.came.get_mut(number as usize) {
+            if *came {
+                count(&mut self.tally.repeats);
+            }
+            *came = true;
+        }
+        Ok(())
+    }
+
+    /// Returns whether a message that arrives now is a REQUEST that comes late: later than in the round
+    /// after the one in which it was sent.
+    fn is_late(&self, number: u64) -> bool {
+        number < self.old as u64 && message_of(&self.world, number).is_some_and(is_request)
+    }
+
+    /// Notes what a step tries.
+    fn note(&mut self, step: Step) -> Result<(), AllocError> {
+        self.steps.push(step)?;
+        match step {
+            Step::Deliver(number) => self.note_arrival(number)?,
+            Step::GiveUp(_) => count(&mut self.give_ups),
+            _ => {}
+        }
+        Ok(())
+    }
+
+    /// Returns whether a step has an effect, by the rule.
+    fn has_effect(&self, step: Step) -> bool {
+        let Step::Deliver(number) = step else {
+            return true;
+        };
+        match message_of(&self.world, number) {
+            Some(Message::ToClient(heard)) => takes(self.game.rule, &self.world, heard),
+            _ => true,
+        }
+    }
+
+    /// Notes that a client entered, and how long it had waited.
+    fn note_entry(&mut self) {
+        count(&mut self.tally.entries);
+        let Some(client) = inside_of(&self.world) else {
+            return;
+        };
+        let stamp = self.world.client(client).map(|client| client.stamp());
+        if let Some(wait) = self.waits.get(usize::from(client))
+            && stamp == Some(wait.stamp)
+        {
+            self.tally.longest = self.tally.longest.max(wait.rounds.saturating_add(1));
+        }
+    }
+
+    /// Makes a step.
+    fn make(&mut self, step: Step) -> Result<(), AllocError> {
+        self.note(step)?;
+        if !self.has_effect(step) {
+            return Ok(());
+        }
+        if let Ok(stepped) = self.world.step(step) {
+            match step {
+                Step::Exchange => count(&mut self.tally.exchanges),
+                _ if stepped.seen == Seen::Entered => self.note_entry(),
+                _ => {}
+            }
+        }
+        Ok(())
+    }
+
+    /// Returns the place of the duty that is done next.
+    fn draw_place(&mut self) -> usize {
+        let count = self.duties.len();
+        if count == 0 {
+            return 0;
+        }
+        let place = match self.style.order {
+            Order::Any => self.draw(count as u64) as usize,
+            Order::Oldest => 0,
+            Order::Newest => count - 1,
+        };
+        match self.duties.at(place) {
+            Some(duty) if self.style.hostile && matches!(duty.step, Step::Leave(_)) => {
+                place.saturating_add(1) % count
+            }
+            _ => place,
+        }
+    }
+
+    /// Does a duty, and adds what it leads to.
+    fn do_duty(&mut self) -> Result<(), AllocError> {
+        let place = self.draw_place();
+        let Some(duty) = self.duties.take(place) else {
+            return Ok(());
+        };
+        let first = self.world.sent();
+        self.make(duty.step)?;
+        self.duties.follow(duty, first, self.world.sent())
+    }
+
+    /// Draws one of the last messages, or of all.
+    fn draw_message(&mut self, last: u64) -> Option<u64> {
+        let sent = self.world.sent() as u64;
+        if sent == 0 {
+            return None;
+        }
+        let back = self.draw(sent.min(last).max(1));
+        Some(sent.saturating_sub(back.saturating_add(1)))
+    }
+
+    /// Returns the arrival of a message, if the style has it.
+    fn arrival(&self, number: u64) -> Option<Step> {
+        let message = message_of(&self.world, number)?;
+        let against = self.style.hostile && (client_of(message) == 0 || is_release(message));
+        if against || (!self.style.rough && self.is_late(number)) {
+            return None;
+        }
+        Some(Step::Deliver(number))
+    }
+
+    fn draw_recent(&mut self) -> Option<Step> {
+        let number = self.draw_message(24)?;
+        self.arrival(number)
+    }
+
+    fn draw_old(&mut self) -> Option<Step> {
+        let number = self.draw_message(u64::MAX)?;
+        self.arrival(number)
+    }
+
+    /// Returns the exchange of the plan, if there is a second one, one time in 32.
+    fn draw_exchange(&mut self) -> Option<Step> {
+        if self.game.kind.are_two() && self.draw(32) == 0 {
+            Some(Step::Exchange)
+        } else {
+            None
+        }
+    }
+
+    /// Draws what the adversary does, if it does anything.
+    fn draw_step(&mut self) -> Option<Step> {
+        let client = self.draw(u64::from(self.game.clients)) as u8;
+        match self.draw(32) {
+            0..=7 => Some(Step::Ask(client)),
+            8 if !self.style.hostile => Some(Step::Leave(client)),
+            9 => Some(Step::RemindClient(client)),
+            10 => Some(Step::RemindVoter(self.draw(u64::from(self.voters)) as u8)),
+            11 if self.style.rough && asking_stamp(&self.world, client) > 0 => {
+                Some(Step::GiveUp(client))
+            }
+            12..=15 => self.draw_old(),
+            16 => self.draw_exchange(),
+            _ => self.draw_recent(),
+        }
+    }
+
+    /// Does what the adversary draws.
+    fn meddle(&mut self) -> Result<(), AllocError> {
+        match self.draw_step() {
+            Some(step) => self.make(step),
+            None => Ok(()),
+        }
+    }
+
+    /// Has the last votes of other clients arrive.
+    fn grab(&mut self) -> Result<(), AllocError> {
+        if !self.style.grabs {
+            return Ok(());
+        }
+        let sent = self.world.sent() as u64;
+        for number in sent.saturating_sub(64)..sent {
+            if message_of(&self.world, number).is_some_and(is_vote_of_other) {
+                self.make(Step::Deliver(number))?;
+            }
+        }
+        Ok(())
+    }
+
+    /// Has idle clients ask, the others more often than client 0.
+    fn ask_again(&mut self) -> Result<(), AllocError> {
+        if !self.style.grabs {
+            return Ok(());
+        }
+        for client in 0..self.game.clients {
+            let often = if client == 0 { 2 } else { 7 };
+            if self.draw(8) < often {
+                self.make(Step::Ask(client))?;
+            }
+        }
+        Ok(())
+    }
+
+    /// Begins a round: lists its duties.
+    fn begin(&mut self) -> Result<(), AllocError> {
+        self.starts.push(self.steps.len())?;
+        self.old = self.young;
+        self.young = self.world.sent();
+        self.give_ups = 0;
+        self.late = 0;
+        self.duties.add_reminders(self.game.clients, self.voters)?;
+        match inside_of(&self.world) {
+            Some(client) => self.duties.add_leave(client),
+            None => Ok(()),
+        }
+    }
+
+    /// Ends a round: counts it for each client that waited all along.
+    fn end(&mut self) {
+        count(&mut self.tally.rounds);
+        self.tally.give_ups = self.tally.give_ups.saturating_add(self.give_ups);
+        self.tally.late = self.tally.late.saturating_add(self.late);
+        for client in 0..self.game.clients {
+            let stamp = asking_stamp(&self.world, client);
+            if let Some(wait) = self.waits.get_mut(usize::from(client)) {
+                if stamp == 0 || stamp != wait.stamp {
+                    *wait = Wait::of(stamp);
+                    continue;
+                }
+                wait.pass(self.give_ups, self.late);
+                self.tally.longest = self.tally.longest.max(wait.rounds);
+                if wait.is_over(self.game.clients) {
+                    count(&mut self.tally.overdue);
+                }
+            }
+        }
+    }
+
+    /// Plays a fair round.
+    fn round(&mut self) -> Result<(), AllocError> {
+        self.begin()?;
+        self.grab()?;
+        for _ in 0..MOST_STEPS {
+            if self.duties.len() == 0 {
+                self.ask_again()?;
+                self.end();
+                return Ok(());
+            }
+            if self.draw(8) < self.style.busy {
+                self.meddle()?;
+            } else {
+                self.do_duty()?;
+            }
+        }
+        count(&mut self.tally.unfinished);
+        Ok(())
+    }
+
+    /// Returns how many rounds there were.
+    pub fn rounds(&self) -> usize {
+        self.starts.len()
+    }
+
+    /// Returns how many messages were sent.
+    pub fn sent(&self) -> usize {
+        self.world.sent()
+    }
+
+    /// Returns the steps of a round.
+    pub fn steps_of(&self, round: usize) -> &[Step] {
+        let whole = self.steps.len();
+        let start = self.starts.get(round).copied().unwrap_or(whole);
+        let end = self
+            .starts
+            .get(round.saturating_add(1))
+            .copied()
+            .unwrap_or(whole);
+        self.steps.get(start..end).unwrap_or_default()
+    }
+
+    /// Returns what the play tried.
+    pub fn tally(&self) -> Tally {
+        let came = self.came.iter().filter(|came| **came).count();
+        let mut tally = self.tally;
+        tally.losses = (self.world.sent().saturating_sub(came)) as u64;
+        tally
+    }
+}
+
+/// Plays this many fair rounds by a seed.
+pub fn played(alloc: Global, game: Game, seed: u64, rounds: u32) -> Result<Play, AllocError> {
+    let mut play = Play::new(alloc, game, seed)?;
+    for _ in 0..rounds {
+        play.round()?;
+    }
+    Ok(play)
+}
+
+impl Tally {
+    /// Adds what another play tried.
+    pub fn add(&mut self, other: &Tally) {
+        self.rounds = self.rounds.saturating_add(other.rounds);
+        self.entries = self.entries.saturating_add(other.entries);
+        self.give_ups = self.give_ups.saturating_add(other.give_ups);
+        self.late = self.late.saturating_add(other.late);
+        self.repeats = self.repeats.saturating_add(other.repeats);
+        self.losses = self.losses.saturating_add(other.losses);
+        self.exchanges = self.exchanges.saturating_add(other.exchanges);
+        self.longest = self.longest.max(other.longest);
+        self.overdue = self.overdue.saturating_add(other.overdue);
+        self.unfinished = self.unfinished.saturating_add(other.unfinished);
+    }
+}

@@ -1,0 +1,277 @@
+//! Tests of waiting in fair rounds: whoever asks is inside in time, and with a wrong rule somebody is
+//! not.
+ghost use Rattle.std.specs.Prelude.{◌≤◌};
+
+use crate::fair::{Made, is_fair};
+use crate::rounds::{Game, Play, Tally, inside_of, new_world, played};
+use crate::rules::Rule;
+use crate::waits::SCHEDULES;
+use show_waiting::longest_wait;
+use std::alloc::{AllocError, Global};
+use test_plans::Kind;
+use world::Step::{Deliver, Leave, RemindClient, RemindVoter};
+use world::{Step, World};
+
+/// The coteries of the schedules: each has a fifth of the seeds.
+const KINDS: [Kind; 5] = [
+    Kind::Majority,
+    Kind::Grid,
+    Kind::Wheel,
+    Kind::MajorityThenAll,
+    Kind::GridThenWheel,
+];
+
+/// How many rounds a schedule has.
+const ROUNDS: u32 = 40;
+
+/// How many rounds a schedule of two clients has that shows a wrong rule. The bound is 70.
+const ROUNDS_OF_TWO: u32 = 160;
+
+/// How often, at least, the schedules of a row have to try each thing that is counted.
+const OFTEN: u64 = 100;
+
+/// Returns what these schedules tried, for the seeds below `seeds`.
+fn tried(alloc: Global, game: Game, seeds: u64, rounds: u32) -> Result<Tally, AllocError> {
+    let mut tally = Tally::default();
+    for seed in 0..seeds {
+        tally.add(&played(alloc, game, seed, rounds)?.tally());
+    }
+    Ok(tally)
+}
+
+/// Returns what schedules of all coteries tried, with this many clients.
+fn tried_by_all(alloc: Global, clients: u8, rough: bool) -> Result<Tally, AllocError>
+    requires some { 1 ≤ clients }
+    requires few { clients ≤ 64 }
+{
+    let mut tally = Tally::default();
+    for kind in KINDS {
+        let game = Game {
+            kind,
+            clients,
+            rough,
+            rule: Rule::Sound,
+        };
+        tally.add(&tried(alloc, game, SCHEDULES / 5, ROUNDS)?);
+    }
+    Ok(tally)
+}
+
+/// Returns whether everybody was inside in time, and everything was tried often.
+fn is_in_time(tally: &Tally) -> bool {
+    let counts = [tally.rounds, tally.entries, tally.repeats, tally.losses];
+    let often = counts.iter().all(|count| *count >= OFTEN);
+    often & (tally.overdue == 0) & (tally.unfinished == 0)
+}
+
+/// Returns whether schedules without withdrawals and late REQUESTs have the longest wait that is
+/// stored.
+fn is_stored(alloc: Global, clients: u8, longest: u64) -> Result<bool, AllocError>
+    requires some { 1 ≤ clients }
+    requires few { clients ≤ 64 }
+{
+    let tally = tried_by_all(alloc, clients, false)?;
+    let quiet = (tally.give_ups == 0) & (tally.late == 0);
+    Ok(is_in_time(&tally) & quiet & (tally.longest == longest) & (tally.exchanges >= 10))
+}
+
+/// Returns whether schedules with withdrawals and late REQUESTs were in time, and had many of both.
+fn is_rough(alloc: Global, clients: u8) -> Result<bool, AllocError>
+    requires some { 1 ≤ clients }
+    requires few { clients ≤ 64 }
+{
+    let tally = tried_by_all(alloc, clients, true)?;
+    let rough = (tally.give_ups >= OFTEN) & (tally.late >= OFTEN) & (tally.exchanges >= 10);
+    Ok(is_in_time(&tally) & rough)
+}
+
+#[test]
+fn whoever_asks_is_inside_in_time(rt: HostRuntime) {
+    for clients in 1..6u8 {
+        let longest = longest_wait(u64::from(clients));
+        assert!(rt; is_stored(rt.alloc(), clients, longest) == Ok(true));
+    }
+}
+
+#[test]
+fn withdrawals_and_late_requests_are_paid_for(rt: HostRuntime) {
+    for clients in 2..6u8 {
+        assert!(rt; is_rough(rt.alloc(), clients) == Ok(true));
+    }
+}
+
+/// Makes these steps, and returns them with the numbers of their messages.
+fn made(alloc: Global, world: &mut World, steps: &[Step]) -> Result<Vec<Made>, AllocError> {
+    let mut made = Vec::new(alloc);
+    for step in steps {
+        let first = world.sent() as u64;
+        let _ = world.step(*step);
+        made.push(Made {
+            step: *step,
+            first,
+            end: world.sent() as u64,
+        })?;
+    }
+    Ok(made)
+}
+
+/// Returns whether each round of a play is fair in a world of its own, which sends as many messages.
+fn are_fair(alloc: Global, play: &Play, world: &mut World) -> Result<bool, AllocError> {
+    let mut fair = true;
+    for round in 0..play.rounds() {
+        let inside = inside_of(world);
+        let steps = made(alloc, world, play.steps_of(round))?;
+        fair &= is_fair(&steps, world.clients(), world.voters(), inside);
+    }
+    Ok(fair & (world.sent() == play.sent()))
+}
+
+/// Returns whether the rounds of a schedule of this coterie are fair.
+fn is_fair_throughout(alloc: Global, kind: Kind, rough: bool) -> Result<bool, AllocError> {
+    let game = Game {
+        kind,
+        clients: 4,
+        rough,
+        rule: Rule::Sound,
+    };
+    let play = played(alloc, game, 7, ROUNDS)?;
+    let mut world = new_world(alloc, game)?;
+    are_fair(alloc, &play, &mut world)
+}
+
+#[test]
+fn rounds_are_fair(rt: HostRuntime) {
+    for kind in KINDS {
+        for rough in [false, true] {
+            assert!(rt; is_fair_throughout(rt.alloc(), kind, rough) == Ok(true));
+        }
+    }
+}
+
+/// A step, and the numbers of the messages that it sent: from the first one to before the end.
+macro_rules! made {
+    ($step:expr, $first:literal, $end:literal) => {
+        Made {
+            step: $step,
+            first: $first,
+            end: $end,
+        }
+    };
+}
+
+/// The steps of a round with one client and one voter, who is inside at its beginning, and whether the
+/// round is fair.
+const SMALL_ROUNDS: [(&[Made], Option<u8>, bool); 8] = [
+    (
+        &[
+            made!(RemindClient(0), 0, 1),
+            made!(Deliver(0), 1, 2),
+            made!(RemindVoter(0), 2, 2),
+            made!(Deliver(1), 2, 2),
+        ],
+        None,
+        true,
+    ),
+    // the reply does not arrive
+    (
+        &[
+            made!(RemindClient(0), 0, 1),
+            made!(Deliver(0), 1, 2),
+            made!(RemindVoter(0), 2, 2),
+        ],
+        None,
+        false,
+    ),
+    // it arrived only before the message did
+    (
+        &[
+            made!(Deliver(1), 0, 0),
+            made!(RemindClient(0), 0, 1),
+            made!(Deliver(0), 1, 2),
+            made!(RemindVoter(0), 2, 2),
+        ],
+        None,
+        false,
+    ),
+    // the message does not arrive
+    (
+        &[made!(RemindClient(0), 0, 1), made!(RemindVoter(0), 1, 1)],
+        None,
+        false,
+    ),
+    // of two reminders, each with an arrival, one has the reply
+    (
+        &[
+            made!(RemindClient(0), 0, 1),
+            made!(Deliver(0), 1, 2),
+            made!(RemindClient(0), 2, 3),
+            made!(Deliver(2), 3, 4),
+            made!(RemindVoter(0), 4, 4),
+            made!(Deliver(3), 4, 4),
+        ],
+        None,
+        true,
+    ),
+    // the voter is not reminded
+    (&[made!(RemindClient(0), 0, 0)], None, false),
+    // who is inside leaves, or does not
+    (
+        &[
+            made!(RemindClient(0), 0, 0),
+            made!(RemindVoter(0), 0, 0),
+            made!(Leave(0), 0, 1),
+        ],
+        Some(0),
+        true,
+    ),
+    (
+        &[made!(RemindClient(0), 0, 0), made!(RemindVoter(0), 0, 0)],
+        Some(0),
+        false,
+    ),
+];
+
+#[test]
+fn unfair_rounds_are_seen(rt: HostRuntime) {
+    for (steps, inside, fair) in &SMALL_ROUNDS {
+        assert!(rt; is_fair(steps, 1, 1, *inside) == *fair);
+    }
+}
+
+/// Seeds with which each wrong rule shows.
+const SEEDS: [u64; 3] = [16, 82, 87];
+
+/// Returns how often a client was not inside in time, in a schedule of two clients under a rule. Their
+/// quorums share two voters at least, so that each may have a vote that the other one lacks.
+fn overdue(alloc: Global, rule: Rule, seed: u64) -> Result<u64, AllocError> {
+    let game = Game {
+        kind: Kind::Grid,
+        clients: 2,
+        rough: false,
+        rule,
+    };
+    Ok(played(alloc, game, seed, ROUNDS_OF_TWO)?.tally().overdue)
+}
+
+/// Returns in how many schedules somebody was not inside in time under a rule.
+fn too_late(alloc: Global, rule: Rule) -> usize {
+    let seeds = SEEDS.iter();
+    seeds
+        .filter(|seed| matches!(overdue(alloc, rule, **seed), Ok(times) if times > 0))
+        .count()
+}
+
+/// Rules, and in how many schedules somebody has to wait for longer than the bound.
+const RULES: [(Rule, usize); 4] = [
+    (Rule::Sound, 0),
+    (Rule::VoteIsNotAskedBack, 3),
+    (Rule::AskedVoteIsKept, 3),
+    (Rule::HinderedClientWaits, 3),
+];
+
+#[test]
+fn wrong_rules_make_clients_wait_for_longer(rt: HostRuntime) {
+    for (rule, wanted) in &RULES {
+        assert!(rt; too_late(rt.alloc(), *rule) == *wanted);
+    }
+}
