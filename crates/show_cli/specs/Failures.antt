@@ -1,9 +1,7 @@
 -- Pages of coteries: what is left when voters fail, what may fail, and bridges; and their faults.
 use Rattle.std.specs.Prelude.{◌≡◌, ℕ, List, None, Some, Result, Ok}
 use Rattle.coterie_file.specs.Named.{NamedSystem}
-use Rattle.show_failures.specs.Bridges.{IsBridgePage}
 use Rattle.show_failures.specs.Names.{first_unknown, voters_named}
-use Rattle.show_failures.specs.Resilience.{IsResiliencePage}
 use Rattle.show_failures.specs.Without.{without_text}
 use Rattle.commands.specs.Commands.{◌>>=◌, Refuses, coterie_part}
 use Rattle.commands.specs.Parts.{split}
@@ -37,15 +35,12 @@ abbrev pub RefusesWithout : List (List ℕ) → List ℕ → Fault → Type 0
 RefusesWithout words input (UnknownVoter place) = HasUnknown words input place
 RefusesWithout words input fault = Refuses fault (coterie_part input)
 
--- the page is that of what the coterie in the input bears
-pub record IsResilienceOf (input page : List ℕ) : Type 0 where
+-- the input is a coterie
+pub record HasCoterie (input : List ℕ) : Type 0 where
   pub named : NamedSystem
   pub coterie : coterie_part input ≡ Ok named
-  pub is : IsResiliencePage named page
 
--- the page is that of a bridge between the two coteries in the input
-pub record IsBridgeOf (input page : List ℕ) : Type 0 where
-  pub first : NamedSystem
-  pub second : NamedSystem
-  pub parts : pair_in input ≡ Ok (first, second)
-  pub is : IsBridgePage first second page
+-- the input is two coteries
+pub record HasPair (input : List ℕ) : Type 0 where
+  pub pair : NamedSystem × NamedSystem
+  pub parts : pair_in input ≡ Ok pair

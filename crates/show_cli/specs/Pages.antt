@@ -3,12 +3,7 @@ use Rattle.std.specs.Prelude.{◌≡◌, ℕ, ◌<◌, ◌≤◌, Bool, true, fa
 use Rattle.std.specs.Io.KnownBytes.{Appends, IsAtEnd, Keeps}
 use Rattle.show_faults.specs.Pages.{IsFaultsList, IsFaultsPage}
 use Rattle.show_faults.specs.Texts.{text_of}
-use Rattle.show_report.specs.Reports.{IsReport}
-use Rattle.show_tickets.specs.EvenOrder.{IsEvenPage}
-use Rattle.show_tickets.specs.Rounds.{deal_page_text}
 use Rattle.show_waiting.specs.Waiting.{waiting_text}
-use Rattle.show_words.specs.Plans.{IsPlanPage}
-use Rattle.show_words.specs.Worlds.{IsWorldPage}
 use Rattle.show_svg.specs.Pictures.{IsEnded}
 use Rattle.plan_inputs.specs.Inputs.{PlannedSystem}
 use Rattle.commands.specs.Commands.{Refuses, coterie_part, planned_in, reads_input}
@@ -17,7 +12,7 @@ use Rattle.commands.specs.declared.fault.Fault.TheVariants.{Device, OutOfMemory}
 use Rattle.whole_io.specs.Devices.{AppendsBeginning}
 use Rattle.whole_io.specs.declared.fault.DeviceFault.TheVariants.{ReadFault, TooLong, WriteFault}
 use Rattle.show_refusals.specs.Pages.{IsFaultPage}
-use Rattle.show_cli.specs.Failures.{IsBridgeOf, IsResilienceOf, IsWithoutOf, RefusesWithout, pair_in}
+use Rattle.show_cli.specs.Failures.{HasCoterie, HasPair, IsWithoutOf, RefusesWithout, pair_in}
 use Rattle.show_cli.specs.Stories.{IsStory, RefusesStory}
 use Rattle.show_cli.specs.declared.command.Picture.TheVariants as pictures
 use Rattle.show_cli.specs.declared.command.ShowCommand.{ShowCommand}
@@ -25,29 +20,10 @@ use Rattle.show_cli.specs.declared.command.ShowCommand.TheVariants as show
 
 -- Pages
 
--- the page is that of the tickets below n, by the plan in the input
-pub record IsDealPage (n : ℕ) (input page : List ℕ) : Type 0 where
+-- the input is a coterie and a plan of it
+pub record HasPlan (input : List ℕ) : Type 0 where
   pub planned : PlannedSystem
   pub parts : planned_in input ≡ Ok planned
-  pub is : page ≡ deal_page_text planned n
-
--- the page is that of the tickets below n, in the even order of the plan in the input
-pub record IsEvenDealPage (n : ℕ) (input page : List ℕ) : Type 0 where
-  pub planned : PlannedSystem
-  pub parts : planned_in input ≡ Ok planned
-  pub is : IsEvenPage planned n page
-
--- the page is one of the plan in the input, with the names in the input
-pub record IsPlanWords (input page : List ℕ) : Type 0 where
-  pub planned : PlannedSystem
-  pub parts : planned_in input ≡ Ok planned
-  pub words : IsPlanPage planned.named.names planned.plan page
-
--- the page is a report of the plan in the input, with the names in the input
-pub record IsPlanReport (input page : List ℕ) : Type 0 where
-  pub planned : PlannedSystem
-  pub parts : planned_in input ≡ Ok planned
-  pub report : IsReport planned.named.names planned.plan page
 
 -- the input is a coterie and a plan of it, and the page ends as a picture does
 pub record IsPlanPicture (input page : List ℕ) : Type 0 where
@@ -55,24 +31,21 @@ pub record IsPlanPicture (input page : List ℕ) : Type 0 where
   pub parts : planned_in input ≡ Ok planned
   pub ended : IsEnded page
 
--- the input is one of a story, and the page is one of its words
-abbrev pub IsStoryWords : List ℕ → List ℕ → Type 0
-IsStoryWords input page = IsStory input × IsWorldPage page
-
 -- the input is one of a story, and the page ends as a picture does
 abbrev pub IsStoryPicture : List ℕ → List ℕ → Type 0
 IsStoryPicture input page = IsStory input × IsEnded page
 
--- the page is one of the command for the input
+-- The page is one of the command for the input. Of a page of words only the parts of the input are
+-- determined, except for `without`, `waiting`, `explain` and `fault`.
 abbrev pub IsPage : ShowCommand → List ℕ → List ℕ → Type 0
-IsPage show.Plan input page = IsPlanWords input page
-IsPage show.Report input page = IsPlanReport input page
-IsPage (show.Deal n) input page = IsDealPage n input page
-IsPage (show.DealEven n) input page = IsEvenDealPage n input page
+IsPage show.Plan input page = HasPlan input
+IsPage show.Report input page = HasPlan input
+IsPage (show.Deal n) input page = HasPlan input
+IsPage (show.DealEven n) input page = HasPlan input
 IsPage (show.Without words) input page = IsWithoutOf (map string_bytes words.items) input page
-IsPage show.Resilience input page = IsResilienceOf input page
-IsPage show.Bridge input page = IsBridgeOf input page
-IsPage show.World input page = IsStoryWords input page
+IsPage show.Resilience input page = HasCoterie input
+IsPage show.Bridge input page = HasPair input
+IsPage show.World input page = IsStory input
 IsPage (show.Waiting w) input page = page ≡ waiting_text w
 IsPage (show.Explain explanation) input page = page ≡ text_of explanation.now
 IsPage show.ExplainAll input page = IsFaultsPage page

@@ -13,20 +13,19 @@
 //!
 //! The input is read to its end, and what is written is a page of the command for what was read:
 //!
-//! - of `deal`, also with `--even`, of `plan`, `without`, `bridge` and `waiting` the whole page is determined;
-//! - of `resilience` it is, except which set of voters it names and whether the search came to its end;
-//! - of `report` it is, except its head, its picture, which set of voters it names and whether the search
-//!   ended;
+//! - the input has the parts that the command needs: a plan of a coterie, one coterie or two, or a story
+//!   whose coteries go together;
+//! - of `without` and `waiting` the whole page is determined;
 //! - of `explain` the code is, but not what the text says; the page of all faults and the list of their
 //!   lines have each code once, in order;
 //! - a `fault` page ends with the code of a fault with which `qlock` may refuse the input, or it says
 //!   that there is none, and then the command takes the input. Of an irregular coterie it may say `N1`
 //!   though `plan` finds a plan;
-//! - for `world` and the pictures the input has the parts that it has to have, and of two coteries there
-//!   is a bridge; a page of `world` has the heading of its end, and a picture ends as a picture does.
+//! - a picture ends as a picture does.
 //!
-//! What else these pages say is only tested. A fault comes only for an input with this fault, and
-//! then nothing is written. A failed write may leave a beginning of such a page.
+//! The figures of the other pages are pinned in the crates that compute them. What the pages say is only
+//! tested. A fault comes only for an input with this fault, and then nothing is written. A failed write may
+//! leave a beginning of such a page.
 //!
 //! ```
 //! let command = read_show_words(alloc, words)?; // of `qlock-show plan`: ShowCommand::Plan

@@ -1,18 +1,18 @@
 //! What each command writes for its input.
-ghost use Rattle.std.specs.Prelude.{◌≡◌, ◌≤◌, IfErr, IfOk, string_bytes};
+ghost use Rattle.std.specs.Prelude.{◌≡◌, IfErr, IfOk, string_bytes};
 ghost use Rattle.show_faults.specs.Pages.{IsFaultsList, IsFaultsPage};
 ghost use Rattle.show_faults.specs.Texts.{text_of};
-ghost use Rattle.commands.specs.Commands.{IsInRange};
+ghost use Rattle.commands.specs.Commands.{IsInRange, Refuses, planned_in};
 ghost use Rattle.commands.specs.Devices.{IsOwn};
 ghost use Rattle.show_cli.specs.Commands.{IsShown};
 ghost use Rattle.show_refusals.specs.Pages.{IsFaultPage};
-ghost use Rattle.show_cli.specs.Pages.{IsShownBy};
+ghost use Rattle.show_cli.specs.Pages.{HasPlan, IsShownBy};
 ghost use Rattle.show_waiting.specs.Waiting.{IsInRange as IsAnswered, waiting_text};
 
 use crate::command::{Picture, ShowCommand};
 use crate::losses::{borne_page, left_page, pair_page};
 use crate::scenes::{Scene, scene_of};
-use commands::{Command, Fault, planned_of};
+use commands::{Command, Fault, Planned, planned_of};
 use show_faults::{Explanation, explanation_text, faults_list, faults_page};
 use show_plans::{cycle_picture, load_picture};
 use show_refusals::fault_page;
@@ -21,64 +21,32 @@ use show_tickets::{even_page, rounds_page};
 use show_waiting::{Waiting, waiting_page};
 use show_words::{plan_words, world_words};
 use show_worlds::world_picture;
-use std::alloc::Global;
+use std::alloc::{AllocError, Global};
 
-/// Returns the page of dealt tickets for an input.
-fn deal_page(alloc: Global, input: &[u8], count: u32) -> Result<String, Fault>
-    requires { count ≤ 100000 }
-    ensures shown { IsShownBy string_bytes (ShowCommand.Deal count) input.now result }
-    ensures own { IfErr result IsOwn }
+/// Returns the words of a plan, or what else a command shows of it: a report, or dealt tickets.
+fn words_of(alloc: Global, command: &ShowCommand, planned: Planned) -> Result<String, AllocError>
+    requires { IsShown command.now }
 {
-    let planned = match planned_of(alloc, input) {
-        Ok(planned) => planned,
-        Err(fault) => return Err(fault),
-    };
-    match rounds_page(alloc, planned, u64::from(count)) {
-        Ok(page) => Ok(page),
-        Err(_) => Err(Fault::OutOfMemory),
+    match command {
+        ShowCommand::Report => report_page(alloc, &planned.named, &planned.plan),
+        ShowCommand::Deal(count) => rounds_page(alloc, planned, u64::from(*count)),
+        ShowCommand::DealEven(count) => even_page(alloc, planned, u64::from(*count)),
+        _ => plan_words(alloc, &planned.named, &planned.plan),
     }
 }
 
-/// Returns the page of tickets that are dealt in the even order, for an input.
-fn deal_even_page(alloc: Global, input: &[u8], count: u32) -> Result<String, Fault>
-    ensures shown { IsShownBy string_bytes (ShowCommand.DealEven count) input.now result }
+/// Returns the page of words of a plan for an input.
+fn plan_page(alloc: Global, command: &ShowCommand, input: &[u8]) -> Result<String, Fault>
+    requires { IsShown command.now }
+    ensures parts { IfOk result (λ _. HasPlan input.now) }
+    ensures refused { IfErr result (λ fault. Refuses fault (planned_in input.now)) }
     ensures own { IfErr result IsOwn }
 {
     let planned = match planned_of(alloc, input) {
         Ok(planned) => planned,
         Err(fault) => return Err(fault),
     };
-    match even_page(alloc, planned, u64::from(count)) {
-        Ok(page) => Ok(page),
-        Err(_) => Err(Fault::OutOfMemory),
-    }
-}
-
-/// Returns the page of a plan for an input.
-fn plan_page(alloc: Global, input: &[u8]) -> Result<String, Fault>
-    ensures shown { IsShownBy string_bytes ShowCommand.Plan input.now result }
-    ensures own { IfErr result IsOwn }
-{
-    let planned = match planned_of(alloc, input) {
-        Ok(planned) => planned,
-        Err(fault) => return Err(fault),
-    };
-    match plan_words(alloc, &planned.named, &planned.plan) {
-        Ok(page) => Ok(page),
-        Err(_) => Err(Fault::OutOfMemory),
-    }
-}
-
-/// Returns the report of a plan for an input.
-fn plan_report(alloc: Global, input: &[u8]) -> Result<String, Fault>
-    ensures shown { IsShownBy string_bytes ShowCommand.Report input.now result }
-    ensures own { IfErr result IsOwn }
-{
-    let planned = match planned_of(alloc, input) {
-        Ok(planned) => planned,
-        Err(fault) => return Err(fault),
-    };
-    match report_page(alloc, &planned.named, &planned.plan) {
+    match words_of(alloc, command, planned) {
         Ok(page) => Ok(page),
         Err(_) => Err(Fault::OutOfMemory),
     }
@@ -216,12 +184,10 @@ pub(crate) fn page_of(alloc: Global, command: &ShowCommand, input: &[u8]) -> Res
     ensures own { IfErr result IsOwn }
 {
     match command {
-        ShowCommand::Plan => plan_page(alloc, input),
-        ShowCommand::Report => plan_report(alloc, input),
+        ShowCommand::Plan | ShowCommand::Report | ShowCommand::Deal(_) | ShowCommand::DealEven(_) =>
+            plan_page(alloc, command, input),
         ShowCommand::Picture(Picture::Load) => load_page(alloc, input),
         ShowCommand::Picture(Picture::Cycle) => cycle_page(alloc, input),
-        ShowCommand::Deal(count) => deal_page(alloc, input, *count),
-        ShowCommand::DealEven(count) => deal_even_page(alloc, input, *count),
         ShowCommand::Without(words) => left_page(alloc, words, input),
         ShowCommand::Resilience => borne_page(alloc, input),
         ShowCommand::Bridge => pair_page(alloc, input),

@@ -1,9 +1,9 @@
 -- Bridges between coteries by names: each quorum of one has a voter's name in common with each
 -- quorum of the other (A. W. Fu, IEEE TPDS 8(1), 1997, calls two such sets of quorums a bicoterie).
 -- The two may list their voters in different orders, and may list different ones.
-use Rattle.std.specs.Prelude.{◌≡◌, ◌⊎◌, ℕ, ◌<◌, ◌≤◌, List, [], ◌++◌, length, map, slice_index_or, Contains, codes, decimal}
+use Rattle.std.specs.Prelude.{◌≡◌, ◌⊎◌, ℕ, ◌<◌, ◌≤◌, List, [], length, map, slice_index_or, Contains}
 use Rattle.coterie_file.specs.Named.{NamedSystem}
-use Rattle.show_failures.specs.Names.{names_of, names_text, voters_named}
+use Rattle.show_failures.specs.Names.{names_of, voters_named}
 
 -- a quorum by its number
 abbrev pub quorum_at : NamedSystem → ℕ → List ℕ
@@ -36,25 +36,3 @@ pub record IsFirstApart (first second : NamedSystem) (j k : ℕ) : Type 0 where
   pub apart : ¬ ShareName first second j k
   pub least : (a b : ℕ) → a < length first.system.quorums → b < length second.system.quorums
       → ¬ ShareName first second a b → (j < a) ⊎ ((j ≡ a) × (k ≤ b))
-
--- a quorum: its number, and the names of its members in braces
-abbrev pub quorum_text : NamedSystem → ℕ → List ℕ
-quorum_text named j =
-    codes "quorum " ++ (decimal j ++ (codes " {" ++ (names_text named.names (quorum_at named j) ++ codes "}")))
-
--- the page if there is a bridge; a bridge by names is one by numbers only if the lists of voters agree
-abbrev pub bridged_text : List ℕ
-bridged_text = codes "yes: each quorum of the first has a voter in common with each quorum of the second\nVoters are compared by name. Calls and masks compare numbers: list the same voters in the same order in both files.\n"
-
--- the page if there is none: two quorums that are apart
-abbrev pub apart_text : NamedSystem → NamedSystem → ℕ → ℕ → List ℕ
-apart_text first second j k =
-    codes "no: " ++ (quorum_text first j ++ (codes " of the first and "
-    ++ (quorum_text second k ++ codes " of the second have no voter in common\n")))
-
--- the page says that there is a bridge, and there is one; or it names the first two quorums that
--- are apart
-abbrev pub IsBridgePage : NamedSystem → NamedSystem → List ℕ → Type 0
-IsBridgePage first second page =
-    ((page ≡ bridged_text) × AllShare first second)
-    ⊎ ((j : ℕ) × (k : ℕ) × IsFirstApart first second j k × (page ≡ apart_text first second j k))

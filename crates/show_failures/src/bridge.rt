@@ -1,8 +1,8 @@
 //! Bridges between coteries, by the names of voters.
-ghost use Rattle.std.specs.Prelude.{◌≡◌, ◌<◌, length, position, IfOk, MatchOption, string_bytes};
+ghost use Rattle.std.specs.Prelude.{◌≡◌, ◌<◌, length, position, IfOk, MatchOption};
 ghost use Rattle.quorum_set.specs.Bridges.{first_apart};
 ghost use Rattle.quorum_set.specs.Coteries.{are_disjoint};
-ghost use Rattle.show_failures.specs.Bridges.{AllShare, IsBridgePage, IsFirstApart, all_namesakes, apart_text, quorum_text};
+ghost use Rattle.show_failures.specs.Bridges.{AllShare, IsFirstApart, all_namesakes};
 
 use crate::names::{names_of, names_text, voters_named};
 use coterie_file::Named;
@@ -52,29 +52,27 @@ fn first_without_name(first: &Named, second: &Named, sets: &[QSet]) -> Option<(u
     first_apart(first.coterie(), sets)
 }
 
-/// Returns a quorum as a text: its number, and the names of its members in braces.
-fn quorum_text(alloc: Global, named: &Named, number: usize) -> Result<String, AllocError>
-    requires { number < length named.now.system.quorums }
-    ensures { IfOk result (λ t. string_bytes t ≡ quorum_text named.now number) }
-{
-    let names = names_text(alloc, named, named.coterie().quorum(number))?;
-    format!(in alloc; "quorum {number} {{{names}}}")
-}
-
-/// Returns the line of two quorums that have no voter in common.
-fn apart_text(
+/// Returns the first quorum of the first coterie that has no voter in common with one of the second, and
+/// the first such one. If there is none, there is a bridge. Voters are the same if they have the same
+/// name. Fails only if memory runs out.
+pub fn first_quorums_apart(
     alloc: Global,
     first: &Named,
     second: &Named,
-    pair: (usize, usize),
-) -> Result<String, AllocError>
-    requires first { pair.0 < length first.now.system.quorums }
-    requires second { pair.1 < length second.now.system.quorums }
-    ensures { IfOk result (λ t. string_bytes t ≡ apart_text first.now second.now pair.0 pair.1) }
+) -> Result<Option<(usize, usize)>, AllocError>
+    ensures { IfOk result (λ found. MatchOption found (AllShare first.now second.now)
+        (λ p. IsFirstApart first.now second.now p.0 p.1)) }
 {
-    let one = quorum_text(alloc, first, pair.0)?;
-    let other = quorum_text(alloc, second, pair.1)?;
-    format!(in alloc; "no: {one} of the first and {other} of the second have no voter in common\n")
+    let sets = namesakes(alloc, first, second)?;
+    Ok(first_without_name(first, second, &sets))
+}
+
+/// Returns a quorum as a text: its number, and the names of its members in braces.
+fn quorum_text(alloc: Global, named: &Named, number: usize) -> Result<String, AllocError>
+    requires { number < length named.now.system.quorums }
+{
+    let names = names_text(alloc, named, named.coterie().quorum(number))?;
+    format!(in alloc; "quorum {number} {{{names}}}")
 }
 
 /// Returns whether there is a bridge from the first coterie to the second: whether each quorum of
@@ -82,15 +80,14 @@ fn apart_text(
 /// quorums that have none in common. Voters are the same if they have the same name.
 ///
 /// Fails only if it runs out of memory.
-pub fn bridge_page(alloc: Global, first: &Named, second: &Named) -> Result<String, AllocError>
-    ensures { IfOk result (λ page. IsBridgePage first.now second.now (string_bytes page)) }
-{
-    let sets = namesakes(alloc, first, second)?;
-    match first_without_name(first, second, &sets) {
-        Some(pair) => apart_text(alloc, first, second, pair),
-        None => String::from_str(
+pub fn bridge_page(alloc: Global, first: &Named, second: &Named) -> Result<String, AllocError> {
+    let Some((one, other)) = first_quorums_apart(alloc, first, second)? else {
+        return String::from_str(
             alloc,
             "yes: each quorum of the first has a voter in common with each quorum of the second\nVoters are compared by name. Calls and masks compare numbers: list the same voters in the same order in both files.\n",
-        ),
-    }
+        );
+    };
+    let one = quorum_text(alloc, first, one)?;
+    let other = quorum_text(alloc, second, other)?;
+    format!(in alloc; "no: {one} of the first and {other} of the second have no voter in common\n")
 }

@@ -10,11 +10,13 @@
 //!
 //! # What is proved
 //!
-//! The definitions in `specs/` determine the pages of [`without_page`] and [`bridge_page`] letter by
-//! letter, from the coteries with their names and capacities. That of [`resilience_page`] they
-//! determine except for one set of voters, and whether it is a smallest one: the set meets every
-//! quorum, and if the page says that it is a smallest one, none is smaller. That the search ends
-//! within a million steps is only tested.
+//! The page of [`without_page`] is determined letter by letter: it is the text of the coterie that is
+//! left, or names the failed voters if no quorum is left.
+//!
+//! [`first_quorums_apart`] returns the first two quorums without a common voter, or there is a bridge.
+//! The set of [`resilience_of`] meets every quorum. If it is a smallest one, none is smaller, and any
+//! voters that are fewer leave a quorum. That the search ends within a million steps is only tested.
+//! What the pages of [`resilience_page`] and [`bridge_page`] say is only tested too.
 //!
 //! Depends on `failures`, which finds what is left, on `quorum_set`, and on `coterie_file` for
 //! names and texts.
@@ -33,8 +35,8 @@ mod names;
 mod resilience;
 mod without;
 
-pub use bridge::bridge_page;
+pub use bridge::{bridge_page, first_quorums_apart};
 pub use laws::borne_groups_leave_a_quorum;
 pub use names::first_unknown;
-pub use resilience::resilience_page;
+pub use resilience::{Resilience, resilience_of, resilience_page};
 pub use without::without_page;

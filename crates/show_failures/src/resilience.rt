@@ -1,96 +1,77 @@
 //! What a coterie bears: how many voters may fail, and which groups of them.
-ghost use Rattle.std.specs.Prelude.{◌≡◌, ◌<◌, ◌++◌, All, IfOk, OnOk, string_bytes};
-ghost use Rattle.std.specs.List.{flat_map};
-ghost use Rattle.show_failures.specs.Resilience.{IsResiliencePage, answer_text, blocking_line, count_line, group_line, group_lines};
+ghost use Rattle.std.specs.Prelude.{◌≡◌, ◌<◌, ◌≤◌, ◌-◌, ℕ, All, List, length, true};
+ghost use Rattle.numbers.specs.Sets.{IsSet};
+ghost use Rattle.failures.specs.Failures.{Bears, IsSmallest, IsTransversal};
 
 use crate::groups::groups_of;
 use crate::names::names_text;
 use coterie_file::Named;
-use failures::{Transversal, bears, transversal_of};
-use quorum_set::QSet;
+use failures::{bears, transversal_of};
+use quorum_set::{Coterie, QSet};
 use std::alloc::{AllocError, Global};
 
 /// The most steps of the search for a smallest set whose failure leaves no quorum.
 const STEPS: u64 = 1_000_000;
 
-/// Appends how many voters may fail.
-fn push_count(text: &mut String, found: &Transversal) -> Result<(), AllocError>
-    ensures { OnOk result (string_bytes text.new
-        ≡ string_bytes text.old ++ count_line found.now.is_smallest found.now.voters) }
+/// How many voters may fail.
+#[derive(Drop)]
+pub struct Resilience {
+    /// Voters without which no quorum is left.
+    pub blocking: QSet,
+    /// Whether the search for them came to its end, so that no fewer voters leave no quorum.
+    pub is_smallest: bool,
+    /// How many voters may fail, whichever they are, if the search came to its end. Otherwise it is at
+    /// most this number.
+    pub borne: usize,
+}
+
+/// Returns how many voters of a coterie may fail. The search has a million steps.
+#[tactic(auto, using(crate::proofs::ResilienceLemmas::few_are_borne))]
+pub fn resilience_of(coterie: &Coterie) -> Resilience
+    ensures meets { IsTransversal coterie.now result.blocking }
+    ensures smallest { result.is_smallest ≡ true → IsSmallest coterie.now.quorums result.blocking }
+    ensures borne { result.borne ≡ length result.blocking - 1 }
+    ensures bears { result.is_smallest ≡ true → (failed : List ℕ) → IsSet failed → length failed ≤ result.borne
+        → Bears coterie.now.quorums failed }
 {
-    let most = if found.is_smallest { "" } else { "at most " };
-    let count = found.voters.len().saturating_sub(1);
+    // Called for its contract alone: some quorum is there.
+    let _ = coterie.count();
+    let found = transversal_of(coterie, STEPS);
+    let borne = found.voters.len().saturating_sub(1);
+    Resilience {
+        blocking: found.voters,
+        is_smallest: found.is_smallest,
+        borne,
+    }
+}
+
+/// Appends how many voters may fail, and the set whose failure leaves no quorum.
+fn push_resilience(
+    alloc: Global,
+    text: &mut String,
+    named: &Named,
+    found: &Resilience,
+) -> Result<(), AllocError>
+    requires { All (λ i. i < named.now.system.voters) found.now.blocking }
+{
+    let (most, set) = if found.is_smallest {
+        ("", "a smallest set whose failure leaves no quorum")
+    } else {
+        (
+            "at most ",
+            "a set whose failure leaves no quorum (the search for a smallest one did not end)",
+        )
+    };
+    let count = found.borne;
+    let names = names_text(alloc, named, &found.blocking)?;
     write!(
         text,
-        "voters that may fail, whichever they are: {most}{count}\n"
+        "voters that may fail, whichever they are: {most}{count}\n{set}: {names}\n"
     )
 }
 
-/// Appends the set whose failure leaves no quorum.
-fn push_blocking(
-    alloc: Global,
-    text: &mut String,
-    named: &Named,
-    found: &Transversal,
-) -> Result<(), AllocError>
-    requires { All (λ i. i < named.now.system.voters) found.now.voters }
-    ensures { OnOk result (string_bytes text.new
-        ≡ string_bytes text.old ++ blocking_line found.now.is_smallest named.now.names found.now.voters) }
-{
-    let names = names_text(alloc, named, &found.voters)?;
-    text.push_str(if found.is_smallest {
-        "a smallest set whose failure leaves no quorum: "
-    } else {
-        "a set whose failure leaves no quorum (the search for a smallest one did not end): "
-    })?;
-    write!(text, "{names}\n")
-}
-
-/// Returns whether a whole group may fail.
-#[tactic(auto, using(crate::proofs::WithoutLemmas::borne_by_a_quorum, crate::proofs::WithoutLemmas::not_borne_if_all_meet))]
-fn answer_text(named: &Named, group: &QSet) -> &'static str
-    ensures { result.now ≡ answer_text named.now group.now }
-{
-    if bears(named.coterie(), group) {
-        "yes"
-    } else {
-        "no "
-    }
-}
-
-/// Appends the line of a group: whether it may fail, and its voters.
-fn push_group(
-    alloc: Global,
-    text: &mut String,
-    named: &Named,
-    group: &QSet,
-) -> Result<(), AllocError>
-    requires { All (λ i. i < named.now.system.voters) group.now }
-    ensures { OnOk result (string_bytes text.new ≡ string_bytes text.old ++ group_line named.now group.now) }
-{
-    let names = names_text(alloc, named, group)?;
-    let answer = answer_text(named, group);
-    write!(text, "  {answer}  {names}\n")
-}
-
-/// Appends a line for each of these groups.
-fn push_each_group(
-    alloc: Global,
-    text: &mut String,
-    named: &Named,
-    groups: &[QSet],
-) -> Result<(), AllocError>
-    requires { All (λ g. All (λ i. i < named.now.system.voters) g) groups.now }
-    ensures { OnOk result (string_bytes text.new
-        ≡ string_bytes text.old ++ flat_map (group_line named.now) groups.now) }
-{
-    for group in groups {
-        push_group(alloc, text, named, group)?;
-    }
-    Ok(())
-}
-
-/// Appends the lines of these groups, if there are several and one has several voters.
+/// Appends for each of these groups whether all of it may fail, and its voters, if there are several
+/// groups and one has several voters.
 fn push_groups(
     alloc: Global,
     text: &mut String,
@@ -98,13 +79,21 @@ fn push_groups(
     groups: &[QSet],
 ) -> Result<(), AllocError>
     requires { All (λ g. All (λ i. i < named.now.system.voters) g) groups.now }
-    ensures { OnOk result (string_bytes text.new ≡ string_bytes text.old ++ group_lines named.now groups.now) }
 {
     if groups.len() < 2 || groups.len() >= named.coterie().voters() {
         return Ok(());
     }
     text.push_str("groups by name, and whether all of a group may fail:\n")?;
-    push_each_group(alloc, text, named, groups)
+    for group in groups {
+        let names = names_text(alloc, named, group)?;
+        let answer = if bears(named.coterie(), group) {
+            "yes"
+        } else {
+            "no "
+        };
+        write!(text, "  {answer}  {names}\n")?;
+    }
+    Ok(())
 }
 
 /// Returns how many voters may fail whichever they are, a set whose failure leaves no quorum, and
@@ -113,14 +102,11 @@ fn push_groups(
 ///
 /// The set is a smallest one if the search for it ends within a million steps. Otherwise the page
 /// says so, and the number is an upper bound. Fails only if it runs out of memory.
-pub fn resilience_page(alloc: Global, named: &Named) -> Result<String, AllocError>
-    ensures { IfOk result (λ page. IsResiliencePage named.now (string_bytes page)) }
-{
-    let found = transversal_of(named.coterie(), STEPS);
+pub fn resilience_page(alloc: Global, named: &Named) -> Result<String, AllocError> {
+    let found = resilience_of(named.coterie());
     let groups = groups_of(alloc, named)?;
     let mut text = String::new(alloc);
-    push_count(&mut text, &found)?;
-    push_blocking(alloc, &mut text, named, &found)?;
+    push_resilience(alloc, &mut text, named, &found)?;
     push_groups(alloc, &mut text, named, &groups)?;
     Ok(text)
 }

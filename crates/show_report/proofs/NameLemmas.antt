@@ -4,7 +4,7 @@ use Rattle.std.specs.List.{AllPass}
 use Rattle.std.proofs.lemmas.Bool.{ne_eqb}
 use Rattle.std.proofs.lemmas.List.Elements.{All-weaker}
 use Rattle.coterie_file.specs.Names.{IsName, is_name_byte}
-use Rattle.show_report.specs.Reports.{is_plain}
+use Rattle.show_report.specs.Names.{is_plain}
 
 -- a byte of a name is another than a byte that no name has
 other : (b sign : ℕ) → is_name_byte b ≡ true → is_name_byte sign ≡ false → sign ≡ b → ⊥

@@ -7,20 +7,13 @@
 //!
 //! # What is proved
 //!
-//! The document begins with `<!DOCTYPE html>` and ends with `</html>`. All of it is determined, letter
-//! by letter, as `specs/Reports.antt` defines it from the plan and the names, except its head, which
-//! has the styles, the picture, which set of voters it names, and whether the search for a smallest one
-//! ended. In particular:
+//! The figures of the report are pinned where they are computed: those of the plan, its quorums and its
+//! voters in `show_words`, the voters without which no quorum is left in `show_failures`. The slack is
+//! that of the even order of the plan. Names have no sign that means something in HTML (law
+//! [`names_are_plain_in_html`]). What the document says is only tested.
 //!
-//! - the figures of quorums and voters are those of `show_words`, and the numbers of the certificate
-//!   are those of `certificate`;
-//! - the voters without which no quorum is left have a common member with each quorum. If the page
-//!   says so many failures are borne without `at most`, no such set is smaller;
-//! - the slack is that of the even order of the plan;
-//! - names have no sign that means something in HTML (law [`names_are_plain_in_html`]).
-//!
-//! Depends on `show_words` for figures, on `show_plans` for the picture, on `failures` and `even`, and
-//! on `certificate` and `coterie_file`.
+//! Depends on `show_words` for figures, on `show_plans` for the picture, on `show_failures` and `even`,
+//! and on `certificate` and `coterie_file`.
 //!
 //! ```
 //! // Of the wheel with three rims:
@@ -28,13 +21,10 @@
 //! ```
 #![tactic(auto)]
 
-mod certificates;
-mod html;
 mod laws;
 mod page;
-mod quorums;
 mod summary;
-mod voters;
+mod tables;
 
 pub use laws::names_are_plain_in_html;
 pub use page::report_page;

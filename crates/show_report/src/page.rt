@@ -1,27 +1,20 @@
 //! The whole report.
-ghost use Rattle.std.specs.Prelude.{◌≡◌, ◌++◌, IfOk, OnOk, string_bytes};
-ghost use Rattle.certificate.specs.Certificates.{cycle_len};
-ghost use Rattle.even.specs.Strides.{IsFirstBest, strides_of};
-ghost use Rattle.show_report.specs.Reports.{BeginsReport, IsReport, body_html, picture_html};
+ghost use Rattle.std.specs.Prelude.{IfOk};
+ghost use Rattle.show_report.specs.Slacks.{IsEvenSlack};
 
-use crate::certificates::push_steps;
-use crate::html::push_html;
-use crate::quorums::push_quorums;
 use crate::summary::push_summary;
-use crate::voters::push_voters;
+use crate::tables::{push_certificate, push_quorums, push_voters};
 use certificate::Plan;
 use coterie_file::Named;
 use even::{EvenCycle, Slack};
-use failures::{Transversal, transversal_of};
+use show_failures::resilience_of;
 use show_plans::load_picture;
-use show_words::{QuorumFigure, quorum_figures};
+use show_words::{plan_figures, quorum_figures, voter_figures, weight_figures};
 use std::alloc::{AllocError, Global};
 
-/// How many steps the search for a smallest set of voters without which no quorum is left has.
-const STEPS: u64 = 1_000_000;
-
-/// The head of the document, with its styles.
-const HEAD: &str = "<html lang=\"en\" xmlns=\"http://www.w3.org/1999/xhtml\">
+/// The beginning of the document, with its head and its styles.
+const HEAD: &str = "<!DOCTYPE html>
+<html lang=\"en\" xmlns=\"http://www.w3.org/1999/xhtml\">
 <head>
 <meta charset=\"utf-8\"/>
 <meta name=\"viewport\" content=\"width=device-width, initial-scale=1\"/>
@@ -54,76 +47,41 @@ ol{padding-left:1.25rem}
 <body>
 ";
 
-/// Begins the document.
-fn push_head(text: &mut String) -> Result<(), AllocError>
-    ensures { OnOk result (BeginsReport (string_bytes text.old) (string_bytes text.new)) }
+/// Returns the slack of the even order of a plan.
+fn slack_of(alloc: Global, plan: &Plan) -> Result<Slack, AllocError>
+    ensures { IfOk result (IsEvenSlack plan.now) }
 {
-    push_html(text, "<!DOCTYPE html>\n")?;
-    push_html(text, HEAD)
+    let copied = plan.copy(alloc)?;
+    let cycle = EvenCycle::of(alloc, copied)?;
+    Ok(cycle.slack())
 }
 
 /// Appends the picture.
-fn push_picture(text: &mut String, picture: &str) -> Result<(), AllocError>
-    ensures { OnOk result (string_bytes text.new ≡ string_bytes text.old ++ picture_html picture.now) }
-{
-    push_html(text, "<h2>The same as a picture</h2>\n<figure>\n")?;
-    push_html(text, picture)?;
-    push_html(text, "</figure>\n")
-}
-
-/// Returns the even cycle of a plan, of which it makes a copy.
-fn even_of(alloc: Global, plan: &Plan) -> Result<EvenCycle, AllocError>
-    ensures plan { IfOk result (λ cycle. cycle.plan ≡ plan.now) }
-    ensures first { IfOk result (IsFirstBest (strides_of (cycle_len plan.now))) }
-{
-    let copied = plan.copy(alloc)?;
-    let even = EvenCycle::of(alloc, copied)?;
-    Ok(even)
-}
-
-/// Appends what is after the head.
-fn push_body(
-    text: &mut String,
-    named: &Named,
-    plan: &Plan,
-    blocking: &Transversal,
-    slack: Slack,
-    figures: &[QuorumFigure],
-    picture: &str,
-) -> Result<(), AllocError>
-    ensures { OnOk result (string_bytes text.new ≡ string_bytes text.old
-        ++ body_html named.now.names plan.now blocking.now.voters blocking.now.is_smallest slack
-        figures.now picture.now) }
-{
-    push_summary(text, named, plan, blocking, slack)?;
-    push_quorums(text, named, plan, figures)?;
-    push_voters(text, named, plan)?;
-    push_picture(text, picture)?;
-    push_steps(text, named, plan)?;
-    push_html(text, "</body>\n</html>\n")
+fn push_picture(text: &mut String, picture: &str) -> Result<(), AllocError> {
+    write!(
+        text,
+        "<h2>The same as a picture</h2>\n<figure>\n{picture}</figure>\n"
+    )
 }
 
 /// Returns a report of a plan as one HTML document, without a script and without an outside file: its
 /// load, or its throughput if some capacity is not 1, how many failures its coterie bears, how even
 /// it is, whom to ask how often, how busy each voter is, a picture, and the certificate. The plan is
 /// one of the named coterie. Fails only if memory runs out.
-pub fn report_page(alloc: Global, named: &Named, plan: &Plan) -> Result<String, AllocError>
-    ensures { IfOk result (λ page. IsReport named.now.names plan.now (string_bytes page)) }
-{
-    let even = even_of(alloc, plan)?;
-    let blocking = transversal_of(plan.coterie(), STEPS);
-    let figures = quorum_figures(alloc, plan)?;
+pub fn report_page(alloc: Global, named: &Named, plan: &Plan) -> Result<String, AllocError> {
+    let figures = plan_figures(plan);
+    let resilience = resilience_of(plan.coterie());
+    let slack = slack_of(alloc, plan)?;
+    let quorums = quorum_figures(alloc, plan)?;
+    let voters = voter_figures(alloc, plan)?;
+    let weights = weight_figures(alloc, plan)?;
     let picture = load_picture(alloc, named, plan)?;
-    let mut text = String::new(alloc);
-    push_head(&mut text)?;
-    push_body(
-        &mut text,
-        named,
-        plan,
-        &blocking,
-        even.slack(),
-        figures.as_slice(),
-        picture.as_str(),
-    )?;
+    let mut text = String::from_str(alloc, HEAD)?;
+    push_summary(&mut text, named, &figures, &resilience, slack)?;
+    push_quorums(&mut text, named, plan, quorums.as_slice())?;
+    push_voters(&mut text, named, &figures, voters.as_slice())?;
+    push_picture(&mut text, picture.as_str())?;
+    push_certificate(&mut text, named, &figures, weights.as_slice())?;
+    text.push_str("</body>\n</html>\n")?;
     Ok(text)
 }

@@ -1,2 +1,1 @@
-pub mod CountLemmas
-pub mod PageLemmas
+mod CountLemmas

@@ -1,3 +1,1 @@
-pub mod EvenOrder
-pub mod Lines
-pub mod Rounds
+pub mod Accounts

@@ -3,7 +3,7 @@ ghost use Rattle.std.specs.Prelude.{◌≡◌, ◌<◌, length, slice_index, sli
 ghost use Rattle.numbers.specs.Counts.{greatest_below};
 ghost use Rattle.numbers.specs.Sets.{has};
 ghost use Rattle.quorum_set.specs.Counts.{count_of};
-ghost use Rattle.show_tickets.specs.EvenOrder.{account_of_list, counts_of_list};
+ghost use Rattle.show_tickets.specs.Accounts.{account_of_list, counts_of_list};
 
 use certificate::{Plan, greatest_ratio};
 use dealer::{Account, Counts};

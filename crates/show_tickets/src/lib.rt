@@ -8,9 +8,9 @@
 //!
 //! # What is proved
 //!
-//! Each page is determined letter by letter: `specs/Rounds.antt` and `specs/EvenOrder.antt` define it
-//! from the plan and the names. The slack on the page is that of the plan's even cycle. A plan has one
-//! even cycle (law `even_orders_are_one` of `even`).
+//! The figures of the pages are pinned where they are computed: the tickets and the account by rounds in
+//! `commands`, the quorum of each ticket in the even order, its stride and its slack in `even`. The
+//! account of tickets in the even order is that of their quorums. What the pages say is only tested.
 //!
 //! Depends on `dealer` and `even` for the two orders, on `commands`, which draws the tickets by rounds
 //! and has the lines of an account, and on `show_words` for names.

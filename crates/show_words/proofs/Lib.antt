@@ -1,3 +1,2 @@
 mod FigureLemmas
-mod LineLemmas
 mod WeightLemmas

@@ -1,7 +1,6 @@
 //! Parts of a whole, in percent and as bars.
-ghost use Rattle.std.specs.Prelude.{◌≡◌, ◌<◌, ◌≤◌, ◌+◌, ◌++◌, ◌*◌, ◌/◌, ◌^◌, OnOk, string_bytes};
-ghost use Rattle.std.specs.List.{repeat};
-ghost use Rattle.show_words.specs.Lines.{bar_text, fraction_text, percent_text, quotient_text, share_of, tenths_of, tenths_text};
+ghost use Rattle.std.specs.Prelude.{◌≡◌, ◌<◌, ◌≤◌, ◌+◌, ◌*◌, ◌/◌, ◌^◌};
+ghost use Rattle.show_words.specs.Shares.{share_of, tenths_of};
 
 use std::alloc::AllocError;
 
@@ -34,9 +33,7 @@ fn share(part: u64, whole: u64, scale: u64) -> u64
 
 /// Appends a part of a whole in percent, with one digit after the point, as ` 60.0 %`. A part that
 /// is greater than the whole counts as the whole, and a whole of 0 as one of 1.
-pub fn push_percent(text: &mut String, part: u64, whole: u64) -> Result<(), AllocError>
-    ensures { OnOk result (string_bytes text.new ≡ string_bytes text.old ++ percent_text part whole) }
-{
+pub fn push_percent(text: &mut String, part: u64, whole: u64) -> Result<(), AllocError> {
     let tenths = share(part, whole, 1_000);
     let ones = tenths / 10;
     let tenth = tenths % 10;
@@ -44,10 +41,7 @@ pub fn push_percent(text: &mut String, part: u64, whole: u64) -> Result<(), Allo
 }
 
 /// Appends a quotient as a fraction, as `6125/3`, or as a number if it is divided by 1.
-#[tactic(auto, unfolding(crate::specs::Lines::fraction_text))]
-pub fn push_fraction(text: &mut String, part: u64, whole: u64) -> Result<(), AllocError>
-    ensures { OnOk result (string_bytes text.new ≡ string_bytes text.old ++ fraction_text part whole) }
-{
+pub fn push_fraction(text: &mut String, part: u64, whole: u64) -> Result<(), AllocError> {
     if whole == 1 {
         write!(text, "{part}")
     } else {
@@ -67,10 +61,7 @@ fn tenths(part: u64, whole: u64) -> u64
 
 /// Appends a quotient with one digit after the point, as `2041.7`. Both numbers count as 2^32 - 1 at
 /// most, and a divisor of 0 as 1.
-#[tactic(auto, unfolding(crate::specs::Lines::tenths_text))]
-pub fn push_tenths(text: &mut String, part: u64, whole: u64) -> Result<(), AllocError>
-    ensures { OnOk result (string_bytes text.new ≡ string_bytes text.old ++ tenths_text part whole) }
-{
+pub fn push_tenths(text: &mut String, part: u64, whole: u64) -> Result<(), AllocError> {
     let tenths = tenths(part, whole);
     let ones = tenths / 10;
     let tenth = tenths % 10;
@@ -78,30 +69,17 @@ pub fn push_tenths(text: &mut String, part: u64, whole: u64) -> Result<(), Alloc
 }
 
 /// Appends a quotient as a fraction and with one digit after the point, as `6125/3, about 2041.7`.
-#[tactic(auto, unfolding(crate::specs::Lines::quotient_text))]
-pub fn push_quotient(text: &mut String, part: u64, whole: u64) -> Result<(), AllocError>
-    ensures { OnOk result (string_bytes text.new ≡ string_bytes text.old ++ quotient_text part whole) }
-{
+pub fn push_quotient(text: &mut String, part: u64, whole: u64) -> Result<(), AllocError> {
     push_fraction(text, part, whole)?;
     text.push_str(", about ")?;
     push_tenths(text, part, whole)
 }
 
-/// Appends a text this many times.
-fn push_times(text: &mut String, mark: &str, count: u64) -> Result<(), AllocError>
-    ensures { OnOk result (string_bytes text.new ≡ string_bytes text.old ++ repeat count mark.now) }
-{
-    for written in 0..count {
-        text.push_str(mark)?;
+/// Appends a bar for a part of a whole: of the whole it has 40 characters.
+pub(crate) fn push_bar(text: &mut String, part: u64, whole: u64) -> Result<(), AllocError> {
+    let filled = share(part, whole, BAR);
+    for place in 0..BAR {
+        text.push(if place < filled { '#' } else { '.' })?;
     }
     Ok(())
-}
-
-/// Appends a bar for a part of a whole: of the whole it has 40 characters.
-pub fn push_bar(text: &mut String, part: u64, whole: u64) -> Result<(), AllocError>
-    ensures { OnOk result (string_bytes text.new ≡ string_bytes text.old ++ bar_text part whole) }
-{
-    let filled = share(part, whole, BAR);
-    push_times(text, "#", filled)?;
-    push_times(text, ".", BAR - filled)
 }

@@ -1,6 +1,8 @@
 //! A story in words: who asks whom, who gets which vote, and who waits for whom.
-ghost use Rattle.std.specs.Prelude.{IfOk, string_bytes};
-ghost use Rattle.show_words.specs.Worlds.{IsWorldPage};
+ghost use Rattle.std.specs.Prelude.{◌≡◌, IfOk, IfSome, OnOk};
+ghost use Rattle.world.specs.SavedWorlds.{live_of};
+ghost use Rattle.stories.specs.Plays.{play, world_after};
+ghost use Rattle.ways.specs.Leads.{LeadsIn};
 
 use crate::names::{name_of, push_names};
 use coterie_file::Named;
@@ -11,7 +13,7 @@ use requester::{Phase, Requester, Seen};
 use std::alloc::{AllocError, Global};
 use stories::{Happening, Late, Player, StoryScript, Turn};
 use voter::{Grant, Voter};
-use ways::let_in;
+use ways::{WayIn, let_in};
 use world::{Step, World};
 
 /// Returns the client that has the vote of a voter, if there is one.
@@ -328,7 +330,9 @@ fn push_moment(
     player: &mut Player,
     place: usize,
     turn: Turn,
-) -> Result<(), AllocError> {
+) -> Result<(), AllocError>
+    ensures { OnOk result (player.new ≡ play player.old turn) }
+{
     write!(text, "{place}. ")?;
     push_turn(text, named, player.world(), turn)?;
     text.push('\n')?;
@@ -398,10 +402,14 @@ fn turns_words(
     named: &Named,
     player: &mut Player,
     turns: &[Turn],
-) -> Result<String, AllocError> {
+) -> Result<String, AllocError>
+    ensures { OnOk result (player.new.world ≡ world_after turns.now player.old.world) }
+{
     let mut text = String::new(alloc);
-    for (place, turn) in turns.iter().enumerate() {
-        push_moment(&mut text, named, player, place.saturating_add(1), *turn)?;
+    let mut place: usize = 0;
+    for turn in turns {
+        place = place.saturating_add(1);
+        push_moment(&mut text, named, player, place, *turn)?;
     }
     Ok(text)
 }
@@ -465,17 +473,14 @@ fn arrival_on_way(world: &World, step: Step) -> Option<Message> {
     Some(world.message(number as usize))
 }
 
-/// Appends a way by which a client gets in: who is reminded, and which messages arrive. Makes its
-/// steps.
+/// Appends a way by which a client gets in: who is reminded, and which messages arrive. The world is
+/// that after its steps.
 fn push_way_in(
-    alloc: Global,
     text: &mut String,
     named: &Named,
-    world: &mut World,
+    way: &WayIn,
+    world: &World,
 ) -> Result<(), AllocError> {
-    let Some(way) = let_in(alloc, world)? else {
-        return Ok(());
-    };
     let client = way.client;
     write!(text, "\nA way for client {client} to get in:\n")?;
     for step in &way.steps {
@@ -552,13 +557,27 @@ fn ending_words(
     Ok(text)
 }
 
-/// Returns a way in, if clients wait while nobody is inside. Returns nothing after evictions, rebirths and
-/// clients anew.
+/// Returns a way in from the end of a story, and the world after its steps, if clients wait while nobody
+/// is inside. Returns nothing after evictions, rebirths and clients anew. Fails only if memory runs out.
+fn way_of(alloc: Global, player: Player) -> Result<Option<(WayIn, World)>, AllocError>
+    ensures { IfOk result (λ found. IfSome found (λ end.
+        LeadsIn (live_of player.world) end.1 end.0.client end.0.steps.items)) }
+{
+    if !player.is_calm() {
+        return Ok(None);
+    }
+    let mut world = player.into_world();
+    match let_in(alloc, &mut world)? {
+        Some(way) => Ok(Some((way, world))),
+        None => Ok(None),
+    }
+}
+
+/// Returns the words of a way in from the end of a story, if there is one.
 fn way_words(alloc: Global, named: &Named, player: Player) -> Result<String, AllocError> {
     let mut text = String::new(alloc);
-    if player.is_calm() {
-        let mut world = player.into_world();
-        push_way_in(alloc, &mut text, named, &mut world)?;
+    if let Some((way, world)) = way_of(alloc, player)? {
+        push_way_in(&mut text, named, &way, &world)?;
     }
     Ok(text)
 }
@@ -571,9 +590,7 @@ pub fn world_words(
     named: &Named,
     plans: Plans,
     script: &StoryScript,
-) -> Result<String, AllocError>
-    ensures { IfOk result (λ page. IsWorldPage (string_bytes page)) }
-{
+) -> Result<String, AllocError> {
     let mut player = Player::new(alloc, plans, script)?;
     let turns = turns_words(alloc, named, &mut player, script.turns())?;
     let ending = ending_words(alloc, named, &player, script.clients())?;

@@ -1,0 +1,116 @@
+//! The tables of a report: the quorums, the voters, and the certificate that a person can add up.
+//! Names have no sign that means something in HTML
+//! ([`names_are_plain_in_html`](crate::names_are_plain_in_html)).
+
+use certificate::Plan;
+use coterie_file::Named;
+use show_words::{
+    PlanFigures, QuorumFigure, VoterFigure, WeightFigure, busy_part, name_of, push_percent,
+    push_quorum_members,
+};
+use std::alloc::AllocError;
+
+/// Appends the table of these quorums: whom to ask, and how often.
+pub(crate) fn push_quorums(
+    text: &mut String,
+    named: &Named,
+    plan: &Plan,
+    figures: &[QuorumFigure],
+) -> Result<(), AllocError> {
+    text.push_str(
+        "<h2>Whom to ask, and how often</h2>\n<div class=\"wide\"><table>\n<tr><th>Share</th><th>Uses</th><th>Quorum</th><th>Ask these voters</th></tr>\n",
+    )?;
+    for figure in figures {
+        let QuorumFigure { quorum, weight } = *figure;
+        text.push_str("<tr><td>")?;
+        push_percent(text, weight, plan.cycle_len())?;
+        write!(text, "</td><td>{weight}</td><td>{quorum}</td><td>")?;
+        push_quorum_members(text, named, plan, quorum)?;
+        text.push_str("</td></tr>\n")?;
+    }
+    text.push_str("</table></div>\n")
+}
+
+/// Appends the row of a voter: its share, its uses, its capacity, and how busy it is for this.
+fn push_voter(
+    text: &mut String,
+    named: &Named,
+    plan: &PlanFigures,
+    figure: VoterFigure,
+) -> Result<(), AllocError> {
+    let VoterFigure {
+        voter,
+        count,
+        capacity,
+    } = figure;
+    let (part, whole) = busy_part(plan.ratio, figure);
+    let name = name_of(named, voter);
+    write!(text, "<tr><td>{name}</td><td>")?;
+    push_percent(text, count, plan.cycle_len)?;
+    write!(
+        text,
+        "</td><td>{count}</td><td>{capacity}</td><td><meter max=\"{whole}\" value=\"{part}\"></meter>"
+    )?;
+    push_percent(text, part, whole)?;
+    text.push_str("</td></tr>\n")
+}
+
+/// Appends the table of these voters: how busy each is for its capacity.
+pub(crate) fn push_voters(
+    text: &mut String,
+    named: &Named,
+    plan: &PlanFigures,
+    figures: &[VoterFigure],
+) -> Result<(), AllocError> {
+    text.push_str(
+        "<h2>How busy each voter is for its capacity</h2>\n<div class=\"wide\"><table>\n<tr><th>Voter</th><th>Share</th><th>Uses</th><th>Capacity</th><th>Beside the busiest</th></tr>\n",
+    )?;
+    for figure in figures {
+        push_voter(text, named, plan, *figure)?;
+    }
+    text.push_str("</table></div>\n")
+}
+
+/// Appends the steps from the weights of the voters to the load.
+fn push_steps(text: &mut String, plan: &PlanFigures) -> Result<(), AllocError> {
+    let (weights, share) = if plan.is_unit {
+        ("The weights", "of N requests")
+    } else {
+        (
+            "The weights, each times the voter's capacity,",
+            "of N requests for its capacity",
+        )
+    };
+    let total = plan.weight_total;
+    let least = plan.lightest_quorum;
+    let (part, whole) = plan.load;
+    write!(text, "<li>{weights} add up to <b>{total}</b>.</li>\n")?;
+    write!(
+        text,
+        "<li>The members of every quorum together weigh at least <b>{least}</b>, so N requests weigh at least {least} N.</li>\n"
+    )?;
+    write!(
+        text,
+        "<li>So some voter gets at least <b>{part}/{whole}</b> {share}, whichever quorums they use. That is the load of this plan.</li>\n"
+    )
+}
+
+/// Appends the certificate: the weights of these voters, and the steps.
+pub(crate) fn push_certificate(
+    text: &mut String,
+    named: &Named,
+    plan: &PlanFigures,
+    figures: &[WeightFigure],
+) -> Result<(), AllocError> {
+    text.push_str(
+        "<h2>Why no plan has a smaller load</h2>\n<div class=\"wide\"><table>\n<tr><th>Voter</th><th>Weight</th></tr>\n",
+    )?;
+    for figure in figures {
+        let WeightFigure { voter, weight } = *figure;
+        let name = name_of(named, voter);
+        write!(text, "<tr><td>{name}</td><td>{weight}</td></tr>\n")?;
+    }
+    text.push_str("</table></div>\n<ol>\n")?;
+    push_steps(text, plan)?;
+    text.push_str("</ol>\n")
+}

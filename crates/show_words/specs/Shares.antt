@@ -1,0 +1,16 @@
+-- Parts of a whole, rounded.
+use Rattle.std.specs.Prelude.{ℕ, ◌+◌, ◌-◌, ◌*◌, ◌/◌, ◌^◌, min, max}
+
+-- the whole that counts: 1 for a whole of 0, and at most 2^32 - 1
+abbrev pub whole_of : ℕ → ℕ
+whole_of whole = max 1 (min whole (2 ^ 32 - 1))
+
+-- a part of a whole in units of which `scale` are the whole, rounded to the nearest; a part that is
+-- greater than the whole counts as the whole
+abbrev pub share_of : ℕ → ℕ → ℕ → ℕ
+share_of scale part whole = (min part (whole_of whole) * scale + whole_of whole / 2) / whole_of whole
+
+-- a quotient in tenths, rounded to the nearest; both numbers count as 2^32 - 1 at most, and a divisor of
+-- 0 as 1
+abbrev pub tenths_of : ℕ → ℕ → ℕ
+tenths_of part whole = (min part (2 ^ 32 - 1) * 10 + whole_of whole / 2) / whole_of whole
