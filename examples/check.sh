@@ -168,6 +168,7 @@ example check-wheel-3 /dev/null 0 check -f -- -f -plan
 cd "$here"
 example no-such-file /dev/null 3 check -f wheel-3.toml -f "no such.plan"
 example folder-as-file /dev/null 3 plan -f .
+example folder-after-a-file /dev/null 3 check -f wheel-3.toml -f faults
 example file-without-a-name /dev/null 2 plan -f
 example file-as-a-word /dev/null 2 plan wheel-3.toml
 example file-behind-the-end /dev/null 2 plan -- -f wheel-3.toml
@@ -197,6 +198,14 @@ done
     "$show" world < "$work/input" | tail -n 8
 } > "$work/ends"
 compare "$work/ends" show-ends-of-long-pages.out
+# a reader that ends before the page does: no line on standard error, and status 0. A full device is another thing
+{
+    { status=0; "$show" deal 100000 < wheel-3-planned.txt 2> "$work/err" || status=$?; echo "status $status" > "$work/status"; } | head -n 1
+    cat "$work/err" "$work/status"
+    "$show" deal 5 < wheel-3-planned.txt 2>&1 > /dev/full || echo "status $?"
+    "$show" --help 2>&1 > /dev/full || echo "status $?"
+} > "$work/ends"
+compare "$work/ends" show-unread-page.out
 shown explain-disjoint /dev/null explain E7
 shown waiting-five /dev/null waiting 5 --round 2
 shown waiting-nine-of-which-two-give-up /dev/null waiting 9 2
@@ -209,6 +218,63 @@ shown fault-record refused-record.txt fault replay
 shown fault-script refused-script.txt fault world
 shown fault-missing-part wheel-3.toml fault check
 shown fault-none wheel-3-planned.txt fault deal 5
+
+# the same of files, which the page names: their parts in one file and in several, in a wrong order, too many, and texts that other
+# systems end or begin in another way
+sed 's/^cycle .*/cycle 05/' wheel-3.plan > "$work/cycle.plan"
+sed 's/^cycle .*/cycle 05/' wheel-3-planned.txt > "$work/planned.txt"
+sed 's/$/\r/' wheel-3.plan > "$work/returns.plan"
+{ printf '\357\273\277'; cat wheel-3.plan; } > "$work/marked.plan"
+sed 's/^load .*/load 2\/3/' wheel-3.plan > "$work/load.plan"
+cp wheel-3.plan "$work/wheel.plan"
+tail -n +3 wheel-3.plan > "$work/rest.plan"
+: > "$work/empty"
+cat > "$work/types.toml" << 'END'
+# each key has a value of another type
+voters = ["a", 1]
+quorums = [
+  ["a"],
+  [
+    "b", 2.5 ],
+]
+capacity = [1, 2.5]
+weights = [1]
+END
+cat > "$work/string.toml" << 'END'
+voters = "a, b"
+END
+printf '[servers]\nvoters = ["a"]\n' > "$work/servers.toml"
+printf 'world 2 1\nask 0\ndelivers 0\n' > "$work/script"
+# page WORDS..: the words, and what qlock-show writes for them
+page() {
+    echo "== $*"
+    "$show" "$@" 2>&1 || echo "status $?"
+}
+(
+    cd "$work"
+    page fault check -f "a coterie.toml" -f cycle.plan
+    page fault check -f planned.txt
+    page fault check -f "a coterie.toml" -f - < cycle.plan
+    page fault check -f "a coterie.toml" -f load.plan
+    page fault check -f wheel.plan -f "a coterie.toml"
+    page fault check -f "a coterie.toml" -f "a coterie.toml"
+    page fault check -f "a coterie.toml" -f script
+    page fault world -f planned.txt -f script
+    page fault world -f "a coterie.toml" -f wheel.plan -f script
+    page fault check -f "a coterie.toml" -f wheel.plan -f wheel.plan
+    page fault plan -f wheel.plan -f "a coterie.toml"
+    page fault check -f "a coterie.toml"
+    page fault check -f "a coterie.toml" -f returns.plan
+    page fault check -f "a coterie.toml" -f marked.plan
+    page fault check -f "a coterie.toml" -f rest.plan
+    page fault check -f "a coterie.toml" -f empty
+    page fault plan -f empty
+    page fault plan -f types.toml
+    page fault plan -f string.toml
+    page fault plan -f servers.toml
+    page fault plan -f "no such.toml"
+) < /dev/null > "$work/pages"
+compare "$work/pages" show-fault-files.out
 
 # reports of plans, as HTML that is well-formed XML too
 for coterie in wheel-3 wheel-3-fast-hub three-racks; do
@@ -235,6 +301,11 @@ example show-unknown-code /dev/null 2 explain E9
 example show-waiting-of-nobody /dev/null 2 waiting 0
 example show-unknown-picture /dev/null 2 picture plan
 example show-fault-of-no-command /dev/null 2 fault make circle 3
+# files that are not read, with the system's reason if it is a common one, and a file without a name
+example show-no-such-file /dev/null 3 plan -f wheel-3.toml -f "no such.plan"
+example show-folder-as-file /dev/null 3 resilience -f .
+example show-file-in-a-file /dev/null 3 resilience -f wheel-3.toml/x
+example show-file-without-a-name /dev/null 2 plan -f
 # an exchange for a coterie of c alone, which a quorum of the first does not have, and for one of other voters
 awk 'parts == 2 { sub(/^  \["a", "b"\]/, "  [\"c\"]") } parts == 3 { sub(/^voter 1 0 0/, "voter 0 0 1") } /^%%$/ { parts++ } 1' \
     world-exchange.txt > "$work/input"
@@ -256,12 +327,14 @@ shown bridge-seven-of-nine-to-nine "$work/input" bridge
 "$show" without a1 a2 a3 a4 a5 < three-centres.toml > "$work/left"
 shown bridge-three-centres-to-two /dev/null bridge -f three-centres.toml -f "$work/left"
 
-# at a terminal: that the input is read from it, and how to see where it is wrong
+# at a terminal: that the input is read from it, how to see where it is wrong, and why a file was not read
 if command -v python3 > /dev/null; then
     {
         "$here/terminal.py" refused-disjoint.toml "$qlock" plan
         "$here/terminal.py" wheel-3.toml "$show" resilience
         "$here/terminal.py" /dev/null "$qlock" make wheel 2
+        "$here/terminal.py" /dev/null "$qlock" check -f wheel-3.toml -f no-such.plan
+        "$here/terminal.py" /dev/null "$qlock" plan -f faults
     } > "$work/terminal"
     compare "$work/terminal" terminal.out
 fi

@@ -177,6 +177,10 @@ try 'show without, none left' '' "$work/majority.toml" without v0 v1
 try 'show resilience' '' "$root/examples/three-racks.toml" resilience
 try 'show bridge' '' "$work/bridge" bridge
 try 'show fault check' '' "$root/examples/refused-plan.txt" fault check
+sed 's/^cycle .*/cycle 05/' "$work/plan" > "$work/cycle"
+unread='I3 ReadFault "-"'
+try 'show fault check, from files' '' "$work/cycle" fault check -f "$work/grid.toml" -f -
+unread='I3 ReadFault'
 try 'show waiting' '' /dev/null waiting 5 2 --round 2
 try 'show explain E7' '' /dev/null explain E7
 

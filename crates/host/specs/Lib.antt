@@ -1,2 +1,4 @@
 pub mod Files
+pub mod Listening
+pub mod Reasons
 pub mod Statuses

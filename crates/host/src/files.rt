@@ -2,12 +2,13 @@
 ghost use Rattle.std.specs.Prelude.{◌≡◌, OnOk};
 ghost use Rattle.host.specs.Files.{line_end, with_part};
 
+use crate::reason::Reason;
 use commands::{DeviceFault, Watched};
 use std::alloc::{AllocError, AllocGlobal, Global};
 use std::fs::File;
-use std::io;
 use std::io::{Input, Read};
 use std::rt::Files;
+use std::{fs, io};
 use whole_io::read_input;
 
 /// The name that stands for standard input.
@@ -20,6 +21,25 @@ pub struct Unread<'a> {
     pub name: &'a str,
     /// Why it was not read.
     pub fault: DeviceFault,
+    /// The system's reason, if it did not open or read the file.
+    pub reason: Reason,
+}
+
+/// Why a text was not read, and the system's reason.
+#[derive(Clone, Copy)]
+struct Failure {
+    fault: DeviceFault,
+    reason: Reason,
+}
+
+impl Failure {
+    /// Returns a failure that the system gives no reason for.
+    fn of(fault: DeviceFault) -> Failure {
+        Failure {
+            fault,
+            reason: Reason::Other,
+        }
+    }
 }
 
 /// Returns what ends the last line of a text: nothing if a newline does, or if there is no text.
@@ -51,15 +71,52 @@ fn read_all<R: Read + Drop>(alloc: Global, reader: R) -> Result<Vec<u8>, DeviceF
     read_input(alloc, &mut reader)
 }
 
-/// Reads a file. Fails with `ReadFault` if it can't be opened.
-fn read_file<R: Files + Input + AllocGlobal>(rt: &R, name: &str) -> Result<Vec<u8>, DeviceFault> {
-    if name == STANDARD_INPUT {
-        return read_all(rt.alloc(), rt.reader());
+/// Returns why a file was not opened.
+fn unopened(error: &io::Error) -> Failure {
+    match error.kind() {
+        io::ErrorKind::OutOfMemory => Failure::of(DeviceFault::OutOfMemory),
+        kind => Failure {
+            fault: DeviceFault::ReadFault,
+            reason: Reason::of(kind),
+        },
     }
-    match File::open(rt, name) {
-        Ok(file) => read_all(rt.alloc(), file),
-        Err(error) if error.kind() == io::ErrorKind::OutOfMemory => Err(DeviceFault::OutOfMemory),
-        Err(_) => Err(DeviceFault::ReadFault),
+}
+
+/// Returns whether there is a folder with this name.
+fn is_folder<R: Files>(rt: &R, name: &str) -> bool {
+    match fs::metadata(rt, name) {
+        Ok(metadata) => metadata.is_dir(),
+        Err(_) => false,
+    }
+}
+
+/// Returns why a file was opened, and not read to its end. A folder can be opened, and no read of it
+/// succeeds.
+fn unfinished<R: Files>(rt: &R, name: &str, fault: DeviceFault) -> Failure {
+    if fault == DeviceFault::ReadFault && is_folder(rt, name) {
+        return Failure {
+            fault,
+            reason: Reason::Folder,
+        };
+    }
+    Failure::of(fault)
+}
+
+/// Reads a file. Fails with `ReadFault` if it can't be opened.
+fn read_file<R: Files + Input + AllocGlobal>(rt: &R, name: &str) -> Result<Vec<u8>, Failure> {
+    if name == STANDARD_INPUT {
+        return match read_all(rt.alloc(), rt.reader()) {
+            Ok(text) => Ok(text),
+            Err(fault) => Err(Failure::of(fault)),
+        };
+    }
+    let file = match File::open(rt, name) {
+        Ok(file) => file,
+        Err(error) => return Err(unopened(&error)),
+    };
+    match read_all(rt.alloc(), file) {
+        Ok(text) => Ok(text),
+        Err(fault) => Err(unfinished(rt, name, fault)),
     }
 }
 
@@ -69,10 +126,15 @@ fn read_part<R: Files + Input + AllocGlobal>(
     input: &mut Vec<u8>,
     number: usize,
     name: &str,
-) -> Result<(), DeviceFault> {
-    let part = read_file(rt, name)?;
-    push_part(input, number, part.as_slice())?;
-    Ok(())
+) -> Result<(), Failure> {
+    let part = match read_file(rt, name) {
+        Ok(part) => part,
+        Err(failure) => return Err(failure),
+    };
+    match push_part(input, number, part.as_slice()) {
+        Ok(()) => Ok(()),
+        Err(_) => Err(Failure::of(DeviceFault::OutOfMemory)),
+    }
 }
 
 /// Reads these files in their order, each as a part of one input. The name `-` is standard input.
@@ -86,9 +148,12 @@ pub fn read_files<'a, R: Files + Input + AllocGlobal>(
     for (number, name) in names.iter().enumerate() {
         match read_part(rt, &mut input, number, name.as_str()) {
             Ok(()) => {}
-            Err(fault) => {
-                let name = name.as_str();
-                return Err(Unread { name, fault });
+            Err(failure) => {
+                return Err(Unread {
+                    name: name.as_str(),
+                    fault: failure.fault,
+                    reason: failure.reason,
+                });
             }
         }
     }

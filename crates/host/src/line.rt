@@ -8,10 +8,10 @@ use std::env::Env;
 use std::{env, io};
 
 /// The word before the name of a file.
-const MARK: &str = "-f";
+pub(crate) const MARK: &str = "-f";
 
 /// The word behind which no file is named.
-const END: &str = "--";
+pub(crate) const END: &str = "--";
 
 /// What the next word of a command line is.
 #[derive(Clone, Copy, Debug, PartialEq, Eq)]

@@ -1,10 +1,11 @@
 //! What the programs report on standard error, and their exit statuses.
 ghost use Rattle.std.specs.Prelude.{◌≡◌};
-ghost use Rattle.host.specs.Statuses.{served_status};
+ghost use Rattle.host.specs.Statuses.{served_status, shown_status};
 ghost use Rattle.commands.specs.Faults.{device_refusal};
 ghost use Rattle.commands.specs.Statuses.{status_of, usage_status};
 
 use crate::files::Unread;
+use crate::line::{END, MARK};
 use clap::error::ErrorKind;
 use commands::{DeviceFault, Fault, Usage, status_of, usage_status};
 use std::io::IsTerminal;
@@ -27,22 +28,57 @@ pub fn files_help(error: &clap::Error) -> &'static str {
     }
 }
 
-/// Prints a hint if a word was not expected: often it is the name of a file.
-fn hint_at_input<R: Eprint>(rt: &R, error: &clap::Error) {
-    if error.kind() == ErrorKind::UnknownArgument {
-        let _ = rt.eprintln("The input is standard input: put -f before the name of a file.");
+/// What is perhaps wrong with the files of a command line, if a word of it was not expected.
+#[derive(Clone, Copy, Debug, PartialEq, Eq)]
+pub enum Hint {
+    /// The word is the name of a file, without a `-f` before it.
+    NoMark,
+    /// The last word is `-f`, without a name behind it.
+    NoName,
+    /// There is a word `--`, behind which no file is named.
+    Ended,
+}
+
+impl Hint {
+    /// Returns the words of a hint.
+    fn words(self) -> &'static str {
+        match self {
+            Hint::NoMark => "The input is standard input: put -f before the name of a file.",
+            Hint::NoName => "-f has to be followed by the name of a file.",
+            Hint::Ended => {
+                "Behind the word -- no file is named: put -f and the name of a file before it."
+            }
+        }
     }
 }
 
-/// Prints why the words name no command. Returns the exit status: 2, or 4 if memory ran out.
-pub fn refuse_words<R: Eprint>(rt: &R, usage: &Usage) -> u8
+/// Returns the hint for the words of a command.
+pub fn hint_for(words: &[String]) -> Hint {
+    if words.iter().any(|word| word.as_str() == END) {
+        return Hint::Ended;
+    }
+    match words.last() {
+        Some(word) if word.as_str() == MARK => Hint::NoName,
+        _ => Hint::NoMark,
+    }
+}
+
+/// Prints a hint if a word was not expected: often it is about the name of a file.
+fn hint_at_input<R: Eprint>(rt: &R, error: &clap::Error, words: &[String]) {
+    if error.kind() == ErrorKind::UnknownArgument {
+        let _ = rt.eprintln(hint_for(words).words());
+    }
+}
+
+/// Prints why these words name no command. Returns the exit status: 2, or 4 if memory ran out.
+pub fn refuse_words<R: Eprint>(rt: &R, usage: &Usage, words: &[String]) -> u8
     ensures status { result ≡ usage_status usage.now }
 {
     match usage {
         Usage::Refused(error) => {
             let _ = rt.eprint(error);
             let _ = rt.eprint(files_help(error));
-            hint_at_input(rt, error);
+            hint_at_input(rt, error, words);
         }
         Usage::Arguments => {
             let _ = rt.eprintln("I5 Arguments");
@@ -100,5 +136,25 @@ pub fn report<R: Eprint>(rt: &R, served: &Result<(), Fault>) -> u8
             let _ = rt.eprintln(fault);
             status_of(fault)
         }
+    }
+}
+
+/// Tells the system's reason why a file was not opened or read, on a line of its own, if it is known.
+pub fn tell_of_reason<R: Eprint>(rt: &R, unread: &Unread) {
+    if let Some(words) = unread.reason.words() {
+        let _ = eprintln!(rt; "{}: {words}", unread.name);
+    }
+}
+
+/// Prints the fault of a command, if it failed, except that a write failed since nobody reads. Who
+/// reads a beginning of the output alone, as `head` does, has what was wanted.
+///
+/// Returns the exit status: that of [`report`], but 0 if a write failed and nobody reads.
+pub fn report_shown<R: Eprint>(rt: &R, served: &Result<(), Fault>, is_unread: bool) -> u8
+    ensures status { result ≡ shown_status is_unread served.now }
+{
+    match served {
+        Err(Fault::Device(DeviceFault::WriteFault)) if is_unread => 0,
+        _ => report(rt, served),
     }
 }

@@ -9,12 +9,12 @@ ghost use Rattle.commands.specs.Commands.{IsInRange};
 
 use commands::reads_input;
 use host::{
-    command_line_of, read_files, refuse_words, report, report_unread, tell_of_fault,
-    tell_of_reading,
+    Unread, command_line_of, read_files, refuse_words, report, report_unread, tell_of_fault,
+    tell_of_reading, tell_of_reason,
 };
 use qlock_cli::{Command, NoGate, Usage, Watched, execute, execute_run, read_words};
 use std::io;
-use std::io::Read;
+use std::io::{IsTerminal, Read};
 use std::process::ExitCode;
 use std::sync::Wait;
 use std::thread::Threads;
@@ -50,6 +50,16 @@ fn serve_input<R: Read + Drop, T: Threads + Wait + Clock + Sync>(
     status
 }
 
+/// Prints the fault of a file that was not read, and at a terminal the system's reason too. Returns the
+/// exit status.
+fn refuse_file(rt: &HostRuntime, unread: &Unread) -> u8 {
+    let status = report_unread(rt, unread);
+    if rt.stderr().is_terminal() {
+        tell_of_reason(rt, unread);
+    }
+    status
+}
+
 /// Serves the command over these files, or over standard input if there are none. Returns the exit
 /// status.
 fn serve<T: Threads + Wait + Clock + Sync>(
@@ -69,20 +79,22 @@ fn serve<T: Threads + Wait + Clock + Sync>(
     }
     match read_files(rt, files) {
         Ok(input) => serve_input(rt, threads, command, input.as_slice()),
-        Err(unread) => report_unread(rt, &unread),
+        Err(unread) => refuse_file(rt, &unread),
     }
 }
 
 /// Serves the command that the words of the command line name. Returns the exit status.
 fn run<T: Threads + Wait + Clock + Sync>(rt: &HostRuntime, threads: &T) -> Result<u8, Usage> {
     let line = command_line_of(rt)?;
-    let command = read_words(rt.alloc(), line.words.as_slice())?;
-    Ok(serve(rt, threads, &command, line.files.as_slice()))
+    match read_words(rt.alloc(), line.words.as_slice()) {
+        Ok(command) => Ok(serve(rt, threads, &command, line.files.as_slice())),
+        Err(usage) => Ok(refuse_words(rt, &usage, line.words.as_slice())),
+    }
 }
 
 fn main(rt: HostRuntime) -> ExitCode {
     ExitCode::from(match run(&rt, &rt) {
         Ok(status) => status,
-        Err(usage) => refuse_words(&rt, &usage),
+        Err(usage) => refuse_words(&rt, &usage, &[]),
     })
 }

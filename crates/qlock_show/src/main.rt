@@ -3,7 +3,8 @@
 //! The crate `show_cli` reads the words and serves the command. The crate `host` takes the words and
 //! the files from the system. It turns the result of the command into an exit status, and into a
 //! fault's line or a text about usage on standard error. Help and the version, which were asked for,
-//! go to standard output.
+//! go to standard output. If nobody reads the output any more, as behind `| head`, the program ends
+//! with status 0 and says nothing.
 #![tactic(auto)]
 
 ghost use Rattle.std.specs.Prelude.{◌≡◌, ◌⊎◌};
@@ -13,11 +14,12 @@ ghost use Rattle.qlock_show.specs.HelpRequests.{AsksForText};
 
 use commands::{DeviceFault, Fault, Usage, Watched};
 use host::{
-    command_line_of, files_help, read_files, refuse_words, report, report_unread, tell_of_reading,
+    Listened, Unread, command_line_of, files_help, read_files, refuse_words, report_shown,
+    report_unread, tell_of_reading, tell_of_reason,
 };
 use show_cli::{ShowCommand, read_show_words, reads_page_input, show};
 use std::io;
-use std::io::Read;
+use std::io::{ErrorKind, Read};
 use std::process::ExitCode;
 
 /// Prints a text that was asked for, and behind help how files are named.
@@ -31,21 +33,21 @@ fn print_text(rt: &HostRuntime, text: &clap::Error) -> io::Result<()> {
 fn show_text(rt: &HostRuntime, text: &clap::Error) -> u8
     ensures { (result ≡ 0) ⊎ (result ≡ 3) }
 {
-    let written = match print_text(rt, text) {
-        Ok(()) => Ok(()),
-        Err(_) => Err(Fault::Device(DeviceFault::WriteFault)),
-    };
-    report(rt, &written)
+    let failed = Err(Fault::Device(DeviceFault::WriteFault));
+    match print_text(rt, text) {
+        Ok(()) => 0,
+        Err(error) => report_shown(rt, &failed, error.kind() == ErrorKind::BrokenPipe),
+    }
 }
 
 /// Prints a text that was asked for, or why the words name no command. Returns the exit status.
-fn answer_words(rt: &HostRuntime, usage: &Usage) -> u8
+fn answer_words(rt: &HostRuntime, usage: &Usage, words: &[String]) -> u8
     ensures asked { AsksForText usage.now → (result ≡ 0) ⊎ (result ≡ 3) }
     ensures refused { ¬ AsksForText usage.now → result ≡ usage_status usage.now }
 {
     match usage {
         Usage::Refused(text) if !text.use_stderr() => show_text(rt, text),
-        _ => refuse_words(rt, usage),
+        _ => refuse_words(rt, usage, words),
     }
 }
 
@@ -54,8 +56,17 @@ fn serve_input<R: Read + Drop>(rt: &HostRuntime, command: &ShowCommand, input: R
     requires { IsShown command.now }
 {
     let mut reader = Watched::of(input);
-    let mut writer = Watched::of(io::writer(rt));
-    report(rt, &show(rt.alloc(), command, &mut reader, &mut writer))
+    let mut output = Listened::of(io::writer(rt));
+    let mut writer = Watched::of(&mut output);
+    let served = show(rt.alloc(), command, &mut reader, &mut writer);
+    report_shown(rt, &served, output.is_unread())
+}
+
+/// Prints the fault of a file that was not read, and the system's reason. Returns the exit status.
+fn refuse_file(rt: &HostRuntime, unread: &Unread) -> u8 {
+    let status = report_unread(rt, unread);
+    tell_of_reason(rt, unread);
+    status
 }
 
 /// Serves the command over these files, or over standard input if there are none. Returns the exit
@@ -72,20 +83,22 @@ fn serve(rt: &HostRuntime, command: &ShowCommand, files: &[String]) -> u8
     }
     match read_files(rt, files) {
         Ok(input) => serve_input(rt, command, input.as_slice()),
-        Err(unread) => report_unread(rt, &unread),
+        Err(unread) => refuse_file(rt, &unread),
     }
 }
 
 /// Serves the command that the words of the command line name. Returns the exit status.
 fn run(rt: &HostRuntime) -> Result<u8, Usage> {
     let line = command_line_of(rt)?;
-    let command = read_show_words(rt.alloc(), line.words.as_slice())?;
-    Ok(serve(rt, &command, line.files.as_slice()))
+    match read_show_words(rt.alloc(), line.words.as_slice()) {
+        Ok(command) => Ok(serve(rt, &command, line.files.as_slice())),
+        Err(usage) => Ok(answer_words(rt, &usage, line.words.as_slice())),
+    }
 }
 
 fn main(rt: HostRuntime) -> ExitCode {
     ExitCode::from(match run(&rt) {
         Ok(status) => status,
-        Err(usage) => answer_words(&rt, &usage),
+        Err(usage) => answer_words(&rt, &usage, &[]),
     })
 }

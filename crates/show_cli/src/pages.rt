@@ -171,7 +171,7 @@ fn refusal_page(alloc: Global, command: &Command, input: &[u8]) -> Result<String
     ensures page { IfOk result (λ page. IsFaultPage command.now input.now (string_bytes page)) }
     ensures memory { IfErr result (λ fault. fault ≡ Fault.OutOfMemory) }
 {
-    match fault_page(alloc, command, input) {
+    match fault_page(alloc, command, input, &[]) {
         Ok(page) => Ok(page),
         Err(_) => Err(Fault::OutOfMemory),
     }

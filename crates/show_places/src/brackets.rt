@@ -3,7 +3,7 @@
 /// What a text has so far, byte by byte: the brackets that are open, and whether it is inside a string
 /// or a comment.
 #[derive(Clone, Copy)]
-struct Nesting {
+pub(crate) struct Nesting {
     /// The line of the byte, from 1.
     line: usize,
     /// How many brackets are open.
@@ -18,7 +18,7 @@ struct Nesting {
 
 impl Nesting {
     /// Returns the state at the beginning of a text.
-    fn new() -> Nesting {
+    pub(crate) fn new() -> Nesting {
         Nesting {
             line: 1,
             depth: 0,
@@ -65,7 +65,7 @@ impl Nesting {
     }
 
     /// Takes a byte.
-    fn take(&mut self, byte: u8) {
+    pub(crate) fn take(&mut self, byte: u8) {
         match self.until {
             Some(end) => self.take_inside(byte, end),
             None => self.take_outside(byte),
@@ -73,6 +73,21 @@ impl Nesting {
         if byte == b'\n' {
             self.line = self.line.saturating_add(1);
         }
+    }
+
+    /// Returns the line of the next byte.
+    pub(crate) fn line(&self) -> usize {
+        self.line
+    }
+
+    /// Returns whether no bracket is open, and no string or comment.
+    pub(crate) fn is_outside(&self) -> bool {
+        self.depth == 0 && self.until.is_none()
+    }
+
+    /// Returns whether one bracket is open, and no string or comment.
+    pub(crate) fn is_in_list(&self) -> bool {
+        self.depth == 1 && self.until.is_none()
     }
 
     /// Returns the line of the innermost bracket that is open, if it is one of the first two.

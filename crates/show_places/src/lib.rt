@@ -4,7 +4,9 @@
 //! - [`position_of`] has the line and the column of a place, and [`is_unended`] whether a text's last
 //!   line lacks its newline;
 //! - [`near_mark`] finds a line that is almost the line `%%`;
-//! - [`unclosed_line`] finds a bracket that is not closed.
+//! - [`unclosed_line`] finds a bracket that is not closed;
+//! - [`key_line`] and [`item_line`] find a key of TOML, and an item of its list;
+//! - [`file_line`] finds the file that has a line of an input.
 //!
 //! Lines and columns count from 1. All of this is tested, and nothing is promised.
 //!
@@ -12,9 +14,13 @@
 #![tactic(auto)]
 
 mod brackets;
+mod files;
+mod keys;
 mod lines;
 mod marks;
 
 pub use brackets::unclosed_line;
+pub use files::{FileLine, file_line, push_file};
+pub use keys::{item_line, key_line};
 pub use lines::{is_unended, line_of, newlines, position_of, push_line};
 pub use marks::{NearMark, near_mark};

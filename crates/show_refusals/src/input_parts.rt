@@ -13,16 +13,6 @@ pub(crate) fn parts_of(command: &Command) -> usize {
     }
 }
 
-/// Returns what a part of an input has to be.
-pub(crate) fn part_name(command: &Command, number: usize) -> &'static str {
-    match (number, command) {
-        (1, _) => "the coterie",
-        (2, _) => "the plan",
-        (_, Command::World) => "the script",
-        _ => "the record",
-    }
-}
-
 /// Returns what follows the first separating line, or nothing if there is none.
 fn after_first(input: &[u8], next: usize) -> &[u8] {
     match split_part(input, next) {

@@ -6,11 +6,14 @@
 //! command of `qlock-show` that explains the code. The texts of explanations are in `show_faults`.
 //!
 //! - `page.rt` has the page, and a sentence for each fault of a plan, a script or a record;
-//! - `toml_faults.rt` says where a coterie's text stops being TOML, and which keys it lacks;
+//! - `toml_faults.rt` says where a coterie's text stops being TOML, and `key_faults.rt` which keys it
+//!   lacks and which values have the wrong type;
+//! - `kinds.rt` says that a text is in another's place, as a plan where the coterie has to be;
 //! - `text_faults.rt` names the voters and quorums of a coterie that are at fault;
 //! - `plan_faults.rt` has the values that a plan has to have, and `shape_faults.rt` the sizes that a
 //!   shape may have;
-//! - `input_parts.rt` finds the parts of an input. `show_places` finds lines, marks and brackets.
+//! - `input_parts.rt` finds the parts of an input, and `refused.rt` names places in it, by files if
+//!   files were named. `show_places` finds lines, marks, brackets and keys.
 //!
 //! # What is proved
 //!
@@ -19,7 +22,7 @@
 //! command takes the input. What else a page says is only tested.
 //!
 //! ```
-//! let page = fault_page(alloc, &Command::Plan, b"voters = [")?;
+//! let page = fault_page(alloc, &Command::Plan, b"voters = [", &[])?;
 //! // F1 NotToml
 //! //   in part 1, the coterie, which begins at line 1
 //! //   ..
@@ -29,8 +32,11 @@
 
 mod codes;
 mod input_parts;
+mod key_faults;
+mod kinds;
 mod page;
 mod plan_faults;
+mod refused;
 mod shape_faults;
 mod text_faults;
 mod toml_faults;

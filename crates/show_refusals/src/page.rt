@@ -5,8 +5,10 @@ ghost use Rattle.show_refusals.specs.Codes.{code_of};
 ghost use Rattle.show_refusals.specs.Pages.{IsFaultPage, IsTaken, MayTurnDown, NamesCode, is_outside};
 
 use crate::codes::code_of;
-use crate::input_parts::{lines_before, near_mark_before, part_in, part_name};
+use crate::input_parts::{near_mark_before, parts_of};
+use crate::kinds::push_wrong_beginning;
 use crate::plan_faults::{Parts, push_bad_numbers, push_plan_values};
+use crate::refused::{Refused, push_at, push_line_place, push_part};
 use crate::shape_faults::push_shape_fault;
 use crate::text_faults::push_file_fault;
 use certificate::PlanFault;
@@ -15,7 +17,7 @@ use construct::ConstructFault;
 use coterie_file::FileFault;
 use planner::{Cause, PlannerFault};
 use replay::ReplayFault;
-use show_places::{NearMark, is_unended, line_of, push_line};
+use show_places::{NearMark, is_unended, line_of, push_file, push_line};
 use std::alloc::{AllocError, Global};
 
 /// Serves a command of `qlock` other than `run` for an input, and throws the output away.
@@ -80,24 +82,8 @@ fn is_outside(fault: &Fault) -> bool
     )
 }
 
-/// The input that a command refused.
-#[derive(Clone, Copy)]
-struct Refused<'a> {
-    command: &'a Command,
-    input: &'a [u8],
-}
-
-/// Appends the place of a part.
-fn push_part(text: &mut String, refused: &Refused, number: usize) -> Result<(), AllocError> {
-    let name = part_name(refused.command, number);
-    let line = lines_before(refused.input, number).saturating_add(1);
-    write!(
-        text,
-        "  in part {number}, {name}, which begins at line {line}\n"
-    )
-}
-
-/// Appends what is not seen of a bad line: that it is empty, or has no newline.
+/// Appends what is not seen of a bad line: that it is empty, ends with another mark than a newline, or
+/// begins a part that the command does not read.
 fn push_unseen(
     text: &mut String,
     part: &[u8],
@@ -110,32 +96,47 @@ fn push_unseen(
     if is_unended(part, line) {
         return text.push_str("  the line has no newline at its end\n");
     }
+    if found.ends_with(b"\r") {
+        return text.push_str(
+            "  the line ends with a carriage return, \\r, and a newline: it has to end with a newline alone\n",
+        );
+    }
+    if found == b"%%".as_slice() {
+        return text.push_str("  this line begins one part more than the command reads\n");
+    }
     Ok(())
 }
 
-/// Appends a line of a part: its number in the whole input, and its text.
+/// Appends a line of a part: where it is, and its text.
 fn push_bad_line(
+    alloc: Global,
     text: &mut String,
     refused: &Refused,
     number: usize,
     line: usize,
 ) -> Result<(), AllocError> {
-    let name = part_name(refused.command, number);
-    let whole = lines_before(refused.input, number).saturating_add(line);
-    let part = part_in(refused.command, refused.input, number);
+    let name = refused.name(number);
+    let part = refused.part(number);
     if part.is_empty() {
-        return write!(text, "  at line {whole} of the input: {name} is empty\n");
+        push_at(text, refused.place(number, line))?;
+        return write!(text, ": {name} is empty\n");
     }
-    write!(
-        text,
-        "  at line {whole} of the input, line {line} of {name}: "
-    )?;
-    let Some(found) = line_of(part, line) else {
+    let found = line_of(part, line);
+    if found == Some(b"%%".as_slice()) && refused.has_more_files() {
+        // the line is between two files, and that there are too many was said
+        return Ok(());
+    }
+    push_line_place(text, refused, number, line)?;
+    let Some(found) = found else {
         return write!(text, "{name} ends before this line\n");
     };
     push_line(text, found)?;
     text.push('\n')?;
-    push_unseen(text, part, line, found)
+    push_unseen(text, part, line, found)?;
+    if line == 1 {
+        push_wrong_beginning(alloc, text, refused, number)?;
+    }
+    Ok(())
 }
 
 /// Returns the line of a plan whose value is wrong, if it is one.
@@ -167,12 +168,12 @@ fn push_plan_fault(
     fault: PlanFault,
 ) -> Result<(), AllocError> {
     match wrong_line(fault) {
-        Some(line) => push_bad_line(text, refused, 2, line)?,
+        Some(line) => push_bad_line(alloc, text, refused, 2, line)?,
         None => push_part(text, refused, 2)?,
     }
     let parts = Parts {
-        coterie: part_in(refused.command, refused.input, 1),
-        plan: part_in(refused.command, refused.input, 2),
+        coterie: refused.part(1),
+        plan: refused.part(2),
     };
     push_number_faults(text, parts.plan, fault)?;
     push_plan_values(alloc, text, &parts, fault)
@@ -223,12 +224,13 @@ fn push_record_fault(text: &mut String, fault: ReplayFault) -> Result<(), AllocE
 
 /// Appends what is wrong with a script or a record.
 fn push_replay_fault(
+    alloc: Global,
     text: &mut String,
     refused: &Refused,
     fault: ReplayFault,
 ) -> Result<(), AllocError> {
     match fault {
-        ReplayFault::BadLine(line) => push_bad_line(text, refused, 3, line),
+        ReplayFault::BadLine(line) => push_bad_line(alloc, text, refused, 3, line),
         _ => {
             push_part(text, refused, 3)?;
             push_record_fault(text, fault)
@@ -237,13 +239,19 @@ fn push_replay_fault(
 }
 
 /// Appends a line that is almost a separating line.
-fn push_near_mark(text: &mut String, near: NearMark) -> Result<(), AllocError> {
+fn push_near_mark(text: &mut String, refused: &Refused, near: NearMark) -> Result<(), AllocError> {
     let NearMark {
         line,
         text: found,
         is_ended,
     } = near;
-    write!(text, "  line {line} is almost one: `")?;
+    let place = refused.file_line(line);
+    write!(text, "  line {}", place.line)?;
+    if let Some(file) = place.file {
+        text.push_str(" of ")?;
+        push_file(text, file)?;
+    }
+    text.push_str(" is almost one: `")?;
     push_line(text, found)?;
     text.push_str(if is_ended {
         "`\n"
@@ -254,13 +262,18 @@ fn push_near_mark(text: &mut String, near: NearMark) -> Result<(), AllocError> {
 
 /// Appends which part is missing, and where a separating line was perhaps meant.
 fn push_missing(text: &mut String, refused: &Refused, number: usize) -> Result<(), AllocError> {
-    let name = part_name(refused.command, number);
+    let name = refused.name(number);
     write!(
         text,
-        "  part {number}, {name}, has to follow a line that is exactly %%\n"
+        "  part {number}, {name}, has to follow a line that is exactly %%"
     )?;
+    text.push_str(if refused.files.is_empty() {
+        "\n"
+    } else {
+        ", or to be one more file: -f FILE\n"
+    })?;
     match near_mark_before(refused.input, number) {
-        Some(near) => push_near_mark(text, near),
+        Some(near) => push_near_mark(text, refused, near),
         None => Ok(()),
     }
 }
@@ -273,8 +286,7 @@ fn push_coterie_text(
     fault: FileFault,
 ) -> Result<(), AllocError> {
     push_part(text, refused, 1)?;
-    let part = part_in(refused.command, refused.input, 1);
-    push_file_fault(alloc, text, part, fault)
+    push_file_fault(alloc, text, refused, fault)
 }
 
 /// Appends what is wrong with a coterie or a plan, or why no plan was found.
@@ -309,6 +321,20 @@ fn is_empty(refused: &Refused) -> bool {
     refused.input.is_empty() && !matches!(refused.command, Command::Make(_))
 }
 
+/// Appends that more files were named than the command takes, if it is so.
+fn push_file_count(text: &mut String, refused: &Refused) -> Result<(), AllocError> {
+    let most = parts_of(refused.command);
+    let named = refused.files.len();
+    if most == 0 || !refused.has_more_files() {
+        return Ok(());
+    }
+    let word = if most == 1 { "file" } else { "files" };
+    write!(
+        text,
+        "  the command takes {most} {word} at most, and {named} were named\n"
+    )
+}
+
 /// Appends where the fault is, and with which names.
 fn push_place(
     alloc: Global,
@@ -319,10 +345,11 @@ fn push_place(
     if is_empty(refused) {
         return text.push_str("  the input is empty\n");
     }
+    push_file_count(text, refused)?;
     match fault {
         Fault::MissingPart(number) => push_missing(text, refused, number),
         Fault::Input(fault) => push_input_fault(alloc, text, refused, fault),
-        Fault::Replay(fault) => push_replay_fault(text, refused, fault),
+        Fault::Replay(fault) => push_replay_fault(alloc, text, refused, fault),
         Fault::Construct(fault) => push_made(text, refused, fault),
         Fault::UnknownVoter(_)
         | Fault::NotBridged(..)
@@ -357,9 +384,16 @@ fn fault_words(alloc: Global, refused: &Refused, fault: Fault) -> Result<String,
     Ok(text)
 }
 
-/// Returns the page about the fault with which a command of `qlock` refuses an input. Fails only if
-/// memory runs out: the input is in memory and not too long, and no client runs.
-pub fn fault_page(alloc: Global, command: &Command, input: &[u8]) -> Result<String, AllocError>
+/// Returns the page about the fault with which a command of `qlock` refuses an input. If files were
+/// named whose texts are the input, in their order and with a line `%%` between them, the page names
+/// places in these files. Fails only if memory runs out: the input is in memory and not too long, and
+/// no client runs.
+pub fn fault_page(
+    alloc: Global,
+    command: &Command,
+    input: &[u8],
+    files: &[String],
+) -> Result<String, AllocError>
     requires { IsInRange command.now }
     ensures { IfOk result (λ page. IsFaultPage command.now input.now (string_bytes page)) }
 {
@@ -370,5 +404,10 @@ pub fn fault_page(alloc: Global, command: &Command, input: &[u8]) -> Result<Stri
     if is_outside(&fault) {
         return Err(AllocError);
     }
-    fault_words(alloc, &Refused { command, input }, fault)
+    let refused = Refused {
+        command,
+        input,
+        files,
+    };
+    fault_words(alloc, &refused, fault)
 }

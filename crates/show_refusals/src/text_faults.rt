@@ -1,8 +1,10 @@
 //! What is wrong with the text of a coterie, with its names.
-use crate::toml_faults::{push_keys, push_not_toml};
+use crate::key_faults::push_keys;
+use crate::refused::{Refused, push_found};
+use crate::toml_faults::push_not_toml;
 use coterie_file::{FileFault, NameLists};
 use quorum_set::CoterieFault;
-use show_places::push_line;
+use show_places::{item_line, push_line};
 use std::alloc::{AllocError, Global};
 
 /// Appends names with a comma between them, in braces.
@@ -57,7 +59,7 @@ fn repeated(names: &[String]) -> Option<&String> {
 }
 
 /// Appends a name of a quorum, if it is found.
-fn push_found(text: &mut String, name: Option<&String>) -> Result<(), AllocError> {
+fn push_name(text: &mut String, name: Option<&String>) -> Result<(), AllocError> {
     match name {
         Some(name) => {
             text.push_str(" \"")?;
@@ -82,10 +84,10 @@ fn push_member_fault(
     };
     if is_unknown {
         text.push_str(" lists a name that no voter has:")?;
-        push_found(text, unknown(lists, names.as_slice()))
+        push_name(text, unknown(lists, names.as_slice()))
     } else {
         text.push_str(" lists a voter twice:")?;
-        push_found(text, repeated(names.as_slice()))
+        push_name(text, repeated(names.as_slice()))
     }
 }
 
@@ -170,22 +172,40 @@ fn push_list_fault(
     }
 }
 
+/// Returns the line of the voter, the quorum or the capacity that a fault names, if it names one and it
+/// is found.
+fn fault_line(part: &[u8], fault: FileFault) -> Option<usize> {
+    match fault {
+        FileFault::BadName(number) | FileFault::RepeatedName(number) => {
+            item_line(part, "voters", number)
+        }
+        FileFault::UnknownName(number)
+        | FileFault::RepeatedMember(number)
+        | FileFault::Coterie(CoterieFault::EmptyQuorum(number)) => {
+            item_line(part, "quorums", number)
+        }
+        FileFault::BadCapacity(number) => item_line(part, "capacity", number),
+        _ => None,
+    }
+}
+
 /// Appends what is wrong with the lists of a text, on a line of its own.
 fn push_lists(
     alloc: Global,
     text: &mut String,
-    part: &[u8],
+    refused: &Refused,
     fault: FileFault,
 ) -> Result<(), AllocError> {
-    let Ok(part) = std::str::from_utf8(part) else {
+    let part = refused.part(1);
+    let Ok(document) = std::str::from_utf8(part) else {
         return Ok(());
     };
-    let lists = match NameLists::of(alloc, part) {
+    let lists = match NameLists::of(alloc, document) {
         Ok(lists) => lists,
         Err(FileFault::OutOfMemory) => return Err(AllocError),
         Err(_) => return Ok(()),
     };
-    text.push_str("  ")?;
+    push_found(text, refused, fault_line(part, fault))?;
     push_list_fault(text, &lists, fault)?;
     text.push('\n')
 }
@@ -194,12 +214,12 @@ fn push_lists(
 pub(crate) fn push_file_fault(
     alloc: Global,
     text: &mut String,
-    part: &[u8],
+    refused: &Refused,
     fault: FileFault,
 ) -> Result<(), AllocError> {
     match fault {
-        FileFault::NotToml => push_not_toml(alloc, text, part),
-        FileFault::Keys => push_keys(alloc, text, part),
-        _ => push_lists(alloc, text, part, fault),
+        FileFault::NotToml => push_not_toml(alloc, text, refused),
+        FileFault::Keys => push_keys(alloc, text, refused),
+        _ => push_lists(alloc, text, refused, fault),
     }
 }

@@ -1,5 +1,5 @@
 //! Which words name files, and how their texts become one input.
-use host::{push_part, split_words};
+use host::{Hint, hint_for, push_part, split_words};
 use std::alloc::{AllocError, Global};
 use std::test::Fail;
 
@@ -80,6 +80,25 @@ fn files_are_parts(rt: HostRuntime) -> Result<(), Fail> {
     for (parts, wanted) in &INPUTS {
         let input = input_of(rt.alloc(), parts)?;
         assert!(rt; input.as_slice() == wanted.as_bytes(), "{parts:?}");
+    }
+    Ok(())
+}
+
+/// The words of command lines with a word that was not expected, and the hint for them.
+const HINTS: [(&str, Hint); 6] = [
+    ("qlock|plan|wheel-3.toml", Hint::NoMark),
+    ("qlock|plan|-f", Hint::NoName),
+    ("qlock|-f", Hint::NoName),
+    ("qlock|plan|--|-f|wheel-3.toml", Hint::Ended),
+    ("qlock|plan|--|-f", Hint::Ended),
+    ("", Hint::NoMark),
+];
+
+#[test]
+fn words_have_hints(rt: HostRuntime) -> Result<(), Fail> {
+    for (line, hint) in &HINTS {
+        let words = words_of(rt.alloc(), line)?;
+        assert!(rt; hint_for(words.as_slice()) == *hint, "{line}");
     }
     Ok(())
 }

@@ -7,6 +7,7 @@
 //! - `words` has the words of the command line, and `files` has words that name files.
 //! - `explanations` has that each fault is explained, and `faults` has the line of each fault that the
 //!   planning library for C writes.
+//! - `listened` has writers whose reader is gone.
 //! - `places` finds lines, columns, marks and brackets.
 //!
 //! What contracts determine is not tested again, except by worked examples of the definitions.
@@ -22,6 +23,8 @@ mod faults;
 mod files;
 #[cfg(test)]
 mod guards;
+#[cfg(test)]
+mod listened;
 #[cfg(test)]
 mod places;
 #[cfg(test)]

@@ -1,5 +1,10 @@
 //! Where lines, marks and brackets are found in texts.
-use show_places::{is_unended, line_of, near_mark, position_of, unclosed_line};
+use show_places::{
+    file_line, is_unended, item_line, key_line, line_of, near_mark, position_of, push_file,
+    unclosed_line,
+};
+use std::alloc::{AllocError, Global};
+use std::test::Fail;
 
 /// Texts, the number of a line, the line with that number or `none`, and whether it is the last one
 /// and lacks its newline.
@@ -102,4 +107,75 @@ fn unclosed_brackets_are_found(rt: HostRuntime) {
     for (text, line) in &BRACKETS {
         assert!(rt; unclosed_in(text) == *line, "{text:?}");
     }
+}
+
+/// Texts, and the lines of their key `b` and of item 1 of its list, or 0.
+const KEYS: [(&str, (usize, usize)); 9] = [
+    ("a = 1\nb = [1, 2]\n", (2, 2)),
+    ("a = [\n\"b\",\n]\n \"b\" = [ # [1,\n  1,\n\n  [2,\n  3],\n]\n", (4, 7)),
+    ("b=[[1],\n[2, 3]]", (1, 2)),
+    ("a = [\n  [\"b\"],\n]\nbb = 1\n", (0, 0)),
+    ("'b' = 1\n", (1, 0)),
+    ("[b]\nc = 1\n", (1, 0)),
+    ("a = \"b = 1\"\n", (0, 0)),
+    ("b.c = [1]\n", (1, 0)),
+    ("", (0, 0)),
+];
+
+/// Returns the lines of the key `b` and of item 1 of its list, or 0.
+fn lines_in(text: &str) -> (usize, usize) {
+    let key = key_line(text.as_bytes(), "b").unwrap_or(0);
+    let item = item_line(text.as_bytes(), "b", 1).unwrap_or(0);
+    (key, item)
+}
+
+#[test]
+fn keys_and_items_are_found(rt: HostRuntime) {
+    for (text, lines) in &KEYS {
+        assert!(rt; lines_in(text) == *lines, "{text:?}");
+    }
+}
+
+/// Inputs, the names of their files with `|` between them, the number of a line, and its place in a
+/// file or in the whole input.
+const FILES: [(&str, &str, usize, &str); 9] = [
+    ("a\nb\n", "", 2, "input 2"),
+    ("a\nb\n", "x", 2, "x 2"),
+    ("a\n%%\nb\nc\n", "x", 4, "x 4"),
+    ("a\n%%\nb\nc\n", "x|-", 4, "standard input 2"),
+    ("a\n%%\n%%\nc\n", "x|y|z", 3, "y 1"),
+    ("a\n%%\n%%\nc\n", "x|y|z", 4, "z 1"),
+    ("a\n%%\nb\n%%\nc\n", "x|y", 1, "x 1"),
+    ("a\n%%\nb\n%%\nc\n", "x|y", 3, "input 3"),
+    ("a\n%%", "x\ny", 2, "\"x\\ny\" 2"),
+];
+
+/// Returns the names in a text, with `|` between them.
+fn names_in(alloc: Global, text: &str) -> Result<Vec<String>, AllocError> {
+    let mut names = Vec::new(alloc);
+    for name in text.split('|') {
+        if !name.is_empty() {
+            names.push(String::from_str(alloc, name)?)?;
+        }
+    }
+    Ok(names)
+}
+
+/// Returns the place of a line of an input: the name of its file, or `input`, and the number there.
+fn place_in(alloc: Global, input: &str, names: &str, line: usize) -> Result<String, AllocError> {
+    let names = names_in(alloc, names)?;
+    let place = file_line(input.as_bytes(), names.as_slice(), line);
+    let mut text = String::new(alloc);
+    push_file(&mut text, place.file.unwrap_or("input"))?;
+    write!(text, " {}", place.line)?;
+    Ok(text)
+}
+
+#[test]
+fn lines_are_in_files(rt: HostRuntime) -> Result<(), Fail> {
+    for (input, names, line, place) in &FILES {
+        let found = place_in(rt.alloc(), input, names, *line)?;
+        assert!(rt; found.as_str() == *place, "{input:?} {names}");
+    }
+    Ok(())
 }
