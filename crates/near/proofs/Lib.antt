@@ -1,0 +1,3 @@
+mod Bounds
+mod FaultSums
+mod Rounds

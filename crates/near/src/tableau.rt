@@ -1,0 +1,219 @@
+//! The tableau of the simplex method, in floating point.
+ghost use Rattle.std.specs.Prelude.{◌≡◌, ◌+◌, ◌<◌, ◌≤◌, length, vec_len, IfOk, IfSome};
+ghost use Rattle.std.specs.List.{All};
+ghost use Rattle.numbers.specs.Bounds.{max_quorums, max_voters};
+ghost use Rattle.quorum_set.specs.Capacities.{IsCapacity};
+
+use numbers::MAX_VOTERS;
+use quorum_set::{Coterie, QSet};
+use std::alloc::{AllocError, Global};
+
+/// The most pivots that are made.
+const PIVOTS: u32 = 10_000;
+
+/// The column of the right sides. Before it there is a column for the slack of each voter.
+const RIGHT: usize = MAX_VOTERS;
+
+/// By which part of a capacity each voter's is taken as greater than that of the voter before. So
+/// few rows limit a column equally, and the method does not turn in a circle.
+const TILT: f64 = 0.0000001;
+
+/// What is not above this is taken for a 0 that was rounded.
+const SMALLEST: f64 = 0.000000001;
+
+/// The numbers of a row: one for each column.
+pub(crate) type Cells = [f64; MAX_VOTERS + 1];
+
+/// The row of a voter. It says that the quorums with the voter, and its slack, sum to the right
+/// side.
+#[derive(Clone, Copy, Drop)]
+pub(crate) struct Row {
+    cells: Cells,
+    /// The column that the row is solved for: a quorum's number, or behind the quorums a voter's
+    /// slack.
+    basis: usize,
+}
+
+/// A column that may enter. It is the sum of the members' slacks.
+#[derive(Clone, Copy)]
+struct Column {
+    number: usize,
+    members: QSet,
+    /// By how much a unit of it improves the solution.
+    price: f64,
+}
+
+/// Returns the row of a voter before the first pivot. `basis` is the number of its slack.
+fn start_row(voter: usize, basis: usize, capacity: u64) -> Row
+    requires voter { voter < max_voters }
+    requires capacity { IsCapacity capacity }
+{
+    let mut cells = [0.0; MAX_VOTERS + 1];
+    cells[voter] = 1.0;
+    cells[RIGHT] = f64::from(capacity as u32) * (1.0 + TILT * f64::from(voter as u32));
+    Row { cells, basis }
+}
+
+/// Returns the rows before the first pivot: no quorum is used.
+pub(crate) fn start_rows(
+    alloc: Global,
+    quorums: usize,
+    capacities: &[u64],
+) -> Result<Vec<Row>, AllocError>
+    requires voters { length capacities.now ≤ max_voters }
+    requires quorums { quorums ≤ max_quorums }
+    requires capacities { All IsCapacity capacities.now }
+{
+    let mut rows = Vec::with_capacity(alloc, capacities.len())?;
+    for (voter, capacity) in capacities.iter().enumerate() {
+        rows.push(start_row(voter, quorums + voter, *capacity))?;
+    }
+    Ok(rows)
+}
+
+/// Returns the sum of the members' cells.
+fn sum_over(cells: &Cells, members: &QSet) -> f64 {
+    let mut sum = 0.0;
+    for voter in 0..MAX_VOTERS {
+        if members.has(voter as u8) {
+            sum += cells[voter];
+        }
+    }
+    sum
+}
+
+/// Divides the cells by a number.
+fn divide(cells: &mut Cells, divisor: f64) {
+    for cell in cells.iter_mut() {
+        *cell /= divisor;
+    }
+}
+
+/// Subtracts the other cells, times a number, from these.
+fn subtract(cells: &mut Cells, times: f64, other: &Cells) {
+    for column in 0..=RIGHT {
+        cells[column] -= times * other[column];
+    }
+}
+
+/// Returns the column of a voter's slack, of this number and price.
+fn slack(voter: usize, number: usize, price: f64) -> Column
+    requires { voter < max_voters }
+{
+    let mut members = QSet::empty();
+    let _ = members.insert(voter as u8);
+    Column {
+        number,
+        members,
+        price,
+    }
+}
+
+/// Returns the column of which a unit improves the solution most, if one does.
+fn entering(coterie: &Coterie, prices: &Cells) -> Option<Column> {
+    let mut best = None;
+    let mut most = SMALLEST;
+    for number in 0..coterie.count() {
+        let members = coterie.quorum(number).copy();
+        let price = 1.0 + sum_over(prices, &members);
+        if price > most {
+            most = price;
+            best = Some(Column {
+                number,
+                members,
+                price,
+            });
+        }
+    }
+    for voter in 0..coterie.voters() {
+        let price = prices[voter];
+        if price > most {
+            most = price;
+            best = Some(slack(voter, coterie.count() + voter, price));
+        }
+    }
+    best
+}
+
+/// Returns the number of the row that limits a column most, if one does.
+fn leaving(rows: &[Row], column: &Column) -> Option<usize>
+    ensures { IfSome result (λ number. number < length rows.now) }
+{
+    let mut best = None;
+    let mut least = 0.0;
+    for (number, row) in rows.iter().enumerate() {
+        let entry = sum_over(&row.cells, &column.members);
+        if entry > SMALLEST {
+            let limit = row.cells[RIGHT] / entry;
+            if best.is_none() || limit < least {
+                best = Some(number);
+                least = limit;
+            }
+        }
+    }
+    best
+}
+
+/// Solves a row for a column.
+fn pivot(rows: &mut [Row], prices: &mut Cells, number: usize, column: &Column)
+    requires { number < length rows.old }
+{
+    let mut solved = rows[number].cells;
+    let entry = sum_over(&solved, &column.members);
+    divide(&mut solved, entry);
+    for row in rows.iter_mut() {
+        let times = sum_over(&row.cells, &column.members);
+        subtract(&mut row.cells, times, &solved);
+    }
+    subtract(prices, column.price, &solved);
+    rows[number] = Row {
+        cells: solved,
+        basis: column.number,
+    };
+}
+
+/// Pivots until no column improves the solution, at most 10,000 times.
+pub(crate) fn improve(coterie: &Coterie, rows: &mut [Row], prices: &mut Cells) {
+    for _ in 0..PIVOTS {
+        let Some(column) = entering(coterie, prices) else {
+            return;
+        };
+        let Some(number) = leaving(rows, &column) else {
+            return;
+        };
+        pivot(rows, prices, number, &column);
+    }
+}
+
+/// Returns how much the solution uses each quorum.
+pub(crate) fn quorum_shares(
+    alloc: Global,
+    rows: &[Row],
+    quorums: usize,
+) -> Result<Vec<f64>, AllocError>
+    ensures { IfOk result (λ v. vec_len v ≡ quorums) }
+{
+    let mut shares = vec![in alloc; 0.0; quorums]?;
+    for row in rows {
+        if row.basis < shares.len() {
+            shares[row.basis] = row.cells[RIGHT];
+        }
+    }
+    Ok(shares)
+}
+
+/// Returns what a unit of each voter's capacity is worth to the solution.
+pub(crate) fn voter_shares(
+    alloc: Global,
+    prices: &Cells,
+    voters: usize,
+) -> Result<Vec<f64>, AllocError>
+    requires { voters ≤ max_voters }
+    ensures { IfOk result (λ v. vec_len v ≡ voters) }
+{
+    let mut shares = Vec::with_capacity(alloc, voters)?;
+    for voter in 0..voters {
+        shares.push(-prices[voter])?;
+    }
+    Ok(shares)
+}
