@@ -1,6 +1,6 @@
 -- The laws of plan texts: a plan that is read has this text, the text of a plan is read, and no text begins another.
-use Rattle.std.proofs.Common.{◌≡◌, ℕ, ◌+◌, ◌*◌, ◌<◌, ◌≤◌, ◌⊎◌, inl, inr, Bool, true, false, cond, eqb, List, [], ◌∷◌, ◌++◌, length, sum, Option, None, Some, Result, Ok, Err, sym}
-use Rattle.std.proofs.Common.{refl, ap, subst, ◌∙◌, arith, append_assoc, rules}
+use Rattle.std.proofs.Common.{◌≡◌, ℕ, ◌+◌, ◌<◌, ◌≤◌, ◌*◌, ◌⊎◌, inl, inr, Bool, true, false, cond, eqb, List, [], ◌∷◌, ◌++◌, length, sum, Option, None, Some, Result, Ok, Err, sym}
+use Rattle.std.proofs.Common.{refl, ap, ap₂, subst, ◌∙◌, arith, append_assoc, rules}
 use Rattle.std.specs.Prelude.{codes, IfOk}
 use Rattle.std.specs.List.{All, AllByRecursion}
 use Rattle.std.specs.Cmp.Lexicographic.{bytes_decides}
@@ -8,7 +8,6 @@ use Rattle.std.specs.Option.{option_or}
 use Rattle.std.proofs.lemmas.Bool.{eqb-true, eq-eqb, and_parts, not-false}
 use Rattle.std.proofs.lemmas.List.{nil_from_length, append-nil}
 use Rattle.std.proofs.lemmas.List.Sums.{sum_by-cons}
-use Rattle.std.specs.Fmt.{decimal}
 use Rattle.std.proofs.Math.Nat.{div-le_self, mul-le-mul}
 use Rattle.quorum_set.specs.Coteries.{QuorumSystem}
 use Rattle.quorum_set.specs.Capacities.{IsCapacity, are_unit}
@@ -16,19 +15,18 @@ use Rattle.numbers.proofs.Options.{option_or-None}
 use Rattle.certificate.specs.declared.fault.PlanFault.{PlanFault}
 use Rattle.certificate.specs.declared.fault.PlanFault.TheVariants.{BadText, WrongCapacity}
 use Rattle.divisor.specs.Gcd.{gcd_of}
-use Rattle.certificate.specs.Certificates.{Weighted, IsCertificate, cycle_len, cycle_ratio, load_of, weights_fault}
+use Rattle.certificate.specs.Certificates.{Weighted, IsCertificate, cycle_len, cycle_ratio, load_of, weights_fault, with_weights}
 use Rattle.texts.specs.Lines.{text_of_lines}
 use Rattle.certificate.specs.PlanTexts.{HasDigits, IsShort, PlanContents, contents_of, written_capacities, version_of, load_digits, title_line, load_line, cycle_line, weights_line}
 use Rattle.certificate.specs.PlanTexts.{capacity_lines, lines_of, plan_text, read_title, read_load, read_cycle, read_capacities, read_weights, line_at, capacities_at, ◌>>=◌}
-use Rattle.certificate.specs.PlanTexts.{contents_at, contents_fault, are_given, capacities_fault, unless_fault, judge_plan, with_weights_of, plan_at, UnlessOutOfMemory}
+use Rattle.certificate.specs.PlanTexts.{contents_at, head_fault, are_given, capacities_fault, unless_fault, judge_plan, plan_at, UnlessOutOfMemory}
 use Rattle.certificate.proofs.FaultLaws.{cond_Some-None, weights_fault-IsCertificate}
 use Rattle.certificate.proofs.Numbers.{HasDigits-small}
 use Rattle.certificate.proofs.RatioLemmas.{cycle_ratio-small}
 use Rattle.certificate.proofs.UnitCapacities.{cycle_ratio-are_unit}
 use Rattle.texts.proofs.CutLemmas.{Lacks}
-use Rattle.certificate.proofs.PlanLines.{read_title-Some, read_title-version, read_title-one, read_title-two, read_load-Some, read_load-load_line, read_cycle-Some}
-use Rattle.certificate.proofs.PlanLines.{read_cycle-cycle_line, IsCapacity-IsShort, read_capacities-Some, read_capacities-from_line, read_weights-Some, read_weights-weights_line}
-use Rattle.certificate.proofs.PlanLines.{Lacks-load, Lacks-cycle, Lacks-weights, line_at-Ok, line_at-append}
+use Rattle.certificate.proofs.PlanLines.{read_title-Some, read_title-one, read_title-two, read_load-Some, read_load-written, read_cycle-Some, read_cycle-written, IsCapacity-IsShort}
+use Rattle.certificate.proofs.PlanLines.{read_capacities-Some, read_capacities-written, read_weights-Some, read_weights-written, Lacks-load, Lacks-cycle, Lacks-weights, line_at-Ok, line_at-append}
 
 bind_Ok : {A B : Type 0} (r : Result A PlanFault) (f : A → Result B PlanFault) (y : B) → (r >>= f) ≡ Ok y → (x : A) × (r ≡ Ok x) × (f x ≡ Ok y)
 bind_Ok (Ok x) f y e = (x, refl, e)
@@ -47,12 +45,17 @@ AreWritten (Some capacities) = All IsCapacity capacities × (are_unit capacities
 abbrev contents_unless_more : ℕ → ℕ × ℕ → ℕ → Option (List ℕ) → List ℕ → List ℕ × List ℕ → Result PlanContents PlanFault
 contents_unless_more version l n c q v = cond (eqb (length v.1) 0) (Ok (record { load = l; cycle = n; capacities = c; quorum_weights = q; voter_weights = v.0 })) (Err (BadText (5 + version)))
 
--- a line that is read, before the text of other lines
-line_before : {X : Type 0} (k : ℕ) (read : List ℕ → Option X) (write : X → List ℕ) (text rest : List ℕ) (x : X) → ((line : List ℕ) (y : X) → read line ≡ Some y → line ≡ write y)
-    → line_at k read text ≡ Ok (x, rest) → (written : List ℕ) → rest ≡ written → text ≡ write x ++ 10 ∷ written
-line_before k read write text rest x is_so e written rest_is =
-    let line = line_at-Ok k read text (x, rest) e in
-    line.1 ∙ ap (λ l. l ++ 10 ∷ rest) (is_so line.0 x line.2) ∙ ap (λ r. write x ++ 10 ∷ r) rest_is
+-- a line, and more behind it
+abbrev line_and : List ℕ → List ℕ → List ℕ
+line_and line more = line ++ 10 ∷ more
+
+-- the line at the front of a text was read, and then the rest
+read_on : {X : Type 0} (k : ℕ) (read : List ℕ → Option X) (text : List ℕ) (next : X × List ℕ → Result PlanContents PlanFault) (t : PlanContents) → (line_at k read text >>= next) ≡ Ok t
+    → (x : X × List ℕ) × (line : List ℕ) × (text ≡ line ++ 10 ∷ x.1) × (read line ≡ Some x.0) × (next x ≡ Ok t)
+read_on k read text next t e =
+    let found = bind_Ok (line_at k read text) next t e in
+    let line = line_at-Ok k read text found.0 found.1 in
+    (found.0, line.0, line.1, line.2, found.2)
 
 -- the lines, and more behind them
 abbrev lines_and : List (List ℕ) → List ℕ → List ℕ
@@ -91,35 +94,6 @@ from_load version text = line_at 2 (read_load (load_digits version)) text >>= λ
 abbrev weights_lines : PlanContents → List (List ℕ)
 weights_lines t = weights_line (codes "quorum ") t.quorum_weights ∷ weights_line (codes "voter ") t.voter_weights ∷ []
 
-voters-Ok : (version : ℕ) (l : ℕ × ℕ) (n : ℕ) (c : Option (List ℕ)) (q text : List ℕ) (t : PlanContents) → from_voters version l n c q text ≡ Ok t
-    → (text ≡ text_of_lines (weights_line (codes "voter ") t.voter_weights ∷ [])) × (l ≡ t.load) × (n ≡ t.cycle) × (c ≡ t.capacities) × (q ≡ t.quorum_weights)
-voters-Ok version l n c q text t e =
-    let line = bind_Ok (line_at (4 + version) (read_weights (codes "voter ")) text) (contents_unless_more version l n c q) t e in
-    let made : PlanContents = record { load = l; cycle = n; capacities = c; quorum_weights = q; voter_weights = line.0.0 } in
-    let end = ended_Ok (eqb (length line.0.1) 0) (BadText (5 + version)) made t line.2 in
-    let is : text ≡ weights_line (codes "voter ") line.0.0 ++ 10 ∷ [] =
-    line_before (4 + version) (read_weights (codes "voter ")) (weights_line (codes "voter ")) text line.0.1 line.0.0 (read_weights-Some (codes "voter ")) line.1 []
-    (nil_from_length line.0.1 (eqb-true _ _ end.0)) in (
-      is ∙ ap (λ (u : PlanContents). weights_line (codes "voter ") u.voter_weights ++ 10 ∷ []) end.1,
-      ap (λ (u : PlanContents). u.load) end.1,
-      ap (λ (u : PlanContents). u.cycle) end.1,
-      ap (λ (u : PlanContents). u.capacities) end.1,
-      ap (λ (u : PlanContents). u.quorum_weights) end.1,
-    )
-
-quorums-Ok : (version : ℕ) (l : ℕ × ℕ) (n : ℕ) (c : Option (List ℕ)) (text : List ℕ) (t : PlanContents) → from_quorums version l n c text ≡ Ok t
-    → (text ≡ text_of_lines (weights_lines t)) × (l ≡ t.load) × (n ≡ t.cycle) × (c ≡ t.capacities)
-quorums-Ok version l n c text t e =
-    let line = bind_Ok (line_at (3 + version) (read_weights (codes "quorum ")) text) (λ quorums. from_voters version l n c quorums.0 quorums.1) t e in
-    let rest = voters-Ok version l n c line.0.0 line.0.1 t line.2 in
-    let after = text_of_lines (weights_line (codes "voter ") t.voter_weights ∷ []) in (
-      line_before (3 + version) (read_weights (codes "quorum ")) (weights_line (codes "quorum ")) text line.0.1 line.0.0 (read_weights-Some (codes "quorum ")) line.1 after rest.0
-          ∙ ap (λ q. weights_line (codes "quorum ") q ++ 10 ∷ after) rest.4,
-      rest.1,
-      rest.2,
-      rest.3,
-    )
-
 -- the capacities that are read are written so, in a text of that version
 capacities_at-Ok : (version : ℕ) (text : List ℕ) (x : Option (List ℕ) × List ℕ) → (version ≡ 1) ⊎ (version ≡ 2) → capacities_at version text ≡ Ok x
     → (text ≡ lines_and (capacity_lines x.0) x.1) × AreWritten x.0 × (version ≡ version_of x.0)
@@ -140,63 +114,56 @@ capacities_at-Ok version text x (inr two) e =
     pair : (y : List ℕ × List ℕ) → ◌≡◌ {A = Result (Option (List ℕ) × List ℕ) PlanFault} (Ok (Some y.0, y.1)) (Ok x) → (Some y.0, y.1) ≡ x
     pair y h = cc
 
-capacities-Ok : (version : ℕ) (l : ℕ × ℕ) (n : ℕ) (text : List ℕ) (t : PlanContents) → (version ≡ 1) ⊎ (version ≡ 2) → from_capacities version l n text ≡ Ok t
-    → (text ≡ text_of_lines (capacity_lines t.capacities ++ weights_lines t)) × (l ≡ t.load) × (n ≡ t.cycle) × AreWritten t.capacities × (version ≡ version_of t.capacities)
-capacities-Ok version l n text t known e =
-    let lines = bind_Ok (capacities_at version text) (λ capacities. from_quorums version l n capacities.0 capacities.1) t e in
-    let is = capacities_at-Ok version text lines.0 known lines.1 in
-    let rest = quorums-Ok version l n lines.0.0 lines.0.1 t lines.2 in (
-      is.0 ∙ ap (lines_and (capacity_lines lines.0.0)) rest.0 ∙ ap (λ c. lines_and (capacity_lines c) (text_of_lines (weights_lines t))) rest.3
-          ∙ sym (text_of_lines-capacity_lines t.capacities (weights_lines t)),
-      rest.1,
-      rest.2,
-      subst AreWritten rest.3 is.1,
-      is.2 ∙ ap version_of rest.3,
-    )
+-- the lines of these contents, one after the other, are their text
+joined : (t : PlanContents) (version : ℕ) (text title one load two cycle three four quorums five voters six : List ℕ)
+    → text ≡ line_and title one → title ≡ title_line version → version ≡ version_of t.capacities
+    → one ≡ line_and load two → load ≡ load_line t.load
+    → two ≡ line_and cycle three → cycle ≡ cycle_line t.cycle
+    → three ≡ lines_and (capacity_lines t.capacities) four
+    → four ≡ line_and quorums five → quorums ≡ weights_line (codes "quorum ") t.quorum_weights
+    → five ≡ line_and voters six → voters ≡ weights_line (codes "voter ") t.voter_weights → six ≡ []
+    → text ≡ text_of_lines (lines_of t)
+joined t version text title one load two cycle three four quorums five voters six e1 title_is version_is e2 load_is e3 cycle_is e4 e5 quorums_are e6 voters_are none =
+    let last = e6 ∙ ap₂ line_and voters_are none in
+    let weights = e5 ∙ ap₂ line_and quorums_are last in
+    let capacities = e4 ∙ ap (lines_and (capacity_lines t.capacities)) weights ∙ sym (text_of_lines-capacity_lines t.capacities (weights_lines t)) in
+    e1 ∙ ap₂ line_and (title_is ∙ ap title_line version_is) (e2 ∙ ap₂ line_and load_is (e3 ∙ ap₂ line_and cycle_is capacities))
 
-cycle-Ok : (version : ℕ) (l : ℕ × ℕ) (text : List ℕ) (t : PlanContents) → (version ≡ 1) ⊎ (version ≡ 2) → from_cycle version l text ≡ Ok t
-    → (text ≡ text_of_lines (cycle_line t.cycle ∷ (capacity_lines t.capacities ++ weights_lines t))) × (l ≡ t.load) × AreWritten t.capacities × (version ≡ version_of t.capacities)
-cycle-Ok version l text t known e =
-    let line = bind_Ok (line_at 3 read_cycle text) (λ cycle. from_capacities version l cycle.0 cycle.1) t e in
-    let rest = capacities-Ok version l line.0.0 line.0.1 t known line.2 in
-    let after = text_of_lines (capacity_lines t.capacities ++ weights_lines t) in (
-      line_before 3 read_cycle cycle_line text line.0.1 line.0.0 read_cycle-Some line.1 after rest.0 ∙ ap (λ n. cycle_line n ++ 10 ∷ after) rest.2,
-      rest.1,
-      rest.3,
-      rest.4,
-    )
-
-load_digits-few : (version : ℕ) → (0 < load_digits version) × (load_digits version ≤ 19)
-load_digits-few version = by (eqb version 1)
-  where
-    by : (b : Bool) → (0 < cond b 7 10) × (cond b 7 10 ≤ 19)
-    by true = (omega arith, omega arith)
-    by false = (omega arith, omega arith)
-
-load-Ok : (version : ℕ) (text : List ℕ) (t : PlanContents) → (version ≡ 1) ⊎ (version ≡ 2) → from_load version text ≡ Ok t
-    → (text ≡ text_of_lines (load_line t.load ∷ cycle_line t.cycle ∷ (capacity_lines t.capacities ++ weights_lines t))) × AreWritten t.capacities × (version ≡ version_of t.capacities)
-load-Ok version text t known e =
-    let line = bind_Ok (line_at 2 (read_load (load_digits version)) text) (λ load. from_cycle version load.0 load.1) t e in
-    let rest = cycle-Ok version line.0.0 line.0.1 t known line.2 in
-    let after = text_of_lines (cycle_line t.cycle ∷ (capacity_lines t.capacities ++ weights_lines t)) in
-    let few = load_digits-few version in (
-      line_before 2 (read_load (load_digits version)) load_line text line.0.1 line.0.0 (λ l x. read_load-Some (load_digits version) l x few.1) line.1 after rest.0
-          ∙ ap (λ l. load_line l ++ 10 ∷ after) rest.1,
-      rest.2,
-      rest.3,
-    )
+-- the same of equal contents
+same_joined : (text : List ℕ) (made t : PlanContents) → made ≡ t → (text ≡ text_of_lines (lines_of made)) × AreWritten made.capacities → (text ≡ text_of_lines (lines_of t)) × AreWritten t.capacities
+same_joined text made t e h = subst (λ (u : PlanContents). (text ≡ text_of_lines (lines_of u)) × AreWritten u.capacities) e h
 
 -- the text of what is read is the text that was read
 contents-Ok : (text : List ℕ) (t : PlanContents) → contents_at text ≡ Ok t → (text ≡ text_of_lines (lines_of t)) × AreWritten t.capacities
 unfolding contents_at
 contents-Ok text t e =
-    let line = bind_Ok (line_at 1 read_title text) (λ title. from_load title.0 title.1) t e in
-    let title = line_at-Ok 1 read_title text line.0 line.1 in
-    let rest = load-Ok line.0.0 line.0.1 t (read_title-version title.0 line.0.0 title.2) line.2 in
-    let after = text_of_lines (load_line t.load ∷ cycle_line t.cycle ∷ (capacity_lines t.capacities ++ weights_lines t)) in (
-      line_before 1 read_title title_line text line.0.1 line.0.0 read_title-Some line.1 after rest.0 ∙ ap (λ v. title_line v ++ 10 ∷ after) rest.2,
-      rest.1,
-    )
+    let title = read_on 1 read_title text (λ title. from_load title.0 title.1) t e in
+    let version = title.0.0 in
+    let title_is = read_title-Some title.1 version title.3 in
+    let load = read_on 2 (read_load (load_digits version)) title.0.1 (λ load. from_cycle version load.0 load.1) t title.4 in
+    let load_is = read_load-Some (load_digits version) load.1 load.0.0 load.3 in
+    let cycle = read_on 3 read_cycle load.0.1 (λ cycle. from_capacities version load.0.0 cycle.0 cycle.1) t load.4 in
+    let cycle_is = read_cycle-Some cycle.1 cycle.0.0 cycle.3 in
+    let capacities = bind_Ok (capacities_at version cycle.0.1) (λ capacities. from_quorums version load.0.0 cycle.0.0 capacities.0 capacities.1) t cycle.4 in
+    let c = capacities.0.0 in
+    let capacities_are = capacities_at-Ok version cycle.0.1 capacities.0 title_is.1 capacities.1 in
+    let quorums = read_on (3 + version) (read_weights (codes "quorum ")) capacities.0.1 (λ quorums. from_voters version load.0.0 cycle.0.0 c quorums.0 quorums.1) t capacities.2 in
+    let quorums_are = read_weights-Some (codes "quorum ") quorums.1 quorums.0.0 quorums.3 in
+    let voters = read_on (4 + version) (read_weights (codes "voter ")) quorums.0.1 (λ voters. contents_unless_more version load.0.0 cycle.0.0 c quorums.0.0 voters) t quorums.4 in
+    let voters_are = read_weights-Some (codes "voter ") voters.1 voters.0.0 voters.3 in
+    let made : PlanContents = record { load = load.0.0; cycle = cycle.0.0; capacities = c; quorum_weights = quorums.0.0; voter_weights = voters.0.0 } in
+    let end = ended_Ok (eqb (length voters.0.1) 0) (BadText (5 + version)) made t voters.4 in
+    let none : voters.0.1 ≡ [] = nil_from_length voters.0.1 (eqb-true (length voters.0.1) 0 end.0) in
+    let whole = joined made version text title.1 title.0.1 load.1 load.0.1 cycle.1 cycle.0.1 capacities.0.1 quorums.1 quorums.0.1 voters.1 voters.0.1 title.2 title_is.0 capacities_are.2 load.2 load_is.0
+    cycle.2 cycle_is.0 capacities_are.0 quorums.2 quorums_are.0 voters.2 voters_are.0 none in
+    same_joined text made t end.1 (whole, capacities_are.1)
+
+load_digits-few : (version : ℕ) → load_digits version ≤ 19
+load_digits-few version = by (eqb version 1)
+  where
+    by : (b : Bool) → cond b 7 10 ≤ 19
+    by true = omega arith
+    by false = omega arith
 
 -- what the lines tell has the digits of its line, and there is a quorum and a voter
 pub record IsWrittenAs (t : PlanContents) : Type 0 where
@@ -223,7 +190,7 @@ capacities_at-again (Some capacities) rest stated =
     let line = weights_line (codes "capacity ") capacities in
     let short = IsCapacity-IsShort capacities stated.0 in
     ap (λ r. r >>= λ x. Ok (Some x.0, x.1))
-    (line_at-append 4 read_capacities line rest capacities (read_capacities-from_line line capacities refl stated.0 stated.1) (Lacks-weights (codes "capacity ") capacities (search rules) short))
+    (line_at-append 4 read_capacities line rest capacities (read_capacities-written line capacities refl stated.0 stated.1) (Lacks-weights (codes "capacity ") capacities (search rules) short))
 
 -- the text of these contents is read as them, if nothing follows
 contents-again : (t : PlanContents) (more : List ℕ) → IsWrittenAs t
@@ -241,20 +208,20 @@ contents-again t more h =
     let rest3 = lines_and (capacity_lines c) rest4 in
     let rest2 = cycle_line t.cycle ++ 10 ∷ rest3 in
     let rest1 = load_line t.load ++ 10 ∷ rest2 in
-    let loads = Lacks-load t.load (HasDigits-small digits t.load.0 few.1 h.left) (HasDigits-small digits t.load.1 few.1 h.right) in
+    let loads = Lacks-load t.load (HasDigits-small digits t.load.0 few h.left) (HasDigits-small digits t.load.1 few h.right) in
     ap contents_at (text_of_lines-append (lines_of t) more)
     ∙ ap (λ r. contents_at (title_line version ++ 10 ∷ (load_line t.load ++ 10 ∷ (cycle_line t.cycle ++ 10 ∷ r)))) (lines_and-append (capacity_lines c) (weights_lines t) more)
     ∙ ap (λ r. r >>= λ title. from_load title.0 title.1) (line_at-append 1 read_title (title_line version) rest1 version (read_title-version_of c) (Lacks-title c))
     ∙ ap (λ r. r >>= λ load. from_cycle version load.0 load.1) (line_at-append 2 (read_load digits) (load_line t.load) rest2 t.load
-    (read_load-load_line digits t.load few.0 few.1 h.left h.right) loads)
+    (read_load-written digits (load_line t.load) t.load few refl h.left h.right) loads)
     ∙ ap (λ r. r >>= λ cycle. from_capacities version t.load cycle.0 cycle.1)
-    (line_at-append 3 read_cycle (cycle_line t.cycle) rest3 t.cycle (read_cycle-cycle_line t.cycle h.cycle) (Lacks-cycle t.cycle h.cycle))
+    (line_at-append 3 read_cycle (cycle_line t.cycle) rest3 t.cycle (read_cycle-written (cycle_line t.cycle) t.cycle refl h.cycle) (Lacks-cycle t.cycle h.cycle))
     ∙ ap (λ r. r >>= λ x. from_quorums version t.load t.cycle x.0 x.1) (capacities_at-again c rest4 h.stated)
     ∙ ap (λ r. r >>= λ q. from_voters version t.load t.cycle c q.0 q.1)
-    (line_at-append (3 + version) (read_weights (codes "quorum ")) quorums rest5 t.quorum_weights (read_weights-weights_line (codes "quorum ") t.quorum_weights h.some_quorum h.quorums)
+    (line_at-append (3 + version) (read_weights (codes "quorum ")) quorums rest5 t.quorum_weights (read_weights-written (codes "quorum ") quorums t.quorum_weights refl h.quorums h.some_quorum)
     (Lacks-weights (codes "quorum ") t.quorum_weights (search rules) h.quorums))
     ∙ ap (λ r. r >>= λ v. contents_unless_more version t.load t.cycle c t.quorum_weights v)
-    (line_at-append (4 + version) (read_weights (codes "voter ")) voters more t.voter_weights (read_weights-weights_line (codes "voter ") t.voter_weights h.some_voter h.voters)
+    (line_at-append (4 + version) (read_weights (codes "voter ")) voters more t.voter_weights (read_weights-written (codes "voter ") voters t.voter_weights refl h.voters h.some_voter)
     (Lacks-weights (codes "voter ") t.voter_weights (search rules) h.voters))
 
 -- no fault, so the value
@@ -262,15 +229,15 @@ unless_Ok : (o : Option PlanFault) (w p : Weighted) → unless_fault o w ≡ Ok 
 unless_Ok None w p e = (refl, cc)
 unless_Ok (Some d) w p e = cc
 
-same_lines : (w : Weighted) (t : PlanContents) → contents_fault w t ≡ None → (load_line t.load ≡ load_line (load_of w)) × (cycle_line t.cycle ≡ cycle_line (cycle_len w))
-same_lines w t none =
+-- a text without fault gives the plan's load and cycle
+same_head : (w : Weighted) (t : PlanContents) → head_fault w t.load t.cycle ≡ None → (t.load ≡ load_of w) × (t.cycle ≡ cycle_len w)
+same_head w t none =
     let one = cond_Some-None _ _ _ none in
     let two = cond_Some-None _ _ _ one.1 in
     let load = and_parts _ _ (not-false _ one.0) in
     let left : t.load.0 ≡ (load_of w).0 = sym (eqb-true _ _ load.0) in
     let right : t.load.1 ≡ (load_of w).1 = sym (eqb-true _ _ load.1) in
-    let cycle : t.cycle ≡ cycle_len w = sym (eqb-true _ _ (not-false _ two.0)) in
-    (ap (λ x. codes "load " ++ (decimal x ++ 47 ∷ decimal t.load.1)) left ∙ ap (λ y. codes "load " ++ (decimal (load_of w).0 ++ 47 ∷ decimal y)) right, ap cycle_line cycle)
+    (ap₂ (λ (p q : ℕ). (p, q)) left right, sym (eqb-true _ _ (not-false _ two.0)))
 
 -- a text that gives these capacities gives them as it is to
 same_capacities : (capacities : List ℕ) (c : Option (List ℕ)) → AreWritten c → are_given capacities c ≡ true → c ≡ written_capacities capacities
@@ -290,20 +257,17 @@ are_given-stated capacities = by (are_unit capacities) refl
 pub plan_at-Ok : (s : QuorumSystem) (capacities text : List ℕ) (p : Weighted) → plan_at s capacities text ≡ Ok p → (p.system ≡ s) × (p.capacities ≡ capacities) × (text ≡ plan_text p)
 unfolding plan_at
 plan_at-Ok s capacities text p e =
-    let stated = bind_Ok (contents_at text) (λ t. judge_plan (with_weights_of s capacities t) t) p e in
+    let stated = bind_Ok (contents_at text) (λ t. judge_plan (with_weights s capacities t.quorum_weights t.voter_weights) t) p e in
     let t = stated.0 in
-    let w = with_weights_of s capacities t in
-    let judge_plan = unless_Ok (option_or (capacities_fault capacities t) (option_or (weights_fault w) (contents_fault w t))) w p stated.2 in
-    let given = option_or-None (capacities_fault capacities t) (option_or (weights_fault w) (contents_fault w t)) judge_plan.0 in
-    let none = option_or-None (weights_fault w) (contents_fault w t) given.1 in
-    let same = same_lines w t none.1 in
-    let line = contents-Ok text t stated.1 in
-    let capacities_are = same_capacities capacities t.capacities line.1 (no_fault (are_given capacities t.capacities) given.0) in
-    let rewritten : text_of_lines (lines_of t) ≡ plan_text w =
-    ap (λ l. text_of_lines (title_line (version_of t.capacities) ∷ l ∷ cycle_line t.cycle ∷ (capacity_lines t.capacities ++ weights_lines t))) same.0
-    ∙ ap (λ l. text_of_lines (title_line (version_of t.capacities) ∷ load_line (load_of w) ∷ l ∷ (capacity_lines t.capacities ++ weights_lines t))) same.1
-    ∙ ap (λ c. text_of_lines (title_line (version_of c) ∷ load_line (load_of w) ∷ cycle_line (cycle_len w) ∷ (capacity_lines c ++ weights_lines t))) capacities_are in
-    (ap (λ v. v.system) (sym judge_plan.1), ap (λ v. v.capacities) (sym judge_plan.1), line.0 ∙ rewritten ∙ ap plan_text judge_plan.1)
+    let w = with_weights s capacities t.quorum_weights t.voter_weights in
+    let judged = unless_Ok (option_or (capacities_fault capacities t) (option_or (weights_fault w) (head_fault w t.load t.cycle))) w p stated.2 in
+    let given = option_or-None (capacities_fault capacities t) (option_or (weights_fault w) (head_fault w t.load t.cycle)) judged.0 in
+    let none = option_or-None (weights_fault w) (head_fault w t.load t.cycle) given.1 in
+    let head = same_head w t none.1 in
+    let whole = contents-Ok text t stated.1 in
+    let capacities_are = same_capacities capacities t.capacities whole.1 (no_fault (are_given capacities t.capacities) given.0) in
+    let same : t ≡ contents_of w = λ i. record { load = head.0 i; cycle = head.1 i; capacities = capacities_are i; quorum_weights = t.quorum_weights; voter_weights = t.voter_weights } in
+    (ap (λ v. v.system) (sym judged.1), ap (λ v. v.capacities) (sym judged.1), whole.0 ∙ ap (λ u. text_of_lines (lines_of u)) same ∙ ap plan_text judged.1)
   where
     no_fault : (b : Bool) → cond b None (Some WrongCapacity) ≡ None → b ≡ true
     no_fault true h = refl
@@ -362,7 +326,7 @@ IsWrittenAs-certificate w h =
 reported_again : (w : Weighted) → IsCertificate w → contents_at (plan_text w) ≡ Ok (contents_of w)
 reported_again w h = ap contents_at (sym (append-nil (plan_text w))) ∙ contents-again (contents_of w) [] (IsWrittenAs-certificate w h)
 
-fits_itself : (w : Weighted) → contents_fault w (contents_of w) ≡ None
+fits_itself : (w : Weighted) → head_fault w (load_of w) (cycle_len w) ≡ None
 fits_itself w = rw (eq-eqb (load_of w).0 (load_of w).0 refl, eq-eqb (load_of w).1 (load_of w).1 refl, eq-eqb (cycle_len w) (cycle_len w) refl) refl
 
 -- the text of a plan is read as this plan
@@ -370,9 +334,9 @@ pub plan_at-plan_text : (w : Weighted) → IsCertificate w → plan_at w.system 
 unfolding plan_at
 plan_at-plan_text w h =
     let t = contents_of w in
-    ap (λ r. r >>= λ t. judge_plan (with_weights_of w.system w.capacities t) t) (reported_again w h)
-    ∙ ap (λ b. unless_fault (option_or (cond b None (Some WrongCapacity)) (option_or (weights_fault w) (contents_fault w t))) w) (are_given-stated w.capacities)
-    ∙ ap (λ o. unless_fault (option_or o (contents_fault w t)) w) (weights_fault-IsCertificate w h)
+    ap (λ r. r >>= λ t. judge_plan (with_weights w.system w.capacities t.quorum_weights t.voter_weights) t) (reported_again w h)
+    ∙ ap (λ b. unless_fault (option_or (cond b None (Some WrongCapacity)) (option_or (weights_fault w) (head_fault w t.load t.cycle))) w) (are_given-stated w.capacities)
+    ∙ ap (λ o. unless_fault (option_or o (head_fault w t.load t.cycle)) w) (weights_fault-IsCertificate w h)
     ∙ ap (λ o. unless_fault o w) (fits_itself w)
 
 -- no spelling begins another

@@ -1,6 +1,6 @@
 -- The lines of a plan: each is the text of what is read from it, and each text is read.
-use Rattle.std.proofs.Common.{suc, ◌≡◌, ℕ, ◌<◌, ◌≤◌, ◌^◌, Bool, true, false, cond, ◌&&◌, eqb, leb, ◌⊎◌, inl, inr, List, [], ◌∷◌, ◌++◌, length, take, drop, map, Option, None, Some}
-use Rattle.std.proofs.Common.{Ok, sym, refl, ap, subst, ◌∙◌, arith, append_assoc, rules}
+use Rattle.std.proofs.Common.{◌≡◌, ℕ, ◌<◌, ◌≤◌, ◌^◌, Bool, true, false, cond, ◌&&◌, eqb, leb, ◌⊎◌, inl, inr, List, [], ◌∷◌, ◌++◌, length, take, drop, map, Option, None, Some}
+use Rattle.std.proofs.Common.{Ok, sym, refl, ap, ap₂, subst, ◌∙◌, arith, append_assoc, rules}
 use Rattle.std.specs.Prelude.{codes}
 use Rattle.std.specs.List.{All, slice_split, join_with_byte, AllByRecursion}
 use Rattle.std.specs.Option.{option_map, option_and_then, ok_or}
@@ -9,7 +9,7 @@ use Rattle.std.specs.Fmt.{decimal}
 use Rattle.std.proofs.lemmas.Bool.{and_parts, and_from, not-true, not_from_false, leb-true, le-leb}
 use Rattle.std.proofs.lemmas.Option.{cond_some, same_Some}
 use Rattle.std.proofs.lemmas.List.{take_at, drop_at, take-append-drop}
-use Rattle.std.proofs.lemmas.List.Elements.{All-nil, All-cons, recursion_from_All}
+use Rattle.std.proofs.lemmas.List.Elements.{recursion_from_All}
 use Rattle.std.proofs.lemmas.List.Sums.{AllPass-from_list_all, list_all-from_AllPass}
 use Rattle.std.proofs.lemmas.List.Splits.{join_with_byte-slice_split, length-slice_split}
 use Rattle.std.proofs.lemmas.Slice.Eq.{bytes_eq-Decides}
@@ -21,7 +21,7 @@ use Rattle.numbers.specs.Bounds.{max_capacity}
 use Rattle.numbers.proofs.Options.{and_then-Some, option_map-Some}
 use Rattle.quorum_set.specs.Capacities.{IsCapacity, are_unit}
 use Rattle.texts.specs.Cuts.{cut_at}
-use Rattle.certificate.proofs.Numbers.{HasDigits-small, number_of-Some, number_of-HasDigits, number_of-decimal}
+use Rattle.certificate.proofs.Numbers.{HasDigits-small, number_of-Some, number_of-decimal}
 use Rattle.texts.proofs.CutLemmas.{Lacks, Lacks-append, Lacks-decimal, Lacks-join, AllLack, cut_at-append, cut_at-Some, slice_split-join}
 
 -- one more number is written
@@ -33,18 +33,19 @@ with_spaces-push (x ∷ y ∷ ns) n some =
     ∙ sym (append_assoc (decimal x) (32 ∷ with_spaces (y ∷ ns)) (32 ∷ decimal n))
 
 -- words that are numbers are as they are written
-numbers_of-Some : (words : List (List ℕ)) (ns : List ℕ) → numbers_of words ≡ Some ns → words ≡ map decimal ns
-numbers_of-Some [] ns e = ap (map decimal) (same_Some [] ns e)
+numbers_of-Some : (words : List (List ℕ)) (ns : List ℕ) → numbers_of words ≡ Some ns → (words ≡ map decimal ns) × AllByRecursion IsShort ns
+numbers_of-Some [] ns e = subst (λ ms. ([] ≡ map decimal ms) × AllByRecursion IsShort ms) (same_Some [] ns e) (refl, tt)
 numbers_of-Some (word ∷ words) ns e =
     let first = and_then-Some (λ n. option_map (λ ns. n ∷ ns) (numbers_of words)) (number_of 7 word) ns e in
     let others = option_map-Some (λ ms. first.0 ∷ ms) (numbers_of words) ns first.2 in
-    let word_is = number_of-Some 7 word first.0 (omega arith) first.1 in
+    let word_is = number_of-Some 7 word first.0 first.1 in
     let words_are = numbers_of-Some words others.0 others.1 in
-    subst (λ ms. word ∷ words ≡ map decimal ms) others.2 (cc)
+    subst (λ ms. (word ∷ words ≡ map decimal ms) × AllByRecursion IsShort ms) others.2
+    (ap₂ (λ (w : List ℕ) (ws : List (List ℕ)). w ∷ ws) word_is.0 words_are.0, (word_is.1, words_are.1))
 
 numbers_of-decimal : (ns : List ℕ) → AllByRecursion IsShort ns → numbers_of (map decimal ns) ≡ Some ns
 numbers_of-decimal [] h = refl
-numbers_of-decimal (n ∷ ns) h = rw (number_of-decimal 7 n (omega arith) (omega arith) h.0, numbers_of-decimal ns h.1) refl
+numbers_of-decimal (n ∷ ns) h = rw (number_of-decimal 7 n (omega arith) h.0, numbers_of-decimal ns h.1) refl
 
 AllLack-decimal : (mark : ℕ) (ns : List ℕ) → mark < 48 → AllByRecursion IsShort ns → AllLack mark (map decimal ns)
 AllLack-decimal mark [] low h = tt
@@ -63,24 +64,19 @@ after_prefix-append word rest =
     ap (λ b. cond b (Some (drop (length word) (word ++ rest))) None) same ∙ ap Some (drop_at word rest (length word) refl)
 
 -- each line
-pub read_title-Some : (line : List ℕ) (version : ℕ) → read_title line ≡ Some version → line ≡ title_line version
+abbrev pub IsTitle : List ℕ → ℕ → Type 0
+IsTitle line version = (line ≡ title_line version) × ((version ≡ 1) ⊎ (version ≡ 2))
+
+pub read_title-Some : (line : List ℕ) (version : ℕ) → read_title line ≡ Some version → IsTitle line version
 read_title-Some line version e = by_first (bytes_eq line (title_line 1)) refl e
   where
-    by_second : (b : Bool) → bytes_eq line (title_line 2) ≡ b → cond b (Some 2) None ≡ Some version → line ≡ title_line version
-    by_second true same h = subst (λ v. line ≡ title_line v) (same_Some 2 version h) ((bytes_eq-Decides line (title_line 2)).0 same)
+    by_second : (b : Bool) → bytes_eq line (title_line 2) ≡ b → cond b (Some 2) None ≡ Some version → IsTitle line version
+    by_second true same h = subst (IsTitle line) (same_Some 2 version h) ((bytes_eq-Decides line (title_line 2)).0 same, inr refl)
     by_second false other h = cc
 
-    by_first : (b : Bool) → bytes_eq line (title_line 1) ≡ b → cond b (Some 1) (cond (bytes_eq line (title_line 2)) (Some 2) None) ≡ Some version → line ≡ title_line version
-    by_first true same h = subst (λ v. line ≡ title_line v) (same_Some 1 version h) ((bytes_eq-Decides line (title_line 1)).0 same)
+    by_first : (b : Bool) → bytes_eq line (title_line 1) ≡ b → cond b (Some 1) (cond (bytes_eq line (title_line 2)) (Some 2) None) ≡ Some version → IsTitle line version
+    by_first true same h = subst (IsTitle line) (same_Some 1 version h) ((bytes_eq-Decides line (title_line 1)).0 same, inl refl)
     by_first false other h = by_second (bytes_eq line (title_line 2)) refl h
-
-pub read_title-version : (line : List ℕ) (version : ℕ) → read_title line ≡ Some version → (version ≡ 1) ⊎ (version ≡ 2)
-read_title-version line version e = by (bytes_eq line (title_line 1)) (bytes_eq line (title_line 2)) e
-  where
-    by : (b c : Bool) → cond b (Some 1) (cond c (Some 2) None) ≡ Some version → (version ≡ 1) ⊎ (version ≡ 2)
-    by true c h = inl (sym (same_Some 1 version h))
-    by false true h = inr (sym (same_Some 2 version h))
-    by false false h = cc
 
 pub read_title-one : read_title (title_line 1) ≡ Some 1
 read_title-one = refl
@@ -88,66 +84,59 @@ read_title-one = refl
 pub read_title-two : read_title (title_line 2) ≡ Some 2
 read_title-two = refl
 
-pair_is : (a b : ℕ) (p : ℕ × ℕ) → (a, b) ≡ p → (a ≡ p.0) × (b ≡ p.1)
-pair_is a b p e = (ap (λ x. x.0) e, ap (λ x. x.1) e)
-
--- what the two sides of a load's line are
-record IsLoad (digits : ℕ) (line : List ℕ) (x : ℕ × ℕ) : Type 0 where
-  pub before : List ℕ
-  pub after : List ℕ
-  pub line_is : line ≡ codes "load " ++ (before ++ 47 ∷ after)
-  pub left : number_of digits before ≡ Some x.0
-  pub right : number_of digits after ≡ Some x.1
-
-read_load-IsLoad : (digits : ℕ) (line : List ℕ) (x : ℕ × ℕ) → read_load digits line ≡ Some x → IsLoad digits line x
-read_load-IsLoad digits line x e =
+pub read_load-Some : (digits : ℕ) (line : List ℕ) (x : ℕ × ℕ) → read_load digits line ≡ Some x → (line ≡ load_line x) × (HasDigits digits x.0 × HasDigits digits x.1)
+read_load-Some digits line x e =
     let word = and_then-Some (λ rest. option_and_then (read_pair digits) (cut_at 47 rest)) (after_prefix (codes "load ") line) x e in
     let sides = and_then-Some (read_pair digits) (cut_at 47 word.0) x word.2 in
     let left = and_then-Some (λ p. option_map (λ q. (p, q)) (number_of digits sides.0.1)) (number_of digits sides.0.0) x sides.2 in
     let right = option_map-Some (λ q. (left.0, q)) (number_of digits sides.0.1) x left.2 in
-    let parts = pair_is left.0 right.0 x right.2 in
-    record {
-      before = sides.0.0;
-      after = sides.0.1;
-      line_is = after_prefix-Some (codes "load ") line word.0 word.1 ∙ ap (λ t. codes "load " ++ t) (cut_at-Some 47 word.0 sides.0 sides.1);
-      left = left.1 ∙ ap Some parts.0;
-      right = right.1 ∙ ap Some parts.1;
-    }
+    let before = number_of-Some digits sides.0.0 left.0 left.1 in
+    let after = number_of-Some digits sides.0.1 right.0 right.1 in
+    subst (λ (y : ℕ × ℕ). (line ≡ load_line y) × (HasDigits digits y.0 × HasDigits digits y.1)) right.2 (
+      after_prefix-Some (codes "load ") line word.0 word.1
+          ∙ ap (λ t. codes "load " ++ t) (cut_at-Some 47 word.0 sides.0 sides.1)
+          ∙ ap₂ (λ (p q : List ℕ). codes "load " ++ (p ++ 47 ∷ q)) before.0 after.0,
+      (before.1, after.1),
+    )
 
-pub read_load-Some : (digits : ℕ) (line : List ℕ) (x : ℕ × ℕ) → digits ≤ 19 → read_load digits line ≡ Some x → line ≡ load_line x
-read_load-Some digits line x few e =
-    let h = read_load-IsLoad digits line x e in
-    h.line_is ∙ ap (λ t. codes "load " ++ (t ++ 47 ∷ h.after)) (number_of-Some digits h.before x.0 few h.left)
-    ∙ ap (λ t. codes "load " ++ (decimal x.0 ++ 47 ∷ t)) (number_of-Some digits h.after x.1 few h.right)
-
-pub read_load-load_line : (digits : ℕ) (x : ℕ × ℕ) → 0 < digits → digits ≤ 19 → HasDigits digits x.0 → HasDigits digits x.1 → read_load digits (load_line x) ≡ Some x
-read_load-load_line digits x some few left right =
+pub read_load-written : (digits : ℕ) (line : List ℕ) (x : ℕ × ℕ) → digits ≤ 19 → line ≡ load_line x → HasDigits digits x.0 → HasDigits digits x.1 → read_load digits line ≡ Some x
+read_load-written digits line x few e left right =
     let cut = cut_at-append 47 (decimal x.0) (decimal x.1) (Lacks-decimal 47 x.0 (omega arith) (HasDigits-small digits x.0 few left)) in
-    ap (option_and_then (λ rest. option_and_then (read_pair digits) (cut_at 47 rest))) (after_prefix-append (codes "load ") (decimal x.0 ++ 47 ∷ decimal x.1))
-    ∙ ap (option_and_then (read_pair digits)) cut ∙ rw (number_of-decimal digits x.0 some few left, number_of-decimal digits x.1 some few right) refl
+    ap (read_load digits) e
+    ∙ ap (option_and_then (λ rest. option_and_then (read_pair digits) (cut_at 47 rest))) (after_prefix-append (codes "load ") (decimal x.0 ++ 47 ∷ decimal x.1))
+    ∙ ap (option_and_then (read_pair digits)) cut ∙ rw (number_of-decimal digits x.0 few left, number_of-decimal digits x.1 few right) refl
 
-pub read_cycle-Some : (line : List ℕ) (n : ℕ) → read_cycle line ≡ Some n → line ≡ cycle_line n
+pub read_cycle-Some : (line : List ℕ) (n : ℕ) → read_cycle line ≡ Some n → (line ≡ cycle_line n) × IsShort n
 read_cycle-Some line n e =
     let word = and_then-Some (number_of 7) (after_prefix (codes "cycle ") line) n e in
-    after_prefix-Some (codes "cycle ") line word.0 word.1 ∙ ap (λ t. codes "cycle " ++ t) (number_of-Some 7 word.0 n (omega arith) word.2)
+    let number = number_of-Some 7 word.0 n word.2 in
+    (after_prefix-Some (codes "cycle ") line word.0 word.1 ∙ ap (λ t. codes "cycle " ++ t) number.0, number.1)
 
-pub read_cycle-cycle_line : (n : ℕ) → IsShort n → read_cycle (cycle_line n) ≡ Some n
-read_cycle-cycle_line n short =
-    ap (option_and_then (number_of 7)) (after_prefix-append (codes "cycle ") (decimal n)) ∙ number_of-decimal 7 n (omega arith) (omega arith) short
-
-pub read_weights-Some : (word line ns : List ℕ) → read_weights word line ≡ Some ns → line ≡ weights_line word ns
-read_weights-Some word line ns e =
-    let rest = and_then-Some (λ rest. numbers_of (slice_split (λ b. eqb b 32) rest)) (after_prefix word line) ns e in
-    after_prefix-Some word line rest.0 rest.1
-    ∙ ap (λ t. word ++ t) (sym (join_with_byte-slice_split 32 rest.0) ∙ ap (join_with_byte 32) (numbers_of-Some (slice_split (λ b. eqb b 32) rest.0) ns rest.2))
+pub read_cycle-written : (line : List ℕ) (n : ℕ) → line ≡ cycle_line n → IsShort n → read_cycle line ≡ Some n
+read_cycle-written line n e short =
+    ap read_cycle e ∙ ap (option_and_then (number_of 7)) (after_prefix-append (codes "cycle ") (decimal n)) ∙ number_of-decimal 7 n (omega arith) short
 
 some_words : (ns : List ℕ) → 0 < length ns → 0 < length (map decimal ns)
 some_words [] some = absurd (omega arith)
 some_words (n ∷ ns) some = omega arith
 
-pub read_weights-weights_line : (word ns : List ℕ) → 0 < length ns → AllByRecursion IsShort ns → read_weights word (weights_line word ns) ≡ Some ns
-read_weights-weights_line word ns some short =
-    ap (option_and_then (λ rest. numbers_of (slice_split (λ b. eqb b 32) rest))) (after_prefix-append word (with_spaces ns))
+some_numbers : (ns : List ℕ) → 0 < length (map decimal ns) → 0 < length ns
+some_numbers [] some = absurd (omega arith)
+some_numbers (n ∷ ns) some = omega arith
+
+pub read_weights-Some : (word line ns : List ℕ) → read_weights word line ≡ Some ns → (line ≡ weights_line word ns) × (AllByRecursion IsShort ns × (0 < length ns))
+read_weights-Some word line ns e =
+    let rest = and_then-Some (λ rest. numbers_of (slice_split (λ b. eqb b 32) rest)) (after_prefix word line) ns e in
+    let numbers = numbers_of-Some (slice_split (λ b. eqb b 32) rest.0) ns rest.2 in
+    let some = length-slice_split (λ b. eqb b 32) rest.0 in (
+      after_prefix-Some word line rest.0 rest.1 ∙ ap (λ t. word ++ t) (sym (join_with_byte-slice_split 32 rest.0) ∙ ap (join_with_byte 32) numbers.0),
+      (numbers.1, some_numbers ns (omega (arith, some, ap length numbers.0))),
+    )
+
+pub read_weights-written : (word line ns : List ℕ) → line ≡ weights_line word ns → AllByRecursion IsShort ns → 0 < length ns → read_weights word line ≡ Some ns
+read_weights-written word line ns e short some =
+    ap (read_weights word) e
+    ∙ ap (option_and_then (λ rest. numbers_of (slice_split (λ b. eqb b 32) rest))) (after_prefix-append word (with_spaces ns))
     ∙ ap numbers_of (slice_split-join (map decimal ns) (some_words ns some) (AllLack-decimal 32 ns (omega arith) short))
     ∙ numbers_of-decimal ns short
 
@@ -180,41 +169,6 @@ line_at-Ok {X} k read text x e =
 pub line_at-append : {X : Type 0} (k : ℕ) (read : List ℕ → Option X) (line rest : List ℕ) (x : X) → read line ≡ Some x → Lacks 10 line → line_at k read (line ++ 10 ∷ rest) ≡ Ok (x, rest)
 line_at-append k read line rest x is lacks = rw (cut_at-append 10 line rest lacks, is) refl
 
--- what is read has 1 to 7 digits
-pub read_load-HasDigits : (digits : ℕ) (line : List ℕ) (x : ℕ × ℕ) → read_load digits line ≡ Some x → HasDigits digits x.0 × HasDigits digits x.1
-read_load-HasDigits digits line x e =
-    let h = read_load-IsLoad digits line x e in
-    (number_of-HasDigits digits h.before x.0 h.left, number_of-HasDigits digits h.after x.1 h.right)
-
-pub read_cycle-IsShort : (line : List ℕ) (n : ℕ) → read_cycle line ≡ Some n → IsShort n
-read_cycle-IsShort line n e =
-    let word = and_then-Some (number_of 7) (after_prefix (codes "cycle ") line) n e in
-    number_of-HasDigits 7 word.0 n word.2
-
-numbers-short : (words : List (List ℕ)) (ns : List ℕ) → numbers_of words ≡ Some ns → All IsShort ns × (length ns ≡ length words)
-numbers-short [] ns e = subst (λ ns. All IsShort ns × (length ns ≡ 0)) (same_Some [] ns e) (All-nil IsShort, refl)
-numbers-short (word ∷ words) ns e =
-    let first = and_then-Some (λ n. option_map (λ ns. n ∷ ns) (numbers_of words)) (number_of 7 word) ns e in
-    let others = option_map-Some (λ ms. first.0 ∷ ms) (numbers_of words) ns first.2 in
-    let rest = numbers-short words others.0 others.1 in
-    subst (λ ms. All IsShort ms × (length ms ≡ suc (length words))) others.2
-    (All-cons IsShort first.0 others.0 (number_of-HasDigits 7 word first.0 first.1) rest.0, ap suc rest.1)
-
-pub read_weights-IsShort : (word line ns : List ℕ) → read_weights word line ≡ Some ns → All IsShort ns × (0 < length ns)
-read_weights-IsShort word line ns e =
-    let rest = and_then-Some (λ rest. numbers_of (slice_split (λ b. eqb b 32) rest)) (after_prefix word line) ns e in
-    let short = numbers-short (slice_split (λ b. eqb b 32) rest.0) ns rest.2 in
-    (short.0, omega (arith, short.1, length-slice_split (λ b. eqb b 32) rest.0))
-
-pub read_load-from_line : (digits : ℕ) (line : List ℕ) (x : ℕ × ℕ) → 0 < digits → digits ≤ 19 → line ≡ load_line x → HasDigits digits x.0 → HasDigits digits x.1 → read_load digits line ≡ Some x
-read_load-from_line digits line x some few e left right = ap (read_load digits) e ∙ read_load-load_line digits x some few left right
-
-pub read_cycle-from_line : (line : List ℕ) (n : ℕ) → line ≡ cycle_line n → IsShort n → read_cycle line ≡ Some n
-read_cycle-from_line line n e short = ap read_cycle e ∙ read_cycle-cycle_line n short
-
-pub read_weights-from_line : (word line ns : List ℕ) → line ≡ weights_line word ns → All IsShort ns → 0 < length ns → read_weights word line ≡ Some ns
-read_weights-from_line word line ns e short some = ap (read_weights word) e ∙ read_weights-weights_line word ns some (recursion_from_All IsShort ns short)
-
 -- a line of capacities
 have_a_line-IsCapacity : (ns : List ℕ) → have_a_line ns ≡ true → All IsCapacity ns × (are_unit ns ≡ false)
 have_a_line-IsCapacity ns e =
@@ -238,12 +192,12 @@ pub read_capacities-Some : (line ns : List ℕ) → read_capacities line ≡ Som
 read_capacities-Some line ns e =
     let found = and_then-Some (λ numbers. cond (have_a_line numbers) (Some numbers) None) (read_weights (codes "capacity ") line) ns e in
     let parts = cond_some (have_a_line found.0) found.0 ns found.2 in (
-      read_weights-Some (codes "capacity ") line found.0 found.1 ∙ ap (weights_line (codes "capacity ")) parts.1,
+      (read_weights-Some (codes "capacity ") line found.0 found.1).0 ∙ ap (weights_line (codes "capacity ")) parts.1,
       subst (λ ms. All IsCapacity ms × (are_unit ms ≡ false)) parts.1 (have_a_line-IsCapacity found.0 parts.0),
     )
 
-pub read_capacities-from_line : (line ns : List ℕ) → line ≡ weights_line (codes "capacity ") ns → All IsCapacity ns → are_unit ns ≡ false → read_capacities line ≡ Some ns
-read_capacities-from_line line ns e each some =
+pub read_capacities-written : (line ns : List ℕ) → line ≡ weights_line (codes "capacity ") ns → All IsCapacity ns → are_unit ns ≡ false → read_capacities line ≡ Some ns
+read_capacities-written line ns e each some =
     ap (option_and_then (λ numbers. cond (have_a_line numbers) (Some numbers) None))
-    (ap (read_weights (codes "capacity ")) e ∙ read_weights-weights_line (codes "capacity ") ns (some_capacity ns some) (IsCapacity-IsShort ns each))
+    (read_weights-written (codes "capacity ") line ns e (IsCapacity-IsShort ns each) (some_capacity ns some))
     ∙ ap (λ b. cond b (Some ns) None) (IsCapacity-have_a_line ns each some)

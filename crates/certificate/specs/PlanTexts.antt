@@ -9,10 +9,9 @@
 --
 -- A number has 1 to 7 decimal digits and no leading zero. The load of version 2 has numbers of 1 to
 -- 10 digits, and a capacity is 1 to 1000.
-use Rattle.std.specs.Prelude.{◌<◌, ◌≡◌, ℕ, ◌+◌, ◌^◌, Bool, true, false, not, ◌&&◌, ◌||◌, ◌==◌, nat_lt, nat_le, if◌then◌else◌, List, [], ◌∷◌, ◌++◌, length, take, drop, map, slice_index, codes, Option, None, Some, Result, Ok, Err, option_map, option_and_then}
+use Rattle.std.specs.Prelude.{◌<◌, ◌≡◌, ℕ, ◌+◌, ◌^◌, Bool, true, false, not, ◌&&◌, ◌==◌, nat_lt, nat_le, if◌then◌else◌, List, [], ◌∷◌, ◌++◌, length, take, drop, map, codes, Option, None, Some, Result, Ok, Err, option_map, option_and_then}
 use Rattle.std.specs.Option.{option_or, ok_or}
 use Rattle.std.specs.List.{list_all, slice_split, join_with_byte}
-use Rattle.std.specs.Char.{is_ascii_digit}
 use Rattle.std.specs.Cmp.Lexicographic.{pointwise}
 use Rattle.std.specs.Str.{bytes_eq}
 use Rattle.std.specs.Str.Parse.{digits_value}
@@ -26,7 +25,7 @@ use Rattle.texts.specs.Cuts.{cut_at}
 use Rattle.texts.specs.Lines.{text_of_lines}
 use Rattle.certificate.specs.declared.fault.PlanFault.{PlanFault}
 use Rattle.certificate.specs.declared.fault.PlanFault.TheVariants.{BadText, WrongCapacity, WrongLoad, WrongCycle, OutOfMemory}
-use Rattle.certificate.specs.Certificates.{Weighted, cycle_len, load_of, weights_fault}
+use Rattle.certificate.specs.Certificates.{Weighted, cycle_len, load_of, weights_fault, with_weights}
 
 -- the values in the lines of a text; version 1 has no capacities
 pub record PlanContents : Type 0 where
@@ -108,16 +107,11 @@ plan_text w = text_of_lines (lines_of (contents_of w))
 
 -- Reading
 
--- whether the bytes are a number: one digit or more up to this many, without a leading zero
-abbrev pub is_number : ℕ → List ℕ → Bool
-is_number digits bytes =
-    nat_lt 0 (length bytes)
-    && (nat_le (length bytes) digits
-    && ((length bytes == 1 || not (slice_index bytes 0 == 48)) && list_all is_ascii_digit bytes))
-
--- the number of at most this many digits that these bytes are, if they are one
-abbrev pub number_of : ℕ → List ℕ → Option ℕ
-number_of digits bytes = if is_number digits bytes then Some (digits_value 10 bytes) else None
+-- the number of at most this many digits whose text the bytes are, if there is one
+unfoldable pub number_of : ℕ → List ℕ → Option ℕ
+number_of digits bytes =
+    let n = digits_value 10 bytes in
+    if bytes_eq bytes (decimal n) && nat_lt n (10 ^ digits) then Some n else None
 
 -- the numbers of 1 to 7 digits that the words are, if each is one
 abbrev pub numbers_of : List (List ℕ) → Option (List ℕ)
@@ -178,33 +172,13 @@ capacities_at version text =
     if version == 1 then Ok (None, text)
     else line_at 4 read_capacities text >>= λ x. Ok (Some x.0, x.1)
 
--- whether there is a number, and the test holds for it
-abbrev pub option_holds : (ℕ → Bool) → Option ℕ → Bool
-option_holds test None = false
-option_holds test (Some n) = test n
-
--- whether the word is a number from `least` to `most`
-abbrev pub is_within : ℕ → ℕ → List ℕ → Bool
-is_within least most word = option_holds (λ n. nat_le least n && nat_le n most) (number_of 7 word)
-
--- whether each word is a number from `least` to `most`
-abbrev pub are_within : ℕ → ℕ → List (List ℕ) → Bool
-are_within least most words = list_all (λ word. is_within least most word) words
-
--- the numbers, or none
-abbrev pub or_none : Option (List ℕ) → List ℕ
-or_none None = []
-or_none (Some numbers) = numbers
-
--- the weights in the first line of a text, after this word; none if they are not there
-abbrev pub first_weights : List ℕ → List ℕ → List ℕ
-first_weights word text = or_none (option_and_then (λ cut. read_weights word cut.0) (cut_at 10 text))
-
--- the capacities in the first line of a text of version 2; none if they are not there
-abbrev pub first_capacities : ℕ → List ℕ → Option (List ℕ)
-first_capacities version text =
-    if version == 1 then None
-    else Some (or_none (option_and_then (λ cut. read_capacities cut.0) (cut_at 10 text)))
+-- what follows the first three lines, or the first bad line among them
+unfoldable pub behind_cycle : List ℕ → Result (List ℕ) PlanFault
+behind_cycle text = do
+  title ← line_at 1 read_title text
+  load ← line_at 2 (read_load (load_digits title.0)) title.1
+  cycle ← line_at 3 read_cycle load.1
+  Ok cycle.1
 
 -- the values of a text, or its first bad line
 unfoldable pub contents_at : List ℕ → Result PlanContents PlanFault
@@ -231,10 +205,6 @@ head_fault w load cycle =
     if not (((load_of w).0 == load.0) && ((load_of w).1 == load.1)) then Some WrongLoad else
     if not (cycle_len w == cycle) then Some WrongCycle else None
 
--- the same for all values of a text
-abbrev pub contents_fault : Weighted → PlanContents → Option PlanFault
-contents_fault w t = head_fault w t.load t.cycle
-
 -- the value, or the fault if there is one
 abbrev pub unless_fault : Option PlanFault → Weighted → Result Weighted PlanFault
 unless_fault None w = Ok w
@@ -252,16 +222,12 @@ capacities_fault capacities t = if are_given capacities t.capacities then None e
 -- the plan, or the first fault: of the text's capacities, of its weights, then of its other values
 abbrev pub judge_plan : Weighted → PlanContents → Result Weighted PlanFault
 judge_plan w t =
-    unless_fault (option_or (capacities_fault w.capacities t) (option_or (weights_fault w) (contents_fault w t))) w
-
--- a system of quorums and capacities with the weights of a text
-abbrev pub with_weights_of : QuorumSystem → List ℕ → PlanContents → Weighted
-with_weights_of s capacities t =
-    record { system = s; capacities = capacities; quorum_weights = t.quorum_weights; voter_weights = t.voter_weights }
+    unless_fault (option_or (capacities_fault w.capacities t) (option_or (weights_fault w) (head_fault w t.load t.cycle))) w
 
 -- the plan of a coterie and capacities that the text describes, or the first fault
 unfoldable pub plan_at : QuorumSystem → List ℕ → List ℕ → Result Weighted PlanFault
-plan_at s capacities text = contents_at text >>= λ t. judge_plan (with_weights_of s capacities t) t
+plan_at s capacities text =
+    contents_at text >>= λ t. judge_plan (with_weights s capacities t.quorum_weights t.voter_weights) t
 
 -- the fault is out of memory
 abbrev pub is_out_of_memory : PlanFault → Bool

@@ -73,18 +73,18 @@ pub fn certificates_have_no_fault()
         → (weights_fault w ≡ None) ↔ IsCertificate w }
 {}
 
-/// Bytes are read as a number of at most this many digits, 1 to 19, if and only if they are its
+/// Bytes are read as a number of at most this many digits, up to 19, if and only if they are its
 /// decimal text and it has no more digits.
 pub fn numbers_have_one_text()
-    ensures { (digits : ℕ) (bytes : List ℕ) (n : ℕ) → 0 < digits → digits ≤ 19
+    ensures { (digits : ℕ) (bytes : List ℕ) (n : ℕ) → digits ≤ 19
         → (number_of digits bytes ≡ Some n) ↔ ((bytes ≡ decimal n) × HasDigits digits n) }
 {}
 
 /// A line is read as a load, a cycle's length, capacities, or weights after their word if and only
 /// if it is the line that is written for these. Its numbers have at most 7 digits, and those of a
-/// load at most `digits`, which is 1 to 19. Capacities are 1 to 1000, and some is not 1.
+/// load at most `digits`, which is up to 19. Capacities are 1 to 1000, and some is not 1.
 pub fn lines_are_read_as_written()
-    ensures load { (digits : ℕ) (line : List ℕ) (load : ℕ × ℕ) → 0 < digits → digits ≤ 19
+    ensures load { (digits : ℕ) (line : List ℕ) (load : ℕ × ℕ) → digits ≤ 19
         → (read_load digits line ≡ Some load)
         ↔ ((line ≡ load_line load) × (HasDigits digits load.0 × HasDigits digits load.1)) }
     ensures cycle { (line : List ℕ) (n : ℕ) → (read_cycle line ≡ Some n) ↔ ((line ≡ cycle_line n) × IsShort n) }

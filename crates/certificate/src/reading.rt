@@ -1,9 +1,9 @@
 //! Reading the text of a plan.
-ghost use Rattle.std.specs.Prelude.{◌≡◌, ◌<◌, ◌≤◌, ◌==◌, true, IfOk, IfErr, option_map, is_some, is_ok};
+ghost use Rattle.std.specs.Prelude.{◌≡◌, ◌≤◌, ◌==◌, IfOk, option_map};
 ghost use Rattle.std.specs.List.{slice_split};
 ghost use Rattle.quorum_set.specs.Capacities.{AreCapacities};
 ghost use Rattle.certificate.specs.Certificates.{Weighted, IsCertificate, IsOptimal};
-ghost use Rattle.certificate.specs.PlanTexts.{plan_text, number_of, numbers_of, after_prefix, are_given, are_in_range, have_a_line, capacities_at, load_digits, read_title, read_pair, read_load, read_cycle, read_capacities, read_weights, line_at, is_within, are_within, first_weights, first_capacities, contents_at, head_fault, plan_at, Answers, Gives, UnlessOutOfMemory, RefusesAs};
+ghost use Rattle.certificate.specs.PlanTexts.{plan_text, number_of, numbers_of, after_prefix, are_given, are_in_range, have_a_line, capacities_at, load_digits, read_title, read_pair, read_load, read_cycle, read_capacities, read_weights, line_at, contents_at, head_fault, plan_at, behind_cycle, Answers, Gives, UnlessOutOfMemory, RefusesAs};
 ghost use Rattle.certificate.specs.ReadLines.{contents_read};
 
 use crate::fault::PlanFault;
@@ -15,9 +15,6 @@ use texts::cut_at;
 
 /// The most digits of a number, except in the load of a text of version 2.
 const DIGITS: u32 = 7;
-
-/// The greatest number of 7 digits.
-const MOST: u64 = 9_999_999;
 
 /// The values in the lines of a text, before they are checked.
 #[derive(Drop)]
@@ -33,7 +30,6 @@ struct Lines {
 /// Returns the number that the bytes are, or `None` if they are not a number of at most this many
 /// digits. Numbers of 19 digits are below 2^64.
 fn number(bytes: &[u8], digits: u32) -> Option<u64>
-    requires some { 0 < digits }
     requires few { digits ≤ 19 }
     ensures { result ≡ number_of digits bytes.now }
 {
@@ -71,7 +67,6 @@ fn after_prefix<'a>(word: &[u8], line: &'a [u8]) -> Option<&'a [u8]>
 }
 
 fn pair(before: &[u8], after: &[u8], digits: u32) -> Option<(u64, u64)>
-    requires some { 0 < digits }
     requires few { digits ≤ 19 }
     ensures { result ≡ read_pair digits (before.now, after.now) }
 {
@@ -82,7 +77,6 @@ fn pair(before: &[u8], after: &[u8], digits: u32) -> Option<(u64, u64)>
 }
 
 fn load(line: &[u8], digits: u32) -> Option<(u64, u64)>
-    requires some { 0 < digits }
     requires few { digits ≤ 19 }
     ensures { result ≡ read_load digits line.now }
 {
@@ -150,14 +144,12 @@ fn title_line(text: &[u8]) -> Result<(usize, &[u8]), PlanFault>
 /// Returns the most digits of a number in the load's line of a text of this version.
 fn load_digits(version: usize) -> u32
     ensures digits { result ≡ load_digits version }
-    ensures some { 0 < result }
     ensures few { result ≤ 19 }
 {
     if version == 1 { DIGITS } else { 10 }
 }
 
 fn load_line(text: &[u8], digits: u32) -> Result<((u64, u64), &[u8]), PlanFault>
-    requires some { 0 < digits }
     requires few { digits ≤ 19 }
     ensures { Answers (λ x. (x.0, x.1.now)) result (line_at 2 (read_load digits) text.now) }
 {
@@ -227,98 +219,11 @@ fn capacity_lines(
     Ok((Some(capacities), rest))
 }
 
-/// Returns whether the word is a number from `least` to `most`.
-fn is_within(word: &[u8], least: u64, most: u64) -> bool
-    ensures { result ≡ is_within least most word.now }
-{
-    match number(word, DIGITS) {
-        Some(value) => least <= value && value <= most,
-        None => false,
-    }
-}
-
-/// Returns whether each word between the spaces is a number from `least` to `most`.
-fn are_within(text: &[u8], least: u64, most: u64) -> bool
-    ensures { result ≡ are_within least most (slice_split (λ b. b == 32) text.now) }
-{
-    let mut rest = text;
-    'words: while let Some((word, after)) = cut_at(rest, b' ') {
-        if !is_within(word, least, most) {
-            return false;
-        }
-        rest = after;
-    }
-    is_within(rest, least, most)
-}
-
-/// Returns whether the line is a line of weights after this word.
-fn is_weights_line(word: &[u8], line: &[u8]) -> bool
-    ensures { result ≡ is_some (read_weights word.now line.now) }
-{
-    match after_prefix(word, line) {
-        Some(rest) => are_within(rest, 0, MOST),
-        None => false,
-    }
-}
-
-/// Returns whether the line is a line of capacities, not all of them 1.
-fn is_capacity_line(line: &[u8]) -> bool
-    ensures { result ≡ is_some (read_capacities line.now) }
-{
-    match after_prefix(b"capacity ", line) {
-        Some(rest) => are_within(rest, 1, MAX_CAPACITY) && !are_within(rest, 1, 1),
-        None => false,
-    }
-}
-
-/// Returns the text after its line of weights.
-fn after_weights<'a>(number: usize, word: &[u8], text: &'a [u8]) -> Result<&'a [u8], PlanFault>
-    ensures { Answers (λ rest. (first_weights word.now text.now, rest.now)) result
-        (line_at number (read_weights word.now) text.now) }
-{
-    match cut_at(text, b'\n') {
-        Some((line, rest)) if is_weights_line(word, line) => Ok(rest),
-        _ => Err(PlanFault::BadText { line: number }),
-    }
-}
-
-/// Returns the text after its line of capacities, which a text of version 1 does not have.
-fn after_capacities(version: usize, text: &[u8]) -> Result<&[u8], PlanFault>
-    ensures { Answers (λ rest. (first_capacities version text.now, rest.now)) result
-        (capacities_at version text.now) }
-{
-    if version == 1 {
-        return Ok(text);
-    }
-    match cut_at(text, b'\n') {
-        Some((line, rest)) if is_capacity_line(line) => Ok(rest),
-        _ => Err(PlanFault::BadText { line: 4 }),
-    }
-}
-
-/// Finds the first bad line, without memory.
-#[tactic(auto, unfolding(crate::specs::PlanTexts::contents_at))]
-fn check_lines(text: &[u8]) -> Result<(), PlanFault>
-    ensures good { IfOk result (λ done. is_ok (contents_at text.now) ≡ true) }
-    ensures bad { IfErr result (λ fault. contents_at text.now ≡ Err fault) }
-{
-    let (version, rest) = title_line(text)?;
-    let (_, rest) = load_line(rest, load_digits(version))?;
-    let (_, rest) = cycle_line(rest)?;
-    let rest = after_capacities(version, rest)?;
-    let rest = after_weights(3 + version, b"quorum ", rest)?;
-    let rest = after_weights(4 + version, b"voter ", rest)?;
-    if rest.is_empty() {
-        Ok(())
-    } else {
-        Err(PlanFault::BadText { line: 5 + version })
-    }
-}
-
 /// Returns the values of the lines, or the first bad line.
-#[tactic(auto, unfolding(crate::specs::PlanTexts::contents_at))]
-fn lines_of_text(alloc: Global, text: &[u8]) -> Result<Lines, PlanFault>
-    ensures { Gives contents_read result (contents_at text.now) }
+#[tactic(auto, unfolding(crate::specs::PlanTexts::behind_cycle, crate::specs::PlanTexts::contents_at))]
+fn read_lines(alloc: Global, text: &[u8]) -> Result<Lines, PlanFault>
+    ensures exact { Gives contents_read result (contents_at text.now) }
+    ensures first { RefusesAs (behind_cycle text.now) result }
 {
     let (version, rest) = title_line(text)?;
     let (load, rest) = load_line(rest, load_digits(version))?;
@@ -336,16 +241,6 @@ fn lines_of_text(alloc: Global, text: &[u8]) -> Result<Lines, PlanFault>
         quorum_weights,
         voter_weights,
     })
-}
-
-/// Returns the values of the lines, or the first bad line. Only a text without a bad line takes
-/// memory.
-fn read_lines(alloc: Global, text: &[u8]) -> Result<Lines, PlanFault>
-    ensures exact { Gives contents_read result (contents_at text.now) }
-    ensures format { RefusesAs (contents_at text.now) result }
-{
-    check_lines(text)?;
-    lines_of_text(alloc, text)
 }
 
 /// Returns whether a text with these capacities, or with none, gives the voters' capacities.
@@ -381,7 +276,7 @@ fn plan_of_text(
 ) -> Result<Plan, PlanFault>
     requires capacities { AreCapacities capacities.now coterie.now.voters }
     ensures exact { UnlessOutOfMemory result (plan_at coterie.now capacities.now text.now) }
-    ensures format { RefusesAs (contents_at text.now) result }
+    ensures first { RefusesAs (behind_cycle text.now) result }
     ensures certificate { IfOk result IsCertificate }
 {
     let lines = read_lines(alloc, text)?;
@@ -435,7 +330,7 @@ fn plan_of_text(
 /// - `WrongLoad` if the load is not the weights' load in lowest terms;
 /// - `WrongCycle` if the cycle's length is not the sum of the quorums' weights.
 ///
-/// It may run out of memory only if the text is in the format: `BadText` never needs memory.
+/// Memory may run out at any point after the first three lines.
 pub fn read_plan(
     alloc: Global,
     coterie: &Coterie,
@@ -451,8 +346,8 @@ pub fn read_plan(
         → text.now ≡ plan_text w → UnlessOutOfMemory result (Ok w) }
     // The result is the plan or the first fault, by the definition.
     ensures exact { UnlessOutOfMemory result (plan_at coterie.now capacities.now text.now) }
-    // A text that is not in the format is refused before anything is allocated.
-    ensures format { RefusesAs (contents_at text.now) result }
+    // The first three lines are read before any memory is allocated.
+    ensures first { RefusesAs (behind_cycle text.now) result }
     ensures certificate { IfOk result IsCertificate }
     ensures optimal { IfOk result IsOptimal }
 {
