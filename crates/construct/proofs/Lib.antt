@@ -1,8 +1,10 @@
 pub mod SetLemmas
+pub mod FewLemmas
 pub mod Quorums
 pub mod GridLemmas
 pub mod WheelLemmas
 pub mod CyclicLemmas
 pub mod TreeLemmas
 pub mod MajorityLemmas
-pub mod Combinations
+pub mod CentreLemmas
+pub mod VoteLemmas

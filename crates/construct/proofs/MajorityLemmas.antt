@@ -1,13 +1,18 @@
--- The majorities of n voters are a coterie.
-use Rattle.std.proofs.Common.{ap, ◌++◌, ◌≡◌, ℕ, ◌+◌, ◌/◌, ◌<◌, ◌≤◌, true, false, eqb, leb, List, [], ◌∷◌, length, get_or, map, zero, suc, sym, refl, ◌∙◌, inl, inr, arith, length-append}
+-- Sets of one size, of more than half of the voters, are a coterie.
+use Rattle.std.proofs.Common.{ap, ◌++◌, ◌≡◌, ℕ, ◌+◌, ◌*◌, ◌/◌, ◌<◌, ◌≤◌, true, false, ◌||◌, cond, eqb, leb, List, [], ◌∷◌, length, get_or, map, zero, suc, sym, refl, ap₂, subst, ◌∙◌, inl, inr, arith, length-append, Result, Ok, Err, IfErr}
 use Rattle.std.specs.List.{All, AllPairs, Contains}
-use Rattle.std.proofs.lemmas.Bool.{true≢false, leb-true, or_right, cases_eq, cases_lt, agree_below_at}
+use Rattle.std.proofs.lemmas.Bool.{true≢false, leb-true, le-ltb, lt-leb, ne_eqb, or_right, cases_eq, cases_lt, agree_below_at}
 use Rattle.std.proofs.lemmas.List.{length-map, get_or-map}
 use Rattle.std.proofs.lemmas.List.Elements.{All-nil, All-cons, All-append, All-map, Contains-append_left, Contains-append_right}
 use Rattle.numbers.specs.Sets.{has, Ascends, IsSet}
-use Rattle.quorum_set.specs.Coteries.{IsCoterie}
+use Rattle.quorum_set.specs.Coteries.{IsCoterie, QuorumSystem}
 use Rattle.numbers.proofs.SetLemmas.{Ascends-lower, has-below, has-above, has-head, has-tail, length-Ascends}
-use Rattle.construct.specs.Majority.{sets_from, choose, majority_quorums, majority_system}
+use Rattle.construct.specs.Any.{is_bad_size, any_system, any_at}
+use Rattle.construct.specs.Majority.{sets_from, choose, majority_system, majority_at}
+use Rattle.construct.specs.declared.fault.ConstructFault.{ConstructFault}
+use Rattle.construct.specs.declared.fault.ConstructFault.TheVariants.{BadSize, TooLarge}
+use Rattle.construct.specs.Answers.{few}
+use Rattle.construct.proofs.FewLemmas.{coterie_at-small, few-is, few-small}
 use Rattle.numbers.proofs.Meetings.{All-members}
 use Rattle.construct.proofs.Quorums.{IsQuorum, IsCoterie-from, IsCrossing-from, AllPairs-append}
 use Rattle.construct.proofs.TreeLemmas.{AllPairs-map}
@@ -17,7 +22,7 @@ pub record IsChoice (low n k : ℕ) (s : List ℕ) : Type 0 where
   pub ascends : Ascends low (low + n) s
   pub long : length s ≡ k
 
-Ascends-below : (low high more : ℕ) (s : List ℕ) → high ≤ more → Ascends low high s → Ascends low more s
+pub Ascends-below : (low high more : ℕ) (s : List ℕ) → high ≤ more → Ascends low high s → Ascends low more s
 Ascends-below low high more [] le h = tt
 Ascends-below low high more (x ∷ xs) le h = (h.0, omega (arith, h.1), Ascends-below (x + 1) high more xs le h.2)
 
@@ -89,7 +94,7 @@ length-sets_from low (suc n) (suc k) =
       length-sets_from (low + 1) n (suc k),
     )
 
-has_from : (low high : ℕ) (s : List ℕ) (v : ℕ) → Ascends low high s → has s v ≡ true → (low ≤ v) × (v < high)
+pub has_from : (low high : ℕ) (s : List ℕ) (v : ℕ) → Ascends low high s → has s v ≡ true → (low ≤ v) × (v < high)
 has_from low high s v h there = (
   elim (cases_lt v low) as (λ _. low ≤ v) [
     | inl below ↦ absurd (true≢false (sym there ∙ has-below low high s v h below))
@@ -105,7 +110,7 @@ has_later : (x : ℕ) (xs : List ℕ) (v : ℕ) → has xs v ≡ true → has (x
 has_later x xs v there = or_right (eqb x v) (has xs v) there
 
 -- two sets with more members together than there are numbers meet
-Ascends-common : (n low : ℕ) (s t : List ℕ) → Ascends low (low + n) s → Ascends low (low + n) t → n < length s + length t → (v : ℕ) × (has s v ≡ true) × (has t v ≡ true)
+pub Ascends-common : (n low : ℕ) (s t : List ℕ) → Ascends low (low + n) s → Ascends low (low + n) t → n < length s + length t → (v : ℕ) × (has s v ≡ true) × (has t v ≡ true)
 Ascends-common n low [] t hs ht more = absurd (omega (arith, length-Ascends low (low + n) t (omega arith) ht))
 Ascends-common n low (x ∷ xs) [] hs ht more = absurd (omega (arith, length-Ascends low (low + n) (x ∷ xs) (omega arith) hs))
 Ascends-common zero low (x ∷ xs) (y ∷ ys) hs ht more = absurd (omega (arith, hs.0, hs.1))
@@ -163,9 +168,9 @@ Ascends-longer_has_other (suc n) low (x ∷ xs) (y ∷ ys) hs ht more =
     ]
 
 -- each of the sets has a member that the other has not
-record IsApart (s t : List ℕ) : Type 0 where
-  left : (v : ℕ) × (has s v ≡ true) × (has t v ≡ false)
-  right : (v : ℕ) × (has t v ≡ true) × (has s v ≡ false)
+pub record IsApart (s t : List ℕ) : Type 0 where
+  pub left : (v : ℕ) × (has s v ≡ true) × (has t v ≡ false)
+  pub right : (v : ℕ) × (has t v ≡ true) × (has s v ≡ false)
 
 apart_with : (low n k : ℕ) (s t : List ℕ) → IsChoice (low + 1) n k s → IsChoice (low + 1) n k t → IsApart s t → IsApart (low ∷ s) (low ∷ t)
 apart_with low n k s t a b apart =
@@ -185,7 +190,7 @@ apart_without low n k s t a b =
       right = (v, v_t, has-tail low s v (λ e. omega arith) ∙ v_s);
     }
 
-apart_choices : (low n k : ℕ) → AllPairs IsApart (sets_from low n k)
+pub apart_choices : (low n k : ℕ) → AllPairs IsApart (sets_from low n k)
 unfolding sets_from
 apart_choices low n zero = λ a b d before lt. absurd (omega arith)
 apart_choices low zero (suc k) = λ a b d before lt. absurd (omega arith)
@@ -205,7 +210,7 @@ few_majorities : (n : ℕ) → n < 15 → choose n (n / 2 + 1) ≤ 4096
 unfolding choose
 few_majorities n lt = leb-true (choose n (n / 2 + 1)) 4096 (agree_below_at (λ m. leb (choose m (m / 2 + 1)) 4096) (λ m. true) 15 n refl lt)
 
-some_sets : (low n k : ℕ) → k ≤ n → 0 < length (sets_from low n k)
+pub some_sets : (low n k : ℕ) → k ≤ n → 0 < length (sets_from low n k)
 unfolding sets_from
 some_sets low n zero le = omega arith
 some_sets low zero (suc k) le = absurd (omega arith)
@@ -223,23 +228,63 @@ IsSet-choice n k s few choice = Ascends-below 0 (0 + n) 64 s (omega arith) choic
 pub All-IsChoice : (n k : ℕ) (s : List ℕ) → IsChoice 0 n k s → All (λ i. i < n) s
 All-IsChoice n k s choice = All-members (λ i. i < n) s (λ v there. omega (arith, (has_from 0 (0 + n) s v choice.ascends there).1))
 
-IsQuorum-choice : (n k : ℕ) (s : List ℕ) → n ≤ 64 → IsChoice 0 n (k + 1) s → IsQuorum n s
+IsQuorum-choice : (n k : ℕ) (s : List ℕ) → n ≤ 64 → IsChoice 0 n (suc k) s → IsQuorum n s
 IsQuorum-choice n k s few choice = record {
-  set = IsSet-choice n (k + 1) s few choice;
+  set = IsSet-choice n (suc k) s few choice;
   not_empty = omega (arith, choice.long);
-  in_range = All-IsChoice n (k + 1) s choice;
+  in_range = All-IsChoice n (suc k) s choice;
 }
 
-pub majority_is_coterie : (n : ℕ) → 0 < n → n ≤ 14 → IsCoterie (majority_system n)
-majority_is_coterie n some few =
-    let k = n / 2 + 1 in
-    let list = majority_quorums n in
-    let all = IsChoice-sets_from 0 n k in
-    IsCoterie-from n list some (omega arith) (some_sets 0 n k (omega arith)) (omega (arith, length-sets_from 0 n k, few_majorities n (omega arith)))
-    (λ j d lt. IsQuorum-choice n (n / 2) (get_or list j d) (omega arith) (all j d lt))
+pub any_is_coterie : (size n : ℕ) → size ≤ n → n < 2 * size → n ≤ 64 → length (sets_from 0 n size) ≤ 4096 → IsCoterie (any_system size n)
+any_is_coterie zero n le more few few_sets = absurd (omega arith)
+any_is_coterie (suc k) n le more few few_sets =
+    let list = sets_from 0 n (suc k) in
+    let all = IsChoice-sets_from 0 n (suc k) in
+    IsCoterie-from n list (omega arith) few (some_sets 0 n (suc k) le) few_sets
+    (λ j d lt. IsQuorum-choice n k (get_or list j d) few (all j d lt))
     (λ a b d before lt.
     let first = all a d (omega arith) in
     let second = all b d lt in
     let (v, v_s, v_t) = Ascends-common n 0 (get_or list a d) (get_or list b d) first.ascends second.ascends (omega (arith, first.long, second.long)) in
-    let apart = apart_choices 0 n k a b d before lt in
+    let apart = apart_choices 0 n (suc k) a b d before lt in
     IsCrossing-from (get_or list a d) (get_or list b d) v apart.left.0 apart.right.0 v_s v_t apart.left.1 apart.left.2 apart.right.1 apart.right.2)
+
+pub majority_is_coterie : (n : ℕ) → 0 < n → n ≤ 14 → IsCoterie (majority_system n)
+majority_is_coterie n some few =
+    any_is_coterie (n / 2 + 1) n (omega arith) (omega arith) (omega arith)
+    (omega (arith, length-sets_from 0 n (n / 2 + 1), few_majorities n (omega arith)))
+
+-- up to 14 voters have few majorities
+pub any_at_majority : (n : ℕ) → n ≤ 14 → any_at (n / 2 + 1) n ≡ majority_at n
+any_at_majority zero few = refl
+any_at_majority (suc k) few =
+    let n = suc k in
+    let size = n / 2 + 1 in
+    let good : is_bad_size size n ≡ false = ap₂ (λ a b. a || b) (le-ltb n size (omega arith)) (lt-leb (2 * size) n (omega arith)) in
+    let small = few-small (sets_from 0 n size) (omega (arith, length-sets_from 0 n size, few_majorities n (omega arith))) in
+    coterie_at-small (is_bad_size size n) n (sets_from 0 n size) (sets_from 0 n size) good (omega arith) small
+    ∙ sym (ap₂ (λ b l. cond b (Err BadSize) (cond l (Err TooLarge) (Ok (majority_system n)))) (ne_eqb n 0 (λ e. omega arith)) (le-ltb 14 n few))
+
+pub majority_sizes : (n : ℕ) (r : Result QuorumSystem ConstructFault) → n ≤ 14 → (is_bad_size (n / 2 + 1) n ≡ true → r ≡ Err BadSize) → IfErr (majority_at n) (λ fault. r ≡ Err fault)
+majority_sizes zero r few bad = bad refl
+majority_sizes (suc k) r few bad =
+    let n = suc k in
+    let is : majority_at n ≡ Ok (majority_system n) =
+    ap₂ (λ b l. cond b (Err BadSize) (cond l (Err TooLarge) (Ok (majority_system n)))) (ne_eqb n 0 (λ e. omega arith)) (le-ltb 14 n few) in
+    let P : Result QuorumSystem ConstructFault → Type 0 = λ w. IfErr w (λ fault. r ≡ Err fault) in
+    subst P (sym is) tt
+
+-- sets of one size are sets
+pub IsSet-sets_from : (low n k : ℕ) → low + n ≤ 64 → All IsSet (sets_from low n k)
+IsSet-sets_from low n k le = λ j d lt.
+    Ascends-below 0 (low + n) 64 (get_or (sets_from low n k) j d) le
+    (Ascends-lower low 0 (low + n) (get_or (sets_from low n k) j d) (omega arith) (IsChoice-sets_from low n k j d lt).ascends)
+
+pub good_size : (size n : ℕ) → size ≤ n → n < 2 * size → is_bad_size size n ≡ false
+good_size size n le more = ap₂ (λ a b. a || b) (le-ltb n size le) (lt-leb (2 * size) n more)
+
+pub any_made : (size n : ℕ) (list : List (List ℕ)) → size ≤ n → n < 2 * size → n ≤ 64 → few (sets_from 0 n size) ≡ Ok list → IsCoterie (record { voters = n; quorums = list })
+any_made size n list le more small e =
+    let is = few-is (sets_from 0 n size) list e in
+    let P : List (List ℕ) → Type 0 = λ qs. IsCoterie (record { voters = n; quorums = qs }) in
+    subst P is.0 (any_is_coterie size n le more small is.1)

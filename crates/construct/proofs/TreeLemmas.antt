@@ -158,16 +158,16 @@ with_cases i s v there =
       | inr later ↦ inr later
     ]
 
-union_first : (p q : List ℕ) (v : ℕ) → IsSet p → has p v ≡ true → has (union p q) v ≡ true
+pub union_first : (p q : List ℕ) (v : ℕ) → IsSet p → has p v ≡ true → has (union p q) v ≡ true
 union_first p q v set there = has-set_where (λ w. has p w || has q w) v (has_below p v set there) ∙ or_left (has p v) (has q v) there
 
-union_second : (p q : List ℕ) (v : ℕ) → IsSet q → has q v ≡ true → has (union p q) v ≡ true
+pub union_second : (p q : List ℕ) (v : ℕ) → IsSet q → has q v ≡ true → has (union p q) v ≡ true
 union_second p q v set there = has-set_where (λ w. has p w || has q w) v (has_below q v set there) ∙ or_right (has p v) (has q v) there
 
-union_off : (p q : List ℕ) (v : ℕ) → has p v ≡ false → has q v ≡ false → has (union p q) v ≡ false
+pub union_off : (p q : List ℕ) (v : ℕ) → has p v ≡ false → has q v ≡ false → has (union p q) v ≡ false
 union_off p q v first second = has-failed (λ w. has p w || has q w) v (or_from (has p v) (has q v) first second)
 
-union_cases : (p q : List ℕ) (v : ℕ) → has (union p q) v ≡ true → (has p v ≡ true) ⊎ (has q v ≡ true)
+pub union_cases : (p q : List ℕ) (v : ℕ) → has (union p q) v ≡ true → (has p v ≡ true) ⊎ (has q v ≡ true)
 union_cases p q v there = or_cases (has p v) (has q v) (has-passed (λ w. has p w || has q w) v there).1
 
 -- the quorums of a node are sets of nodes under it
@@ -278,7 +278,7 @@ AllPairs-map R f (x ∷ xs) pairs =
     AllPairs-cons R (f x) (map f xs) (All-map (R (f x)) f xs (λ j d lt. pairs 0 (suc j) d (omega arith) (omega arith)))
     (AllPairs-map R f xs (λ a b d before lt. pairs (suc a) (suc b) d (omega arith) (omega arith)))
 
-AllPairs-flat_map : {X Y : Type 0} (R : Y → Y → Type 0) (f : X → List Y) (xs : List X) → All (λ x. AllPairs R (f x)) xs → AllPairs (λ x y. All (λ a. All (R a) (f y)) (f x)) xs
+pub AllPairs-flat_map : {X Y : Type 0} (R : Y → Y → Type 0) (f : X → List Y) (xs : List X) → All (λ x. AllPairs R (f x)) xs → AllPairs (λ x y. All (λ a. All (R a) (f y)) (f x)) xs
     → AllPairs R (flat_map f xs)
 AllPairs-flat_map R f [] inner outer = λ a b d before lt. absurd (omega arith)
 AllPairs-flat_map R f (x ∷ xs) inner outer =

@@ -45,7 +45,11 @@ fn push_unions_with(quorums: &mut Vec<QSet>, set: &QSet, others: &[QSet]) -> Res
 }
 
 /// Adds the union of each left set with each right one to the quorums.
-fn push_unions(quorums: &mut Vec<QSet>, left: &[QSet], right: &[QSet]) -> Result<(), AllocError>
+pub(crate) fn push_unions(
+    quorums: &mut Vec<QSet>,
+    left: &[QSet],
+    right: &[QSet],
+) -> Result<(), AllocError>
     ensures { OnOk result (quorums.new.items ≡ quorums.old.items ++ flat_map (λ p. map (union p) right.now) left.now) }
 {
     for set in left {
