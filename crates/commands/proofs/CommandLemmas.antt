@@ -10,7 +10,7 @@ use Rattle.commands.specs.Commands.{IsBadRecordText, IsInRange, IsRefusedBy, sta
 use Rattle.commands.specs.Faults.{input_refusal, replay_refusal}
 use Rattle.replay.specs.Records.{Entries, IsFirstFault}
 use Rattle.replay.specs.RecordTexts.{HasText, IsBadRecord, record_text}
-use Rattle.replay.specs.Scripts.{IsBadText}
+use Rattle.replay.specs.Scripts.{IsBadText, step_form}
 use Rattle.replay.specs.declared.fault.ReplayFault.{ReplayFault}
 use Rattle.replay.specs.declared.fault.ReplayFault.TheVariants as replay
 use Rattle.command_line.specs.Words.{IsNamedBy}
@@ -23,7 +23,7 @@ planning_refused text input.OutOfMemory e = tt
 planning_refused text fault e = e
 
 -- a refusal of the script is one of the command `world`
-pub script_refused : (input script : List ℕ) (planned : PlannedSystem) (fault : ReplayFault) → staged_in input ≡ Ok (planned, script) → IsBadText script fault
+pub script_refused : (input script : List ℕ) (planned : PlannedSystem) (fault : ReplayFault) → staged_in input ≡ Ok (planned, script) → IsBadText step_form script fault
     → IsRefusedBy commands.World input (replay_refusal fault)
 script_refused input script planned replay.OutOfMemory e h = tt
 script_refused input script planned (replay.BadLine line) e h = record { planned = planned; script = script; parts = e; bad = h }

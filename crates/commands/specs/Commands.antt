@@ -28,7 +28,7 @@ use Rattle.replay.specs.Outputs.{IsOutput}
 use Rattle.replay.specs.Records.{Entries, IsFirstFault, IsSoundRecord, entries_of, tickets_of}
 use Rattle.replay.specs.RecordTexts as record_texts
 use Rattle.replay.specs.RecordTexts.{HasText, record_text}
-use Rattle.replay.specs.Scripts.{IsFirstBad}
+use Rattle.replay.specs.Scripts.{IsFirstBad, step_form}
 use Rattle.replay.specs.declared.fault.ReplayFault.{ReplayFault}
 use Rattle.replay.specs.declared.fault.ReplayFault.TheVariants as replay
 use Rattle.replay.specs.declared.fault.ReplayFault.TheVariants.{BadLine}
@@ -207,7 +207,7 @@ pub record IsBadScript (input : List ℕ) (line : ℕ) : Type 0 where
   pub planned : PlannedSystem
   pub script : List ℕ
   pub parts : staged_in input ≡ Ok (planned, script)
-  pub bad : IsFirstBad script line
+  pub bad : IsFirstBad step_form script line
 
 -- `world` fails with this fault for the input: a part is missing or has a fault, or the third one
 -- is no script

@@ -15,7 +15,7 @@ use Rattle.world.specs.declared.step.Step.{Step}
 use Rattle.world.specs.Runs.{after, start_by}
 use Rattle.dealer.specs.Plans.{single}
 use Rattle.world.specs.Steps.{Dealing, Outcome, WorldState, dealing_of, step}
-use Rattle.replay.specs.Scripts.{IsScript, Script, script_text}
+use Rattle.replay.specs.Scripts.{IsScript, Script, script_text, step_form}
 
 -- Lines; 10 is a newline, 32 a space
 
@@ -74,12 +74,12 @@ run_output deal [] w = []
 run_output deal (s ∷ steps) w = step_output w (step deal w s) ++ run_output deal steps (after w (step deal w s))
 
 -- what a script writes, with quorums by the plan
-abbrev pub script_output : Weighted → Script → List ℕ
+abbrev pub script_output : Weighted → Script Step → List ℕ
 script_output plan s = run_output (dealing_of (single plan)) s.steps (start_by (single plan) s.clients s.limit)
 
 -- the output is that of the script whose text this is
 pub record IsOutput (plan : Weighted) (text output : List ℕ) : Type 0 where
-  pub script : Script
-  pub is_script : IsScript script
-  pub written : text ≡ script_text script
+  pub script : Script Step
+  pub is_script : IsScript step_form script
+  pub written : text ≡ script_text step_form script
   pub output_is : output ≡ script_output plan script

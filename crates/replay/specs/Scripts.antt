@@ -20,15 +20,7 @@ use Rattle.world.specs.declared.step.Step.TheVariants.{Ask, Deliver, Leave, Give
 use Rattle.replay.specs.declared.fault.ReplayFault.{ReplayFault}
 use Rattle.replay.specs.declared.fault.ReplayFault.TheVariants.{BadLine, OutOfMemory}
 
--- what a script says: the sizes of a world, and its steps in order
-pub record Script : Type 0 where
-  -- how many clients the world has
-  pub clients : ℕ
-  -- the highest stamp and the highest grant
-  pub limit : ℕ
-  pub steps : List Step
-
--- The text
+-- The lines of steps, and of a world
 
 -- the word of a step; an exchange has none
 abbrev pub step_word : Step → List ℕ
@@ -75,18 +67,24 @@ pub record AreSizes (clients limit : ℕ) : Type 0 where
 abbrev pub world_form : Form (ℕ × ℕ)
 world_form = record { word = λ s. codes "world"; numbers = λ s. s.0 ∷ s.1 ∷ []; fits = λ s. AreSizes s.0 s.1 }
 
--- the script has a text: its sizes are in range, and each step has a line
-pub record IsScript (s : Script) : Type 0 where
-  pub sizes : AreSizes s.clients s.limit
-  pub steps : HaveLines step_form s.steps
+-- Scripts, whatever the form of their steps' lines
 
--- the lines of these steps, each with a newline at its end
-abbrev pub steps_text : List Step → List ℕ
-steps_text steps = text_of step_form steps
+-- what a script says: the sizes of a world, and its steps in order
+pub record Script (S : Type 0) : Type 0 where
+  -- how many clients the world has
+  pub clients : ℕ
+  -- the highest stamp and the highest grant
+  pub limit : ℕ
+  pub steps : List S
+
+-- the script has a text: its sizes are in range, and each step has a line
+pub record IsScript {S : Type 0} (f : Form S) (s : Script S) : Type 0 where
+  pub sizes : AreSizes s.clients s.limit
+  pub steps : HaveLines f s.steps
 
 -- the one text of a script
-abbrev pub script_text : Script → List ℕ
-script_text s = line_of world_form (s.clients, s.limit) ++ 10 ∷ steps_text s.steps
+abbrev pub script_text : {S : Type 0} → Form S → Script S → List ℕ
+script_text f s = line_of world_form (s.clients, s.limit) ++ 10 ∷ text_of f s.steps
 
 -- The first bad line
 
@@ -95,48 +93,48 @@ abbrev pub IsWorldLine : List ℕ → Type 0
 IsWorldLine line = (sizes : ℕ × ℕ) × AreSizes sizes.0 sizes.1 × (line ≡ line_of world_form sizes)
 
 -- the line is one of a step
-abbrev pub IsStepLine : List ℕ → Type 0
-IsStepLine line = (s : Step) × HasStepLine s × (line ≡ line_of step_form s)
+abbrev pub IsStepLine : {S : Type 0} → Form S → List ℕ → Type 0
+IsStepLine {S} f line = (s : S) × f.fits s × (line ≡ line_of f s)
 
 -- a line of some script, without its newline
-abbrev pub IsLine : List ℕ → Type 0
-IsLine line = IsWorldLine line ⊎ IsStepLine line
+abbrev pub IsLine : {S : Type 0} → Form S → List ℕ → Type 0
+IsLine f line = IsWorldLine line ⊎ IsStepLine f line
 
 -- the text begins with such a line, with its newline
 abbrev pub BeginsWith : (List ℕ → Type 0) → List ℕ → Type 0
 BeginsWith IsLine text = (line : List ℕ) × (rest : List ℕ) × IsLine line × (text ≡ line ++ 10 ∷ rest)
 
 -- after these steps' lines the text goes on, but not with a step's line
-pub record EndsBadly (text : List ℕ) (steps : List Step) : Type 0 where
+pub record EndsBadly {S : Type 0} (f : Form S) (text : List ℕ) (steps : List S) : Type 0 where
   pub rest : List ℕ
-  pub steps_are : AreFirst step_form text steps rest
+  pub steps_are : AreFirst f text steps rest
   pub some : rest ≢ []
 
 -- the lines before this one are a world's and its steps', and this one is not a step's
-pub record IsBadStep (text : List ℕ) (line : ℕ) : Type 0 where
+pub record IsBadStep {S : Type 0} (f : Form S) (text : List ℕ) (line : ℕ) : Type 0 where
   pub sizes : ℕ × ℕ
   pub body : List ℕ
   pub world : IsNext world_form text sizes body
-  pub steps : List Step
-  pub ends : EndsBadly body steps
+  pub steps : List S
+  pub ends : EndsBadly f body steps
   pub line_is : line ≡ length steps + 2
 
 -- the number, from 1, of the first bad line of a text: it is malformed, or has no newline
-abbrev pub IsFirstBad : List ℕ → ℕ → Type 0
-IsFirstBad text line = ((line ≡ 1) × ¬ (BeginsWith IsWorldLine text)) ⊎ IsBadStep text line
+abbrev pub IsFirstBad : {S : Type 0} → Form S → List ℕ → ℕ → Type 0
+IsFirstBad f text line = ((line ≡ 1) × ¬ (BeginsWith IsWorldLine text)) ⊎ IsBadStep f text line
 
 -- the fault is the text's first bad line, or memory ran out
-abbrev pub IsBadText : List ℕ → ReplayFault → Type 0
-IsBadText text (BadLine line) = IsFirstBad text line
-IsBadText text OutOfMemory = Unit {0}
-IsBadText text fault = ⊥
+abbrev pub IsBadText : {S : Type 0} → Form S → List ℕ → ReplayFault → Type 0
+IsBadText f text (BadLine line) = IsFirstBad f text line
+IsBadText f text OutOfMemory = Unit {0}
+IsBadText f text fault = ⊥
 
 -- The fault is the first line that is not a step's, or memory ran out. The first line of `body` has
 -- number 2.
-abbrev pub IsBadRest : List ℕ → ReplayFault → Type 0
-IsBadRest body (BadLine line) = (steps : List Step) × EndsBadly body steps × (line ≡ length steps + 2)
-IsBadRest body OutOfMemory = Unit {0}
-IsBadRest body fault = ⊥
+abbrev pub IsBadRest : {S : Type 0} → Form S → List ℕ → ReplayFault → Type 0
+IsBadRest {S} f body (BadLine line) = (steps : List S) × EndsBadly f body steps × (line ≡ length steps + 2)
+IsBadRest f body OutOfMemory = Unit {0}
+IsBadRest f body fault = ⊥
 
 -- The forms are those of lines
 
@@ -149,7 +147,7 @@ worlds_have_form = record {
 }
 
 -- the step of a word and a number
-step_by : List ℕ → ℕ → Option Step
+pub step_by : List ℕ → ℕ → Option Step
 step_by word n =
     if bytes_eq word (codes "ask") then Some (Ask n) else
     if bytes_eq word (codes "deliver") then Some (Deliver n) else

@@ -20,6 +20,9 @@
 //! space is between two words, and each line ends with a newline. Messages are numbered from 0 on,
 //! in the order in which they are sent. A message that no line delivers is lost.
 //!
+//! These steps' lines are of the kind [`StepLine`]. [`Script`] and [`read_script`] are for any kind of
+//! line: `stories` has one with more steps.
+//!
 //! [`run_script`] returns these lines:
 //!
 //! - `m NUMBER MESSAGE` for each message that a step sends (the crate `message` has the format of
@@ -88,7 +91,7 @@ pub use check::check_record;
 pub use fault::ReplayFault;
 pub use laws::{lines_end, records_are_read_in_one_way, texts_are_read_in_one_way};
 pub use output::run_script;
-pub use reading::{WorldLine, read_script};
+pub use reading::{StepLine, read_script};
 pub use record_reading::read_record;
 pub use record_writing::write_record;
 pub use script::Script;

@@ -4,12 +4,14 @@ ghost use Rattle.std.specs.List.{flat_map};
 ghost use Rattle.message.specs.Lines.{HasLine};
 ghost use Rattle.world.specs.Runs.{after};
 ghost use Rattle.world.specs.Steps.{step_of};
+ghost use Rattle.world.specs.declared.step.Step.{Step};
 ghost use Rattle.replay.specs.Outputs.{IsOutput, client_fault_text, event_line, fault_text, refusal_of, script_output, sent_line, sent_lines, step_output};
-ghost use Rattle.replay.specs.Scripts.{BeginsWith, IsBadText, IsScript, IsWorldLine, Script, script_text};
+ghost use Rattle.replay.specs.Scripts as scripts;
+ghost use Rattle.replay.specs.Scripts.{BeginsWith, IsBadText, IsScript, IsWorldLine, script_text, step_form};
 ghost use Rattle.replay.specs.declared.fault.ReplayFault.TheVariants.{BadLine, OutOfMemory};
 
 use crate::fault::ReplayFault;
-use crate::reading::read_script;
+use crate::reading::{StepLine, read_script};
 use crate::script::Script;
 use certificate::Plan;
 use dealer::Plans;
@@ -131,7 +133,12 @@ fn push_step(text: &mut String, world: &mut World, step: Step) -> Result<(), Rep
 }
 
 /// Runs a script and returns its output.
-fn output_of(alloc: Global, plan: Plan, script: &Script, room: usize) -> Result<String, ReplayFault>
+fn output_of(
+    alloc: Global,
+    plan: Plan,
+    script: &Script<StepLine>,
+    room: usize,
+) -> Result<String, ReplayFault>
     ensures output { IfOk result (λ text. string_bytes text ≡ script_output plan script.now) }
     ensures memory { IfErr result (λ fault. fault ≡ OutOfMemory) }
 {
@@ -159,14 +166,14 @@ pub fn run_script(alloc: Global, plan: Plan, text: &[u8]) -> Result<String, Repl
     // The result is the output of the script whose text this is.
     ensures output { IfOk result (λ output. IsOutput plan text.now (string_bytes output)) }
     // The text of a script is run, unless memory runs out.
-    ensures run { (s : Script) → IsScript s → text.now ≡ script_text s
+    ensures run { (s : scripts.Script Step) → IsScript step_form s → text.now ≡ script_text step_form s
         → MatchResult result (λ output. string_bytes output ≡ script_output plan s) (λ fault. fault ≡ OutOfMemory) }
     // Which line the fault names.
-    ensures bad { IfErr result (IsBadText text.now) }
+    ensures bad { IfErr result (IsBadText step_form text.now) }
     // The first line is read before any memory is allocated.
     ensures first { ¬ (BeginsWith IsWorldLine text.now) → IfErr result (λ fault. fault ≡ BadLine 1) }
 {
-    let script = match read_script(alloc, text) {
+    let script = match read_script::<StepLine>(alloc, text) {
         Ok(script) => script,
         Err(fault) => return Err(fault),
     };

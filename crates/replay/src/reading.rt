@@ -1,8 +1,9 @@
 //! Reading a script.
 ghost use Rattle.std.specs.Prelude.{◌≡◌, ◌∷◌, [], IfErr, IfOk, IfSome, MatchResult};
-ghost use Rattle.text_lines.specs.Forms.{HaveLines, IsLineOf};
+ghost use Rattle.text_lines.specs.Forms.{HaveLines, IsLineOf, text_of};
 ghost use Rattle.world.specs.declared.step.Step.{Step};
-ghost use Rattle.replay.specs.Scripts.{BeginsWith, IsBadRest, IsBadText, IsScript, IsWorldLine, Script, script_text, step_form, steps_have_form, steps_text, world_form, worlds_have_form};
+ghost use Rattle.replay.specs.Scripts as scripts;
+ghost use Rattle.replay.specs.Scripts.{BeginsWith, IsBadRest, IsBadText, IsScript, IsWorldLine, script_text, step_form, steps_have_form, world_form, worlds_have_form};
 ghost use Rattle.replay.specs.declared.fault.ReplayFault.TheVariants.{BadLine, OutOfMemory};
 
 use crate::fault::ReplayFault;
@@ -16,7 +17,7 @@ use world::Step;
 const MOST_CLIENTS: u64 = MAX_CLIENTS as u64;
 
 /// The line of a step.
-struct StepLine;
+pub struct StepLine;
 
 impl Line for StepLine {
     type Value = Step;
@@ -55,7 +56,7 @@ fn step_of(word: &[u8], number: u64) -> Option<Step>
 }
 
 /// The line of a world, with its sizes: how many clients, and the highest stamp.
-pub struct WorldLine;
+struct WorldLine;
 
 impl Line for WorldLine {
     type Value = (u8, u64);
@@ -76,30 +77,30 @@ impl Line for WorldLine {
 }
 
 /// Reads the steps whose lines are the text. The text's first line has number 2.
-fn read_steps(alloc: Global, text: &[u8]) -> Result<Vec<Step>, ReplayFault>
-    ensures lines { IfOk result (λ steps. HaveLines step_form steps.items) }
-    ensures written { IfOk result (λ steps. text.now ≡ steps_text steps.items) }
-    ensures bad { IfErr result (IsBadRest text.now) }
+fn read_steps<L: Line>(alloc: Global, text: &[u8]) -> Result<Vec<L::Value>, ReplayFault>
+    ensures lines { IfOk result (λ steps. HaveLines L.form steps.items) }
+    ensures written { IfOk result (λ steps. text.now ≡ text_of L.form steps.items) }
+    ensures bad { IfErr result (IsBadRest L.form text.now) }
 {
-    let (steps, rest) = first_lines::<StepLine>(alloc, text)?;
+    let (steps, rest) = first_lines::<L>(alloc, text)?;
     if !rest.is_empty() {
         return Err(ReplayFault::BadLine(steps.len() + 2));
     }
     Ok(steps)
 }
 
-/// Reads a script from its text.
+/// Reads a script from its text, with steps of this kind of line, as [`StepLine`].
 ///
 /// Fails with `BadLine` for the first line that is missing or malformed, or has no newline. Memory
 /// may run out at any point after the first line.
-pub fn read_script(alloc: Global, text: &[u8]) -> Result<Script, ReplayFault>
+pub fn read_script<L: Line>(alloc: Global, text: &[u8]) -> Result<Script<L>, ReplayFault>
     // What is read has this text.
-    ensures written { IfOk result (λ s. IsScript s × (text.now ≡ script_text s)) }
+    ensures written { IfOk result (λ s. IsScript L.form s × (text.now ≡ script_text L.form s)) }
     // What has this text is read, unless memory runs out.
-    ensures read { (s : Script) → IsScript s → text.now ≡ script_text s
+    ensures read { (s : scripts.Script L.Value) → IsScript L.form s → text.now ≡ script_text L.form s
         → MatchResult result (λ script. script ≡ s) (λ fault. fault ≡ OutOfMemory) }
     // Which line the fault names.
-    ensures bad { IfErr result (IsBadText text.now) }
+    ensures bad { IfErr result (IsBadText L.form text.now) }
     // The first line is read before any memory is allocated.
     ensures first { ¬ (BeginsWith IsWorldLine text.now) → IfErr result (λ fault. fault ≡ BadLine 1) }
 {
@@ -107,8 +108,8 @@ pub fn read_script(alloc: Global, text: &[u8]) -> Result<Script, ReplayFault>
         return Err(ReplayFault::BadLine(1));
     };
     let (clients, limit) = sizes;
-    match read_steps(alloc, rest) {
-        Ok(steps) => Ok(Script::of(clients, limit, steps)),
+    match read_steps::<L>(alloc, rest) {
+        Ok(steps) => Ok(Script::<L>::of(clients, limit, steps)),
         Err(fault) => Err(fault),
     }
 }

@@ -3,32 +3,32 @@ ghost use Rattle.std.specs.Prelude.{◌≡◌};
 ghost use Rattle.replay.specs.Scripts.{IsScript};
 
 use std::marker::Model;
-use world::Step;
+use text_lines::Line;
 
-/// A script: how large a world is, and the steps that happen in it. Contracts see a `Script` of the
-/// specs.
-#[derive(Debug, Drop)]
-pub struct Script {
+/// A script: how large a world is, and the steps that happen in it, each on a line of this kind.
+/// Contracts see a `Script` of the specs.
+#[derive(Drop)]
+pub struct Script<L: Line> {
     clients: u8,
     limit: u64,
-    steps: Vec<Step>,
+    steps: Vec<L::Value>,
 }
 
-impl Model for Script {
+impl<L: Line> Model for Script<L> {
     ghost use Rattle.replay.specs.Scripts as scripts;
 
-    ghost Value = { scripts.Script };
+    ghost Value = { scripts.Script L.Value };
 
     ghost view = { λ s. record { clients = s.clients; limit = s.limit; steps = s.steps.items } };
 
     ghost invariant = { λ s.
-        scripts.IsScript (record { clients = s.clients; limit = s.limit; steps = s.steps.items }) };
+        scripts.IsScript L.form (record { clients = s.clients; limit = s.limit; steps = s.steps.items }) };
 }
 
-impl Script {
+impl<L: Line> Script<L> {
     /// Creates the script of these parts. Allocates no memory.
-    pub(crate) fn of(clients: u8, limit: u64, steps: Vec<Step>) -> Script
-        requires { IsScript (record { clients = clients; limit = limit; steps = steps.items }) }
+    pub(crate) fn of(clients: u8, limit: u64, steps: Vec<L::Value>) -> Script<L>
+        requires { IsScript L.form (record { clients = clients; limit = limit; steps = steps.items }) }
         ensures { result ≡ record { clients = clients; limit = limit; steps = steps.items } }
     {
         Script {
@@ -41,7 +41,7 @@ impl Script {
     /// Returns how many clients the world has: 1 to 64.
     pub fn clients(&self) -> u8
         ensures value { result ≡ self.now.clients }
-        ensures script { IsScript self.now }
+        ensures script { IsScript L.form self.now }
     {
         self.clients
     }
@@ -49,15 +49,15 @@ impl Script {
     /// Returns the highest stamp, which is also the highest grant: 1 to 2^40.
     pub fn limit(&self) -> u64
         ensures value { result ≡ self.now.limit }
-        ensures script { IsScript self.now }
+        ensures script { IsScript L.form self.now }
     {
         self.limit
     }
 
     /// Returns the steps, in order.
-    pub fn steps(&self) -> &[Step]
+    pub fn steps(&self) -> &[L::Value]
         ensures value { result.now ≡ self.now.steps }
-        ensures script { IsScript self.now }
+        ensures script { IsScript L.form self.now }
     {
         &self.steps
     }

@@ -5,7 +5,10 @@ use Rattle.quorum_set.specs.Bridges.{bridge_of}
 use Rattle.quorum_set.specs.declared.fault.BridgeFault.TheVariants as bridges
 use Rattle.dealer.specs.Plans.{PlanPair, both, coteries_of, single}
 use Rattle.replay.specs.declared.fault.ReplayFault.TheVariants.{BadLine}
-use Rattle.stories.specs.Scripts.{IsFirstBad, IsScript, IsTextOf, Script}
+use Rattle.replay.specs.Scripts.{IsScript, Script}
+use Rattle.stories.specs.Scripts.{IsFirstBad, IsTextOf}
+use Rattle.stories.specs.Turns.{turn_form}
+use Rattle.stories.specs.declared.turn.Turn.{Turn}
 use Rattle.plan_inputs.specs.Inputs.{PlannedSystem}
 use Rattle.commands.specs.Commands.{◌>>=◌, Refuses, staged_in}
 use Rattle.commands.specs.Parts.{split}
@@ -61,8 +64,8 @@ pub record IsStory (input : List ℕ) : Type 0 where
   pub parts : parts_in input ≡ Ok (first, more)
   pub plans : PlanPair
   pub are_plans : ArePlansOf first more.0 plans
-  pub script : Script
-  pub is_script : IsScript script
+  pub script : Script Turn
+  pub is_script : IsScript turn_form script
   pub is_text : IsTextOf more.1 script
 
 -- Faults

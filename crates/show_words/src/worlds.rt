@@ -592,7 +592,7 @@ pub fn world_words(
     script: &StoryScript,
 ) -> Result<String, AllocError> {
     let mut player = Player::new(alloc, plans, script)?;
-    let turns = turns_words(alloc, named, &mut player, script.turns())?;
+    let turns = turns_words(alloc, named, &mut player, script.steps())?;
     let ending = ending_words(alloc, named, &player, script.clients())?;
     let way = way_words(alloc, named, player)?;
     let page = format!(in alloc; "{turns}\nAt the end:\n{ending}{way}")?;

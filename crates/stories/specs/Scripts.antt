@@ -1,34 +1,26 @@
--- Scripts of stories: how large a world is, and what happens in it, a line for each, with notes
--- between the lines. A note is an empty line, or one that begins with `#`.
-use Rattle.std.specs.Prelude.{ℕ, ◌≡◌, ◌≢◌, ◌+◌, ◌==◌, ◌⊎◌, Bool, true, false, not, List, [], ◌∷◌, length, map, filter, Some}
-use Rattle.texts.specs.Cuts.{cut_at}
-use Rattle.text_lines.specs.Forms.{BeginsWithNone, Form, HaveLines, line_of}
-use Rattle.replay.specs.Scripts.{AreSizes, world_form}
+-- Texts of stories: those of scripts, with notes between the lines. A note is an empty line, or one that
+-- begins with `#`.
+use Rattle.std.specs.Prelude.{ℕ, ◌≡◌, ◌+◌, ◌-◌, ◌==◌, Bool, false, not, List, [], ◌∷◌, ◌++◌, if◌then◌else◌}
+use Rattle.std.specs.List.{flat_map}
+use Rattle.replay.specs.Scripts.{Script, script_text}
+use Rattle.replay.specs.Scripts as scripts
 use Rattle.replay.specs.declared.fault.ReplayFault.{ReplayFault}
 use Rattle.replay.specs.declared.fault.ReplayFault.TheVariants.{BadLine, OutOfMemory}
 use Rattle.stories.specs.Turns.{turn_form}
 use Rattle.stories.specs.declared.turn.Turn.{Turn}
 
--- what a script says: the sizes of a world, and the turns in order
-pub record Script : Type 0 where
-  -- how many clients the world has
-  pub clients : ℕ
-  -- the highest stamp and the highest grant
-  pub limit : ℕ
-  pub turns : List Turn
+-- Lines
 
--- the script has lines: its sizes are in range, and each turn has a line
-pub record IsScript (s : Script) : Type 0 where
-  pub sizes : AreSizes s.clients s.limit
-  pub turns : HaveLines turn_form s.turns
+-- with this byte in front: of the first line, or of what is left if there is no line
+abbrev pub with_byte : ℕ → List (List ℕ) → List ℕ → List (List ℕ) × List ℕ
+with_byte b [] rest = ([], b ∷ rest)
+with_byte b (line ∷ lines) rest = ((b ∷ line) ∷ lines, rest)
 
--- the line of the sizes
-abbrev pub sizes_line : Script → List ℕ
-sizes_line s = line_of world_form (s.clients, s.limit)
-
--- the lines of a script, without notes and newlines
-abbrev pub script_lines : Script → List (List ℕ)
-script_lines s = sizes_line s ∷ map (line_of turn_form) s.turns
+-- the lines of a text without their newlines, and what follows the last newline; 10 is a newline
+abbrev pub cut_lines : List ℕ → List (List ℕ) × List ℕ
+cut_lines [] = ([], [])
+cut_lines (b ∷ bs) =
+    if b == 10 then ([] ∷ (cut_lines bs).0, (cut_lines bs).1) else with_byte b (cut_lines bs).0 (cut_lines bs).1
 
 -- Notes
 
@@ -37,78 +29,36 @@ abbrev pub is_plain : List ℕ → Bool
 is_plain [] = false
 is_plain (b ∷ bs) = not (b == 35)
 
--- The text begins with these lines, each cut off at its newline, and goes on with `rest`.
-abbrev pub BeginsWith : List ℕ → List (List ℕ) → List ℕ → Type 0
-BeginsWith text [] rest = text ≡ rest
-BeginsWith text (line ∷ lines) rest =
-    (after : List ℕ) × (cut_at 10 text ≡ Some (line, after)) × BeginsWith after lines rest
+-- what is kept of a line: nothing of a note, and else the line and its newline
+abbrev pub kept : List ℕ → List ℕ
+kept line = if is_plain line then line ++ 10 ∷ [] else []
 
--- The text begins with `count` lines, those of `plain` with notes between them, and goes on with `rest`.
-pub record Reads (text : List ℕ) (plain : List (List ℕ)) (count : ℕ) (rest : List ℕ) : Type 0 where
-  pub lines : List (List ℕ)
-  pub begins : BeginsWith text lines rest
-  pub plain_are : filter is_plain lines ≡ plain
-  pub count_is : length lines ≡ count
+-- the text without its notes: what is kept of its lines, and what follows the last newline
+abbrev pub without_notes : List ℕ → List ℕ
+without_notes text = flat_map kept (cut_lines text).0 ++ (cut_lines text).1
 
--- the text has the lines of this script, and between them notes
-abbrev pub IsTextOf : List ℕ → Script → Type 0
-IsTextOf text s = (count : ℕ) × Reads text (script_lines s) count []
+-- one less, unless the line is a note
+abbrev pub left_behind : List ℕ → ℕ → ℕ
+left_behind line left = if is_plain line then left - 1 else left
 
--- The first bad line
+-- the place, from 1, of the line that has this number, from 1, without notes; or of what follows the lines
+abbrev pub place_of : List (List ℕ) → ℕ → ℕ
+place_of [] number = 1
+place_of (line ∷ lines) number =
+    if left_behind line number == 0 then 1 else place_of lines (left_behind line number) + 1
 
--- the text does not begin with a note
-abbrev pub BeginsWithNoNote : List ℕ → Type 0
-BeginsWithNoNote text = (line rest : List ℕ) → cut_at 10 text ≡ Some (line, rest) → is_plain line ≡ true
+-- without notes, the text is that of this script
+abbrev pub IsTextOf : List ℕ → Script Turn → Type 0
+IsTextOf text s = without_notes text ≡ script_text turn_form s
 
--- The lines before this one are notes, and those of `plain`. What follows is neither a note nor a
--- line of this form.
-pub record StopsAt {A : Type 0} (f : Form A) (text : List ℕ) (plain : List (List ℕ)) (line : ℕ) : Type 0 where
-  pub count : ℕ
-  pub rest : List ℕ
-  pub reads : Reads text plain count rest
-  pub line_is : line ≡ count + 1
-  pub no_note : BeginsWithNoNote rest
-  pub no_line : BeginsWithNone f rest
-
--- the lines before this one are notes, and this one is no line of sizes
-abbrev pub IsBadFirst : List ℕ → ℕ → Type 0
-IsBadFirst text line = StopsAt world_form text [] line
-
--- the lines before this one are notes and a script's, and this one is neither a note nor a turn's
-pub record IsBadTurn (text : List ℕ) (line : ℕ) : Type 0 where
-  pub script : Script
-  pub is_script : IsScript script
-  pub stops : StopsAt turn_form text (script_lines script) line
-  pub some : stops.rest ≢ []
-
--- the number, from 1, of the first bad line of a text: it is malformed, has no newline, or is missing
+-- The number, from 1, of the first line that is bad without notes: it is malformed, has no newline, or
+-- is missing.
 abbrev pub IsFirstBad : List ℕ → ℕ → Type 0
-IsFirstBad text line = IsBadFirst text line ⊎ IsBadTurn text line
+IsFirstBad text line =
+    (number : ℕ) × scripts.IsFirstBad turn_form (without_notes text) number × (line ≡ place_of (cut_lines text).0 number)
 
 -- the fault is the text's first bad line, or memory ran out
 abbrev pub IsBadText : List ℕ → ReplayFault → Type 0
 IsBadText text (BadLine line) = IsFirstBad text line
 IsBadText text OutOfMemory = Unit {0}
 IsBadText text fault = ⊥
-
--- Behind the line of the sizes
-
--- the text has the lines of these turns, and between them notes
-abbrev pub IsBody : List ℕ → List Turn → Type 0
-IsBody text turns = (count : ℕ) × Reads text (map (line_of turn_form) turns) count []
-
--- The lines before this one are notes and turns', and this one is neither. There are `behind` lines
--- before the text.
-pub record EndsBadly (behind : ℕ) (text : List ℕ) (line : ℕ) : Type 0 where
-  pub turns : List Turn
-  pub have_lines : HaveLines turn_form turns
-  pub bad : ℕ
-  pub stops : StopsAt turn_form text (map (line_of turn_form) turns) bad
-  pub some : stops.rest ≢ []
-  pub line_is : line ≡ behind + bad
-
--- the fault is the text's first bad line, or memory ran out
-abbrev pub IsBadRest : ℕ → List ℕ → ReplayFault → Type 0
-IsBadRest behind text (BadLine line) = EndsBadly behind text line
-IsBadRest behind text OutOfMemory = Unit {0}
-IsBadRest behind text fault = ⊥

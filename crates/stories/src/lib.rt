@@ -58,13 +58,11 @@ mod guard;
 mod happening;
 mod player;
 mod reading;
-mod script;
 mod story;
 mod turn;
 
 pub use happening::{Happening, Late};
 pub use player::Player;
-pub use reading::read_story;
-pub use script::StoryScript;
+pub use reading::{StoryScript, TurnLine, read_story};
 pub use story::{Moment, Story, story_of};
 pub use turn::Turn;

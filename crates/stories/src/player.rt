@@ -12,7 +12,7 @@ ghost use Rattle.world.specs.Steps.{client_at};
 
 use crate::guard::{no_passes, pass_at, refusal, set_pass, show};
 use crate::happening::{Happening, Late};
-use crate::script::StoryScript;
+use crate::reading::StoryScript;
 use crate::turn::Turn;
 use dealer::Plans;
 use fence::{Fence, Pass, pass_of};

@@ -1,21 +1,25 @@
 //! Reading a script of a story.
-ghost use Rattle.std.specs.Prelude.{◌≡◌, ◌+◌, ◌<◌, ◌≤◌, ◌^◌, ◌∷◌, [], IfErr, IfOk, IfSome, MatchOption, MatchResult, length};
-ghost use Rattle.text_lines.specs.Forms.{HaveLines, IsLineOf};
+ghost use Rattle.std.specs.Prelude.{◌≡◌, ◌++◌, ◌∷◌, [], IfErr, IfOk, IfSome, MatchResult, OnOk};
+ghost use Rattle.text_lines.specs.Forms.{IsLineOf};
+ghost use Rattle.replay.specs.Scripts as scripts;
+ghost use Rattle.replay.specs.Scripts.{IsScript};
 ghost use Rattle.replay.specs.declared.fault.ReplayFault.TheVariants.{OutOfMemory};
-ghost use Rattle.stories.specs.Scripts.{BeginsWithNoNote, IsBadRest, IsBadText, IsBody, IsScript, IsTextOf, Reads, Script, is_plain};
+ghost use Rattle.stories.specs.Scripts.{IsBadText, IsTextOf, cut_lines, is_plain, kept, left_behind, place_of, without_notes};
 ghost use Rattle.stories.specs.Turns.{turn_form, turns_have_form};
 ghost use Rattle.stories.specs.declared.turn.Turn.{Turn};
 
-use crate::script::StoryScript;
 use crate::turn::Turn;
-use replay::{ReplayFault, WorldLine};
-use std::alloc::Global;
-use text_lines::{Line, next_line};
+use replay::{ReplayFault, Script, read_script};
+use std::alloc::{AllocError, Global};
+use text_lines::Line;
 use texts::cut_at;
 use world::Step;
 
+/// A script of a story: how large a world is, and its turns, as the steps.
+pub type StoryScript = Script<TurnLine>;
+
 /// The line of a turn.
-struct TurnLine;
+pub struct TurnLine;
 
 impl Line for TurnLine {
     type Value = Turn;
@@ -78,52 +82,54 @@ fn is_plain(line: &[u8]) -> bool
     }
 }
 
-/// Returns what follows the note at the front of a text, if the text begins with one.
-fn after_note(text: &[u8]) -> Option<&[u8]>
-    ensures note { MatchOption result (BeginsWithNoNote text.now) (λ rest. Reads text.now [] 1 rest.now) }
-    ensures shorter { IfSome result (λ rest. length rest.now < length text.now) }
+/// Appends a line and its newline, unless the line is a note.
+fn push_kept(text: &mut Vec<u8>, line: &[u8]) -> Result<(), AllocError>
+    ensures { OnOk result (text.new.items ≡ text.old.items ++ kept line.now) }
 {
-    match cut_at(text, b'\n') {
-        Some((line, rest)) => { if is_plain(line) { None } else { Some(rest) } }
-        None => None,
+    if is_plain(line) {
+        text.extend_from_slice(line)?;
+        text.push(b'\n')?;
     }
+    Ok(())
 }
 
-/// Returns how many notes are at the front of a text, and what follows them.
-fn skip_notes(text: &[u8]) -> (usize, &[u8])
-    ensures notes { Reads text.now [] result.0 result.1.now }
-    ensures no_more { BeginsWithNoNote result.1.now }
-    ensures few { result.0 + length result.1.now ≤ length text.now }
+/// Returns a text without its notes. Fails only if memory runs out.
+fn without_notes(alloc: Global, text: &[u8]) -> Result<Vec<u8>, AllocError>
+    ensures { IfOk result (λ plain. plain.items ≡ without_notes text.now) }
 {
-    let mut count = 0;
+    let mut plain = Vec::new(alloc);
     let mut rest = text;
-    'notes: while let Some(after) = after_note(rest) {
-        count += 1;
+    'lines: while let Some((line, after)) = cut_at(rest, b'\n') {
+        push_kept(&mut plain, line)?;
         rest = after;
     }
-    (count, rest)
+    plain.extend_from_slice(rest)?;
+    Ok(plain)
 }
 
-/// Reads the turns whose lines are the text, with notes between them. There are `behind` lines before
-/// the text.
-fn read_turns(alloc: Global, text: &[u8], behind: usize) -> Result<Vec<Turn>, ReplayFault>
-    requires { behind + length text.now + 1 < 2 ^ 64 }
-    ensures lines { IfOk result (λ turns. HaveLines turn_form turns.items) }
-    ensures read { IfOk result (λ turns. IsBody text.now turns.items) }
-    ensures bad { IfErr result (IsBadRest behind text.now) }
+/// Returns one less, unless the line is a note.
+fn left_behind(line: &[u8], left: usize) -> usize
+    ensures { result ≡ left_behind line.now left }
 {
-    let mut turns = Vec::new(alloc);
-    let (mut count, mut rest) = skip_notes(text);
-    'lines: while let Some(next) = next_line::<TurnLine>(rest) {
-        turns.push(next.0)?;
-        let (notes, after) = skip_notes(next.1);
-        count += notes + 1;
+    if is_plain(line) { left.saturating_sub(1) } else { left }
+}
+
+/// Returns the place of a line of a text, from 1, given its number without notes, also from 1.
+fn place_of(text: &[u8], number: usize) -> usize
+    ensures { result ≡ place_of (cut_lines text.now).0 number }
+{
+    let mut place = 1;
+    let mut left = number;
+    let mut rest = text;
+    'lines: while let Some((line, after)) = cut_at(rest, b'\n') {
+        left = left_behind(line, left);
+        if left == 0 {
+            return place;
+        }
+        place += 1;
         rest = after;
     }
-    if !rest.is_empty() {
-        return Err(ReplayFault::BadLine(behind + count + 1));
-    }
-    Ok(turns)
+    place
 }
 
 /// Reads a story's script from its text, in which notes are left out: empty lines, and lines that
@@ -133,20 +139,17 @@ fn read_turns(alloc: Global, text: &[u8], behind: usize) -> Result<Vec<Turn>, Re
 /// count from 1, with the notes.
 pub fn read_story(alloc: Global, text: &[u8]) -> Result<StoryScript, ReplayFault>
     // What is read has this text.
-    ensures written { IfOk result (λ s. IsScript s × IsTextOf text.now s) }
+    ensures written { IfOk result (λ s. IsScript turn_form s × IsTextOf text.now s) }
     // What has this text is read, unless memory runs out.
-    ensures read { (s : Script) → IsScript s → IsTextOf text.now s
+    ensures read { (s : scripts.Script Turn) → IsScript turn_form s → IsTextOf text.now s
         → MatchResult result (λ script. script ≡ s) (λ fault. fault ≡ OutOfMemory) }
     // Which line the fault names.
     ensures bad { IfErr result (IsBadText text.now) }
 {
-    let (notes, rest) = skip_notes(text);
-    let Some((sizes, body)) = next_line::<WorldLine>(rest) else {
-        return Err(ReplayFault::BadLine(notes + 1));
-    };
-    let (clients, limit) = sizes;
-    match read_turns(alloc, body, notes + 1) {
-        Ok(turns) => Ok(StoryScript::of(clients, limit, turns)),
-        Err(fault) => Err(fault),
+    let plain = without_notes(alloc, text)?;
+    match read_script::<TurnLine>(alloc, plain.as_slice()) {
+        Ok(script) => Ok(script),
+        Err(ReplayFault::BadLine(number)) => Err(ReplayFault::BadLine(place_of(text, number))),
+        Err(_) => Err(ReplayFault::OutOfMemory),
     }
 }

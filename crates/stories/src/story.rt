@@ -6,7 +6,7 @@ ghost use Rattle.stories.specs.Plays.{first_scene, first_world, is_calm, moments
 
 use crate::happening::Happening;
 use crate::player::Player;
-use crate::script::StoryScript;
+use crate::reading::StoryScript;
 use crate::turn::Turn;
 use dealer::Plans;
 use incidents::IncidentWorld;
@@ -34,15 +34,15 @@ pub struct Story {
 /// out.
 pub fn story_of(alloc: Global, plans: Plans, script: &StoryScript) -> Result<Story, AllocError>
     ensures world { IfOk result (λ story.
-        story.world ≡ world_after script.now.turns (first_world plans script.now.clients script.now.limit)) }
+        story.world ≡ world_after script.now.steps (first_world plans script.now.clients script.now.limit)) }
     ensures moments { IfOk result (λ story. story.moments.items
-        ≡ moments_of script.now.turns (first_scene plans script.now.clients script.now.limit)) }
+        ≡ moments_of script.now.steps (first_scene plans script.now.clients script.now.limit)) }
     // Without evictions, rebirths and clients anew all holds that holds of a saved world.
-    ensures calm { IfOk result (λ story. list_all is_calm script.now.turns ≡ true → IsCalm story.world) }
+    ensures calm { IfOk result (λ story. list_all is_calm script.now.steps ≡ true → IsCalm story.world) }
 {
     let mut player = Player::new(alloc, plans, script)?;
     let mut moments = Vec::new(alloc);
-    let turns = script.turns();
+    let turns = script.steps();
     for turn in turns {
         let happening = player.play(*turn)?;
         moments.push(Moment {

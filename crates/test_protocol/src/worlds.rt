@@ -3,7 +3,7 @@ ghost use Rattle.std.specs.Prelude.{◌≤◌, ◌^◌};
 
 use crate::messages::add_line;
 use dealer::Plans;
-use replay::read_script;
+use replay::{StepLine, read_script};
 use std::alloc::{AllocError, Global};
 use std::test::Fail;
 use test_plans::{bridged_plans, majority_plan, whole_plan};
@@ -65,7 +65,7 @@ const RACE: &[u8] =
 #[test]
 fn a_run_has_a_visible_list(rt: HostRuntime) -> Result<(), Fail> {
     let alloc = rt.alloc();
-    let script = read_script(alloc, RACE)?;
+    let script = read_script::<StepLine>(alloc, RACE)?;
     let want =
         "request 0 0 1\nrequest 0 1 1\nrequest 1 0 1\nrequest 1 2 1\nlocked 0 1 1 1 1\ninquire 0 1 1 1\n\
         locked 2 1 1 1 1\nrelease 1 0 1\nrelease 1 2 1\nlocked 0 0 1 2 1\nenter 1\nleave 1\ndraw 0 0\ndraw 1 1\n";

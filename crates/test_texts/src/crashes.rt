@@ -21,7 +21,7 @@ const TEXTS: [(&str, Result<usize, ReplayFault>); 4] = [
 /// Returns how many turns a text has, or its fault.
 fn turns_of(alloc: Global, text: &str) -> Result<usize, ReplayFault> {
     match read_story(alloc, text.as_bytes()) {
-        Ok(script) => Ok(script.turns().len()),
+        Ok(script) => Ok(script.steps().len()),
         Err(fault) => Err(fault),
     }
 }
