@@ -24,7 +24,7 @@ AreSizes-more texts sizes after i n lt so_far number small e =
     rw e (subst (λ (j : ℕ). AreSizes (take j texts) (sizes ++ n ∷ [])) next (are_more texts sizes i n lt so_far number small))
 
 -- texts have sizes in one way
-same_sizes : (texts : List Text) (a b : List ℕ) → AreSizes texts a → AreSizes texts b → a ≡ b
+pub same_sizes : (texts : List Text) (a b : List ℕ) → AreSizes texts a → AreSizes texts b → a ≡ b
 same_sizes [] [] [] h k = refl
 same_sizes [] [] (n ∷ b) h k = absurd k
 same_sizes [] (m ∷ a) b h k = absurd h
@@ -40,11 +40,11 @@ AreSizes-at (text ∷ texts) (n ∷ sizes) zero lt h = (n, h.0, h.1)
 AreSizes-at (text ∷ texts) (n ∷ sizes) (suc i) lt h = AreSizes-at texts sizes i (omega arith) h.2
 
 -- where there is no shape of that name and those sizes, `make` names nothing
-pub NamesNone-no_shape_of : (rows : List Row) (name : Text) (sizes : List ℕ) → first_of (codes "SHAPE") rows ≡ Some name → AreSizes (size_texts rows) sizes
+pub NamesNone-no_shape_of : (rows : List Row) (name : Text) (sizes : List ℕ) → first_of (codes "SHAPE") rows ≡ Some name → AreSizes (size_texts (codes "NUMBERS") rows) sizes
     → ((shape : Shape) → IsShapeOf name sizes shape → ⊥) → NamesNone (Some (codes "make", rows))
 NamesNone-no_shape_of rows name sizes given are none (Make shape) named =
     let name_is : named.1.0 ≡ name = same_Some named.1.0 name (sym named.1.1 ∙ given) in
-    let sizes_are : named.1.2.0 ≡ sizes = same_sizes (size_texts rows) named.1.2.0 sizes named.1.2.1 are in
+    let sizes_are : named.1.2.0 ≡ sizes = same_sizes (size_texts (codes "NUMBERS") rows) named.1.2.0 sizes named.1.2.1 are in
     none shape (subst (λ (t : List ℕ). IsShapeOf t sizes shape) name_is (subst (λ (ns : List ℕ). IsShapeOf named.1.0 ns shape) sizes_are named.1.2.2))
 NamesNone-no_shape_of rows name sizes given are none command named = search rules
 

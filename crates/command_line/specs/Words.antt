@@ -109,9 +109,9 @@ IsShapeOf name sizes (Tree h) = (name ≡ codes "tree") × (sizes ≡ h ∷ [])
 IsShapeOf name sizes (Wheel k) = (name ≡ codes "wheel") × (sizes ≡ k ∷ [])
 IsShapeOf name sizes (Cyclic n base) = (name ≡ codes "cyclic") × (sizes ≡ n ∷ base.items)
 
--- the texts after the shape
-abbrev pub size_texts : List Row → List Text
-size_texts rows = unwrap_or (all_of (codes "NUMBERS") rows) []
+-- the values of an argument, or none if it was left out
+abbrev pub size_texts : Text → List Row → List Text
+size_texts name rows = unwrap_or (all_of name rows) []
 
 -- the command is the one that the used subcommand and its values name
 abbrev pub IsNamedBy : Option (Text × List Row) → Command → Type 0
@@ -119,7 +119,7 @@ IsNamedBy None command = ⊥
 IsNamedBy (Some used) (Make shape) =
     (used.0 ≡ codes "make")
     × ((name : List ℕ) × (first_of (codes "SHAPE") used.1 ≡ Some name)
-    × ((sizes : List ℕ) × AreSizes (size_texts used.1) sizes × IsShapeOf name sizes shape))
+    × ((sizes : List ℕ) × AreSizes (size_texts (codes "NUMBERS") used.1) sizes × IsShapeOf name sizes shape))
 IsNamedBy (Some used) Plan = used.0 ≡ codes "plan"
 IsNamedBy (Some used) Check = used.0 ≡ codes "check"
 IsNamedBy (Some used) World = used.0 ≡ codes "world"

@@ -27,7 +27,7 @@ const LARGEST_SIZE: u64 = 9_999;
 
 /// Returns the argument NUMBERS: any count of numbers. How many there have to be depends on the
 /// shape.
-fn sizes_argument<'a>(alloc: Global) -> Arg<'a>
+pub fn sizes_argument<'a>(alloc: Global) -> Arg<'a>
     ensures rule { rule_of result ≡ sizes_rule }
     ensures local { result.global ≡ false }
 {
@@ -174,15 +174,19 @@ fn sizes_of(alloc: Global, texts: &[&str]) -> Result<Option<Vec<u32>>, AllocErro
     Ok(Some(sizes))
 }
 
-/// Returns the numbers after the shape on the command line, or `None` if one is not a number or too
-/// large.
-fn sizes_given(alloc: Global, used: &ArgMatches) -> Result<Option<Vec<u32>>, AllocError>
+/// Returns the numbers that an argument has on the command line, or `None` if one is not a number or
+/// above 9999.
+pub fn sizes_given(
+    alloc: Global,
+    used: &ArgMatches,
+    name: &str,
+) -> Result<Option<Vec<u32>>, AllocError>
     ensures some { IfOk result (λ o.
-        IfSome o (λ sizes. AreSizes (size_texts (rows_of (found_of used.now))) sizes.items)) }
+        IfSome o (λ sizes. AreSizes (size_texts name.now (rows_of (found_of used.now))) sizes.items)) }
     ensures none { IfOk result (λ o.
-        o ≡ None → (sizes : List ℕ) → ¬ AreSizes (size_texts (rows_of (found_of used.now))) sizes) }
+        o ≡ None → (sizes : List ℕ) → ¬ AreSizes (size_texts name.now (rows_of (found_of used.now))) sizes) }
 {
-    match texts_of(used, "NUMBERS") {
+    match texts_of(used, name) {
         Some(texts) => sizes_of(alloc, texts),
         None => sizes_of(alloc, &[]),
     }
@@ -235,7 +239,7 @@ fn make_of(alloc: Global, used: &ArgMatches) -> Result<Command, Usage>
     let Some(name) = text_of(used, "SHAPE") else {
         return Err(Usage::Arguments);
     };
-    let Some(sizes) = sizes_given(alloc, used)? else {
+    let Some(sizes) = sizes_given(alloc, used, "NUMBERS")? else {
         return Err(Usage::Arguments);
     };
     match shape_of(name, sizes) {

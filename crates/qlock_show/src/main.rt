@@ -51,14 +51,20 @@ fn answer_words(rt: &HostRuntime, usage: &Usage, words: &[String]) -> u8
     }
 }
 
-/// Serves the command over an input, and standard output. Returns the exit status.
-fn serve_input<R: Read + Drop>(rt: &HostRuntime, command: &ShowCommand, input: R) -> u8
+/// Serves the command over an input, which comes from these files, if there are any, and standard output.
+/// Returns the exit status.
+fn serve_input<R: Read + Drop>(
+    rt: &HostRuntime,
+    command: &ShowCommand,
+    files: &[String],
+    input: R,
+) -> u8
     requires { IsShown command.now }
 {
     let mut reader = Watched::of(input);
     let mut output = Listened::of(io::writer(rt));
     let mut writer = Watched::of(&mut output);
-    let served = show(rt.alloc(), command, &mut reader, &mut writer);
+    let served = show(rt.alloc(), command, files, &mut reader, &mut writer);
     report_shown(rt, &served, output.is_unread())
 }
 
@@ -67,6 +73,15 @@ fn refuse_file(rt: &HostRuntime, unread: &Unread) -> u8 {
     let status = report_unread(rt, unread);
     tell_of_reason(rt, unread);
     status
+}
+
+/// Returns the files that the input comes from: those that the command's own words name, if they name
+/// files, and else those behind `-f`.
+fn files_of<'a>(command: &'a ShowCommand, named: &'a [String]) -> &'a [String] {
+    match command {
+        ShowCommand::Compare(files, _) => files.as_slice(),
+        _ => named,
+    }
 }
 
 /// Serves the command over these files, or over standard input if there are none. Returns the exit
@@ -79,10 +94,10 @@ fn serve(rt: &HostRuntime, command: &ShowCommand, files: &[String]) -> u8
         if reads_page_input(command) {
             tell_of_reading(rt, &input);
         }
-        return serve_input(rt, command, input);
+        return serve_input(rt, command, files, input);
     }
     match read_files(rt, files) {
-        Ok(input) => serve_input(rt, command, input.as_slice()),
+        Ok(input) => serve_input(rt, command, files, input.as_slice()),
         Err(unread) => refuse_file(rt, &unread),
     }
 }
@@ -91,7 +106,11 @@ fn serve(rt: &HostRuntime, command: &ShowCommand, files: &[String]) -> u8
 fn run(rt: &HostRuntime) -> Result<u8, Usage> {
     let line = command_line_of(rt)?;
     match read_show_words(rt.alloc(), line.words.as_slice()) {
-        Ok(command) => Ok(serve(rt, &command, line.files.as_slice())),
+        Ok(command) => Ok(serve(
+            rt,
+            &command,
+            files_of(&command, line.files.as_slice()),
+        )),
         Err(usage) => Ok(answer_words(rt, &usage, line.words.as_slice())),
     }
 }

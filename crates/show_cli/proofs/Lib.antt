@@ -1,3 +1,4 @@
+pub mod CompareLemmas
 pub mod ShowLemmas
 pub mod StoryLemmas
 pub mod WordLemmas

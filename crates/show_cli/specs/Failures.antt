@@ -1,9 +1,10 @@
 -- Pages of coteries: what is left when voters fail, what may fail, and bridges; and their faults.
-use Rattle.std.specs.Prelude.{◌≡◌, ℕ, List, None, Some, Result, Ok}
+use Rattle.std.specs.Prelude.{◌≡◌, ℕ, ◌+◌, ◌-◌, List, [], ◌∷◌, None, Some, Result, Ok, Err, zero, suc}
 use Rattle.coterie_file.specs.Named.{NamedSystem}
+use Rattle.plan_inputs.specs.Inputs.{PlannedSystem}
 use Rattle.show_failures.specs.Names.{first_unknown, voters_named}
 use Rattle.show_failures.specs.Without.{without_text}
-use Rattle.commands.specs.Commands.{◌>>=◌, Refuses, coterie_part}
+use Rattle.commands.specs.Commands.{◌>>=◌, Refuses, coterie_part, planned_in}
 use Rattle.commands.specs.Parts.{split}
 use Rattle.commands.specs.declared.fault.Fault.{Fault}
 use Rattle.commands.specs.declared.fault.Fault.TheVariants.{UnknownVoter}
@@ -44,3 +45,39 @@ pub record HasCoterie (input : List ℕ) : Type 0 where
 pub record HasPair (input : List ℕ) : Type 0 where
   pub pair : NamedSystem × NamedSystem
   pub parts : pair_in input ≡ Ok pair
+
+-- the input is a coterie and a plan of it
+pub record HasPlan (input : List ℕ) : Type 0 where
+  pub planned : PlannedSystem
+  pub parts : planned_in input ≡ Ok planned
+
+-- What an input is whose parts are these: a coterie and a plan of it, if a line `%%` is there, and else a
+-- coterie alone.
+abbrev pub HasParts : Result (List ℕ × List ℕ) Fault → List ℕ → Type 0
+HasParts (Ok parts) input = HasPlan input
+HasParts (Err fault) input = HasCoterie input
+
+-- the fault is out of memory, or such an input has it
+abbrev pub RefusesParts : Result (List ℕ × List ℕ) Fault → List ℕ → Fault → Type 0
+RefusesParts (Ok parts) input fault = Refuses fault (planned_in input)
+RefusesParts (Err none) input fault = Refuses fault (coterie_part input)
+
+-- What an input describes that has so many lines `%%`: one coterie more. Its first part has this number.
+unfoldable pub coteries_in : ℕ → ℕ → List ℕ → Result (List NamedSystem) Fault
+coteries_in zero number input = do
+  last ← coterie_part input
+  Ok (last ∷ [])
+coteries_in (suc n) number input = do
+  parts ← split (number + 1) input
+  first ← coterie_part parts.0
+  others ← coteries_in n (number + 1) parts.1
+  Ok (first ∷ others)
+
+-- what an input describes that is made of so many files: as many coteries
+abbrev pub files_in : ℕ → List ℕ → Result (List NamedSystem) Fault
+files_in files input = coteries_in (files - 1) 1 input
+
+-- the input is as many coteries as there are files
+pub record HasCoteries (files : ℕ) (input : List ℕ) : Type 0 where
+  pub coteries : List NamedSystem
+  pub parts : files_in files input ≡ Ok coteries

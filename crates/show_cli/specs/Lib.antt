@@ -1,5 +1,6 @@
 pub mod Commands
 pub mod Failures
 pub mod Pages
+pub mod Shapes
 pub mod Stories
 pub mod Words

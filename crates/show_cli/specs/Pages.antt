@@ -1,5 +1,5 @@
 -- What each command writes, as far as it is determined, and its faults.
-use Rattle.std.specs.Prelude.{◌≡◌, ℕ, ◌<◌, ◌≤◌, Bool, true, false, if◌then◌else◌, List, [], length, map, string_bytes, Option, Result, Ok, Err, IfSome, ⊤}
+use Rattle.std.specs.Prelude.{◌≡◌, ℕ, ◌<◌, ◌≤◌, Bool, true, false, if◌then◌else◌, List, [], length, map, option_map, string_bytes, Option, Result, Ok, Err, IfSome, ⊤}
 use Rattle.std.specs.Io.KnownBytes.{Appends, IsAtEnd, Keeps}
 use Rattle.show_faults.specs.Pages.{IsFaultsList, IsFaultsPage}
 use Rattle.show_faults.specs.Texts.{text_of}
@@ -12,18 +12,16 @@ use Rattle.commands.specs.declared.fault.Fault.TheVariants.{Device, OutOfMemory}
 use Rattle.whole_io.specs.Devices.{AppendsBeginning}
 use Rattle.whole_io.specs.declared.fault.DeviceFault.TheVariants.{ReadFault, TooLong, WriteFault}
 use Rattle.show_refusals.specs.Pages.{IsFaultPage}
-use Rattle.show_cli.specs.Failures.{HasCoterie, HasPair, IsWithoutOf, RefusesWithout, pair_in}
+use Rattle.commands.specs.Parts.{split}
+use Rattle.show_cli.specs.Failures.{HasCoterie, HasCoteries, HasPair, HasParts, HasPlan, IsWithoutOf, RefusesParts, RefusesWithout, files_in, pair_in}
+use Rattle.show_cli.specs.Shapes.{RefusesShape}
 use Rattle.show_cli.specs.Stories.{IsStory, RefusesStory}
+use Rattle.show_coteries.specs.Shapes.{text_at}
 use Rattle.show_cli.specs.declared.command.Picture.TheVariants as pictures
 use Rattle.show_cli.specs.declared.command.ShowCommand.{ShowCommand}
 use Rattle.show_cli.specs.declared.command.ShowCommand.TheVariants as show
 
 -- Pages
-
--- the input is a coterie and a plan of it
-pub record HasPlan (input : List ℕ) : Type 0 where
-  pub planned : PlannedSystem
-  pub parts : planned_in input ≡ Ok planned
 
 -- the input is a coterie and a plan of it, and the page ends as a picture does
 pub record IsPlanPicture (input page : List ℕ) : Type 0 where
@@ -38,12 +36,14 @@ IsStoryPicture input page = IsStory input × IsEnded page
 -- The page is one of the command for the input. Of a page of words only the parts of the input are
 -- determined, except for `without`, `waiting`, `explain` and `fault`.
 abbrev pub IsPage : ShowCommand → List ℕ → List ℕ → Type 0
-IsPage show.Plan input page = HasPlan input
+IsPage (show.Plan form) input page = HasPlan input
 IsPage show.Report input page = HasPlan input
-IsPage (show.Deal n) input page = HasPlan input
-IsPage (show.DealEven n) input page = HasPlan input
+IsPage (show.Deal dealing) input page = HasPlan input
+IsPage (show.Near page_of) input page = HasCoterie input
+IsPage (show.Coterie shape capacities) input page = text_at shape (option_map (λ list. list.items) capacities) ≡ Ok page
+IsPage (show.Compare files form) input page = HasCoteries (length files.items) input
 IsPage (show.Without words) input page = IsWithoutOf (map string_bytes words.items) input page
-IsPage show.Resilience input page = HasCoterie input
+IsPage (show.Resilience form) input page = HasParts (split 2 input) input
 IsPage show.Bridge input page = HasPair input
 IsPage show.World input page = IsStory input
 IsPage (show.Waiting w) input page = page ≡ waiting_text w
@@ -59,7 +59,10 @@ IsPage (show.Picture pictures.World) input page = IsStoryPicture input page
 -- fault, a word is no voter's name, or the last part is no script
 abbrev pub RefusesPage : ShowCommand → List ℕ → Fault → Type 0
 RefusesPage (show.Without words) input fault = RefusesWithout (map string_bytes words.items) input fault
-RefusesPage show.Resilience input fault = Refuses fault (coterie_part input)
+RefusesPage (show.Near page_of) input fault = Refuses fault (coterie_part input)
+RefusesPage (show.Coterie shape capacities) input fault = RefusesShape fault (text_at shape (option_map (λ list. list.items) capacities))
+RefusesPage (show.Compare files form) input fault = Refuses fault (files_in (length files.items) input)
+RefusesPage (show.Resilience form) input fault = RefusesParts (split 2 input) input fault
 RefusesPage show.Bridge input fault = Refuses fault (pair_in input)
 RefusesPage show.World input fault = RefusesStory input fault
 RefusesPage (show.Waiting w) input fault = fault ≡ OutOfMemory
@@ -77,9 +80,10 @@ IsShownBy view command input (Err fault) = RefusesPage command input fault
 
 -- Devices
 
--- whether a command reads its input; `waiting`, `explain` and `fault make` don't
+-- whether a command reads its input; `coterie`, `waiting`, `explain` and `fault make` don't
 abbrev pub reads_page_input : ShowCommand → Bool
 reads_page_input (show.Waiting w) = false
+reads_page_input (show.Coterie shape capacities) = false
 reads_page_input (show.Explain explanation) = false
 reads_page_input show.ExplainAll = false
 reads_page_input show.ListFaults = false

@@ -1,5 +1,6 @@
 //! The commands of the program.
 use commands::Command;
+use show_coteries::CoterieShape;
 use show_faults::Explanation;
 use show_waiting::Waiting;
 
@@ -14,21 +15,65 @@ pub enum Picture {
     World,
 }
 
+/// How a page is written.
+#[derive(Clone, Copy)]
+pub enum Form {
+    /// In words, for people.
+    Words,
+    /// As JSON, for programs.
+    Json,
+}
+
+/// How dealt tickets are written.
+#[derive(Clone, Copy)]
+pub enum TicketForm {
+    /// In words, with an account of the tickets.
+    Words,
+    /// The names of the voters to ask, a line for each ticket.
+    Names,
+    /// As JSON, for programs.
+    Json,
+}
+
+/// Tickets to deal.
+#[derive(Clone, Copy)]
+pub struct Dealing {
+    /// How many, 0 to 100,000.
+    pub count: u32,
+    /// Whether in the order that is even from the first ticket.
+    pub is_even: bool,
+    /// How they are written.
+    pub form: TicketForm,
+}
+
+/// What is shown of weights that are near the best.
+#[derive(Clone, Copy)]
+pub struct NearPage {
+    /// How they are written.
+    pub form: Form,
+    /// How many tickets are dealt by them, 0 to 100,000, in place of a page about them.
+    pub tickets: Option<u64>,
+}
+
 /// A command, with the words and numbers from the command line.
 #[derive(Drop)]
 pub enum ShowCommand {
     /// Show a plan: whom to ask how often, and why no plan is better.
-    Plan,
+    Plan(Form),
     /// Report on a plan as one HTML document.
     Report,
-    /// Deal this many tickets, 0 to 100,000, with the names of the voters to ask.
-    Deal(u32),
-    /// Deal as many in the order that is even from the first ticket.
-    DealEven(u32),
+    /// Deal tickets, with the names of the voters to ask.
+    Deal(Dealing),
+    /// Find weights near the best for a coterie, with a bound of every plan's load.
+    Near(NearPage),
+    /// Write the coterie of a shape, with these capacities, if there are any.
+    Coterie(CoterieShape, Option<Vec<u64>>),
+    /// Show coteries side by side: those of files with these names.
+    Compare(Vec<String>, Form),
     /// Write the coterie that is left when the voters with these names fail.
     Without(Vec<String>),
     /// Show how many voters may fail, and which groups of them.
-    Resilience,
+    Resilience(Form),
     /// Show whether each quorum of one coterie meets each quorum of another.
     Bridge,
     /// Tell a script's run in words.

@@ -31,17 +31,20 @@
 //! let command = read_show_words(alloc, words)?; // of `qlock-show plan`: ShowCommand::Plan
 //! let mut reader = Watched::of(input.as_bytes());
 //! let mut writer = Watched::of(&mut written);
-//! show(alloc, &command, &mut reader, &mut writer)?; // `written` is the page
+//! show(alloc, &command, &[], &mut reader, &mut writer)?; // `written` is the page
 //! ```
 #![tactic(auto)]
 
 mod command;
+mod compared;
 mod losses;
+mod nearness;
 mod pages;
 mod scenes;
 mod serving;
+mod shapes;
 mod words;
 
-pub use command::{Picture, ShowCommand};
+pub use command::{Dealing, Form, NearPage, Picture, ShowCommand, TicketForm};
 pub use serving::{reads_page_input, show};
 pub use words::read_show_words;

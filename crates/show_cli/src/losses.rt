@@ -1,14 +1,17 @@
 //! Pages of coteries: what is left when voters fail, what may fail, and bridges.
-ghost use Rattle.std.specs.Prelude.{IfErr, IfOk, map, string_bytes};
+ghost use Rattle.std.specs.Prelude.{◌≡◌, IfErr, IfOk, map, string_bytes};
 ghost use Rattle.commands.specs.Commands.{Gives};
 ghost use Rattle.commands.specs.Devices.{IsOwn};
+ghost use Rattle.commands.specs.declared.fault.Fault.TheVariants.{OutOfMemory};
 ghost use Rattle.show_cli.specs.Failures.{IsWithoutOf, RefusesWithout, pair_in};
 ghost use Rattle.show_cli.specs.Pages.{IsShownBy};
 
-use crate::command::ShowCommand;
-use commands::{Fault, coterie_of, split_part};
+use crate::command::{Form, ShowCommand};
+use certificate::Plan;
+use commands::{Fault, coterie_of, planned_of, split_part};
 use coterie_file::Named;
 use show_failures::{bridge_page, first_unknown, resilience_page, without_page};
+use show_json::resilience_json;
 use std::alloc::Global;
 
 /// Returns the page of what is left of the coterie in an input when the voters with these names
@@ -32,18 +35,39 @@ pub(crate) fn left_page(alloc: Global, words: &[String], input: &[u8]) -> Result
     }
 }
 
-/// Returns the page of what the coterie in an input bears.
-pub(crate) fn borne_page(alloc: Global, input: &[u8]) -> Result<String, Fault>
-    ensures shown { IsShownBy string_bytes ShowCommand.Resilience input.now result }
-    ensures own { IfErr result IsOwn }
+/// Returns what a coterie bears, and, if a plan is given, what the plan's own quorums bear.
+fn borne(
+    alloc: Global,
+    form: Form,
+    named: &Named,
+    plan: Option<&Plan>,
+) -> Result<String, Fault>
+    ensures memory { IfErr result (λ fault. fault ≡ OutOfMemory) }
 {
-    let named = match coterie_of(alloc, input) {
-        Ok(named) => named,
-        Err(fault) => return Err(fault),
+    let page = match form {
+        Form::Words => resilience_page(alloc, named, plan),
+        Form::Json => resilience_json(alloc, named, plan),
     };
-    match resilience_page(alloc, &named) {
+    match page {
         Ok(page) => Ok(page),
         Err(_) => Err(Fault::OutOfMemory),
+    }
+}
+
+/// Returns the page of what the coterie in an input bears, and its plan, if there is one.
+pub(crate) fn borne_page(alloc: Global, form: Form, input: &[u8]) -> Result<String, Fault>
+    ensures shown { IsShownBy string_bytes (ShowCommand.Resilience form) input.now result }
+    ensures own { IfErr result IsOwn }
+{
+    match split_part(input, 2) {
+        Ok(_) => match planned_of(alloc, input) {
+            Ok(planned) => borne(alloc, form, &planned.named, Some(&planned.plan)),
+            Err(fault) => Err(fault),
+        },
+        Err(_) => match coterie_of(alloc, input) {
+            Ok(named) => borne(alloc, form, &named, None),
+            Err(fault) => Err(fault),
+        },
     }
 }
 

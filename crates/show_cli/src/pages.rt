@@ -9,28 +9,45 @@ ghost use Rattle.show_refusals.specs.Pages.{IsFaultPage};
 ghost use Rattle.show_cli.specs.Pages.{HasPlan, IsShownBy};
 ghost use Rattle.show_waiting.specs.Waiting.{IsInRange as IsAnswered, waiting_text};
 
-use crate::command::{Picture, ShowCommand};
+use crate::command::{Dealing, Form, Picture, ShowCommand, TicketForm};
+use crate::compared::compared_page;
 use crate::losses::{borne_page, left_page, pair_page};
+use crate::nearness::near_weights_page;
+use crate::shapes::shape_page;
 use crate::scenes::{Scene, scene_of};
 use commands::{Command, Fault, Planned, planned_of};
 use show_faults::{Explanation, explanation_text, faults_list, faults_page};
+use show_json::{deal_json, plan_json};
 use show_plans::{cycle_picture, load_picture};
 use show_refusals::fault_page;
 use show_report::report_page;
-use show_tickets::{even_page, rounds_page};
+use show_tickets::{even_page, names_page, rounds_page};
 use show_waiting::{Waiting, waiting_page};
 use show_words::{plan_words, world_words};
 use show_worlds::world_picture;
 use std::alloc::{AllocError, Global};
 
-/// Returns the words of a plan, or what else a command shows of it: a report, or dealt tickets.
+/// Returns dealt tickets.
+fn tickets_of(alloc: Global, dealing: &Dealing, planned: Planned) -> Result<String, AllocError>
+    requires { dealing.now.count ≤ 100000 }
+{
+    let count = u64::from(dealing.count);
+    match dealing.form {
+        TicketForm::Words if dealing.is_even => even_page(alloc, planned, count),
+        TicketForm::Words => rounds_page(alloc, planned, count),
+        TicketForm::Names => names_page(alloc, planned, count, dealing.is_even),
+        TicketForm::Json => deal_json(alloc, planned, count, dealing.is_even),
+    }
+}
+
+/// Returns the words of a plan, or what else a command shows of it: JSON, a report, or dealt tickets.
 fn words_of(alloc: Global, command: &ShowCommand, planned: Planned) -> Result<String, AllocError>
     requires { IsShown command.now }
 {
     match command {
         ShowCommand::Report => report_page(alloc, &planned.named, &planned.plan),
-        ShowCommand::Deal(count) => rounds_page(alloc, planned, u64::from(*count)),
-        ShowCommand::DealEven(count) => even_page(alloc, planned, u64::from(*count)),
+        ShowCommand::Deal(dealing) => tickets_of(alloc, dealing, planned),
+        ShowCommand::Plan(Form::Json) => plan_json(alloc, &planned.named, &planned.plan),
         _ => plan_words(alloc, &planned.named, &planned.plan),
     }
 }
@@ -165,31 +182,46 @@ fn list_page(alloc: Global) -> Result<String, Fault>
     }
 }
 
-/// Returns the page about the fault for which a command of `qlock` refuses an input.
-fn refusal_page(alloc: Global, command: &Command, input: &[u8]) -> Result<String, Fault>
+/// Returns the page about the fault for which a command of `qlock` refuses an input, which comes from
+/// these files, if there are any.
+fn refusal_page(
+    alloc: Global,
+    command: &Command,
+    input: &[u8],
+    files: &[String],
+) -> Result<String, Fault>
     requires { IsInRange command.now }
     ensures page { IfOk result (λ page. IsFaultPage command.now input.now (string_bytes page)) }
     ensures memory { IfErr result (λ fault. fault ≡ Fault.OutOfMemory) }
 {
-    match fault_page(alloc, command, input, &[]) {
+    match fault_page(alloc, command, input, files) {
         Ok(page) => Ok(page),
         Err(_) => Err(Fault::OutOfMemory),
     }
 }
 
-/// Returns what the command writes for an input.
-pub(crate) fn page_of(alloc: Global, command: &ShowCommand, input: &[u8]) -> Result<String, Fault>
+/// Returns what the command writes for an input, which comes from these files, if there are any.
+pub(crate) fn page_of(
+    alloc: Global,
+    command: &ShowCommand,
+    input: &[u8],
+    files: &[String],
+) -> Result<String, Fault>
     requires { IsShown command.now }
     ensures shown { IsShownBy string_bytes command.now input.now result }
     ensures own { IfErr result IsOwn }
 {
     match command {
-        ShowCommand::Plan | ShowCommand::Report | ShowCommand::Deal(_) | ShowCommand::DealEven(_) =>
-            plan_page(alloc, command, input),
+        ShowCommand::Plan(_) | ShowCommand::Report | ShowCommand::Deal(_) => {
+            plan_page(alloc, command, input)
+        }
+        ShowCommand::Near(page) => near_weights_page(alloc, page, input),
+        ShowCommand::Coterie(shape, capacities) => shape_page(alloc, shape, capacities),
+        ShowCommand::Compare(files, form) => compared_page(alloc, files.as_slice(), *form, input),
         ShowCommand::Picture(Picture::Load) => load_page(alloc, input),
         ShowCommand::Picture(Picture::Cycle) => cycle_page(alloc, input),
         ShowCommand::Without(words) => left_page(alloc, words, input),
-        ShowCommand::Resilience => borne_page(alloc, input),
+        ShowCommand::Resilience(form) => borne_page(alloc, *form, input),
         ShowCommand::Bridge => pair_page(alloc, input),
         ShowCommand::World => world_page(alloc, input),
         ShowCommand::Picture(Picture::World) => story_picture(alloc, input),
@@ -197,6 +229,6 @@ pub(crate) fn page_of(alloc: Global, command: &ShowCommand, input: &[u8]) -> Res
         ShowCommand::Explain(explanation) => explain_page(alloc, explanation),
         ShowCommand::ExplainAll => explain_all_page(alloc),
         ShowCommand::ListFaults => list_page(alloc),
-        ShowCommand::Fault(command) => refusal_page(alloc, command, input),
+        ShowCommand::Fault(command) => refusal_page(alloc, command, input, files),
     }
 }

@@ -16,22 +16,25 @@ use std::alloc::Global;
 use std::io::{Read, Write};
 use whole_io::{read_input, write_output};
 
-/// Returns whether a command reads its input. `waiting` and `explain` don't, and neither does `fault make`.
+/// Returns whether a command reads its input. `coterie`, `waiting` and `explain` don't, and
+/// neither does `fault make`.
 pub fn reads_page_input(command: &ShowCommand) -> bool
     ensures { result ≡ reads_page_input command.now }
 {
     match command {
-        ShowCommand::Waiting(_)
+        ShowCommand::Coterie(..)
+        | ShowCommand::Waiting(_)
         | ShowCommand::Explain(_)
         | ShowCommand::ExplainAll
         | ShowCommand::ListFaults => false,
         ShowCommand::Fault(command) => reads_input(command),
-        ShowCommand::Plan
+        ShowCommand::Plan(_)
         | ShowCommand::Report
         | ShowCommand::Deal(_)
-        | ShowCommand::DealEven(_)
+        | ShowCommand::Near(_)
+        | ShowCommand::Compare(..)
         | ShowCommand::Without(_)
-        | ShowCommand::Resilience
+        | ShowCommand::Resilience(_)
         | ShowCommand::Bridge
         | ShowCommand::World
         | ShowCommand::Picture(_) => true,
@@ -80,7 +83,9 @@ fn write_page<W: Write>(writer: &mut Watched<W>, page: &[u8]) -> Result<(), Faul
     }
 }
 
-/// Serves a command: reads the input to its end, and writes the command's page and nothing else.
+/// Serves a command: reads the input to its end, and writes the command's page and nothing else. The
+/// input comes from these files, in their order, or from standard input if there are none; a page of a
+/// fault names them.
 ///
 /// Faults come in the same order as those of `commands::execute`. No byte after the 16,777,217th is
 /// read. A fault other than a failed write writes nothing. After a failed write a beginning of the
@@ -89,6 +94,7 @@ fn write_page<W: Write>(writer: &mut Watched<W>, page: &[u8]) -> Result<(), Faul
 pub fn show<R: Read, W: Write>(
     alloc: Global,
     command: &ShowCommand,
+    files: &[String],
     reader: &mut Watched<R>,
     writer: &mut Watched<W>,
 ) -> Result<(), Fault>
@@ -126,7 +132,7 @@ pub fn show<R: Read, W: Write>(
         Ok(input) => input,
         Err(fault) => return Err(fault),
     };
-    let page = match page_of(alloc, command, input.as_slice()) {
+    let page = match page_of(alloc, command, input.as_slice(), files) {
         Ok(page) => page,
         Err(fault) => return Err(fault),
     };

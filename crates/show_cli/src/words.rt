@@ -1,26 +1,38 @@
 //! The command line: which command its words name.
-ghost use Rattle.std.specs.Prelude.{◌≡◌, ℕ, ◌++◌, ◌∷◌, Option, false, true, IfErr, IfOk, IfSome, None, OnOk, codes, map, string_bytes};
-ghost use Rattle.clap.specs.Words.{app_of, found_of, rows_of, rule_of, subcommand_rows_of};
+ghost use Rattle.std.specs.Prelude.{◌≡◌, ◌⊎◌, ℕ, ◌++◌, ◌∷◌, Option, false, true, IfErr, IfOk, IfSome, None, OnOk, Vec, codes, map, string_bytes};
+ghost use Rattle.std.specs.declared.alloc.Global.{Global};
+ghost use Rattle.clap.specs.Words.{all_of, app_of, found_of, rows_of, rule_of, subcommand_rows_of};
 ghost use Rattle.command_line.specs.Words.{IsLocal, used_as};
-ghost use Rattle.command_line.specs.declared.usage.Usage.TheVariants.{Arguments};
+ghost use Rattle.command_line.specs.declared.usage.Usage.TheVariants.{Arguments, OutOfMemory};
 ghost use Rattle.show_cli.specs.Commands.{IsShown};
 ghost use Rattle.show_cli.specs.declared.command.Picture.{Picture};
-ghost use Rattle.show_cli.specs.Words.{IsEven, IsNamedBy, Names, Refuses, RefusesUse, coteries_app, MayHaveNumber, even_rule, explain_app, fault_app, optional_rule, pages_app, picture_app, picture_word, qlock_words, reports_app, round_rule, show_app, tickets_app, waiting_app, waits_app, without_app, words_rule};
+ghost use Rattle.show_cli.specs.Words.{HasFlag, HasTexts, IsForm, MayHaveCapacities, capacity_rule, coterie_app, planners_app, IsNamedBy, IsTicketForm, MayHaveNumber, Names, Refuses, RefusesUse, compare_app, coteries_app, explain_app, fault_app, files_rule, flag_rule, near_app, near_deal_rule, optional_rule, pages_app, plan_app, picture_app, picture_word, qlock_words, reports_app, resilience_app, round_rule, show_app, tickets_app, waiting_app, waits_app, without_app, words_rule};
 
-use crate::command::{Picture, ShowCommand};
+use crate::command::{Dealing, Form, NearPage, Picture, ShowCommand, TicketForm};
+use clap::builder::ValueParser;
 use clap::{Arg, ArgAction, ArgMatches};
 use command_line::{
-    bare_command, number_argument, number_of, read_matches, text_at, text_of, texts_of,
-    tickets_argument, tickets_of, used_in, word_argument,
+    bare_command, number_argument, number_of, read_matches, sizes_argument, sizes_given, text_at,
+    text_of, texts_of, tickets_argument, tickets_of, used_in, word_argument,
 };
 use commands::{Command, Usage, read_words};
 use numbers::MAX_CLIENTS;
+use show_coteries::{shape_of, widened};
 use show_faults::explanation_of;
 use show_waiting::Waiting;
 use std::alloc::{AllocError, Global};
 
 /// The version of the program, as in `CHANGELOG.md`.
 const VERSION: &str = "0.2.0";
+
+/// The most tickets that `near` deals.
+const MOST_TICKETS: u64 = 100_000;
+
+/// The most files of `compare`.
+const MOST_FILES: usize = 64;
+
+/// The greatest capacity of a voter.
+const MOST_CAPACITY: u64 = 1_000;
 
 /// The most clients of `waiting`.
 const MOST_CLIENTS: u64 = MAX_CLIENTS as u64;
@@ -31,15 +43,36 @@ const MOST_WITHDRAWALS: u64 = 1_000_000;
 /// The longest round of `waiting`, in seconds: a day.
 const LONGEST_ROUND: u64 = 86_400;
 
-/// Returns the flag `--even`.
-fn even_argument<'a>(alloc: Global) -> Arg<'a>
-    ensures rule { rule_of result ≡ even_rule }
+/// Returns a flag.
+fn flag_argument<'a>(alloc: Global, name: &'a str, help: &'a str) -> Arg<'a>
+    ensures rule { rule_of result ≡ flag_rule name.now }
     ensures local { result.global ≡ false }
 {
-    Arg::new(alloc, "even")
-        .help("Deal in the order that is even from the first ticket")
-        .long("even")
+    Arg::new(alloc, name)
+        .help(help)
+        .long(name)
         .action(ArgAction::SetTrue)
+}
+
+/// Returns the flag `--json`.
+fn json_argument<'a>(alloc: Global) -> Arg<'a>
+    ensures rule { rule_of result ≡ flag_rule (codes "json") }
+    ensures local { result.global ≡ false }
+{
+    flag_argument(alloc, "json", "Write JSON, for programs")
+}
+
+/// Returns the subcommand `plan`, with the flag `--json`.
+fn plan_command<'a>(alloc: Global) -> Result<clap::Command<'a>, AllocError>
+    ensures app { IfOk result (λ c. app_of c ≡ plan_app) }
+    ensures local { IfOk result IsLocal }
+{
+    bare_command(
+        alloc,
+        "plan",
+        "Show a plan: whom to ask how often, and why no plan is better: a coterie, a line %%, and a plan",
+    )
+    .arg(json_argument(alloc))
 }
 
 /// Returns an argument that has to be there: one word or more.
@@ -50,7 +83,7 @@ fn words_argument<'a>(alloc: Global, name: &'a str, help: &'a str) -> Arg<'a>
     word_argument(alloc, name, help).num_args(1..)
 }
 
-/// Returns the subcommand `deal N`, with the flag `--even`.
+/// Returns the subcommand `deal N`, with the flags `--even`, `--names` and `--json`.
 fn deal_command<'a>(alloc: Global) -> Result<clap::Command<'a>, AllocError>
     ensures app { IfOk result (λ c. app_of c ≡ tickets_app) }
     ensures local { IfOk result IsLocal }
@@ -61,7 +94,17 @@ fn deal_command<'a>(alloc: Global) -> Result<clap::Command<'a>, AllocError>
         "Deal tickets with the names of the voters to ask: a coterie, a line %%, and a plan",
     )
     .arg(tickets_argument(alloc))?
-    .arg(even_argument(alloc))
+    .arg(flag_argument(
+        alloc,
+        "even",
+        "Deal in the order that is even from the first ticket",
+    ))?
+    .arg(flag_argument(
+        alloc,
+        "names",
+        "Write the names of the voters to ask alone, a line for each ticket",
+    ))?
+    .arg(json_argument(alloc))
 }
 
 /// Returns the subcommand `without NAMES..`.
@@ -77,6 +120,46 @@ fn without_command<'a>(alloc: Global) -> Result<clap::Command<'a>, AllocError>
     .arg(words_argument(alloc, "NAMES", "The names of the voters that fail"))
 }
 
+/// Returns the subcommand `resilience`, with the flag `--json`.
+fn resilience_command<'a>(alloc: Global) -> Result<clap::Command<'a>, AllocError>
+    ensures app { IfOk result (λ c. app_of c ≡ resilience_app) }
+    ensures local { IfOk result IsLocal }
+{
+    bare_command(
+        alloc,
+        "resilience",
+        "Show how many voters may fail, and which groups of them: a coterie, or a coterie, a line %%, and a plan",
+    )
+    .arg(json_argument(alloc))
+}
+
+/// Returns the argument FILES of `compare`.
+fn files_argument<'a>(alloc: Global) -> Arg<'a>
+    ensures rule { rule_of result ≡ files_rule }
+    ensures local { result.global ≡ false }
+{
+    word_argument(
+        alloc,
+        "FILES",
+        "The names of 1 to 64 files with a coterie each",
+    )
+    .num_args(1..=MOST_FILES)
+}
+
+/// Returns the subcommand `compare FILES..`, with the flag `--json`.
+fn compare_command<'a>(alloc: Global) -> Result<clap::Command<'a>, AllocError>
+    ensures app { IfOk result (λ c. app_of c ≡ compare_app) }
+    ensures local { IfOk result IsLocal }
+{
+    bare_command(
+        alloc,
+        "compare",
+        "Show the coteries in these files side by side: sizes, loads, failures borne, and loads without each group of voters",
+    )
+    .arg(files_argument(alloc))?
+    .arg(json_argument(alloc))
+}
+
 /// Returns an argument that may be left out: a number from `least` to `most`.
 fn optional_argument<'a>(
     alloc: Global,
@@ -89,6 +172,68 @@ fn optional_argument<'a>(
     ensures local { result.global ≡ false }
 {
     number_argument(alloc, name, help, least, most).required(false)
+}
+
+/// Returns the option `--deal N` of `near`.
+fn near_deal_argument<'a>(alloc: Global) -> Arg<'a>
+    ensures rule { rule_of result ≡ near_deal_rule }
+    ensures local { result.global ≡ false }
+{
+    optional_argument(
+        alloc,
+        "deal",
+        "Deal this many tickets by these weights, 0 to 100000",
+        0,
+        MOST_TICKETS,
+    )
+    .long("deal")
+    .value_name("N")
+}
+
+/// Returns the subcommand `near`, with the option `--deal` and the flag `--json`.
+fn near_command<'a>(alloc: Global) -> Result<clap::Command<'a>, AllocError>
+    ensures app { IfOk result (λ c. app_of c ≡ near_app) }
+    ensures local { IfOk result IsLocal }
+{
+    bare_command(
+        alloc,
+        "near",
+        "Find weights near the best where qlock plan finds no plan, with a bound below which no plan's load is: a coterie",
+    )
+    .arg(near_deal_argument(alloc))?
+    .arg(json_argument(alloc))
+}
+
+/// Returns the option `--capacity NUMBERS..` of `coterie`.
+fn capacity_argument<'a>(alloc: Global) -> Arg<'a>
+    ensures rule { rule_of result ≡ capacity_rule }
+    ensures local { result.global ≡ false }
+{
+    Arg::new(alloc, "capacity")
+        .help("The capacity of each voter, 1 to 1000; without it each voter has capacity 1")
+        .long("capacity")
+        .num_args(1..)
+        .value_parser(ValueParser::unsigned(1, MOST_CAPACITY))
+        .value_name("NUMBERS")
+}
+
+/// Returns the subcommand `coterie SHAPE NUMBERS..`, with the option `--capacity`.
+fn coterie_command<'a>(alloc: Global) -> Result<clap::Command<'a>, AllocError>
+    ensures app { IfOk result (λ c. app_of c ≡ coterie_app) }
+    ensures local { IfOk result IsLocal }
+{
+    bare_command(
+        alloc,
+        "coterie",
+        "Write a coterie of racks, centres or votes, for qlock plan; standard input is not read",
+    )
+    .arg(word_argument(
+        alloc,
+        "SHAPE",
+        "racks RACKS VOTERS, centres VOTERS.., votes VOTES.. or any SIZE VOTERS",
+    ))?
+    .arg(sizes_argument(alloc))?
+    .arg(capacity_argument(alloc))
 }
 
 /// Returns the option `--round SECONDS`.
@@ -186,11 +331,7 @@ fn pages_command<'a>(alloc: Global) -> Result<clap::Command<'a>, AllocError>
     )
     .version(VERSION)
     .subcommand_required(true)
-    .subcommand(bare_command(
-        alloc,
-        "plan",
-        "Show a plan: whom to ask how often, and why no plan is better: a coterie, a line %%, and a plan",
-    ))?
+    .subcommand(plan_command(alloc)?)?
     .subcommand(deal_command(alloc)?)?
     .subcommand(bare_command(
         alloc,
@@ -216,11 +357,7 @@ fn coteries_command<'a>(alloc: Global) -> Result<clap::Command<'a>, AllocError>
 {
     reports_command(alloc)?
         .subcommand(without_command(alloc)?)?
-        .subcommand(bare_command(
-            alloc,
-            "resilience",
-            "Show how many voters may fail, and which groups of them: a coterie",
-        ))?
+        .subcommand(resilience_command(alloc)?)?
         .subcommand(bare_command(
             alloc,
             "bridge",
@@ -228,11 +365,21 @@ fn coteries_command<'a>(alloc: Global) -> Result<clap::Command<'a>, AllocError>
         ))
 }
 
+/// Returns the command line with `near`, `compare` and `coterie` too.
+fn planners_command<'a>(alloc: Global) -> Result<clap::Command<'a>, AllocError>
+    ensures { IfOk result (λ c. app_of c ≡ planners_app) }
+{
+    coteries_command(alloc)?
+        .subcommand(near_command(alloc)?)?
+        .subcommand(compare_command(alloc)?)?
+        .subcommand(coterie_command(alloc)?)
+}
+
 /// Returns the command line with `waiting` too.
 fn waits_command<'a>(alloc: Global) -> Result<clap::Command<'a>, AllocError>
     ensures { IfOk result (λ c. app_of c ≡ waits_app) }
 {
-    coteries_command(alloc)?.subcommand(waiting_command(alloc)?)
+    planners_command(alloc)?.subcommand(waiting_command(alloc)?)
 }
 
 /// Returns the whole command line.
@@ -256,32 +403,55 @@ fn is_set(value: &str) -> bool
     }
 }
 
-/// Returns whether the tickets are dealt in the even order.
-fn is_even(used: &ArgMatches) -> bool
-    ensures even { result ≡ true → IsEven (rows_of (found_of used.now)) }
-    ensures plain { result ≡ false → ¬ IsEven (rows_of (found_of used.now)) }
+/// Returns whether the flag with this name is there.
+fn has_flag(used: &ArgMatches, name: &str) -> bool
+    ensures { HasFlag name.now (rows_of (found_of used.now)) result }
 {
-    match text_of(used, "even") {
+    match text_of(used, name) {
         Some(value) => is_set(value),
         None => false,
     }
 }
 
-/// Returns `deal` with its number of tickets, and in the order that its flag says.
+/// Returns how a page is written: as JSON with `--json`, else in words.
+fn form_of(used: &ArgMatches) -> Form
+    ensures { IsForm (rows_of (found_of used.now)) result }
+{
+    if has_flag(used, "json") {
+        Form::Json
+    } else {
+        Form::Words
+    }
+}
+
+/// Returns how tickets are written: as JSON with `--json`, as names with `--names`, else in words.
+fn ticket_form_of(used: &ArgMatches) -> TicketForm
+    ensures { IsTicketForm (rows_of (found_of used.now)) result }
+{
+    if has_flag(used, "json") {
+        TicketForm::Json
+    } else if has_flag(used, "names") {
+        TicketForm::Names
+    } else {
+        TicketForm::Words
+    }
+}
+
+/// Returns `deal` with its number of tickets, and in the order and the form that its flags say.
 fn deal_of(used: &ArgMatches) -> Result<ShowCommand, Usage>
     ensures named { IfOk result (IsNamedBy (used_as (codes "deal") used.now)) }
     ensures refused { IfErr result (RefusesUse (used_as (codes "deal") used.now)) }
     ensures memory { IfErr result (λ usage. usage ≡ Arguments) }
     ensures shown { IfOk result IsShown }
 {
-    let Some(tickets) = tickets_of(used) else {
+    let Some(count) = tickets_of(used) else {
         return Err(Usage::Arguments);
     };
-    if is_even(used) {
-        Ok(ShowCommand::DealEven(tickets))
-    } else {
-        Ok(ShowCommand::Deal(tickets))
-    }
+    Ok(ShowCommand::Deal(Dealing {
+        count,
+        is_even: has_flag(used, "even"),
+        form: ticket_form_of(used),
+    }))
 }
 
 /// Returns the number that an argument is, if it is there and in range; or that it was left out.
@@ -301,6 +471,22 @@ fn number_if_given(
             Some(number) => Ok(Some(number)),
             None => Err(Usage::Arguments),
         },
+    }
+}
+
+/// Returns `near` with how many tickets are dealt, if any, and the form that its flag says.
+fn near_of(used: &ArgMatches) -> Result<ShowCommand, Usage>
+    ensures named { IfOk result (IsNamedBy (used_as (codes "near") used.now)) }
+    ensures refused { IfErr result (RefusesUse (used_as (codes "near") used.now)) }
+    ensures memory { IfErr result (λ usage. usage ≡ Arguments) }
+    ensures shown { IfOk result IsShown }
+{
+    match number_if_given(used, "deal", 0, MOST_TICKETS) {
+        Ok(tickets) => Ok(ShowCommand::Near(NearPage {
+            form: form_of(used),
+            tickets,
+        })),
+        Err(usage) => Err(usage),
     }
 }
 
@@ -388,18 +574,80 @@ fn push_texts(alloc: Global, words: &mut Vec<String>, texts: &[&str]) -> Result<
     Ok(())
 }
 
+/// Returns the values of an argument, if there are any.
+fn texts_given(alloc: Global, used: &ArgMatches, name: &str) -> Result<Vec<String>, Usage>
+    ensures given { IfOk result (λ texts. HasTexts name.now (rows_of (found_of used.now)) texts.items) }
+    ensures missing { IfErr result (λ usage. usage ≡ Arguments → None ≡ all_of name.now (rows_of (found_of used.now))) }
+    ensures memory { IfErr result (λ usage. (usage ≡ Arguments) ⊎ (usage ≡ OutOfMemory)) }
+{
+    let Some(texts) = texts_of(used, name) else {
+        return Err(Usage::Arguments);
+    };
+    let mut words = Vec::new(alloc);
+    push_texts(alloc, &mut words, texts)?;
+    Ok(words)
+}
+
+/// Returns the capacities that `--capacity` has, if it is there.
+fn capacities_of(alloc: Global, used: &ArgMatches) -> Result<Option<Vec<u64>>, Usage>
+    ensures given { IfOk result (MayHaveCapacities (rows_of (found_of used.now))) }
+    ensures refused { IfErr result (λ usage. usage ≡ Arguments
+        → (list : Option (Vec ℕ Global)) → ¬ MayHaveCapacities (rows_of (found_of used.now)) list) }
+    ensures memory { IfErr result (λ usage. (usage ≡ Arguments) ⊎ (usage ≡ OutOfMemory)) }
+{
+    if texts_of(used, "capacity").is_none() {
+        return Ok(None);
+    }
+    match sizes_given(alloc, used, "capacity")? {
+        Some(capacities) => Ok(Some(widened(alloc, &capacities)?)),
+        None => Err(Usage::Arguments),
+    }
+}
+
+/// Returns `coterie` with its shape and its capacities.
+fn coterie_of(alloc: Global, used: &ArgMatches) -> Result<ShowCommand, Usage>
+    ensures named { IfOk result (IsNamedBy (used_as (codes "coterie") used.now)) }
+    ensures refused { IfErr result (RefusesUse (used_as (codes "coterie") used.now)) }
+    ensures shown { IfOk result IsShown }
+{
+    let Some(name) = text_of(used, "SHAPE") else {
+        return Err(Usage::Arguments);
+    };
+    let Some(sizes) = sizes_given(alloc, used, "NUMBERS")? else {
+        return Err(Usage::Arguments);
+    };
+    let Some(shape) = shape_of(alloc, name, &sizes)? else {
+        return Err(Usage::Arguments);
+    };
+    match capacities_of(alloc, used) {
+        Ok(capacities) => Ok(ShowCommand::Coterie(shape, capacities)),
+        Err(usage) => Err(usage),
+    }
+}
+
+/// Returns `compare` with the names of its files, and the form that its flag says.
+fn compare_of(alloc: Global, used: &ArgMatches) -> Result<ShowCommand, Usage>
+    ensures named { IfOk result (IsNamedBy (used_as (codes "compare") used.now)) }
+    ensures refused { IfErr result (RefusesUse (used_as (codes "compare") used.now)) }
+    ensures shown { IfOk result IsShown }
+{
+    match texts_given(alloc, used, "FILES") {
+        Ok(files) if files.len() <= MOST_FILES => Ok(ShowCommand::Compare(files, form_of(used))),
+        Ok(_) => Err(Usage::Arguments),
+        Err(usage) => Err(usage),
+    }
+}
+
 /// Returns `without` with the names that its words are.
 fn without_of(alloc: Global, used: &ArgMatches) -> Result<ShowCommand, Usage>
     ensures named { IfOk result (IsNamedBy (used_as (codes "without") used.now)) }
     ensures refused { IfErr result (RefusesUse (used_as (codes "without") used.now)) }
     ensures shown { IfOk result IsShown }
 {
-    let Some(texts) = texts_of(used, "NAMES") else {
-        return Err(Usage::Arguments);
-    };
-    let mut names = Vec::new(alloc);
-    push_texts(alloc, &mut names, texts)?;
-    Ok(ShowCommand::Without(names))
+    match texts_given(alloc, used, "NAMES") {
+        Ok(names) => Ok(ShowCommand::Without(names)),
+        Err(usage) => Err(usage),
+    }
 }
 
 /// Returns a command line of `qlock` with these words behind its name.
@@ -442,11 +690,14 @@ fn command_named(alloc: Global, name: &str, used: &ArgMatches) -> Result<ShowCom
     ensures shown { IfOk result IsShown }
 {
     match name {
-        "plan" => Ok(ShowCommand::Plan),
+        "plan" => Ok(ShowCommand::Plan(form_of(used))),
         "world" => Ok(ShowCommand::World),
         "report" => Ok(ShowCommand::Report),
-        "resilience" => Ok(ShowCommand::Resilience),
+        "resilience" => Ok(ShowCommand::Resilience(form_of(used))),
         "bridge" => Ok(ShowCommand::Bridge),
+        "near" => near_of(used),
+        "compare" => compare_of(alloc, used),
+        "coterie" => coterie_of(alloc, used),
         "without" => without_of(alloc, used),
         "deal" => deal_of(used),
         "waiting" => waiting_of(used),

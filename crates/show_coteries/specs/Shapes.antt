@@ -1,7 +1,6 @@
 -- The coteries of shapes, with names and capacities, and their texts.
-use Rattle.std.specs.Prelude.{ℕ, ◌+◌, if◌then◌else◌, nat_lt, List, [], ◌∷◌, ◌++◌, Option, None, Some, Result, Ok, Err, Vec, decimal, encode_utf8, length, map, replicate}
+use Rattle.std.specs.Prelude.{ℕ, ◌+◌, if◌then◌else◌, nat_lt, List, [], ◌∷◌, ◌++◌, Option, None, Some, Result, Ok, Err, decimal, encode_utf8, length, map, replicate}
 use Rattle.std.specs.List.{range_with_len}
-use Rattle.std.specs.declared.alloc.Global.{Global}
 use Rattle.numbers.specs.Results.{GivesUnless, ◌>>=◌}
 use Rattle.quorum_set.specs.Capacities.{unit_capacities}
 use Rattle.quorum_set.specs.Coteries.{QuorumSystem}
@@ -51,12 +50,12 @@ named_at (Any size voters) = refused_as Construct (any_at size voters) >>= λ sy
 named_at (Votes votes) = refused_as Construct (votes_at votes.items) >>= λ system. Ok (numbered_system system)
 
 -- the same with these capacities, if there are any
-abbrev pub with_given : NamedSystem → Option (Vec ℕ Global) → Result NamedSystem ShapeFault
+abbrev pub with_given : NamedSystem → Option (List ℕ) → Result NamedSystem ShapeFault
 with_given named None = Ok named
-with_given named (Some capacities) = refused_as File (with_capacities named capacities.items)
+with_given named (Some capacities) = refused_as File (with_capacities named capacities)
 
 -- the text of the coterie of a shape with these capacities
-abbrev pub text_at : CoterieShape → Option (Vec ℕ Global) → Result (List ℕ) ShapeFault
+abbrev pub text_at : CoterieShape → Option (List ℕ) → Result (List ℕ) ShapeFault
 text_at shape capacities = named_at shape >>= λ units. with_given units capacities >>= λ named. Ok (coterie_text named)
 
 -- the result, mapped by `view`, is the wanted one, unless memory ran out

@@ -20,10 +20,12 @@
 #![tactic(auto)]
 
 mod fault;
+mod named;
 mod names;
 mod shape;
 mod text;
 
 pub use fault::ShapeFault;
+pub use named::{shape_of, widened};
 pub use shape::CoterieShape;
 pub use text::coterie_text;

@@ -1,5 +1,5 @@
 //! The text of a coterie of a shape.
-ghost use Rattle.std.specs.Prelude.{Ok, string_bytes};
+ghost use Rattle.std.specs.Prelude.{◌≡◌, IfOk, Ok, option_map, string_bytes};
 ghost use Rattle.show_coteries.specs.Shapes.{Gives, centres_named_at, named_at, with_given, text_at, numbered_system};
 
 use crate::fault::ShapeFault;
@@ -8,7 +8,7 @@ use crate::shape::CoterieShape;
 use construct::{ConstructFault, any, centres, votes};
 use coterie_file::{Named, write_coterie};
 use quorum_set::Coterie;
-use std::alloc::Global;
+use std::alloc::{AllocError, Global};
 
 /// The number of letters that name centres.
 const LETTERS: usize = 26;
@@ -53,13 +53,26 @@ fn named_of(alloc: Global, shape: &CoterieShape) -> Result<Named, ShapeFault>
     }
 }
 
+/// Returns a list of these capacities.
+fn copied(alloc: Global, capacities: &[u64]) -> Result<Vec<u64>, AllocError>
+    ensures { IfOk result (λ copy. copy.items ≡ capacities.now) }
+{
+    let mut copy = Vec::with_capacity(alloc, capacities.len())?;
+    copy.extend_from_slice(capacities)?;
+    Ok(copy)
+}
+
 /// Returns the coterie with these capacities, if there are any.
-fn with_given(named: Named, capacities: Option<Vec<u64>>) -> Result<Named, ShapeFault>
-    ensures { Gives (λ n. n) result (with_given named capacities) }
+fn with_given(
+    alloc: Global,
+    named: Named,
+    capacities: Option<&[u64]>,
+) -> Result<Named, ShapeFault>
+    ensures { Gives (λ n. n) result (with_given named (option_map (λ given. given.now) capacities)) }
 {
     match capacities {
         None => Ok(named),
-        Some(capacities) => Ok(named.with_capacities(capacities)?),
+        Some(capacities) => Ok(named.with_capacities(copied(alloc, capacities)?)?),
     }
 }
 
@@ -75,11 +88,11 @@ fn with_given(named: Named, capacities: Option<Vec<u64>>) -> Result<Named, Shape
 pub fn coterie_text(
     alloc: Global,
     shape: &CoterieShape,
-    capacities: Option<Vec<u64>>,
+    capacities: Option<&[u64]>,
 ) -> Result<String, ShapeFault>
-    ensures { Gives string_bytes result (text_at shape.now capacities) }
+    ensures { Gives string_bytes result (text_at shape.now (option_map (λ given. given.now) capacities)) }
 {
     let units = named_of(alloc, shape)?;
-    let named = with_given(units, capacities)?;
+    let named = with_given(alloc, units, capacities)?;
     Ok(write_coterie(alloc, &named)?)
 }

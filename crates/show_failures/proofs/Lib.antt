@@ -3,5 +3,6 @@ pub mod GroupLemmas
 pub mod ListLemmas
 pub mod NameLemmas
 pub mod ResilienceLemmas
+pub mod UsedLemmas
 pub mod VoterLemmas
 pub mod WithoutLemmas

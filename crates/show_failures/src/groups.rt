@@ -52,8 +52,10 @@ fn leads(group: &QSet, voter: usize) -> bool
         .all(|other| voter <= usize::from(*other))
 }
 
-/// Returns the groups of the voters, in the order of their first voters.
-pub(crate) fn groups_of(alloc: Global, named: &Named) -> Result<Vec<QSet>, AllocError>
+/// Returns the groups of the voters, in the order of their first voters. The names of a group differ
+/// only in the digits at their ends, and in marks right before these. Fails only if it runs out of
+/// memory.
+pub fn groups_of(alloc: Global, named: &Named) -> Result<Vec<QSet>, AllocError>
     ensures groups { IfOk result (λ v. v.items ≡ groups_of named.now.names) }
     ensures voters { IfOk result (λ v. All (λ g. All (λ i. i < named.now.system.voters) g) v.items) }
 {

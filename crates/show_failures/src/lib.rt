@@ -2,7 +2,8 @@
 //! whether a plan of one coterie may be exchanged for a plan of another.
 //!
 //! - [`without_page`] writes the coterie that is left when voters fail, so that it can be planned.
-//! - [`resilience_page`] says how many voters may fail, and which groups of them, such as racks.
+//! - [`resilience_page`] says how many voters may fail, and which groups of them, such as racks. With a
+//!   plan it says the same of the quorums that the plan uses.
 //! - [`bridge_page`] says whether each quorum of one coterie meets each quorum of another.
 //!
 //! Voters are given by their names. In [`bridge_page`] voters of the two coteries are the same if
@@ -16,15 +17,17 @@
 //! [`first_quorums_apart`] returns the first two quorums without a common voter, or there is a bridge.
 //! The set of [`resilience_of`] meets every quorum. If it is a smallest one, none is smaller, and any
 //! voters that are fewer leave a quorum. That the search ends within a million steps is only tested.
+//! [`groups_of`] returns the groups of voters by name, and [`used_coterie`] the quorums of positive weight
+//! of a plan: they are a coterie.
 //! What the pages of [`resilience_page`] and [`bridge_page`] say is only tested too.
 //!
-//! Depends on `failures`, which finds what is left, on `quorum_set`, and on `coterie_file` for
-//! names and texts.
+//! Depends on `failures`, which finds what is left, on `quorum_set`, on `coterie_file` for names and
+//! texts, and on `certificate` for plans.
 //!
 //! ```
 //! // three racks a, b and c of three: a quorum is two of three voters in two of three racks
 //! let page = without_page(alloc, &named, words)?; // of the word a1: the 15 quorums without a1
-//! let page = resilience_page(alloc, &named)?;     // any three may fail, and each rack as a whole
+//! let page = resilience_page(alloc, &named, None)?; // any three may fail, and each rack as a whole
 //! ```
 #![tactic(auto)]
 
@@ -33,10 +36,13 @@ mod groups;
 mod laws;
 mod names;
 mod resilience;
+mod used;
 mod without;
 
 pub use bridge::{bridge_page, first_quorums_apart};
+pub use groups::groups_of;
 pub use laws::borne_groups_leave_a_quorum;
 pub use names::first_unknown;
 pub use resilience::{Resilience, resilience_of, resilience_page};
+pub use used::used_coterie;
 pub use without::without_page;

@@ -25,7 +25,11 @@ fn quorums_of(alloc: Global, cycle: &EvenCycle, count: u64) -> Result<Vec<usize>
 }
 
 /// Returns the account of the tickets below `count`.
-fn account_below(alloc: Global, cycle: &EvenCycle, count: u64) -> Result<Account, AllocError>
+pub(crate) fn account_below(
+    alloc: Global,
+    cycle: &EvenCycle,
+    count: u64,
+) -> Result<Account, AllocError>
     ensures value { IfOk result (λ account. account ≡ account_of_list cycle.now.plan (window cycle.now 0 count)) }
     ensures one_each { IfOk result (λ account. length account.voters ≡ cycle.now.plan.system.voters) }
 {

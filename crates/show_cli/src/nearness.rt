@@ -1,0 +1,130 @@
+//! Weights that are near the best: how near they are, whom to ask how often, and tickets dealt by them.
+ghost use Rattle.std.specs.Prelude.{◌≡◌, ◌≤◌, IfErr, IfOk, IfSome};
+ghost use Rattle.commands.specs.Commands.{Refuses, coterie_part};
+ghost use Rattle.commands.specs.Devices.{IsOwn};
+ghost use Rattle.show_cli.specs.Failures.{HasCoterie};
+
+use crate::command::{Form, NearPage};
+use commands::{Fault, coterie_of};
+use coterie_file::Named;
+use near::{NearPlan, near};
+use show_json::near_json;
+use show_words::{push_members, push_percent};
+use std::alloc::{AllocError, Global};
+
+/// Appends how far the load is above the bound at most, in percent, rounded up to thousandths.
+fn push_excess(text: &mut String, load: (u64, u64), bound: (u64, u64)) -> Result<(), AllocError> {
+    let least = u128::from(bound.0).saturating_mul(u128::from(load.1));
+    let own = u128::from(load.0).saturating_mul(u128::from(bound.1));
+    let parts = own.saturating_sub(least).saturating_mul(100_000);
+    let thousandths = parts.div_ceil(least.max(1));
+    write!(text, "{}.{:03} %", thousandths / 1000, thousandths % 1000)
+}
+
+/// Appends the load, and how near it is to that of the best weights.
+fn push_load(text: &mut String, weights: &NearPlan) -> Result<(), AllocError> {
+    let load = weights.load();
+    let bound = weights.bound();
+    write!(text, "near load {}/{}, ", load.0, load.1)?;
+    push_percent(text, load.0, load.1)?;
+    if load == bound {
+        return text.push_str(": no weights of these quorums have a smaller load\n");
+    }
+    text.push_str(": at most ")?;
+    push_excess(text, load, bound)?;
+    write!(
+        text,
+        " above the best possible, as no weights of these quorums have a load below {}/{}\n",
+        bound.0,
+        bound.1
+    )
+}
+
+/// Appends a quorum, if it is one of the coterie: its number, and the names of the voters to ask.
+fn push_quorum(text: &mut String, named: &Named, quorum: usize) -> Result<(), AllocError> {
+    write!(text, "{quorum:>7}  ")?;
+    if quorum < named.coterie().count() {
+        push_members(text, named, named.coterie().quorum(quorum), " ")?;
+    }
+    text.push('\n')
+}
+
+/// Appends the quorums of positive weight: the share of the requests, and how often a cycle uses each.
+fn push_quorums(text: &mut String, named: &Named, weights: &NearPlan) -> Result<(), AllocError> {
+    let len = weights.cycle_len();
+    write!(
+        text,
+        "\n  share     uses  quorum  ask these voters, in a cycle of {len}\n"
+    )?;
+    for (quorum, weight) in weights.quorum_weights().iter().enumerate() {
+        if *weight > 0 {
+            push_percent(text, *weight, len)?;
+            write!(text, " {weight:>8} ")?;
+            push_quorum(text, named, quorum)?;
+        }
+    }
+    Ok(())
+}
+
+/// Returns the page about these weights.
+fn weights_words(alloc: Global, named: &Named, weights: &NearPlan) -> Result<String, AllocError> {
+    let mut text = String::new(alloc);
+    push_load(&mut text, weights)?;
+    push_quorums(&mut text, named, weights)?;
+    Ok(text)
+}
+
+/// Returns the first tickets that are dealt by these weights.
+fn dealt_words(
+    alloc: Global,
+    named: &Named,
+    weights: &NearPlan,
+    count: u64,
+) -> Result<String, AllocError> {
+    let mut text = String::new(alloc);
+    push_load(&mut text, weights)?;
+    for (ticket, quorum) in weights.listing(alloc, count as usize)?.iter().enumerate() {
+        write!(text, "{ticket}")?;
+        push_quorum(&mut text, named, *quorum)?;
+    }
+    Ok(text)
+}
+
+/// Returns what is shown of weights near the best.
+fn shown(
+    alloc: Global,
+    page: &NearPage,
+    named: &Named,
+    weights: &NearPlan,
+) -> Result<String, AllocError> {
+    match (page.tickets, page.form) {
+        (_, Form::Json) => near_json(alloc, named, weights),
+        (Some(count), Form::Words) => dealt_words(alloc, named, weights, count),
+        (None, Form::Words) => weights_words(alloc, named, weights),
+    }
+}
+
+/// Returns the page of weights near the best for the coterie in an input.
+pub(crate) fn near_weights_page(
+    alloc: Global,
+    page: &NearPage,
+    input: &[u8],
+) -> Result<String, Fault>
+    requires { IfSome page.now.tickets (λ n. n ≤ 100000) }
+    ensures parts { IfOk result (λ _. HasCoterie input.now) }
+    ensures refused { IfErr result (λ fault. Refuses fault (coterie_part input.now)) }
+    ensures own { IfErr result IsOwn }
+{
+    let named = match coterie_of(alloc, input) {
+        Ok(named) => named,
+        Err(fault) => return Err(fault),
+    };
+    let weights = match near(alloc, named.coterie(), named.capacities()) {
+        Ok(weights) => weights,
+        Err(_) => return Err(Fault::OutOfMemory),
+    };
+    match shown(alloc, page, &named, &weights) {
+        Ok(page) => Ok(page),
+        Err(_) => Err(Fault::OutOfMemory),
+    }
+}

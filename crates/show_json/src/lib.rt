@@ -1,0 +1,36 @@
+//! Pages for programs: plans, dealt tickets, what coteries bear, and comparisons, as JSON.
+//!
+//! Each page is one object on one line, with a newline at the end. Keys are in `snake_case`. Numbers
+//! are whole: a load is an object of a numerator and a denominator, in lowest terms. Quorums and
+//! tickets are numbered from 0, and voters have their names.
+//!
+//! - [`plan_json`] has a plan, and [`near_json`] weights that are near the best.
+//! - [`deal_json`] has dealt tickets with their quorums, and how often each voter is used.
+//! - [`resilience_json`] says how many voters may fail, and which groups of them.
+//! - [`compare_json`] has the figures of coteries side by side.
+//!
+//! # What is proved
+//!
+//! Safety only. The figures come from functions that pin them: of `certificate`, `near`,
+//! `show_tickets`, `show_failures` and `show_compare`. What the pages say is only tested.
+//!
+//! Depends on these, on `show_words` for names, and on `serde` and `serde_json` for JSON.
+//!
+//! ```
+//! // Of the wheel with three rims:
+//! plan_json(alloc, &named, &plan)?; // {"load":{"numerator":3,"denominator":5},"cycle":5,..
+//! ```
+#![tactic(auto)]
+
+mod compared;
+mod dealt;
+mod near_plans;
+mod parts;
+mod plans;
+mod resilience;
+
+pub use compared::compare_json;
+pub use dealt::deal_json;
+pub use near_plans::near_json;
+pub use plans::plan_json;
+pub use resilience::resilience_json;

@@ -1,0 +1,14 @@
+use Rattle.std.proofs.Common.{◌∙◌, ap}
+use Rattle.certificate.specs.Certificates.{Weighted}
+use Rattle.show_tickets.specs.Accounts.{account_of_list}
+use Rattle.even.specs.EvenCycles.{window}
+use Rattle.show_tickets.proofs.deal.evenly_dealt.Goals as goal
+
+pub returns-clause-dealt : goal.returns-clause-dealt
+returns-clause-dealt c = record {
+  order = c.in_ok-cycle.cycle;
+  plan = c.in_ok-cycle.ensures.plan;
+  first = c.in_ok-cycle.ensures.first;
+  account_is = c.in_ok-account.ensures.value ∙ ap (λ (w : Weighted). account_of_list w (window c.in_ok-cycle.cycle 0 c.args.count)) c.in_ok-cycle.ensures.plan;
+  receipts_are = c.in_ok-receipts.ensures;
+}
