@@ -316,6 +316,45 @@ program=$qlock
 for coterie in three-racks wheel-3 cyclic-7 three-centres; do
     shown "resilience-$coterie" "$coterie.toml" resilience
 done
+parts three-racks.toml expected/plan-three-racks.out > "$work/input"
+shown resilience-of-a-plan "$work/input" resilience
+
+# what planners ask for: coteries of a shape, coteries side by side, and weights where there is no plan
+shown coterie-racks /dev/null coterie racks 3 3
+shown coterie-centres /dev/null coterie centres 5 5 3 --capacity 2 2 2 2 2 2 2 2 2 2 1 1 1
+shown coterie-votes /dev/null coterie votes 3 2 2 1 1
+shown coterie-any /dev/null coterie any 7 9
+shown compare /dev/null compare three-racks.toml weighted-votes.toml seven-of-nine.toml
+shown compare-with-capacities /dev/null compare wheel-3-fast-hub.toml three-centres.toml
+shown near-wheel-3 wheel-3.toml near
+shown near-twenty-five twenty-five.toml near
+shown near-deal-twenty-five twenty-five.toml near --deal 5
+shown deal-names-wheel-3 wheel-3-planned.txt deal --names 5
+shown deal-names-even-wheel-3 wheel-3-planned.txt deal --even --names 5
+program=$show
+example show-two-of-four /dev/null 1 coterie any 2 4
+example show-racks-of-nothing /dev/null 2 coterie racks
+example show-too-few-capacities /dev/null 1 coterie votes 3 2 2 1 1 --capacity 1 2
+example show-compare-no-such-file /dev/null 3 compare three-racks.toml no-such.toml
+example show-compare-a-plan /dev/null 1 compare three-racks.toml wheel-3.plan
+program=$qlock
+example no-plan-of-twenty-five twenty-five.toml 1 plan
+
+# the same as JSON, which has to be valid
+for words in "plan" "deal 5" "deal --even 5"; do
+    # shellcheck disable=SC2086
+    shown "json-$(echo "$words" | tr -d ' ')-wheel-3" wheel-3-fast-hub-planned.txt $words --json
+done
+shown json-resilience-three-racks three-racks.toml resilience --json
+parts three-racks.toml expected/plan-three-racks.out > "$work/input"
+shown json-resilience-of-a-plan "$work/input" resilience --json
+shown json-compare /dev/null compare --json three-racks.toml weighted-votes.toml
+shown json-near-wheel-3 wheel-3.toml near --json
+if command -v python3 > /dev/null; then
+    for page in expected/show-json-*.out; do
+        if python3 -c 'import json, sys; json.load(sys.stdin)' < "$page"; then passed=$((passed + 1)); else failed=$((failed + 1)); fi
+    done
+fi
 "$qlock" make cyclic 5 0 1 2 > "$work/five"
 "$qlock" make cyclic 9 0 1 2 4 > "$work/nine"
 parts "$work/five" "$work/nine" > "$work/input"
