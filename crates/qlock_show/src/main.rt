@@ -106,11 +106,7 @@ fn serve(rt: &HostRuntime, command: &ShowCommand, files: &[String]) -> u8
 fn run(rt: &HostRuntime) -> Result<u8, Usage> {
     let line = command_line_of(rt)?;
     match read_show_words(rt.alloc(), line.words.as_slice()) {
-        Ok(command) => Ok(serve(
-            rt,
-            &command,
-            files_of(&command, line.files.as_slice()),
-        )),
+        Ok(command) => Ok(serve(rt, &command, files_of(&command, line.files.as_slice()))),
         Err(usage) => Ok(answer_words(rt, &usage, line.words.as_slice())),
     }
 }

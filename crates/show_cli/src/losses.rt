@@ -36,12 +36,7 @@ pub(crate) fn left_page(alloc: Global, words: &[String], input: &[u8]) -> Result
 }
 
 /// Returns what a coterie bears, and, if a plan is given, what the plan's own quorums bear.
-fn borne(
-    alloc: Global,
-    form: Form,
-    named: &Named,
-    plan: Option<&Plan>,
-) -> Result<String, Fault>
+fn borne(alloc: Global, form: Form, named: &Named, plan: Option<&Plan>) -> Result<String, Fault>
     ensures memory { IfErr result (λ fault. fault ≡ OutOfMemory) }
 {
     let page = match form {

@@ -35,8 +35,7 @@ fn push_load(text: &mut String, weights: &NearPlan) -> Result<(), AllocError> {
     write!(
         text,
         " above the best possible, as no weights of these quorums have a load below {}/{}\n",
-        bound.0,
-        bound.1
+        bound.0, bound.1
     )
 }
 

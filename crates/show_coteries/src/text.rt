@@ -63,11 +63,7 @@ fn copied(alloc: Global, capacities: &[u64]) -> Result<Vec<u64>, AllocError>
 }
 
 /// Returns the coterie with these capacities, if there are any.
-fn with_given(
-    alloc: Global,
-    named: Named,
-    capacities: Option<&[u64]>,
-) -> Result<Named, ShapeFault>
+fn with_given(alloc: Global, named: Named, capacities: Option<&[u64]>) -> Result<Named, ShapeFault>
     ensures { Gives (λ n. n) result (with_given named (option_map (λ given. given.now) capacities)) }
 {
     match capacities {

@@ -111,7 +111,11 @@ fn without_notes(alloc: Global, text: &[u8]) -> Result<Vec<u8>, AllocError>
 fn left_behind(line: &[u8], left: usize) -> usize
     ensures { result ≡ left_behind line.now left }
 {
-    if is_plain(line) { left.saturating_sub(1) } else { left }
+    if is_plain(line) {
+        left.saturating_sub(1)
+    } else {
+        left
+    }
 }
 
 /// Returns the place of a line of a text, from 1, given its number without notes, also from 1.

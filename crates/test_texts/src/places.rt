@@ -112,7 +112,10 @@ fn unclosed_brackets_are_found(rt: HostRuntime) {
 /// Texts, and the lines of their key `b` and of item 1 of its list, or 0.
 const KEYS: [(&str, (usize, usize)); 9] = [
     ("a = 1\nb = [1, 2]\n", (2, 2)),
-    ("a = [\n\"b\",\n]\n \"b\" = [ # [1,\n  1,\n\n  [2,\n  3],\n]\n", (4, 7)),
+    (
+        "a = [\n\"b\",\n]\n \"b\" = [ # [1,\n  1,\n\n  [2,\n  3],\n]\n",
+        (4, 7),
+    ),
     ("b=[[1],\n[2, 3]]", (1, 2)),
     ("a = [\n  [\"b\"],\n]\nbb = 1\n", (0, 0)),
     ("'b' = 1\n", (1, 0)),

@@ -29,4 +29,4 @@ returns-in-Ok-clause-read g c = λ s h e.
     let text_is = c.in-Some.ensures.text_is ∙ ap (λ (t : List ℕ). line_of world_form c.in-Some.sizes ++ 10 ∷ t) c.in-Ok.ensures.written in
     c.of.ensures
     ∙ script_text-unique form g.met.L.Line.is_form (record { clients = c.in-Some.sizes.0; limit = c.in-Some.sizes.1; steps = c.in-Ok.steps.items }) s
-        (record { sizes = c.in-Some.ensures.has_line; steps = c.in-Ok.ensures.lines }) h (sym text_is ∙ e)
+    (record { sizes = c.in-Some.ensures.has_line; steps = c.in-Ok.ensures.lines }) h (sym text_is ∙ e)
