@@ -1,5 +1,5 @@
 //! Pages of coteries: what is left when voters fail, what may fail, and bridges.
-ghost use Rattle.std.specs.Prelude.{◌≡◌, IfErr, IfOk, map, string_bytes};
+ghost use Rattle.std.specs.Prelude.{◌≡◌, IfErr, IfOk, IfSome, map, string_bytes};
 ghost use Rattle.commands.specs.Commands.{Gives};
 ghost use Rattle.commands.specs.Devices.{IsOwn};
 ghost use Rattle.commands.specs.declared.fault.Fault.TheVariants.{OutOfMemory};
@@ -37,6 +37,7 @@ pub(crate) fn left_page(alloc: Global, words: &[String], input: &[u8]) -> Result
 
 /// Returns what a coterie bears, and, if a plan is given, what the plan's own quorums bear.
 fn borne(alloc: Global, form: Form, named: &Named, plan: Option<&Plan>) -> Result<String, Fault>
+    requires plan { IfSome plan (λ p. p.now.system ≡ named.now.system) }
     ensures memory { IfErr result (λ fault. fault ≡ OutOfMemory) }
 {
     let page = match form {
