@@ -4,6 +4,7 @@
 //! - `coterie_texts` reads and writes coteries, and `shapes` constructs them.
 //! - `fractions` computes.
 //! - `failing` has voters fail.
+//! - `nearness` has weights near the best for irregular coteries.
 //! - `certificates` copies plans, `searches` solves, and `plans` finds them.
 //! - `pairs` puts two plans together, and `offices` deals, also with two threads.
 //!
@@ -21,6 +22,8 @@ mod coterie_texts;
 mod failing;
 #[cfg(test)]
 mod fractions;
+#[cfg(test)]
+mod nearness;
 #[cfg(test)]
 mod offices;
 #[cfg(test)]

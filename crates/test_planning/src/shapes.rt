@@ -1,5 +1,5 @@
 //! Constructions: a worked list of each shape.
-use construct::{ConstructFault, cyclic, grid, majority, tree, wheel};
+use construct::{ConstructFault, any, centres, cyclic, grid, majority, tree, votes, wheel};
 use quorum_set::Coterie;
 use std::alloc::Global;
 use test_plans::set_of;
@@ -12,6 +12,9 @@ pub(crate) enum Shape {
     Tree(u32),
     Wheel(u32),
     Cyclic(u32, &'static [u32]),
+    Any(u32, u32),
+    Centres(&'static [u8]),
+    Votes(&'static [u64]),
 }
 
 /// Constructs it.
@@ -22,6 +25,9 @@ pub(crate) fn built(alloc: Global, shape: Shape) -> Result<Coterie, ConstructFau
         Shape::Tree(height) => tree(alloc, height),
         Shape::Wheel(rims) => wheel(alloc, rims),
         Shape::Cyclic(voters, base) => cyclic(alloc, voters, base),
+        Shape::Any(size, voters) => any(alloc, size, voters),
+        Shape::Centres(sizes) => centres(alloc, sizes),
+        Shape::Votes(list) => votes(alloc, list),
     }
 }
 
@@ -43,7 +49,7 @@ fn is_list(alloc: Global, shape: Shape, voters: usize, quorums: &[&[u8]]) -> boo
 }
 
 /// Shapes, how many voters they have, and their quorums.
-const LISTS: [(Shape, usize, &[&[u8]]); 5] = [
+const LISTS: [(Shape, usize, &[&[u8]]); 8] = [
     (
         Shape::Grid(2, 3),
         6,
@@ -95,6 +101,17 @@ const LISTS: [(Shape, usize, &[&[u8]]); 5] = [
             &[1, 5, 6],
             &[0, 2, 6],
         ],
+    ),
+    (Shape::Any(2, 3), 3, &[&[0, 1], &[0, 2], &[1, 2]]),
+    (
+        Shape::Centres(&[2, 1, 1]),
+        4,
+        &[&[0, 1, 2], &[0, 1, 3], &[2, 3]],
+    ),
+    (
+        Shape::Votes(&[3, 2, 2, 1, 1]),
+        5,
+        &[&[0, 1], &[0, 2], &[0, 3, 4], &[1, 2, 3], &[1, 2, 4]],
     ),
 ];
 
