@@ -1,5 +1,7 @@
 -- Lemmas on which command words name.
-use Rattle.std.proofs.Common.{◌≡◌, ℕ, List, Option, [], sym, ap, subst, ◌∙◌, rules, codes, Some, None, inl, inr, All, map, string_bytes}
+use Rattle.std.proofs.Common.{◌≡◌, ℕ, ◌<◌, Bool, true, false, refl, arith, length, String, Vec, List, Option, [], sym, ap, subst, ◌∙◌, rules, codes, Some, None, inl, inr, All, map, string_bytes}
+use Rattle.std.specs.declared.alloc.Global.{Global}
+use Rattle.std.proofs.lemmas.List.{length-map}
 use Rattle.std.proofs.lemmas.Option.{same_Some}
 use Rattle.clap.specs.Words.{Row, Text, all_of, fault_of, first_of, subcommand_of}
 use Rattle.show_faults.specs.Codes.{IsNoneOf, code_in, fault_codes}
@@ -7,20 +9,78 @@ use Rattle.command_line.specs.Words.{HasNumber, RefusesByClap}
 use Rattle.command_line.specs.declared.usage.Usage.{Usage}
 use Rattle.command_line.specs.declared.usage.Usage.TheVariants.{Arguments, OutOfMemory, Refused}
 use Rattle.show_waiting.specs.declared.waiting.Waiting.{Waiting as Question}
-use Rattle.show_cli.specs.Words.{IsNamedBy, MayHaveNumber, NamesNone, Refuses, RefusesUse, picture_word, show_app}
+use Rattle.command_line.specs.Words.{AreSizes, size_texts}
+use Rattle.command_line.proofs.WordLemmas.{same_sizes}
+use Rattle.show_coteries.specs.Names.{IsShapeOf}
+use Rattle.show_coteries.specs.declared.shape.CoterieShape.{CoterieShape}
+use Rattle.show_cli.specs.Words.{HasFlag, HasShape, HasTexts, IsNamedBy, MayHaveCapacities, MayHaveNumber, NamesNone, Refuses, RefusesUse, picture_word, show_app}
 use Rattle.show_cli.specs.declared.command.Picture.{Picture}
-use Rattle.show_cli.specs.declared.command.ShowCommand.TheVariants.{Deal, DealEven, Explain, ExplainAll, ListFaults, Picture as Show, Waiting, Without}
+use Rattle.show_cli.specs.declared.command.ShowCommand.TheVariants.{Compare, Coterie, Deal, Explain, ExplainAll, ListFaults, Near, Picture as Show, Waiting, Without}
+
+-- a flag whose value is this text
+pub HasFlag-of : (name : Text) (rows : List Row) (text : Text) (b : Bool) → Some text ≡ first_of name rows → (b ≡ true → text ≡ codes "true") → (b ≡ false → text ≡ codes "true" → ⊥)
+    → HasFlag name rows b
+HasFlag-of name rows text true there set unset = sym there ∙ ap Some (set refl)
+HasFlag-of name rows text false there set unset = λ e. unset refl (same_Some text (codes "true") (there ∙ e))
+
+-- a flag without a value
+pub HasFlag-none : (name : Text) (rows : List Row) → None ≡ first_of name rows → HasFlag name rows false
+HasFlag-none name rows absent = λ e. let bad : None ≡ Some (codes "true") = absent ∙ e in cc
 
 -- where `deal` was used with no number in range, it names nothing
 pub NamesNone-deal : (rows : List Row) → ((n : ℕ) → HasNumber (codes "N") 0 100000 rows n → ⊥) → NamesNone (Some (codes "deal", rows))
-NamesNone-deal rows none (Deal n) named = none n named.1
-NamesNone-deal rows none (DealEven n) named = none n named.1
+NamesNone-deal rows none (Deal dealing) named = none dealing.count named.1
 NamesNone-deal rows none command named = search rules
+
+-- nor does `near` with a number out of range
+pub NamesNone-near : (rows : List Row) → ((number : Option ℕ) → MayHaveNumber (codes "deal") 0 100000 rows number → ⊥) → NamesNone (Some (codes "near", rows))
+NamesNone-near rows none (Near page) named = none page.tickets named.1
+NamesNone-near rows none command named = search rules
+
+-- an argument without values has no texts
+pub HasTexts-none : (name : Text) (rows : List Row) (texts : List (String Global)) → None ≡ all_of name rows → HasTexts name rows texts → ⊥
+HasTexts-none name rows texts absent has = let bad : None ≡ Some (map string_bytes texts) = absent ∙ has in cc
 
 -- nor does `without` with no names
 pub NamesNone-without : (rows : List Row) → None ≡ all_of (codes "NAMES") rows → NamesNone (Some (codes "without", rows))
-NamesNone-without rows absent (Without names) named = let bad : None ≡ Some (map string_bytes names.items) = absent ∙ named.1 in cc
+NamesNone-without rows absent (Without names) named = HasTexts-none (codes "NAMES") rows names.items absent named.1
 NamesNone-without rows absent command named = search rules
+
+-- nor does `compare` with no files
+pub NamesNone-no_files : (rows : List Row) → None ≡ all_of (codes "FILES") rows → NamesNone (Some (codes "compare", rows))
+NamesNone-no_files rows absent (Compare files form) named = HasTexts-none (codes "FILES") rows files.items absent named.1
+NamesNone-no_files rows absent command named = search rules
+
+-- the texts of an argument are as many, however they are kept
+same_length : (name : Text) (rows : List Row) (a b : List (String Global)) → HasTexts name rows a → HasTexts name rows b → length a ≡ length b
+same_length name rows a b has_a has_b =
+    let same : map string_bytes a ≡ map string_bytes b = same_Some (map string_bytes a) (map string_bytes b) (sym has_a ∙ has_b) in
+    sym (length-map a string_bytes) ∙ ap length same ∙ length-map b string_bytes
+
+-- nor does it with more than 64
+pub NamesNone-many_files : (rows : List Row) (files : List (String Global)) → HasTexts (codes "FILES") rows files → 64 < length files → NamesNone (Some (codes "compare", rows))
+NamesNone-many_files rows files has many (Compare others form) named =
+    let same : length others ≡ length files = same_length (codes "FILES") rows others files named.1 has in
+    omega (arith, same, many, named.2)
+NamesNone-many_files rows files has many command named = search rules
+
+-- nor does `coterie` with no shape, with other numbers, or with another name
+pub NamesNone-shape : (rows : List Row) → ((shape : CoterieShape) → HasShape rows shape → ⊥) → NamesNone (Some (codes "coterie", rows))
+NamesNone-shape rows none (Coterie shape capacities) named = none shape named.1
+NamesNone-shape rows none command named = search rules
+
+-- nor with other capacities
+pub NamesNone-capacities : (rows : List Row) → ((list : Option (Vec ℕ Global)) → MayHaveCapacities rows list → ⊥) → NamesNone (Some (codes "coterie", rows))
+NamesNone-capacities rows none (Coterie shape capacities) named = none capacities named.2
+NamesNone-capacities rows none command named = search rules
+
+-- the shape of a name and sizes that are there
+pub HasShape-none : (rows : List Row) (name : Text) (sizes : List ℕ) → Some name ≡ first_of (codes "SHAPE") rows → AreSizes (size_texts (codes "NUMBERS") rows) sizes
+    → ((shape : CoterieShape) → IsShapeOf name sizes shape → ⊥) → (shape : CoterieShape) → HasShape rows shape → ⊥
+HasShape-none rows name sizes given are none shape has =
+    let name_is : has.0 ≡ name = same_Some has.0 name (sym has.1.0 ∙ sym given) in
+    let sizes_are : has.1.1.0 ≡ sizes = same_sizes (size_texts (codes "NUMBERS") rows) has.1.1.0 sizes has.1.1.1.0 are in
+    none shape (subst (λ (t : List ℕ). IsShapeOf t sizes shape) name_is (subst (λ (ns : List ℕ). IsShapeOf has.0 ns shape) sizes_are has.1.1.1.1))
 
 -- a word that is there, and is no number in range
 pub MayHaveNumber-none : (name : Text) (least most : ℕ) (rows : List Row) (text : Text) → Some text ≡ first_of name rows → ((n : ℕ) → HasNumber name least most rows n → ⊥)

@@ -405,7 +405,7 @@ fn is_set(value: &str) -> bool
 
 /// Returns whether the flag with this name is there.
 fn has_flag(used: &ArgMatches, name: &str) -> bool
-    ensures { HasFlag name.now (rows_of (found_of used.now)) result }
+    ensures flag { HasFlag name.now (rows_of (found_of used.now)) result }
 {
     match text_of(used, name) {
         Some(value) => is_set(value),
@@ -415,7 +415,7 @@ fn has_flag(used: &ArgMatches, name: &str) -> bool
 
 /// Returns how a page is written: as JSON with `--json`, else in words.
 fn form_of(used: &ArgMatches) -> Form
-    ensures { IsForm (rows_of (found_of used.now)) result }
+    ensures form { IsForm (rows_of (found_of used.now)) result }
 {
     if has_flag(used, "json") {
         Form::Json
@@ -426,7 +426,7 @@ fn form_of(used: &ArgMatches) -> Form
 
 /// Returns how tickets are written: as JSON with `--json`, as names with `--names`, else in words.
 fn ticket_form_of(used: &ArgMatches) -> TicketForm
-    ensures { IsTicketForm (rows_of (found_of used.now)) result }
+    ensures form { IsTicketForm (rows_of (found_of used.now)) result }
 {
     if has_flag(used, "json") {
         TicketForm::Json

@@ -64,7 +64,7 @@ fn copied(alloc: Global, capacities: &[u64]) -> Result<Vec<u64>, AllocError>
 
 /// Returns the coterie with these capacities, if there are any.
 fn with_given(alloc: Global, named: Named, capacities: Option<&[u64]>) -> Result<Named, ShapeFault>
-    ensures { Gives (λ n. n) result (with_given named (option_map (λ given. given.now) capacities)) }
+    ensures { Gives (λ n. n) result (with_given named (option_map (λ given. given.now) capacities.entry)) }
 {
     match capacities {
         None => Ok(named),
@@ -86,7 +86,7 @@ pub fn coterie_text(
     shape: &CoterieShape,
     capacities: Option<&[u64]>,
 ) -> Result<String, ShapeFault>
-    ensures { Gives string_bytes result (text_at shape.now (option_map (λ given. given.now) capacities)) }
+    ensures { Gives string_bytes result (text_at shape.now (option_map (λ given. given.now) capacities.entry)) }
 {
     let units = named_of(alloc, shape)?;
     let named = with_given(alloc, units, capacities)?;
