@@ -1,12 +1,26 @@
 -- Lemmas on several coteries in one input.
-use Rattle.std.proofs.Common.{◌≡◌, ℕ, ◌+◌, ◌-◌, ◌<◌, List, ◌∷◌, Ok, refl, zero, suc}
+use Rattle.std.proofs.Common.{◌≡◌, ℕ, ◌+◌, ◌-◌, ◌<◌, arith, List, ◌∷◌, Result, Ok, refl, subst, sym, zero, suc}
+use Rattle.coterie_file.specs.Named.{NamedSystem}
 use Rattle.commands.specs.Commands.{◌>>=◌, coterie_part}
 use Rattle.commands.specs.Parts.{split}
+use Rattle.commands.specs.declared.fault.Fault.{Fault}
 use Rattle.show_cli.specs.Failures.{coteries_in}
+
+-- what an input describes that has a line `%%`, and so many more
+behind_line : ℕ → ℕ → List ℕ → Result (List NamedSystem) Fault
+behind_line n number input = split (number + 1) input >>= λ parts. coterie_part parts.0 >>= λ first. coteries_in n (number + 1) parts.1 >>= λ others. Ok (first ∷ others)
+
+-- one line more
+next_line : (n number : ℕ) (input : List ℕ) → coteries_in (suc n) number input ≡ behind_line n number input
+unfolding coteries_in behind_line
+next_line n number input = refl
 
 -- an input with a line `%%` is a coterie, and what follows the line
 pub one_more : (n number : ℕ) (input : List ℕ) → 0 < n
     → coteries_in n number input
     ≡ (split (number + 1) input >>= λ parts. coterie_part parts.0 >>= λ first. coteries_in (n - 1) (number + 1) parts.1 >>= λ others. Ok (first ∷ others))
-one_more zero number input positive = absurd positive
-one_more (suc n) number input positive = refl
+unfolding behind_line
+one_more zero number input positive = absurd (omega (arith, positive))
+one_more (suc n) number input positive =
+    let same : n ≡ suc n - 1 = omega arith in
+    subst (λ (k : ℕ). coteries_in (suc n) number input ≡ behind_line k number input) same (next_line n number input)

@@ -60,7 +60,7 @@ same_length name rows a b has_a has_b =
 -- nor does it with more than 64
 pub NamesNone-many_files : (rows : List Row) (files : List (String Global)) → HasTexts (codes "FILES") rows files → 64 < length files → NamesNone (Some (codes "compare", rows))
 NamesNone-many_files rows files has many (Compare others form) named =
-    let same : length others ≡ length files = same_length (codes "FILES") rows others files named.1 has in
+    let same : length others.items ≡ length files = same_length (codes "FILES") rows others.items files named.1 has in
     omega (arith, same, many, named.2)
 NamesNone-many_files rows files has many command named = search rules
 
@@ -78,9 +78,9 @@ NamesNone-capacities rows none command named = search rules
 pub HasShape-none : (rows : List Row) (name : Text) (sizes : List ℕ) → Some name ≡ first_of (codes "SHAPE") rows → AreSizes (size_texts (codes "NUMBERS") rows) sizes
     → ((shape : CoterieShape) → IsShapeOf name sizes shape → ⊥) → (shape : CoterieShape) → HasShape rows shape → ⊥
 HasShape-none rows name sizes given are none shape has =
-    let name_is : has.0 ≡ name = same_Some has.0 name (sym has.1.0 ∙ sym given) in
-    let sizes_are : has.1.1.0 ≡ sizes = same_sizes (size_texts (codes "NUMBERS") rows) has.1.1.0 sizes has.1.1.1.0 are in
-    none shape (subst (λ (t : List ℕ). IsShapeOf t sizes shape) name_is (subst (λ (ns : List ℕ). IsShapeOf has.0 ns shape) sizes_are has.1.1.1.1))
+    let name_is : has.0 ≡ name = same_Some has.0 name (sym has.1 ∙ sym given) in
+    let sizes_are : has.2.0 ≡ sizes = same_sizes (size_texts (codes "NUMBERS") rows) has.2.0 sizes has.2.1 are in
+    none shape (subst (λ (t : List ℕ). IsShapeOf t sizes shape) name_is (subst (λ (ns : List ℕ). IsShapeOf has.0 ns shape) sizes_are has.2.2))
 
 -- a word that is there, and is no number in range
 pub MayHaveNumber-none : (name : Text) (least most : ℕ) (rows : List Row) (text : Text) → Some text ≡ first_of name rows → ((n : ℕ) → HasNumber name least most rows n → ⊥)

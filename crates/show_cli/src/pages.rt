@@ -6,7 +6,8 @@ ghost use Rattle.commands.specs.Commands.{IsInRange, Refuses, planned_in};
 ghost use Rattle.commands.specs.Devices.{IsOwn};
 ghost use Rattle.show_cli.specs.Commands.{IsShown};
 ghost use Rattle.show_refusals.specs.Pages.{IsFaultPage};
-ghost use Rattle.show_cli.specs.Pages.{HasPlan, IsShownBy};
+ghost use Rattle.show_cli.specs.Failures.{HasPlan};
+ghost use Rattle.show_cli.specs.Pages.{IsShownBy};
 ghost use Rattle.show_waiting.specs.Waiting.{IsInRange as IsAnswered, waiting_text};
 
 use crate::command::{Dealing, Form, Picture, ShowCommand, TicketForm};
