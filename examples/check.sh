@@ -327,8 +327,8 @@ shown coterie-any /dev/null coterie any 7 9
 shown compare /dev/null compare three-racks.toml weighted-votes.toml seven-of-nine.toml
 shown compare-with-capacities /dev/null compare wheel-3-fast-hub.toml three-centres.toml
 shown near-wheel-3 wheel-3.toml near
-shown near-twenty-five twenty-five.toml near
-shown near-deal-twenty-five twenty-five.toml near --deal 5
+shown near-twenty-eight twenty-eight.toml near
+shown near-deal-twenty-eight twenty-eight.toml near --deal 5
 shown deal-names-wheel-3 wheel-3-planned.txt deal --names 5
 shown deal-names-even-wheel-3 wheel-3-planned.txt deal --even --names 5
 program=$show
@@ -338,7 +338,7 @@ example show-too-few-capacities /dev/null 1 coterie votes 3 2 2 1 1 --capacity 1
 example show-compare-no-such-file /dev/null 3 compare three-racks.toml no-such.toml
 example show-compare-a-plan /dev/null 1 compare three-racks.toml wheel-3.plan
 program=$qlock
-example no-plan-of-twenty-five twenty-five.toml 1 plan
+example no-plan-of-twenty-eight twenty-eight.toml 1 plan
 
 # the same as JSON, which has to be valid
 for words in "plan" "deal 5" "deal --even 5"; do
