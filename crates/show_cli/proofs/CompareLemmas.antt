@@ -1,5 +1,5 @@
 -- Lemmas on several coteries in one input.
-use Rattle.std.proofs.Common.{◌≡◌, ℕ, ◌+◌, ◌-◌, ◌<◌, arith, List, ◌∷◌, Result, Ok, refl, subst, sym, zero, suc}
+use Rattle.std.proofs.Common.{◌≡◌, ℕ, ◌+◌, ◌-◌, ◌<◌, arith, List, ◌∷◌, Result, Ok, refl, subst, zero, suc}
 use Rattle.coterie_file.specs.Named.{NamedSystem}
 use Rattle.commands.specs.Commands.{◌>>=◌, coterie_part}
 use Rattle.commands.specs.Parts.{split}
