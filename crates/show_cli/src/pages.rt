@@ -41,20 +41,41 @@ fn tickets_of(alloc: Global, dealing: &Dealing, planned: Planned) -> Result<Stri
     }
 }
 
+/// Returns the name of the first file, if there is one, which is that of the coterie.
+fn first_of(files: &[String]) -> Option<&str> {
+    match files.first() {
+        Some(file) => Some(file.as_str()),
+        None => None,
+    }
+}
+
 /// Returns the words of a plan, or what else a command shows of it: JSON, a report, or dealt tickets.
-fn words_of(alloc: Global, command: &ShowCommand, planned: Planned) -> Result<String, AllocError>
+/// A report names the first of these files.
+fn words_of(
+    alloc: Global,
+    command: &ShowCommand,
+    planned: Planned,
+    files: &[String],
+) -> Result<String, AllocError>
     requires { IsShown command.now }
 {
     match command {
-        ShowCommand::Report => report_page(alloc, &planned.named, &planned.plan),
+        ShowCommand::Report => {
+            report_page(alloc, &planned.named, &planned.plan, first_of(files))
+        }
         ShowCommand::Deal(dealing) => tickets_of(alloc, dealing, planned),
         ShowCommand::Plan(Form::Json) => plan_json(alloc, &planned.named, &planned.plan),
         _ => plan_words(alloc, &planned.named, &planned.plan),
     }
 }
 
-/// Returns the page of words of a plan for an input.
-fn plan_page(alloc: Global, command: &ShowCommand, input: &[u8]) -> Result<String, Fault>
+/// Returns the page of words of a plan for an input, which comes from these files, if there are any.
+fn plan_page(
+    alloc: Global,
+    command: &ShowCommand,
+    input: &[u8],
+    files: &[String],
+) -> Result<String, Fault>
     requires { IsShown command.now }
     ensures parts { IfOk result (λ _. HasPlan input.now) }
     ensures refused { IfErr result (λ fault. Refuses fault (planned_in input.now)) }
@@ -64,7 +85,7 @@ fn plan_page(alloc: Global, command: &ShowCommand, input: &[u8]) -> Result<Strin
         Ok(planned) => planned,
         Err(fault) => return Err(fault),
     };
-    match words_of(alloc, command, planned) {
+    match words_of(alloc, command, planned, files) {
         Ok(page) => Ok(page),
         Err(_) => Err(Fault::OutOfMemory),
     }
@@ -214,7 +235,7 @@ pub(crate) fn page_of(
 {
     match command {
         ShowCommand::Plan(_) | ShowCommand::Report | ShowCommand::Deal(_) => {
-            plan_page(alloc, command, input)
+            plan_page(alloc, command, input, files)
         }
         ShowCommand::Near(page) => near_weights_page(alloc, page, input),
         ShowCommand::Coterie(shape, capacities) => shape_page(alloc, shape, capacities),

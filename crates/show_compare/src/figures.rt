@@ -128,8 +128,9 @@ fn loss_of(alloc: Global, named: &Named, group: &QSet) -> Result<Loss, AllocErro
     })
 }
 
-/// Returns for each group of voters what its failure does.
-fn losses_of(alloc: Global, named: &Named) -> Result<Vec<Loss>, AllocError>
+/// Returns for each group of voters what its failure does, in the order of their first voters. Fails only
+/// if it runs out of memory.
+pub fn losses_of(alloc: Global, named: &Named) -> Result<Vec<Loss>, AllocError>
     ensures groups { IfOk result (λ v. map (λ loss. loss.group) v.items ≡ groups_of named.now.names) }
     ensures losses { IfOk result (λ v. All (IsLoss named.now) v.items) }
 {

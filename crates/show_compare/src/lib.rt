@@ -32,5 +32,5 @@ mod page;
 mod sizes;
 mod table;
 
-pub use figures::{Comparison, Loads, Loss, comparison_of};
+pub use figures::{Comparison, Loads, Loss, comparison_of, losses_of};
 pub use page::{Candidate, compare_page};

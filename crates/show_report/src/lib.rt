@@ -1,8 +1,9 @@
 //! A report of a plan on one page: an HTML document for people who decide.
 //!
 //! [`report_page`] has the load of a plan, or its throughput if some capacity is not 1, how many
-//! failures its coterie bears, how even it is, whom to ask how often, how busy each voter is, a
-//! picture, and the certificate that a person can add up. The document has no script and no outside
+//! failures its coterie and its own quorums bear, how even it is, whom to ask how often, how busy each
+//! voter is, what the loss of a group of voters does, such as a rack, a picture, and the certificate that
+//! a person can add up. The document has no script and no outside
 //! file. It is light or dark as the reader's device is, and fits narrow and wide screens.
 //!
 //! # What is proved
@@ -12,15 +13,16 @@
 //! that of the even order of the plan. Names have no sign that means something in HTML (law
 //! [`names_are_plain_in_html`]). What the document says is only tested.
 //!
-//! Depends on `show_words` for figures, on `show_plans` for the picture, on `show_failures` and `even`,
-//! and on `certificate` and `coterie_file`.
+//! Depends on `show_words` for figures, on `show_plans` for the picture, on `show_failures`,
+//! `show_compare` and `even`, and on `certificate` and `coterie_file`.
 //!
 //! ```
 //! // Of the wheel with three rims:
-//! let text = report_page(alloc, &named, &plan)?; // <!DOCTYPE html>..
+//! let text = report_page(alloc, &named, &plan, None)?; // <!DOCTYPE html>..
 //! ```
 #![tactic(auto)]
 
+mod groups;
 mod laws;
 mod page;
 mod summary;

@@ -2,12 +2,14 @@
 ghost use Rattle.std.specs.Prelude.{IfOk};
 ghost use Rattle.show_report.specs.Slacks.{IsEvenSlack};
 
-use crate::summary::push_summary;
+use crate::groups::push_groups;
+use crate::summary::{Borne, push_summary};
 use crate::tables::{push_certificate, push_quorums, push_voters};
 use certificate::Plan;
 use coterie_file::Named;
 use even::{EvenCycle, Slack};
-use show_failures::resilience_of;
+use show_compare::losses_of;
+use show_failures::{resilience_of, used_coterie};
 use show_plans::load_picture;
 use show_words::{plan_figures, quorum_figures, voter_figures, weight_figures};
 use std::alloc::{AllocError, Global};
@@ -20,7 +22,7 @@ const HEAD: &str = "<!DOCTYPE html>
 <meta name=\"viewport\" content=\"width=device-width, initial-scale=1\"/>
 <title>A plan for quorums</title>
 <style>
-:root{color-scheme:light dark;--ink:#1d1f23;--paper:#ffffff;--soft:#f2f4f7;--line:#d3d9e0;--quiet:#59626d;--mark:#2b65a5}
+:root{color-scheme:light dark;--ink:#1d1f23;--paper:#ffffff;--soft:#f2f4f7;--line:#d3d9e0;--quiet:#59626d;--mark:#2b65a5;--cover:var(--paper)}
 @media (prefers-color-scheme:dark){:root{--ink:#e6e8eb;--paper:#16191d;--soft:#20252b;--line:#3a424c;--quiet:#a3adb8;--mark:#83b4e8}}
 *{box-sizing:border-box}
 body{margin:0 auto;max-width:62rem;padding:1rem;font:1rem/1.5 system-ui,sans-serif;color:var(--ink);background:var(--paper)}
@@ -32,13 +34,15 @@ dt,th{font-size:.85rem;font-weight:normal;color:var(--quiet)}
 dd{margin:0;overflow-wrap:anywhere}
 dd b{font-size:1.25rem;color:var(--mark)}
 .wide{max-height:34rem;overflow:auto}
+.wide,figure{background:linear-gradient(var(--cover) 30%,transparent) center top/100% 2.5rem local,linear-gradient(transparent,var(--cover) 70%) center bottom/100% 2.5rem local,linear-gradient(var(--line),transparent) center top/100% .75rem scroll,linear-gradient(transparent,var(--line)) center bottom/100% .75rem scroll,var(--cover);background-repeat:no-repeat}
 table{border-collapse:collapse;font-variant-numeric:tabular-nums}
 th,td{padding:.25rem 1rem .25rem 0;text-align:left;vertical-align:top;border-bottom:1px solid var(--line)}
+th.n,td.n{text-align:right}
 td{white-space:nowrap}
 td:nth-child(4):last-child{min-width:10rem;white-space:normal}
 meter{width:7rem;margin-right:.5rem}
 @media (max-width:36rem){th,td{padding-right:.75rem}td:nth-last-child(5){min-width:3.5rem;white-space:normal;overflow-wrap:anywhere}meter{width:2.5rem}}
-figure{margin:0;padding:.5rem;overflow-x:auto;background:#ffffff;border:1px solid var(--line);border-radius:.5rem}
+figure{--cover:#ffffff;margin:0;padding:.5rem;overflow-x:auto;border:1px solid var(--line);border-radius:.5rem}
 figure svg{display:block}
 ol{padding-left:1.25rem}
 @media print{.wide{max-height:none;overflow:visible}}
@@ -65,21 +69,33 @@ fn push_picture(text: &mut String, picture: &str) -> Result<(), AllocError> {
 }
 
 /// Returns a report of a plan as one HTML document, without a script and without an outside file: its
-/// load, or its throughput if some capacity is not 1, how many failures its coterie bears, how even
-/// it is, whom to ask how often, how busy each voter is, a picture, and the certificate. The plan is
-/// one of the named coterie. Fails only if memory runs out.
-pub fn report_page(alloc: Global, named: &Named, plan: &Plan) -> Result<String, AllocError> {
+/// load, or its throughput if some capacity is not 1, how many failures its coterie and its own quorums
+/// bear, how even it is, whom to ask how often, how busy each voter is, what the loss of each group of
+/// voters does, a picture, and the certificate. The plan is one of the named coterie. The title has the
+/// name of the file that the coterie comes from, if there is one. Fails only if memory runs out.
+pub fn report_page(
+    alloc: Global,
+    named: &Named,
+    plan: &Plan,
+    file: Option<&str>,
+) -> Result<String, AllocError> {
     let figures = plan_figures(plan);
-    let resilience = resilience_of(plan.coterie());
+    let used = used_coterie(alloc, plan)?;
+    let borne = Borne {
+        of_all: resilience_of(plan.coterie()),
+        of_plan: resilience_of(&used),
+    };
+    let losses = losses_of(alloc, named)?;
     let slack = slack_of(alloc, plan)?;
     let quorums = quorum_figures(alloc, plan)?;
     let voters = voter_figures(alloc, plan)?;
     let weights = weight_figures(alloc, plan)?;
     let picture = load_picture(alloc, named, plan)?;
     let mut text = String::from_str(alloc, HEAD)?;
-    push_summary(&mut text, named, &figures, &resilience, slack)?;
+    push_summary(&mut text, named, &figures, &borne, slack, file)?;
     push_quorums(&mut text, named, plan, quorums.as_slice())?;
     push_voters(&mut text, named, &figures, voters.as_slice())?;
+    push_groups(&mut text, named, &used, losses.as_slice())?;
     push_picture(&mut text, picture.as_str())?;
     push_certificate(&mut text, named, &figures, weights.as_slice())?;
     text.push_str("</body>\n</html>\n")?;

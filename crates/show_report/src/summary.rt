@@ -1,8 +1,10 @@
 //! The figures of a plan at a glance.
 
+use certificate::gcd;
 use coterie_file::Named;
 use even::Slack;
 use show_failures::Resilience;
+use show_svg::push_escaped;
 use show_words::{PlanFigures, push_members, push_percent, push_quotient};
 use std::alloc::AllocError;
 
@@ -22,11 +24,22 @@ fn push_load(text: &mut String, plan: &PlanFigures) -> Result<(), AllocError> {
     )
 }
 
-/// Appends how many failures are borne, and the voters without which no quorum is left.
+/// How many voters may fail.
+#[derive(Drop)]
+pub(crate) struct Borne {
+    /// Until no quorum of the coterie is left.
+    pub(crate) of_all: Resilience,
+    /// Until none of the quorums is left that the plan uses.
+    pub(crate) of_plan: Resilience,
+}
+
+/// Appends how many failures some quorums bear, and voters without which none of them is left.
 fn push_failures(
     text: &mut String,
     named: &Named,
+    title: &str,
     resilience: &Resilience,
+    end: &str,
 ) -> Result<(), AllocError> {
     let borne = resilience.borne;
     let words = if resilience.is_smallest {
@@ -36,19 +49,30 @@ fn push_failures(
     };
     write!(
         text,
-        "<div><dt>Failures borne</dt><dd><b>{borne}</b>{words}; without "
+        "<div><dt>{title}</dt><dd><b>{borne}</b>{words}; without "
     )?;
     push_members(text, named, &resilience.blocking, " ")?;
-    text.push_str(" no quorum is left</dd></div>\n")
+    write!(text, " {end}</dd></div>\n")
 }
 
 /// Appends how even the even order is.
 fn push_evenness(text: &mut String, slack: Slack) -> Result<(), AllocError> {
     text.push_str("<div><dt>Evenness</dt><dd><b>")?;
-    push_quotient(text, slack.excess, slack.unit)?;
+    let common = gcd(slack.excess, slack.unit).max(1);
+    push_quotient(text, slack.excess / common, slack.unit / common)?;
     text.push_str(
         "</b>, the slack: in the even order any n requests in a row use no voter more often, for its capacity, than n times the load plus this</dd></div>\n",
     )
+}
+
+/// Appends the title: how many voters there are, and the file that the coterie comes from.
+fn push_title(text: &mut String, voters: usize, file: Option<&str>) -> Result<(), AllocError> {
+    write!(text, "<h1>A plan for {voters} voters")?;
+    if let Some(file) = file {
+        text.push_str(": ")?;
+        push_escaped(text, file)?;
+    }
+    text.push_str("</h1>\n")
 }
 
 /// Appends the title and the figures of a plan at a glance.
@@ -56,21 +80,34 @@ pub(crate) fn push_summary(
     text: &mut String,
     named: &Named,
     plan: &PlanFigures,
-    resilience: &Resilience,
+    borne: &Borne,
     slack: Slack,
+    file: Option<&str>,
 ) -> Result<(), AllocError> {
-    let voters = plan.voters;
     let len = plan.cycle_len;
-    write!(
-        text,
-        "<h1>A plan for {voters} voters</h1>\n<p>A client takes the lock with the votes of all voters of one quorum. The plan says how often to use each quorum, so that the busiest voter gets as few requests as possible.</p>\n<dl>\n"
+    push_title(text, plan.voters, file)?;
+    text.push_str(
+        "<p>A client takes the lock with the votes of all voters of one quorum. The plan says how often to use each quorum, so that the busiest voter gets as few requests as possible.</p>\n<dl>\n",
     )?;
     push_load(text, plan)?;
     write!(
         text,
         "<div><dt>Cycle</dt><dd><b>{len}</b> requests: over whole cycles the shares below are exact</dd></div>\n"
     )?;
-    push_failures(text, named, resilience)?;
+    push_failures(
+        text,
+        named,
+        "Failures borne by the coterie",
+        &borne.of_all,
+        "no quorum is left",
+    )?;
+    push_failures(
+        text,
+        named,
+        "Failures borne by this plan",
+        &borne.of_plan,
+        "none of its own quorums is left, and a new plan is needed",
+    )?;
     push_evenness(text, slack)?;
     text.push_str("</dl>\n")
 }

@@ -18,13 +18,16 @@ pub(crate) fn push_quorums(
     figures: &[QuorumFigure],
 ) -> Result<(), AllocError> {
     text.push_str(
-        "<h2>Whom to ask, and how often</h2>\n<div class=\"wide\"><table>\n<tr><th>Share</th><th>Uses</th><th>Quorum</th><th>Ask these voters</th></tr>\n",
+        "<h2>Whom to ask, and how often</h2>\n<div class=\"wide\"><table>\n<tr><th class=\"n\">Share</th><th class=\"n\">Uses</th><th class=\"n\">Quorum</th><th>Ask these voters</th></tr>\n",
     )?;
     for figure in figures {
         let QuorumFigure { quorum, weight } = *figure;
-        text.push_str("<tr><td>")?;
+        text.push_str("<tr><td class=\"n\">")?;
         push_percent(text, weight, plan.cycle_len())?;
-        write!(text, "</td><td>{weight}</td><td>{quorum}</td><td>")?;
+        write!(
+            text,
+            "</td><td class=\"n\">{weight}</td><td class=\"n\">{quorum}</td><td>"
+        )?;
         push_quorum_members(text, named, plan, quorum)?;
         text.push_str("</td></tr>\n")?;
     }
@@ -45,11 +48,11 @@ fn push_voter(
     } = figure;
     let (part, whole) = busy_part(plan.ratio, figure);
     let name = name_of(named, voter);
-    write!(text, "<tr><td>{name}</td><td>")?;
+    write!(text, "<tr><td>{name}</td><td class=\"n\">")?;
     push_percent(text, count, plan.cycle_len)?;
     write!(
         text,
-        "</td><td>{count}</td><td>{capacity}</td><td><meter max=\"{whole}\" value=\"{part}\"></meter>"
+        "</td><td class=\"n\">{count}</td><td class=\"n\">{capacity}</td><td><meter max=\"{whole}\" value=\"{part}\"></meter>"
     )?;
     push_percent(text, part, whole)?;
     text.push_str("</td></tr>\n")
@@ -63,7 +66,7 @@ pub(crate) fn push_voters(
     figures: &[VoterFigure],
 ) -> Result<(), AllocError> {
     text.push_str(
-        "<h2>How busy each voter is for its capacity</h2>\n<div class=\"wide\"><table>\n<tr><th>Voter</th><th>Share</th><th>Uses</th><th>Capacity</th><th>Beside the busiest</th></tr>\n",
+        "<h2>How busy each voter is for its capacity</h2>\n<div class=\"wide\"><table>\n<tr><th>Voter</th><th class=\"n\">Share</th><th class=\"n\">Uses</th><th class=\"n\">Capacity</th><th>Beside the busiest</th></tr>\n",
     )?;
     for figure in figures {
         push_voter(text, named, plan, *figure)?;
@@ -103,12 +106,15 @@ pub(crate) fn push_certificate(
     figures: &[WeightFigure],
 ) -> Result<(), AllocError> {
     text.push_str(
-        "<h2>Why no plan has a smaller load</h2>\n<div class=\"wide\"><table>\n<tr><th>Voter</th><th>Weight</th></tr>\n",
+        "<h2>Why no plan has a smaller load</h2>\n<div class=\"wide\"><table>\n<tr><th>Voter</th><th class=\"n\">Weight</th></tr>\n",
     )?;
     for figure in figures {
         let WeightFigure { voter, weight } = *figure;
         let name = name_of(named, voter);
-        write!(text, "<tr><td>{name}</td><td>{weight}</td></tr>\n")?;
+        write!(
+            text,
+            "<tr><td>{name}</td><td class=\"n\">{weight}</td></tr>\n"
+        )?;
     }
     text.push_str("</table></div>\n<ol>\n")?;
     push_steps(text, plan)?;

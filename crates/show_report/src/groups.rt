@@ -1,0 +1,46 @@
+//! What the loss of a whole group of voters does, such as a rack.
+
+use coterie_file::Named;
+use failures::bears;
+use quorum_set::Coterie;
+use show_compare::Loss;
+use show_words::{push_members, push_percent};
+use std::alloc::AllocError;
+
+/// Appends the load of the best plan of what is left, if a quorum is.
+fn push_left(text: &mut String, loss: &Loss) -> Result<(), AllocError> {
+    let Some(loads) = loss.left else {
+        return text.push_str("no quorum is left");
+    };
+    let (part, whole) = loads.load;
+    push_percent(text, part, whole)
+}
+
+/// Appends the table of these losses, if there are several groups and one has several voters. `used` are
+/// the quorums that the plan uses.
+pub(crate) fn push_groups(
+    text: &mut String,
+    named: &Named,
+    used: &Coterie,
+    losses: &[Loss],
+) -> Result<(), AllocError> {
+    if losses.len() < 2 || losses.len() >= named.coterie().voters() {
+        return Ok(());
+    }
+    text.push_str(
+        "<h2>When a whole group fails</h2>\n<div class=\"wide\"><table>\n<tr><th>Group, by names</th><th class=\"n\">Load of a new plan</th><th>This plan goes on</th></tr>\n",
+    )?;
+    for loss in losses {
+        text.push_str("<tr><td>")?;
+        push_members(text, named, &loss.group, " ")?;
+        text.push_str("</td><td class=\"n\">")?;
+        push_left(text, loss)?;
+        let goes_on = if bears(used, &loss.group) {
+            "with fewer quorums"
+        } else {
+            "no: plan again"
+        };
+        write!(text, "</td><td>{goes_on}</td></tr>\n")?;
+    }
+    text.push_str("</table></div>\n")
+}
