@@ -184,7 +184,6 @@ try 'show deal 5, JSON' '' "$root/examples/wheel-3-planned.txt" deal --json 5
 try 'show near' '' "$root/examples/wheel-3.toml" near
 try 'show near, JSON' '' "$root/examples/wheel-3.toml" near --json
 try 'show near, tickets' '' "$root/examples/wheel-3.toml" near --deal 5
-try 'show compare' '' /dev/null compare "$root/examples/wheel-3.toml" "$root/examples/weighted-votes.toml"
 try 'show coterie' '' /dev/null coterie votes 3 2 2 1 1 --capacity 3 2 2 1 1
 try 'show fault check' '' "$root/examples/refused-plan.txt" fault check
 sed 's/^cycle .*/cycle 05/' "$work/plan" > "$work/cycle"
