@@ -19,7 +19,7 @@ use host::{
 };
 use show_cli::{ShowCommand, read_show_words, reads_page_input, show};
 use std::io;
-use std::io::{ErrorKind, Read};
+use std::io::{ErrorKind, Read, Write};
 use std::process::ExitCode;
 
 /// Prints a text that was asked for, and behind help how files are named.
@@ -51,6 +51,21 @@ fn answer_words(rt: &HostRuntime, usage: &Usage, words: &[String]) -> u8
     }
 }
 
+/// Serves the command over an input, which comes from these files, if there are any, and an output.
+fn serve_over<R: Read + Drop, W: Write + Drop>(
+    rt: &HostRuntime,
+    command: &ShowCommand,
+    files: &[String],
+    input: R,
+    output: &mut Listened<W>,
+) -> Result<(), Fault>
+    requires { IsShown command.now }
+{
+    let mut reader = Watched::of(input);
+    let mut writer = Watched::of(output);
+    show(rt.alloc(), command, files, &mut reader, &mut writer)
+}
+
 /// Serves the command over an input, which comes from these files, if there are any, and standard output.
 /// Returns the exit status.
 fn serve_input<R: Read + Drop>(
@@ -61,10 +76,8 @@ fn serve_input<R: Read + Drop>(
 ) -> u8
     requires { IsShown command.now }
 {
-    let mut reader = Watched::of(input);
     let mut output = Listened::of(io::writer(rt));
-    let mut writer = Watched::of(&mut output);
-    let served = show(rt.alloc(), command, files, &mut reader, &mut writer);
+    let served = serve_over(rt, command, files, input, &mut output);
     report_shown(rt, &served, output.is_unread())
 }
 
