@@ -177,13 +177,10 @@ try 'show without, none left' '' "$work/majority.toml" without v0 v1
 try 'show resilience' '' "$root/examples/three-racks.toml" resilience
 try 'show bridge' '' "$work/bridge" bridge
 try 'show resilience of a plan' '' "$root/examples/wheel-3-planned.txt" resilience
-try 'show resilience, JSON' '' "$root/examples/wheel-3-planned.txt" resilience --json
 try 'show plan, JSON' '' "$root/examples/wheel-3-planned.txt" plan --json
 try 'show deal 5, names' '' "$root/examples/wheel-3-planned.txt" deal --names 5
 try 'show deal 5, JSON' '' "$root/examples/wheel-3-planned.txt" deal --json 5
 try 'show near' '' "$root/examples/wheel-3.toml" near
-try 'show near, JSON' '' "$root/examples/wheel-3.toml" near --json
-try 'show near, tickets' '' "$root/examples/wheel-3.toml" near --deal 5
 try 'show coterie' '' /dev/null coterie votes 3 2 2 1 1 --capacity 3 2 2 1 1
 try 'show fault check' '' "$root/examples/refused-plan.txt" fault check
 sed 's/^cycle .*/cycle 05/' "$work/plan" > "$work/cycle"
