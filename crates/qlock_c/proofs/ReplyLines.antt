@@ -20,8 +20,8 @@ use Rattle.voter.specs.Leases.{evict, evict_held, release_of}
 use Rattle.voter.specs.Steps.{Outcome, no_reply, remind, step}
 use Rattle.voter.specs.VoterContract.{AllReport, ReportsVote}
 use Rattle.voter.specs.Waiting.{waiting_words}
-use Rattle.voter.proofs.Contract.{AllReport-remind, MeetsContract-step}
-use Rattle.voter.proofs.ReplyLemmas.{AllCarry-remind, AllReportPlace-remind, AreAnswers-step, CarrySeen-step}
+use Rattle.voter.proofs.Contract.{MeetsContract-step}
+use Rattle.voter.proofs.ReplyLemmas.{AllCarry-remind, AllReport-remind, AllReportPlace-remind, AreAnswers-step, CarrySeen-step}
 use Rattle.words.specs.WordBytes.{FitIn64Bits}
 use Rattle.qlock_c.specs.Bytes.{IsVoter}
 use Rattle.qlock_c.specs.Lines.{ClientsCanRead}

@@ -1,30 +1,26 @@
 -- the contract of a voter
-use Rattle.std.proofs.Common.{◌≡◌, ℕ, ◌<◌, ◌≤◌, Bool, true, false, cond, List, [], ◌∷◌, ◌++◌, Option, Some, None, refl, sym, ap, ◌∙◌, ◌⊎◌, inl, inr, arith, subst, eqb}
-use Rattle.std.specs.Prelude.{is_some, ◌&&◌, ◌==◌}
+use Rattle.std.proofs.Common.{◌≡◌, ℕ, ◌<◌, ◌≤◌, Bool, true, false, cond, Option, Some, None, refl, sym, ap, ◌∙◌, ◌⊎◌, inl, inr, arith, subst, eqb}
+use Rattle.std.specs.Prelude.{is_some, ◌&&◌}
 use Rattle.std.specs.FinMap.{get, insert, remove}
 use Rattle.std.proofs.lemmas.Bool.Decides.{nat_tests}
 use Rattle.std.proofs.lemmas.Option.{none-some, same_Some}
-use Rattle.numbers.proofs.Lists.{AllByRecursion-append}
 use Rattle.message.specs.declared.request.Request.{Request}
 use Rattle.message.specs.declared.message.ToVoter.{ToVoter}
-use Rattle.message.specs.declared.message.ToClient.{ToClient}
 use Rattle.message.specs.declared.message.VoterBody.{VoterBody}
 use Rattle.message.specs.declared.message.VoterBody.TheVariants as asks
-use Rattle.message.specs.declared.message.ClientBody.{ClientBody}
-use Rattle.message.specs.declared.message.ClientBody.TheVariants as to_client
 use Rattle.voter.specs.declared.state.Grant.{Grant}
 use Rattle.voter.specs.declared.state.VoterState.{VoterState}
 use Rattle.voter.specs.Waiting.{Waiting, front}
 use Rattle.voter.specs.VoteMoves.{VoteMoves}
-use Rattle.voter.specs.VoterContract.{ReportsVote, AllReport, Ends, IsEntry, Brings, MeetsContract}
-use Rattle.voter.specs.Steps.{Outcome, grant_to, grant_front, take_release, join_queue, join_queue_by, inquiry, fail_former, admit, queue, free_vote, finish}
-use Rattle.voter.specs.Steps.{held_stamp, is_up_to, is_older, is_grant, current_stamp, first_some, take_request, again, again_by}
-use Rattle.voter.specs.Steps.{see, outcome_of, ends_grant, step, remind, remind_of, inquiry_again}
+use Rattle.voter.specs.VoterContract.{Ends, IsEntry, Brings, MeetsContract}
+use Rattle.voter.specs.Steps.{Outcome, grant_to, grant_front, take_release, join_queue, join_queue_by, admit, queue, free_vote, finish}
+use Rattle.voter.specs.Steps.{held_stamp, is_up_to, is_older, is_grant, take_request, see, outcome_of, ends_grant, step}
 use Rattle.voter.proofs.Cases.{by_admit, by_release, by_relinquish, by_request}
 use Rattle.voter.proofs.Front.{front-found}
-use Rattle.voter.proofs.Moves.{VoteMoves-outcome_of, VoteMoves-admit}
+use Rattle.voter.proofs.Moves.{VoteMoves-outcome_of}
 use Rattle.voter.proofs.Soundness.{get-removed, get-inserted}
 use Rattle.voter.proofs.Effects.{step-Some}
+use Rattle.voter.proofs.ReplyLemmas.{AllReport-outcome_of}
 
 -- A grant stays, or the message ends it.
 
@@ -164,93 +160,6 @@ entry_of P w h d t (inr e) = h.waiting d t e
 
 pub IsEntry-outcome_of : (v : VoterState) (c : ℕ) (b : VoterBody) (d t : ℕ) → IsEntry (outcome_of v c b).state d t → IsEntry v d t ⊎ Brings c b d t
 IsEntry-outcome_of v c b d t e = entry_of (Came v c b) (outcome_of v c b).state (Stamps-outcome_of (Came v c b) v c b (Says-Came v c b) (came_before v c b)) d t e
-
--- Each LOCKED reports the vote as it is.
-
-heard-grant_to : (v : VoterState) (o : Option Request) → AllReport (grant_to v o).state.held (grant_to v o).replies
-heard-grant_to v None = tt
-heard-grant_to v (Some r) = (refl, tt)
-
-heard-grant_front : (v : VoterState) → AllReport (grant_front v).state.held (grant_front v).replies
-unfolding grant_front
-heard-grant_front v = heard-grant_to v (front v.waiting)
-
-heard-take_release : (v : VoterState) (c s : ℕ) → AllReport (take_release v c s).state.held (take_release v c s).replies
-heard-take_release v c s = by_release (λ o. AllReport o.state.held o.replies) v c s (λ _. heard-grant_front (free_vote (finish v c s))) (λ _ _. tt) (λ _ _. tt)
-
-reported_former : (v : VoterState) (held : Option Grant) (o : Option Request) → AllReport held (fail_former v o)
-reported_former v held None = tt
-reported_former v held (Some q) = (tt, tt)
-
-reported_inquiry : (out : Bool) (v : VoterState) (held : Option Grant) (g : Grant) (o : Option Request) → AllReport held (inquiry out v g ++ fail_former v o)
-reported_inquiry true v held g o = reported_former v held o
-reported_inquiry false v held g o = (tt, reported_former v held o)
-
--- nobody receives a grant while another holds the vote
-heard-join_queue_by : (waits granted : Bool) (v : VoterState) (g : Grant) (c s : ℕ) → AllReport (join_queue_by waits granted v g c s).state.held (join_queue_by waits granted v g c s).replies
-heard-join_queue_by true granted v g c s = (tt, tt)
-heard-join_queue_by false true v g c s = (tt, reported_former v v.held (front v.waiting))
-heard-join_queue_by false false v g c s = reported_inquiry v.inquiring v v.held g (front v.waiting)
-
-heard-admit : (v : VoterState) (c s : ℕ) → AllReport (admit v c s).state.held (admit v c s).replies
-unfolding join_queue
-heard-admit v c s = by_admit (λ o. AllReport o.state.held o.replies) v c s (λ _. heard-grant_front (queue v c s)) (λ g _. heard-join_queue_by _ _ v g c s)
-
--- a reply that reports the vote before a step that ends no grant reports it afterwards
-still_one : (v w : VoterState) → VoteMoves false v w → (client : ℕ) (body : ClientBody) → ReportsVote v.held client body → ReportsVote w.held client body
-still_one v w (inl k) client (to_client.Locked stamp grant) t = k.held ∙ t
-still_one v w (inr k) client (to_client.Locked stamp grant) t = absurd (none-some _ (sym k.0 ∙ t))
-still_one v w k client body t = tt
-
-still_all : (v w : VoterState) → VoteMoves false v w → (rs : List ToClient) → AllReport v.held rs → AllReport w.held rs
-still_all v w k [] t = tt
-still_all v w k (r ∷ rs) t = (still_one v w k r.client r.body t.0, still_all v w k rs t.1)
-
-same_stamp : (o : Option Grant) (w : Option ℕ) (c : ℕ) (g : Grant) (s : ℕ) → o ≡ Some g → g.client ≡ c → first_some (held_stamp o c) w ≡ Some s → g.stamp ≡ s
-same_stamp None w c g s is own present = absurd (none-some g is)
-same_stamp (Some h) w c g s is own present =
-    let client = ap (λ (k : Grant). k.client) (same_Some h g is) in
-    let stamp = ap (λ (k : Grant). k.stamp) (same_Some h g is) in
-    grind (arith, nat_tests)
-
-reported_again_by : (b : Bool) (v : VoterState) (g : Grant) (c s : ℕ) → (g.client == c) ≡ b → v.held ≡ Some g → current_stamp v c ≡ Some s → AllReport v.held (again_by b v g c s)
-reported_again_by true v g c s e is present =
-    let own : g.client ≡ c = grind (arith, nat_tests) in
-    let same : g.stamp ≡ s = same_stamp v.held (get v.waiting c) c g s is own present in
-    (is ∙ (λ i. Some (record { client = own i; stamp = same i; grant = g.grant })), tt)
-reported_again_by false v g c s e is present = (tt, tt)
-
-reported_again : (o : Option Grant) (v : VoterState) (c s : ℕ) → v.held ≡ o → current_stamp v c ≡ Some s → AllReport v.held (again v o c s)
-reported_again None v c s is present = (tt, tt)
-reported_again (Some g) v c s is present = reported_again_by _ v g c s refl is present
-
-heard-take_request : (v : VoterState) (c s : ℕ) → AllReport (take_request v c s).state.held (take_request v c s).replies
-heard-take_request v c s = by_request (λ o. AllReport o.state.held o.replies) v c s (record {
-  stale = λ _. tt;
-  repeated = λ present. reported_again v.held v c s refl present;
-  only = λ _ _. heard-admit v c s;
-  newer = λ _ t _ _.
-      let w = (take_release v c t).state in
-      let a = admit w c s in
-      AllByRecursion-append _ (take_release v c t).replies a.replies (still_all w a.state (VoteMoves-admit w c s) (take_release v c t).replies (heard-take_release v c t)) (heard-admit w c s);
-})
-
-pub AllReport-outcome_of : (v : VoterState) (c : ℕ) (b : VoterBody) → AllReport (outcome_of v c b).state.held (outcome_of v c b).replies
-AllReport-outcome_of v c (asks.Request s) = heard-take_request (see v s) c s
-AllReport-outcome_of v c (asks.Relinquish n) = by_relinquish (λ o. AllReport o.state.held o.replies) v c n tt (λ g _. heard-grant_front (queue (free_vote v) g.client g.stamp))
-AllReport-outcome_of v c (asks.Release s) = heard-take_release (see v s) c s
-
-reported_again_all : (out : Bool) (v : VoterState) (held : Option Grant) (g : Grant) → AllReport held (inquiry_again out v g)
-reported_again_all true v held g = (tt, tt)
-reported_again_all false v held g = tt
-
-reported_remind : (o : Option Grant) (v : VoterState) → AllReport o (remind_of o v)
-reported_remind None v = tt
-reported_remind (Some g) v = (refl, reported_again_all v.inquiring v (Some g) g)
-
-pub AllReport-remind : (v : VoterState) → AllReport v.held (remind v)
-unfolding remind
-AllReport-remind v = reported_remind v.held v
 
 -- The step.
 

@@ -1,10 +1,10 @@
 -- a grant that is let go
-use Rattle.std.proofs.Common.{◌≡◌, ℕ, true, false, cond, eqb, Option, Some, None, refl, ap, ◌∙◌, arith}
+use Rattle.std.proofs.Common.{◌≡◌, ℕ, true, false, cond, eqb, Option, Some, None, ap, ◌∙◌, arith}
 use Rattle.std.proofs.lemmas.Bool.Decides.{nat_tests}
 use Rattle.voter.specs.declared.state.Grant.{Grant}
 use Rattle.voter.specs.declared.state.VoterState.{VoterState}
 use Rattle.voter.specs.Leases.{evict, evict_held, release_of}
-use Rattle.voter.specs.Steps.{Outcome, no_reply, step}
+use Rattle.voter.specs.Steps.{no_reply, step}
 
 evict-by : (v : VoterState) (o : Option Grant) (n : ℕ) → v.held ≡ o → evict v n ≡ evict_held o v n
 evict-by v o n is = ap (λ (h : Option Grant). evict_held h v n) is

@@ -153,19 +153,19 @@ kept-join_queue_by : (waits granted : Bool) (v : VoterState) (g : Grant) (c s : 
 kept-join_queue_by false true v g c s = record { id = refl; limit = refl; seen = refl }
 kept-join_queue_by waits granted v g c s = record { id = refl; limit = refl; seen = refl }
 
-kept-admit : (v : VoterState) (c s : ℕ) → Keeps v (admit v c s).state
+pub Keeps-admit : (v : VoterState) (c s : ℕ) → Keeps v (admit v c s).state
 unfolding join_queue
-kept-admit v c s = by_admit (λ o. Keeps v o.state) v c s (λ _. let k = kept-grant_front (queue v c s) in record { id = k.id; limit = k.limit; seen = k.seen })
+Keeps-admit v c s = by_admit (λ o. Keeps v o.state) v c s (λ _. let k = kept-grant_front (queue v c s) in record { id = k.id; limit = k.limit; seen = k.seen })
     (λ g _. kept-join_queue_by _ _ v g c s)
 
 kept-take_request : (v : VoterState) (c s : ℕ) → Keeps v (take_request v c s).state
 kept-take_request v c s = by_request (λ o. Keeps v o.state) v c s (record {
   stale = λ _. kept v;
   repeated = λ _. kept v;
-  only = λ _ _. kept-admit v c s;
+  only = λ _ _. Keeps-admit v c s;
   newer = λ _ t _ _.
       let r = Keeps-take_release v c t in
-      let a = kept-admit (take_release v c t).state c s in
+      let a = Keeps-admit (take_release v c t).state c s in
       record { id = a.id ∙ r.id; limit = a.limit ∙ r.limit; seen = a.seen ∙ r.seen };
 })
 

@@ -1,12 +1,13 @@
 -- what the replies of a step say
-use Rattle.std.proofs.Common.{◌≡◌, ℕ, ◌+◌, ◌≤◌, Bool, true, false, cond, List, [], ◌∷◌, ◌++◌, length, Option, Some, None, refl, sym, ap, ◌∙◌, arith, subst, eqb, zero-add}
+use Rattle.std.proofs.Common.{◌≡◌, ℕ, ◌+◌, ◌≤◌, Bool, true, false, cond, List, [], ◌∷◌, ◌++◌, length, Option, Some, None, refl, sym, ap, ◌∙◌, inl, inr, arith, subst, eqb, zero-add}
 use Rattle.std.specs.Prelude.{◌==◌}
 use Rattle.std.specs.FinMap.{get, insert}
 use Rattle.std.proofs.lemmas.Bool.Decides.{nat_tests}
 use Rattle.std.proofs.lemmas.Bool.{false≢true}
 use Rattle.std.proofs.lemmas.List.{length-append}
 use Rattle.std.proofs.lemmas.Option.{none-some, same_Some}
-use Rattle.numbers.proofs.Lists.{AllByRecursion-append}
+use Rattle.std.specs.List.{AllByRecursion}
+use Rattle.numbers.proofs.Lists.{AllByRecursion-append, AllByRecursion-weaker}
 use Rattle.message.specs.declared.request.Request.{Request}
 use Rattle.message.specs.declared.message.ToVoter.{ToVoter}
 use Rattle.message.specs.declared.message.ToClient.{ToClient}
@@ -17,63 +18,54 @@ use Rattle.message.specs.declared.message.ClientBody.TheVariants as to_client
 use Rattle.voter.specs.declared.state.Grant.{Grant}
 use Rattle.voter.specs.declared.state.VoterState.{VoterState}
 use Rattle.voter.specs.Waiting.{Waiting, front}
-use Rattle.voter.specs.Replies.{AllReportPlace, locked_in, locked_count, AllCarry, seen_after, AreAnswers, CarrySeen}
+use Rattle.voter.specs.VoteMoves.{VoteMoves}
+use Rattle.voter.specs.VoterContract.{ReportsVote, AllReport}
+use Rattle.voter.specs.Replies.{ReportsPlace, AllReportPlace, locked_in, locked_count, AllCarry, seen_after, AreAnswers, CarrySeen}
 use Rattle.voter.specs.Steps.{Outcome, grant_to, grant_front, take_release, join_queue, join_queue_by, inquiry, fail_former, admit, queue, free_vote, finish}
 use Rattle.voter.specs.Steps.{held_stamp, is_up_to, current_stamp, first_some, take_request, again, again_by}
 use Rattle.voter.specs.Steps.{see, outcome_of, step, remind, remind_of, inquiry_again, IsSound}
 use Rattle.voter.proofs.Cases.{by_admit, by_release, by_relinquish, by_request}
 use Rattle.voter.proofs.Front.{front-found}
-use Rattle.voter.proofs.Grants.{granted-compare_by, granted-admit, KeepsBut-outcome_of, Keeps-take_release, up_to_own, more}
+use Rattle.voter.proofs.Grants.{granted-compare_by, granted-admit, Keeps-admit, KeepsBut-outcome_of, up_to_own, more}
+use Rattle.voter.proofs.Moves.{VoteMoves-admit}
 use Rattle.voter.proofs.Soundness.{IsOrderly, get-inserted, get-removed_none, get-removed_self, held_stamp-holder, IsOrderly-see}
 use Rattle.voter.proofs.Effects.{step-Some}
 use Rattle.voter.proofs.NewRequests.{here_inserted}
 
--- FAIL goes to a client that waits, INQUIRE to the holder.
+-- Each reply says what is so.
 
--- the replies to a grant are LOCKED alone
-place-grant_to : (w v : VoterState) (o : Option Request) → AllReportPlace w (grant_to v o).replies
-place-grant_to w v None = tt
-place-grant_to w v (Some r) = (tt, tt)
+-- what a reply says of the voter w: its number, what it saw, its vote and, if S, who waits
+record IsTrue (S : Type 0) (w : VoterState) (r : ToClient) : Type 0 where
+  voter : r.voter ≡ w.id
+  seen : r.seen ≡ w.seen
+  vote : ReportsVote w.held r.client r.body
+  place : S → ReportsPlace w r.client r.body
 
-place-grant_front : (w v : VoterState) → AllReportPlace w (grant_front v).replies
-unfolding grant_front
-place-grant_front w v = place-grant_to w v (front v.waiting)
+-- after v, the voter w has seen no more, and keeps the grant
+record GoesOn (v w : VoterState) : Type 0 where
+  id : w.id ≡ v.id
+  seen : w.seen ≡ v.seen
+  held : (g : Grant) → v.held ≡ Some g → w.held ≡ Some g
 
-place-take_release : (w v : VoterState) (c s : ℕ) → AllReportPlace w (take_release v c s).replies
-place-take_release w v c s = by_release (λ o. AllReportPlace w o.replies) v c s (λ _. place-grant_front w (free_vote (finish v c s))) (λ _ _. tt) (λ _ _. tt)
+goes_on : (v : VoterState) → GoesOn v v
+goes_on v = record { id = refl; seen = refl; held = λ g is. is }
+
+held_on : (v w : VoterState) → VoteMoves false v w → (g : Grant) → v.held ≡ Some g → w.held ≡ Some g
+held_on v w (inl k) g is = k.held ∙ is
+held_on v w (inr k) g is = absurd (none-some g (sym k.0 ∙ is))
+
+GoesOn-admit : (v : VoterState) (c s : ℕ) → GoesOn v (admit v c s).state
+GoesOn-admit v c s = let k = Keeps-admit v c s in record { id = k.id; seen = k.seen; held = held_on v (admit v c s).state (VoteMoves-admit v c s) }
 
 -- who waited still does, when another comes
 still_waits : (w : Waiting) (c s d t : ℕ) → get w c ≡ None → get w d ≡ Some t → get (insert w c s) d ≡ Some t
-still_waits w c s d t none is = elim (eqb d c) as (λ b. eqb d c ≡ b → cond b (Some s) (get w d) ≡ Some t → get (insert w c s) d ≡ Some t) [
-  | true ↦ λ e h. let same : d ≡ c = grind (arith, nat_tests) in absurd (none-some t (sym none ∙ ap (get w) (sym same) ∙ is))
-  | false ↦ λ e h. get-inserted w c s d ∙ ap (λ b. cond b (Some s) (get w d)) e ∙ is
-] refl (elim (eqb d c) as (λ b. eqb d c ≡ b → cond b (Some s) (get w d) ≡ Some t) [
+still_waits w c s d t none is = get-inserted w c s d ∙ elim (eqb d c) as (λ b. eqb d c ≡ b → cond b (Some s) (get w d) ≡ Some t) [
   | true ↦ λ e. let same : d ≡ c = grind (arith, nat_tests) in absurd (none-some t (sym none ∙ ap (get w) (sym same) ∙ is))
   | false ↦ λ e. is
-] refl)
-
-place_former : (v w : VoterState) (o : Option Request) → ((q : Request) → o ≡ Some q → get w.waiting q.client ≡ Some q.stamp) → AllReportPlace w (fail_former v o)
-place_former v w None waits = tt
-place_former v w (Some q) waits = (waits q refl, tt)
-
-place_inquiry : (out : Bool) (v w : VoterState) (g : Grant) (o : Option Request) → w.held ≡ Some g → ((q : Request) → o ≡ Some q → get w.waiting q.client ≡ Some q.stamp)
-    → AllReportPlace w (inquiry out v g ++ fail_former v o)
-place_inquiry true v w g o is waits = place_former v w o waits
-place_inquiry false v w g o is waits = ((g, is, refl, refl), place_former v w o waits)
+] refl
 
 front_waits : (v : VoterState) (c s : ℕ) → get v.waiting c ≡ None → (q : Request) → front v.waiting ≡ Some q → get (insert v.waiting c s) q.client ≡ Some q.stamp
 front_waits v c s none q is = still_waits v.waiting c s q.client q.stamp none (front-found v.waiting q is)
-
-place-join_queue_by : (waits granted : Bool) (v : VoterState) (g : Grant) (c s : ℕ) → v.held ≡ Some g → get v.waiting c ≡ None
-    → AllReportPlace (join_queue_by waits granted v g c s).state (join_queue_by waits granted v g c s).replies
-place-join_queue_by true granted v g c s is none = (here_inserted v.waiting c s, tt)
-place-join_queue_by false true v g c s is none = (here_inserted v.waiting c s, place_former v (queue v c s) (front v.waiting) (front_waits v c s none))
-place-join_queue_by false false v g c s is none = place_inquiry v.inquiring v (record (queue v c s) { inquiring = true }) g (front v.waiting) is (front_waits v c s none)
-
-place-admit : (v : VoterState) (c s : ℕ) → get v.waiting c ≡ None → AllReportPlace (admit v c s).state (admit v c s).replies
-unfolding join_queue
-place-admit v c s none = by_admit (λ o. AllReportPlace o.state o.replies) v c s (λ _. place-grant_front (grant_front (queue v c s)).state (queue v c s))
-    (λ g is. place-join_queue_by _ _ v g c s is none)
 
 waits_free : (o : Option Grant) (w : Option ℕ) (c s : ℕ) → o ≡ None → first_some (held_stamp o c) w ≡ Some s → w ≡ Some s
 waits_free None w c s free present = present
@@ -83,13 +75,12 @@ waits_beside : (o : Option Grant) (w : Option ℕ) (c : ℕ) (g : Grant) (s : �
 waits_beside None w c g s is other present = absurd (none-some g is)
 waits_beside (Some h) w c g s is other present = let client = ap (λ (k : Grant). k.client) (same_Some h g is) in grind (arith, nat_tests)
 
-place_again_by : (b : Bool) (v : VoterState) (g : Grant) (c s : ℕ) → (g.client == c) ≡ b → v.held ≡ Some g → current_stamp v c ≡ Some s → AllReportPlace v (again_by b v g c s)
-place_again_by true v g c s e is present = (tt, tt)
-place_again_by false v g c s e is present = (waits_beside v.held (get v.waiting c) c g s is e present, tt)
-
-place_again : (o : Option Grant) (v : VoterState) (c s : ℕ) → v.held ≡ o → current_stamp v c ≡ Some s → AllReportPlace v (again v o c s)
-place_again None v c s is present = (waits_free v.held (get v.waiting c) c s is present, tt)
-place_again (Some g) v c s is present = place_again_by _ v g c s refl is present
+same_stamp : (o : Option Grant) (w : Option ℕ) (c : ℕ) (g : Grant) (s : ℕ) → o ≡ Some g → g.client ≡ c → first_some (held_stamp o c) w ≡ Some s → g.stamp ≡ s
+same_stamp None w c g s is own present = absurd (none-some g is)
+same_stamp (Some h) w c g s is own present =
+    let client = ap (λ (k : Grant). k.client) (same_Some h g is) in
+    let stamp = ap (λ (k : Grant). k.stamp) (same_Some h g is) in
+    grind (arith, nat_tests)
 
 -- after its release a client does not wait
 
@@ -116,22 +107,75 @@ none_waits : (o w : Option ℕ) → first_some o w ≡ None → w ≡ None
 none_waits None w e = e
 none_waits (Some s) w e = absurd (none-some s (sym e))
 
-place-take_request : (v : VoterState) (c s : ℕ) → IsOrderly v → AllReportPlace (take_request v c s).state (take_request v c s).replies
-place-take_request v c s h = by_request (λ o. AllReportPlace o.state o.replies) v c s (record {
-  stale = λ _. tt;
-  repeated = λ present. place_again v.held v c s refl present;
-  only = λ _ present. place-admit v c s (none_waits (held_stamp v.held c) (get v.waiting c) present);
-  newer = λ _ t present _.
-      let w = (take_release v c t).state in
-      let a = admit w c s in
-      AllByRecursion-append _ (take_release v c t).replies a.replies (place-take_release a.state v c t) (place-admit w c s (gone-take_release v c t present h));
-})
+module _ (S : Type 0) where
+  abbrev AreTrue : VoterState → List ToClient → Type 0
+  AreTrue w replies = AllByRecursion (IsTrue S w) replies
 
-place_after : (v : VoterState) (c : ℕ) (b : VoterBody) → IsOrderly v → AllReportPlace (outcome_of v c b).state (outcome_of v c b).replies
-place_after v c (asks.Request s) h = place-take_request (see v s) c s (IsOrderly-see v s h)
-place_after v c (asks.Relinquish n) h = by_relinquish (λ o. AllReportPlace o.state o.replies) v c n tt
-    (λ g _. place-grant_front (grant_front (queue (free_vote v) g.client g.stamp)).state (queue (free_vote v) g.client g.stamp))
-place_after v c (asks.Release s) h = place-take_release (take_release (see v s) c s).state (see v s) c s
+  true-grant_to : (v w : VoterState) (o : Option Request) → GoesOn (grant_to v o).state w → AreTrue w (grant_to v o).replies
+  true-grant_to v w None k = tt
+  true-grant_to v w (Some r) k = (record { voter = sym k.id; seen = sym k.seen; vote = k.held _ refl; place = λ _. tt }, tt)
+
+  true-grant_front : (v w : VoterState) → GoesOn (grant_front v).state w → AreTrue w (grant_front v).replies
+  unfolding grant_front
+  true-grant_front v w k = true-grant_to v w (front v.waiting) k
+
+  true-take_release : (v w : VoterState) (c s : ℕ) → GoesOn (take_release v c s).state w → AreTrue w (take_release v c s).replies
+  true-take_release v w c s = by_release (λ o. GoesOn o.state w → AreTrue w o.replies) v c s (λ _ k. true-grant_front (free_vote (finish v c s)) w k) (λ _ _ _. tt) (λ _ _ _. tt)
+
+  true_former : (v w : VoterState) (o : Option Request) → GoesOn v w → (S → (q : Request) → o ≡ Some q → get w.waiting q.client ≡ Some q.stamp) → AreTrue w (fail_former v o)
+  true_former v w None k waits = tt
+  true_former v w (Some q) k waits = (record { voter = sym k.id; seen = sym k.seen; vote = tt; place = λ t. waits t q refl }, tt)
+
+  true_inquiry : (out : Bool) (v w : VoterState) (g : Grant) (o : Option Request) → GoesOn v w → v.held ≡ Some g → (S → (q : Request) → o ≡ Some q → get w.waiting q.client ≡ Some q.stamp)
+      → AreTrue w (inquiry out v g ++ fail_former v o)
+  true_inquiry true v w g o k is waits = true_former v w o k waits
+  true_inquiry false v w g o k is waits = (record { voter = sym k.id; seen = sym k.seen; vote = tt; place = λ _. (g, k.held g is, refl, refl) }, true_former v w o k waits)
+
+  true-join_queue_by : (waits granted : Bool) (v : VoterState) (g : Grant) (c s : ℕ) → v.held ≡ Some g → (S → get v.waiting c ≡ None)
+      → AreTrue (join_queue_by waits granted v g c s).state (join_queue_by waits granted v g c s).replies
+  true-join_queue_by true granted v g c s is none = (record { voter = refl; seen = refl; vote = tt; place = λ _. here_inserted v.waiting c s }, tt)
+  true-join_queue_by false true v g c s is none = (
+    record { voter = refl; seen = refl; vote = tt; place = λ _. here_inserted v.waiting c s },
+    true_former v (queue v c s) (front v.waiting) (record { id = refl; seen = refl; held = λ g is. is }) (λ t. front_waits v c s (none t)),
+  )
+  true-join_queue_by false false v g c s is none =
+      true_inquiry v.inquiring v (record (queue v c s) { inquiring = true }) g (front v.waiting) (record { id = refl; seen = refl; held = λ g is. is }) is (λ t. front_waits v c s (none t))
+
+  true-admit : (v : VoterState) (c s : ℕ) → (S → get v.waiting c ≡ None) → AreTrue (admit v c s).state (admit v c s).replies
+  unfolding join_queue
+  true-admit v c s none = by_admit (λ o. AreTrue o.state o.replies) v c s (λ _. true-grant_front (queue v c s) _ (goes_on (grant_front (queue v c s)).state))
+      (λ g is. true-join_queue_by _ _ v g c s is none)
+
+  true_again_by : (b : Bool) (v : VoterState) (g : Grant) (c s : ℕ) → (g.client == c) ≡ b → v.held ≡ Some g → current_stamp v c ≡ Some s → AreTrue v (again_by b v g c s)
+  true_again_by true v g c s e is present =
+      let own : g.client ≡ c = grind (arith, nat_tests) in
+      let same : g.stamp ≡ s = same_stamp v.held (get v.waiting c) c g s is own present in
+      (record { voter = refl; seen = refl; vote = is ∙ (λ i. Some (record { client = own i; stamp = same i; grant = g.grant })); place = λ _. tt }, tt)
+  true_again_by false v g c s e is present = (record { voter = refl; seen = refl; vote = tt; place = λ _. waits_beside v.held (get v.waiting c) c g s is e present }, tt)
+
+  true_again : (o : Option Grant) (v : VoterState) (c s : ℕ) → v.held ≡ o → current_stamp v c ≡ Some s → AreTrue v (again v o c s)
+  true_again None v c s is present = (record { voter = refl; seen = refl; vote = tt; place = λ _. waits_free v.held (get v.waiting c) c s is present }, tt)
+  true_again (Some g) v c s is present = true_again_by _ v g c s refl is present
+
+  true-take_request : (v : VoterState) (c s : ℕ) → (S → IsOrderly v) → AreTrue (take_request v c s).state (take_request v c s).replies
+  true-take_request v c s h = by_request (λ o. AreTrue o.state o.replies) v c s (record {
+    stale = λ _. tt;
+    repeated = λ present. true_again v.held v c s refl present;
+    only = λ _ present. true-admit v c s (λ _. none_waits (held_stamp v.held c) (get v.waiting c) present);
+    newer = λ _ t present _.
+        let w = (take_release v c t).state in
+        let a = admit w c s in
+        AllByRecursion-append _ (take_release v c t).replies a.replies (true-take_release v a.state c t (GoesOn-admit w c s)) (true-admit w c s (λ o. gone-take_release v c t present (h o)));
+  })
+
+  true_after : (v : VoterState) (c : ℕ) (b : VoterBody) → (S → IsOrderly v) → AreTrue (outcome_of v c b).state (outcome_of v c b).replies
+  true_after v c (asks.Request s) h = true-take_request (see v s) c s (λ t. IsOrderly-see v s (h t))
+  true_after v c (asks.Relinquish n) h = by_relinquish (λ o. AreTrue o.state o.replies) v c n tt
+      (λ g _. let u = queue (free_vote v) g.client g.stamp in true-grant_front u _ (goes_on (grant_front u).state))
+  true_after v c (asks.Release s) h = true-take_release (see v s) _ c s (goes_on (take_release (see v s) c s).state)
+
+pub AllReport-outcome_of : (v : VoterState) (c : ℕ) (b : VoterBody) → AllReport (outcome_of v c b).state.held (outcome_of v c b).replies
+AllReport-outcome_of v c b = AllByRecursion-weaker (IsTrue ⊥ (outcome_of v c b).state) _ (λ r k. k.vote) (outcome_of v c b).replies (true_after ⊥ v c b (λ no. absurd no))
 
 -- At most three replies, and at most one LOCKED.
 
@@ -232,68 +276,15 @@ brief_after v c (asks.Relinquish n) = by_relinquish (λ o. IsBrief o.replies) v 
     (λ g _. let u = queue (free_vote v) g.client g.stamp in brief_one u (grant_front u) (few-grant_front u))
 brief_after v c (asks.Release s) = brief_one (see v s) (take_release (see v s) c s) (few-take_release (see v s) c s)
 
--- The replies carry the voter's number and what it saw.
-
-carry-grant_to : (v : VoterState) (o : Option Request) → AllCarry v.id v.seen (grant_to v o).replies
-carry-grant_to v None = tt
-carry-grant_to v (Some r) = ((refl, refl), tt)
-
-carry-grant_front : (v : VoterState) → AllCarry v.id v.seen (grant_front v).replies
-unfolding grant_front
-carry-grant_front v = carry-grant_to v (front v.waiting)
-
-carry-take_release : (v : VoterState) (c s : ℕ) → AllCarry v.id v.seen (take_release v c s).replies
-carry-take_release v c s = by_release (λ o. AllCarry v.id v.seen o.replies) v c s (λ _. carry-grant_front (free_vote (finish v c s))) (λ _ _. tt) (λ _ _. tt)
-
-carry_former : (v : VoterState) (o : Option Request) → AllCarry v.id v.seen (fail_former v o)
-carry_former v None = tt
-carry_former v (Some q) = ((refl, refl), tt)
-
-carry_inquiry : (out : Bool) (v : VoterState) (g : Grant) (o : Option Request) → AllCarry v.id v.seen (inquiry out v g ++ fail_former v o)
-carry_inquiry true v g o = carry_former v o
-carry_inquiry false v g o = ((refl, refl), carry_former v o)
-
-carry-join_queue_by : (waits granted : Bool) (v : VoterState) (g : Grant) (c s : ℕ) → AllCarry v.id v.seen (join_queue_by waits granted v g c s).replies
-carry-join_queue_by true granted v g c s = ((refl, refl), tt)
-carry-join_queue_by false true v g c s = ((refl, refl), carry_former v (front v.waiting))
-carry-join_queue_by false false v g c s = carry_inquiry v.inquiring v g (front v.waiting)
-
-carry-admit : (v : VoterState) (c s : ℕ) → AllCarry v.id v.seen (admit v c s).replies
-unfolding join_queue
-carry-admit v c s = by_admit (λ o. AllCarry v.id v.seen o.replies) v c s (λ _. carry-grant_front (queue v c s)) (λ g _. carry-join_queue_by _ _ v g c s)
-
-carry_again_by : (b : Bool) (v : VoterState) (g : Grant) (c s : ℕ) → AllCarry v.id v.seen (again_by b v g c s)
-carry_again_by true v g c s = ((refl, refl), tt)
-carry_again_by false v g c s = ((refl, refl), tt)
-
-carry_again : (o : Option Grant) (v : VoterState) (c s : ℕ) → AllCarry v.id v.seen (again v o c s)
-carry_again None v c s = ((refl, refl), tt)
-carry_again (Some g) v c s = carry_again_by _ v g c s
-
-carry-take_request : (v : VoterState) (c s : ℕ) → AllCarry v.id v.seen (take_request v c s).replies
-carry-take_request v c s = by_request (λ o. AllCarry v.id v.seen o.replies) v c s (record {
-  stale = λ _. tt;
-  repeated = λ _. carry_again v.held v c s;
-  only = λ _ _. carry-admit v c s;
-  newer = λ _ t _ _.
-      let w = (take_release v c t).state in
-      let k = Keeps-take_release v c t in
-      let a = (admit w c s).replies in
-      AllByRecursion-append _ (take_release v c t).replies a (carry-take_release v c t) (subst (λ i. AllCarry i v.seen a) k.id (subst (λ n. AllCarry w.id n a) k.seen (carry-admit w c s)));
-})
-
-carry_after : (v : VoterState) (c : ℕ) (b : VoterBody) → AllCarry v.id (seen_after v.seen b) (outcome_of v c b).replies
-carry_after v c (asks.Request s) = carry-take_request (see v s) c s
-carry_after v c (asks.Relinquish n) = by_relinquish (λ o. AllCarry v.id v.seen o.replies) v c n tt (λ g _. carry-grant_front (queue (free_vote v) g.client g.stamp))
-carry_after v c (asks.Release s) = carry-take_release (see v s) c s
-
 -- The step.
 
 pub AreAnswers-step : (v : VoterState) (m : ToVoter) (o : Outcome) → IsSound v → step v m ≡ Some o → AreAnswers o
 AreAnswers-step v m o sound e =
+    let w = (outcome_of v m.client m.body).state in
     let brief = brief_after v m.client m.body in
     let met : AreAnswers (outcome_of v m.client m.body) = record {
-      place = place_after v m.client m.body (record { numbered = sound.numbered; apart = sound.apart; free = sound.free });
+      place = AllByRecursion-weaker (IsTrue (Unit {0}) w) (λ r. ReportsPlace w r.client r.body) (λ r k. k.place tt) _
+          (true_after (Unit {0}) v m.client m.body (λ _. record { numbered = sound.numbered; apart = sound.apart; free = sound.free }));
       few = brief.few;
       locked = brief.locked;
     } in
@@ -301,25 +292,33 @@ AreAnswers-step v m o sound e =
 
 pub CarrySeen-step : (v : VoterState) (m : ToVoter) (o : Outcome) → step v m ≡ Some o → CarrySeen v m o
 CarrySeen-step v m o e =
+    let w = (outcome_of v m.client m.body).state in
     let k = KeepsBut-outcome_of v m.client m.body in
     let P : Outcome → Type 0 = λ p. CarrySeen v m p in
-    let met : CarrySeen v m (outcome_of v m.client m.body) = record { carried = carry_after v m.client m.body; seen = k.seen; id = k.id; limit = k.limit } in
+    let carried = AllByRecursion-weaker (IsTrue ⊥ w) (λ r. (r.voter ≡ v.id) × (r.seen ≡ seen_after v.seen m.body)) (λ r t. (t.voter ∙ k.id, t.seen ∙ k.seen)) _
+    (true_after ⊥ v m.client m.body (λ no. absurd no)) in
+    let met : CarrySeen v m (outcome_of v m.client m.body) = record { carried = carried; seen = k.seen; id = k.id; limit = k.limit } in
     subst P (step-Some v m o e).1 met
 
 -- A reminder.
 
-remind_again : (out : Bool) (v : VoterState) (g : Grant) → v.held ≡ Some g → AllReportPlace v (inquiry_again out v g) × AllCarry v.id v.seen (inquiry_again out v g)
-remind_again true v g is = (((g, is, refl, refl), tt), ((refl, refl), tt))
-remind_again false v g is = (tt, tt)
+true_inquiry_again : (out : Bool) (v : VoterState) (g : Grant) → v.held ≡ Some g → AreTrue (Unit {0}) v (inquiry_again out v g)
+true_inquiry_again true v g is = (record { voter = refl; seen = refl; vote = tt; place = λ _. (g, is, refl, refl) }, tt)
+true_inquiry_again false v g is = tt
 
-remind_by : (o : Option Grant) (v : VoterState) → v.held ≡ o → AllReportPlace v (remind_of o v) × AllCarry v.id v.seen (remind_of o v)
-remind_by None v is = (tt, tt)
-remind_by (Some g) v is = let k = remind_again v.inquiring v g is in ((tt, k.0), ((refl, refl), k.1))
+true_remind_of : (o : Option Grant) (v : VoterState) → v.held ≡ o → AreTrue (Unit {0}) v (remind_of o v)
+true_remind_of None v is = tt
+true_remind_of (Some g) v is = (record { voter = refl; seen = refl; vote = is; place = λ _. tt }, true_inquiry_again v.inquiring v g is)
+
+true-remind : (v : VoterState) → AreTrue (Unit {0}) v (remind v)
+unfolding remind
+true-remind v = true_remind_of v.held v refl
+
+pub AllReport-remind : (v : VoterState) → AllReport v.held (remind v)
+AllReport-remind v = AllByRecursion-weaker _ _ (λ r (k : IsTrue (Unit {0}) v r). k.vote) (remind v) (true-remind v)
 
 pub AllReportPlace-remind : (v : VoterState) → AllReportPlace v (remind v)
-unfolding remind
-AllReportPlace-remind v = (remind_by v.held v refl).0
+AllReportPlace-remind v = AllByRecursion-weaker _ _ (λ r (k : IsTrue (Unit {0}) v r). k.place tt) (remind v) (true-remind v)
 
 pub AllCarry-remind : (v : VoterState) → AllCarry v.id v.seen (remind v)
-unfolding remind
-AllCarry-remind v = (remind_by v.held v refl).1
+AllCarry-remind v = AllByRecursion-weaker _ _ (λ r (k : IsTrue (Unit {0}) v r). (k.voter, k.seen)) (remind v) (true-remind v)

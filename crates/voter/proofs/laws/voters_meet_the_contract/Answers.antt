@@ -1,4 +1,5 @@
-use Rattle.voter.proofs.Contract.{MeetsContract-step, AllReport-remind}
+use Rattle.voter.proofs.Contract.{MeetsContract-step}
+use Rattle.voter.proofs.ReplyLemmas.{AllReport-remind}
 use Rattle.voter.proofs.laws.voters_meet_the_contract.Goals as goal
 
 pub returns-clause-steps : goal.returns-clause-steps
