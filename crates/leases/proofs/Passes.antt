@@ -1,6 +1,6 @@
 -- a request has one pass: a client that is inside keeps its votes until it leaves
 use Rattle.std.proofs.Common.{◌≡◌, ℕ, ◌<◌, ◌≤◌, Bool, true, false, cond, List, [], ◌∷◌, map, length, Option, Some, None, Result, Ok, Err, refl, sym, ap, subst, ◌∙◌, ◌⊎◌, inl, inr, arith, eqb, ltb}
-use Rattle.std.specs.Prelude.{◌==◌, ◌&&◌, not, is_some, nat_le, nat_lt, slice_get, slice_set}
+use Rattle.std.specs.Prelude.{if◌then◌else◌, ◌==◌, ◌&&◌, not, is_some, nat_le, nat_lt, slice_get, slice_set}
 use Rattle.std.proofs.lemmas.Bool.{false≢true, ltb-true}
 use Rattle.std.proofs.lemmas.Bool.Decides.{nat_tests}
 use Rattle.std.proofs.lemmas.List.{set_past}
@@ -12,6 +12,7 @@ use Rattle.message.specs.declared.message.ClientBody.{ClientBody}
 use Rattle.message.specs.declared.message.ClientBody.TheVariants as to_client
 use Rattle.voter.specs.Steps as voter
 use Rattle.requester.specs.declared.fault.ClientFault.{ClientFault}
+use Rattle.requester.specs.declared.fault.ClientFault.TheVariants.{Busy}
 use Rattle.requester.specs.declared.state.ClientState.{ClientState}
 use Rattle.requester.specs.declared.state.Phase.{Phase}
 use Rattle.requester.specs.declared.state.Phase.TheVariants.{Idle, Asking, Inside}
@@ -122,15 +123,14 @@ is_done (Err e) = false
 err_ok : (e : ClientFault) (o : client.Outcome) → Err e ≡ Ok o → ⊥
 err_ok e o is = false≢true (ap (λ r. is_done r) is)
 
-not_busy : (p : Phase) (x : ClientState) (q : List ℕ) (o : client.Outcome) → is_inside p ≡ true → client.ask_in p x q ≡ Ok o → ⊥
-not_busy Idle x q o inside is = false≢true inside
-not_busy Asking x q o inside is = false≢true inside
-not_busy Inside x q o inside is = err_ok _ o is
+not_busy : (p : Phase) (spent : Option ClientFault) (a o : client.Outcome) → is_inside p ≡ true → client.unless (if is_idle p then spent else Some Busy) a ≡ Ok o → ⊥
+not_busy Inside spent a o inside is = err_ok _ o is
+not_busy p spent a o inside is = false≢true inside
 
 inside_after : ClientLaws → (s : ℕ) (p : List ℕ) (x : ClientState) (cause : client.Cause) (o : client.Outcome) → sound.IsSound x → Accepts x cause → client.step x cause ≡ Ok o
     → x.stamp ≡ s → is_inside x.phase ≡ true → x.held ≡ p → HasOnly s p o.state
 unfolding client.step client.ask
-inside_after laws s p x (client.Asks q) o ok accepts is at inside held = absurd (not_busy x.phase x q o inside is)
+inside_after laws s p x (client.Asks q) o ok accepts is at inside held = absurd (not_busy x.phase _ _ o inside is)
 inside_after laws s p x (client.Takes m) o ok accepts is at inside held =
     let t = takes_stays x m inside (ok.inside inside) in
     let same : client.take x m ≡ o = same_outcome (client.take x m) o (Ok (client.take x m)) refl is in
@@ -198,7 +198,7 @@ inside_busy Inside inside idle = false≢true idle
 quiet_stays : ClientLaws → (x : ClientState) (cause : client.Cause) (o : client.Outcome) → sound.IsSound x → Accepts x cause → client.step x cause ≡ Ok o
     → is_inside x.phase ≡ true → is_inside o.state.phase ≡ true → (o.state.stamp ≡ x.stamp) × (o.state.held ≡ x.held)
 unfolding client.step client.ask
-quiet_stays laws x (client.Asks q) o ok accepts is inside still = absurd (not_busy x.phase x q o inside is)
+quiet_stays laws x (client.Asks q) o ok accepts is inside still = absurd (not_busy x.phase _ _ o inside is)
 quiet_stays laws x (client.Takes m) o ok accepts is inside still =
     let t = takes_stays x m inside (ok.inside inside) in
     subst (λ (r : client.Outcome). (r.state.stamp ≡ x.stamp) × (r.state.held ≡ x.held)) (same_outcome (client.take x m) o (Ok (client.take x m)) refl is) (t.stamp, t.held)

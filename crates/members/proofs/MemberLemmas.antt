@@ -1,12 +1,12 @@
 -- What a member keeps over its calls.
 use Rattle.std.proofs.Common.{◌≡◌, ◌≢◌, inr, ℕ, ◌<◌, ◌≤◌, Bool, true, false, true≢false, not, ◌&&◌, List, [], ◌∷◌, Result, Ok, Err, refl, sym, ap, ◌∙◌, subst, length, arith}
-use Rattle.std.specs.Prelude.{slice_index, filter, ◌==◌}
+use Rattle.std.specs.Prelude.{slice_index, filter, ◌==◌, Option, Some, None, if◌then◌else◌}
+use Rattle.std.proofs.lemmas.Bool.Decides.{nat_tests}
 use Rattle.std.proofs.lemmas.Grind.{same_number_lists}
 use Rattle.message.specs.declared.message.ToClient.{ToClient}
 use Rattle.message.specs.declared.message.ClientBody.{ClientBody}
 use Rattle.message.specs.declared.message.ClientBody.TheVariants as to_client
 use Rattle.requester.specs.declared.fault.ClientFault.{ClientFault}
-use Rattle.requester.specs.declared.fault.ClientFault.TheVariants.{Busy, StampsSpent}
 use Rattle.requester.specs.declared.state.ClientState.{ClientState}
 use Rattle.requester.specs.declared.state.Phase.{Phase}
 use Rattle.requester.specs.declared.state.Phase.TheVariants.{Idle, Asking, Inside}
@@ -16,9 +16,10 @@ use Rattle.requester.specs.Held.{HoldsNothing}
 use Rattle.members.specs.ClientLaws.{AreClientLaws}
 use Rattle.requester.specs.RequesterContract.{Sees}
 use Rattle.requester.specs.Soundness.{IsSound}
-use Rattle.requester.specs.Steps.{Outcome, Asks, Takes, Leaves, GivesUp, ask, ask_in, ask_unless, give_up, give_up_in, leave, leave_in, step, take, take_body, see, take_locked}
+use Rattle.requester.specs.Steps.{Outcome, Asks, Takes, Leaves, GivesUp, unless, ask, give_up, leave, step, take, take_body, see, take_locked}
 use Rattle.requester.specs.Steps.{take_locked_by, enter_if, hold, is_fresh, take_fail, take_fail_by, fail, take_inquire, take_inquire_by, relinquish, relinquish_if, relinquish_each}
 use Rattle.requester.specs.Words.{is_idle, is_asking, is_inside, is_spent, is_current, is_covered, is_inquired, is_hindered, is_member, holds, holds_under, members}
+use Rattle.requester.proofs.SoundSteps.{ask-Ok as asked-Ok}
 use Rattle.board.specs.Seats.{BoardState, ClientSeatState as SeatState}
 use Rattle.board.specs.Quorums.{HasQuorum, place_of, quorum_at}
 use Rattle.board.specs.Words.{nobody}
@@ -38,7 +39,7 @@ use Rattle.clerks.specs.Clerks.{ClerksState, HasShare, IsThere, drawn, names_of,
 use Rattle.members.proofs.ClerkLemmas.{HasShare-drawn, IsThere-drawn, names_of-drawn}
 use Rattle.members.specs.Clusters.{ClusterState}
 use Rattle.node.specs.Votes.{HoldsWithin, HoldsFewer, HoldsOnly}
-use Rattle.members.specs.Members.{IsMember, MemberState, RefusesAsk, RefusesStart}
+use Rattle.members.specs.Members.{IsMember, MemberState, RefusesAsk}
 
 -- Steps
 
@@ -63,70 +64,27 @@ of_give_up x o e = e
 pub Ok-not_Err : {A E : Type 0} (r : Result A E) (o : A) (e : E) → r ≡ Ok o → r ≡ Err e → ⊥
 Ok-not_Err r o e ok err = cc
 
-unspent_if : (b : Bool) (x : ClientState) (q : List ℕ) (o : Outcome) → ask_unless b x q ≡ Ok o → b ≡ false
-unspent_if false x q o e = refl
-unspent_if true x q o e = cc
-
-starts_in : (p : Phase) (x : ClientState) (q : List ℕ) (o : Outcome) → ask_in p x q ≡ Ok o → (is_idle p ≡ true) × (is_spent x ≡ false)
-starts_in Idle x q o e = (refl, unspent_if (is_spent x) x q o e)
-starts_in p x q o e = absurd cc
-
 pub ask-Ok : (x : ClientState) (q : List ℕ) (o : Outcome) → ask x q ≡ Ok o → (is_idle x.phase ≡ true) × (is_spent x ≡ false)
-unfolding ask
-ask-Ok x q o e = starts_in x.phase x q o e
-
--- why a client does not start, and a member with a client that would start does not ask
-
-spent_if : (b : Bool) (x : ClientState) (q : List ℕ) (e : ClientFault) → is_spent x ≡ b → is_idle x.phase ≡ true → ask_unless b x q ≡ Err e → RefusesStart x e
-spent_if false x q e is idle err = absurd cc
-spent_if true x q e is idle err = let same : StampsSpent ≡ e = cc in subst (RefusesStart x) same (idle, is)
-
-refuses_in : (p : Phase) (x : ClientState) (q : List ℕ) (e : ClientFault) → x.phase ≡ p → ask_in p x q ≡ Err e → RefusesStart x e
-refuses_in Idle x q e is err = spent_if (is_spent x) x q e refl (ap is_idle is) err
-refuses_in p x q e is err = let same : Busy ≡ e = cc in subst (RefusesStart x) same (ap is_idle is)
-
-pub RefusesStart-ask : (x : ClientState) (q : List ℕ) (e : ClientFault) → ask x q ≡ Err e → RefusesStart x e
-unfolding ask
-RefusesStart-ask x q e err = refuses_in x.phase x q e refl err
+ask-Ok x q o e = let k = asked-Ok x q o e in let left = k.1 in (k.0, grind (arith, nat_tests))
 
 pub RefusesAsk-ticket : (m : MemberState) (e : DealFault) → (is_idle m.requester.phase ≡ true) × (is_spent m.requester ≡ false) → RefusesTicket (rest_of m.clerks m.clerks.side) e
     → RefusesAsk m (refuses.Deal e)
 RefusesAsk-ticket m QuotaSpent start err = (start.0, start.1, err)
 RefusesAsk-ticket m NoRoom start err = (start.0, start.1, err)
 
--- who leaves was inside, and who gives up asked
+-- who does not leave is not inside, and who does not give up does not ask
 
-leaves_in : (p : Phase) (x : ClientState) (o : Outcome) → leave_in p x ≡ Ok o → is_inside p ≡ true
-leaves_in Inside x o e = refl
-leaves_in p x o e = cc
+refused_if : (b : Bool) (fault f : ClientFault) (o : Outcome) → unless (if b then None else Some fault) o ≡ Err f → b ≡ false
+refused_if true fault f o e = absurd cc
+refused_if false fault f o e = refl
 
-pub is_inside-leave : (x : ClientState) (o : Outcome) → leave x ≡ Ok o → is_inside x.phase ≡ true
+pub leave-Err : (x : ClientState) (f : ClientFault) → leave x ≡ Err f → is_inside x.phase ≡ false
 unfolding leave
-is_inside-leave x o e = leaves_in x.phase x o e
+leave-Err x f e = refused_if (is_inside x.phase) _ f _ e
 
-stays_in : (p : Phase) (x : ClientState) (f : ClientFault) → leave_in p x ≡ Err f → is_inside p ≡ false
-stays_in Inside x f e = cc
-stays_in p x f e = refl
-
-pub not_left : (x : ClientState) (f : ClientFault) → leave x ≡ Err f → is_inside x.phase ≡ false
-unfolding leave
-not_left x f e = stays_in x.phase x f e
-
-gives_up_in : (p : Phase) (x : ClientState) (o : Outcome) → give_up_in p x ≡ Ok o → is_asking p ≡ true
-gives_up_in Asking x o e = refl
-gives_up_in p x o e = cc
-
-pub is_asking-give_up : (x : ClientState) (o : Outcome) → give_up x ≡ Ok o → is_asking x.phase ≡ true
+pub give_up-Err : (x : ClientState) (f : ClientFault) → give_up x ≡ Err f → is_asking x.phase ≡ false
 unfolding give_up
-is_asking-give_up x o e = gives_up_in x.phase x o e
-
-keeps_on_in : (p : Phase) (x : ClientState) (f : ClientFault) → give_up_in p x ≡ Err f → is_asking p ≡ false
-keeps_on_in Asking x f e = cc
-keeps_on_in p x f e = refl
-
-pub is_asking-refused_give_up : (x : ClientState) (f : ClientFault) → give_up x ≡ Err f → is_asking x.phase ≡ false
-unfolding give_up
-is_asking-refused_give_up x f e = keeps_on_in x.phase x f e
+give_up-Err x f e = refused_if (is_asking x.phase) _ f _ e
 
 -- A message never makes a client leave
 

@@ -1,14 +1,12 @@
 -- Members of a cluster, as contracts see them, and what their calls do.
-use Rattle.std.specs.Prelude.{◌≡◌, ◌⊎◌, ℕ, ◌<◌, ◌++◌, ◌∷◌, [], true, false, List, Option, None, Ok, All, length}
+use Rattle.std.specs.Prelude.{◌≡◌, ◌⊎◌, ℕ, ◌<◌, ◌++◌, ◌∷◌, [], true, false, List, Option, Some, None, Ok, All, length}
 use Rattle.numbers.specs.Bounds.{max_stamp}
 use Rattle.message.specs.declared.message.ToClient.{ToClient}
-use Rattle.requester.specs.declared.fault.ClientFault.{ClientFault}
-use Rattle.requester.specs.declared.fault.ClientFault.TheVariants.{Busy, StampsSpent}
 use Rattle.requester.specs.declared.state.Seen.{Seen}
 use Rattle.requester.specs.declared.state.Seen.TheVariants.{Nothing}
 use Rattle.requester.specs.declared.state.ClientState.{ClientState}
 use Rattle.requester.specs.Soundness.{IsSound}
-use Rattle.requester.specs.Steps.{Outcome, ask, give_up, leave, start, take, would_hold}
+use Rattle.requester.specs.Steps.{Outcome, ask, ask_fault, give_up, leave, start, take, would_hold}
 use Rattle.requester.specs.Words.{is_idle, is_inside, is_spent, members}
 use Rattle.board.specs.declared.fault.BoardFault.TheVariants.{RegisterFull, OutOfMemory as NoPlace}
 use Rattle.board.specs.Seats.{BoardState, ClientSeatState as SeatState}
@@ -94,15 +92,9 @@ Met before m seen after =
 abbrev pub Pumped : BoardState → MemberState → Seen → MemberState → Type 0
 Pumped board before seen after = (m : ToClient) × IsMail board before.requester.id m × Met before m seen after
 
--- why a client can't ask
-abbrev pub RefusesStart : ClientState → ClientFault → Type 0
-RefusesStart x Busy = is_idle x.phase ≡ false
-RefusesStart x StampsSpent = (is_idle x.phase ≡ true) × (is_spent x ≡ true)
-RefusesStart x fault = ⊥
-
 -- why a member can't ask
 abbrev pub RefusesAsk : MemberState → ClusterFault → Type 0
-RefusesAsk m (refuses.Client e) = RefusesStart m.requester e
+RefusesAsk m (refuses.Client e) = ask_fault m.requester ≡ Some e
 RefusesAsk m (refuses.Deal QuotaSpent) =
     (is_idle m.requester.phase ≡ true) × (is_spent m.requester ≡ false) × (rest_of m.clerks m.clerks.side ≡ 0)
 RefusesAsk m (refuses.Deal NoRoom) =

@@ -6,7 +6,6 @@ pub mod Giving
 pub mod Hindered
 pub mod Members
 pub mod RangeLemmas
-pub mod Refusals
 pub mod Rest
 pub mod SavedLemmas
 pub mod SoundSteps

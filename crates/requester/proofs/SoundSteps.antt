@@ -1,6 +1,6 @@
 -- Every step keeps what is so of every client.
-use Rattle.std.proofs.Common.{◌≡◌, ◌≢◌, ℕ, ◌<◌, ◌≤◌, ◌^◌, Bool, true, false, ◌&&◌, not, ltb, nat_lt, List, length, filter, set, refl, sym, ap, subst, ◌∙◌, inl, inr, arith, Result, Ok, Err}
-use Rattle.std.specs.Prelude.{◌==◌}
+use Rattle.std.proofs.Common.{◌≡◌, ◌≢◌, ℕ, ◌<◌, ◌≤◌, ◌^◌, Bool, true, false, ◌&&◌, not, ltb, nat_lt, List, length, filter, set, Some, None, refl, sym, ap, subst, ◌∙◌, inl, inr, arith, Result, Ok, Err}
+use Rattle.std.specs.Prelude.{◌==◌, if◌then◌else◌}
 use Rattle.std.specs.Result.{is_err, result_ok}
 use Rattle.std.proofs.lemmas.Bool.{cases_eq, and_parts, not-true}
 use Rattle.std.proofs.lemmas.Option.{same_Some}
@@ -12,6 +12,7 @@ use Rattle.numbers.proofs.Lists.{AllByRecursion-weaker, slice_index-replicate_ze
 use Rattle.message.specs.declared.message.ToClient.{ToClient}
 use Rattle.message.specs.declared.message.ClientBody.{ClientBody}
 use Rattle.message.specs.declared.message.ClientBody.TheVariants as to_client
+use Rattle.requester.specs.declared.fault.ClientFault.TheVariants.{Busy, NotInside, NotAsking, StampsSpent}
 use Rattle.requester.specs.declared.state.Phase.{Phase}
 use Rattle.requester.specs.declared.state.Phase.TheVariants.{Idle, Asking, Inside}
 use Rattle.requester.specs.declared.state.Seen.{Seen}
@@ -21,8 +22,8 @@ use Rattle.requester.specs.Leases.{anew}
 use Rattle.requester.specs.Words.{is_idle, is_asking, is_inside, members, is_member, is_current, held_of, holds, holds_under, is_covered, last_of, is_relinquished, is_inquired, is_spent}
 use Rattle.requester.specs.Soundness.{IsHeldWell, HasPlaces, IsSound}
 use Rattle.requester.specs.RequesterContract.{Accepts}
-use Rattle.requester.specs.Steps.{Outcome, clear_votes, begin_request, send_requests, ask, ask_in, ask_unless, is_fresh, hold, enter_if, take_locked, take_locked_by, fail, take_fail, take_fail_by, inquire, take_inquire}
-use Rattle.requester.specs.Steps.{take_inquire_by, see, take_body, take, end_request, leave, leave_in, give_up, give_up_in, Cause, Asks, Takes, Leaves, GivesUp, step, start}
+use Rattle.requester.specs.Steps.{Outcome, clear_votes, begin_request, send_requests, unless, ask, is_fresh, hold, enter_if, take_locked, take_locked_by, fail, take_fail, take_fail_by, inquire, take_inquire}
+use Rattle.requester.specs.Steps.{take_inquire_by, see, take_body, take, end_request, leave, give_up, Cause, Asks, Takes, Leaves, GivesUp, step, start}
 use Rattle.requester.proofs.Members.{absurd-true_false, list_all-member, has-with_voter, has-without_voter}
 use Rattle.requester.proofs.Giving.{GivesBack, IsGiving, Kept, Given, GivesBack-relinquish, GivesBack-relinquish_each}
 
@@ -308,34 +309,27 @@ Ok-same a b e = same_Some a b (ap result_ok e)
 Err-not_Ok : {A E B : Type 0} (f : E) (b : B) → ◌≡◌ {A = Result B E} (Err f) (Ok b) → A
 Err-not_Ok f b e = absurd-true_false true refl (ap is_err e)
 
-ask_unless-Ok : (b : Bool) (x : ClientState) (q : List ℕ) (o : Outcome) → ask_unless b x q ≡ Ok o → (b ≡ false) × (send_requests x q ≡ o)
-ask_unless-Ok true x q o e = Err-not_Ok _ o e
-ask_unless-Ok false x q o e = (refl, Ok-same (send_requests x q) o e)
+unless-Ok : {A E : Type 0} (b : Bool) (f : E) (a o : A) → unless (if b then None else Some f) a ≡ Ok o → (b ≡ true) × (a ≡ o)
+unless-Ok true f a o e = (refl, Ok-same a o e)
+unless-Ok false f a o e = Err-not_Ok f o e
 
-ask_in-Ok : (p : Phase) (x : ClientState) (q : List ℕ) (o : Outcome) → ask_in p x q ≡ Ok o → (is_idle p ≡ true) × (is_spent x ≡ false) × (send_requests x q ≡ o)
-ask_in-Ok Idle x q o e = let k = ask_unless-Ok (is_spent x) x q o e in (refl, k.0, k.1)
-ask_in-Ok p x q o e = Err-not_Ok _ o e
+may_ask : (idle spent : Bool) (a o : Outcome) → unless (if idle then (if spent then Some StampsSpent else None) else Some Busy) a ≡ Ok o → (idle ≡ true) × (spent ≡ false) × (a ≡ o)
+may_ask true false a o e = (refl, refl, Ok-same a o e)
+may_ask true true a o e = Err-not_Ok StampsSpent o e
+may_ask false spent a o e = Err-not_Ok Busy o e
 
 -- an ask that is not refused
 pub ask-Ok : (x : ClientState) (q : List ℕ) (o : Outcome) → ask x q ≡ Ok o → (is_idle x.phase ≡ true) × (x.clock < x.limit) × (send_requests x q ≡ o)
 unfolding ask
-ask-Ok x q o e = let k = ask_in-Ok x.phase x q o e in let spent = k.1 in (k.0, grind (arith, nat_tests), k.2)
-
-leave_in-Ok : (p : Phase) (x : ClientState) (o : Outcome) → leave_in p x ≡ Ok o → (is_inside p ≡ true) × (end_request x Left ≡ o)
-leave_in-Ok Inside x o e = (refl, Ok-same (end_request x Left) o e)
-leave_in-Ok p x o e = Err-not_Ok _ o e
+ask-Ok x q o e = let k = may_ask (is_idle x.phase) (is_spent x) (send_requests x q) o e in let spent = k.1 in (k.0, grind (arith, nat_tests), k.2)
 
 pub leave-Ok : (x : ClientState) (o : Outcome) → leave x ≡ Ok o → (is_inside x.phase ≡ true) × (end_request x Left ≡ o)
 unfolding leave
-leave-Ok x o e = leave_in-Ok x.phase x o e
-
-give_up_in-Ok : (p : Phase) (x : ClientState) (o : Outcome) → give_up_in p x ≡ Ok o → (is_asking p ≡ true) × (end_request x Nothing ≡ o)
-give_up_in-Ok Asking x o e = (refl, Ok-same (end_request x Nothing) o e)
-give_up_in-Ok p x o e = Err-not_Ok _ o e
+leave-Ok x o e = unless-Ok (is_inside x.phase) NotInside (end_request x Left) o e
 
 pub give_up-Ok : (x : ClientState) (o : Outcome) → give_up x ≡ Ok o → (is_asking x.phase ≡ true) × (end_request x Nothing ≡ o)
 unfolding give_up
-give_up-Ok x o e = give_up_in-Ok x.phase x o e
+give_up-Ok x o e = unless-Ok (is_asking x.phase) NotAsking (end_request x Nothing) o e
 
 pub IsSound-ask : (x : ClientState) (q : List ℕ) (o : Outcome) → IsSound x → IsSet q → 1 ≤ length q → ask x q ≡ Ok o → IsSound o.state
 IsSound-ask x q o s set some e =

@@ -1,7 +1,7 @@
 -- The steps of a client: what it sends after a call or a message, what is seen of it, and its state
 -- afterwards (Maekawa, ACM TOCS 3(2), 1985, with grant numbers for messages that are repeated, lost
 -- or late).
-use Rattle.std.specs.Prelude.{ℕ, ◌≡◌, ◌+◌, ◌==◌, nat_lt, Bool, true, false, ◌&&◌, not, List, [], ◌∷◌, ◌++◌, map, filter, max, replicate, slice_set, Option, Some, None, Result, Ok, Err}
+use Rattle.std.specs.Prelude.{ℕ, ◌+◌, ◌==◌, nat_lt, Bool, true, false, ◌&&◌, not, List, [], ◌∷◌, ◌++◌, map, filter, max, replicate, slice_set, Option, Some, None, if◌then◌else◌, Result, Ok, Err}
 use Rattle.std.specs.List.{flat_map}
 use Rattle.numbers.specs.Bounds.{max_voters}
 use Rattle.message.specs.declared.message.ToVoter.{ToVoter}
@@ -17,7 +17,7 @@ use Rattle.requester.specs.declared.state.Phase.TheVariants.{Idle, Asking, Insid
 use Rattle.requester.specs.declared.state.Seen.{Seen}
 use Rattle.requester.specs.declared.state.Seen.TheVariants.{Nothing, Entered, Left}
 use Rattle.requester.specs.declared.state.ClientState.{ClientState}
-use Rattle.requester.specs.Words.{members, is_member, is_current, is_asking, is_spent, held_of, holds, holds_under, is_covered, last_of, is_relinquished, is_inquired, is_hindered, with_voter, without_voter}
+use Rattle.requester.specs.Words.{members, is_member, is_current, is_idle, is_asking, is_inside, is_spent, held_of, holds, holds_under, is_covered, last_of, is_relinquished, is_inquired, is_hindered, with_voter, without_voter}
 
 -- what is sent, in order, what is seen, and the client afterwards
 pub record Outcome : Type 0 where
@@ -65,20 +65,18 @@ send_requests x quorum = record {
   state = begin_request x quorum;
 }
 
--- a client whose stamps are spent can't ask
-abbrev pub ask_unless : Bool → ClientState → List ℕ → Result Outcome ClientFault
-ask_unless true x quorum = Err StampsSpent
-ask_unless false x quorum = Ok (send_requests x quorum)
+-- the outcome, unless there is a fault
+abbrev pub unless : {F G : Type 0} → Option G → F → Result F G
+unless None outcome = Ok outcome
+unless (Some fault) outcome = Err fault
 
--- only an idle client can ask
-abbrev pub ask_in : Phase → ClientState → List ℕ → Result Outcome ClientFault
-ask_in Idle x quorum = ask_unless (is_spent x) x quorum
-ask_in Asking x quorum = Err Busy
-ask_in Inside x quorum = Err Busy
+-- why a client can't ask: it is not idle, or no stamp is left
+abbrev pub ask_fault : ClientState → Option ClientFault
+ask_fault x = if is_idle x.phase then (if is_spent x then Some StampsSpent else None) else Some Busy
 
 -- a client asks a quorum
 unfoldable pub ask : ClientState → List ℕ → Result Outcome ClientFault
-ask x quorum = ask_in x.phase x quorum
+ask x quorum = unless (ask_fault x) (send_requests x quorum)
 
 -- Giving votes back
 
@@ -229,25 +227,13 @@ end_request x seen = record {
   state = record (clear_votes x) { phase = Idle };
 }
 
--- only a client that is inside can leave
-abbrev pub leave_in : Phase → ClientState → Result Outcome ClientFault
-leave_in Idle x = Err NotInside
-leave_in Asking x = Err NotInside
-leave_in Inside x = Ok (end_request x Left)
-
 -- a client that is inside leaves
 unfoldable pub leave : ClientState → Result Outcome ClientFault
-leave x = leave_in x.phase x
-
--- only a client that asks can give up
-abbrev pub give_up_in : Phase → ClientState → Result Outcome ClientFault
-give_up_in Idle x = Err NotAsking
-give_up_in Asking x = Ok (end_request x Nothing)
-give_up_in Inside x = Err NotAsking
+leave x = unless (if is_inside x.phase then None else Some NotInside) (end_request x Left)
 
 -- a client that asks gives up its request
 unfoldable pub give_up : ClientState → Result Outcome ClientFault
-give_up x = give_up_in x.phase x
+give_up x = unless (if is_asking x.phase then None else Some NotAsking) (end_request x Nothing)
 
 -- One step
 
@@ -264,11 +250,6 @@ step x (Asks quorum) = ask x quorum
 step x (Takes m) = Ok (take x m)
 step x Leaves = leave x
 step x GivesUp = give_up x
-
--- what is known of a step beforehand: the fault with which it would fail, or none if it would not
-abbrev pub Predicts : {F G : Type 0} → Option G → Result F G → Type 0
-Predicts (Some fault) result = result ≡ Err fault
-Predicts {F = F} None result = (o : F) × (result ≡ Ok o)
 
 -- Reminders
 

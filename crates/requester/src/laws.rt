@@ -74,6 +74,7 @@ pub fn phases_show_votes()
 
 /// The phase shows whether a call fails, and with which fault. Whether `ask` fails also depends on
 /// whether the stamps are spent.
+#[tactic(auto, unfolding(crate::specs::Steps::ask, crate::specs::Steps::leave, crate::specs::Steps::give_up))]
 pub fn phases_show_refusals()
     ensures busy { (x : ClientState) (quorum : List ℕ) → is_idle x.phase ≡ false → ask x quorum ≡ Err ClientFault.Busy }
     ensures spent { (x : ClientState) (quorum : List ℕ) → is_idle x.phase ≡ true → is_spent x ≡ true

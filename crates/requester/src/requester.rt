@@ -7,7 +7,7 @@ ghost use Rattle.requester.specs.Soundness.{IsSound};
 ghost use Rattle.quorum_set.specs.Words.{word_of};
 ghost use Rattle.requester.specs.Words.{grant_of, is_spent, members};
 ghost use Rattle.requester.specs.Leases.{anew, disclaim, renew};
-ghost use Rattle.requester.specs.Steps.{Predicts, ask, give_up, leave, remind, see, start, take, would_hold};
+ghost use Rattle.requester.specs.Steps.{ask, ask_fault, end_request, give_up, leave, remind, see, send_requests, start, take, unless, would_hold};
 
 use crate::fault::ClientFault;
 use crate::saved::{SavedWords, set_of};
@@ -178,22 +178,24 @@ impl Requester {
     }
 
     /// Returns why [`Requester::ask`] would fail now, or `None` if it would not.
+    #[tactic(auto, unfolding(crate::specs::Steps::ask))]
     pub fn ask_fault(&self) -> Option<ClientFault>
-        ensures { (quorum : List ℕ) → Predicts result (ask self.now quorum) }
+        ensures fault { result ≡ ask_fault self.now }
+        ensures asked { (quorum : List ℕ) → ask self.now quorum ≡ unless result (send_requests self.now quorum) }
     {
         self.state.ask_fault()
     }
 
     /// Returns why [`Requester::leave`] would fail now, or `None` if it would not.
     pub fn leave_fault(&self) -> Option<ClientFault>
-        ensures { Predicts result (leave self.now) }
+        ensures { leave self.now ≡ unless result (end_request self.now Seen.Left) }
     {
         self.state.leave_fault()
     }
 
     /// Returns why [`Requester::give_up`] would fail now, or `None` if it would not.
     pub fn give_up_fault(&self) -> Option<ClientFault>
-        ensures { Predicts result (give_up self.now) }
+        ensures { give_up self.now ≡ unless result (end_request self.now Seen.Nothing) }
     {
         self.state.give_up_fault()
     }

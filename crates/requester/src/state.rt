@@ -1,11 +1,11 @@
 //! What a client knows, and its steps.
-ghost use Rattle.std.specs.Prelude.{◌≡◌, ◌==◌, ◌<◌, ◌≤◌, ◌+◌, ◌^◌, ◌++◌, [], true, ℕ, List, Err, IfErr, IfNone, IfOk, Ok, length, replicate};
+ghost use Rattle.std.specs.Prelude.{◌≡◌, ◌==◌, ◌<◌, ◌≤◌, ◌+◌, ◌^◌, ◌++◌, [], true, Err, IfErr, IfNone, IfOk, Ok, length, replicate};
 ghost use Rattle.numbers.specs.Bounds.{max_voters};
 ghost use Rattle.arrayvec.specs.ArrayVec.{array_vec_len};
 ghost use Rattle.numbers.specs.Sets.{IsSet};
 ghost use Rattle.requester.specs.Words.{held_of, holds, holds_under, is_covered, is_current, is_hindered, is_idle, is_member, last_of};
 ghost use Rattle.requester.specs.Soundness.{AreMembers, HoldsOfMembers};
-ghost use Rattle.requester.specs.Steps.{Predicts, ask, clear_votes, take_fail, give_up, hold, take_inquire, is_fresh, leave, take_locked, relinquish, relinquish_inquired, relinquish_marked, remind, remind_member, take, take_body, tell, send_to_members, start, would_hold};
+ghost use Rattle.requester.specs.Steps.{ask, ask_fault, clear_votes, end_request, unless, take_fail, give_up, hold, take_inquire, is_fresh, leave, take_locked, relinquish, relinquish_inquired, relinquish_marked, remind, remind_member, take, take_body, tell, send_to_members, start, would_hold};
 ghost use Rattle.requester.specs.Leases.{disclaim, disclaim_unless, renew, send_to};
 
 use crate::fault::ClientFault;
@@ -265,9 +265,8 @@ impl ClientState {
     }
 
     /// Returns why `ask` would fail, if it would.
-    #[tactic(auto, unfolding(crate::specs::Steps::ask))]
     pub fn ask_fault(&self) -> Option<ClientFault>
-        ensures fault { (quorum : List ℕ) → Predicts result (ask self.now quorum) }
+        ensures fault { result ≡ ask_fault self.now }
         ensures stamp { IfNone result (self.now.clock < self.now.limit) }
     {
         match self.phase {
@@ -477,7 +476,7 @@ impl ClientState {
     /// Returns why `leave` would fail, if it would.
     #[tactic(auto, unfolding(crate::specs::Steps::leave))]
     pub fn leave_fault(&self) -> Option<ClientFault>
-        ensures { Predicts result (leave self.now) }
+        ensures { leave self.now ≡ unless result (end_request self.now Seen.Left) }
     {
         match self.phase {
             Phase::Inside => None,
@@ -507,7 +506,7 @@ impl ClientState {
     /// Returns why `give_up` would fail, if it would.
     #[tactic(auto, unfolding(crate::specs::Steps::give_up))]
     pub fn give_up_fault(&self) -> Option<ClientFault>
-        ensures { Predicts result (give_up self.now) }
+        ensures { give_up self.now ≡ unless result (end_request self.now Seen.Nothing) }
     {
         match self.phase {
             Phase::Asking => None,

@@ -60,14 +60,14 @@ pub act-Err : (w : WorldState) (os : List ClientState) (x : ClientState) (c : �
 act-Err w os x c cause fault is who step = ap (λ r. after_client w c r) (read_step w os x c cause (Err fault) is who step)
 
 -- a client that would have its own fault, or none, where there is no room
-pub without_room : (v w : WorldState) (os : List ClientState) (x : ClientState) (c : ℕ) (cause : client.Cause) (own : Option ClientFault) (fault : WorldFault)
-    → os ≡ w.clients → x ≡ client_at os c → client.Predicts own (client.step x cause)
+pub without_room : (v w : WorldState) (os : List ClientState) (x : ClientState) (c : ℕ) (cause : client.Cause) (own : Option ClientFault) (o : client.Outcome) (fault : WorldFault)
+    → os ≡ w.clients → x ≡ client_at os c → client.step x cause ≡ client.unless own o
     → IfSome own (λ f. fault ≡ faults.Client f) → IfNone own (fault ≡ faults.OutOfMemory)
     → Refuses (after_client v c (client.step (client_at w.clients c) cause)) fault
-without_room v w os x c cause (Some f) fault is who step some none =
+without_room v w os x c cause (Some f) o fault is who step some none =
     subst (λ r. Refuses r fault) (sym (ap (λ r. after_client v c r) (read_step w os x c cause (Err f) is who step))) some
-without_room v w os x c cause None fault is who step some none =
-    subst (λ r. Refuses r fault) (sym (ap (λ r. after_client v c r) (read_step w os x c cause (Ok step.0) is who step.1))) none
+without_room v w os x c cause None o fault is who step some none =
+    subst (λ r. Refuses r fault) (sym (ap (λ r. after_client v c r) (read_step w os x c cause (Ok o) is who step))) none
 
 -- ---- a client that asks
 

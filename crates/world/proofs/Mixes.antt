@@ -12,12 +12,10 @@ use Rattle.voter.specs.declared.state.VoterState.{VoterState}
 use Rattle.voter.specs.Steps as voter
 use Rattle.requester.specs.declared.fault.ClientFault.{ClientFault}
 use Rattle.requester.specs.declared.state.ClientState.{ClientState}
-use Rattle.requester.specs.declared.state.Phase.{Phase}
-use Rattle.requester.specs.declared.state.Phase.TheVariants.{Idle, Asking, Inside}
 use Rattle.requester.specs.declared.state.Seen.{Seen}
 use Rattle.requester.specs.declared.state.Seen.TheVariants.{Nothing}
 use Rattle.requester.specs.Steps as client
-use Rattle.requester.specs.Words.{is_inside, is_spent}
+use Rattle.requester.specs.Words.{is_inside}
 use Rattle.quorum_set.specs.declared.bridge.Side.{Side}
 use Rattle.quorum_set.specs.declared.bridge.Side.TheVariants.{First, Second}
 use Rattle.world.specs.declared.fault.WorldFault.{WorldFault}
@@ -275,18 +273,13 @@ abbrev out_len : Result client.Outcome ClientFault → ℕ
 out_len (Ok o) = length o.out
 out_len (Err fault) = 1
 
-loud_unless : (t : Bool) (x : ClientState) (q : List ℕ) → 1 ≤ length q → 1 ≤ out_len (client.ask_unless t x q)
-loud_unless true x q some = omega arith
-loud_unless false x q some = subst (λ (n : ℕ). 1 ≤ n) (sym (length-map q (λ v. client.tell (client.begin_request x q) v (asks.Request (x.clock + 1))))) some
-
-loud_in : (p : Phase) (x : ClientState) (q : List ℕ) → 1 ≤ length q → 1 ≤ out_len (client.ask_in p x q)
-loud_in Idle x q some = loud_unless (is_spent x) x q some
-loud_in Asking x q some = omega arith
-loud_in Inside x q some = omega arith
+loud_unless : (fault : Option ClientFault) (x : ClientState) (q : List ℕ) → 1 ≤ length q → 1 ≤ out_len (client.unless fault (client.send_requests x q))
+loud_unless (Some f) x q some = omega arith
+loud_unless None x q some = subst (λ (n : ℕ). 1 ≤ n) (sym (length-map q (λ v. client.tell (client.begin_request x q) v (asks.Request (x.clock + 1))))) some
 
 asks_loud : (x : ClientState) (q : List ℕ) (o : client.Outcome) → 1 ≤ length q → client.step x (client.Asks q) ≡ Ok o → 1 ≤ length o.out
 unfolding client.step client.ask
-asks_loud x q o some is = subst (λ r. 1 ≤ out_len r) is (loud_in x.phase x q some)
+asks_loud x q o some is = subst (λ r. 1 ≤ out_len r) is (loud_unless (client.ask_fault x) x q some)
 
 rests_ask : (side : Side) (w : WorldState) (c : ℕ) (q : List ℕ) (r : Result client.Outcome ClientFault) → 1 ≤ length q → client.step (client_at w.clients c) (client.Asks q) ≡ r
     → Rests (OneClient c) w (after_client (draw_of side w c) c r)

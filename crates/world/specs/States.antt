@@ -3,6 +3,8 @@ use Rattle.std.specs.Prelude.{◌≡◌, ◌+◌, ◌≤◌, length, vec_capacit
 use Rattle.std.specs.List.{AllByRecursion}
 use Rattle.dealer.specs.Plans.{PlanPair}
 use Rattle.message.specs.Lines.{HasLine}
+use Rattle.requester.specs.declared.state.Seen.{Seen}
+use Rattle.requester.specs.declared.state.Seen.TheVariants.{Nothing, Left}
 use Rattle.requester.specs.Steps as client
 use Rattle.world.specs.declared.cycles.Cycles.{Cycles}
 use Rattle.world.specs.declared.moves.Ending.{Ending}
@@ -54,6 +56,11 @@ plans_of c = record { first = c.first; second = c.second }
 abbrev pub cause_of : Ending → client.Cause
 cause_of endings.Leaves = client.Leaves
 cause_of endings.GivesUp = client.GivesUp
+
+-- what is seen of a client that ends its request in this way
+abbrev pub seen_of : Ending → Seen
+seen_of endings.Leaves = Left
+seen_of endings.GivesUp = Nothing
 
 -- the live world and the saved states that the code keeps
 abbrev pub saved_of : Stored → Saved

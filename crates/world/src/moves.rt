@@ -1,10 +1,10 @@
 //! Steps of one client or one voter in a list of all.
 ghost use Rattle.std.specs.Prelude.{◌≡◌, ◌<◌, ◌≤◌, [], Err, IfErr, IfOk, None, Ok, OnErr, OnOk, Some, length, slice_set};
 ghost use Rattle.numbers.specs.Bounds.{max_voters, max_clients};
-ghost use Rattle.requester.specs.Steps.{Predicts, step};
+ghost use Rattle.requester.specs.Steps.{end_request, step, unless};
 ghost use Rattle.requester.specs.Steps.Cause.{Asks, Takes};
 ghost use Rattle.voter.specs.Steps as polls;
-ghost use Rattle.world.specs.States.{cause_of};
+ghost use Rattle.world.specs.States.{cause_of, seen_of};
 ghost use Rattle.world.specs.Steps.{client_at, voter_at};
 
 use message::{ToClient, ToVoter};
@@ -72,7 +72,7 @@ pub fn take(clients: &mut [Requester], message: &ToClient, out: &mut Messages) -
 /// Returns why this client could not end its request in this way, if it could not.
 #[tactic(auto, unfolding(requester::specs::Steps::step))]
 pub fn end_fault(who: &Requester, ending: Ending) -> Option<ClientFault>
-    ensures { Predicts result (step who.now (cause_of ending)) }
+    ensures { step who.now (cause_of ending) ≡ unless result (end_request who.now (seen_of ending)) }
 {
     match ending {
         Ending::Leaves => who.leave_fault(),

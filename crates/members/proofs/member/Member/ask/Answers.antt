@@ -1,29 +1,29 @@
-use Rattle.std.proofs.Common.{◌≡◌, true, false, [], refl, sym, ap, ◌∙◌, subst, rules}
+use Rattle.std.proofs.Common.{◌≡◌, true, false, [], Some, refl, sym, ap, ◌∙◌, subst, rules}
 use Rattle.quorum_set.specs.declared.bridge.Side.{Side}
 use Rattle.board.specs.Quorums.{place_of, quorum_at}
-use Rattle.requester.specs.Steps.{ask}
+use Rattle.requester.specs.Steps.{ask, ask_fault}
 use Rattle.requester.specs.Words.{is_idle, is_spent}
 use Rattle.dealer.specs.Offices.{RefusesTicket}
 use Rattle.clerks.specs.Clerks.{rest_of}
-use Rattle.members.specs.Members.{MayAsk, MemberState, RefusesStart}
-use Rattle.members.proofs.MemberLemmas.{IsMember-asked, Ok-not_Err, RefusesStart-ask, RefusesAsk-ticket, ask-Ok}
+use Rattle.members.specs.Members.{MayAsk, MemberState}
+use Rattle.members.proofs.MemberLemmas.{IsMember-asked, Ok-not_Err, RefusesAsk-ticket, ask-Ok}
 use Rattle.members.proofs.member.Member.ask.Goals as goal
 
 pub returns-in-Some-clause-refused : goal.returns-in-Some-clause-refused
 returns-in-Some-clause-refused g c =
-    subst (λ (m : MemberState). RefusesStart m.requester c.in-Some.fault) c.self.view_is (RefusesStart-ask c.self.inside.requester [] _ (c.in-Some.ensures []))
+    subst (λ (m : MemberState). ask_fault m.requester ≡ Some c.in-Some.fault) c.self.view_is (sym c.in-Some.ensures.fault)
 
 pub returns-in-Err-clause-refused : goal.returns-in-Err-clause-refused
 returns-in-Err-clause-refused g c =
-    let asked = c.in_default.ensures [] in
+    let asked = c.in_default.ensures.asked [] in
     RefusesAsk-ticket c.args.self.now c.in-Err.fault
-    (subst (λ (m : MemberState). (is_idle m.requester.phase ≡ true) × (is_spent m.requester ≡ false)) c.self.view_is (ask-Ok c.self.inside.requester [] asked.0 asked.1))
+    (subst (λ (m : MemberState). (is_idle m.requester.phase ≡ true) × (is_spent m.requester ≡ false)) c.self.view_is (ask-Ok c.self.inside.requester [] _ asked))
     (subst (λ (m : MemberState). RefusesTicket (rest_of m.clerks m.clerks.side) c.in-Err.fault) c.self.view_is c.in-Err.ensures.err)
 
 pub unreachable-requires : goal.unreachable-requires
 unreachable-requires g c =
-    let asked = c.in_default.ensures c.quorum-quorum.result.now in
-    Ok-not_Err (ask c.self.inside.requester c.quorum-quorum.result.now) asked.0 _ asked.1 c.in_default-ask_into.ensures.refused.0
+    let asked = c.in_default.ensures.asked c.quorum-quorum.result.now in
+    Ok-not_Err (ask c.self.inside.requester c.quorum-quorum.result.now) _ _ asked c.in_default-ask_into.ensures.refused.0
 
 pub send-losses-requires : goal.send-losses-requires
 send-losses-requires g c =

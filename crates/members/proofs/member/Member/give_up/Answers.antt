@@ -2,12 +2,13 @@ use Rattle.std.proofs.Common.{◌≡◌, true, false, refl, sym, ap, ◌∙◌, 
 use Rattle.requester.specs.Steps.{give_up}
 use Rattle.requester.specs.Words.{is_asking}
 use Rattle.members.specs.Members.{MemberState}
-use Rattle.members.proofs.MemberLemmas.{length-both_held, Ended-give_up, IsMember-ended, is_asking-give_up, HoldsFewer-HoldsNothing, HoldsOnly-same_votes, is_asking-refused_give_up}
+use Rattle.members.proofs.MemberLemmas.{length-both_held, Ended-give_up, IsMember-ended, HoldsFewer-HoldsNothing, HoldsOnly-same_votes, give_up-Err}
+use Rattle.requester.proofs.SoundSteps.{give_up-Ok}
 use Rattle.members.proofs.member.Member.give_up.Goals as goal
 
 pub returns-in_default-clause-refused : goal.returns-in_default-clause-refused
 returns-in_default-clause-refused g c =
-    (refl, subst (λ (m : MemberState). is_asking m.requester.phase ≡ false) c.self.view_is (is_asking-refused_give_up c.self.inside.requester _ c.in_default.ensures.refused.0))
+    (refl, subst (λ (m : MemberState). is_asking m.requester.phase ≡ false) c.self.view_is (give_up-Err c.self.inside.requester _ c.in_default.ensures.refused.0))
 
 pub finish-lost-requires-clause-places : goal.finish-lost-requires-clause-places
 finish-lost-requires-clause-places g c =
@@ -35,4 +36,4 @@ pub returns-clause-idle : goal.returns-clause-idle
 returns-clause-idle g c = (Ended-give_up c.clients_keep_their_laws.ensures _ _ c.self.invariant.sound c.in-Ok.ensures.given_up).idle
 
 pub returns-clause-may : goal.returns-clause-may
-returns-clause-may g c = subst (λ (m : MemberState). is_asking m.requester.phase ≡ true) c.self.view_is (is_asking-give_up _ _ c.in-Ok.ensures.given_up)
+returns-clause-may g c = subst (λ (m : MemberState). is_asking m.requester.phase ≡ true) c.self.view_is (give_up-Ok _ _ c.in-Ok.ensures.given_up).0

@@ -2,12 +2,13 @@ use Rattle.std.proofs.Common.{◌≡◌, true, false, refl, sym, ap, ◌∙◌, 
 use Rattle.requester.specs.Steps.{leave}
 use Rattle.requester.specs.Words.{is_inside}
 use Rattle.members.specs.Members.{MemberState}
-use Rattle.members.proofs.MemberLemmas.{length-both_held, Ended-leave, IsMember-ended, HoldsFewer-HoldsNothing, HoldsOnly-same_votes, is_inside-leave, not_left}
+use Rattle.members.proofs.MemberLemmas.{length-both_held, Ended-leave, IsMember-ended, HoldsFewer-HoldsNothing, HoldsOnly-same_votes, leave-Err}
+use Rattle.requester.proofs.SoundSteps.{leave-Ok}
 use Rattle.members.proofs.member.Member.leave.Goals as goal
 
 pub returns-in_default-clause-refused : goal.returns-in_default-clause-refused
 returns-in_default-clause-refused g c =
-    (refl, subst (λ (m : MemberState). is_inside m.requester.phase ≡ false) c.self.view_is (not_left c.self.inside.requester _ c.in_default.ensures.refused.0))
+    (refl, subst (λ (m : MemberState). is_inside m.requester.phase ≡ false) c.self.view_is (leave-Err c.self.inside.requester _ c.in_default.ensures.refused.0))
 
 pub finish-lost-requires-clause-places : goal.finish-lost-requires-clause-places
 finish-lost-requires-clause-places g c =
@@ -32,7 +33,7 @@ pub returns-clause-idle : goal.returns-clause-idle
 returns-clause-idle g c = (Ended-leave c.clients_keep_their_laws.ensures _ _ c.self.invariant.sound c.in-Ok.ensures.left).idle
 
 pub returns-clause-may : goal.returns-clause-may
-returns-clause-may g c = subst (λ (m : MemberState). is_inside m.requester.phase ≡ true) c.self.view_is (is_inside-leave _ _ c.in-Ok.ensures.left)
+returns-clause-may g c = subst (λ (m : MemberState). is_inside m.requester.phase ≡ true) c.self.view_is (leave-Ok _ _ c.in-Ok.ensures.left).0
 
 pub returns-clause-left : goal.returns-clause-left
 returns-clause-left g c = (_, sym (ap (λ (m : MemberState). leave m.requester) c.self.view_is) ∙ c.in-Ok.ensures.left, (refl, search rules))

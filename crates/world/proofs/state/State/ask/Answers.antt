@@ -23,7 +23,7 @@ returns-then-not-room c = λ deal is.
     let below = if_client-below c.args.client (length c.args.self.now.clients.items) _ c.in_default.ensures.found in
     let w = contents_of c.args.self.now in
     let own = without_room (draw w c.args.client) w c.deref.result.now c.client_of.result.now c.args.client (Asks (quorum_dealt deal c.args.self.now.side (next_ticket w)))
-    c.ask_fault.result c.without_room.result c.deref.ensures.value c.client_of.ensures (c.ask_fault.ensures _) c.without_room.ensures.own c.without_room.ensures.none in
+    c.ask_fault.result _ c.without_room.result c.deref.ensures.value c.client_of.ensures (c.ask_fault.ensures.asked _) c.without_room.ensures.own c.without_room.ensures.none in
     (subst (λ r. Refuses r c.without_room.result) (sym below) own, refl)
 
 -- the world once the ticket is drawn

@@ -14,7 +14,7 @@ pub returns-then-not-room : goal.returns-then-not-room
 returns-then-not-room c =
     let below = if_client-below c.args.client (length c.args.self.now.clients.items) _ c.in_default.ensures.found in
     let w = contents_of c.args.self.now in
-    let own = without_room w w c.deref.result.now c.client_of-who.result.now c.args.client (cause_of c.args.ending) c.end_fault.result c.without_room.result c.deref.ensures.value
+    let own = without_room w w c.deref.result.now c.client_of-who.result.now c.args.client (cause_of c.args.ending) c.end_fault.result _ c.without_room.result c.deref.ensures.value
     c.client_of-who.ensures c.end_fault.ensures c.without_room.ensures.own c.without_room.ensures.none in
     (subst (λ r. Refuses r c.without_room.result) (sym below) own, refl)
 
