@@ -1,24 +1,18 @@
 -- What a member keeps over its calls.
-use Rattle.std.proofs.Common.{◌≡◌, ◌≢◌, inr, ℕ, ◌<◌, ◌≤◌, Bool, true, false, true≢false, not, ◌&&◌, List, [], ◌∷◌, Result, Ok, Err, refl, sym, ap, ◌∙◌, subst, length, arith}
-use Rattle.std.specs.Prelude.{slice_index, filter, ◌==◌, Option, Some, None, if◌then◌else◌}
+use Rattle.std.proofs.Common.{◌≡◌, ◌≢◌, inr, ℕ, ◌<◌, ◌≤◌, Bool, true, false, true≢false, List, Some, None, Result, Ok, Err, refl, sym, ap, ◌∙◌, subst, length, arith}
+use Rattle.std.specs.Prelude.{slice_index, if◌then◌else◌}
 use Rattle.std.proofs.lemmas.Bool.Decides.{nat_tests}
 use Rattle.std.proofs.lemmas.Grind.{same_number_lists}
 use Rattle.message.specs.declared.message.ToClient.{ToClient}
-use Rattle.message.specs.declared.message.ClientBody.{ClientBody}
-use Rattle.message.specs.declared.message.ClientBody.TheVariants as to_client
 use Rattle.requester.specs.declared.fault.ClientFault.{ClientFault}
 use Rattle.requester.specs.declared.state.ClientState.{ClientState}
-use Rattle.requester.specs.declared.state.Phase.{Phase}
-use Rattle.requester.specs.declared.state.Phase.TheVariants.{Idle, Asking, Inside}
-use Rattle.requester.specs.declared.state.Seen.{Seen}
-use Rattle.requester.specs.declared.state.Seen.TheVariants.{Nothing, Entered, Left}
+use Rattle.requester.specs.declared.state.Seen.TheVariants.{Left}
 use Rattle.requester.specs.Held.{HoldsNothing}
 use Rattle.members.specs.ClientLaws.{AreClientLaws}
 use Rattle.requester.specs.RequesterContract.{Sees}
 use Rattle.requester.specs.Soundness.{IsSound}
-use Rattle.requester.specs.Steps.{Outcome, Asks, Takes, Leaves, GivesUp, unless, ask, give_up, leave, step, take, take_body, see, take_locked}
-use Rattle.requester.specs.Steps.{take_locked_by, enter_if, hold, is_fresh, take_fail, take_fail_by, fail, take_inquire, take_inquire_by, relinquish, relinquish_if, relinquish_each}
-use Rattle.requester.specs.Words.{is_idle, is_asking, is_inside, is_spent, is_current, is_covered, is_inquired, is_hindered, is_member, holds, holds_under, members}
+use Rattle.requester.specs.Steps.{Outcome, Asks, Takes, Leaves, GivesUp, unless, ask, give_up, leave, step, take}
+use Rattle.requester.specs.Words.{is_idle, is_asking, is_inside, is_spent, members}
 use Rattle.requester.proofs.SoundSteps.{ask-Ok as asked-Ok}
 use Rattle.board.specs.Seats.{BoardState, ClientSeatState as SeatState}
 use Rattle.board.specs.Quorums.{HasQuorum, place_of, quorum_at}
@@ -86,65 +80,6 @@ pub give_up-Err : (x : ClientState) (f : ClientFault) → give_up x ≡ Err f �
 unfolding give_up
 give_up-Err x f e = refused_if (is_asking x.phase) _ f _ e
 
--- A message never makes a client leave
-
-abbrev is_left : Seen → Bool
-is_left Nothing = false
-is_left Entered = false
-is_left Left = true
-
-relinquish_if-not_left : (b : Bool) (x : ClientState) (v : ℕ) → is_left (relinquish_if b x v).seen ≡ false
-relinquish_if-not_left false x v = refl
-relinquish_if-not_left true x v = refl
-
-relinquish-not_left : (x : ClientState) (v : ℕ) → is_left (relinquish x v).seen ≡ false
-unfolding relinquish
-relinquish-not_left x v = relinquish_if-not_left (holds x v) x v
-
-relinquish_each-not_left : (x : ClientState) (vs : List ℕ) → is_left (relinquish_each x vs).seen ≡ false
-relinquish_each-not_left x [] = refl
-relinquish_each-not_left x (v ∷ vs) = refl
-
-enter_if-not_left : (b : Bool) (x : ClientState) → is_left (enter_if b x).seen ≡ false
-enter_if-not_left false x = refl
-enter_if-not_left true x = refl
-
-take_locked_by-not_left : (b fresh : Bool) (x : ClientState) (v s g : ℕ) → is_left (take_locked_by b fresh x v s g).seen ≡ false
-take_locked_by-not_left true true x v s g = enter_if-not_left (is_covered (hold x v g)) (hold x v g)
-take_locked_by-not_left b fresh x v s g = refl
-
-take_locked-not_left : (x : ClientState) (v s g : ℕ) → is_left (take_locked x v s g).seen ≡ false
-unfolding take_locked
-take_locked-not_left x v s g = take_locked_by-not_left (is_current x s) (is_fresh x v g) x v s g
-
-take_fail_by-not_left : (b : Bool) (x : ClientState) (v : ℕ) → is_left (take_fail_by b x v).seen ≡ false
-take_fail_by-not_left false x v = refl
-take_fail_by-not_left true x v = relinquish_each-not_left (fail x v) (filter (is_inquired (fail x v)) (members x))
-
-take_fail-not_left : (x : ClientState) (v s : ℕ) → is_left (take_fail x v s).seen ≡ false
-unfolding take_fail
-take_fail-not_left x v s = take_fail_by-not_left (is_asking x.phase && s == x.stamp && is_member x v && not (holds x v)) x v
-
-take_inquire_by-not_left : (b hindered : Bool) (x : ClientState) (v : ℕ) → is_left (take_inquire_by b hindered x v).seen ≡ false
-take_inquire_by-not_left true true x v = relinquish-not_left x v
-take_inquire_by-not_left b hindered x v = refl
-
-take_inquire-not_left : (x : ClientState) (v g : ℕ) → is_left (take_inquire x v g).seen ≡ false
-unfolding take_inquire
-take_inquire-not_left x v g = take_inquire_by-not_left (is_asking x.phase && holds_under x v g) (is_hindered x) x v
-
-take_body-not_left : (x : ClientState) (v : ℕ) (b : ClientBody) → is_left (take_body x v b).seen ≡ false
-take_body-not_left x v (to_client.Locked s g) = take_locked-not_left x v s g
-take_body-not_left x v (to_client.Fail s) = take_fail-not_left x v s
-take_body-not_left x v (to_client.Inquire g) = take_inquire-not_left x v g
-
-take-not_left : (x : ClientState) (m : ToClient) → is_left (take x m).seen ≡ false
-unfolding take
-take-not_left x m = take_body-not_left (see x m.seen) m.voter m.body
-
-never_left : (x : ClientState) (m : ToClient) (o : Outcome) → take x m ≡ o → o.seen ≡ Left → ⊥
-never_left x m o e left = true≢false (sym (ap is_left left) ∙ sym (ap (λ (p : Outcome). is_left p.seen) e) ∙ take-not_left x m)
-
 -- What a client is once it took a message that names it
 pub record Took (x : ClientState) (m : ToClient) (o : Outcome) : Type 0 where
   pub sound : IsSound o.state
@@ -159,7 +94,14 @@ Took-from_take laws board x m o id sound mail is few e =
     let s = of_take x m o e in
     let accepts : (m.client ≡ x.id) × (m.voter < 64) = (mail.client_is ∙ is, omega (arith, mail.voter, few)) in
     let meets = laws.meets x (Takes m) o sound accepts s in
-    record { sound = laws.sound x (Takes m) o sound accepts s; id = meets.id; quorum = meets.quorum; sees = meets.seen; stays = never_left x m o e }
+    let sees = meets.seen in
+    record {
+      sound = laws.sound x (Takes m) o sound accepts s;
+      id = meets.id;
+      quorum = (meets.quorum.0, meets.quorum.1);
+      sees = sees;
+      stays = λ left. let out = subst (λ seen. Sees x.phase seen o.state.phase) left sees in true≢false (sym (meets.quorum.2 out.0) ∙ out.1);
+    }
 
 -- What a client is once it left, or gave its request up
 pub record Ended (x : ClientState) (o : Outcome) : Type 0 where

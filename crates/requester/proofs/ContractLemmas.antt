@@ -70,7 +70,7 @@ MeetsContract-GivesBack x m o s k = record {
   ];
   out = AllByRecursion-weaker (IsGiving x o.state) (λ n. (n.client ≡ x.id) × Says x (Takes m) o.state n.voter n.body) (Says-IsGiving x (Takes m) o.state) o.out k.out;
   seen = subst (λ (seen : Seen). Sees x.phase seen o.state.phase) (sym k.seen) (ap is_inside (sym k.phase));
-  quorum = (ap (λ q. q.items) k.quorum, ap is_idle k.phase);
+  quorum = (ap (λ q. q.items) k.quorum, ap is_idle k.phase, λ inside. ap is_inside k.phase ∙ inside);
 }
 
 -- a step after which the same is held, and nothing is sent
@@ -94,7 +94,7 @@ MeetsContract-enter b x m t g body s c busy current = elim b as (λ b. MeetsCont
     last = λ v. inl refl;
     out = tt;
     seen = (is_inside-from_Counts x m.voter g s c, refl);
-    quorum = (refl, sym busy);
+    quorum = (refl, sym busy, λ _. refl);
   }
   | false ↦ record {
     id = refl;
@@ -104,7 +104,7 @@ MeetsContract-enter b x m t g body s c busy current = elim b as (λ b. MeetsCont
     last = λ v. inl refl;
     out = tt;
     seen = refl;
-    quorum = (refl, refl);
+    quorum = (refl, refl, λ inside. inside);
   }
 ]
   where
@@ -135,7 +135,7 @@ MeetsContract-take_locked_by false fresh x m t g body s c f = record {
   last = λ v. inl refl;
   out = ((refl, inr ((g, subst (λ b. Locks m.voter b m.voter t g) (sym body) (refl, refl, refl)), is_current-false x.phase t x.stamp c)), tt);
   seen = refl;
-  quorum = (refl, refl);
+  quorum = (refl, refl, λ inside. inside);
 }
 MeetsContract-take_locked_by true false x m t g body s c f = MeetsContract-no_effect x m s
 MeetsContract-take_locked_by true true x m t g body s c f = let k = is_current-busy x t c in MeetsContract-enter _ x m t g body s (Counts-is_fresh x m.voter g s f) k.0 k.1
@@ -156,7 +156,7 @@ MeetsContract-take_inquire_by true false x m s = record {
   last = λ v. inl refl;
   out = tt;
   seen = refl;
-  quorum = (refl, refl);
+  quorum = (refl, refl, λ inside. inside);
 }
 MeetsContract-take_inquire_by true true x m s = MeetsContract-GivesBack x m (take_inquire_by true true x m.voter) s (GivesBack-relinquish x m.voter s.places)
 

@@ -64,10 +64,13 @@ Sees before Nothing after = is_inside before ≡ is_inside after
 Sees before Entered after = (is_inside before ≡ false) × (is_inside after ≡ true)
 Sees before Left after = (is_inside before ≡ true) × (is_inside after ≡ false)
 
--- a request keeps the quorum that it was made for, until it ends
+-- a request keeps the quorum that it was made for, until it ends; a message neither begins nor ends
+-- one, and doesn't take the lock from its client
 abbrev pub KeepsQuorum : ClientState → Cause → ClientState → Type 0
 KeepsQuorum x (Asks quorum) y = members y ≡ quorum
-KeepsQuorum x (Takes m) y = (members y ≡ members x) × (is_idle y.phase ≡ is_idle x.phase)
+KeepsQuorum x (Takes m) y =
+    (members y ≡ members x) × (is_idle y.phase ≡ is_idle x.phase)
+    × (is_inside x.phase ≡ true → is_inside y.phase ≡ true)
 KeepsQuorum x Leaves y = (members y ≡ members x) × (is_idle y.phase ≡ true)
 KeepsQuorum x GivesUp y = (members y ≡ members x) × (is_idle y.phase ≡ true)
 
