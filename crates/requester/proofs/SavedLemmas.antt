@@ -1,22 +1,22 @@
 -- A client as numbers.
-use Rattle.std.proofs.Common.{◌≡◌, ℕ, get_or, zero, suc, ◌+◌, ◌^◌, ◌<◌, ◌≤◌, Bool, true, false, ◌&&◌, ◌||◌, not, cond, eqb, ltb, List, [], ◌∷◌, ◌++◌, length, take, drop, Option, Some, None}
-use Rattle.std.proofs.Common.{refl, sym, ap, subst, ◌∙◌, arith, take-append-drop, length-append}
-use Rattle.std.specs.Prelude.{IfSome, nat_lt}
+use Rattle.std.proofs.Common.{◌≡◌, ℕ, get_or, zero, suc, ◌+◌, ◌^◌, ◌<◌, ◌≤◌, Bool, true, false, ◌&&◌, ◌||◌, not, cond, eqb, ltb, List, [], ◌∷◌, ◌++◌, length, take, drop}
+use Rattle.std.proofs.Common.{refl, sym, ap, subst, ◌∙◌, arith, length-append}
+use Rattle.std.specs.Prelude.{nat_lt}
 use Rattle.std.specs.Int.{bit_at}
 use Rattle.std.specs.List.{AllByRecursion}
-use Rattle.std.proofs.lemmas.Bool.{false≢true, leb-true, ltb-true}
+use Rattle.std.proofs.lemmas.Bool.{and_parts, false≢true, leb-true, ltb-true, not-true}
 use Rattle.std.proofs.lemmas.Bool.Decides.{nat_tests}
-use Rattle.std.proofs.lemmas.List.{drop_all, drop_more, take_at, drop_at}
+use Rattle.std.proofs.lemmas.List.{drop_more, take_all, take_at, drop_at}
 use Rattle.std.proofs.lemmas.List.Sums.{sum_by-append}
 use Rattle.numbers.specs.Sets.{has, numbers_from, set_where, members_of, IsSet}
-use Rattle.numbers.proofs.SetLemmas.{Ascends-unique, IsSet-set_where, has-IsSet_below, has-above, has-set_where, is_set_where}
+use Rattle.numbers.proofs.SetLemmas.{Ascends-unique, IsSet-set_where, has-IsSet_below, has-above, is_set_where}
 use Rattle.quorum_set.specs.Words.{word_of, word_of-members_of, numbers_from-more}
 use Rattle.requester.specs.declared.state.ClientState.{ClientState}
 use Rattle.requester.specs.declared.state.Phase.TheVariants.{Idle}
-use Rattle.requester.specs.Saved.{HasSets, IsKept, has_sound_numbers, head_words, header, phase_word, is_vote_sound, least_client, words_of}
-use Rattle.requester.specs.Soundness.{HasPlaces, IsHeldWell, IsSound}
-use Rattle.requester.specs.Words.{held_of, holds, is_covered, is_idle, is_inquired, is_inside, is_member, is_relinquished, last_of, members}
-use Rattle.requester.proofs.Members.{all_below-from_Ascends, get_or-some_below}
+use Rattle.requester.specs.Saved.{HasSets, IsKept, has_sound_numbers, head_words, phase_word, is_vote_sound, least_client, words_of}
+use Rattle.requester.specs.Soundness.{HasPlaces, IsSound}
+use Rattle.requester.specs.Words.{held_of, holds, is_covered, is_idle, is_inquired, is_inside, is_relinquished, last_of, members}
+use Rattle.requester.proofs.Members.{get_or-some_below}
 use Rattle.requester.proofs.SoundSteps.{IsSound-clear_votes}
 
 -- ---- a set from its bits
@@ -82,70 +82,34 @@ same_sets s t hs ht e =
 pub set_again : (word : ℕ) (r s : List ℕ) → r ≡ members_of word → IsSet r → word < 2 ^ 64 → IsSet s → word ≡ word_of s → r ≡ s
 set_again word r s is set fits hs e = same_sets r s set hs (ap word_of is ∙ word_of-members_of word fits ∙ e)
 
-pub word_again : (word : ℕ) (r : List ℕ) → r ≡ members_of word → word < 2 ^ 64 → word ≡ word_of r
-word_again word r is fits = sym (ap word_of is ∙ word_of-members_of word fits)
+-- ---- the bits of a list's members
 
--- ---- the set of a list's members
+pub word_of-below : (s : List ℕ) → IsSet s → word_of s < 2 ^ 64
+unfolding set_where
+word_of-below s h = subst (λ (t : List ℕ). word_of t < 2 ^ 64) (sym (is_set_where s (has s) h (λ i _. refl))) (low_bits-below 64 (has s))
 
--- the members of a list are those of a set and those that are left
-pub record Gathered (items rest set : List ℕ) : Type 0 where
-  pub set_is : IsSet set
+-- the bits of the members so far, and of those that are left, are those of all
+pub record Gathered (items rest : List ℕ) (bits : ℕ) : Type 0 where
   pub small : AllByRecursion (λ v. v < 64) rest
-  pub each : (u : ℕ) → u < 64 → (has set u || has rest u) ≡ has items u
+  pub whole : bits + word_of rest ≡ word_of items
 
-pub Gathered-start : (items : List ℕ) → IsSet items → (set : List ℕ) → set ≡ [] → Gathered items items set
-Gathered-start items h set none = subst (λ (s : List ℕ). Gathered items items s) (sym none) (record { set_is = tt; small = all_below-from_Ascends 0 items h; each = λ u lt. refl })
-
-one_more : (u v : ℕ) (a b c d : Bool) → c ≡ (eqb u v || a) → (a || (eqb v u || b)) ≡ d → (c || b) ≡ d
-one_more u v a b c d e f = grind (arith, nat_tests)
-
-Gathered-one : (items rest set : List ℕ) (v : ℕ) → Gathered items (v ∷ rest) set → Gathered items rest (set_where (λ j. (eqb j v) || has set j))
-Gathered-one items rest set v g = record {
-  set_is = IsSet-set_where (λ j. (eqb j v) || has set j);
-  small = g.small.1;
-  each = λ u lt. one_more u v (has set u) (has rest u) _ _ (has-set_where (λ j. (eqb j v) || has set j) u lt) (g.each u lt);
-}
-
-pub Gathered-more : (items set after : List ℕ) (i : ℕ) → i < length items → Gathered items (drop i items) set
-    → after ≡ set_where (λ j. (eqb j (get_or items i 0)) || has set j) → Gathered items (drop (i + 1) items) after
-Gathered-more items set after i lt g is = subst (λ (s : List ℕ). Gathered items (drop (i + 1) items) s) (sym is)
-    (Gathered-one items (drop (i + 1) items) set (get_or items i 0) (subst (λ (r : List ℕ). Gathered items r set) (drop_more items i 0 lt) g))
-
-or_false : (a b : Bool) → (a || false) ≡ b → a ≡ b
-or_false a b e = grind (arith, nat_tests)
-
-pub Gathered-end : (items set : List ℕ) (i : ℕ) → IsSet items → length items ≤ i → Gathered items (drop i items) set → set ≡ items
-Gathered-end items set i h past g = Ascends-unique 0 64 set items g.set_is h (λ u. elim (ltb u 64) as (λ b. ltb u 64 ≡ b → has set u ≡ has items u) [
-  | true ↦ λ l. or_false (has set u) (has items u) (ap (λ (r : List ℕ). has set u || has r u) (sym (drop_all i items past)) ∙ g.each u (grind (arith, nat_tests)))
-  | false ↦ λ l. has-above 0 64 set u g.set_is (grind (arith, nat_tests)) ∙ sym (has-above 0 64 items u h (grind (arith, nat_tests)))
-] refl)
+pub Gathered-more : (items : List ℕ) (bits i : ℕ) → i < length items → Gathered items (drop i items) bits
+    → (get_or items i 0 < 64) × (bits + 2 ^ get_or items i 0 ≤ word_of items) × Gathered items (drop (i + 1) items) (bits + 2 ^ get_or items i 0)
+Gathered-more items bits i lt g =
+    let next = subst (λ (r : List ℕ). Gathered items r bits) (drop_more items i 0 lt) g in
+    let sum : word_of (get_or items i 0 ∷ drop (i + 1) items) ≡ word_of (get_or items i 0 ∷ []) + word_of (drop (i + 1) items) = sum_by-append (λ k. 2 ^ k) (get_or items i 0 ∷ []) (drop (i + 1) items) in
+    let one : word_of (get_or items i 0 ∷ []) ≡ 2 ^ get_or items i 0 = one_bit true (get_or items i 0) in
+    let whole : bits + 2 ^ get_or items i 0 + word_of (drop (i + 1) items) ≡ word_of items = omega (arith, next.whole, sum, one) in
+    (next.small.0, omega (arith, whole), record { small = next.small.1; whole = whole })
 
 -- ---- soundness from what restoring checks
 
-has_held : (h idle m f i r l : Bool) → ((not h || (not idle && (m && f))) && ((not i || h) && (not r || l))) ≡ true → h ≡ true → (idle ≡ false) × (m ≡ true) × (f ≡ true)
-has_held true false true true i r l e t = (refl, refl, refl)
-has_held false idle m f i r l e t = absurd (false≢true t)
-has_held h idle m f i r l e t = absurd (false≢true e)
-
-has_asked : (h idle m f i r l : Bool) → ((not h || (not idle && (m && f))) && ((not i || h) && (not r || l))) ≡ true → i ≡ true → h ≡ true
-has_asked true idle m f i r l e t = refl
-has_asked false idle m f true r l e t = absurd (false≢true e)
-has_asked false idle m f false r l e t = absurd (false≢true t)
-
-has_given : (h idle m f i r l : Bool) → ((not h || (not idle && (m && f))) && ((not i || h) && (not r || l))) ≡ true → r ≡ true → l ≡ true
-has_given h idle m f i true true e t = refl
-has_given h idle m f i true false e t = absurd (grind (arith, nat_tests))
-has_given h idle m f i false l e t = absurd (false≢true t)
+pub implied : (a b : Bool) → (not a || b) ≡ true → a ≡ true → b ≡ true
+implied true b e t = e
+implied false b e t = absurd (false≢true t)
 
 held_below : (x : ClientState) (v : ℕ) → HasPlaces x → holds x v ≡ true → v < 64
 held_below x v places is = let below = get_or-some_below x.held v is in let len = places.held in omega arith
-
-record Numbers (x : ClientState) : Type 0 where
-  some : 1 ≤ x.limit
-  limit : x.limit ≤ 2 ^ 40
-  stamp : x.stamp ≤ x.limit
-  clock : x.stamp ≤ x.clock
-  busy : is_idle x.phase ≡ false → (1 ≤ x.stamp) × (1 ≤ length (members x))
 
 busy_numbers : (idle : Bool) (s n : ℕ) → (idle || (nat_lt 0 s && nat_lt 0 n)) ≡ true → idle ≡ false → (1 ≤ s) × (1 ≤ n)
 busy_numbers true s n e t = absurd (false≢true (sym t))
@@ -155,47 +119,29 @@ four : (a b c d e : Bool) → (a && (b && (c && (d && e)))) ≡ true → (a ≡ 
 four true true true true true h = (refl, refl, refl, refl, refl)
 four a b c d e h = absurd (false≢true h)
 
-numbers_from_test : (x : ClientState) → has_sound_numbers x ≡ true → Numbers x
-numbers_from_test x e =
-    let parts = four _ _ _ _ _ e in
-    record {
-      some = leb-true _ _ parts.0;
-      limit = leb-true _ _ parts.1;
-      stamp = leb-true _ _ parts.2;
-      clock = leb-true _ _ parts.3;
-      busy = busy_numbers (is_idle x.phase) x.stamp (length (members x)) parts.4;
-    }
-
-held_well : (x : ClientState) (v : ℕ) → is_vote_sound x v ≡ true → holds x v ≡ true → IsHeldWell x v
-held_well x v e is =
-    let parts = has_held (holds x v) (is_idle x.phase) (is_member x v) (nat_lt (last_of x v) (held_of x v)) (is_inquired x v) (is_relinquished x v) (nat_lt 0 (last_of x v)) e is in
-    record { busy = parts.0; member = parts.1; fresh = ltb-true (last_of x v) (held_of x v) parts.2 }
-
-asked_held : (x : ClientState) (v : ℕ) → is_vote_sound x v ≡ true → is_inquired x v ≡ true → holds x v ≡ true
-asked_held x v e is = has_asked (holds x v) (is_idle x.phase) (is_member x v) (nat_lt (last_of x v) (held_of x v)) (is_inquired x v) (is_relinquished x v) (nat_lt 0 (last_of x v)) e is
-
-given_last : (x : ClientState) (v : ℕ) → is_vote_sound x v ≡ true → is_relinquished x v ≡ true → 1 ≤ last_of x v
-given_last x v e is = ltb-true 0 (last_of x v)
-    (has_given (holds x v) (is_idle x.phase) (is_member x v) (nat_lt (last_of x v) (held_of x v)) (is_inquired x v) (is_relinquished x v) (nat_lt 0 (last_of x v)) e is)
-
 pub IsSound-from : (x : ClientState) → x.id < 64 → HasPlaces x → IsSet (members x) → HasSets x → has_sound_numbers x ≡ true
     → (is_inside x.phase ≡ true → is_covered x ≡ true) → ((v : ℕ) → v < 64 → is_vote_sound x v ≡ true) → IsSound x
 IsSound-from x id places quorum sets numbers covered votes =
-    let n = numbers_from_test x numbers in
+    let n = four _ _ _ _ _ numbers in
+    let busy_has = busy_numbers (is_idle x.phase) x.stamp (length (members x)) n.4 in
     record {
       id = id;
-      some = n.some;
-      limit = n.limit;
+      some = leb-true _ _ n.0;
+      limit = leb-true _ _ n.1;
       places = places;
-      stamp = n.stamp;
-      clock = n.clock;
-      stamped = λ busy. (n.busy busy).0;
+      stamp = leb-true _ _ n.2;
+      clock = leb-true _ _ n.3;
+      stamped = λ busy. (busy_has busy).0;
       quorum = quorum;
-      asked = λ busy. (n.busy busy).1;
-      held = λ v is. held_well x v (votes v (held_below x v places is)) is;
+      asked = λ busy. (busy_has busy).1;
+      held = λ v is.
+          let well = and_parts _ _ (implied (holds x v) _ (and_parts _ _ (votes v (held_below x v places is))).0 is) in
+          let rest = and_parts _ _ well.1 in
+          record { busy = not-true _ well.0; member = rest.0; fresh = ltb-true (last_of x v) (held_of x v) rest.1 };
       inside = covered;
-      inquired = λ v is. asked_held x v (votes v (has-IsSet_below x.inquired v sets.inquired is)) is;
-      relinquished = λ v is. given_last x v (votes v (has-IsSet_below x.relinquished v sets.relinquished is)) is;
+      inquired = λ v is. implied (is_inquired x v) _ (and_parts _ _ (and_parts _ _ (votes v (has-IsSet_below x.inquired v sets.inquired is))).1).0 is;
+      relinquished = λ v is.
+          ltb-true 0 (last_of x v) (implied (is_relinquished x v) _ (and_parts _ _ (and_parts _ _ (votes v (has-IsSet_below x.relinquished v sets.relinquished is))).1).1 is);
     }
 
 -- ---- all numbers
@@ -210,45 +156,37 @@ length-words_of x kept =
     let b = length-append x.held x.last in
     omega (arith, length-head_words x, kept.sound.places.held, kept.sound.places.last)
 
-pub words_of-parts : (x : ClientState) (words head lists held last : List ℕ) → head ≡ take 10 words → lists ≡ drop 10 words → held ≡ take 64 lists → last ≡ drop 64 lists
-    → head ≡ head_words x → x.held ≡ held → x.last ≡ last → words ≡ words_of x
+-- the client that these numbers are read as
+pub record Read (words : List ℕ) (x : ClientState) : Type 0 where
+  pub id : get_or words 1 0 ≡ x.id
+  pub limit : get_or words 2 0 ≡ x.limit
+  pub clock : get_or words 3 0 ≡ x.clock
+  pub phase : get_or words 4 0 ≡ phase_word x.phase
+  pub stamp : get_or words 5 0 ≡ x.stamp
+  pub quorum : get_or words 6 0 ≡ word_of (members x)
+  pub failed : get_or words 7 0 ≡ word_of x.failed
+  pub relinquished : get_or words 8 0 ≡ word_of x.relinquished
+  pub inquired : get_or words 9 0 ≡ word_of x.inquired
+  pub held : take 64 (drop 10 words) ≡ x.held
+  pub last : take 64 (drop 74 words) ≡ x.last
+
+pub Read-words_of : (x : ClientState) (words : List ℕ) → IsKept x → words ≡ words_of x → Read words x
 unfolding words_of
-words_of-parts x words head lists held last front back first rest h v w =
-    sym (take-append-drop 10 words) ∙ (λ i. sym front i ++ sym back i) ∙ ap (λ l. head ++ l) (sym (take-append-drop 64 lists) ∙ (λ i. sym first i ++ sym rest i))
-    ∙ (λ i. h i ++ (sym v i ++ sym w i))
-
-pub head_again : (x : ClientState) (words : List ℕ) → words ≡ words_of x → take 10 words ≡ head_words x
-unfolding words_of
-head_again x words is = ap (take 10) is ∙ take_at (head_words x) (x.held ++ x.last) 10 refl
-
-lists_again : (x : ClientState) (words : List ℕ) → words ≡ words_of x → drop 10 words ≡ x.held ++ x.last
-unfolding words_of
-lists_again x words is = ap (drop 10) is ∙ drop_at (head_words x) (x.held ++ x.last) 10 refl
-
-pub held_again : (x : ClientState) (words lists held : List ℕ) → IsKept x → words ≡ words_of x → lists ≡ drop 10 words → held ≡ take 64 lists → held ≡ x.held
-held_again x words lists held kept is back first = first ∙ ap (take 64) (back ∙ lists_again x words is) ∙ take_at x.held x.last 64 kept.sound.places.held
-
-pub last_again : (x : ClientState) (words lists last : List ℕ) → IsKept x → words ≡ words_of x → lists ≡ drop 10 words → last ≡ drop 64 lists → last ≡ x.last
-last_again x words lists last kept is back rest = rest ∙ ap (drop 64) (back ∙ lists_again x words is) ∙ drop_at x.held x.last 64 kept.sound.places.held
-
-ten : (ws : List ℕ) → length ws ≡ 10
-    → ws ≡ get_or ws 0 0 ∷ get_or ws 1 0 ∷ get_or ws 2 0 ∷ get_or ws 3 0 ∷ get_or ws 4 0 ∷ get_or ws 5 0 ∷ get_or ws 6 0 ∷ get_or ws 7 0 ∷ get_or ws 8 0 ∷ get_or ws 9 0 ∷ []
-ten (a ∷ b ∷ c ∷ d ∷ f ∷ g ∷ h ∷ j ∷ k ∷ l ∷ []) e = refl
-ten ws e = absurd (omega arith)
-
-pub head_words-from : (ws : List ℕ) (x : ClientState) → length ws ≡ 10 → get_or ws 0 0 ≡ header → get_or ws 1 0 ≡ x.id → get_or ws 2 0 ≡ x.limit → get_or ws 3 0 ≡ x.clock
-    → get_or ws 4 0 ≡ phase_word x.phase → get_or ws 5 0 ≡ x.stamp → get_or ws 6 0 ≡ word_of (members x) → get_or ws 7 0 ≡ word_of x.failed
-    → get_or ws 8 0 ≡ word_of x.relinquished → get_or ws 9 0 ≡ word_of x.inquired → ws ≡ head_words x
-head_words-from ws x len a b c d e f g h k l = ten ws len ∙ (λ i. a i ∷ b i ∷ c i ∷ d i ∷ e i ∷ f i ∷ g i ∷ h i ∷ k i ∷ l i ∷ [])
-
-pub words_of-if : (o : Option ClientState) (y : ClientState) (words head lists held last : List ℕ) → head ≡ take 10 words → lists ≡ drop 10 words → held ≡ take 64 lists → last ≡ drop 64 lists
-    → head ≡ head_words y → y.held ≡ held → y.last ≡ last → IfSome o (λ x. x ≡ y) → IfSome o (λ x. words ≡ words_of x)
-words_of-if None y words head lists held last front back first rest h v w same = tt
-words_of-if (Some x) y words head lists held last front back first rest h v w same = words_of-parts y words head lists held last front back first rest h v w ∙ ap words_of (sym same)
-
-pub covered_if : (inside covered : Bool) → (not inside || covered) ≡ true → inside ≡ true → covered ≡ true
-covered_if true covered e t = e
-covered_if false covered e t = absurd (false≢true t)
+Read-words_of x words kept is =
+    let places = kept.sound.places in
+    record {
+      id = ap (λ l. get_or l 1 0) is;
+      limit = ap (λ l. get_or l 2 0) is;
+      clock = ap (λ l. get_or l 3 0) is;
+      phase = ap (λ l. get_or l 4 0) is;
+      stamp = ap (λ l. get_or l 5 0) is;
+      quorum = ap (λ l. get_or l 6 0) is;
+      failed = ap (λ l. get_or l 7 0) is;
+      relinquished = ap (λ l. get_or l 8 0) is;
+      inquired = ap (λ l. get_or l 9 0) is;
+      held = ap (λ l. take 64 (drop 10 l)) is ∙ take_at x.held x.last 64 places.held;
+      last = ap (λ l. take 64 (drop 74 l)) is ∙ ap (take 64) (drop_at x.held x.last 64 places.held) ∙ take_all 64 x.last (omega (arith, places.last));
+    }
 
 -- ---- the least of a client
 

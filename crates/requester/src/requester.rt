@@ -10,7 +10,7 @@ ghost use Rattle.requester.specs.Leases.{anew, disclaim, renew};
 ghost use Rattle.requester.specs.Steps.{ask, ask_fault, end_request, give_up, leave, remind, see, send_requests, start, take, unless, would_hold};
 
 use crate::fault::ClientFault;
-use crate::saved::{SavedWords, set_of};
+use crate::saved::{SavedWords, bits_of};
 use crate::state::{ClientState, Messages, Phase, Reminders, Reply, Seen};
 use arrayvec::ArrayVec;
 use message::ToClient;
@@ -155,7 +155,7 @@ impl Requester {
     pub fn quorum_bits(&self) -> u64
         ensures { result ≡ word_of (members self.now) }
     {
-        set_of(self.state.quorum.as_slice()).bits()
+        bits_of(self.state.quorum.as_slice())
     }
 
     /// Returns whether no stamp is left for another request: whether the clock is at least the

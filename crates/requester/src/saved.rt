@@ -6,7 +6,7 @@ ghost use Rattle.numbers.specs.Sets.{IsSet};
 ghost use Rattle.quorum_set.specs.Words.{word_of};
 ghost use Rattle.requester.specs.declared.state.ClientState.{ClientState};
 ghost use Rattle.requester.specs.declared.state.Phase.{Phase};
-ghost use Rattle.requester.specs.Saved.{HasSets, IsKept, has_sound_numbers, head_words, is_held_well, is_vote_sound, least_client, phase_word, set_words, words_of};
+ghost use Rattle.requester.specs.Saved.{HasSets, IsKept, has_sound_numbers, head_words, is_held_well, is_vote_sound, least_client, phase_word, words_of};
 ghost use Rattle.requester.specs.Soundness.{HasPlaces, IsSound};
 ghost use Rattle.requester.specs.Words.{is_covered, is_inside};
 
@@ -26,19 +26,6 @@ const HEADER: u64 = 104830073175827313;
 
 impl ClientState {
     #[tactic(auto, using(crate::proofs::SavedLemmas::set_by_bits))]
-    fn push_sets(&self, words: &mut SavedWords)
-        requires room { array_vec_len words.old + 4 ≤ 138 }
-        requires quorum { IsSet self.now.quorum.items }
-        ensures sets { words.new.items ≡ words.old.items ++ set_words self.now }
-        ensures len { array_vec_len words.new ≡ array_vec_len words.old + 4 }
-        ensures marks { HasSets self.now }
-    {
-        words.push(set_of(self.quorum.as_slice()).bits());
-        words.push(self.failed.bits());
-        words.push(self.relinquished.bits());
-        words.push(self.inquired.bits());
-    }
-
     fn push_head(&self, words: &mut SavedWords)
         requires room { words.old.items ≡ [] }
         requires quorum { IsSet self.now.quorum.items }
@@ -52,16 +39,10 @@ impl ClientState {
         words.push(self.clock);
         words.push(word_of_phase(self.phase));
         words.push(self.stamp);
-        self.push_sets(words);
-    }
-
-    fn push_votes(&self, words: &mut SavedWords)
-        requires room { array_vec_len words.old + 128 ≤ 138 }
-        ensures votes { words.new.items ≡ words.old.items ++ (self.now.held ++ self.now.last) }
-        ensures len { array_vec_len words.new ≡ array_vec_len words.old + 128 }
-    {
-        let _ = words.try_extend_from_slice(&self.held);
-        let _ = words.try_extend_from_slice(&self.last);
+        words.push(bits_of(self.quorum.as_slice()));
+        words.push(self.failed.bits());
+        words.push(self.relinquished.bits());
+        words.push(self.inquired.bits());
     }
 
     /// Writes the numbers of the client.
@@ -74,7 +55,8 @@ impl ClientState {
     {
         words.clear();
         self.push_head(words);
-        self.push_votes(words);
+        let _ = words.try_extend_from_slice(&self.held);
+        let _ = words.try_extend_from_slice(&self.last);
     }
 
     /// Forgets all but the least.
@@ -88,6 +70,16 @@ impl ClientState {
         self.failed = QSet::empty();
         self.relinquished = QSet::empty();
         self.inquired = QSet::empty();
+    }
+
+    fn is_saved_as(&self, words: &[u64]) -> bool
+        requires quorum { IsSet self.now.quorum.items }
+        ensures text { IsTrue result → words.now ≡ words_of self.now }
+        ensures read { words.now ≡ words_of self.now → IsTrue result }
+    {
+        let mut own = ArrayVec::new();
+        self.save(&mut own);
+        own.as_slice() == words
     }
 
     fn has_sound_numbers(&self) -> bool
@@ -156,44 +148,29 @@ impl ClientState {
         if words.len() != SAVED_WORDS {
             return None;
         }
-        let (head, lists) = words.split_at(10);
-        let (held, last) = lists.split_at(MAX_VOTERS);
-        let Some(client) = client_of(head, grants_of(held), grants_of(last)) else {
-            return None;
-        };
-        if_sound(client)
+        if_saved(client_of(words), words)
     }
 }
 
-/// Returns the set with these members.
-pub fn set_of(members: &[u8]) -> QSet
+/// Returns the bits of the set with these members.
+pub fn bits_of(members: &[u8]) -> u64
     requires { IsSet members.now }
-    ensures { result ≡ members.now }
+    ensures { result ≡ word_of members.now }
 {
-    let mut set = QSet::empty();
+    let mut bits = 0;
     for v in members {
-        set.insert(*v);
+        bits += 1u64 << *v;
     }
-    set
+    bits
 }
 
 /// Returns the set with these bits.
-#[tactic(auto, using(crate::proofs::SavedLemmas::set_again, crate::proofs::SavedLemmas::word_again))]
-fn set_of_word(word: u64) -> QSet
-    ensures text { word ≡ word_of result }
+#[tactic(auto, using(crate::proofs::SavedLemmas::set_again))]
+fn set_of(bits: u64) -> QSet
     ensures set { IsSet result }
-    ensures read { (s : List ℕ) → IsSet s → word ≡ word_of s → result ≡ s }
+    ensures read { (s : List ℕ) → IsSet s → bits ≡ word_of s → result ≡ s }
 {
-    QSet::of_bits(word)
-}
-
-/// Returns the members of the set with these bits.
-fn members_of_word(word: u64) -> Members
-    ensures text { word ≡ word_of result.items }
-    ensures set { IsSet result.items }
-    ensures read { (s : List ℕ) → IsSet s → word ≡ word_of s → result.items ≡ s }
-{
-    set_of_word(word).members()
+    QSet::of_bits(bits)
 }
 
 fn word_of_phase(phase: Phase) -> u64
@@ -206,83 +183,54 @@ fn word_of_phase(phase: Phase) -> u64
     }
 }
 
-fn phase_of(word: u64) -> Option<Phase>
-    ensures text { IfSome result (λ p. word ≡ phase_word p) }
-    ensures read { (p : Phase) → word ≡ phase_word p → result ≡ Some p }
+fn phase_of(word: u64) -> Phase
+    ensures { (p : Phase) → word ≡ phase_word p → result ≡ p }
 {
     match word {
-        0 => Some(Phase::Idle),
-        1 => Some(Phase::Asking),
-        2 => Some(Phase::Inside),
-        _ => None,
+        0 => Phase::Idle,
+        1 => Phase::Asking,
+        _ => Phase::Inside,
     }
 }
 
-fn grants_of(words: &[u64]) -> [u64; MAX_VOTERS]
-    requires { length words.now ≡ max_voters }
-    ensures { result ≡ words.now }
+/// Returns the client with these numbers, and any client if they are those of none.
+fn client_of(words: &[u64]) -> ClientState
+    requires { length words.now ≡ 138 }
+    ensures id { result.id < max_clients }
+    ensures quorum { IsSet result.quorum.items }
+    ensures sets { HasSets result }
+    ensures read { (x : ClientState) → IsKept x → words.now ≡ words_of x → result ≡ x }
 {
-    let mut grants = [0; MAX_VOTERS];
-    grants.copy_from_slice(words);
-    grants
-}
-
-/// Returns the client with these first numbers and these grants. It need not be sound.
-fn client_of(head: &[u64], held: [u64; MAX_VOTERS], last: [u64; MAX_VOTERS]) -> Option<ClientState>
-    ensures head { IfSome result (λ x. head.now ≡ head_words x) }
-    ensures held { IfSome result (λ x. x.held ≡ held) }
-    ensures last { IfSome result (λ x. x.last ≡ last) }
-    ensures id { IfSome result (λ x. x.id < max_clients) }
-    ensures quorum { IfSome result (λ x. IsSet x.quorum.items) }
-    ensures sets { IfSome result HasSets }
-    ensures read { (x : ClientState) → IsKept x → head.now ≡ head_words x → held ≡ x.held → last ≡ x.last
-        → result ≡ Some x }
-{
-    let [
-        header,
-        id,
-        limit,
-        clock,
-        phase,
-        stamp,
-        quorum,
-        failed,
-        relinquished,
-        inquired,
-    ] = head
-    else {
-        return None;
-    };
-    if *header != HEADER || *id >= 64 {
-        return None;
-    }
-    let phase = phase_of(*phase)?;
-    Some(ClientState {
-        id: *id as u8,
-        limit: *limit,
-        clock: *clock,
-        phase,
-        stamp: *stamp,
-        quorum: members_of_word(*quorum),
+    let mut held = [0; MAX_VOTERS];
+    held.copy_from_slice(&words[10..74]);
+    let mut last = [0; MAX_VOTERS];
+    last.copy_from_slice(&words[74..138]);
+    ClientState {
+        id: (words[1] % 64) as u8,
+        limit: words[2],
+        clock: words[3],
+        phase: phase_of(words[4]),
+        stamp: words[5],
+        quorum: set_of(words[6]).members(),
         held,
         last,
-        failed: set_of_word(*failed),
-        relinquished: set_of_word(*relinquished),
-        inquired: set_of_word(*inquired),
-    })
+        failed: set_of(words[7]),
+        relinquished: set_of(words[8]),
+        inquired: set_of(words[9]),
+    }
 }
 
-/// Returns the client if it is sound.
-fn if_sound(client: ClientState) -> Option<ClientState>
+/// Returns the client if it is sound and has these numbers.
+fn if_saved(client: ClientState, words: &[u64]) -> Option<ClientState>
     requires id { client.id < max_clients }
     requires places { HasPlaces client }
     requires quorum { IsSet client.quorum.items }
     requires sets { HasSets client }
     ensures kept { IfSome result IsKept }
-    ensures same { IfSome result (λ x. x ≡ client) }
-    ensures read { IsSound client → result ≡ Some client }
+    ensures text { IfSome result (λ x. words.now ≡ words_of x) }
+    ensures read { IsKept client → words.now ≡ words_of client → result ≡ Some client }
 {
-    if client.is_sound() {
+    if client.is_sound() && client.is_saved_as(words) {
         return Some(client);
     }
     None

@@ -1,13 +1,12 @@
 //! A voter as numbers, to be saved and restored, and the least of it.
-ghost use Rattle.std.specs.Prelude.{◌≡◌, ◌<◌, ◌≤◌, ◌+◌, ◌++◌, ◌∷◌, [], ℕ, Bool, Option, IsTrue, IfSome, Some, None, length, slice_index};
+ghost use Rattle.std.specs.Prelude.{◌≡◌, ◌<◌, ◌≤◌, ◌+◌, ◌++◌, ◌∷◌, [], ℕ, Option, IsTrue, IfSome, Some, None, length, slice_index};
 ghost use Rattle.std.specs.FinMap as map;
 ghost use Rattle.arrayvec.specs.ArrayVec.{array_vec_len};
 ghost use Rattle.numbers.specs.Bounds.{max_clients, max_voters};
 ghost use Rattle.voter.specs.declared.state.Grant.{Grant};
 ghost use Rattle.voter.specs.declared.state.VoterState.{VoterState};
-ghost use Rattle.voter.specs.Steps.{IsSound};
 ghost use Rattle.voter.specs.Waiting.{waiting_words};
-ghost use Rattle.voter.specs.Saved.{IsHolder, IsKept, grant_words, head_words, least_voter, stamp_of_word, truth_word, words_of};
+ghost use Rattle.voter.specs.Saved.{IsHolder, IsKept, grant_words, head_words, least_voter, stamp_of_word, words_of};
 
 use crate::queue::Queue;
 use crate::state::{Grant, VoterState};
@@ -47,15 +46,9 @@ impl VoterState {
         ensures waiting { words.new.items ≡ words.old.items ++ waiting_words self.now.waiting }
         ensures len { array_vec_len words.new ≡ array_vec_len words.old + max_clients }
     {
-        let _ = words.try_extend_from_slice(&self.waiting.stamps());
-    }
-
-    fn push_finished(&self, words: &mut SavedWords)
-        requires room { array_vec_len words.old + max_clients ≤ 138 }
-        ensures finished { words.new.items ≡ words.old.items ++ self.now.finished }
-        ensures len { array_vec_len words.new ≡ array_vec_len words.old + max_clients }
-    {
-        let _ = words.try_extend_from_slice(&self.finished);
+        for client in 0..64u8 {
+            words.push(self.waiting.stamp_of(client).unwrap_or(0));
+        }
     }
 
     /// Writes the numbers of the voter.
@@ -67,7 +60,7 @@ impl VoterState {
         words.clear();
         self.push_head(words);
         self.push_waiting(words);
-        self.push_finished(words);
+        let _ = words.try_extend_from_slice(&self.finished);
     }
 
     /// Forgets all but the least.
@@ -80,9 +73,39 @@ impl VoterState {
         self.seen = 0;
     }
 
+    fn is_saved_as(&self, words: &[u64]) -> bool
+        ensures text { IsTrue result → words.now ≡ words_of self.now }
+        ensures read { words.now ≡ words_of self.now → IsTrue result }
+    {
+        let mut own = ArrayVec::new();
+        self.save(&mut own);
+        own.as_slice() == words
+    }
+
+    /// Returns whether the grant, the number of grants and the waiting requests are those of a sound
+    /// voter.
+    #[tactic(auto, using(crate::proofs::SavedLemmas::nobody_waits))]
+    fn has_sound_vote(&self) -> bool
+        ensures holder { IsTrue result → IsHolder self.now.held }
+        ensures numbered { IsTrue result → (g : Grant) → self.now.held ≡ Some g → g.grant ≤ self.now.granted }
+        ensures apart { IsTrue result → (g : Grant) → self.now.held ≡ Some g → map.get self.now.waiting g.client ≡ None }
+        ensures free { IsTrue result → self.now.held ≡ None → (client : ℕ) → map.get self.now.waiting client ≡ None }
+        ensures read { IsKept self.now → IsTrue result }
+    {
+        match self.held {
+            Some(g) => {
+                g.client < 64
+                    && g.stamp > 0
+                    && g.grant > 0
+                    && g.grant <= self.granted
+                    && self.waiting.stamp_of(g.client).is_none()
+            }
+            None => self.waiting.front().is_none(),
+        }
+    }
+
     /// Returns the voter with these numbers, if they are those of a sound voter.
     pub fn restore(words: &[u64]) -> Option<VoterState>
-        ensures sound { IfSome result IsSound }
         ensures kept { IfSome result IsKept }
         ensures text { IfSome result (λ v. words.now ≡ words_of v) }
         ensures read { (v : VoterState) → IsKept v → words.now ≡ words_of v → result ≡ Some v }
@@ -90,9 +113,7 @@ impl VoterState {
         if words.len() != SAVED_WORDS {
             return None;
         }
-        let (head, lists) = words.split_at(10);
-        let (waiting, finished) = lists.split_at(MAX_CLIENTS);
-        head_of(head, queue_of(waiting), stamps_of(finished))
+        if_saved(voter_of(words), words)
     }
 }
 
@@ -139,101 +160,66 @@ fn add(queue: &mut Queue, client: u8, stamp: u64)
     }
 }
 
-fn stamps_of(words: &[u64]) -> [u64; MAX_CLIENTS]
-    requires { length words.now ≡ max_clients }
-    ensures { result ≡ words.now }
+/// Returns the number of a voter or a client that a word is.
+fn number_of(word: u64) -> u8
+    ensures below { result < 64 }
+    ensures read { word < 64 → result ≡ word }
 {
-    let mut stamps = [0; MAX_CLIENTS];
-    stamps.copy_from_slice(words);
-    stamps
+    (word % 64) as u8
 }
 
-fn truth_of(word: u64) -> Option<bool>
-    ensures text { IfSome result (λ b. word ≡ truth_word b) }
-    ensures read { (b : Bool) → word ≡ truth_word b → result ≡ Some b }
+/// Returns the grant with these numbers, none if the first is 0.
+fn grant_of(mark: u64, client: u64, stamp: u64, grant: u64) -> Option<Grant>
+    ensures { (held : Option Grant) → IsHolder held → mark ∷ client ∷ stamp ∷ grant ∷ [] ≡ grant_words held
+        → result ≡ held }
 {
-    match word {
-        0 => Some(false),
-        1 => Some(true),
-        _ => None,
+    if mark == 0 {
+        return None;
     }
-}
-
-/// Returns the grant with these numbers, or none for four times 0; `None` for any other numbers.
-fn grant_of(mark: u64, client: u64, stamp: u64, grant: u64) -> Option<Option<Grant>>
-    ensures holder { IfSome result IsHolder }
-    ensures text { IfSome result (λ held. mark ∷ client ∷ stamp ∷ grant ∷ [] ≡ grant_words held) }
-    ensures read { (held : Option Grant) → IsHolder held → mark ∷ client ∷ stamp ∷ grant ∷ [] ≡ grant_words held
-        → result ≡ Some held }
-{
-    match mark {
-        0 if client == 0 && stamp == 0 && grant == 0 => Some(None),
-        1 if client < 64 && stamp > 0 && grant > 0 => Some(Some(Grant {
-            client: client as u8,
-            stamp,
-            grant,
-        })),
-        _ => None,
-    }
-}
-
-/// Returns whether the grant, the number of grants and the waiting requests are those of a sound
-/// voter.
-#[tactic(auto, using(crate::proofs::SavedLemmas::nobody_waits))]
-fn go_together(held: &Option<Grant>, granted: u64, waiting: &Queue) -> bool
-    ensures numbered { IsTrue result → (g : Grant) → held.now ≡ Some g → g.grant ≤ granted }
-    ensures apart { IsTrue result → (g : Grant) → held.now ≡ Some g → map.get waiting.now g.client ≡ None }
-    ensures free { IsTrue result → held.now ≡ None → (client : ℕ) → map.get waiting.now client ≡ None }
-    ensures read { (v : VoterState) → IsSound v → held.now ≡ v.held → granted ≡ v.granted → waiting.now ≡ v.waiting → IsTrue result }
-{
-    match held {
-        Some(g) => g.grant <= granted && waiting.stamp_of(g.client).is_none(),
-        None => waiting.front().is_none(),
-    }
-}
-
-/// Returns the voter with these first numbers, these requests and these finished stamps.
-fn head_of(head: &[u64], waiting: Queue, finished: [u64; MAX_CLIENTS]) -> Option<VoterState>
-    ensures sound { IfSome result IsSound }
-    ensures id { IfSome result (λ v. v.id < max_voters) }
-    ensures holder { IfSome result (λ v. IsHolder v.held) }
-    ensures head { IfSome result (λ v. head.now ≡ head_words v) }
-    ensures waiting { IfSome result (λ v. v.waiting ≡ waiting) }
-    ensures finished { IfSome result (λ v. v.finished ≡ finished) }
-    ensures read { (v : VoterState) → IsKept v → head.now ≡ head_words v → waiting ≡ v.waiting → finished ≡ v.finished
-        → result ≡ Some v }
-{
-    let [
-        header,
-        id,
-        limit,
-        granted,
-        seen,
-        inquiring,
-        mark,
-        client,
+    Some(Grant {
+        client: number_of(client),
         stamp,
         grant,
-    ] = head
-    else {
-        return None;
-    };
-    if *header != HEADER || *id >= 64 || *limit > MAX_STAMP || *granted > *limit {
-        return None;
-    }
-    let held = grant_of(*mark, *client, *stamp, *grant)?;
-    let inquiring = truth_of(*inquiring)?;
-    if !go_together(&held, *granted, &waiting) {
-        return None;
-    }
-    Some(VoterState {
-        id: *id as u8,
-        limit: *limit,
-        held,
-        inquiring,
-        waiting,
-        finished,
-        granted: *granted,
-        seen: *seen,
     })
+}
+
+/// Returns the voter with these numbers, and any voter if they are those of none.
+fn voter_of(words: &[u64]) -> VoterState
+    requires { length words.now ≡ 138 }
+    ensures id { result.id < max_voters }
+    ensures stamped { (c s : ℕ) → map.get result.waiting c ≡ Some s → 1 ≤ s }
+    ensures few { (c : ℕ) → max_clients ≤ c → map.get result.waiting c ≡ None }
+    ensures read { (v : VoterState) → IsKept v → words.now ≡ words_of v → result ≡ v }
+{
+    let mut finished = [0; MAX_CLIENTS];
+    finished.copy_from_slice(&words[74..138]);
+    VoterState {
+        id: number_of(words[1]),
+        limit: words[2],
+        granted: words[3],
+        seen: words[4],
+        inquiring: words[5] == 1,
+        held: grant_of(words[6], words[7], words[8], words[9]),
+        waiting: queue_of(&words[10..74]),
+        finished,
+    }
+}
+
+/// Returns the voter if it is sound and has these numbers.
+fn if_saved(voter: VoterState, words: &[u64]) -> Option<VoterState>
+    requires id { voter.id < max_voters }
+    requires stamped { (c s : ℕ) → map.get voter.waiting c ≡ Some s → 1 ≤ s }
+    requires few { (c : ℕ) → max_clients ≤ c → map.get voter.waiting c ≡ None }
+    ensures kept { IfSome result IsKept }
+    ensures text { IfSome result (λ v. words.now ≡ words_of v) }
+    ensures read { IsKept voter → words.now ≡ words_of voter → result ≡ Some voter }
+{
+    if voter.limit <= MAX_STAMP
+        && voter.granted <= voter.limit
+        && voter.has_sound_vote()
+        && voter.is_saved_as(words)
+    {
+        return Some(voter);
+    }
+    None
 }

@@ -1,9 +1,8 @@
-use Rattle.std.proofs.Common.{ap, ◌∙◌, arith}
-use Rattle.std.proofs.lemmas.Bool.Decides.{nat_tests}
+use Rattle.std.proofs.Common.{ap, ◌∙◌}
 use Rattle.std.specs.Prelude.{slice_index}
 use Rattle.std.specs.FinMap.{get}
 use Rattle.voter.specs.Saved.{stamp_of_word}
-use Rattle.voter.proofs.SavedLemmas.{Fills-start, Fills-step}
+use Rattle.voter.proofs.SavedLemmas.{Fills-first, Fills-start, Fills-step}
 use Rattle.voter.proofs.saved.queue_of.Goals as goal
 
 pub loop-client-init : goal.loop-client-init
@@ -14,4 +13,4 @@ loop-client-preserved c = Fills-step c.loop-client.queue c.add.new.queue c.args.
     c.stamp_at-stamp.ensures c.add.ensures.some c.add.ensures.none
 
 pub add-requires-clause-first : goal.add-requires-clause-first
-add-requires-clause-first c = c.loop-client.invariant c.loop-client.client ∙ grind (arith, nat_tests)
+add-requires-clause-first c = Fills-first c.loop-client.queue (λ k. stamp_of_word (slice_index c.args.words.now k)) c.loop-client.client c.loop-client.invariant
