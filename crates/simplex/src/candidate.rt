@@ -4,9 +4,8 @@ ghost use Rattle.quorum_set.specs.Capacities.{AreCapacities};
 ghost use Rattle.simplex.specs.Pivots.{NamesAtMost};
 
 use crate::choice::{Rule, entering, first_entering};
-use crate::fault::SimplexFault;
+use crate::fault::{Halt, SimplexFault};
 use crate::method::Method;
-use fraction::FracFault;
 use quorum_set::Coterie;
 use std::alloc::Global;
 
@@ -46,7 +45,7 @@ fn overflow(method: &Method) -> SimplexFault
 
 /// Makes one pivot if one is needed: by the rule, or by Bland's rule after 2n pivots in a row that
 /// stalled, for n voters.
-fn make_step(method: &mut Method, rule: Rule, stalled: usize) -> Result<Step, FracFault>
+fn make_step(alloc: Global, method: &mut Method, rule: Rule, stalled: usize) -> Result<Step, Halt>
     requires { method.old.made + 1 < 2 ^ 32 }
     ensures coterie { method.new.coterie ≡ method.old.coterie }
     ensures made { method.new.made ≤ method.old.made + 1 }
@@ -63,7 +62,7 @@ fn make_step(method: &mut Method, rule: Rule, stalled: usize) -> Result<Step, Fr
     let Some(exit) = method.leaving()? else {
         return Ok(Step::NoRow);
     };
-    method.pivot(exit.row, column)?;
+    method.pivot(alloc, exit.row, column)?;
     Ok(if exit.right == 0 {
         Step::Stalled
     } else {
@@ -72,7 +71,7 @@ fn make_step(method: &mut Method, rule: Rule, stalled: usize) -> Result<Step, Fr
 }
 
 /// Pivots until no column improves the solution.
-fn improve(method: &mut Method, rule: Rule, pivots: u32) -> Result<(), SimplexFault>
+fn improve(alloc: Global, method: &mut Method, rule: Rule, pivots: u32) -> Result<(), SimplexFault>
     requires { method.old.made ≡ 0 }
     ensures coterie { method.new.coterie ≡ method.old.coterie }
     ensures limit { method.new.made ≤ pivots }
@@ -80,12 +79,13 @@ fn improve(method: &mut Method, rule: Rule, pivots: u32) -> Result<(), SimplexFa
 {
     let mut stalled = 0usize;
     for step in 0..pivots {
-        match make_step(method, rule, stalled) {
+        match make_step(alloc, method, rule, stalled) {
             Ok(Step::Best) => return Ok(()),
             Ok(Step::NoRow) => return Err(SimplexFault::NoRow),
             Ok(Step::Stalled) => stalled = stalled.saturating_add(1),
             Ok(Step::Improved) => stalled = 0,
-            Err(_) => return Err(overflow(method)),
+            Err(Halt::Overflow) => return Err(overflow(method)),
+            Err(Halt::OutOfMemory) => return Err(SimplexFault::OutOfMemory),
         }
     }
     match first_entering(method) {
@@ -173,7 +173,7 @@ pub fn solve_by(
     ensures refused { IfErr result (NamesAtMost pivots) }
 {
     let mut method = Method::of(alloc, coterie, capacities)?;
-    improve(&mut method, rule, pivots)?;
+    improve(alloc, &mut method, rule, pivots)?;
     let quorum_weights = quorum_weights(alloc, &method, coterie.count())?;
     let voter_weights = voter_weights(alloc, &method)?;
     let made = method.made();

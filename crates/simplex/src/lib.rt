@@ -24,9 +24,12 @@
 
 mod candidate;
 mod choice;
+mod exact;
 mod fault;
 mod method;
+mod narrow;
 mod tableau;
+mod wide;
 
 pub use candidate::{Candidate, solve, solve_by};
 pub use choice::Rule;

@@ -4,6 +4,7 @@ ghost use Rattle.std.specs.List.{All};
 ghost use Rattle.numbers.specs.Bounds.{max_voters, max_quorums};
 ghost use Rattle.quorum_set.specs.Capacities.{AreCapacities};
 
+use crate::fault::Halt;
 use crate::tableau::Tableau;
 use fraction::FracFault;
 use quorum_set::Coterie;
@@ -222,14 +223,14 @@ impl<'a> Method<'a> {
     }
 
     /// Solves a row for the column that enters, whose number is `column`.
-    pub(crate) fn pivot(&mut self, row: usize, column: usize) -> Result<(), FracFault>
+    pub(crate) fn pivot(&mut self, alloc: Global, row: usize, column: usize) -> Result<(), Halt>
         requires row { row < self.old.coterie.now.voters }
         requires made { self.old.made + 1 < 2 ^ 32 }
         ensures coterie { self.new.coterie ≡ self.old.coterie }
         ensures counted { OnOk result (self.new.made ≡ self.old.made + 1) }
         ensures same { OnErr result (self.new.made ≡ self.old.made) }
     {
-        self.tableau.pivot(row)?;
+        self.tableau.pivot(alloc, row)?;
         self.basis[row] = column;
         self.made += 1;
         Ok(())

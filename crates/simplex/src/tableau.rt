@@ -1,66 +1,25 @@
 //! The tableau of the revised simplex method.
-ghost use Rattle.std.specs.Prelude.{◌≡◌, ◌+◌, ◌<◌, ◌≤◌, ℕ, length, IfOk};
+ghost use Rattle.std.specs.Prelude.{◌≡◌, ◌+◌, ◌<◌, ◌≤◌, length, IfOk};
+ghost use Rattle.std.specs.Option.{ForSome};
 ghost use Rattle.std.specs.List.{All};
 ghost use Rattle.numbers.specs.Bounds.{max_voters};
-ghost use Rattle.fraction.specs.Tables.{row_of, entry_at};
-ghost use Rattle.simplex.specs.Starts.{IsStartRow, AreStartRows};
 
-use fraction::{FracFault, Shared};
+use crate::fault::Halt;
+use crate::narrow::Narrow;
+use crate::wide::Wide;
+use fraction::FracFault;
 use std::alloc::{AllocError, Global};
 
-/// A row for each voter and one for the objective, over one denominator. The columns are a slack
-/// for each voter, the right side, the unit, and the column that enters. A voter's row says that
-/// the quorums with the voter, and its slack, sum to the right side. The objective's row has the
-/// prices: by how much the sum of all quorums grows for each unit of a column.
-///
-/// The columns of the quorums are not stored. The unit is 1 in the objective's row and 0 in the
-/// others, before each pivot and after it. So a quorum's column is the sum of its members' slacks
-/// and of the unit.
+/// The tableau: in 64 bits until a number does not fit, and in 128 bits from then on.
 #[derive(Drop)]
 pub(crate) struct Tableau {
     voters: usize,
-    cells: Shared,
+    narrow: Narrow,
+    /// The tableau that counts, if there is one.
+    wide: Option<Wide>,
     ghost few_voters: { voters ≤ max_voters },
-    ghost rows: { length cells.rows ≡ voters + 1 },
-    ghost columns: { (i : ℕ) → i < voters + 1 → length (row_of cells i) ≡ voters + 3 },
-}
-
-/// Returns a row of zeros, with a one in one column and this number in another.
-fn row_with(
-    alloc: Global,
-    columns: usize,
-    one: usize,
-    other: usize,
-    number: u64,
-) -> Result<Vec<i128>, AllocError>
-    ensures { IfOk result (λ v. IsStartRow columns v.items) }
-{
-    let mut row = Vec::with_capacity(alloc, columns)?;
-    for column in 0..columns {
-        row.push(if column == one {
-            1
-        } else if column == other {
-            i128::from(number)
-        } else {
-            0
-        })?;
-    }
-    Ok(row)
-}
-
-/// Returns the rows before the first pivot: no quorum is used, and each voter's slack is the
-/// voter's capacity. The right side of the objective's row is 0.
-fn start_rows(alloc: Global, capacities: &[u64]) -> Result<Vec<Vec<i128>>, AllocError>
-    requires { length capacities.now ≤ max_voters }
-    ensures { IfOk result (λ v. AreStartRows (length capacities.now + 1) (length capacities.now + 3) v.items) }
-{
-    let voters = capacities.len();
-    let mut rows = Vec::with_capacity(alloc, voters + 1)?;
-    for (voter, capacity) in capacities.iter().enumerate() {
-        rows.push(row_with(alloc, voters + 3, voter, voters, *capacity)?)?;
-    }
-    rows.push(row_with(alloc, voters + 3, voters + 1, voters, 0)?)?;
-    Ok(rows)
+    ghost narrow_voters: { narrow.voters ≡ voters },
+    ghost wide_voters: { ForSome wide (λ w. w.voters ≡ voters) },
 }
 
 impl Tableau {
@@ -69,10 +28,10 @@ impl Tableau {
         requires { length capacities.now ≤ max_voters }
         ensures { IfOk result (λ t. t.voters ≡ length capacities.now) }
     {
-        let rows = start_rows(alloc, capacities)?;
         Ok(Tableau {
             voters: capacities.len(),
-            cells: Shared::of(rows, 1),
+            narrow: Narrow::of(alloc, capacities)?,
+            wide: None,
         })
     }
 
@@ -84,33 +43,46 @@ impl Tableau {
         self.voters
     }
 
+    /// Returns the entry at a place: a whole number over the denominator.
+    fn entry(&self, row: usize, column: usize) -> i128
+        requires row { row ≤ self.now.voters }
+        requires column { column < self.now.voters + 3 }
+    {
+        match &self.wide {
+            Some(wide) => wide.entry(row, column),
+            None => i128::from(self.narrow.entry(row, column)),
+        }
+    }
+
     /// Returns the right side of a row: a whole number over the denominator, as are all entries.
     pub(crate) fn right_side(&self, row: usize) -> i128
         requires { row ≤ self.now.voters }
     {
-        self.cells.entry(row, self.voters)
+        self.entry(row, self.voters)
     }
 
     /// Returns a row's entry in the column that enters.
     pub(crate) fn entering(&self, row: usize) -> i128
         requires { row ≤ self.now.voters }
-        ensures { result ≡ entry_at self.now.cells row (self.now.voters + 2) }
     {
-        self.cells.entry(row, self.voters + 2)
+        self.entry(row, self.voters + 2)
     }
 
     /// Returns the price of a voter's slack.
     pub(crate) fn slack_price(&self, voter: usize) -> i128
         requires { voter < self.now.voters }
     {
-        self.cells.entry(self.voters, voter)
+        self.entry(self.voters, voter)
     }
 
     /// Returns the price of the sum of some columns.
     pub(crate) fn price(&self, columns: &[usize]) -> Result<i128, FracFault>
         requires { All (λ j. j < self.now.voters + 3) columns.now }
     {
-        self.cells.sum(self.voters, columns)
+        match &self.wide {
+            Some(wide) => wide.price(columns),
+            None => Ok(i128::from(self.narrow.price(columns))),
+        }
     }
 
     /// Makes the sum of some columns the column that enters.
@@ -118,18 +90,30 @@ impl Tableau {
         requires { All (λ j. j < self.old.voters + 3) columns.now }
         ensures { self.new.voters ≡ self.old.voters }
     {
-        self.cells.sum_columns(columns, self.voters + 2)
+        match &mut self.wide {
+            Some(wide) => wide.enter(columns),
+            None => {
+                self.narrow.enter(columns);
+                Ok(())
+            }
+        }
     }
 
     /// Solves a voter's row for the column that enters. Fails with `Overflow` if the row's entry
     /// there is not positive, or if a number does not fit.
-    pub(crate) fn pivot(&mut self, row: usize) -> Result<(), FracFault>
+    pub(crate) fn pivot(&mut self, alloc: Global, row: usize) -> Result<(), Halt>
         requires { row < self.old.voters }
         ensures { self.new.voters ≡ self.old.voters }
     {
-        if self.entering(row) <= 0 {
-            return Err(FracFault::Overflow);
+        if self.wide.is_none() {
+            if self.narrow.pivot(row) {
+                return Ok(());
+            }
+            self.wide = Some(Wide::of(alloc, &self.narrow)?);
         }
-        self.cells.pivot(row, self.voters + 2)
+        if let Some(wide) = &mut self.wide {
+            wide.pivot(row)?;
+        }
+        Ok(())
     }
 }

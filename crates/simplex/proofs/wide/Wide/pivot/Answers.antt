@@ -1,8 +1,8 @@
 use Rattle.simplex.proofs.Shapes.{HasSize-pivot, positive_entry}
-use Rattle.simplex.proofs.tableau.Tableau.pivot.Goals as goal
+use Rattle.simplex.proofs.wide.Wide.pivot.Goals as goal
 
 pub pivot-requires-clause-positive : goal.pivot-requires-clause-positive
-pivot-requires-clause-positive c = positive_entry c.entering.result _ c.if-entering-le0.false (record { sfits = c.entering.type_inv }) c.entering.ensures
+pivot-requires-clause-positive c = positive_entry c.entry.result _ c.if-entry-le0.false (record { sfits = c.entry.type_inv }) c.entry.ensures
 
 pub invariant_of-self : goal.invariant_of-self
 invariant_of-self c =

@@ -1,9 +1,0 @@
-use Rattle.std.proofs.Common.{◌≡◌, ℕ, ◌<◌, pos, get_or, vec_len}
-use Rattle.fraction.specs.Fractions.{Fits}
-use Rattle.simplex.proofs.tableau.row_with.Given as goal
-
-abbrev pub invariant-loop-column : goal.invariant-loop-column
-invariant-loop-column l = record {
-  count : vec_len l.row ≡ l.column;
-  fits : (j : ℕ) → j < l.column → Fits (get_or l.row.items j (pos 0));
-}
