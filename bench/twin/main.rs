@@ -12,11 +12,12 @@ mod coterie;
 mod plan;
 mod run;
 mod steps;
+mod text;
 mod world;
 
 use coterie::{members, Coterie};
 use plan::Plan;
-use std::fmt::Write as _;
+use text::Text;
 use std::io::{Read, Write};
 use std::process::ExitCode;
 use std::sync::Mutex;
@@ -36,14 +37,14 @@ fn planned(text: &str) -> Option<(Coterie, Plan, &str)> {
     Some((coterie, plan, rest))
 }
 
-fn deal(coterie: &Coterie, plan: &Plan, count: usize) -> String {
+fn deal(coterie: &Coterie, plan: &Plan, count: usize) -> Text {
     let places = plan.places();
-    let mut text = String::new();
+    let mut text = Text::with_capacity(16 * count);
     let mut counts = vec![0u64; coterie.quorums.len()];
-    for ticket in 0..count {
-        let quorum = places[ticket % places.len()];
+    for (ticket, &quorum) in (0..count).zip(places.iter().cycle()) {
         counts[quorum] += 1;
-        let _ = writeln!(text, "{ticket} {quorum}");
+        text.number(ticket as u64);
+        text.line("", &[quorum as u64]);
     }
     let mut voters = vec![0; coterie.names.len()];
     for (quorum, count) in coterie.quorums.iter().zip(counts) {
@@ -52,9 +53,10 @@ fn deal(coterie: &Coterie, plan: &Plan, count: usize) -> String {
         }
     }
     for (name, count) in coterie.names.iter().zip(&voters) {
-        let _ = writeln!(text, "voter {name} {count}");
+        text.word("voter ");
+        text.line(name, &[*count]);
     }
-    let _ = writeln!(text, "busiest {}", voters.iter().max().unwrap_or(&0));
+    text.line("busiest", &[*voters.iter().max().unwrap_or(&0)]);
     text
 }
 
@@ -73,41 +75,41 @@ fn counter(threads: u64, passes: u64) -> String {
     format!("register {count}\n")
 }
 
-fn answer(words: &[&str]) -> Option<String> {
+fn answer(words: &[&str]) -> Option<Vec<u8>> {
     Some(match words {
-        ["make", "majority", voters] => Coterie::majority(voters.parse().ok()?)?.write(),
-        ["make", "wheel", rims] => Coterie::wheel(rims.parse().ok()?)?.write(),
-        ["plan"] => Plan::of(&Coterie::read(&input()?)?)?.write(),
+        ["make", "majority", voters] => Coterie::majority(voters.parse().ok()?)?.write().into_bytes(),
+        ["make", "wheel", rims] => Coterie::wheel(rims.parse().ok()?)?.write().into_bytes(),
+        ["plan"] => Plan::of(&Coterie::read(&input()?)?)?.write().into_bytes(),
         ["check"] => {
             let text = input()?;
             let (_, plan, _) = planned(&text)?;
             let (p, q) = plan.load();
-            format!("load {p}/{q} cycle {}\n", plan.cycle)
+            format!("load {p}/{q} cycle {}\n", plan.cycle).into_bytes()
         }
         ["deal", count] => {
             let text = input()?;
             let (coterie, plan, _) = planned(&text)?;
-            deal(&coterie, &plan, count.parse().ok()?)
+            deal(&coterie, &plan, count.parse().ok()?).into_bytes()
         }
         ["world"] => {
             let text = input()?;
             let (coterie, plan, script) = planned(&text)?;
-            world::run(&coterie, &plan, script)?
+            world::run(&coterie, &plan, script)?.into_bytes()
         }
         ["run", clients, passes, turns] => {
             let text = input()?;
             let (coterie, plan, _) = planned(&text)?;
             let record = run::run(&coterie, &plan, clients.parse().ok()?, passes.parse().ok()?, turns.parse().ok()?);
-            run::text_of(&record)
+            run::text_of(&record).into_bytes()
         }
         ["passes", clients, passes] => {
             let coterie = Coterie::majority(3)?;
             let plan = Plan::of(&coterie)?;
             let record = run::run(&coterie, &plan, clients.parse().ok()?, passes.parse().ok()?, u64::MAX);
-            format!("register {}\n", record.register)
+            format!("register {}\n", record.register).into_bytes()
         }
-        ["steps", rounds] => steps::run(rounds.parse().ok()?),
-        ["counter", threads, passes] => counter(threads.parse().ok()?, passes.parse().ok()?),
+        ["steps", rounds] => steps::run(rounds.parse().ok()?).into_bytes(),
+        ["counter", threads, passes] => counter(threads.parse().ok()?, passes.parse().ok()?).into_bytes(),
         _ => return None,
     })
 }
@@ -116,7 +118,7 @@ fn main() -> ExitCode {
     let words: Vec<String> = env::args().skip(1).collect();
     let words: Vec<&str> = words.iter().map(String::as_str).collect();
     match answer(&words) {
-        Some(text) => match io::stdout().write_all(text.as_bytes()) {
+        Some(text) => match io::stdout().write_all(&text) {
             Ok(()) => ExitCode::SUCCESS,
             Err(_) => ExitCode::from(3),
         },
