@@ -9,6 +9,7 @@
 //! - `counter THREADS PASSES`: a counter behind a plain lock.
 mod automata;
 mod coterie;
+mod narrow;
 mod plan;
 mod run;
 mod steps;

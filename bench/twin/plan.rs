@@ -1,5 +1,6 @@
 //! Plans: their text, their certificate, the simplex method that finds them, and their cycles.
 use crate::coterie::{members, Coterie};
+use crate::narrow::Narrow;
 use std::fmt::Write;
 
 pub struct Plan {
@@ -99,7 +100,8 @@ impl Plan {
     pub fn of(coterie: &Coterie) -> Option<Plan> {
         let even = Plan::check(coterie, vec![1; coterie.quorums.len()], vec![1; coterie.names.len()]);
         even.or_else(|| {
-            let (mut quorum_weights, mut voter_weights) = Tableau::of(coterie).solve()?;
+            let (mut quorum_weights, mut voter_weights) =
+                Narrow::of(coterie).solve().or_else(|| Tableau::of(coterie).solve())?;
             divide(&mut quorum_weights);
             divide(&mut voter_weights);
             Plan::check(coterie, quorum_weights, voter_weights)
