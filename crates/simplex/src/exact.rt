@@ -1,5 +1,4 @@
 //! Exact division in 64 bits.
-ghost use Rattle.std.specs.Prelude.{◌≡◌};
 
 /// A divisor `2^twos * odd`, with the inverse of `odd` modulo 2^64.
 #[derive(Clone, Copy)]
@@ -31,12 +30,24 @@ impl Divisor {
         }
     }
 
-    /// Returns the quotient of a number that the divisor divides, if the quotient fits. It takes one
+    /// Returns the quotient of a number that the divisor divides, if the quotient fits, by one
     /// multiplication.
     pub(crate) fn quotient(self, number: i128) -> i64 {
         let shifted = number.wrapping_shr(self.twos).cast_unsigned();
         let low = (shifted & 0xffff_ffff_ffff_ffff) as u64;
         low.wrapping_mul(self.inverse).cast_signed()
+    }
+
+    /// Does the same for a number of 64 bits, if the quotient is below 2^24 in absolute value.
+    pub(crate) fn small_quotient(self, number: i64) -> i64 {
+        let shifted = number.wrapping_shr(self.twos).cast_unsigned();
+        shifted.wrapping_mul(self.inverse).cast_signed()
+    }
+
+    /// Returns whether the quotient times the divisor is the number, for a quotient of at most 24
+    /// bits and a divisor of at most 31.
+    pub(crate) fn is_small_quotient(self, quotient: i64, number: i64) -> bool {
+        quotient.wrapping_mul(self.number) == number
     }
 
     /// Returns whether the quotient times the divisor is the number.

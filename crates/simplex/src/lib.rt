@@ -6,9 +6,10 @@
 //! Wool, SIAM J. Comput. 27(2), 1998).
 //!
 //! Here Dantzig's simplex method solves the program, from the empty solution, in whole numbers over
-//! one denominator (`fraction::Shared`). Both solutions are read off the tableau as they are. The
-//! method is the revised one: only the columns of the voters' slacks are stored, since the quorums'
-//! columns are sums of them. So a pivot costs about the square of the number of voters.
+//! one denominator: in 64 bits, and in 128 bits (`fraction::Shared`) from the first pivot that does
+//! not fit. Both solutions are read off the tableau as they are. The method is the revised one: only
+//! the columns of the voters' slacks are stored, since the quorums' columns are sums of them. So a
+//! pivot costs about the square of the number of voters.
 //!
 //! Nothing is claimed about the numbers except how many there are. Whether they are a certificate
 //! is decided by `certificate::check`, so nobody has to trust the method. This crate depends on

@@ -10,14 +10,12 @@ use std::mem;
 /// Where the next row begins: the length of a row for 64 voters.
 const STRIDE: usize = 67;
 
-/// Entries are smaller than this in absolute value, and not less than its negative. So the sum of
-/// 65 of them fits into 64 bits.
+/// A bound on the entries after a pivot. The sum of 65 of them fits into 64 bits.
 const LIMIT: i64 = 1 << 56;
 
-/// The tableau of `Wide`, while its numbers fit into 64 bits. A pivot costs a few multiplications
-/// for each entry, and nothing is divided: by fraction-free elimination the entries stay whole over
-/// the last pivot's entry, which is the denominator (Edmonds, Systems of distinct representatives
-/// and linear algebra, 1967). Each quotient is tested by a multiplication.
+/// The tableau in 64 bits. A pivot takes a few multiplications for each entry, and no division: by
+/// fraction-free elimination each new entry is divided by the old denominator, which leaves no rest
+/// (Edmonds, Systems of distinct representatives and linear algebra, 1967).
 #[derive(Drop)]
 pub(crate) struct Narrow {
     voters: usize,
@@ -26,6 +24,8 @@ pub(crate) struct Narrow {
     /// Room for the rows after a pivot.
     room: Vec<i64>,
     den: i64,
+    /// Whether all entries are within `SMALL`, except those of the column that enters.
+    small: bool,
     ghost few_voters: { voters ≤ max_voters },
     ghost all: { vec_len cells ≡ (voters + 1) * 67 },
     ghost room_for_all: { vec_len room ≡ (voters + 1) * 67 },
@@ -51,13 +51,16 @@ fn sum_of(row: &[i64], columns: &[usize]) -> i64
     total
 }
 
-/// Returns whether the number is within the limit.
-fn is_small(number: i64) -> bool {
-    number < LIMIT && number >= -LIMIT
+/// A bound on entries whose products with a sum of 65 of them fit into 64 bits.
+const SMALL: i64 = 1 << 24;
+
+/// Returns whether a number is within a bound.
+fn is_within(number: i64, bound: i64) -> bool {
+    number < bound && number >= -bound
 }
 
-/// Subtracts `taken` times the pivot's row from `entry` times this row, and divides by the
-/// denominator. Writes the numbers into the room. Returns whether they are whole, and fit.
+/// Writes `entry` times a row less `taken` times the pivot's row, over the denominator. Returns
+/// whether these numbers are whole, and fit.
 fn eliminate(
     room: &mut [i64],
     row: &[i64],
@@ -74,13 +77,36 @@ fn eliminate(
         let scaled = i128::from(row[j]).wrapping_mul(i128::from(entry));
         let number = scaled.wrapping_sub(i128::from(taken).wrapping_mul(i128::from(pivot_row[j])));
         let quotient = den.quotient(number);
-        fits &= is_small(quotient) & den.is_quotient(quotient, number);
+        fits &= is_within(quotient, LIMIT) & den.is_quotient(quotient, number);
         *place = quotient;
     }
     fits
 }
 
-/// Writes a row that this one gives way to, and returns whether its numbers fit.
+/// Does the same for entries within `SMALL`, before the pivot and after it.
+fn eliminate_small(
+    room: &mut [i64],
+    row: &[i64],
+    pivot_row: &[i64],
+    entry: i64,
+    taken: i64,
+    den: Divisor,
+) -> bool
+    requires row { length row.now ≡ length room.old }
+    requires pivot_row { length pivot_row.now ≡ length room.old }
+{
+    let mut fits = true;
+    for (j, place) in room.iter_mut().enumerate() {
+        let scaled = row[j].wrapping_mul(entry);
+        let number = scaled.wrapping_sub(taken.wrapping_mul(pivot_row[j]));
+        let quotient = den.small_quotient(number);
+        fits &= is_within(quotient, SMALL) & den.is_small_quotient(quotient, number);
+        *place = quotient;
+    }
+    fits
+}
+
+/// Writes a row after the pivot, and returns whether its numbers fit.
 fn write_row(
     room: &mut [i64],
     cells: &[i64],
@@ -88,6 +114,7 @@ fn write_row(
     pivot_row: usize,
     columns: usize,
     den: Divisor,
+    small: bool,
 ) -> bool
     requires row { row * 67 + 67 ≤ length cells.now }
     requires pivot_row { pivot_row * 67 + 67 ≤ length cells.now }
@@ -103,7 +130,11 @@ fn write_row(
     }
     let other = row_of(cells, pivot_row, columns);
     let enters = columns - 1;
-    eliminate(place, own, other, other[enters], own[enters], den)
+    if small {
+        eliminate_small(place, own, other, other[enters], own[enters], den)
+    } else {
+        eliminate(place, own, other, other[enters], own[enters], den)
+    }
 }
 
 /// Writes all rows after the pivot, and returns whether their numbers fit.
@@ -114,6 +145,7 @@ fn write_rows(
     pivot_row: usize,
     columns: usize,
     den: Divisor,
+    small: bool,
 ) -> bool
     requires rows { length cells.now ≡ rows * 67 }
     requires pivot_row { pivot_row < rows }
@@ -122,7 +154,7 @@ fn write_rows(
 {
     let mut fits = true;
     for row in 0..rows {
-        fits &= write_row(room, cells, row, pivot_row, columns, den);
+        fits &= write_row(room, cells, row, pivot_row, columns, den, small);
     }
     fits
 }
@@ -166,6 +198,7 @@ impl Narrow {
             cells: start_cells(alloc, capacities)?,
             room: start_cells(alloc, capacities)?,
             den: 1,
+            small: true,
         })
     }
 
@@ -220,9 +253,14 @@ impl Narrow {
         ensures { self.new.voters ≡ self.old.voters }
     {
         let entry = self.entry(row, self.voters + 2);
-        let den = Divisor::of(self.den);
         let rows = self.voters + 1;
-        let fits = write_rows(&mut self.room, &self.cells, rows, row, rows + 2, den) & (entry > 0);
+        let den = Divisor::of(self.den);
+        if self.small {
+            self.small = write_rows(&mut self.room, &self.cells, rows, row, rows + 2, den, true);
+        }
+        let fits = (entry > 0)
+            & (self.small
+                || write_rows(&mut self.room, &self.cells, rows, row, rows + 2, den, false));
         if fits {
             mem::swap(&mut self.cells, &mut self.room);
             self.den = entry;

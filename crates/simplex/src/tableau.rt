@@ -10,7 +10,16 @@ use crate::wide::Wide;
 use fraction::FracFault;
 use std::alloc::{AllocError, Global};
 
-/// The tableau: in 64 bits until a number does not fit, and in 128 bits from then on.
+/// A row for each voter and one for the objective, over one denominator. The columns are a slack
+/// for each voter, the right side, the unit, and the column that enters. A voter's row says that
+/// the quorums with the voter, and its slack, sum to the right side. The objective's row has the
+/// prices: by how much the sum of all quorums grows for each unit of a column.
+///
+/// The columns of the quorums are not stored. The unit is 1 in the objective's row and 0 in the
+/// others, before each pivot and after it. So a quorum's column is the sum of its members' slacks
+/// and of the unit.
+///
+/// Numbers have 64 bits until a pivot does not fit, and 128 bits from then on.
 #[derive(Drop)]
 pub(crate) struct Tableau {
     voters: usize,

@@ -1,5 +1,5 @@
 //! The tableau in 128 bits.
-ghost use Rattle.std.specs.Prelude.{◌≡◌, ◌+◌, ◌<◌, ◌≤◌, ◌<ℤ◌, pos, ℕ, length, IfOk};
+ghost use Rattle.std.specs.Prelude.{◌≡◌, ◌+◌, ◌<◌, ◌≤◌, ℕ, length, IfOk};
 ghost use Rattle.std.specs.List.{All};
 ghost use Rattle.numbers.specs.Bounds.{max_voters};
 ghost use Rattle.fraction.specs.Tables.{row_of, entry_at};
@@ -10,14 +10,7 @@ use crate::narrow::Narrow;
 use fraction::{FracFault, Shared};
 use std::alloc::{AllocError, Global};
 
-/// A row for each voter and one for the objective, over one denominator. The columns are a slack
-/// for each voter, the right side, the unit, and the column that enters. A voter's row says that
-/// the quorums with the voter, and its slack, sum to the right side. The objective's row has the
-/// prices: by how much the sum of all quorums grows for each unit of a column.
-///
-/// The columns of the quorums are not stored. The unit is 1 in the objective's row and 0 in the
-/// others, before each pivot and after it. So a quorum's column is the sum of its members' slacks
-/// and of the unit.
+/// The tableau in 128 bits, in lowest terms after each pivot.
 #[derive(Drop)]
 pub(crate) struct Wide {
     voters: usize,
