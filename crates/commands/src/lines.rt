@@ -1,21 +1,32 @@
 //! The lines that commands write.
 ghost use Rattle.std.specs.Prelude.{◌≡◌, ◌++◌, length, IfOk, OnOk, string_bytes};
+ghost use Rattle.std.specs.Fmt.{decimal};
 ghost use Rattle.std.specs.List.{flat_map};
 ghost use Rattle.coterie_file.specs.Named.{IsNamed};
 ghost use Rattle.commands.specs.Commands.{account_text, busiest_line, drawn_line, load_line, ratio_part, receipt_line, record_lines, register_line, voter_line, voter_lines};
 
 use coterie_file::Named;
 use dealer::{Account, Receipt};
+use itoa::Buffer;
 use quorum_set::are_unit;
 use std::alloc::{AllocError, Global};
+
+/// Adds a number in decimal.
+fn push_number(text: &mut String, number: u64) -> Result<(), AllocError>
+    ensures { OnOk result (string_bytes text.new ≡ string_bytes text.old ++ decimal number) }
+{
+    let mut buffer = Buffer::new();
+    text.push_str(buffer.format(number))
+}
 
 /// Adds the line `TICKET QUORUM`.
 fn push_receipt(text: &mut String, receipt: &Receipt) -> Result<(), AllocError>
     ensures { OnOk result (string_bytes text.new ≡ string_bytes text.old ++ receipt_line receipt.now) }
 {
-    let ticket = receipt.ticket;
-    let quorum = receipt.quorum;
-    write!(text, "{ticket} {quorum}\n")
+    push_number(text, receipt.ticket)?;
+    text.push(' ')?;
+    push_number(text, receipt.quorum as u64)?;
+    text.push('\n')
 }
 
 /// Adds the line `voter NAME COUNT`.
