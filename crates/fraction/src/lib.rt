@@ -6,7 +6,8 @@
 //! `Shared` is a table of numbers over one denominator, with the pivots of a simplex tableau. A
 //! call that fails leaves it as it was.
 //!
-//! This crate depends on `divisor`. The simplex method keeps its tableau in a `Shared`.
+//! This crate depends on `divisor`. The simplex method keeps its tableau in a `Shared` from the first
+//! pivot on that does not fit into 64 bits.
 //!
 //! ```text
 //! let half = Frac::of(1, 2)?;
