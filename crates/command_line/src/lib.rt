@@ -11,7 +11,7 @@
 //! - Otherwise memory ran out.
 //!
 //! The builders of subcommands and arguments, and the readers of their values, are public:
-//! `show_cli` reads the words of `qlock-show` by them.
+//! `show_command_line` reads the words of `qlock-show` by them.
 //!
 //! This crate depends on `clap` and `numbers`. It does not serve the command; `qlock_cli` does.
 //!

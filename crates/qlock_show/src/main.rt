@@ -1,15 +1,15 @@
 //! The program `qlock-show`: plans, faults and scripts of `qlock` for people to read.
 //!
-//! The crate `show_cli` reads the words and serves the command. The crate `host` takes the words and
-//! the files from the system. It turns the result of the command into an exit status, and into a
-//! fault's line or a text about usage on standard error. Help and the version, which were asked for,
-//! go to standard output. If nobody reads the output any more, as behind `| head`, the program ends
-//! with status 0 and says nothing.
+//! The crate `show_command_line` reads the words, and `show_cli` serves the command. The crate `host`
+//! takes the words and the files from the system. It turns the result of the command into an exit
+//! status, and into a fault's line or a text about usage on standard error. Help and the version, which
+//! were asked for, go to standard output. If nobody reads the output any more, as behind `| head`, the
+//! program ends with status 0 and says nothing.
 #![tactic(auto)]
 
 ghost use Rattle.std.specs.Prelude.{◌≡◌, ◌⊎◌};
 ghost use Rattle.commands.specs.Statuses.{usage_status};
-ghost use Rattle.show_cli.specs.Commands.{IsShown};
+ghost use Rattle.show_command_line.specs.Commands.{IsShown};
 ghost use Rattle.qlock_show.specs.HelpRequests.{AsksForText};
 
 use commands::{DeviceFault, Fault, Usage, Watched};
@@ -17,7 +17,8 @@ use host::{
     Listened, Unread, command_line_of, files_help, read_files, refuse_words, report_shown,
     report_unread, tell_of_reading, tell_of_reason,
 };
-use show_cli::{ShowCommand, read_show_words, reads_page_input, show};
+use show_cli::{reads_page_input, show};
+use show_command_line::{ShowCommand, read_show_words};
 use std::io;
 use std::io::{ErrorKind, Read, Write};
 use std::process::ExitCode;

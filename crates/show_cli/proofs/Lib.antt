@@ -1,4 +1,3 @@
 pub mod CompareLemmas
 pub mod ShowLemmas
 pub mod StoryLemmas
-pub mod WordLemmas

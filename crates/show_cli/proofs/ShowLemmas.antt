@@ -12,7 +12,7 @@ use Rattle.commands.specs.declared.fault.Fault.{Fault}
 use Rattle.commands.specs.declared.fault.Fault.TheVariants.{Device, Input, OutOfMemory}
 use Rattle.show_cli.specs.Failures.{RefusesWithout}
 use Rattle.show_cli.specs.Pages.{BeginsShowing, ComesOfShowing, IsPage, OfRead, RefusesPage, Shows, reads_page_input}
-use Rattle.show_cli.specs.declared.command.ShowCommand.{ShowCommand}
+use Rattle.show_command_line.specs.declared.command.ShowCommand.{ShowCommand}
 
 -- what holds of what was read, holds of what the command reads of the known bytes
 of_seen : (P : List ℕ → Type 0) (reads : Bool) (bytes : Option (List ℕ)) (input : List ℕ) → (reads ≡ true → IfSome bytes (λ known. input ≡ known)) → (reads ≡ false → input ≡ []) → P input

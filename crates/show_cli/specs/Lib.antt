@@ -1,6 +1,4 @@
-pub mod Commands
 pub mod Failures
 pub mod Pages
 pub mod Shapes
 pub mod Stories
-pub mod Words

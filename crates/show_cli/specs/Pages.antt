@@ -17,9 +17,9 @@ use Rattle.show_cli.specs.Failures.{HasCoterie, HasCoteries, HasPair, HasParts, 
 use Rattle.show_cli.specs.Shapes.{RefusesShape}
 use Rattle.show_cli.specs.Stories.{IsStory, RefusesStory}
 use Rattle.show_coteries.specs.Shapes.{text_at}
-use Rattle.show_cli.specs.declared.command.Picture.TheVariants as pictures
-use Rattle.show_cli.specs.declared.command.ShowCommand.{ShowCommand}
-use Rattle.show_cli.specs.declared.command.ShowCommand.TheVariants as show
+use Rattle.show_command_line.specs.declared.command.Picture.TheVariants as pictures
+use Rattle.show_command_line.specs.declared.command.ShowCommand.{ShowCommand}
+use Rattle.show_command_line.specs.declared.command.ShowCommand.TheVariants as show
 
 -- Pages
 

@@ -4,9 +4,9 @@ ghost use Rattle.commands.specs.Commands.{Gives, Refuses};
 ghost use Rattle.commands.specs.Devices.{IsOwn};
 ghost use Rattle.show_cli.specs.Failures.{HasCoteries, coteries_in, files_in};
 
-use crate::command::Form;
 use commands::{Fault, coterie_of, split_part};
 use coterie_file::Named;
+use show_command_line::Form;
 use show_compare::{Candidate, compare_page};
 use show_json::compare_json;
 use std::alloc::{AllocError, Global};

@@ -3,13 +3,10 @@
 //! The texts of `qlock` are exact and for machines. This crate reads the same inputs and shows them
 //! with the names of voters: in words, and as pictures.
 //!
-//! [`read_show_words`] reads the words of a command line, and [`show`] serves a [`ShowCommand`] over
-//! a reader and a writer. Faults, statuses and limits are those of `commands`.
+//! [`show`] serves a command of `show_command_line` over a reader and a writer. Faults, statuses and
+//! limits are those of `commands`.
 //!
 //! # What is proved
-//!
-//! A command is the one that the words name. Words are refused only if clap refuses them, or if they
-//! name no command.
 //!
 //! The input is read to its end, and what is written is a page of the command for what was read:
 //!
@@ -28,14 +25,13 @@
 //! leave a beginning of such a page.
 //!
 //! ```
-//! let command = read_show_words(alloc, words)?; // of `qlock-show plan`: ShowCommand::Plan
+//! let command = ShowCommand::Plan(Form::Words);
 //! let mut reader = Watched::of(input.as_bytes());
 //! let mut writer = Watched::of(&mut written);
 //! show(alloc, &command, &[], &mut reader, &mut writer)?; // `written` is the page
 //! ```
 #![tactic(auto)]
 
-mod command;
 mod compared;
 mod losses;
 mod nearness;
@@ -43,8 +39,5 @@ mod pages;
 mod scenes;
 mod serving;
 mod shapes;
-mod words;
 
-pub use command::{Dealing, Form, NearPage, Picture, ShowCommand, TicketForm};
 pub use serving::{reads_page_input, show};
-pub use words::read_show_words;

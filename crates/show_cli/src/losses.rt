@@ -6,10 +6,10 @@ ghost use Rattle.commands.specs.declared.fault.Fault.TheVariants.{OutOfMemory};
 ghost use Rattle.show_cli.specs.Failures.{IsWithoutOf, RefusesWithout, pair_in};
 ghost use Rattle.show_cli.specs.Pages.{IsShownBy};
 
-use crate::command::{Form, ShowCommand};
 use certificate::Plan;
 use commands::{Fault, coterie_of, planned_of, split_part};
 use coterie_file::Named;
+use show_command_line::{Form, ShowCommand};
 use show_failures::{bridge_page, first_unknown, resilience_page, without_page};
 use show_json::resilience_json;
 use std::alloc::Global;

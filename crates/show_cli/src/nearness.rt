@@ -4,10 +4,10 @@ ghost use Rattle.commands.specs.Commands.{Refuses, coterie_part};
 ghost use Rattle.commands.specs.Devices.{IsOwn};
 ghost use Rattle.show_cli.specs.Failures.{HasCoterie};
 
-use crate::command::{Form, NearPage};
 use commands::{Fault, coterie_of};
 use coterie_file::Named;
 use near::{NearPlan, near};
+use show_command_line::{Form, NearPage};
 use show_json::near_json;
 use show_words::{push_members, push_percent};
 use std::alloc::{AllocError, Global};

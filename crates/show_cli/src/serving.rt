@@ -6,12 +6,12 @@ ghost use Rattle.whole_io.specs.declared.fault.DeviceFault.TheVariants.{WriteFau
 ghost use Rattle.commands.specs.Commands.{reads_input};
 ghost use Rattle.commands.specs.Devices.{FailsAs, IsOfReading, LeavesUnread};
 ghost use Rattle.commands.specs.declared.fault.Fault.TheVariants.{Device};
-ghost use Rattle.show_cli.specs.Commands.{IsShown};
+ghost use Rattle.show_command_line.specs.Commands.{IsShown};
 ghost use Rattle.show_cli.specs.Pages.{ComesOfShowing, EndsAfterPage, LeavesShown, OfRead, Shows, reads_page_input};
 
-use crate::command::ShowCommand;
 use crate::pages::page_of;
 use commands::{Fault, Watched, reads_input};
+use show_command_line::ShowCommand;
 use std::alloc::Global;
 use std::io::{Read, Write};
 use whole_io::{read_input, write_output};

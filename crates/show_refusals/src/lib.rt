@@ -6,14 +6,9 @@
 //! command of `qlock-show` that explains the code. The texts of explanations are in `show_faults`.
 //!
 //! - `page.rt` has the page, and a sentence for each fault of a plan, a script or a record;
-//! - `toml_faults.rt` says where a coterie's text stops being TOML, and `key_faults.rt` which keys it
-//!   lacks and which values have the wrong type;
-//! - `kinds.rt` says that a text is in another's place, as a plan where the coterie has to be;
-//! - `text_faults.rt` names the voters and quorums of a coterie that are at fault;
 //! - `plan_faults.rt` has the values that a plan has to have, and `shape_faults.rt` the sizes that a
 //!   shape may have;
-//! - `input_parts.rt` finds the parts of an input, and `refused.rt` names places in it, by files if
-//!   files were named. `show_places` finds lines, marks, brackets and keys.
+//! - `show_inputs` names the places of an input, and says what is wrong with a coterie's text.
 //!
 //! # What is proved
 //!
@@ -31,14 +26,8 @@
 #![tactic(auto)]
 
 mod codes;
-mod input_parts;
-mod key_faults;
-mod kinds;
 mod page;
 mod plan_faults;
-mod refused;
 mod shape_faults;
-mod text_faults;
-mod toml_faults;
 
 pub use page::fault_page;

@@ -5,18 +5,18 @@ ghost use Rattle.show_refusals.specs.Codes.{code_of};
 ghost use Rattle.show_refusals.specs.Pages.{IsFaultPage, IsTaken, MayTurnDown, NamesCode, is_outside};
 
 use crate::codes::code_of;
-use crate::input_parts::{near_mark_before, parts_of};
-use crate::kinds::push_wrong_beginning;
 use crate::plan_faults::{Parts, push_bad_numbers, push_plan_values};
-use crate::refused::{Refused, push_at, push_line_place, push_part};
 use crate::shape_faults::push_shape_fault;
-use crate::text_faults::push_file_fault;
 use certificate::PlanFault;
 use commands::{Command, Fault, InputFault, Watched, execute, planned_of};
 use construct::ConstructFault;
 use coterie_file::FileFault;
 use planner::{Cause, PlannerFault};
 use replay::ReplayFault;
+use show_inputs::{
+    Refused, near_mark_before, parts_of, push_at, push_file_fault, push_line_place, push_part,
+    push_wrong_beginning,
+};
 use show_places::{NearMark, is_unended, line_of, push_file, push_line};
 use std::alloc::{AllocError, Global};
 

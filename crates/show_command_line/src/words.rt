@@ -1,0 +1,741 @@
+//! The command line: which command its words name.
+ghost use Rattle.std.specs.Prelude.{◌≡◌, ◌⊎◌, ℕ, ◌++◌, ◌∷◌, Option, false, true, IfErr, IfOk, IfSome, None, OnOk, Vec, codes, map, string_bytes};
+ghost use Rattle.std.specs.declared.alloc.Global.{Global};
+ghost use Rattle.clap.specs.Words.{all_of, app_of, found_of, rows_of, rule_of, subcommand_rows_of};
+ghost use Rattle.command_line.specs.Words.{IsLocal, used_as};
+ghost use Rattle.command_line.specs.declared.usage.Usage.TheVariants.{Arguments, OutOfMemory};
+ghost use Rattle.show_command_line.specs.Commands.{IsShown};
+ghost use Rattle.show_command_line.specs.declared.command.Picture.{Picture};
+ghost use Rattle.show_command_line.specs.Words.{HasFlag, HasTexts, IsForm, MayHaveCapacities, capacity_rule, coterie_app, planners_app, IsNamedBy, IsTicketForm, MayHaveNumber, Names, Refuses, RefusesUse, compare_app, coteries_app, explain_app, fault_app, files_rule, flag_rule, near_app, near_deal_rule, optional_rule, pages_app, plan_app, picture_app, picture_word, qlock_words, reports_app, resilience_app, round_rule, show_app, tickets_app, waiting_app, waits_app, without_app, words_rule};
+
+use crate::command::{Dealing, Form, NearPage, Picture, ShowCommand, TicketForm};
+use clap::builder::ValueParser;
+use clap::{Arg, ArgAction, ArgMatches};
+use command_line::{
+    bare_command, number_argument, number_of, read_matches, sizes_argument, sizes_given, text_at,
+    text_of, texts_of, tickets_argument, tickets_of, used_in, word_argument,
+};
+use commands::{Command, Usage, read_words};
+use numbers::MAX_CLIENTS;
+use show_coteries::{shape_of, widened};
+use show_faults::explanation_of;
+use show_waiting::Waiting;
+use std::alloc::{AllocError, Global};
+
+/// The version of the program, as in `CHANGELOG.md`.
+const VERSION: &str = "0.2.0";
+
+/// The most tickets that `near` deals.
+const MOST_TICKETS: u64 = 100_000;
+
+/// The most files of `compare`.
+const MOST_FILES: usize = 64;
+
+/// The greatest capacity of a voter.
+const MOST_CAPACITY: u64 = 1_000;
+
+/// The most clients of `waiting`.
+const MOST_CLIENTS: u64 = MAX_CLIENTS as u64;
+
+/// The most withdrawals of `waiting`.
+const MOST_WITHDRAWALS: u64 = 1_000_000;
+
+/// The longest round of `waiting`, in seconds: a day.
+const LONGEST_ROUND: u64 = 86_400;
+
+/// Returns a flag.
+fn flag_argument<'a>(alloc: Global, name: &'a str, help: &'a str) -> Arg<'a>
+    ensures rule { rule_of result ≡ flag_rule name.now }
+    ensures local { result.global ≡ false }
+{
+    Arg::new(alloc, name)
+        .help(help)
+        .long(name)
+        .action(ArgAction::SetTrue)
+}
+
+/// Returns the flag `--json`.
+fn json_argument<'a>(alloc: Global) -> Arg<'a>
+    ensures rule { rule_of result ≡ flag_rule (codes "json") }
+    ensures local { result.global ≡ false }
+{
+    flag_argument(alloc, "json", "Write JSON, for programs")
+}
+
+/// Returns the subcommand `plan`, with the flag `--json`.
+fn plan_command<'a>(alloc: Global) -> Result<clap::Command<'a>, AllocError>
+    ensures app { IfOk result (λ c. app_of c ≡ plan_app) }
+    ensures local { IfOk result IsLocal }
+{
+    bare_command(
+        alloc,
+        "plan",
+        "Show a plan: whom to ask how often, and why no plan is better: a coterie, a line %%, and a plan",
+    )
+    .arg(json_argument(alloc))
+}
+
+/// Returns an argument that has to be there: one word or more.
+fn words_argument<'a>(alloc: Global, name: &'a str, help: &'a str) -> Arg<'a>
+    ensures rule { rule_of result ≡ words_rule name.now }
+    ensures local { result.global ≡ false }
+{
+    word_argument(alloc, name, help).num_args(1..)
+}
+
+/// Returns the subcommand `deal N`, with the flags `--even`, `--names` and `--json`.
+fn deal_command<'a>(alloc: Global) -> Result<clap::Command<'a>, AllocError>
+    ensures app { IfOk result (λ c. app_of c ≡ tickets_app) }
+    ensures local { IfOk result IsLocal }
+{
+    bare_command(
+        alloc,
+        "deal",
+        "Deal tickets with the names of the voters to ask: a coterie, a line %%, and a plan",
+    )
+    .arg(tickets_argument(alloc))?
+    .arg(flag_argument(
+        alloc,
+        "even",
+        "Deal in the order that is even from the first ticket",
+    ))?
+    .arg(flag_argument(
+        alloc,
+        "names",
+        "Write the names of the voters to ask alone, a line for each ticket",
+    ))?
+    .arg(json_argument(alloc))
+}
+
+/// Returns the subcommand `without NAMES..`.
+fn without_command<'a>(alloc: Global) -> Result<clap::Command<'a>, AllocError>
+    ensures app { IfOk result (λ c. app_of c ≡ without_app) }
+    ensures local { IfOk result IsLocal }
+{
+    bare_command(
+        alloc,
+        "without",
+        "Write the coterie that is left when these voters fail, for qlock plan: a coterie",
+    )
+    .arg(words_argument(alloc, "NAMES", "The names of the voters that fail"))
+}
+
+/// Returns the subcommand `resilience`, with the flag `--json`.
+fn resilience_command<'a>(alloc: Global) -> Result<clap::Command<'a>, AllocError>
+    ensures app { IfOk result (λ c. app_of c ≡ resilience_app) }
+    ensures local { IfOk result IsLocal }
+{
+    bare_command(
+        alloc,
+        "resilience",
+        "Show how many voters may fail, and which groups of them: a coterie, or a coterie, a line %%, and a plan",
+    )
+    .arg(json_argument(alloc))
+}
+
+/// Returns the argument FILES of `compare`.
+fn files_argument<'a>(alloc: Global) -> Arg<'a>
+    ensures rule { rule_of result ≡ files_rule }
+    ensures local { result.global ≡ false }
+{
+    word_argument(
+        alloc,
+        "FILES",
+        "The names of 1 to 64 files with a coterie each",
+    )
+    .num_args(1..=MOST_FILES)
+}
+
+/// Returns the subcommand `compare FILES..`, with the flag `--json`.
+fn compare_command<'a>(alloc: Global) -> Result<clap::Command<'a>, AllocError>
+    ensures app { IfOk result (λ c. app_of c ≡ compare_app) }
+    ensures local { IfOk result IsLocal }
+{
+    bare_command(
+        alloc,
+        "compare",
+        "Show the coteries in these files side by side: sizes, loads, failures borne, and loads without each group of voters",
+    )
+    .arg(files_argument(alloc))?
+    .arg(json_argument(alloc))
+}
+
+/// Returns an argument that may be left out: a number from `least` to `most`.
+fn optional_argument<'a>(
+    alloc: Global,
+    name: &'a str,
+    help: &'a str,
+    least: u64,
+    most: u64,
+) -> Arg<'a>
+    ensures rule { rule_of result ≡ optional_rule name.now least most }
+    ensures local { result.global ≡ false }
+{
+    number_argument(alloc, name, help, least, most).required(false)
+}
+
+/// Returns the option `--deal N` of `near`.
+fn near_deal_argument<'a>(alloc: Global) -> Arg<'a>
+    ensures rule { rule_of result ≡ near_deal_rule }
+    ensures local { result.global ≡ false }
+{
+    optional_argument(
+        alloc,
+        "deal",
+        "Deal this many tickets by these weights, 0 to 100000",
+        0,
+        MOST_TICKETS,
+    )
+    .long("deal")
+    .value_name("N")
+}
+
+/// Returns the subcommand `near`, with the option `--deal` and the flag `--json`.
+fn near_command<'a>(alloc: Global) -> Result<clap::Command<'a>, AllocError>
+    ensures app { IfOk result (λ c. app_of c ≡ near_app) }
+    ensures local { IfOk result IsLocal }
+{
+    bare_command(
+        alloc,
+        "near",
+        "Find weights near the best where qlock plan finds no plan, with a bound below which no plan's load is: a coterie",
+    )
+    .arg(near_deal_argument(alloc))?
+    .arg(json_argument(alloc))
+}
+
+/// Returns the option `--capacity NUMBERS..` of `coterie`.
+fn capacity_argument<'a>(alloc: Global) -> Arg<'a>
+    ensures rule { rule_of result ≡ capacity_rule }
+    ensures local { result.global ≡ false }
+{
+    Arg::new(alloc, "capacity")
+        .help("The capacity of each voter, 1 to 1000; without it each voter has capacity 1")
+        .long("capacity")
+        .num_args(1..)
+        .value_parser(ValueParser::unsigned(1, MOST_CAPACITY))
+        .value_name("NUMBERS")
+}
+
+/// Returns the subcommand `coterie SHAPE NUMBERS..`, with the option `--capacity`.
+fn coterie_command<'a>(alloc: Global) -> Result<clap::Command<'a>, AllocError>
+    ensures app { IfOk result (λ c. app_of c ≡ coterie_app) }
+    ensures local { IfOk result IsLocal }
+{
+    bare_command(
+        alloc,
+        "coterie",
+        "Write a coterie of racks, centres or votes, for qlock plan; standard input is not read",
+    )
+    .arg(word_argument(
+        alloc,
+        "SHAPE",
+        "racks RACKS VOTERS, centres VOTERS.., votes VOTES.. or any SIZE VOTERS",
+    ))?
+    .arg(sizes_argument(alloc))?
+    .arg(capacity_argument(alloc))
+}
+
+/// Returns the option `--round SECONDS`.
+fn round_argument<'a>(alloc: Global) -> Arg<'a>
+    ensures rule { rule_of result ≡ round_rule }
+    ensures local { result.global ≡ false }
+{
+    optional_argument(
+        alloc,
+        "round",
+        "How many seconds a fair round takes, 1 to 86400",
+        1,
+        LONGEST_ROUND,
+    )
+    .long("round")
+    .value_name("SECONDS")
+}
+
+/// Returns the subcommand `waiting CLIENTS [WITHDRAWALS]`, with the option `--round`.
+fn waiting_command<'a>(alloc: Global) -> Result<clap::Command<'a>, AllocError>
+    ensures app { IfOk result (λ c. app_of c ≡ waiting_app) }
+    ensures local { IfOk result IsLocal }
+{
+    bare_command(
+        alloc,
+        "waiting",
+        "Show how long a client waits at most until it is inside, in fair rounds; standard input is not read",
+    )
+    .arg(number_argument(
+        alloc,
+        "CLIENTS",
+        "How many clients there are, 1 to 64",
+        1,
+        MOST_CLIENTS,
+    ))?
+    .arg(optional_argument(
+        alloc,
+        "WITHDRAWALS",
+        "How many others give up while one waits, 0 to 1000000; 0 if it is left out",
+        0,
+        MOST_WITHDRAWALS,
+    ))?
+    .arg(round_argument(alloc))
+}
+
+/// Returns the subcommand `explain CODE`, of which the code may be left out.
+fn explain_command<'a>(alloc: Global) -> Result<clap::Command<'a>, AllocError>
+    ensures app { IfOk result (λ c. app_of c ≡ explain_app) }
+    ensures local { IfOk result IsLocal }
+{
+    let code = Arg::new(alloc, "CODE").help(
+        "The code of a fault, such as E7, or all; without it the faults are listed",
+    );
+    bare_command(
+        alloc,
+        "explain",
+        "Explain a fault: what it means, an example, and what usually leads to it",
+    )
+    .arg(code)
+}
+
+/// Returns the subcommand `fault WORDS..`.
+fn fault_command<'a>(alloc: Global) -> Result<clap::Command<'a>, AllocError>
+    ensures app { IfOk result (λ c. app_of c ≡ fault_app) }
+    ensures local { IfOk result IsLocal }
+{
+    bare_command(
+        alloc,
+        "fault",
+        "Show where an input is wrong: the input that qlock refused, with its words behind",
+    )
+    .arg(words_argument(alloc, "WORDS", "The words behind qlock, such as deal 5"))
+}
+
+/// Returns the subcommand `picture KIND`.
+fn picture_command<'a>(alloc: Global) -> Result<clap::Command<'a>, AllocError>
+    ensures app { IfOk result (λ c. app_of c ≡ picture_app) }
+    ensures local { IfOk result IsLocal }
+{
+    bare_command(alloc, "picture", "Draw a picture, as SVG").arg(word_argument(
+        alloc,
+        "KIND",
+        "load or cycle (a coterie, a line %%, a plan), or world (and a line %%, a script)",
+    ))
+}
+
+/// Returns the command line with `plan`, `deal` and `world`.
+fn pages_command<'a>(alloc: Global) -> Result<clap::Command<'a>, AllocError>
+    ensures { IfOk result (λ c. app_of c ≡ pages_app) }
+{
+    bare_command(
+        alloc,
+        "qlock-show",
+        "Show plans, coteries, faults and scripts of qlock, with names, in words and as pictures",
+    )
+    .version(VERSION)
+    .subcommand_required(true)
+    .subcommand(plan_command(alloc)?)?
+    .subcommand(deal_command(alloc)?)?
+    .subcommand(bare_command(
+        alloc,
+        "world",
+        "Tell a script in words: a coterie, a line %%, a plan, a line %%, and a script, or for an exchange two coteries with their plans and a script",
+    ))
+}
+
+/// Returns the command line with `report` too.
+fn reports_command<'a>(alloc: Global) -> Result<clap::Command<'a>, AllocError>
+    ensures { IfOk result (λ c. app_of c ≡ reports_app) }
+{
+    pages_command(alloc)?.subcommand(bare_command(
+        alloc,
+        "report",
+        "Report on a plan as one HTML page: load, quorums, failures borne, evenness, certificate: a coterie, a line %%, and a plan",
+    ))
+}
+
+/// Returns the command line with `without`, `resilience` and `bridge` too.
+fn coteries_command<'a>(alloc: Global) -> Result<clap::Command<'a>, AllocError>
+    ensures { IfOk result (λ c. app_of c ≡ coteries_app) }
+{
+    reports_command(alloc)?
+        .subcommand(without_command(alloc)?)?
+        .subcommand(resilience_command(alloc)?)?
+        .subcommand(bare_command(
+            alloc,
+            "bridge",
+            "Show whether each quorum of one coterie meets each of another: a coterie, a line %%, and a coterie",
+        ))
+}
+
+/// Returns the command line with `near`, `compare` and `coterie` too.
+fn planners_command<'a>(alloc: Global) -> Result<clap::Command<'a>, AllocError>
+    ensures { IfOk result (λ c. app_of c ≡ planners_app) }
+{
+    coteries_command(alloc)?
+        .subcommand(near_command(alloc)?)?
+        .subcommand(compare_command(alloc)?)?
+        .subcommand(coterie_command(alloc)?)
+}
+
+/// Returns the command line with `waiting` too.
+fn waits_command<'a>(alloc: Global) -> Result<clap::Command<'a>, AllocError>
+    ensures { IfOk result (λ c. app_of c ≡ waits_app) }
+{
+    planners_command(alloc)?.subcommand(waiting_command(alloc)?)
+}
+
+/// Returns the whole command line.
+fn show_command<'a>(alloc: Global) -> Result<clap::Command<'a>, AllocError>
+    ensures { IfOk result (λ c. app_of c ≡ show_app) }
+{
+    waits_command(alloc)?
+        .subcommand(explain_command(alloc)?)?
+        .subcommand(fault_command(alloc)?)?
+        .subcommand(picture_command(alloc)?)
+}
+
+/// Returns whether a flag with this value is there.
+fn is_set(value: &str) -> bool
+    ensures set { result ≡ true → value.now ≡ codes "true" }
+    ensures unset { result ≡ false → ¬ (value.now ≡ codes "true") }
+{
+    match value {
+        "true" => true,
+        _ => false,
+    }
+}
+
+/// Returns whether the flag with this name is there.
+fn has_flag(used: &ArgMatches, name: &str) -> bool
+    ensures flag { HasFlag name.now (rows_of (found_of used.now)) result }
+{
+    match text_of(used, name) {
+        Some(value) => is_set(value),
+        None => false,
+    }
+}
+
+/// Returns how a page is written: as JSON with `--json`, else in words.
+fn form_of(used: &ArgMatches) -> Form
+    ensures form { IsForm (rows_of (found_of used.now)) result }
+{
+    if has_flag(used, "json") {
+        Form::Json
+    } else {
+        Form::Words
+    }
+}
+
+/// Returns how tickets are written: as JSON with `--json`, as names with `--names`, else in words.
+fn ticket_form_of(used: &ArgMatches) -> TicketForm
+    ensures form { IsTicketForm (rows_of (found_of used.now)) result }
+{
+    if has_flag(used, "json") {
+        TicketForm::Json
+    } else if has_flag(used, "names") {
+        TicketForm::Names
+    } else {
+        TicketForm::Words
+    }
+}
+
+/// Returns `deal` with its number of tickets, and in the order and the form that its flags say.
+fn deal_of(used: &ArgMatches) -> Result<ShowCommand, Usage>
+    ensures named { IfOk result (IsNamedBy (used_as (codes "deal") used.now)) }
+    ensures refused { IfErr result (RefusesUse (used_as (codes "deal") used.now)) }
+    ensures memory { IfErr result (λ usage. usage ≡ Arguments) }
+    ensures shown { IfOk result IsShown }
+{
+    let Some(count) = tickets_of(used) else {
+        return Err(Usage::Arguments);
+    };
+    Ok(ShowCommand::Deal(Dealing {
+        count,
+        is_even: has_flag(used, "even"),
+        form: ticket_form_of(used),
+    }))
+}
+
+/// Returns the number that an argument is, if it is there and in range; or that it was left out.
+fn number_if_given(
+    used: &ArgMatches,
+    name: &str,
+    least: u64,
+    most: u64,
+) -> Result<Option<u64>, Usage>
+    ensures given { IfOk result (MayHaveNumber name.now least most (rows_of (found_of used.now))) }
+    ensures refused { IfErr result (λ usage. (usage ≡ Arguments)
+        × ((number : Option ℕ) → ¬ MayHaveNumber name.now least most (rows_of (found_of used.now)) number)) }
+{
+    match text_of(used, name) {
+        None => Ok(None),
+        Some(_) => match number_of(used, name, least, most) {
+            Some(number) => Ok(Some(number)),
+            None => Err(Usage::Arguments),
+        },
+    }
+}
+
+/// Returns `near` with how many tickets are dealt, if any, and the form that its flag says.
+fn near_of(used: &ArgMatches) -> Result<ShowCommand, Usage>
+    ensures named { IfOk result (IsNamedBy (used_as (codes "near") used.now)) }
+    ensures refused { IfErr result (RefusesUse (used_as (codes "near") used.now)) }
+    ensures memory { IfErr result (λ usage. usage ≡ Arguments) }
+    ensures shown { IfOk result IsShown }
+{
+    match number_if_given(used, "deal", 0, MOST_TICKETS) {
+        Ok(tickets) => Ok(ShowCommand::Near(NearPage {
+            form: form_of(used),
+            tickets,
+        })),
+        Err(usage) => Err(usage),
+    }
+}
+
+/// Returns `waiting` with its numbers.
+fn waiting_of(used: &ArgMatches) -> Result<ShowCommand, Usage>
+    ensures named { IfOk result (IsNamedBy (used_as (codes "waiting") used.now)) }
+    ensures refused { IfErr result (RefusesUse (used_as (codes "waiting") used.now)) }
+    ensures memory { IfErr result (λ usage. usage ≡ Arguments) }
+    ensures shown { IfOk result IsShown }
+{
+    let Some(clients) = number_of(used, "CLIENTS", 1, MOST_CLIENTS) else {
+        return Err(Usage::Arguments);
+    };
+    let withdrawals = match number_if_given(used, "WITHDRAWALS", 0, MOST_WITHDRAWALS) {
+        Ok(withdrawals) => withdrawals,
+        Err(usage) => return Err(usage),
+    };
+    let round = match number_if_given(used, "round", 1, LONGEST_ROUND) {
+        Ok(round) => round,
+        Err(usage) => return Err(usage),
+    };
+    Ok(ShowCommand::Waiting(Waiting {
+        clients,
+        withdrawals,
+        round,
+    }))
+}
+
+/// Returns `explain` with the fault that its word names, or that explains or lists all faults.
+fn explain_of(used: &ArgMatches) -> Result<ShowCommand, Usage>
+    ensures named { IfOk result (IsNamedBy (used_as (codes "explain") used.now)) }
+    ensures refused { IfErr result (RefusesUse (used_as (codes "explain") used.now)) }
+    ensures memory { IfErr result (λ usage. usage ≡ Arguments) }
+    ensures shown { IfOk result IsShown }
+{
+    let Some(code) = text_of(used, "CODE") else {
+        return Ok(ShowCommand::ListFaults);
+    };
+    if code == "all" {
+        return Ok(ShowCommand::ExplainAll);
+    }
+    match explanation_of(code) {
+        Some(explanation) => Ok(ShowCommand::Explain(explanation)),
+        None => Err(Usage::Arguments),
+    }
+}
+
+/// Returns the picture with this name, if there is one.
+fn picture_named(kind: &str) -> Option<Picture>
+    ensures some { IfSome result (λ picture. kind.now ≡ picture_word picture) }
+    ensures none { result ≡ None → (picture : Picture) → ¬ (kind.now ≡ picture_word picture) }
+{
+    match kind {
+        "load" => Some(Picture::Load),
+        "cycle" => Some(Picture::Cycle),
+        "world" => Some(Picture::World),
+        _ => None,
+    }
+}
+
+/// Returns `picture` with the picture that its word names.
+fn picture_of(used: &ArgMatches) -> Result<ShowCommand, Usage>
+    ensures named { IfOk result (IsNamedBy (used_as (codes "picture") used.now)) }
+    ensures refused { IfErr result (RefusesUse (used_as (codes "picture") used.now)) }
+    ensures memory { IfErr result (λ usage. usage ≡ Arguments) }
+    ensures shown { IfOk result IsShown }
+{
+    let Some(kind) = text_of(used, "KIND") else {
+        return Err(Usage::Arguments);
+    };
+    match picture_named(kind) {
+        Some(picture) => Ok(ShowCommand::Picture(picture)),
+        None => Err(Usage::Arguments),
+    }
+}
+
+/// Appends these texts to a list.
+fn push_texts(alloc: Global, words: &mut Vec<String>, texts: &[&str]) -> Result<(), AllocError>
+    ensures { OnOk result (map string_bytes words.new.items
+        ≡ map string_bytes words.old.items ++ map (λ t. t.now) texts.now) }
+{
+    for i in 0..texts.len() {
+        words.push(String::from_str(alloc, text_at(texts, i))?)?;
+    }
+    Ok(())
+}
+
+/// Returns the values of an argument, if there are any.
+fn texts_given(alloc: Global, used: &ArgMatches, name: &str) -> Result<Vec<String>, Usage>
+    ensures given { IfOk result (λ texts. HasTexts name.now (rows_of (found_of used.now)) texts.items) }
+    ensures missing { IfErr result (λ usage. usage ≡ Arguments → None ≡ all_of name.now (rows_of (found_of used.now))) }
+    ensures memory { IfErr result (λ usage. (usage ≡ Arguments) ⊎ (usage ≡ OutOfMemory)) }
+{
+    let Some(texts) = texts_of(used, name) else {
+        return Err(Usage::Arguments);
+    };
+    let mut words = Vec::new(alloc);
+    push_texts(alloc, &mut words, texts)?;
+    Ok(words)
+}
+
+/// Returns the capacities that `--capacity` has, if it is there.
+fn capacities_of(alloc: Global, used: &ArgMatches) -> Result<Option<Vec<u64>>, Usage>
+    ensures given { IfOk result (MayHaveCapacities (rows_of (found_of used.now))) }
+    ensures refused { IfErr result (λ usage. usage ≡ Arguments
+        → (list : Option (Vec ℕ Global)) → ¬ MayHaveCapacities (rows_of (found_of used.now)) list) }
+    ensures memory { IfErr result (λ usage. (usage ≡ Arguments) ⊎ (usage ≡ OutOfMemory)) }
+{
+    if texts_of(used, "capacity").is_none() {
+        return Ok(None);
+    }
+    match sizes_given(alloc, used, "capacity")? {
+        Some(capacities) => Ok(Some(widened(alloc, &capacities)?)),
+        None => Err(Usage::Arguments),
+    }
+}
+
+/// Returns `coterie` with its shape and its capacities.
+fn coterie_of(alloc: Global, used: &ArgMatches) -> Result<ShowCommand, Usage>
+    ensures named { IfOk result (IsNamedBy (used_as (codes "coterie") used.now)) }
+    ensures refused { IfErr result (RefusesUse (used_as (codes "coterie") used.now)) }
+    ensures shown { IfOk result IsShown }
+{
+    let Some(name) = text_of(used, "SHAPE") else {
+        return Err(Usage::Arguments);
+    };
+    let Some(sizes) = sizes_given(alloc, used, "NUMBERS")? else {
+        return Err(Usage::Arguments);
+    };
+    let Some(shape) = shape_of(alloc, name, &sizes)? else {
+        return Err(Usage::Arguments);
+    };
+    match capacities_of(alloc, used) {
+        Ok(capacities) => Ok(ShowCommand::Coterie(shape, capacities)),
+        Err(usage) => Err(usage),
+    }
+}
+
+/// Returns `compare` with the names of its files, and the form that its flag says.
+fn compare_of(alloc: Global, used: &ArgMatches) -> Result<ShowCommand, Usage>
+    ensures named { IfOk result (IsNamedBy (used_as (codes "compare") used.now)) }
+    ensures refused { IfErr result (RefusesUse (used_as (codes "compare") used.now)) }
+    ensures shown { IfOk result IsShown }
+{
+    match texts_given(alloc, used, "FILES") {
+        Ok(files) if files.len() <= MOST_FILES => Ok(ShowCommand::Compare(files, form_of(used))),
+        Ok(_) => Err(Usage::Arguments),
+        Err(usage) => Err(usage),
+    }
+}
+
+/// Returns `without` with the names that its words are.
+fn without_of(alloc: Global, used: &ArgMatches) -> Result<ShowCommand, Usage>
+    ensures named { IfOk result (IsNamedBy (used_as (codes "without") used.now)) }
+    ensures refused { IfErr result (RefusesUse (used_as (codes "without") used.now)) }
+    ensures shown { IfOk result IsShown }
+{
+    match texts_given(alloc, used, "NAMES") {
+        Ok(names) => Ok(ShowCommand::Without(names)),
+        Err(usage) => Err(usage),
+    }
+}
+
+/// Returns a command line of `qlock` with these words behind its name.
+fn qlock_line(alloc: Global, texts: &[&str]) -> Result<Vec<String>, AllocError>
+    ensures { IfOk result (λ words. map string_bytes words.items ≡ codes "qlock" ∷ map (λ t. t.now) texts.now) }
+{
+    let mut words = Vec::new(alloc);
+    words.push(String::from_str(alloc, "qlock")?)?;
+    push_texts(alloc, &mut words, texts)?;
+    Ok(words)
+}
+
+/// Returns the command line of `qlock` whose words are those behind `fault`.
+fn words_behind(alloc: Global, used: &ArgMatches) -> Result<Vec<String>, AllocError>
+    ensures { IfOk result (λ words. map string_bytes words.items ≡ qlock_words (rows_of (found_of used.now))) }
+{
+    match texts_of(used, "WORDS") {
+        Some(texts) => qlock_line(alloc, texts),
+        None => qlock_line(alloc, &[]),
+    }
+}
+
+/// Returns `fault` with the command of `qlock` that its words name.
+fn fault_of(alloc: Global, used: &ArgMatches) -> Result<ShowCommand, Usage>
+    ensures named { IfOk result (IsNamedBy (used_as (codes "fault") used.now)) }
+    ensures refused { IfErr result (RefusesUse (used_as (codes "fault") used.now)) }
+    ensures shown { IfOk result IsShown }
+{
+    let words = words_behind(alloc, used)?;
+    match read_words(alloc, words.as_slice()) {
+        Ok(command) => Ok(ShowCommand::Fault(command)),
+        Err(usage) => Err(usage),
+    }
+}
+
+/// Returns the command that a subcommand and its values name.
+fn command_named(alloc: Global, name: &str, used: &ArgMatches) -> Result<ShowCommand, Usage>
+    ensures named { IfOk result (IsNamedBy (used_as name.now used.now)) }
+    ensures refused { IfErr result (RefusesUse (used_as name.now used.now)) }
+    ensures shown { IfOk result IsShown }
+{
+    match name {
+        "plan" => Ok(ShowCommand::Plan(form_of(used))),
+        "world" => Ok(ShowCommand::World),
+        "report" => Ok(ShowCommand::Report),
+        "resilience" => Ok(ShowCommand::Resilience(form_of(used))),
+        "bridge" => Ok(ShowCommand::Bridge),
+        "near" => near_of(used),
+        "compare" => compare_of(alloc, used),
+        "coterie" => coterie_of(alloc, used),
+        "without" => without_of(alloc, used),
+        "deal" => deal_of(used),
+        "waiting" => waiting_of(used),
+        "explain" => explain_of(used),
+        "fault" => fault_of(alloc, used),
+        "picture" => picture_of(used),
+        _ => Err(Usage::Arguments),
+    }
+}
+
+/// Returns the command that the used subcommand and its values name.
+fn command_of(alloc: Global, matches: &ArgMatches) -> Result<ShowCommand, Usage>
+    ensures named { IfOk result (IsNamedBy (subcommand_rows_of matches.now)) }
+    ensures refused { IfErr result (RefusesUse (subcommand_rows_of matches.now)) }
+    ensures shown { IfOk result IsShown }
+{
+    match used_in(matches) {
+        Some((name, used)) => command_named(alloc, name, used),
+        None => Err(Usage::Arguments),
+    }
+}
+
+/// Returns the command that the words name. The first word is the program's own name.
+///
+/// Fails with `Refused` if clap finds a fault, in the words or in those behind `fault`, or a request
+/// for help or for the version. Fails with `Arguments` if the words still name no command: the code
+/// of `explain` or the kind of a picture is unknown, or the words behind `fault` name no command of
+/// `qlock`. May fail with `OutOfMemory` for any words.
+pub fn read_show_words(alloc: Global, words: &[String]) -> Result<ShowCommand, Usage>
+    // The command is the one that the words name.
+    ensures named { IfOk result (Names (map string_bytes words.now)) }
+    // Words are refused only for what clap finds in them, or because they name no command.
+    ensures refused { IfErr result (Refuses (map string_bytes words.now)) }
+    // The command's numbers are in range.
+    ensures shown { IfOk result IsShown }
+{
+    match read_matches(show_command(alloc)?, words) {
+        Ok(matches) => command_of(alloc, &matches),
+        Err(usage) => Err(usage),
+    }
+}
