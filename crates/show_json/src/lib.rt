@@ -11,8 +11,9 @@
 //!
 //! # What is proved
 //!
-//! Safety only. The figures come from functions that pin them: of `certificate`, `near`,
-//! `show_tickets`, `show_failures` and `show_compare`. What the pages say is only tested.
+//! Safety, and what weights near the best make of each voter: how often a cycle uses it. The other
+//! figures come from functions that pin them: of `certificate`, `near`, `show_words`, `show_tickets`,
+//! `show_failures` and `show_compare`. What the pages say is only tested.
 //!
 //! Depends on these, on `show_words` for names, and on `serde` and `serde_json` for JSON.
 //!

@@ -1,4 +1,6 @@
 //! Weights that are near the best, as JSON.
+ghost use Rattle.std.specs.Prelude.{◌≡◌, ◌<◌, slice_index};
+ghost use Rattle.certificate.specs.Certificates.{cycle_count};
 
 use crate::parts::{Fraction, Quorum, Voter, fraction_of, line_of, quorum_names};
 use certificate::weight_on;
@@ -39,23 +41,30 @@ fn quorums_of<'a>(
     Ok(quorums)
 }
 
+/// Returns a voter: its capacity, how often a cycle uses it, and its weight.
+fn voter_of<'a>(named: &'a Named, plan: &NearPlan, voter: u8) -> Voter<'a>
+    requires { voter < plan.now.system.voters }
+    ensures capacity { result.capacity ≡ slice_index plan.now.capacities voter }
+    ensures count { result.count ≡ cycle_count plan.now voter }
+    ensures weight { result.weight ≡ slice_index plan.now.voter_weights voter }
+{
+    Voter {
+        name: name_of(named, voter),
+        capacity: plan.capacities()[voter as usize],
+        count: weight_on(plan.coterie(), plan.quorum_weights(), voter),
+        weight: plan.voter_weights()[voter as usize],
+    }
+}
+
 /// Returns the voters, in the order of their numbers.
 fn voters_of<'a>(
     alloc: Global,
     named: &'a Named,
     plan: &NearPlan,
 ) -> Result<Vec<Voter<'a>>, AllocError> {
-    let weights = plan.voter_weights();
-    let capacities = plan.capacities();
     let mut voters = Vec::new(alloc);
     for number in 0..plan.coterie().voters() {
-        let voter = number as u8;
-        voters.push(Voter {
-            name: name_of(named, voter),
-            capacity: capacities[number],
-            count: weight_on(plan.coterie(), plan.quorum_weights(), voter),
-            weight: weights[number],
-        })?;
+        voters.push(voter_of(named, plan, number as u8))?;
     }
     Ok(voters)
 }

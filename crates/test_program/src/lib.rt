@@ -5,14 +5,13 @@
 //! - `capacities` has the commands for voters with capacities.
 //! - `gates` holds up clients.
 //! - `limits` has the commands at the greatest sizes that they take.
-//! - `faults` has the line of every fault.
 //! - `devices` has each read and each write fail, for the commands of `tables`, and `prefixes` cuts
 //!   texts short.
 //!
 //! - `served` runs a command line, and compares what it writes with the rows of a table.
 //! - `samples` has coteries, plans, scripts and records that the tests share.
 //!
-//! Depends on every crate that has faults.
+//! Depends on `qlock_cli`, on `coterie_file` and on `test_gate`. The line of every fault is in `test_faults`.
 #![tactic(auto)]
 
 /// The text of a plan: its load, its cycle, the quorums' weights and the voters' weights.
@@ -41,8 +40,6 @@ mod coteries;
 mod dealing;
 #[cfg(test)]
 mod devices;
-#[cfg(test)]
-mod faults;
 #[cfg(test)]
 mod gates;
 #[cfg(test)]
