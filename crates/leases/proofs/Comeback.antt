@@ -48,7 +48,7 @@ use Rattle.world.specs.Restarts.{all_happen, come_back, if_there, receiver}
 use Rattle.world.specs.Runs.{AreLimits}
 use Rattle.world.specs.Steps.{Outcome, come, exchange, if_client, if_voter, next_ticket, quorum_dealt, step}
 use Rattle.world.specs.Visible.{DealsFrom, DoMeet, IsAmong, IsExclusive}
-use Rattle.leases.specs.Incidents.{Incident, Happens, Hears, IsReborn, StartsAnew, HasLimit, IsRaised, all_befall, anew, be_raised, be_reborn, befalls, have_limit, hear, is_above, is_ahead, is_message, is_limit, is_request_within, limited, reborn, start_anew}
+use Rattle.leases.specs.Incidents.{Incident, Happens, Hears, IsReborn, StartsAnew, HasLimit, IsRaised, all_befall, anew, be_raised, be_reborn, befalls, have_limit, hear, is_above, is_ahead, is_message, is_request_within, limited, reborn, start_anew}
 use Rattle.leases.proofs.Raises.{no_inquiry, raised_by_step}
 use Rattle.leases.specs.Orderly.{EndsOld}
 use Rattle.leases.proofs.Rebirths.{ends_within}

@@ -330,12 +330,12 @@ pair_voted R s v None all = all
 pair_voted R s v (Some o) all = pair_voter R s (record s { live = (voter_did s.live v o).state }) v (is_silent (length o.replies) Nothing) all
 
 if_pair : (R : ℕ → ClientState → ClientState → Type 0) (s : Saved) (who : Node) (t : Bool) (c : ℕ) (next : Result Outcome WorldFault) → Pairs R s → (t ≡ true → Pairs R (save_and_send s who next)) → Pairs R (save_and_send s who (if_client t c next))
-if_pair R s who true c next all then = then refl
-if_pair R s who false c next all then = all
+if_pair R s who true c next all new = new refl
+if_pair R s who false c next all new = all
 
 if_voter_pair : (R : ℕ → ClientState → ClientState → Type 0) (s : Saved) (who : Node) (t : Bool) (v : ℕ) (next : Result Outcome WorldFault) → Pairs R s → (t ≡ true → Pairs R (save_and_send s who next)) → Pairs R (save_and_send s who (if_voter t v next))
-if_voter_pair R s who true v next all then = then refl
-if_voter_pair R s who false v next all then = all
+if_voter_pair R s who true v next all new = new refl
+if_voter_pair R s who false v next all new = all
 
 pair_exchange : (R : ℕ → ClientState → ClientState → Type 0) (s : Saved) (two : Bool) (side : Side) → Pairs R s → Pairs R (save_and_send s Nobody (exchange two side s.live))
 pair_exchange R s true First all = all
@@ -363,8 +363,8 @@ pair_came R lasts b given G s ok all k (Some (kinds.ToClient m)) told =
     (client.step (client_at s.live.clients m.client) (client.Takes m)) refl
 
 if_there_pair : (R : ℕ → ClientState → ClientState → Type 0) (s t : Saved) (there : Bool) → Pairs R s → Pairs R t → Pairs R (if_there there t s)
-if_there_pair R s t true all then = then
-if_there_pair R s t false all then = all
+if_there_pair R s t true all new = new
+if_there_pair R s t false all new = all
 
 pair_happens : (R : ℕ → ClientState → ClientState → Type 0) → Lasts R → (b : Bounds) → Given b → (deal : Dealing) → DealsFrom b.quorums deal → (G : Naming) (s : Saved) → Numbered b G s → Pairs R s
     → (h : Happening) → Pairs R (happens deal s h)
@@ -461,8 +461,8 @@ one_pass cs vs voters clients limit quorums deal before after c limits meets dea
       subst (λ (k : ℕ). HasOnly x.stamp x.held (client_at s.live.clients k)) (sym at) (only_self x in_s),
       subst (λ (k : ℕ). HasOnly x.stamp x.held (client_at s.clients k)) (sym at) (saved c in_s),
     ) in
-    let then = (pair_all (BothHave c x.stamp x.held) (both_last cs c x.stamp x.held) b given deal deals after on.named s on.ok has c refl).0 in
-    elim then [
+    let later = (pair_all (BothHave c x.stamp x.held) (both_last cs c x.stamp x.held) b given deal deals after on.named s on.ok has c refl).0 in
+    elim later [
       | inl less ↦ absurd (omega arith)
       | inr is ↦ elim is.1 [
         | inl idle ↦ absurd (inside_busy y.phase in_t idle)

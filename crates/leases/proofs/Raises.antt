@@ -1,16 +1,14 @@
 -- a client that raises its clock: it does what an INQUIRE of no vote would do
-use Rattle.std.proofs.Common.{◌≡◌, ℕ, ◌<◌, Bool, true, false, [], length, refl, sym, ap, ap₂, subst, ◌∙◌, arith}
+use Rattle.std.proofs.Common.{◌≡◌, ℕ, Bool, true, false, [], refl, ap, ap₂, ◌∙◌, arith}
 use Rattle.std.specs.Prelude.{Ok, ◌&&◌, ◌==◌, nat_lt, slice_set}
 use Rattle.std.proofs.lemmas.Bool.Decides.{nat_tests}
 use Rattle.std.proofs.lemmas.List.{append-nil}
-use Rattle.message.specs.declared.message.Message.{Message}
 use Rattle.message.specs.declared.message.ToClient.{ToClient}
 use Rattle.message.specs.declared.message.ClientBody.TheVariants as to_client
 use Rattle.requester.specs.declared.state.ClientState.{ClientState}
 use Rattle.requester.specs.declared.state.Seen.TheVariants.{Nothing}
 use Rattle.requester.specs.Steps as client
 use Rattle.requester.specs.Words.{held_of, holds_under, is_asking, is_hindered}
-use Rattle.world.specs.declared.step.Event.{Event}
 use Rattle.world.specs.Restarts.{OneClient, Saved, save_and_send}
 use Rattle.world.specs.Steps.{after_client, client_at}
 use Rattle.leases.specs.Incidents.{be_raised}

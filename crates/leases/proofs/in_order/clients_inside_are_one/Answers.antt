@@ -1,5 +1,4 @@
 use Rattle.world.specs.Restarts.{begin}
-use Rattle.world.specs.Steps.{client_at, voter_at}
 use Rattle.world.proofs.Claims.{Bounds}
 use Rattle.world.proofs.Exclusion.{one_inside}
 use Rattle.world.proofs.Reached.{Given}
