@@ -11,7 +11,7 @@
 //! - `served` runs a command line, and compares what it writes with the rows of a table.
 //! - `samples` has coteries, plans, scripts and records that the tests share.
 //!
-//! Depends on `qlock_cli`, on `coterie_file` and on `test_gate`. The line of every fault is in `test_faults`.
+//! Depends on `qlock_cli`, on `cluster`, on `coterie_file` and on `test_gate`. The line of every fault is in `test_faults`.
 #![tactic(auto)]
 
 /// The text of a plan: its load, its cycle, the quorums' weights and the voters' weights.
