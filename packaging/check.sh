@@ -67,6 +67,29 @@ compiles() {
     "${CC:-cc}" -o "$work/$name" "$work/use.c" "$@" && "$work/$name" | cmp - "$work/two-of-three"
 }
 
+# goes PATH PKGCONFIG: a Go program with the package locks is built and runs
+goes() (
+    mkdir -p "$work/go/src/use"
+    cat > "$work/go/src/use/main.go" <<'END'
+package main
+
+import (
+	"fmt"
+
+	"calvundek.example/service/guard"
+	"calvundek.example/service/locks"
+)
+
+func main() {
+	_, _ = locks.Open, guard.New
+	fmt.Println("built")
+}
+END
+    cd "$work/go/src/use"
+    export GO111MODULE=off GOPATH="$work/go:$1:/usr/share/gocode" GOCACHE="$work/go/cache" PKG_CONFIG_PATH="$2" LD_LIBRARY_PATH="${2%/pkgconfig}"
+    [ "$(go run .)" = built ]
+)
+
 # shared BIN: the same program, over the shared libraries of a folder
 shared() {
     flags=$(PKG_CONFIG_PATH=$1/pkgconfig pkg-config --cflags --libs qlock qlock_plan)
@@ -82,7 +105,13 @@ holds compiles use-archive -I"$place/include" "$place/lib/libqlock_plan.a" "$pla
 holds shared "$place/lib"
 holds test -s "$place/share/doc/qlock/claims.md"
 holds explains "$place"
-[ ! -e "$place/bin/qlockctl" ] || holds "$place/bin/qlockctl" --help
+holds test -s "$place/README.md"
+holds "$place/bin/qlock" plan -f "$place/share/doc/qlock/examples/three-racks.toml"
+if [ -e "$place/bin/qlockctl" ]; then
+    holds "$place/bin/qlockctl" --help
+    holds test -s "$place/share/qlock/sql/postgresql.sql"
+    holds goes "$place/share/gocode" "$place/lib/pkgconfig"
+fi
 
 echo "packaging: the wheel"
 if python3 -m venv "$work/venv" > /dev/null 2>&1; then
@@ -111,7 +140,12 @@ if [ "$(id -u)" = 0 ] && command -v dpkg > /dev/null && [ -e "$packages/qlock_${
     # shellcheck disable=SC2046
     holds compiles use-installed $(pkg-config --cflags --libs qlock qlock_plan)
     holds test -e /usr/share/man/man1/qlock.1.gz
-    [ ! -e /usr/bin/qlockctl ] || holds qlockctl --help
+    holds test -s /usr/share/doc/qlock/service.md
+    if [ -e /usr/bin/qlockctl ]; then
+        holds qlockctl --help
+        holds test -s /usr/share/qlock/sql/sqlite.sql
+        holds goes /usr/share/gocode ""
+    fi
 else
     echo "packaging: not as root, so the .deb files were not tried"
 fi
