@@ -1,31 +1,21 @@
 //! The lines that commands write.
 ghost use Rattle.std.specs.Prelude.{◌≡◌, ◌++◌, length, IfOk, OnOk, string_bytes};
-ghost use Rattle.std.specs.Fmt.{decimal};
 ghost use Rattle.std.specs.List.{flat_map};
 ghost use Rattle.coterie_file.specs.Named.{IsNamed};
 ghost use Rattle.commands.specs.Commands.{account_text, busiest_line, drawn_line, load_line, ratio_part, receipt_line, record_lines, register_line, voter_line, voter_lines};
 
 use coterie_file::Named;
 use dealer::{Account, Receipt};
-use itoa::Buffer;
 use quorum_set::are_unit;
 use std::alloc::{AllocError, Global};
-
-/// Adds a number in decimal.
-fn push_number(text: &mut String, number: u64) -> Result<(), AllocError>
-    ensures { OnOk result (string_bytes text.new ≡ string_bytes text.old ++ decimal number) }
-{
-    let mut buffer = Buffer::new();
-    text.push_str(buffer.format(number))
-}
+use text_lines::{push_field, push_number};
 
 /// Adds the line `TICKET QUORUM`.
 fn push_receipt(text: &mut String, receipt: &Receipt) -> Result<(), AllocError>
     ensures { OnOk result (string_bytes text.new ≡ string_bytes text.old ++ receipt_line receipt.now) }
 {
     push_number(text, receipt.ticket)?;
-    text.push(' ')?;
-    push_number(text, receipt.quorum as u64)?;
+    push_field(text, receipt.quorum as u64)?;
     text.push('\n')
 }
 
@@ -125,7 +115,8 @@ pub fn deal_lines_of(
     ensures { IfOk result (λ text. string_bytes text ≡ flat_map receipt_line receipts.now
         ++ (account_text named.now.names account.now ++ ratio_part named.now.capacities account.now)) }
 {
-    let mut text = String::new(alloc);
+    // a line of a ticket below 100,000 has 11 bytes at most
+    let mut text = String::with_capacity(alloc, receipts.len().saturating_mul(12))?;
     push_receipts(&mut text, receipts)?;
     push_account(&mut text, named, account)?;
     push_ratio(&mut text, named.capacities(), account)?;

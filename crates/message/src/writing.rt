@@ -5,6 +5,37 @@ ghost use Rattle.message.specs.Lines.{HasLine, client_numbers, client_word, mess
 
 use crate::message::{ClientBody, Message, VoterBody};
 use std::alloc::{AllocError, Global};
+use text_lines::push_field;
+
+/// Appends a word, and the numbers of the sender and the receiver.
+fn push_head(text: &mut String, word: &str, from: u8, to: u8) -> Result<(), AllocError>
+    ensures { OnOk result (string_bytes text.new
+        ≡ string_bytes text.old ++ (word.now ++ fields (from ∷ to ∷ []))) }
+{
+    text.push_str(word)?;
+    push_field(text, u64::from(from))?;
+    push_field(text, u64::from(to))
+}
+
+/// Appends two numbers.
+fn push_two(text: &mut String, first: u64, second: u64) -> Result<(), AllocError>
+    ensures { OnOk result (string_bytes text.new ≡ string_bytes text.old ++ fields (first ∷ second ∷ [])) }
+{
+    push_field(text, first)?;
+    push_field(text, second)
+}
+
+/// Returns the word and the number of a message to a voter.
+fn word_to_voter(body: VoterBody) -> (&'static str, u64)
+    ensures word { result.0.now ≡ voter_word body }
+    ensures number { result.1 ≡ voter_number body }
+{
+    match body {
+        VoterBody::Request { stamp } => ("request", stamp),
+        VoterBody::Relinquish { grant } => ("relinquish", grant),
+        VoterBody::Release { stamp } => ("release", stamp),
+    }
+}
 
 fn push_to_voter(
     text: &mut String,
@@ -15,11 +46,9 @@ fn push_to_voter(
     ensures { OnOk result (string_bytes text.new
         ≡ string_bytes text.old ++ (voter_word body ++ fields (client ∷ voter ∷ voter_number body ∷ []))) }
 {
-    match body {
-        VoterBody::Request { stamp } => write!(text, "request {client} {voter} {stamp}"),
-        VoterBody::Relinquish { grant } => write!(text, "relinquish {client} {voter} {grant}"),
-        VoterBody::Release { stamp } => write!(text, "release {client} {voter} {stamp}"),
-    }
+    let (word, number) = word_to_voter(body);
+    push_head(text, word, client, voter)?;
+    push_field(text, number)
 }
 
 fn push_to_client(
@@ -34,10 +63,18 @@ fn push_to_client(
 {
     match body {
         ClientBody::Locked { stamp, grant } => {
-            write!(text, "locked {voter} {client} {stamp} {grant} {seen}")
+            push_head(text, "locked", voter, client)?;
+            push_field(text, stamp)?;
+            push_two(text, grant, seen)
         }
-        ClientBody::Fail { stamp } => write!(text, "fail {voter} {client} {stamp} {seen}"),
-        ClientBody::Inquire { grant } => write!(text, "inquire {voter} {client} {grant} {seen}"),
+        ClientBody::Fail { stamp } => {
+            push_head(text, "fail", voter, client)?;
+            push_two(text, stamp, seen)
+        }
+        ClientBody::Inquire { grant } => {
+            push_head(text, "inquire", voter, client)?;
+            push_two(text, grant, seen)
+        }
     }
 }
 

@@ -8,8 +8,10 @@
 //! - [`next_line`] reads the line at the front of a text;
 //! - [`first_lines`] reads all lines of one kind at the front of a text.
 //!
-//! A number is below 2^64, and a line has at most [`MOST_NUMBERS`] of them. Only [`first_lines`]
-//! allocates memory.
+//! [`push_field`] and [`push_number`] write the numbers of a line.
+//!
+//! A number is below 2^64, and a line has at most [`MOST_NUMBERS`] of them. Of the readers only
+//! [`first_lines`] allocates memory.
 //!
 //! # What is proved
 //!
@@ -25,7 +27,9 @@
 mod laws;
 mod line;
 mod reading;
+mod writing;
 
 pub use laws::lines_are_read_in_one_way;
 pub use line::Line;
 pub use reading::{MOST_NUMBERS, first_lines, next_line, read_line};
+pub use writing::{push_field, push_number};
