@@ -14,12 +14,12 @@ use Rattle.voter.specs.Steps as voter
 use Rattle.requester.specs.declared.state.ClientState.{ClientState}
 use Rattle.requester.specs.Leases as client
 use Rattle.requester.specs.Soundness as sound
-use Rattle.world.specs.declared.fault.WorldFault.{WorldFault}
-use Rattle.world.specs.declared.step.Step.{Step}
-use Rattle.world.specs.declared.step.Stepped.{Stepped}
+use Rattle.world_state.specs.declared.fault.WorldFault.{WorldFault}
+use Rattle.world_state.specs.declared.step.Step.{Step}
+use Rattle.world_state.specs.declared.step.Stepped.{Stepped}
 use Rattle.world.specs.Restarts.{Goes, OneClient, OneVoter, Saved, come_back, happens, if_there, restart, save_and_send}
 use Rattle.world.specs.SavedWorlds.{PlannedSaved, SavesAndSends}
-use Rattle.world.specs.Steps.{Outcome, WorldState, after_voter, client_at, dealing_of, if_client, if_voter, vote, voter_at}
+use Rattle.world_state.specs.Steps.{Outcome, WorldState, after_voter, client_at, dealing_of, if_client, if_voter, vote, voter_at}
 use Rattle.world.proofs.Claims.{put-same}
 use Rattle.world.proofs.Places.{client_at-set}
 use Rattle.leases.specs.Incidents.{Incident, Happens, Hears, anew, be_reborn, come_back_as, hear, is_above, is_ahead, reborn, start_anew, start_as}

@@ -28,14 +28,15 @@ use Rattle.requester.specs.Words.{held_of}
 use Rattle.dealer.specs.Plans.{PlanPair, ArePlans}
 use Rattle.quorum_set.specs.declared.bridge.Side.{Side}
 use Rattle.quorum_set.specs.declared.bridge.Side.TheVariants.{First, Second}
-use Rattle.world.specs.declared.fault.WorldFault.{WorldFault}
-use Rattle.world.specs.declared.step.Step.TheVariants.{Ask, Deliver, Leave, GiveUp, RemindClient, RemindVoter, Exchange}
-use Rattle.world.specs.Ranges.{IsAddressed, IsNumbered, IsWithin, ReportsWithin}
+use Rattle.world_state.specs.declared.fault.WorldFault.{WorldFault}
+use Rattle.world_state.specs.declared.step.Step.TheVariants.{Ask, Deliver, Leave, GiveUp, RemindClient, RemindVoter, Exchange}
+use Rattle.world.specs.Ranges.{IsWithin, ReportsWithin}
+use Rattle.world_state.specs.Numbered.{IsAddressed, IsNumbered}
 use Rattle.world.specs.Restarts.{Node, OneClient, OneVoter, Nobody, Saved, Happening, Goes, Saves, Forgets, Restarts}
 use Rattle.world.specs.Restarts.{begin, come_back, forget, happens, if_there, receiver, restart, save, save_and_send, save_unless}
 use Rattle.world.specs.Runs.{AreLimits}
 use Rattle.world.specs.SavedWorlds.{PlannedSaved, begin_by}
-use Rattle.world.specs.Steps.{Dealing, Outcome, WorldState, after_client, after_voter, client_at, client_did, come, dealing_of, draw_of, exchange, if_client, if_voter, next_ticket, quorum_dealt, say, step, voter_at, voter_did}
+use Rattle.world_state.specs.Steps.{Dealing, Outcome, WorldState, after_client, after_voter, client_at, client_did, come, dealing_of, draw_of, exchange, if_client, if_voter, next_ticket, quorum_dealt, say, step, voter_at, voter_did}
 use Rattle.world.specs.Visible.{DealsFrom}
 use Rattle.world.proofs.Claims.{Bounds}
 use Rattle.world.proofs.ClientMoves.{Draws, member_below}

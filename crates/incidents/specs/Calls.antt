@@ -4,12 +4,12 @@ use Rattle.message.specs.declared.message.ToVoter.{ToVoter}
 use Rattle.voter.specs.declared.state.Grant.{Grant}
 use Rattle.voter.specs.declared.fault.VoterFault.TheVariants.{GrantsSpent}
 use Rattle.voter.specs.Leases.{release_of}
-use Rattle.world.specs.declared.fault.WorldFault.{WorldFault}
-use Rattle.world.specs.declared.fault.WorldFault.TheVariants.{NoSuchClient, NoSuchVoter, OutOfMemory, Voter}
-use Rattle.world.specs.declared.step.Stepped.{Stepped}
+use Rattle.world_state.specs.declared.fault.WorldFault.{WorldFault}
+use Rattle.world_state.specs.declared.fault.WorldFault.TheVariants.{NoSuchClient, NoSuchVoter, OutOfMemory, Voter}
+use Rattle.world_state.specs.declared.step.Stepped.{Stepped}
 use Rattle.world.specs.Restarts.{OneVoter, Saved, save_and_send}
 use Rattle.world.specs.SavedWorlds.{IsSavedWorld, PlannedSaved}
-use Rattle.world.specs.Steps.{Refuses, client_at, dealing_of, outcome_of, vote, voter_at}
+use Rattle.world_state.specs.Steps.{Refuses, client_at, dealing_of, outcome_of, vote, voter_at}
 use Rattle.leases.specs.Incidents.{Incident, befalls, is_above, is_ahead}
 use Rattle.incidents.specs.declared.fault.IncidentFault.{IncidentFault}
 use Rattle.incidents.specs.declared.fault.IncidentFault.TheVariants.{NoGrant, GrantsForgotten, StampsForgotten, World}

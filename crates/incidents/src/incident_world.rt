@@ -9,7 +9,7 @@ ghost use Rattle.requester.specs.declared.state.Seen.TheVariants.{Nothing};
 ghost use Rattle.world.specs.Restarts.{Goes, OneClient, OneVoter, Restarts, maker};
 ghost use Rattle.world.specs.SavedWorlds.{begin_by, live_of, live_step_of};
 ghost use Rattle.world.specs.States.{node_of};
-ghost use Rattle.world.specs.Steps.{Refuses, client_at, outcome_of, vote, voter_at};
+ghost use Rattle.world_state.specs.Steps.{Refuses, client_at, outcome_of, vote, voter_at};
 ghost use Rattle.world.specs.Visible.{IsExclusive};
 
 use crate::fault::IncidentFault;
@@ -38,7 +38,8 @@ pub struct IncidentWorld {
 }
 
 impl Model for IncidentWorld {
-    ghost use Rattle.world.specs.States.{plans_of, saved_of};
+    ghost use Rattle.world.specs.States.{saved_of};
+    ghost use Rattle.world_state.specs.States.{plans_of};
     ghost use Rattle.std.specs.Coded.{codes};
     ghost use Rattle.voter.specs.contracts.state.VoterState as known;
     ghost use Rattle.incidents.specs.Fit.{IsFit};

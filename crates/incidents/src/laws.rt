@@ -6,7 +6,7 @@ ghost use Rattle.incidents.specs.Calls.{IsCalm, befalls_by};
 ghost use Rattle.incidents.specs.Fit.{IsFit, IsWritten};
 ghost use Rattle.leases.specs.Incidents.{Incident};
 ghost use Rattle.message.specs.Lines.{HasLine};
-ghost use Rattle.world.specs.Ranges.{IsNumbered};
+ghost use Rattle.world_state.specs.Numbered.{IsNumbered};
 ghost use Rattle.world.specs.Restarts.{Happening};
 ghost use Rattle.world.specs.Runs.{AreLimits, IsReached};
 ghost use Rattle.world.specs.SavedWorlds.{LosesNothing, PlannedSaved, begin_by, happens_by, live_of};

@@ -11,10 +11,11 @@ ghost use Rattle.requester.specs.declared.state.Seen.TheVariants.{Nothing};
 ghost use Rattle.voter.specs.declared.state.Grant.{Grant};
 ghost use Rattle.voter.specs.Leases.{reborn, release_of};
 ghost use Rattle.voter.specs.Saved.{IsKept};
-ghost use Rattle.world.specs.Ranges.{IsNumbered};
+ghost use Rattle.world_state.specs.Numbered.{IsNumbered};
 ghost use Rattle.world.specs.Restarts.{OneClient, OneVoter, come_back, crash_seen, restart};
-ghost use Rattle.world.specs.States.{HasRoom, IsStored, contents_of, saved_of};
-ghost use Rattle.world.specs.Steps.{client_at, vote, voter_at};
+ghost use Rattle.world.specs.States.{IsStored, saved_of};
+ghost use Rattle.world_state.specs.States.{HasRoom, contents_of};
+ghost use Rattle.world_state.specs.Steps.{client_at, vote, voter_at};
 
 use crate::fault::IncidentFault;
 use arrayvec::ArrayVec;
@@ -22,6 +23,7 @@ use message::{ToVoter, VoterBody};
 use requester::{Phase, Requester, Seen};
 use voter::{Grant, Voter};
 use world::{Maker, Stepped, Stored, WorldFault, copy_client, copy_voter, note};
+use world_state::{client_of, voter_of};
 
 /// A grant that a voter let go.
 #[derive(Clone, Copy, Debug, PartialEq, Eq)]
@@ -31,22 +33,6 @@ pub struct Evicted {
     /// How many messages the voter sent: LOCKED to who gets the vote, if a request waited. They are the
     /// last ones of the world.
     pub sent: usize,
-}
-
-/// Returns the client with this number.
-fn client_of(clients: &[Requester], number: u8) -> &Requester
-    requires { number < length clients.now }
-    ensures { result.now ≡ client_at clients.now number }
-{
-    &clients[usize::from(number)]
-}
-
-/// Returns the voter with this number.
-fn voter_of(voters: &[Voter], number: u8) -> &Voter
-    requires { number < length voters.now }
-    ensures { result.now ≡ voter_at voters.now number }
-{
-    &voters[usize::from(number)]
 }
 
 /// Returns how many grants a voter gave. It is the fourth number that the voter saves.

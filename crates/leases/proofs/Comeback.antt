@@ -34,19 +34,20 @@ use Rattle.requester.specs.Saved.{least_client}
 use Rattle.requester.specs.Steps as client
 use Rattle.requester.specs.Words.{holds, holds_under, is_idle, last_of, members}
 use Rattle.world.specs.Ranges.{IsInRange, IsWithin, ReportsWithin}
-use Rattle.world.specs.Restarts.{Node, OneClient, OneVoter, Nobody, Saved, Happening, Goes, Saves, Forgets, Restarts, begin, happens, is_silent, save_unless}
+use Rattle.world.specs.Restarts.{Node, OneClient, OneVoter, Nobody, Saved, Happening, Goes, Saves, Forgets, Restarts, begin, happens, save_unless}
+use Rattle.world_state.specs.Steps.{is_silent}
 use Rattle.world.specs.Runs.{start}
-use Rattle.world.specs.Steps.{Dealing, client_at, client_did, voter_at}
+use Rattle.world_state.specs.Steps.{Dealing, client_at, client_did, voter_at}
 use Rattle.world.specs.Rules.{ClientLaws, VoterLaws}
 use Rattle.requester.specs.Soundness as sound
 use Rattle.requester.specs.declared.state.Phase.{Phase}
 use Rattle.requester.specs.declared.state.Phase.TheVariants.{Idle, Asking, Inside}
 use Rattle.requester.specs.Words.{is_inside}
-use Rattle.world.specs.declared.fault.WorldFault.{WorldFault}
-use Rattle.world.specs.declared.step.Step.TheVariants.{Ask, Deliver, Leave, GiveUp, RemindClient, RemindVoter, Exchange}
+use Rattle.world_state.specs.declared.fault.WorldFault.{WorldFault}
+use Rattle.world_state.specs.declared.step.Step.TheVariants.{Ask, Deliver, Leave, GiveUp, RemindClient, RemindVoter, Exchange}
 use Rattle.world.specs.Restarts.{all_happen, come_back, if_there, receiver}
 use Rattle.world.specs.Runs.{AreLimits}
-use Rattle.world.specs.Steps.{Outcome, come, exchange, if_client, if_voter, next_ticket, quorum_dealt, step}
+use Rattle.world_state.specs.Steps.{Outcome, come, exchange, if_client, if_voter, next_ticket, quorum_dealt, step}
 use Rattle.world.specs.Visible.{DealsFrom, DoMeet, IsAmong, IsExclusive}
 use Rattle.leases.specs.Incidents.{Incident, Happens, Hears, IsReborn, StartsAnew, HasLimit, IsRaised, all_befall, anew, be_raised, be_reborn, befalls, have_limit, hear, is_above, is_ahead, is_message, is_request_within, limited, reborn, start_anew}
 use Rattle.leases.proofs.Raises.{no_inquiry, raised_by_step}
@@ -63,7 +64,7 @@ use Rattle.world.proofs.Reached.{Given, new_voters, start_ok, start_unused, vote
 use Rattle.quorum_set.specs.declared.bridge.Side.{Side}
 use Rattle.quorum_set.specs.declared.bridge.Side.TheVariants.{First, Second}
 use Rattle.world.specs.Restarts.{save_and_send}
-use Rattle.world.specs.Steps.{after_client, after_voter, draw_of, say}
+use Rattle.world_state.specs.Steps.{after_client, after_voter, draw_of, say}
 use Rattle.leases.proofs.Numbers.{Told, Votes, brought, none_told, with_draw, Naming, Numbered, count, set_client, set_voter}
 
 -- what `voter` says of the requests that a message finishes, and of votes that are asked back

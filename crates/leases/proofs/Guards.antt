@@ -9,7 +9,7 @@ use Rattle.std.proofs.lemmas.Option.{same_Some}
 use Rattle.voter.specs.declared.state.Grant.{Grant}
 use Rattle.world.specs.Restarts.{IsIn, Saved, begin, pass_of, stamp_of}
 use Rattle.world.specs.Runs.{AreLimits}
-use Rattle.world.specs.Steps.{Dealing, client_at}
+use Rattle.world_state.specs.Steps.{Dealing, client_at}
 use Rattle.world.specs.Visible.{DealsFrom, DoMeet}
 use Rattle.world.specs.Rules.{ClientLaws, VoterLaws}
 use Rattle.world.proofs.Claims.{Bounds}

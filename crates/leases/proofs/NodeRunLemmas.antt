@@ -22,10 +22,11 @@ use Rattle.voter.specs.Steps as voter
 use Rattle.voter.specs.VoterContract.{Brings, IsEntry}
 use Rattle.voter_node.specs.declared.fault.NodeFault.{NodeFault}
 use Rattle.voter_node.specs.Nodes as nodes
-use Rattle.world.specs.declared.step.Step.TheVariants.{Deliver, RemindVoter}
-use Rattle.world.specs.Restarts.{Saved, OneVoter, Goes, Saves, Forgets, Restarts, forget, happens, is_silent, receiver, restart, save, save_and_send, save_unless}
+use Rattle.world_state.specs.declared.step.Step.TheVariants.{Deliver, RemindVoter}
+use Rattle.world.specs.Restarts.{Saved, OneVoter, Goes, Saves, Forgets, Restarts, forget, happens, receiver, restart, save, save_and_send, save_unless}
+use Rattle.world_state.specs.Steps.{is_silent}
 use Rattle.world.specs.Rules.{VoterLaws}
-use Rattle.world.specs.Steps.{Dealing, after_voter, come, if_client, if_voter, say, step, vote, voter_at, voter_did}
+use Rattle.world_state.specs.Steps.{Dealing, after_voter, come, if_client, if_voter, say, step, vote, voter_at, voter_did}
 use Rattle.leases.specs.Incidents.{Incident, Happens, Hears, IsReborn, StartsAnew, HasLimit, IsRaised, all_befall, befalls, hear, is_message, is_request_within}
 use Rattle.leases.specs.Comeback.{AreLawful, IsEviction}
 use Rattle.leases.specs.Orderly.{AreOrderly}

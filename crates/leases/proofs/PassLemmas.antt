@@ -9,7 +9,7 @@ use Rattle.leases.specs.Visits.{AdmitsAll, Visit, passes}
 use Rattle.requester.specs.declared.state.ClientState.{ClientState}
 use Rattle.requester.specs.Words.{held_of, holds_under}
 use Rattle.world.specs.Restarts.{Happening, HasVote, IsNewer, Saved, all_happen, happens, pass_of}
-use Rattle.world.specs.Steps.{Dealing, client_at}
+use Rattle.world_state.specs.Steps.{Dealing, client_at}
 
 -- ---- what happens, and what happens then
 

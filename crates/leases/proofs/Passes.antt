@@ -25,11 +25,12 @@ use Rattle.requester.specs.Steps as client
 use Rattle.requester.specs.Words.{holds, holds_under, is_hindered, last_of, is_asking, is_covered, is_current, is_idle, is_inside, is_member, members}
 use Rattle.quorum_set.specs.declared.bridge.Side.{Side}
 use Rattle.quorum_set.specs.declared.bridge.Side.TheVariants.{First, Second}
-use Rattle.world.specs.declared.fault.WorldFault.{WorldFault}
-use Rattle.world.specs.declared.step.Step.TheVariants.{Ask, Deliver, Leave, GiveUp, RemindClient, RemindVoter, Exchange}
-use Rattle.world.specs.Restarts.{Node, OneClient, OneVoter, Nobody, Saved, Happening, Goes, Saves, Forgets, Restarts, IsIn, begin, come_back, happens, if_there, is_silent, pass_of, receiver, save, save_and_send, save_unless, stamp_of}
+use Rattle.world_state.specs.declared.fault.WorldFault.{WorldFault}
+use Rattle.world_state.specs.declared.step.Step.TheVariants.{Ask, Deliver, Leave, GiveUp, RemindClient, RemindVoter, Exchange}
+use Rattle.world.specs.Restarts.{Node, OneClient, OneVoter, Nobody, Saved, Happening, Goes, Saves, Forgets, Restarts, IsIn, begin, come_back, happens, if_there, pass_of, receiver, save, save_and_send, save_unless, stamp_of}
+use Rattle.world_state.specs.Steps.{is_silent}
 use Rattle.world.specs.Runs.{AreLimits}
-use Rattle.world.specs.Steps.{Dealing, Outcome, after_client, after_voter, client_at, client_did, come, draw_of, exchange, if_client, if_voter, next_ticket, quorum_dealt, say, step, voter_at, voter_did}
+use Rattle.world_state.specs.Steps.{Dealing, Outcome, after_client, after_voter, client_at, client_did, come, draw_of, exchange, if_client, if_voter, next_ticket, quorum_dealt, say, step, voter_at, voter_did}
 use Rattle.world.specs.Visible.{DealsFrom, DoMeet}
 use Rattle.world.specs.Rules.{ClientLaws, VoterLaws}
 use Rattle.world.proofs.Claims.{Bounds, put, put-same}

@@ -29,7 +29,7 @@ use Rattle.voter.specs.Steps as voter
 use Rattle.world.specs.Ranges.{IsWithin}
 use Rattle.world.specs.Restarts.{OneVoter, Saved, begin, crash_seen}
 use Rattle.world.specs.Runs.{AreLimits}
-use Rattle.world.specs.Steps.{Dealing, client_at, events, voter_at}
+use Rattle.world_state.specs.Steps.{Dealing, client_at, events, voter_at}
 use Rattle.world.specs.Visible.{DealsFrom, DoMeet, IsExclusive}
 use Rattle.world.specs.Rules.{ClientLaws, VoterLaws}
 use Rattle.world.proofs.Claims.{AskOk, Bounds, ReportOk, MessageOk, VoterOk, WorldOk, put, put-same}

@@ -12,7 +12,7 @@ use Rattle.requester.specs.Words.{is_idle}
 use Rattle.world.specs.Restarts.{Saved, begin}
 use Rattle.world.specs.Rules.{ClientLaws, VoterLaws}
 use Rattle.world.specs.Runs.{run_of}
-use Rattle.world.specs.Steps.{Dealing, WorldState, client_at, voter_at}
+use Rattle.world_state.specs.Steps.{Dealing, WorldState, client_at, voter_at}
 use Rattle.world.proofs.Claims.{Bounds}
 use Rattle.world.proofs.EveryRun.{coherent_by, run_from}
 use Rattle.world.proofs.Reached.{Given, RunOk}

@@ -15,7 +15,7 @@ use Rattle.voter.specs.VoterContract.{IsEntry}
 use Rattle.voter_node.specs.Nodes as nodes
 use Rattle.world.specs.Restarts.{Saved, begin}
 use Rattle.world.specs.Rules.{VoterLaws}
-use Rattle.world.specs.Steps.{Dealing, voter_at}
+use Rattle.world_state.specs.Steps.{Dealing, voter_at}
 use Rattle.leases.specs.Comeback.{AreLawful}
 use Rattle.leases.specs.Incidents.{Incident, all_befall, befalls}
 use Rattle.leases.specs.NodeRuns.{HasVoter, Places, WasSent, given_out, incidents_of, saved_after, with_voter}

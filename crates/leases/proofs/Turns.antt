@@ -7,7 +7,7 @@ use Rattle.std.specs.List.{AllByRecursion}
 use Rattle.std.proofs.lemmas.Bool.Decides.{nat_tests}
 use Rattle.world.specs.Restarts.{begin}
 use Rattle.world.specs.Runs.{AreLimits}
-use Rattle.world.specs.Steps.{Dealing}
+use Rattle.world_state.specs.Steps.{Dealing}
 use Rattle.world.specs.Visible.{DealsFrom, DoMeet}
 use Rattle.world.specs.Rules.{ClientLaws, VoterLaws}
 use Rattle.leases.specs.Incidents.{AreApart, Incident}

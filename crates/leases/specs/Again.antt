@@ -1,10 +1,10 @@
 -- Worlds that steps lead to after incidents, once all clients were idle.
 use Rattle.std.specs.Prelude.{ℕ, ◌≡◌, true, List}
 use Rattle.requester.specs.Words.{is_idle}
-use Rattle.world.specs.declared.step.Step.{Step}
+use Rattle.world_state.specs.declared.step.Step.{Step}
 use Rattle.world.specs.Restarts.{begin}
 use Rattle.world.specs.Runs.{AreLimits, run_of}
-use Rattle.world.specs.Steps.{Dealing, WorldState, client_at}
+use Rattle.world_state.specs.Steps.{Dealing, WorldState, client_at}
 use Rattle.world.specs.Visible.{DealsFrom, DoMeet}
 use Rattle.leases.specs.Comeback.{AreLawful, unseen}
 use Rattle.leases.specs.Incidents.{Incident, all_befall}

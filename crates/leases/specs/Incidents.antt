@@ -10,7 +10,7 @@ use Rattle.voter.specs.Steps as voter
 use Rattle.requester.specs.declared.state.ClientState.{ClientState}
 use Rattle.requester.specs.Steps as client
 use Rattle.world.specs.Restarts.{Happening, OneVoter, Saved, come_back, happens, save_and_send}
-use Rattle.world.specs.Steps.{Dealing, client_at, if_client, if_voter, vote, voter_at}
+use Rattle.world_state.specs.Steps.{Dealing, client_at, if_client, if_voter, vote, voter_at}
 
 -- what may befall a lock, at any time
 pub data Incident : Type 0 where

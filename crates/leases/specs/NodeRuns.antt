@@ -11,9 +11,9 @@ use Rattle.voter.specs.Leases.{release_of}
 use Rattle.voter.specs.VoterContract.{IsEntry}
 use Rattle.voter_node.specs.declared.fault.NodeFault.{NodeFault}
 use Rattle.voter_node.specs.Nodes as nodes
-use Rattle.world.specs.declared.step.Step.TheVariants.{Deliver, RemindVoter}
+use Rattle.world_state.specs.declared.step.Step.TheVariants.{Deliver, RemindVoter}
 use Rattle.world.specs.Restarts.{Saved, OneVoter, Goes, Saves, Forgets, Restarts}
-use Rattle.world.specs.Steps.{voter_at}
+use Rattle.world_state.specs.Steps.{voter_at}
 use Rattle.leases.specs.Incidents.{Incident, Happens, Hears, is_request_within}
 
 -- The voter with this number has this state in the world, live and saved. Each client of which it has a

@@ -5,7 +5,7 @@ use Rattle.numbers.specs.Bounds.{max_voters}
 use Rattle.fence.specs.Passes.{Admits, SeesAlso}
 use Rattle.voter.specs.declared.state.Grant.{Grant}
 use Rattle.world.specs.Restarts.{IsIn, IsSameRequest, Saved, begin, pass_of}
-use Rattle.world.specs.Steps.{Dealing, voter_at}
+use Rattle.world_state.specs.Steps.{Dealing, voter_at}
 use Rattle.leases.specs.Incidents.{AreApart, Incident, all_befall}
 
 -- A guard that has seen these grants admits all of these passes, one after the other. A pass that it

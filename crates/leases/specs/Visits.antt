@@ -2,7 +2,7 @@
 use Rattle.std.specs.Prelude.{ℕ, List, [], ◌∷◌}
 use Rattle.fence.specs.Passes.{Admits, SeesAlso}
 use Rattle.world.specs.Restarts.{Happening, Saved, all_happen, pass_of}
-use Rattle.world.specs.Steps.{Dealing}
+use Rattle.world_state.specs.Steps.{Dealing}
 
 -- a client that shows its pass, and what happened since the visit before
 pub record Visit : Type 0 where

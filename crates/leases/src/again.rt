@@ -5,10 +5,10 @@ ghost use Rattle.progress.specs.LostVotes.{ComesBack, GoesOn, HasLostVote, HasRe
 ghost use Rattle.progress.specs.Overtaking.{IsKnownEverywhere, StillRuns, entries_of};
 ghost use Rattle.progress.specs.WayIn.{Asks, AsksAlone, GetsIn, HasGrants, IsFree, IsWayIn};
 ghost use Rattle.voter.specs.declared.state.Grant.{Grant};
-ghost use Rattle.world.specs.declared.step.Event.{Event};
-ghost use Rattle.world.specs.declared.step.Step.{Step};
+ghost use Rattle.world_state.specs.declared.step.Event.{Event};
+ghost use Rattle.world_state.specs.declared.step.Step.{Step};
 ghost use Rattle.world.specs.Runs.{run_of};
-ghost use Rattle.world.specs.Steps.{Dealing, WorldState};
+ghost use Rattle.world_state.specs.Steps.{Dealing, WorldState};
 
 use progress::worlds_keep_their_rules;
 use world::parts_keep_their_rules;

@@ -5,7 +5,7 @@ ghost use Rattle.fence.specs.Passes.{HasSeen, Refuses};
 ghost use Rattle.leases.specs.Visits.{AdmitsAll, Visit, passes};
 ghost use Rattle.world.specs.Restarts.{Happening, IsIn, IsSameRequest, all_happen, begin, pass_of};
 ghost use Rattle.world.specs.Runs.{AreLimits};
-ghost use Rattle.world.specs.Steps.{Dealing};
+ghost use Rattle.world_state.specs.Steps.{Dealing};
 ghost use Rattle.world.specs.Visible.{DealsFrom, DoMeet};
 
 use world::{later_passes_are_newer, later_votes_have_greater_numbers, parts_keep_their_rules};

@@ -10,7 +10,7 @@ ghost use Rattle.leases.specs.Shows.{AreAdmitted, AreInOrder, DoNotInterleave, H
 ghost use Rattle.leases.specs.Turns.{AreEntered, Entry, TurnsNameRequests};
 ghost use Rattle.world.specs.Restarts.{Happening, IsIn, IsSameRequest, all_happen, begin, pass_of, stamp_of};
 ghost use Rattle.world.specs.Runs.{AreLimits};
-ghost use Rattle.world.specs.Steps.{Dealing};
+ghost use Rattle.world_state.specs.Steps.{Dealing};
 ghost use Rattle.message.specs.declared.message.ToVoter.{ToVoter};
 ghost use Rattle.voter.specs.declared.state.VoterState.{VoterState};
 ghost use Rattle.voter.specs.Steps.{Outcome, step};

@@ -9,7 +9,7 @@ ghost use Rattle.leases.specs.Services.{Along, Episode, IsLawfulEpisode, IsOrder
 ghost use Rattle.voter.specs.declared.state.VoterState.{VoterState};
 ghost use Rattle.voter_node.specs.Nodes.{Event};
 ghost use Rattle.world.specs.Restarts.{Saved, begin};
-ghost use Rattle.world.specs.Steps.{Dealing};
+ghost use Rattle.world_state.specs.Steps.{Dealing};
 
 use world::parts_keep_their_rules;
 

@@ -1,8 +1,8 @@
 -- Clusters, as contracts see them.
-use Rattle.std.specs.Prelude.{◌≡◌, ℕ, ◌*◌, ◌≤◌, ◌++◌, List, Option, Some, IfSome, length, slice_get}
+use Rattle.std.specs.Prelude.{◌≡◌, ℕ, ◌*◌, ◌≤◌, ◌++◌, Option, IfSome, length}
 use Rattle.numbers.specs.Bounds.{max_voters, max_clients, max_tickets}
 use Rattle.board.specs.Roots.{HasAllSeats}
-use Rattle.board.specs.Seats.{BoardState, RootState}
+use Rattle.board.specs.Seats.{RootState}
 use Rattle.dealer.specs.Offices.{OfficeName}
 use Rattle.clerks.specs.Clerks.{ClerksState, OfficesState, fresh_clerks, offices_with, quorums_in}
 pub use Rattle.node.specs.Names.{ClusterState, no_cluster}
@@ -24,21 +24,10 @@ pub record IsCluster (c : ClusterState) : Type 0 where
   pub clients : c.board.clients ≤ max_clients
   pub limit : c.board.limit ≡ max_tickets
 
--- each of these numbers is its place in the list
-abbrev pub AreNumbered : List ℕ → Type 0
-AreNumbered numbers = (k n : ℕ) → slice_get numbers k ≡ Some n → n ≡ k
-
--- A running cluster: its board and its offices, and a node for each voter. There is a line for each
--- voter and a mailbox for each client, in the order of their numbers.
-pub record Runs (c : ClusterState) (board : BoardState) (offices : OfficesState) (nodes : ℕ) (lines mailboxes : List ℕ) : Type 0 where
+-- a running cluster: its offices; where its messages go is in `mailroom`
+pub record Runs (c : ClusterState) (offices : OfficesState) : Type 0 where
   pub cluster : IsCluster c
-  pub board_is : board ≡ c.board
   pub offices_are : offices ≡ offices_with (names_in c) (c.board.clients * c.quota)
-  pub nodes_are : nodes ≡ c.board.voters
-  pub lines_many : length lines ≡ c.board.voters
-  pub lines_are : AreNumbered lines
-  pub mailboxes_many : length mailboxes ≡ c.board.clients
-  pub mailboxes_are : AreNumbered mailboxes
 
 -- a cluster that is not open yet: all rights to seats and tickets are with the root and the clerks
 pub record IsBlank (c : ClusterState) (offices : OfficesState) (root : RootState) (clerks : ClerksState)

@@ -18,7 +18,8 @@ use Rattle.run_outcome.specs.declared.fault.ClusterFault.{ClusterFault}
 use Rattle.run_outcome.specs.declared.fault.ClusterFault.TheVariants as refuses
 use Rattle.clerks.specs.Clerks.{ClerksState, HasShare, IsThere, fresh_clerks, names_of, rest_of}
 use Rattle.members.specs.Clusters.{ClusterState, names_in}
-use Rattle.members.specs.Losses.{LosesAtMost, most_lost, one_more}
+use Rattle.members.specs.Losses.{LosesAtMost, one_more}
+use Rattle.mailroom.specs.Losses.{most_lost}
 use Rattle.node.specs.Mail.{IsMail}
 use Rattle.node.specs.Votes.{HoldsWithin}
 

@@ -5,17 +5,17 @@ ghost use Rattle.numbers.specs.Bounds.{max_clients, max_tickets};
 ghost use Rattle.board.specs.Roots.{IsNewBoard};
 ghost use Rattle.dealer.specs.Plans.{coteries_of};
 ghost use Rattle.clerks.specs.Clerks.{fresh_clerks, office_names, plan_quorums};
-ghost use Rattle.members.specs.Clusters.{AreNumbered, ClusterState, IsBlank, IsCluster, names_in};
+ghost use Rattle.members.specs.Clusters.{ClusterState, IsBlank, IsCluster, names_in};
 ghost use Rattle.members.specs.Members.{AreIdle, fresh_member};
 
 use crate::cluster::{Cluster, Left};
-use crate::line::Line;
 use crate::member::Member;
 use board::{Board, BoardRoot};
 use certificate::Plan;
 use clerks::{Clerks, Offices, open_offices};
 use dealer::Plans;
-use node::{ClusterName, Node, Postbox};
+use mailroom::Mailroom;
+use node::ClusterName;
 use numbers::MAX_TICKETS;
 use quorum_set::Bridge;
 use std::alloc::{AllocError, Global};
@@ -57,98 +57,6 @@ impl Model for Blank {
         b.offices b.root b.clerks b.voters b.clients };
 }
 
-/// Creates a node for each voter, with the voter's seat from the root.
-fn nodes_of<N: ClusterName>(
-    alloc: Global,
-    board: &Board,
-    root: &mut BoardRoot,
-    voters: u8,
-) -> Result<Vec<Mutex<Node<N>>>, AllocError>
-    requires board { board.now ≡ N.cluster.board }
-    requires cluster { IsCluster N.cluster }
-    requires voters { voters ≡ N.cluster.board.voters }
-    requires table { root.old.table ≡ board.now.table }
-    requires there { (v : ℕ) → slice_index_or root.old.voters v false ≡ nat_lt v voters }
-    requires seats { voters ≤ root.old.seats }
-    ensures len { IfOk result (λ nodes. length nodes.items ≡ voters) }
-    ensures seats { IfOk result (λ _. root.new.seats + voters ≡ root.old.seats) }
-    ensures same { IfOk result (λ _. (root.new.clients ≡ root.old.clients) × (root.new.passes ≡ root.old.passes)) }
-    ensures table { root.new.table ≡ root.old.table }
-{
-    let mut nodes = Vec::with_capacity(alloc, usize::from(voters))?;
-    for voter in 0..voters {
-        let seat = root.voter(board, voter);
-        nodes.push(Mutex::new(Node::new(alloc, seat)))?;
-    }
-    Ok(nodes)
-}
-
-/// Creates a line for each voter, in order.
-fn lines_of(alloc: Global, voters: u8) -> Result<Vec<Line>, AllocError>
-    ensures len { IfOk result (λ lines. length lines.items ≡ voters) }
-    ensures each { IfOk result (λ lines. AreNumbered lines.items) }
-{
-    let mut lines = Vec::with_capacity(alloc, usize::from(voters))?;
-    for voter in 0..voters {
-        lines.push(Line::new(voter))?;
-    }
-    Ok(lines)
-}
-
-/// Creates a mailbox for each client, in order.
-fn mailboxes_of<N: ClusterName>(alloc: Global, clients: u8) -> Result<Vec<Postbox<N>>, AllocError>
-    ensures len { IfOk result (λ mailboxes. length mailboxes.items ≡ clients) }
-    ensures each { IfOk result (λ mailboxes. AreNumbered mailboxes.items) }
-{
-    let mut mailboxes = Vec::with_capacity(alloc, usize::from(clients))?;
-    for client in 0..clients {
-        mailboxes.push(Postbox::new(alloc, client))?;
-    }
-    Ok(mailboxes)
-}
-
-/// Where a cluster's messages are taken and kept.
-#[derive(Drop)]
-struct Rooms<N: ClusterName> {
-    /// A node for each voter.
-    nodes: Vec<Mutex<Node<N>>>,
-    /// A line for each voter.
-    lines: Vec<Line>,
-    /// A mailbox for each client.
-    mailboxes: Vec<Postbox<N>>,
-}
-
-/// Creates the nodes, with their seats from the root, and all that messages need besides them.
-fn rooms_of<N: ClusterName>(
-    alloc: Global,
-    board: &Board,
-    root: &mut BoardRoot,
-    voters: u8,
-    clients: u8,
-) -> Result<Rooms<N>, AllocError>
-    requires board { board.now ≡ N.cluster.board }
-    requires cluster { IsCluster N.cluster }
-    requires voters { voters ≡ N.cluster.board.voters }
-    requires table { root.old.table ≡ board.now.table }
-    requires there { (v : ℕ) → slice_index_or root.old.voters v false ≡ nat_lt v voters }
-    requires seats { voters ≤ root.old.seats }
-    ensures nodes { IfOk result (λ rooms. length rooms.nodes.items ≡ voters) }
-    ensures lines { IfOk result (λ rooms. (length rooms.lines.items ≡ voters) × AreNumbered rooms.lines.items) }
-    ensures mailboxes { IfOk result (λ rooms. (length rooms.mailboxes.items ≡ clients) × AreNumbered rooms.mailboxes.items) }
-    ensures seats { IfOk result (λ _. root.new.seats + voters ≡ root.old.seats) }
-    ensures same { IfOk result (λ _. (root.new.clients ≡ root.old.clients) × (root.new.passes ≡ root.old.passes)) }
-    ensures table { root.new.table ≡ root.old.table }
-{
-    let nodes = nodes_of(alloc, board, root, voters)?;
-    let lines = lines_of(alloc, voters)?;
-    let mailboxes = mailboxes_of(alloc, clients)?;
-    Ok(Rooms {
-        nodes,
-        lines,
-        mailboxes,
-    })
-}
-
 /// Creates a member for each client, with the client's seat from the root and with `quota` of each
 /// clerk's tickets.
 fn members_of<N: ClusterName>(
@@ -182,32 +90,37 @@ fn members_of<N: ClusterName>(
     Ok(members)
 }
 
-/// Creates what a cluster has besides its board and its offices, and its members. They get all seats
-/// of the root and all tickets of the clerks.
+/// Creates the mailroom and the members of a cluster. They get all seats of the root and all tickets of the
+/// clerks.
 fn parts_of<N: ClusterName>(
     alloc: Global,
-    board: &Board,
+    board: Board,
     root: &mut BoardRoot,
     offices: &Offices,
     clerks: &mut Clerks,
     voters: u8,
     clients: u8,
     quota: u64,
-) -> Result<(Rooms<N>, Vec<Member<N>>), AllocError>
-    requires board { board.now ≡ N.cluster.board }
+) -> Result<(Mailroom<N>, Vec<Member<N>>), AllocError>
+    requires board { board ≡ N.cluster.board }
     requires quota { quota ≡ N.cluster.quota }
     requires blank { IsBlank N.cluster offices.now root.old clerks.old voters clients }
-    ensures nodes { IfOk result (λ parts. length parts.0.nodes.items ≡ voters) }
-    ensures lines { IfOk result (λ parts. (length parts.0.lines.items ≡ voters) × AreNumbered parts.0.lines.items) }
-    ensures mailboxes { IfOk result (λ parts. (length parts.0.mailboxes.items ≡ clients) × AreNumbered parts.0.mailboxes.items) }
     ensures members { IfOk result (λ parts. parts.1.items ≡ map (fresh_member N.cluster) (range_with_len 0 clients)) }
     ensures seats { IfOk result (λ _. (root.new.seats ≡ 0) × (root.new.passes ≡ [])) }
     ensures clerks { IfOk result (λ _. clerks.new ≡ fresh_clerks (names_in N.cluster) 0) }
     ensures table { root.new.table ≡ root.old.table }
 {
-    let rooms = rooms_of(alloc, board, root, voters, clients)?;
-    let members = members_of(alloc, board, root, offices, clerks, clients, quota)?;
-    Ok((rooms, members))
+    let mailroom = Mailroom::new(alloc, board, root, voters, clients)?;
+    let members = members_of(
+        alloc,
+        mailroom.board(),
+        root,
+        offices,
+        clerks,
+        clients,
+        quota,
+    )?;
+    Ok((mailroom, members))
 }
 
 /// Creates the board of one plan's coterie, or of two plans' coteries, and its root.
@@ -294,9 +207,9 @@ impl Blank {
             clients,
             quota,
         } = self;
-        let (rooms, members) = parts_of(
+        let (mailroom, members) = parts_of(
             alloc,
-            &board,
+            board,
             &mut root,
             &offices,
             &mut clerks,
@@ -310,11 +223,8 @@ impl Blank {
             of: PhantomData,
         };
         let cluster = Cluster {
-            board,
+            mailroom,
             offices,
-            nodes: rooms.nodes,
-            lines: rooms.lines,
-            mailboxes: rooms.mailboxes,
             left: Mutex::new(left),
         };
         Ok((cluster, members))

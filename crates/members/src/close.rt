@@ -72,7 +72,7 @@ fn missing<N: ClusterName>(cluster: &Cluster<N>, members: &[Member<N>]) -> Optio
     ensures none { IfNone result (N.cluster.board.clients ≤ idle_count members.now) }
     ensures all { IfNone result (N.cluster.board.clients ≤ length members.now) }
 {
-    let clients = u64::from(cluster.board.clients());
+    let clients = u64::from(cluster.mailroom.board().clients());
     let idle = count_idle(members);
     if idle < clients {
         Some(clients - idle)
@@ -349,13 +349,11 @@ impl<N: ClusterName> Cluster<N> {
         ensures lost { IfErr result (IsLoss N.cluster) }
     {
         let Cluster {
-            board,
+            mailroom,
             offices,
-            nodes,
-            lines: _,
-            mailboxes: _,
             left,
         } = self;
+        let (board, nodes) = mailroom.into_parts();
         let Left {
             mut root,
             mut clerks,

@@ -1,38 +1,29 @@
 //! A running cluster: its nodes and mailboxes, which all members share.
-ghost use Rattle.std.specs.Prelude.{◌≡◌, ◌+◌, ◌<◌, ◌≤◌, [], true, false, None, Ok, IfErr, IfNone, IfOk, IfSome, length, nat_le};
+ghost use Rattle.std.specs.Prelude.{◌≡◌, ◌<◌, ◌≤◌, [], false, true, length};
 ghost use Rattle.std.specs.Coded.{Coded-set};
-ghost use Rattle.std.specs.List.{count_by};
 ghost use Rattle.numbers.specs.Sets.{IsSet};
 ghost use Rattle.board.specs.Quorums.{HasQuorum, place_of, quorum_at};
 ghost use Rattle.clerks.specs.Clerks.{fresh_clerks, quorums_of};
 ghost use Rattle.members.specs.Clusters.{ClusterState, names_in};
-ghost use Rattle.members.specs.Losses.{IsDelivered, is_stray, is_stray_reply, most_lost};
+ghost use Rattle.mailroom.specs.Losses.{is_stray, is_stray_reply, most_lost};
 ghost use Rattle.node.specs.Mail.{IsMail};
 
-use crate::line::{Held, Line};
-use crate::losses::{Losses, Posted};
-use board::{Board, BoardRoot, ClientSeat};
+use board::BoardRoot;
 use clerks::{Clerks, Offices};
+use mailroom::Mailroom;
 use message::{ToClient, ToVoter};
-use node::{ClusterName, Node, Outbox, Postbox};
+use node::ClusterName;
 use quorum_set::{QSet, Side};
-use requester::Requester;
-use std::alloc::AllocError;
 use std::marker::{Model, PhantomData};
 use std::sync::{Mutex, Wait};
-use std::time::{Clock, Duration};
 
 /// A running cluster: its board, its offices, a node for each voter and a mailbox for each client.
 /// Threads share it through a `&`. Contracts see which cluster it is.
 #[derive(Drop)]
 pub struct Cluster<N: ClusterName> {
-    pub(crate) board: Board,
+    /// The board, the nodes and the mailboxes.
+    pub(crate) mailroom: Mailroom<N>,
     pub(crate) offices: Offices,
-    pub(crate) nodes: Vec<Mutex<Node<N>>>,
-    /// For each voter a line, which is held from a message to it until the replies are posted. So its
-    /// replies get into a mailbox in the order in which it made them. Posting needs the voter's line.
-    pub(crate) lines: Vec<Line>,
-    pub(crate) mailboxes: Vec<Postbox<N>>,
     /// Unused until `close`. The lock lets threads share the cluster.
     pub(crate) left: Mutex<Left<N>>,
 }
@@ -51,86 +42,16 @@ pub(crate) struct Left<N: ClusterName> {
 }
 
 impl<N: ClusterName> Model for Cluster<N> {
-    ghost use Rattle.std.specs.Prelude.{length};
     ghost use Rattle.members.specs.Clusters.{ClusterState, Runs};
 
     ghost Value = { ClusterState };
 
     ghost view = { λ c. N.cluster };
 
-    ghost invariant = { λ c. Runs N.cluster c.board c.offices (length c.nodes.items) c.lines.items c.mailboxes.items };
+    ghost invariant = { λ c. Runs N.cluster c.offices };
 }
 
 impl<N: ClusterName> Cluster<N> {
-    /// Gives a message to its voter's node, with the replies in `outbox` in place of what was there.
-    /// Returns `false` if the node dropped the message, or the cluster doesn't have the voter or the
-    /// client. Fails if the node ran out of memory. Then the message is lost and `outbox` is unchanged.
-    fn tell(
-        &self,
-        rt: &impl Wait,
-        message: &ToVoter,
-        outbox: &mut Outbox,
-    ) -> Result<bool, AllocError>
-        ensures stray { is_stray N.cluster.board message.now ≡ true → result ≡ Ok false }
-        ensures taken { IfOk result (λ taken. taken ≡ true → outbox.new.voter ≡ message.now.voter) }
-        ensures else_same { IfOk result (λ taken. taken ≡ false → outbox.new ≡ outbox.old) }
-        ensures memory { IfErr result (λ _. outbox.new ≡ outbox.old) }
-    {
-        if usize::from(message.client) >= self.mailboxes.len() {
-            return Ok(false);
-        }
-        let Some(node) = self.nodes.get(usize::from(message.voter)) else {
-            return Ok(false);
-        };
-        let mut node = node.lock(rt);
-        if node.number() != message.voter {
-            return Ok(false);
-        }
-        node.take_into(&self.board, message, outbox)
-    }
-
-    /// Waits until the replies of a voter to earlier messages are posted, and keeps other messages to
-    /// it waiting until its line is dropped. Returns `None` if the cluster doesn't have the voter.
-    fn line(&self, rt: &impl Wait, voter: u8) -> Option<Held<'_>>
-        ensures own { IfSome result (λ line. line.voter ≡ voter) }
-        ensures missing { IfNone result (N.cluster.board.voters ≤ voter) }
-    {
-        Some(self.lines.get(usize::from(voter))?.hold(rt))
-    }
-
-    /// Returns the reminders of a voter's node, or `None` if the cluster doesn't have the voter.
-    fn reminders(&self, rt: &impl Wait, voter: u8) -> Option<Outbox>
-        ensures own { IfSome result (λ outbox. outbox.voter ≡ voter) }
-        ensures stray { N.cluster.board.voters ≤ voter → result ≡ None }
-    {
-        let node = self.nodes.get(usize::from(voter))?.lock(rt);
-        if node.number() != voter {
-            return None;
-        }
-        Some(node.remind())
-    }
-
-    /// Returns a client's mailbox, or `None` if the cluster doesn't have the client.
-    fn mailbox(&self, client: u8) -> Option<&Postbox<N>>
-        ensures own { IfSome result (λ mailbox. mailbox.now ≡ client) }
-        ensures there { IfSome result (λ _. client < N.cluster.board.clients) }
-        ensures missing { IfNone result (N.cluster.board.clients ≤ client) }
-    {
-        self.mailboxes.get(usize::from(client))
-    }
-
-    /// Puts a message into its client's mailbox. Returns `false` if it does not belong there, and fails
-    /// if it runs out of memory; then the message is lost.
-    fn put(&self, rt: &impl Wait, message: ToClient) -> Result<bool, AllocError>
-        ensures mail { IfOk result (λ put. put ≡ true → IsMail N.cluster.board message.client message) }
-        ensures stray { is_stray_reply N.cluster.board message ≡ true → result ≡ Ok false }
-    {
-        let Some(mailbox) = self.mailbox(message.client) else {
-            return Ok(false);
-        };
-        mailbox.put(rt, message, self.nodes.len())
-    }
-
     /// Puts a message into its client's mailbox, as if its voter sent it. Returns `false` if the
     /// message is lost: memory ran out, or it doesn't belong there. It belongs there if the cluster
     /// has its voter and its client; a LOCKED also needs a grant from 1 to 2^40.
@@ -142,47 +63,7 @@ impl<N: ClusterName> Cluster<N> {
         ensures mail { result ≡ true → IsMail N.cluster.board message.client message }
         ensures stray { is_stray_reply N.cluster.board message ≡ true → result ≡ false }
     {
-        self.put(rt, message) == Ok(true)
-    }
-
-    /// Puts each message of a voter's outbox into its client's mailbox, in order, while the voter's
-    /// line is held. Each of them is posted or lost.
-    fn post_each(&self, rt: &impl Wait, _line: &Held<'_>, outbox: &Outbox) -> Posted
-        requires line { _line.now.voter ≡ outbox.now.voter }
-        ensures each { result.posted + result.losses.lost ≡ length outbox.now.messages }
-        ensures few { length outbox.now.messages ≤ most_lost 1 }
-        ensures strays { count_by (is_stray_reply N.cluster.board) outbox.now.messages + result.losses.starved
-            ≤ result.losses.lost }
-    {
-        let mut posted: u64 = 0;
-        let mut losses = Losses::none();
-        for message in outbox.messages() {
-            match self.put(rt, *message) {
-                Ok(true) => posted += 1,
-                Ok(false) => losses = losses.and(Losses::one()),
-                Err(_) => losses = losses.and(Losses::one_starved()),
-            }
-        }
-        Posted { posted, losses }
-    }
-
-    /// Gives a message to its voter, and the voter's replies to their clients. Each reply is posted
-    /// or lost. If the message itself is lost, nothing is posted, that counts as one, and `outbox` is
-    /// unchanged. Otherwise `outbox` gets the replies.
-    fn deliver_into(&self, rt: &impl Wait, message: &ToVoter, outbox: &mut Outbox) -> Posted
-        ensures few { result.losses.lost ≤ most_lost 1 }
-        ensures starved { result.losses.starved ≤ result.losses.lost }
-        ensures stray { is_stray N.cluster.board message.now ≡ true → result.losses ≡ record { lost = 1; starved = 0 } }
-        ensures each { IsDelivered message.now.voter outbox.old outbox.new result.posted result.losses.lost }
-    {
-        let Some(line) = self.line(rt, message.voter) else {
-            return Posted::nothing(Losses::one());
-        };
-        match self.tell(rt, message, outbox) {
-            Ok(true) => self.post_each(rt, &line, outbox),
-            Ok(false) => Posted::nothing(Losses::one()),
-            Err(_) => Posted::nothing(Losses::one_starved()),
-        }
+        self.mailroom.post(rt, message)
     }
 
     /// Gives a message to its voter, as if its client sent it, and the voter's replies to their
@@ -199,68 +80,7 @@ impl<N: ClusterName> Cluster<N> {
         ensures few { result ≤ most_lost 1 }
         ensures stray { is_stray N.cluster.board message.now ≡ true → result ≡ 1 }
     {
-        let delivered = self.deliver_into(rt, message, &mut Outbox::new());
-        delivered.losses.lost
-    }
-
-    /// Posts the reminders of a voter, and returns how many are lost. If the cluster doesn't have the
-    /// voter, that counts as one.
-    fn remind_holder(&self, rt: &impl Wait, voter: u8) -> Losses
-        ensures few { result.lost ≤ most_lost 1 }
-        ensures starved { result.starved ≤ result.lost }
-        ensures stray { N.cluster.board.voters ≤ voter → result ≡ record { lost = 1; starved = 0 } }
-    {
-        let Some(line) = self.line(rt, voter) else {
-            return Losses::one();
-        };
-        match self.reminders(rt, voter) {
-            Some(outbox) => self.post_each(rt, &line, &outbox).losses,
-            None => Losses::one(),
-        }
-    }
-
-    /// Gives each of these messages of a client to its voter, in order, and the voter's replies to
-    /// their clients. A node's lock is released before a mailbox is locked. Of one voter, earlier
-    /// replies are posted before later ones: if an INQUIRE overtook its LOCKED, the client would
-    /// drop it, and all would wait for a reminder.
-    ///
-    /// Returns how many are lost: each message that a node did not take, and each reply that did
-    /// not get into a mailbox.
-    ///
-    /// The client's seat must hold exactly the votes that the client holds: a vote is given back on
-    /// the board before the message goes out that says so.
-    pub(crate) fn send(
-        &self,
-        rt: &impl Wait,
-        _requester: &Requester,
-        _seat: &ClientSeat,
-        messages: &[ToVoter],
-    ) -> Losses
-        requires held { _seat.now.held ≡ _requester.now.held }
-        ensures few { result.lost ≤ most_lost (length messages.now) }
-        ensures starved { result.starved ≤ result.lost }
-        ensures strays { count_by (is_stray N.cluster.board) messages.now ≤ result.lost }
-    {
-        let mut outbox = Outbox::new();
-        let mut losses = Losses::none();
-        for message in messages {
-            losses = losses.and(self.deliver_into(rt, message, &mut outbox).losses);
-        }
-        losses
-    }
-
-    /// Has each of these voters remind the client that holds its vote. Returns how many messages
-    /// are lost.
-    pub(crate) fn remind(&self, rt: &impl Wait, voters: &[u8]) -> Losses
-        ensures few { result.lost ≤ most_lost (length voters.now) }
-        ensures starved { result.starved ≤ result.lost }
-        ensures strays { count_by (nat_le N.cluster.board.voters) voters.now ≤ result.lost }
-    {
-        let mut losses = Losses::none();
-        for voter in voters {
-            losses = losses.and(self.remind_holder(rt, *voter));
-        }
-        losses
+        self.mailroom.deliver(rt, message)
     }
 
     /// Returns the quorum with this number of a plan's coterie.
@@ -273,20 +93,5 @@ impl<N: ClusterName> Cluster<N> {
         ensures some { 1 ≤ length result.now }
     {
         self.offices.quorum(side, number)
-    }
-
-    /// Takes the first message out of a client's mailbox and returns it, if there is one.
-    pub(crate) fn next(&self, rt: &impl Wait, client: u8) -> Option<ToClient>
-        ensures { IfSome result (IsMail N.cluster.board client) }
-    {
-        self.mailbox(client)?.take(rt)
-    }
-
-    /// Has a client's thread sleep until a message comes for the client or the time is over. Returns
-    /// at once if a message waits.
-    pub(crate) fn sleep<R: Wait + Clock>(&self, rt: &R, client: u8, time: Duration) {
-        if let Some(mailbox) = self.mailbox(client) {
-            mailbox.sleep(rt, client, time);
-        }
     }
 }

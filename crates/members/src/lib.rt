@@ -73,8 +73,8 @@
 //! - that a cluster with all members back and idle closes: that is tested;
 //! - that a cluster that could not be closed goes on as it was: that is tested.
 //!
-//! This crate depends on `node`, which has the nodes and the mailboxes, and takes votes and gives
-//! them back. It also depends on `board`, `dealer`, `voter`, `requester`, `message`, `certificate`,
+//! This crate depends on `mailroom`, where messages go, and on `node`, which takes votes and gives them
+//! back. It also depends on `board`, `dealer`, `voter`, `requester`, `message`, `certificate`,
 //! `quorum_set` and `numbers`. The crate `cluster` re-exports all that is here, and drives the
 //! members.
 #![tactic(auto)]
@@ -83,8 +83,6 @@ mod blank;
 mod close;
 mod cluster;
 mod laws;
-mod line;
-mod losses;
 mod member;
 
 pub use blank::Blank;

@@ -8,7 +8,8 @@ ghost use Rattle.requester.specs.Steps.{remind};
 ghost use Rattle.requester.specs.Words.{is_asking, is_idle, is_inside, members};
 ghost use Rattle.clerks.specs.Clerks.{AreDealt, IsDealt, drawn, use_second_plan, may_exchange, receipts_of};
 ghost use Rattle.members.specs.Clusters.{ClusterState, names_in};
-ghost use Rattle.members.specs.Losses.{LosesAtLeast, LosesAtMost, most_lost};
+ghost use Rattle.members.specs.Losses.{LosesAtLeast, LosesAtMost};
+ghost use Rattle.mailroom.specs.Losses.{most_lost};
 ghost use Rattle.members.specs.Members.{MemberState, MayAsk, Asked, HasLeft, GaveUp, Met, Pumped, RefusesAsk, RefusesPass, fresh_member, place_in, with_pass};
 ghost use Rattle.node.specs.Mail.{IsMail};
 ghost use Rattle.node.specs.Votes.{HoldsFewer, HoldsOnly, HoldsWithin};
@@ -89,8 +90,11 @@ fn finish<N: ClusterName>(
     ensures same { (seat.new.table ≡ seat.old.table) × (seat.new.client ≡ seat.old.client)
         × (seat.new.passes ≡ seat.old.passes) }
 {
-    give_back(seat, &cluster.board, requester);
-    cluster.send(rt, requester, seat, out.as_slice()).lost
+    give_back(seat, cluster.mailroom.board(), requester);
+    cluster
+        .mailroom
+        .send(rt, requester, seat, out.as_slice())
+        .lost
 }
 
 impl<N: ClusterName> Member<N> {
@@ -229,7 +233,9 @@ impl<N: ClusterName> Member<N> {
         };
         self.side = side;
         self.quorum = receipt.quorum;
-        let losses = cluster.send(rt, &self.requester, &self.seat, self.out.as_slice());
+        let losses = cluster
+            .mailroom
+            .send(rt, &self.requester, &self.seat, self.out.as_slice());
         self.lost = self.lost.saturating_add(losses.lost);
         Ok(receipt)
     }
@@ -254,7 +260,7 @@ impl<N: ClusterName> Member<N> {
         ensures fault { self.new.fault ≡ self.old.fault }
         ensures lost { self.old.lost ≤ self.new.lost }
     {
-        let message = cluster.next(rt, self.requester.id())?;
+        let message = cluster.mailroom.next(rt, self.requester.id())?;
         Some(self.meet(rt, cluster, &message))
     }
 
@@ -276,7 +282,12 @@ impl<N: ClusterName> Member<N> {
         ensures lost { self.old.lost ≤ self.new.lost }
     {
         clients_keep_their_laws();
-        if !accept(&mut self.seat, &cluster.board, &self.requester, message) {
+        if !accept(
+            &mut self.seat,
+            cluster.mailroom.board(),
+            &self.requester,
+            message,
+        ) {
             self.lost = self.lost.saturating_add(1);
             return Seen::Nothing;
         }
@@ -288,7 +299,7 @@ impl<N: ClusterName> Member<N> {
 
     /// Sleeps until a message comes or the time is over. Returns at once if a message waits.
     pub fn sleep<R: Wait + Clock>(&self, rt: &R, cluster: &Cluster<N>, time: Duration) {
-        cluster.sleep(rt, self.requester.id(), time);
+        cluster.mailroom.sleep(rt, self.requester.id(), time);
     }
 
     /// Leaves: gives each vote back, and then sends RELEASE to each member of its quorum. Fails if
@@ -356,8 +367,10 @@ impl<N: ClusterName> Member<N> {
             return 0;
         }
         let reminders = self.requester.remind();
-        let sent = cluster.send(rt, &self.requester, &self.seat, reminders.as_slice());
-        let both = sent.and(cluster.remind(rt, self.requester.quorum()));
+        let sent = cluster
+            .mailroom
+            .send(rt, &self.requester, &self.seat, reminders.as_slice());
+        let both = sent.and(cluster.mailroom.remind(rt, self.requester.quorum()));
         self.lost = self.lost.saturating_add(both.lost);
         both.starved
     }
@@ -373,7 +386,9 @@ impl<N: ClusterName> Member<N> {
         ensures lost { LosesAtMost (most_lost max_voters) self.old.lost self.new.lost }
         ensures starved { LosesAtLeast result self.old.lost self.new.lost }
     {
-        let again = cluster.send(rt, &self.requester, &self.seat, self.out.as_slice());
+        let again = cluster
+            .mailroom
+            .send(rt, &self.requester, &self.seat, self.out.as_slice());
         self.lost = self.lost.saturating_add(again.lost);
         again.starved
     }
@@ -402,9 +417,9 @@ impl<N: ClusterName> Member<N> {
         if self.requester.phase() != Phase::Inside {
             return Err(ClusterFault::NotInside);
         }
-        self.seat
-            .read_register(&cluster.board, self.side, self.quorum);
-        match self.seat.write_register(&cluster.board) {
+        let board = cluster.mailroom.board();
+        self.seat.read_register(board, self.side, self.quorum);
+        match self.seat.write_register(board) {
             Ok(number) => Ok(number),
             Err(fault) => Err(ClusterFault::Board(fault)),
         }

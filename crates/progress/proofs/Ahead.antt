@@ -17,8 +17,8 @@ use Rattle.voter.specs.VoterContract.{IsEntry}
 use Rattle.voter.specs.Waiting.{front, precedes}
 use Rattle.voter.proofs.Cases.{by_admit, by_release, by_request}
 use Rattle.voter.proofs.Effects.{step-Some}
-use Rattle.world.specs.declared.step.Step.{Step}
-use Rattle.world.specs.Steps.{WorldState, client_at, voter_at}
+use Rattle.world_state.specs.declared.step.Step.{Step}
+use Rattle.world_state.specs.Steps.{WorldState, client_at, voter_at}
 use Rattle.progress.specs.Rules.{Laws}
 use Rattle.progress.proofs.Behind.{grant_moved, the_request}
 use Rattle.progress.proofs.Inquiries.{asks_no_more, replies_again}

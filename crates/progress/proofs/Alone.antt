@@ -11,8 +11,8 @@ use Rattle.voter.specs.declared.state.VoterState.{VoterState}
 use Rattle.requester.specs.declared.state.Phase.{Phase}
 use Rattle.requester.specs.declared.state.Phase.TheVariants.{Idle, Asking, Inside}
 use Rattle.requester.specs.Words.{holds, is_asking, is_idle, is_inside, is_member, last_of, members}
-use Rattle.world.specs.declared.step.Step.{Step}
-use Rattle.world.specs.Steps.{Dealing, WorldState, client_at, voter_at}
+use Rattle.world_state.specs.declared.step.Step.{Step}
+use Rattle.world_state.specs.Steps.{Dealing, WorldState, client_at, voter_at}
 use Rattle.progress.specs.WayIn.{AsksAlone, HasGrants, IsWayIn}
 use Rattle.progress.specs.Rules.{Laws}
 use Rattle.progress.proofs.Kept.{IsKept}

@@ -22,9 +22,9 @@ use Rattle.voter.specs.Steps as voter
 use Rattle.voter.specs.VoteMoves.{VoteMoves}
 use Rattle.voter.specs.VoterContract.{AllReport, Brings, IsEntry, ReportsVote}
 use Rattle.world.specs.Coherence.{AskOk, IsCoherent, MessageOk}
-use Rattle.world.specs.Ranges.{IsAddressed}
+use Rattle.world_state.specs.Numbered.{IsAddressed}
 use Rattle.world.specs.Runs.{start}
-use Rattle.world.specs.Steps.{WorldState, client_at, step, voter_at}
+use Rattle.world_state.specs.Steps.{WorldState, client_at, step, voter_at}
 use Rattle.world.proofs.Reached.{new_voters, voter_new, voter_past}
 use Rattle.progress.specs.Rules.{VoterLaws}
 use Rattle.progress.proofs.Moves.{ClientMoved, IsReminder, Moved, OnlySent, VoterMoved, all_sent, each_voter}

@@ -10,11 +10,11 @@ use Rattle.message.specs.declared.message.ToClient.{ToClient}
 use Rattle.message.specs.declared.message.ToVoter.{ToVoter}
 use Rattle.voter.specs.Steps as voter
 use Rattle.requester.specs.Steps as requester
-use Rattle.world.specs.declared.step.Step.{Step}
-use Rattle.world.specs.declared.step.Step.TheVariants.{Deliver, RemindClient, RemindVoter}
+use Rattle.world_state.specs.declared.step.Step.{Step}
+use Rattle.world_state.specs.declared.step.Step.TheVariants.{Deliver, RemindClient, RemindVoter}
 use Rattle.world.specs.Coherence.{IsCoherent}
-use Rattle.world.specs.Ranges.{IsAddressed}
-use Rattle.world.specs.Steps.{Dealing, WorldState, client_at, voter_at}
+use Rattle.world_state.specs.Numbered.{IsAddressed}
+use Rattle.world_state.specs.Steps.{Dealing, WorldState, client_at, voter_at}
 use Rattle.progress.specs.Rules.{Laws}
 use Rattle.progress.proofs.Along.{next}
 use Rattle.progress.proofs.Exchanges.{after-deliver_client, after-deliver_voter, after-remind_client, after-remind_voter, get_next, get_sent, reminded, spoken}

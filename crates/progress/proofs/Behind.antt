@@ -32,7 +32,7 @@ use Rattle.requester.specs.RequesterContract.{Accepts, IsLater, IsLocked, KeepsQ
 use Rattle.requester.specs.Steps as requester
 use Rattle.requester.specs.Words.{is_current, holds_under, is_idle, is_member, members}
 use Rattle.world.specs.Coherence.{AskOk, IsCoherent}
-use Rattle.world.specs.Steps.{WorldState, client_at, voter_at}
+use Rattle.world_state.specs.Steps.{WorldState, client_at, voter_at}
 use Rattle.progress.specs.Overtaking.{IsKnownEverywhere, StillRuns}
 use Rattle.progress.proofs.Always.{Heeds, IsUpTo, WasGiven, asked_by, granted_rises, is_named}
 use Rattle.progress.specs.Rules.{ClientLaws, Laws, VoterLaws}

@@ -20,10 +20,10 @@ use Rattle.voter.proofs.Staying.{current_stamp-entry}
 use Rattle.requester.specs.declared.state.ClientState.{ClientState}
 use Rattle.requester.specs.Words.{holds, is_asking, is_inquired, is_member, last_of, members}
 use Rattle.requester.proofs.SoundSteps.{is_asking-busy}
-use Rattle.world.specs.declared.step.Step.{Step}
-use Rattle.world.specs.declared.step.Step.TheVariants.{Deliver, RemindClient, RemindVoter}
+use Rattle.world_state.specs.declared.step.Step.{Step}
+use Rattle.world_state.specs.declared.step.Step.TheVariants.{Deliver, RemindClient, RemindVoter}
 use Rattle.world.specs.Runs.{IsReached, run_of}
-use Rattle.world.specs.Steps.{Planned, WorldState, client_at, dealing_of, voter_at}
+use Rattle.world_state.specs.Steps.{Planned, WorldState, client_at, dealing_of, voter_at}
 use Rattle.world.proofs.Plans.{run_then}
 use Rattle.progress.specs.Rounds.{AreFairRounds, IsReminded, IsStill, block, late_body, late_in, late_message, late_step, late_steps, steps_of}
 use Rattle.progress.specs.Rules.{Laws}

@@ -8,10 +8,10 @@ use Rattle.requester.specs.RequesterContract.{KeepsQuorum}
 use Rattle.requester.specs.Steps as requester
 use Rattle.requester.specs.Words.{is_asking, is_idle, is_member}
 use Rattle.requester.proofs.SoundSteps.{give_up-Ok, is_asking-busy, is_asking-outside, leave-Ok}
-use Rattle.world.specs.declared.step.Step.{Step}
-use Rattle.world.specs.declared.step.Step.TheVariants.{GiveUp, RemindClient}
+use Rattle.world_state.specs.declared.step.Step.{Step}
+use Rattle.world_state.specs.declared.step.Step.TheVariants.{GiveUp, RemindClient}
 use Rattle.world.specs.Runs.{run_of}
-use Rattle.world.specs.Steps.{Dealing, WorldState, client_at, voter_at}
+use Rattle.world_state.specs.Steps.{Dealing, WorldState, client_at, voter_at}
 use Rattle.progress.specs.Patience.{ArePatientFrom, HasWaited, HaveWaited}
 use Rattle.progress.specs.Rounds.{AreFairRounds, IsFairRound, steps_of}
 use Rattle.progress.specs.Rules.{Laws}

@@ -20,11 +20,11 @@ use Rattle.requester.specs.Steps as requester
 use Rattle.requester.specs.Words.{held_of, is_asking, is_idle, is_inside, is_member}
 use Rattle.numbers.specs.Sets.{has}
 use Rattle.numbers.proofs.Options.{false-by}
-use Rattle.world.specs.declared.step.Event.{Event}
-use Rattle.world.specs.declared.step.Step.{Step}
+use Rattle.world_state.specs.declared.step.Event.{Event}
+use Rattle.world_state.specs.declared.step.Step.{Step}
 use Rattle.world.specs.Coherence.{IsCoherent}
 use Rattle.world.specs.Runs.{after, run_of}
-use Rattle.world.specs.Steps.{Dealing, WorldState, client_at, events, step, voter_at}
+use Rattle.world_state.specs.Steps.{Dealing, WorldState, client_at, events, step, voter_at}
 use Rattle.progress.specs.Overtaking.{IsKnownEverywhere, StillRuns, entries_of}
 use Rattle.progress.proofs.Always.{Heeds, heeds}
 use Rattle.progress.proofs.Kept.{IsKept}

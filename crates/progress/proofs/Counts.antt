@@ -3,7 +3,7 @@ use Rattle.std.proofs.Common.{◌≡◌, ◌≢◌, ℕ, zero, suc, ◌+◌, ◌
 use Rattle.std.specs.List.{range_with_len}
 use Rattle.std.proofs.lemmas.Bool.{cases_eq, false_from_ne_true}
 use Rattle.std.proofs.lemmas.Bool.Decides.{nat_tests}
-use Rattle.world.specs.Steps.{WorldState, voter_at}
+use Rattle.world_state.specs.Steps.{WorldState, voter_at}
 
 -- n at this voter, and none at the others
 unfoldable pub only : ℕ → ℕ → ℕ → ℕ

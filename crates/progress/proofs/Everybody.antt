@@ -10,11 +10,11 @@ use Rattle.requester.specs.declared.state.Phase.TheVariants.{Idle, Asking, Insid
 use Rattle.requester.specs.declared.state.Seen.TheVariants.{Entered, Left}
 use Rattle.requester.specs.Steps as requester
 use Rattle.requester.specs.Words.{is_asking, is_inside}
-use Rattle.world.specs.declared.step.Event.{Event}
-use Rattle.world.specs.declared.step.Step.{Step}
-use Rattle.world.specs.declared.step.Step.TheVariants.{Ask, Deliver, Leave, GiveUp, RemindClient, RemindVoter, Exchange}
+use Rattle.world_state.specs.declared.step.Event.{Event}
+use Rattle.world_state.specs.declared.step.Step.{Step}
+use Rattle.world_state.specs.declared.step.Step.TheVariants.{Ask, Deliver, Leave, GiveUp, RemindClient, RemindVoter, Exchange}
 use Rattle.world.specs.Runs.{after, run_of}
-use Rattle.world.specs.Steps.{Dealing, WorldState, after_client, client_at, client_did, events, if_client, step, voter_at}
+use Rattle.world_state.specs.Steps.{Dealing, WorldState, after_client, client_at, client_did, events, if_client, step, voter_at}
 use Rattle.progress.specs.Overtaking.{entries_of}
 use Rattle.progress.specs.WayIn.{Asks, GetsIn, HasGrants, Helps, IsFree, Serves}
 use Rattle.progress.proofs.Counting.{entries_of-append, one_entered}

@@ -21,9 +21,9 @@ use Rattle.requester.specs.declared.state.ClientState.{ClientState}
 use Rattle.requester.specs.Soundness.{IsSound}
 use Rattle.requester.specs.Steps as requester
 use Rattle.requester.specs.Words.{held_of, holds, holds_under, last_of}
-use Rattle.world.specs.declared.step.Step.TheVariants.{Deliver, RemindClient, RemindVoter}
+use Rattle.world_state.specs.declared.step.Step.TheVariants.{Deliver, RemindClient, RemindVoter}
 use Rattle.world.specs.Runs.{after, run_of}
-use Rattle.world.specs.Steps.{Dealing, WorldState, after_voter, client_at, client_did, come, if_client, if_voter, say, step, voter_at, voter_did}
+use Rattle.world_state.specs.Steps.{Dealing, WorldState, after_voter, client_at, client_did, come, if_client, if_voter, say, step, voter_at, voter_did}
 use Rattle.progress.specs.LostVotes.{GoesOn, HasLostVote, HasReturnedVote, reminder_and_one}
 use Rattle.world.specs.Coherence.{Names}
 use Rattle.progress.proofs.Kept.{IsKept}

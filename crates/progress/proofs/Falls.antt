@@ -14,9 +14,9 @@ use Rattle.voter.specs.Steps as voter
 use Rattle.voter.specs.Waiting.{precedes}
 use Rattle.requester.specs.declared.state.ClientState.{ClientState}
 use Rattle.requester.specs.Words.{holds, is_asking, last_of}
-use Rattle.world.specs.declared.step.Step.{Step}
-use Rattle.world.specs.declared.step.Step.TheVariants.{Deliver, RemindClient, RemindVoter}
-use Rattle.world.specs.Steps.{WorldState, client_at, voter_at}
+use Rattle.world_state.specs.declared.step.Step.{Step}
+use Rattle.world_state.specs.declared.step.Step.TheVariants.{Deliver, RemindClient, RemindVoter}
+use Rattle.world_state.specs.Steps.{WorldState, client_at, voter_at}
 use Rattle.progress.specs.Rules.{Laws}
 use Rattle.progress.proofs.Along.{Reminded, next, reminded-into, spot_after, spot_before, spot_end, spot_through}
 use Rattle.progress.proofs.Arrivals.{client_takes, message_stays, reminds_second}

@@ -28,7 +28,7 @@ use Rattle.requester.specs.Steps as requester
 use Rattle.requester.specs.Words.{held_of, holds, holds_under, is_asking, is_covered, is_current, is_idle, is_relinquished, last_of, members, is_inquired}
 use Rattle.world.specs.Coherence.{AskOk, IsCoherent, Names}
 use Rattle.world.specs.Runs.{start}
-use Rattle.world.specs.Steps.{WorldState, client_at, step, voter_at}
+use Rattle.world_state.specs.Steps.{WorldState, client_at, step, voter_at}
 use Rattle.progress.proofs.Always.{asked_by, granted_later, new_voter}
 use Rattle.world.proofs.Reached.{client_new, client_past, new_clients, new_voters}
 use Rattle.progress.proofs.Behind.{ask-Ok, grant_moved, meets}

@@ -21,7 +21,7 @@ use Rattle.requester.specs.Saved.{least_client}
 use Rattle.requester.specs.Words.{held_of, is_idle}
 use Rattle.world.specs.Coherence.{IsCoherent}
 use Rattle.world.specs.Runs.{start}
-use Rattle.world.specs.Steps.{WorldState, client_at, voter_at}
+use Rattle.world_state.specs.Steps.{WorldState, client_at, voter_at}
 use Rattle.world.proofs.Exclusion.{held_under}
 use Rattle.progress.specs.Rules.{Laws}
 use Rattle.progress.proofs.Always.{IsUpTo, WasGiven, given-moved}

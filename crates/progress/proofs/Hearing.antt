@@ -17,10 +17,10 @@ use Rattle.requester.specs.Steps as requester
 use Rattle.requester.specs.Words.{held_of, holds, is_asking, is_current, is_idle, is_member}
 use Rattle.requester.proofs.SoundSteps.{is_asking-busy}
 use Rattle.world.specs.Coherence.{IsCoherent}
-use Rattle.world.specs.declared.step.Step.{Step}
-use Rattle.world.specs.declared.step.Step.TheVariants.{Deliver, RemindClient}
+use Rattle.world_state.specs.declared.step.Step.{Step}
+use Rattle.world_state.specs.declared.step.Step.TheVariants.{Deliver, RemindClient}
 use Rattle.world.specs.Runs.{run_of}
-use Rattle.world.specs.Steps.{WorldState, client_at, voter_at}
+use Rattle.world_state.specs.Steps.{WorldState, client_at, voter_at}
 use Rattle.world.proofs.Exclusion.{held_under}
 use Rattle.progress.specs.Overtaking.{IsKnownEverywhere, StillRuns}
 use Rattle.progress.specs.Rules.{ClientLaws, Laws}

@@ -26,10 +26,10 @@ use Rattle.requester.specs.RequesterContract.{AllSay, MeetsContract, Says}
 use Rattle.requester.specs.Soundness.{IsSound}
 use Rattle.requester.specs.Steps as requester
 use Rattle.requester.specs.Words.{held_of, holds, is_failed, is_hindered, is_member, is_relinquished, last_of, members}
-use Rattle.world.specs.declared.step.Step.TheVariants.{Deliver, RemindVoter}
+use Rattle.world_state.specs.declared.step.Step.TheVariants.{Deliver, RemindVoter}
 use Rattle.world.specs.Coherence.{IsCoherent}
 use Rattle.world.specs.Runs.{run_of}
-use Rattle.world.specs.Steps.{Dealing, WorldState, client_at, client_did, events, step, voter_at}
+use Rattle.world_state.specs.Steps.{Dealing, WorldState, client_at, client_did, events, step, voter_at}
 use Rattle.progress.proofs.Exchanges.{after-deliver_client, after-remind_voter, get_next, reminded, spoken}
 use Rattle.progress.proofs.Fitting.{Stays, Stays-fail, Stays-inquire, grant_is}
 use Rattle.progress.specs.Rules.{Laws}

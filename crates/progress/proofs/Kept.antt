@@ -1,9 +1,9 @@
 -- what the laws rest on: what holds of a world, and of each that steps lead to from there
 use Rattle.std.proofs.Common.{ℕ, List, [], ◌∷◌, refl, sym, subst}
 use Rattle.world.specs.Coherence.{IsCoherent}
-use Rattle.world.specs.declared.step.Step.{Step}
+use Rattle.world_state.specs.declared.step.Step.{Step}
 use Rattle.world.specs.Runs.{IsReached, after, run_of, start, start_by}
-use Rattle.world.specs.Steps.{Dealing, Planned, WorldState, dealing_of, step}
+use Rattle.world_state.specs.Steps.{Dealing, Planned, WorldState, dealing_of, step}
 use Rattle.progress.specs.Rules.{Laws}
 use Rattle.progress.proofs.Always.{Always, Always-start}
 use Rattle.progress.proofs.Fitting.{Fits, Fits-moved, Fits-start}

@@ -18,10 +18,10 @@ use Rattle.requester.specs.declared.state.Seen.TheVariants.{Left}
 use Rattle.requester.specs.Steps as requester
 use Rattle.requester.specs.Words.{held_of, holds, is_asking, is_idle, is_inside, is_member}
 use Rattle.requester.proofs.SoundSteps.{is_asking-busy}
-use Rattle.world.specs.declared.step.Step.{Step}
-use Rattle.world.specs.declared.step.Step.TheVariants.{Deliver, Leave, RemindClient}
+use Rattle.world_state.specs.declared.step.Step.{Step}
+use Rattle.world_state.specs.declared.step.Step.TheVariants.{Deliver, Leave, RemindClient}
 use Rattle.world.specs.Runs.{after, run_of}
-use Rattle.world.specs.Steps.{Dealing, WorldState, after_client, client_at, client_did, if_client, step, voter_at}
+use Rattle.world_state.specs.Steps.{Dealing, WorldState, after_client, client_at, client_did, if_client, step, voter_at}
 use Rattle.world.proofs.Exclusion.{held_under}
 use Rattle.progress.specs.Rounds.{IsReminded}
 use Rattle.progress.specs.Rules.{Laws}

@@ -5,7 +5,7 @@ use Rattle.requester.specs.declared.state.ClientState.{ClientState}
 use Rattle.requester.specs.declared.state.Seen.TheVariants.{Entered}
 use Rattle.requester.specs.declared.state.Phase.TheVariants.{Inside}
 use Rattle.requester.specs.Words.{holds, is_asking, members}
-use Rattle.world.specs.Steps.{Dealing, WorldState, client_at, events, voter_at}
+use Rattle.world_state.specs.Steps.{Dealing, WorldState, client_at, events, voter_at}
 use Rattle.progress.proofs.Moves.{each_but}
 use Rattle.progress.proofs.Ways.{EntersAt, Here, IsKept-path, Leads, Leads-same, Path, Path-self, Path-then, Went}
 use Rattle.progress.proofs.Counts.{CanGive, none, only, only_here}

@@ -15,9 +15,9 @@ use Rattle.voter.specs.VoterContract.{IsEntry}
 use Rattle.voter.specs.Waiting.{precedes}
 use Rattle.requester.specs.declared.state.ClientState.{ClientState}
 use Rattle.requester.specs.Words.{holds, is_asking, is_current, is_member, members}
-use Rattle.world.specs.declared.step.Step.{Step}
+use Rattle.world_state.specs.declared.step.Step.{Step}
 use Rattle.world.specs.Runs.{run_of}
-use Rattle.world.specs.Steps.{Dealing, WorldState, client_at, voter_at}
+use Rattle.world_state.specs.Steps.{Dealing, WorldState, client_at, voter_at}
 use Rattle.world.proofs.Plans.{run_then}
 use Rattle.progress.specs.Rounds.{AreFairRounds, late_in, late_step, late_steps, steps_of}
 use Rattle.progress.specs.Patience.{long_block}

@@ -12,10 +12,10 @@ use Rattle.requester.specs.Steps as requester
 use Rattle.requester.specs.Words.{is_asking, is_inside}
 use Rattle.requester.proofs.RangeLemmas.{is_inside-busy}
 use Rattle.requester.proofs.SoundSteps.{give_up-Ok as give_up_ok}
-use Rattle.world.specs.declared.step.Step.{Step}
-use Rattle.world.specs.declared.step.Step.TheVariants.{Deliver, Leave, RemindClient, RemindVoter}
+use Rattle.world_state.specs.declared.step.Step.{Step}
+use Rattle.world_state.specs.declared.step.Step.TheVariants.{Deliver, Leave, RemindClient, RemindVoter}
 use Rattle.world.specs.Runs.{IsReached, after, run_of}
-use Rattle.world.specs.Steps.{Dealing, Planned, WorldState, client_at, dealing_of, step}
+use Rattle.world_state.specs.Steps.{Dealing, Planned, WorldState, client_at, dealing_of, step}
 use Rattle.world.proofs.Plans.{run_then}
 use Rattle.progress.specs.Rounds.{IsAnswered, IsFairRound, IsReminded}
 use Rattle.progress.specs.Rules.{ClientLaws, Laws}

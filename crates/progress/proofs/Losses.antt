@@ -12,15 +12,16 @@ use Rattle.requester.specs.declared.state.ClientState.{ClientState}
 use Rattle.requester.specs.Saved.{least_client}
 use Rattle.requester.specs.Steps as requester
 use Rattle.requester.proofs.SoundSteps.{is_asking-busy}
-use Rattle.world.specs.declared.fault.WorldFault.{WorldFault}
-use Rattle.world.specs.declared.step.Event.{Event}
-use Rattle.world.specs.declared.step.Step.{Step}
+use Rattle.world_state.specs.declared.fault.WorldFault.{WorldFault}
+use Rattle.world_state.specs.declared.step.Event.{Event}
+use Rattle.world_state.specs.declared.step.Step.{Step}
 use Rattle.world.specs.Coherence.{IsCoherent}
-use Rattle.world.specs.Restarts.{Node, OneClient, OneVoter, Nobody, Saved, Happening, Goes, Saves, Forgets, Restarts, all_happen, begin, come_back, forget, happens, if_there, is_silent, maker, restart, save, save_and_send, save_unless}
+use Rattle.world.specs.Restarts.{Node, OneClient, OneVoter, Nobody, Saved, Happening, Goes, Saves, Forgets, Restarts, all_happen, begin, come_back, forget, happens, if_there, maker, restart, save, save_and_send, save_unless}
+use Rattle.world_state.specs.Steps.{is_silent}
 use Rattle.world.specs.Rules.{ClientLaws, VoterLaws}
 use Rattle.world.specs.Runs.{run_of}
 use Rattle.world.specs.SavedWorlds.{AreMixed, with_nodes}
-use Rattle.world.specs.Steps.{Adds, Dealing, Outcome, WorldState, client_at, events, step, voter_at}
+use Rattle.world_state.specs.Steps.{Adds, Dealing, Outcome, WorldState, client_at, events, step, voter_at}
 use Rattle.world.specs.Visible.{DealsFrom}
 use Rattle.world.proofs.Added.{Adds-step}
 use Rattle.world.proofs.Claims.{Bounds}

@@ -14,15 +14,15 @@ use Rattle.requester.specs.Steps as requester
 use Rattle.requester.specs.Words.{is_inside}
 use Rattle.quorum_set.specs.declared.bridge.Side.{Side}
 use Rattle.quorum_set.specs.declared.bridge.Side.TheVariants.{First, Second}
-use Rattle.world.specs.declared.fault.WorldFault.{WorldFault}
-use Rattle.world.specs.declared.step.Event.{Event}
-use Rattle.world.specs.declared.step.Step.{Step}
-use Rattle.world.specs.declared.step.Step.TheVariants.{Ask, Deliver, Leave, GiveUp, RemindClient, RemindVoter, Exchange}
+use Rattle.world_state.specs.declared.fault.WorldFault.{WorldFault}
+use Rattle.world_state.specs.declared.step.Event.{Event}
+use Rattle.world_state.specs.declared.step.Step.{Step}
+use Rattle.world_state.specs.declared.step.Step.TheVariants.{Ask, Deliver, Leave, GiveUp, RemindClient, RemindVoter, Exchange}
 use Rattle.world.specs.Coherence.{IsCoherent}
-use Rattle.world.specs.Ranges.{IsAddressed, IsNumbered}
+use Rattle.world_state.specs.Numbered.{IsAddressed, IsNumbered}
 use Rattle.world.specs.Restarts.{Node, OneClient, OneVoter, Nobody, maker, receiver}
 use Rattle.world.specs.Runs.{after}
-use Rattle.world.specs.Steps.{Dealing, Outcome, WorldState, after_client, after_voter, client_at, come, draw_of, exchange, if_client, if_voter, next_ticket, quorum_dealt, say, step, voter_at}
+use Rattle.world_state.specs.Steps.{Dealing, Outcome, WorldState, after_client, after_voter, client_at, come, draw_of, exchange, if_client, if_voter, next_ticket, quorum_dealt, say, step, voter_at}
 use Rattle.world.proofs.Claims.{Bounds, WorldOk}
 use Rattle.world.proofs.EveryRun.{coherent_by}
 use Rattle.world.proofs.Exclusion.{Walked, one_inside}

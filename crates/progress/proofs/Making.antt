@@ -6,10 +6,10 @@ use Rattle.std.proofs.lemmas.Bool.{cases_eq}
 use Rattle.std.proofs.lemmas.List.{append-nil}
 use Rattle.std.proofs.lemmas.List.Elements.{Contains-append_cases, Contains-append_left, Contains-append_right}
 use Rattle.requester.proofs.RangeLemmas.{is_inside-busy}
-use Rattle.world.specs.declared.step.Step.{Step}
-use Rattle.world.specs.declared.step.Step.TheVariants.{Deliver, Leave, RemindClient, RemindVoter}
+use Rattle.world_state.specs.declared.step.Step.{Step}
+use Rattle.world_state.specs.declared.step.Step.TheVariants.{Deliver, Leave, RemindClient, RemindVoter}
 use Rattle.world.specs.Runs.{run_of}
-use Rattle.world.specs.Steps.{Dealing, WorldState, client_at}
+use Rattle.world_state.specs.Steps.{Dealing, WorldState, client_at}
 use Rattle.world.proofs.Plans.{run_then}
 use Rattle.progress.specs.Rounds.{AreFairRounds, IsAnswered, IsFairRound, IsReminded}
 use Rattle.progress.proofs.Along.{next}

@@ -14,14 +14,14 @@ use Rattle.requester.specs.declared.state.ClientState.{ClientState}
 use Rattle.requester.specs.Steps as requester
 use Rattle.quorum_set.specs.declared.bridge.Side.{Side}
 use Rattle.quorum_set.specs.declared.bridge.Side.TheVariants.{First, Second}
-use Rattle.world.specs.declared.fault.WorldFault.{WorldFault}
-use Rattle.world.specs.declared.step.Step.{Step}
-use Rattle.world.specs.declared.step.Step.TheVariants.{Ask, Deliver, Leave, GiveUp, RemindClient, RemindVoter, Exchange}
+use Rattle.world_state.specs.declared.fault.WorldFault.{WorldFault}
+use Rattle.world_state.specs.declared.step.Step.{Step}
+use Rattle.world_state.specs.declared.step.Step.TheVariants.{Ask, Deliver, Leave, GiveUp, RemindClient, RemindVoter, Exchange}
 use Rattle.world.specs.Coherence.{IsCoherent}
-use Rattle.world.specs.Ranges.{IsAddressed, IsNumbered}
+use Rattle.world_state.specs.Numbered.{IsAddressed, IsNumbered}
 use Rattle.world.specs.Runs.{IsReached, after, run_of}
-use Rattle.world.specs.Steps.{Dealing, Outcome, Planned, WorldState, after_client, after_voter, client_at, come, dealing_of, draw_of, events, exchange, if_client, if_voter}
-use Rattle.world.specs.Steps.{next_ticket, quorum_dealt, say, step, voter_at}
+use Rattle.world_state.specs.Steps.{Dealing, Outcome, Planned, WorldState, after_client, after_voter, client_at, come, dealing_of, draw_of, events, exchange, if_client, if_voter}
+use Rattle.world_state.specs.Steps.{next_ticket, quorum_dealt, say, step, voter_at}
 use Rattle.numbers.proofs.Lists.{AllByRecursion-get}
 use Rattle.world.proofs.Plans.{IsReached-after as reached_after}
 

@@ -11,7 +11,7 @@ use Rattle.voter.specs.declared.state.Grant.{Grant}
 use Rattle.voter.specs.declared.state.VoterState.{VoterState}
 use Rattle.voter.specs.Steps as voter
 use Rattle.requester.specs.Words.{last_of}
-use Rattle.world.specs.Steps.{WorldState, client_at, voter_at}
+use Rattle.world_state.specs.Steps.{WorldState, client_at, voter_at}
 use Rattle.progress.proofs.Inquiries.{Outlasts, Outlasts-self}
 use Rattle.progress.proofs.Moves.{Moved}
 use Rattle.progress.proofs.Outstanding.{Outlasts-voter}

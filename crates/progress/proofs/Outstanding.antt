@@ -21,7 +21,7 @@ use Rattle.requester.specs.Words.{held_of, is_inquired}
 use Rattle.requester.proofs.SoundSteps.{give_up-Ok, leave-Ok}
 use Rattle.world.specs.Coherence.{IsCoherent}
 use Rattle.world.specs.Runs.{start}
-use Rattle.world.specs.Steps.{WorldState, client_at, voter_at}
+use Rattle.world_state.specs.Steps.{WorldState, client_at, voter_at}
 use Rattle.world.proofs.Exclusion.{held_under}
 use Rattle.world.proofs.Reached.{new_clients}
 use Rattle.progress.specs.Rules.{Laws, VoterLaws}

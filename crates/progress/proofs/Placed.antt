@@ -25,7 +25,7 @@ use Rattle.requester.specs.Steps as requester
 use Rattle.requester.specs.Words.{is_current, is_idle, is_inquired, is_member, members}
 use Rattle.world.specs.Coherence.{AskOk, IsCoherent, MessageOk}
 use Rattle.world.specs.Runs.{start}
-use Rattle.world.specs.Steps.{WorldState, client_at, voter_at}
+use Rattle.world_state.specs.Steps.{WorldState, client_at, voter_at}
 use Rattle.progress.proofs.Always.{Always, HasSeen, Heeds, Heeds-client, Heeds-sent, Heeds-voter, heeds, heeds_all, none_entry, new_voter}
 use Rattle.world.proofs.Reached.{new_voters}
 use Rattle.progress.proofs.Behind.{ask-Ok, is_current_of, meets}

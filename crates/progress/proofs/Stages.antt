@@ -19,10 +19,10 @@ use Rattle.requester.specs.declared.state.ClientState.{ClientState}
 use Rattle.requester.specs.Steps as requester
 use Rattle.requester.specs.Words.{held_of, is_asking, is_idle, is_member, last_of}
 use Rattle.requester.proofs.SoundSteps.{is_asking-busy}
-use Rattle.world.specs.declared.step.Step.{Step}
-use Rattle.world.specs.declared.step.Step.TheVariants.{Deliver}
+use Rattle.world_state.specs.declared.step.Step.{Step}
+use Rattle.world_state.specs.declared.step.Step.TheVariants.{Deliver}
 use Rattle.world.specs.Coherence.{IsCoherent}
-use Rattle.world.specs.Steps.{WorldState, client_at, voter_at}
+use Rattle.world_state.specs.Steps.{WorldState, client_at, voter_at}
 use Rattle.progress.specs.Rules.{Laws}
 use Rattle.progress.proofs.Behind.{grant_moved, the_request}
 use Rattle.progress.proofs.Inquiries.{asks_no_more}

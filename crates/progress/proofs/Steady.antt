@@ -25,9 +25,9 @@ use Rattle.requester.specs.Words.{holds, is_asking, is_current, is_hindered, is_
 use Rattle.requester.proofs.SoundSteps.{is_asking-busy}
 use Rattle.requester.proofs.VoteLemmas.{HoldsBesides-take}
 use Rattle.world.specs.Coherence.{IsCoherent}
-use Rattle.world.specs.declared.step.Step.{Step}
-use Rattle.world.specs.declared.step.Step.TheVariants.{Deliver, RemindClient, RemindVoter}
-use Rattle.world.specs.Steps.{WorldState, client_at, voter_at}
+use Rattle.world_state.specs.declared.step.Step.{Step}
+use Rattle.world_state.specs.declared.step.Step.TheVariants.{Deliver, RemindClient, RemindVoter}
+use Rattle.world_state.specs.Steps.{WorldState, client_at, voter_at}
 use Rattle.progress.specs.Rules.{Laws}
 use Rattle.progress.proofs.Along.{Reminded, next, spot_after, spot_before, spot_end, spot_through}
 use Rattle.progress.proofs.Arrivals.{client_takes, message_stays, reminds_first, reminds_second, replied, says, voter_takes}

@@ -20,10 +20,10 @@ use Rattle.requester.specs.RequesterContract.{AllRepeat, Repeats}
 use Rattle.requester.specs.Steps as requester
 use Rattle.requester.specs.Words.{is_asking, is_idle, last_of, members}
 use Rattle.requester.proofs.SoundSteps.{give_up-Ok, leave-Ok}
-use Rattle.world.specs.declared.step.Step.{Step}
+use Rattle.world_state.specs.declared.step.Step.{Step}
 use Rattle.world.specs.Coherence.{IsCoherent}
 use Rattle.world.specs.Runs.{run_of}
-use Rattle.world.specs.Steps.{WorldState, client_at, voter_at}
+use Rattle.world_state.specs.Steps.{WorldState, client_at, voter_at}
 use Rattle.progress.specs.Rounds.{IsStill}
 use Rattle.progress.specs.Rules.{Laws}
 use Rattle.progress.specs.WayIn.{HasGrants}

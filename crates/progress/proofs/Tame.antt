@@ -17,10 +17,10 @@ use Rattle.requester.specs.Steps as requester
 use Rattle.requester.specs.Words.{is_asking, is_idle, is_inside, members}
 use Rattle.requester.proofs.SoundSteps.{give_up-Ok, leave-Ok}
 use Rattle.world.specs.Coherence.{IsCoherent}
-use Rattle.world.specs.declared.step.Step.{Step}
-use Rattle.world.specs.declared.step.Step.TheVariants.{Leave}
+use Rattle.world_state.specs.declared.step.Step.{Step}
+use Rattle.world_state.specs.declared.step.Step.TheVariants.{Leave}
 use Rattle.world.specs.Runs.{run_of}
-use Rattle.world.specs.Steps.{Dealing, WorldState, client_at, voter_at}
+use Rattle.world_state.specs.Steps.{Dealing, WorldState, client_at, voter_at}
 use Rattle.progress.specs.Rules.{Laws}
 use Rattle.progress.specs.WayIn.{HasGrants}
 use Rattle.progress.proofs.Along.{Along, along-first, along-kept, next, spot_end, spot_in, spot_through}

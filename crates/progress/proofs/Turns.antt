@@ -17,12 +17,12 @@ use Rattle.requester.specs.RequesterContract.{KeepsQuorum, Sees}
 use Rattle.requester.specs.Steps as requester
 use Rattle.requester.specs.Words.{is_asking, is_idle, is_inside}
 use Rattle.requester.proofs.SoundSteps.{ask-Ok as ask_ok, give_up-Ok, is_asking-busy, is_asking-outside, leave-Ok}
-use Rattle.world.specs.declared.step.Event.{Event}
-use Rattle.world.specs.declared.step.Step.{Step}
-use Rattle.world.specs.declared.step.Step.TheVariants.{Ask, Deliver, Leave, GiveUp, RemindClient, RemindVoter, Exchange}
+use Rattle.world_state.specs.declared.step.Event.{Event}
+use Rattle.world_state.specs.declared.step.Step.{Step}
+use Rattle.world_state.specs.declared.step.Step.TheVariants.{Ask, Deliver, Leave, GiveUp, RemindClient, RemindVoter, Exchange}
 use Rattle.world.specs.Coherence.{IsCoherent}
 use Rattle.world.specs.Runs.{run_of}
-use Rattle.world.specs.Steps.{Dealing, WorldState, client_at, events}
+use Rattle.world_state.specs.Steps.{Dealing, WorldState, client_at, events}
 use Rattle.progress.specs.Overtaking.{entries_of}
 use Rattle.progress.specs.Rounds.{DoesNotGiveUp, give_up, give_ups_in}
 use Rattle.progress.specs.Rules.{Laws}

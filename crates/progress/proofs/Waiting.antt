@@ -17,11 +17,11 @@ use Rattle.requester.specs.Steps as requester
 use Rattle.requester.specs.Words.{is_asking}
 use Rattle.requester.proofs.SoundSteps.{is_asking-busy}
 use Rattle.voter.specs.VoterContract.{IsEntry}
-use Rattle.world.specs.declared.step.Event.{Event}
-use Rattle.world.specs.declared.step.Step.{Step}
-use Rattle.world.specs.declared.step.Step.TheVariants.{Ask, Deliver, Leave, GiveUp, RemindClient, RemindVoter, Exchange}
+use Rattle.world_state.specs.declared.step.Event.{Event}
+use Rattle.world_state.specs.declared.step.Step.{Step}
+use Rattle.world_state.specs.declared.step.Step.TheVariants.{Ask, Deliver, Leave, GiveUp, RemindClient, RemindVoter, Exchange}
 use Rattle.world.specs.Runs.{IsReached, run_of}
-use Rattle.world.specs.Steps.{Dealing, Planned, WorldState, client_at, dealing_of, voter_at}
+use Rattle.world_state.specs.Steps.{Dealing, Planned, WorldState, client_at, dealing_of, voter_at}
 use Rattle.world.proofs.Plans.{run_then}
 use Rattle.progress.specs.Overtaking.{IsKnownEverywhere, StillRuns, entries_of}
 use Rattle.progress.specs.Rounds.{AreFairRounds, DoesNotGiveUp, IsStill, block, give_ups_in, late_body, late_in, late_message, late_step, late_steps, steps_of}

@@ -28,10 +28,10 @@ use Rattle.requester.specs.declared.state.Phase.TheVariants.{Idle, Asking, Insid
 use Rattle.requester.specs.declared.state.Seen.TheVariants.{Entered}
 use Rattle.requester.specs.Steps as requester
 use Rattle.requester.specs.Words.{holds, is_asking, is_covered, is_current, is_idle, is_inside, is_member, last_of, members}
-use Rattle.world.specs.declared.step.Step.{Step}
-use Rattle.world.specs.declared.step.Step.TheVariants.{Ask, Deliver, Leave, GiveUp, RemindClient, RemindVoter, Exchange}
+use Rattle.world_state.specs.declared.step.Step.{Step}
+use Rattle.world_state.specs.declared.step.Step.TheVariants.{Ask, Deliver, Leave, GiveUp, RemindClient, RemindVoter, Exchange}
 use Rattle.world.specs.Runs.{after, run_of}
-use Rattle.world.specs.Steps.{Dealing, WorldState, client_at, client_did, events, step, voter_at, voter_did}
+use Rattle.world_state.specs.Steps.{Dealing, WorldState, client_at, client_did, events, step, voter_at, voter_did}
 use Rattle.progress.specs.LostVotes.{ComesBack, HasLostVote, reminder_and_two}
 use Rattle.progress.specs.WayIn.{Helps, IsWayIn}
 use Rattle.progress.proofs.Exchanges.{after-answer, after-deliver_client, after-release, after-remind_voter, after-said, answer, answered, get_next, reminded, not_held, spoken}

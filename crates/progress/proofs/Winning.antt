@@ -24,10 +24,10 @@ use Rattle.requester.specs.Steps as requester
 use Rattle.requester.specs.Words.{holds, is_idle, last_of}
 use Rattle.requester.proofs.SoundSteps.{is_asking-busy}
 use Rattle.world.specs.Coherence.{AskOk}
-use Rattle.world.specs.declared.step.Step.{Step}
-use Rattle.world.specs.declared.step.Step.TheVariants.{Deliver, RemindVoter}
+use Rattle.world_state.specs.declared.step.Step.{Step}
+use Rattle.world_state.specs.declared.step.Step.TheVariants.{Deliver, RemindVoter}
 use Rattle.world.specs.Runs.{run_of}
-use Rattle.world.specs.Steps.{WorldState, client_at, voter_at}
+use Rattle.world_state.specs.Steps.{WorldState, client_at, voter_at}
 use Rattle.world.proofs.Plans.{run_then}
 use Rattle.progress.specs.Rounds.{AreFairRounds, IsReminded, steps_of}
 use Rattle.progress.specs.Rules.{Laws}

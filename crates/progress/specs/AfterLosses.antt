@@ -1,10 +1,10 @@
 -- Worlds after crashes and restarts in which saved states were lost.
 use Rattle.std.specs.Prelude.{ℕ, ◌≡◌, ◌<◌, ◌≤◌, List}
 use Rattle.voter.specs.VoterContract.{IsEntry}
-use Rattle.world.specs.declared.step.Step.{Step}
+use Rattle.world_state.specs.declared.step.Step.{Step}
 use Rattle.world.specs.Restarts.{Happening, all_happen, begin}
 use Rattle.world.specs.Runs.{AreLimits, run_of}
-use Rattle.world.specs.Steps.{Dealing, WorldState, client_at, voter_at}
+use Rattle.world_state.specs.Steps.{Dealing, WorldState, client_at, voter_at}
 use Rattle.world.specs.Visible.{DealsFrom, DoMeet}
 
 -- Anything happened to a new world: steps, saves, crashes, restarts, and losses of all but the

@@ -4,10 +4,10 @@ use Rattle.voter.specs.declared.state.Grant.{Grant}
 use Rattle.voter.specs.VoteMoves.{GrantIsNew}
 use Rattle.voter.specs.VoterContract.{IsEntry}
 use Rattle.requester.specs.Words.{is_asking, is_current, is_member, last_of}
-use Rattle.world.specs.declared.step.Step.{Step}
-use Rattle.world.specs.declared.step.Step.TheVariants.{Deliver, RemindClient, RemindVoter}
+use Rattle.world_state.specs.declared.step.Step.{Step}
+use Rattle.world_state.specs.declared.step.Step.TheVariants.{Deliver, RemindClient, RemindVoter}
 use Rattle.world.specs.Runs.{run_of}
-use Rattle.world.specs.Steps.{Dealing, WorldState, client_at, voter_at}
+use Rattle.world_state.specs.Steps.{Dealing, WorldState, client_at, voter_at}
 
 -- The voter has a grant out whose request is over: its client made another one since then, or is idle.
 -- The voter may give one more grant.

@@ -4,8 +4,8 @@ use Rattle.std.specs.Prelude.{ℕ, ◌≡◌, ◌==◌, ◌&&◌, true, false, L
 use Rattle.std.specs.List.{count_by}
 use Rattle.voter.specs.VoterContract.{IsEntry}
 use Rattle.requester.specs.Words.{is_idle, is_member}
-use Rattle.world.specs.declared.step.Event.{Event}
-use Rattle.world.specs.Steps.{WorldState, client_at, voter_at}
+use Rattle.world_state.specs.declared.step.Event.{Event}
+use Rattle.world_state.specs.Steps.{WorldState, client_at, voter_at}
 
 -- The client's request runs, and every voter of its quorum knows it: there it has the vote or waits.
 pub record IsKnownEverywhere (w : WorldState) (c : ℕ) : Type 0 where

@@ -1,10 +1,10 @@
 -- Patience: whoever gives up has waited for two whole rounds before.
 use Rattle.std.specs.Prelude.{◌≡◌, ℕ, ◌+◌, true, List, [], ◌∷◌}
 use Rattle.requester.specs.Words.{is_asking}
-use Rattle.world.specs.declared.step.Step.{Step}
-use Rattle.world.specs.declared.step.Step.TheVariants.{Ask, Deliver, Leave, GiveUp, RemindClient, RemindVoter, Exchange}
+use Rattle.world_state.specs.declared.step.Step.{Step}
+use Rattle.world_state.specs.declared.step.Step.TheVariants.{Ask, Deliver, Leave, GiveUp, RemindClient, RemindVoter, Exchange}
 use Rattle.world.specs.Runs.{after, run_of}
-use Rattle.world.specs.Steps.{Dealing, WorldState, client_at, step}
+use Rattle.world_state.specs.Steps.{Dealing, WorldState, client_at, step}
 
 -- If the step is a withdrawal in the world x, the client made the request before the world u: it had
 -- the stamp there. A withdrawal of a client that does not ask is refused, and may come at any time.

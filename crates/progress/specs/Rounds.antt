@@ -6,10 +6,10 @@ use Rattle.message.specs.declared.message.Message.TheVariants as kinds
 use Rattle.message.specs.declared.message.VoterBody.{VoterBody}
 use Rattle.message.specs.declared.message.VoterBody.TheVariants as asks
 use Rattle.requester.specs.Words.{is_asking, is_inside}
-use Rattle.world.specs.declared.step.Step.{Step}
-use Rattle.world.specs.declared.step.Step.TheVariants.{Ask, Deliver, Leave, GiveUp, RemindClient, RemindVoter, Exchange}
+use Rattle.world_state.specs.declared.step.Step.{Step}
+use Rattle.world_state.specs.declared.step.Step.TheVariants.{Ask, Deliver, Leave, GiveUp, RemindClient, RemindVoter, Exchange}
 use Rattle.world.specs.Runs.{run_of}
-use Rattle.world.specs.Steps.{Dealing, WorldState, client_at}
+use Rattle.world_state.specs.Steps.{Dealing, WorldState, client_at}
 
 -- Message k arrives in these steps, and each message that is sent on its arrival arrives after it.
 pub record IsAnswered (deal : Dealing) (w : WorldState) (steps : List Step) (k : ℕ) : Type 0 where

@@ -26,7 +26,7 @@ use Rattle.requester.specs.Steps as requester
 use Rattle.requester.specs.Words.{held_of, is_hindered, holds, is_asking, is_current, is_idle, is_inside, is_member, is_relinquished, last_of}
 use Rattle.world.specs.Coherence.{IsCoherent}
 use Rattle.world.specs.Runs.{IsReached}
-use Rattle.world.specs.Steps.{Planned}
+use Rattle.world_state.specs.Steps.{Planned}
 
 -- what the laws of `requester` say of every client
 pub record ClientLaws : Type 0 where

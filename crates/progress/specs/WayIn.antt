@@ -3,11 +3,11 @@ use Rattle.std.specs.Prelude.{ℕ, ◌≡◌, ◌≢◌, ◌<◌, ◌≤◌, ◌
 use Rattle.std.specs.List.{AllByRecursion}
 use Rattle.requester.specs.declared.state.Seen.TheVariants.{Entered}
 use Rattle.requester.specs.Words.{is_asking, is_idle, is_inside}
-use Rattle.world.specs.declared.step.Event.{Event}
-use Rattle.world.specs.declared.step.Step.{Step}
-use Rattle.world.specs.declared.step.Step.TheVariants.{Ask, Deliver, Leave, GiveUp, RemindClient, RemindVoter, Exchange}
+use Rattle.world_state.specs.declared.step.Event.{Event}
+use Rattle.world_state.specs.declared.step.Step.{Step}
+use Rattle.world_state.specs.declared.step.Step.TheVariants.{Ask, Deliver, Leave, GiveUp, RemindClient, RemindVoter, Exchange}
 use Rattle.world.specs.Runs.{run_of}
-use Rattle.world.specs.Steps.{WorldState, Dealing, client_at, events, voter_at}
+use Rattle.world_state.specs.Steps.{WorldState, Dealing, client_at, events, voter_at}
 use Rattle.progress.specs.Overtaking.{entries_of}
 
 -- a reminder, or the arrival of a message that is not among the first `sent` ones

@@ -4,10 +4,10 @@ ghost use Rattle.progress.specs.AfterLosses.{AskedSince, IsHeard, IsReachedAfter
 ghost use Rattle.progress.specs.Overtaking.{entries_of};
 ghost use Rattle.progress.specs.Rounds.{AreFairRounds, DoesNotGiveUp, block, give_ups_in, late_in, steps_of};
 ghost use Rattle.progress.specs.WayIn.{Asks, HasGrants};
-ghost use Rattle.world.specs.declared.step.Event.{Event};
-ghost use Rattle.world.specs.declared.step.Step.{Step};
+ghost use Rattle.world_state.specs.declared.step.Event.{Event};
+ghost use Rattle.world_state.specs.declared.step.Step.{Step};
 ghost use Rattle.world.specs.Runs.{run_of};
-ghost use Rattle.world.specs.Steps.{Dealing, WorldState};
+ghost use Rattle.world_state.specs.Steps.{Dealing, WorldState};
 
 use crate::laws::worlds_keep_their_rules;
 use world::parts_keep_their_rules;

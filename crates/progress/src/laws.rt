@@ -7,10 +7,10 @@ ghost use Rattle.progress.specs.Rounds.{AreFairRounds, DoesNotGiveUp, IsFairRoun
 ghost use Rattle.progress.specs.Rules.{Laws};
 ghost use Rattle.progress.specs.WayIn.{Asks, AsksAlone, GetsIn, HasGrants, IsFree, IsWayIn};
 ghost use Rattle.voter.specs.declared.state.Grant.{Grant};
-ghost use Rattle.world.specs.declared.step.Event.{Event};
-ghost use Rattle.world.specs.declared.step.Step.{Step};
+ghost use Rattle.world_state.specs.declared.step.Event.{Event};
+ghost use Rattle.world_state.specs.declared.step.Step.{Step};
 ghost use Rattle.world.specs.Runs.{IsReached, run_of};
-ghost use Rattle.world.specs.Steps.{Dealing, Planned, WorldState, dealing_of};
+ghost use Rattle.world_state.specs.Steps.{Dealing, Planned, WorldState, dealing_of};
 
 use requester::{
     clocks_never_fall, hindered_clients_give_votes_back, messages_are_in_range,

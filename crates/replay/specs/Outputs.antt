@@ -8,13 +8,13 @@ use Rattle.message.specs.declared.message.Message.{Message}
 use Rattle.message.specs.Lines.{message_line}
 use Rattle.requester.specs.declared.fault.ClientFault.{ClientFault}
 use Rattle.requester.specs.declared.fault.ClientFault.TheVariants.{Busy, NotInside, NotAsking, StampsSpent}
-use Rattle.world.specs.declared.fault.WorldFault.{WorldFault}
-use Rattle.world.specs.declared.fault.WorldFault.TheVariants.{NoSuchMessage, NoSuchClient, NoSuchVoter, NoSecondPlan, Client, Voter, OutOfMemory}
-use Rattle.world.specs.declared.step.Event.{Event}
-use Rattle.world.specs.declared.step.Step.{Step}
+use Rattle.world_state.specs.declared.fault.WorldFault.{WorldFault}
+use Rattle.world_state.specs.declared.fault.WorldFault.TheVariants.{NoSuchMessage, NoSuchClient, NoSuchVoter, NoSecondPlan, Client, Voter, OutOfMemory}
+use Rattle.world_state.specs.declared.step.Event.{Event}
+use Rattle.world_state.specs.declared.step.Step.{Step}
 use Rattle.world.specs.Runs.{after, start_by}
 use Rattle.dealer.specs.Plans.{single}
-use Rattle.world.specs.Steps.{Dealing, Outcome, WorldState, dealing_of, step}
+use Rattle.world_state.specs.Steps.{Dealing, Outcome, WorldState, dealing_of, step}
 use Rattle.replay.specs.Scripts.{IsScript, Script, script_text, step_form}
 
 -- Lines; 10 is a newline, 32 a space

@@ -3,8 +3,8 @@ ghost use Rattle.std.specs.Prelude.{◌≡◌, ◌++◌, IfErr, IfOk, MatchResul
 ghost use Rattle.std.specs.List.{flat_map};
 ghost use Rattle.message.specs.Lines.{HasLine};
 ghost use Rattle.world.specs.Runs.{after};
-ghost use Rattle.world.specs.Steps.{step_of};
-ghost use Rattle.world.specs.declared.step.Step.{Step};
+ghost use Rattle.world_state.specs.Steps.{step_of};
+ghost use Rattle.world_state.specs.declared.step.Step.{Step};
 ghost use Rattle.replay.specs.Outputs.{IsOutput, client_fault_text, event_line, fault_text, refusal_of, script_output, sent_line, sent_lines, step_output};
 ghost use Rattle.replay.specs.Scripts as scripts;
 ghost use Rattle.replay.specs.Scripts.{BeginsWith, IsBadText, IsScript, IsWorldLine, script_text, step_form};
@@ -18,6 +18,7 @@ use dealer::Plans;
 use message::{Message, push_message};
 use requester::ClientFault;
 use std::alloc::{AllocError, Global};
+use text_lines::push_field;
 use voter::VoterFault;
 use world::{Event, Step, World, WorldFault};
 
@@ -26,7 +27,9 @@ fn push_sent(text: &mut String, number: usize, message: &Message) -> Result<(), 
     requires { HasLine message.now }
     ensures { OnOk result (string_bytes text.new ≡ string_bytes text.old ++ sent_line number message.now) }
 {
-    write!(text, "m {number} ")?;
+    text.push_str("m")?;
+    push_field(text, number as u64)?;
+    text.push(' ')?;
     push_message(text, message)?;
     text.push('\n')
 }
@@ -35,12 +38,9 @@ fn push_sent(text: &mut String, number: usize, message: &Message) -> Result<(), 
 fn push_event(text: &mut String, event: &Event) -> Result<(), AllocError>
     ensures { OnOk result (string_bytes text.new ≡ string_bytes text.old ++ event_line event.now) }
 {
-    let client = event.client;
-    if event.entered {
-        write!(text, "enter {client}\n")
-    } else {
-        write!(text, "leave {client}\n")
-    }
+    text.push_str(if event.entered { "enter" } else { "leave" })?;
+    push_field(text, u64::from(event.client))?;
+    text.push('\n')
 }
 
 /// Returns the text of a client's fault.

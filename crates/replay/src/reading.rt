@@ -1,7 +1,7 @@
 //! Reading a script.
 ghost use Rattle.std.specs.Prelude.{◌≡◌, ◌∷◌, [], IfErr, IfOk, IfSome, MatchResult};
 ghost use Rattle.text_lines.specs.Forms.{HaveLines, IsLineOf, text_of};
-ghost use Rattle.world.specs.declared.step.Step.{Step};
+ghost use Rattle.world_state.specs.declared.step.Step.{Step};
 ghost use Rattle.replay.specs.Scripts as scripts;
 ghost use Rattle.replay.specs.Scripts.{BeginsWith, IsBadRest, IsBadText, IsScript, IsWorldLine, script_text, step_form, steps_have_form, world_form, worlds_have_form};
 ghost use Rattle.replay.specs.declared.fault.ReplayFault.TheVariants.{BadLine, OutOfMemory};

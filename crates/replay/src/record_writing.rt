@@ -7,12 +7,17 @@ ghost use Rattle.replay.specs.RecordTexts.{draw_form, draws_text, pass_form, pas
 
 use run_outcome::{Draw, Pass, RunRecord};
 use std::alloc::{AllocError, Global};
+use text_lines::push_field;
 
 fn push_draw(text: &mut String, draw: &Draw) -> Result<(), AllocError>
     ensures { OnOk result (string_bytes text.new ≡ string_bytes text.old ++ (line_of draw_form draw.now ++ 10 ∷ [])) }
 {
     let (client, ticket, quorum) = *draw;
-    write!(text, "draw {client} {ticket} {quorum}\n")
+    text.push_str("draw")?;
+    push_field(text, u64::from(client))?;
+    push_field(text, ticket)?;
+    push_field(text, quorum as u64)?;
+    text.push('\n')
 }
 
 fn push_draws(text: &mut String, draws: &[Draw]) -> Result<(), AllocError>
@@ -28,7 +33,10 @@ fn push_pass(text: &mut String, pass: &Pass) -> Result<(), AllocError>
     ensures { OnOk result (string_bytes text.new ≡ string_bytes text.old ++ (line_of pass_form pass.now ++ 10 ∷ [])) }
 {
     let (client, number) = *pass;
-    write!(text, "pass {client} {number}\n")
+    text.push_str("pass")?;
+    push_field(text, u64::from(client))?;
+    push_field(text, number)?;
+    text.push('\n')
 }
 
 fn push_passes(text: &mut String, passes: &[Pass]) -> Result<(), AllocError>

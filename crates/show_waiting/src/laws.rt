@@ -5,10 +5,10 @@ ghost use Rattle.progress.specs.Patience.{ArePatient};
 ghost use Rattle.progress.specs.Rounds.{AreFairRounds, DoesNotGiveUp, give_ups_in, late_in, steps_of};
 ghost use Rattle.progress.specs.WayIn.{Asks, HasGrants};
 ghost use Rattle.show_waiting.specs.Waiting.{bound, patient_bound};
-ghost use Rattle.world.specs.declared.step.Event.{Event};
-ghost use Rattle.world.specs.declared.step.Step.{Step};
+ghost use Rattle.world_state.specs.declared.step.Event.{Event};
+ghost use Rattle.world_state.specs.declared.step.Step.{Step};
 ghost use Rattle.world.specs.Runs.{IsReached, run_of};
-ghost use Rattle.world.specs.Steps.{Planned, dealing_of};
+ghost use Rattle.world_state.specs.Steps.{Planned, dealing_of};
 
 use progress::{fair_rounds_let_everybody_in, patient_rounds_let_everybody_in};
 

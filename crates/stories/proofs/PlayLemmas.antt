@@ -15,11 +15,11 @@ use Rattle.voter.specs.declared.fault.VoterFault.TheVariants.{GrantsSpent}
 use Rattle.requester.specs.declared.state.ClientState.{ClientState}
 use Rattle.requester.specs.Steps as client
 use Rattle.requester.specs.Words.{is_inside}
-use Rattle.world.specs.declared.fault.WorldFault.{WorldFault}
-use Rattle.world.specs.declared.fault.WorldFault.TheVariants.{NoSuchClient, NoSuchVoter, OutOfMemory, Voter}
+use Rattle.world_state.specs.declared.fault.WorldFault.{WorldFault}
+use Rattle.world_state.specs.declared.fault.WorldFault.TheVariants.{NoSuchClient, NoSuchVoter, OutOfMemory, Voter}
 use Rattle.world.specs.Restarts.{Node, OneClient, OneVoter, Nobody, Saved, come_back, if_there, pass_of, save_and_send}
 use Rattle.world.specs.SavedWorlds.{PlannedSaved}
-use Rattle.world.specs.Steps.{Outcome, client_at, if_client, if_voter, vote, voter_at}
+use Rattle.world_state.specs.Steps.{Outcome, client_at, if_client, if_voter, vote, voter_at}
 use Rattle.leases.specs.Incidents.{Hears, hear, is_message}
 use Rattle.leases.proofs.Numbers.{both}
 use Rattle.incidents.specs.Calls.{KeepsGrant, RefusesClient, befalls_by, grant_at, letting_go}

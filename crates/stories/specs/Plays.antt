@@ -5,13 +5,14 @@ use Rattle.dealer.specs.Plans.{PlanPair}
 use Rattle.fence.specs.declared.fence.Fence.{Fence}
 use Rattle.voter.specs.declared.state.Grant.{Grant}
 use Rattle.requester.specs.Words.{is_inside}
-use Rattle.world.specs.declared.fault.WorldFault.{WorldFault}
-use Rattle.world.specs.declared.fault.WorldFault.TheVariants.{NoSuchClient, NoSuchVoter}
-use Rattle.world.specs.declared.step.Step.{Step}
-use Rattle.world.specs.declared.step.Step.TheVariants.{Deliver}
-use Rattle.world.specs.Restarts.{Goes, Node, OneClient, OneVoter, Nobody, Restarts, Saved, crash_seen, is_silent, maker, pass_of}
+use Rattle.world_state.specs.declared.fault.WorldFault.{WorldFault}
+use Rattle.world_state.specs.declared.fault.WorldFault.TheVariants.{NoSuchClient, NoSuchVoter}
+use Rattle.world_state.specs.declared.step.Step.{Step}
+use Rattle.world_state.specs.declared.step.Step.TheVariants.{Deliver}
+use Rattle.world.specs.Restarts.{Goes, Node, OneClient, OneVoter, Nobody, Restarts, Saved, crash_seen, maker, pass_of}
+use Rattle.world_state.specs.Steps.{is_silent}
 use Rattle.world.specs.SavedWorlds.{PlannedSaved, begin_by, live_step_of}
-use Rattle.world.specs.Steps.{Outcome, WorldState, client_at, vote, voter_at}
+use Rattle.world_state.specs.Steps.{Outcome, WorldState, client_at, vote, voter_at}
 use Rattle.leases.specs.Incidents.{Incident, Happens, Hears, IsReborn, StartsAnew}
 use Rattle.incidents.specs.Calls.{befalls_by, grant_at, letting_go}
 use Rattle.stories.specs.declared.happening.Happening.{Happening}

@@ -8,7 +8,7 @@ ghost use Rattle.requester.specs.Words.{is_inside};
 ghost use Rattle.world.specs.Restarts.{crash_seen, pass_of};
 ghost use Rattle.world.specs.SavedWorlds.{live_of};
 ghost use Rattle.world.specs.States.{node_of};
-ghost use Rattle.world.specs.Steps.{client_at};
+ghost use Rattle.world_state.specs.Steps.{client_at};
 
 use crate::guard::{no_passes, pass_at, refusal, set_pass, show};
 use crate::happening::{Happening, Late};

@@ -10,7 +10,7 @@ use Rattle.requester.specs.Steps.{start}
 use Rattle.requester.specs.Words.{is_asking, is_inside}
 use Rattle.progress.specs.WayIn.{IsFree}
 use Rattle.voter.specs.Waiting.{precedes}
-use Rattle.world.specs.Steps.{WorldState, client_at}
+use Rattle.world_state.specs.Steps.{WorldState, client_at}
 use Rattle.ways.specs.Leaders.{IsLeader, LeadsBelow, NobodyAsks, is_earlier, request_of}
 
 -- a client that is found

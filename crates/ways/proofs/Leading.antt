@@ -4,11 +4,11 @@ use Rattle.std.proofs.lemmas.List.{append-nil}
 use Rattle.numbers.proofs.Lists.{AllByRecursion-append}
 use Rattle.requester.specs.declared.state.Seen.TheVariants.{Nothing, Entered, Left}
 use Rattle.progress.specs.WayIn.{Helps}
-use Rattle.world.specs.declared.step.Event.{Event}
-use Rattle.world.specs.declared.step.Step.{Step}
-use Rattle.world.specs.declared.step.Stepped.{Stepped}
+use Rattle.world_state.specs.declared.step.Event.{Event}
+use Rattle.world_state.specs.declared.step.Step.{Step}
+use Rattle.world_state.specs.declared.step.Stepped.{Stepped}
 use Rattle.world.specs.Runs.{after}
-use Rattle.world.specs.Steps.{Planned, WorldState, dealing_of, events, outcome_of, step, step_of}
+use Rattle.world_state.specs.Steps.{Planned, WorldState, dealing_of, events, outcome_of, step, step_of}
 use Rattle.world.proofs.Added.{Adds-step}
 use Rattle.world.proofs.Plans.{run_then}
 use Rattle.ways.specs.declared.make.Went.{Went}

@@ -12,10 +12,10 @@ use Rattle.requester.specs.declared.state.Seen.TheVariants.{Nothing, Entered, Le
 use Rattle.requester.specs.Steps as client
 use Rattle.requester.specs.Steps.{enter_if, relinquish, relinquish_each, relinquish_if, take, take_body, take_fail, take_fail_by, take_inquire, take_inquire_by, take_locked, take_locked_by}
 use Rattle.progress.specs.WayIn.{Helps}
-use Rattle.world.specs.declared.step.Event.{Event}
-use Rattle.world.specs.declared.step.Step.{Step}
-use Rattle.world.specs.declared.step.Step.TheVariants.{Ask, Deliver, Leave, GiveUp, RemindClient, RemindVoter, Exchange}
-use Rattle.world.specs.Steps.{Dealing, Outcome, WorldState, act, after_voter, client_at, come, events, if_client, if_voter, step}
+use Rattle.world_state.specs.declared.step.Event.{Event}
+use Rattle.world_state.specs.declared.step.Step.{Step}
+use Rattle.world_state.specs.declared.step.Step.TheVariants.{Ask, Deliver, Leave, GiveUp, RemindClient, RemindVoter, Exchange}
+use Rattle.world_state.specs.Steps.{Dealing, Outcome, WorldState, act, after_voter, client_at, come, events, if_client, if_voter, step}
 use Rattle.world.proofs.Added.{Adds-step}
 
 relinquish-stays : (b : Bool) (x : ClientState) (v : ℕ) → (relinquish_if b x v).seen ≡ Left → ⊥

@@ -4,7 +4,7 @@ use Rattle.message.specs.declared.request.Request.{Request}
 use Rattle.voter.specs.Waiting.{precedes}
 use Rattle.requester.specs.Words.{is_asking, is_inside}
 use Rattle.progress.specs.WayIn.{Asks}
-use Rattle.world.specs.Steps.{WorldState, client_at}
+use Rattle.world_state.specs.Steps.{WorldState, client_at}
 
 -- the request that a client of the world runs, or ran last
 abbrev pub request_of : WorldState → ℕ → Request

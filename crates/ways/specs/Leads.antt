@@ -2,9 +2,9 @@
 use Rattle.std.specs.Prelude.{ℕ, ◌≡◌, List, Result, Ok, Err, length}
 use Rattle.std.specs.List.{AllByRecursion}
 use Rattle.progress.specs.WayIn.{Helps, IsWayIn}
-use Rattle.world.specs.declared.step.Step.{Step}
+use Rattle.world_state.specs.declared.step.Step.{Step}
 use Rattle.world.specs.Runs.{run_of}
-use Rattle.world.specs.Steps.{Planned, dealing_of}
+use Rattle.world_state.specs.Steps.{Planned, dealing_of}
 use Rattle.ways.specs.declared.make.Went.{Went}
 use Rattle.ways.specs.declared.make.Went.TheVariants.{On, In}
 

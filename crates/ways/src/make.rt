@@ -2,8 +2,8 @@
 ghost use Rattle.std.specs.Prelude.{◌≡◌, ◌≢◌, ◌<◌, ◌≤◌, ◌++◌, ℕ, List, length};
 ghost use Rattle.requester.specs.declared.state.Seen.TheVariants.{Nothing, Entered, Left};
 ghost use Rattle.progress.specs.WayIn.{Helps};
-ghost use Rattle.world.specs.declared.step.Event.{Event};
-ghost use Rattle.world.specs.Steps.{events};
+ghost use Rattle.world_state.specs.declared.step.Event.{Event};
+ghost use Rattle.world_state.specs.Steps.{events};
 ghost use Rattle.ways.specs.declared.make.Went.TheVariants.{On, In};
 ghost use Rattle.ways.specs.Leads.{LeadFurther, went_of};
 

@@ -10,11 +10,11 @@ use Rattle.requester.specs.declared.fault.ClientFault.{ClientFault}
 use Rattle.requester.specs.Steps as client
 use Rattle.quorum_set.specs.declared.bridge.Side.{Side}
 use Rattle.quorum_set.specs.declared.bridge.Side.TheVariants.{First, Second}
-use Rattle.world.specs.declared.fault.WorldFault.{WorldFault}
-use Rattle.world.specs.declared.step.Step.{Step}
-use Rattle.world.specs.declared.step.Step.TheVariants.{Ask, Deliver, Leave, GiveUp, RemindClient, RemindVoter, Exchange}
+use Rattle.world_state.specs.declared.fault.WorldFault.{WorldFault}
+use Rattle.world_state.specs.declared.step.Step.{Step}
+use Rattle.world_state.specs.declared.step.Step.TheVariants.{Ask, Deliver, Leave, GiveUp, RemindClient, RemindVoter, Exchange}
 use Rattle.world.specs.Runs.{DrawsInOrder, after, run_of}
-use Rattle.world.specs.Steps.{Adds, Dealing, Outcome, WorldState, after_client, after_voter, client_at, come, draw_of, exchange, if_client, if_voter, say, step, voter_at}
+use Rattle.world_state.specs.Steps.{Adds, Dealing, Outcome, WorldState, after_client, after_voter, client_at, come, draw_of, exchange, if_client, if_voter, say, step, voter_at}
 
 -- the tickets, with the next one
 range_suc : (low n : ℕ) → range_with_len low (suc n) ≡ range_with_len low n ++ (low + n) ∷ []

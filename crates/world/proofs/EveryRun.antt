@@ -4,12 +4,13 @@ use Rattle.numbers.proofs.Lists.{AllByRecursion-weaker}
 use Rattle.numbers.specs.Sets.{has}
 use Rattle.message.specs.declared.message.Message.{Message}
 use Rattle.message.specs.declared.message.Message.TheVariants as kinds
-use Rattle.world.specs.declared.fault.WorldFault.{WorldFault}
-use Rattle.world.specs.declared.step.Step.{Step}
-use Rattle.world.specs.Ranges.{IsAddressed, IsInRange, IsNumbered, IsSound}
+use Rattle.world_state.specs.declared.fault.WorldFault.{WorldFault}
+use Rattle.world_state.specs.declared.step.Step.{Step}
+use Rattle.world.specs.Ranges.{IsInRange, IsSound}
+use Rattle.world_state.specs.Numbered.{IsAddressed, IsNumbered}
 use Rattle.world.specs.Restarts.{Goes, Node, OneClient, OneVoter, Nobody, Saved, all_happen, save_and_send, happens, maker, save_unless}
 use Rattle.world.specs.Runs.{AreLimits, after, run_of, start}
-use Rattle.world.specs.Steps.{WorldState, Dealing, Outcome, client_at, step}
+use Rattle.world_state.specs.Steps.{WorldState, Dealing, Outcome, client_at, step}
 use Rattle.world.specs.Visible.{DealsFrom, DoMeet}
 use Rattle.world.specs.Rules.{ClientLaws, VoterLaws}
 use Rattle.world.specs.Coherence.{IsCoherent}

@@ -17,8 +17,8 @@ use Rattle.requester.specs.declared.state.Seen.{Seen}
 use Rattle.requester.specs.declared.state.Seen.TheVariants.{Nothing, Entered, Left}
 use Rattle.requester.specs.RequesterContract.{Sees}
 use Rattle.requester.specs.Words.{is_idle, is_inside, members, holds, holds_under, held_of}
-use Rattle.world.specs.declared.step.Event.{Event}
-use Rattle.world.specs.Steps.{events}
+use Rattle.world_state.specs.declared.step.Event.{Event}
+use Rattle.world_state.specs.Steps.{events}
 use Rattle.world.specs.Visible.{DoMeet, GoesOn, IsAmong}
 use Rattle.world.proofs.Claims.{Bounds, ClientOk, Names, WorldOk, put, put-each, put-same}
 

@@ -19,14 +19,15 @@ use Rattle.requester.specs.declared.state.ClientState.{ClientState}
 use Rattle.requester.specs.Words.{held_of, holds}
 use Rattle.quorum_set.specs.declared.bridge.Side.{Side}
 use Rattle.quorum_set.specs.declared.bridge.Side.TheVariants.{First, Second}
-use Rattle.world.specs.declared.fault.WorldFault.{WorldFault}
-use Rattle.world.specs.declared.step.Step.{Step}
-use Rattle.world.specs.declared.step.Step.TheVariants.{Ask, Deliver, Leave, GiveUp, RemindClient, RemindVoter, Exchange}
+use Rattle.world_state.specs.declared.fault.WorldFault.{WorldFault}
+use Rattle.world_state.specs.declared.step.Step.{Step}
+use Rattle.world_state.specs.declared.step.Step.TheVariants.{Ask, Deliver, Leave, GiveUp, RemindClient, RemindVoter, Exchange}
 use Rattle.world.specs.Restarts.{Node, OneClient, OneVoter, Nobody, Saved, Happening, Goes, Saves, Forgets, Restarts, HasVote, IsIn, IsNewer, IsSameRequest, pass_of, stamp_of}
-use Rattle.world.specs.Restarts.{forget, come_back, if_there, is_silent, maker, save, restart, save_unless, save_and_send, happens, all_happen, begin}
+use Rattle.world.specs.Restarts.{forget, come_back, if_there, maker, save, restart, save_unless, save_and_send, happens, all_happen, begin}
+use Rattle.world_state.specs.Steps.{is_silent}
 use Rattle.world.specs.Runs.{AreLimits, start}
-use Rattle.world.specs.Steps.{Dealing, Outcome, WorldState, act, after_client, ask, next_ticket, quorum_dealt, say, after_voter, client_at, come, draw_of, exchange, if_client}
-use Rattle.world.specs.Steps.{if_voter, step, voter_at}
+use Rattle.world_state.specs.Steps.{Dealing, Outcome, WorldState, act, after_client, ask, next_ticket, quorum_dealt, say, after_voter, client_at, come, draw_of, exchange, if_client}
+use Rattle.world_state.specs.Steps.{if_voter, step, voter_at}
 use Rattle.world.specs.Visible.{DealsFrom, DoMeet}
 use Rattle.world.specs.Rules.{ClientLaws, VoterLaws}
 use Rattle.world.proofs.Claims.{Bounds, Names, put-each}

@@ -1,6 +1,4 @@
-pub mod Acts
 pub mod Added
-pub mod Addressed
 pub mod Claims
 pub mod ClientMoves
 pub mod EveryRun
@@ -10,7 +8,6 @@ pub mod Mixes
 pub mod Places
 pub mod Plans
 pub mod Reached
-pub mod Refused
 pub mod Restarts
 pub mod SavedWorlds
 pub mod SavingSteps

@@ -18,15 +18,16 @@ use Rattle.requester.specs.Steps as client
 use Rattle.requester.specs.Words.{is_inside}
 use Rattle.quorum_set.specs.declared.bridge.Side.{Side}
 use Rattle.quorum_set.specs.declared.bridge.Side.TheVariants.{First, Second}
-use Rattle.world.specs.declared.fault.WorldFault.{WorldFault}
-use Rattle.world.specs.declared.step.Event.{Event}
-use Rattle.world.specs.declared.step.Step.{Step}
-use Rattle.world.specs.declared.step.Step.TheVariants.{Ask, Deliver, Leave, GiveUp, RemindClient, RemindVoter, Exchange}
-use Rattle.world.specs.Ranges.{IsAddressed, IsNumbered}
-use Rattle.world.specs.Restarts.{Node, OneClient, OneVoter, Nobody, Saved, Happening, Goes, Saves, Forgets, Restarts, all_happen, begin, crash_seen, come_back, happens, if_there, is_silent, maker, receiver, restart, save, save_and_send, save_unless}
+use Rattle.world_state.specs.declared.fault.WorldFault.{WorldFault}
+use Rattle.world_state.specs.declared.step.Event.{Event}
+use Rattle.world_state.specs.declared.step.Step.{Step}
+use Rattle.world_state.specs.declared.step.Step.TheVariants.{Ask, Deliver, Leave, GiveUp, RemindClient, RemindVoter, Exchange}
+use Rattle.world_state.specs.Numbered.{IsAddressed, IsNumbered}
+use Rattle.world.specs.Restarts.{Node, OneClient, OneVoter, Nobody, Saved, Happening, Goes, Saves, Forgets, Restarts, all_happen, begin, crash_seen, come_back, happens, if_there, maker, receiver, restart, save, save_and_send, save_unless}
+use Rattle.world_state.specs.Steps.{is_silent}
 use Rattle.world.specs.Runs.{AreLimits, after, start}
 use Rattle.world.specs.SavedWorlds.{EachMixIsLed, IsLed, LoseNothing, LosesNothing, with_nodes}
-use Rattle.world.specs.Steps.{Dealing, Outcome, WorldState, after_client, after_voter, client_at, come, draw_of, events, exchange, if_client, if_voter, next_ticket, quorum_dealt, say, step, ticket_of, voter_at}
+use Rattle.world_state.specs.Steps.{Dealing, Outcome, WorldState, after_client, after_voter, client_at, come, draw_of, events, exchange, if_client, if_voter, next_ticket, quorum_dealt, say, step, ticket_of, voter_at}
 use Rattle.world.specs.Rules.{ClientLaws, VoterLaws}
 use Rattle.world.specs.Visible.{DealsFrom, DoMeet}
 use Rattle.world.proofs.Claims.{Bounds, put, put-same}

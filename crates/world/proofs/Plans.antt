@@ -18,13 +18,13 @@ use Rattle.message.specs.Lines.{AreCounts, HasLine, IsCount}
 use Rattle.certificate.specs.Certificates.{Weighted, IsCertificate}
 use Rattle.dealer.specs.Cycles.{quorum_of_ticket}
 use Rattle.dealer.specs.Plans.{coteries_of}
-use Rattle.world.specs.declared.step.Step.{Step}
+use Rattle.world_state.specs.declared.step.Step.{Step}
 use Rattle.world.specs.Coherence.{IsCoherent}
 use Rattle.world.specs.Ranges.{IsInRange, IsSound, IsWithin, ReportsWithin}
 use Rattle.world.specs.Runs.{AreLimits, IsReached, after, run_of, start, start_by}
-use Rattle.world.specs.declared.fault.WorldFault.{WorldFault}
-use Rattle.world.specs.declared.step.Stepped.{Stepped}
-use Rattle.world.specs.Steps.{Dealing, Does, Planned, WorldState, dealing_of, outcome_of, quorum_by, step, step_of}
+use Rattle.world_state.specs.declared.fault.WorldFault.{WorldFault}
+use Rattle.world_state.specs.declared.step.Stepped.{Stepped}
+use Rattle.world_state.specs.Steps.{Dealing, Does, Planned, WorldState, dealing_of, outcome_of, quorum_by, step, step_of}
 use Rattle.world.specs.Visible.{DealsFrom, DoMeet, IsAmong}
 
 abbrev pub AllCoteriesMeet : Type 0

@@ -21,7 +21,7 @@ use Rattle.requester.specs.Steps as client
 use Rattle.requester.specs.Words.{is_inside, held_of, holds_under, last_of}
 use Rattle.world.specs.Ranges.{IsWithin, ReportsWithin}
 use Rattle.world.specs.Runs.{AreLimits, start}
-use Rattle.world.specs.Steps.{WorldState, client_at, voter_at}
+use Rattle.world_state.specs.Steps.{WorldState, client_at, voter_at}
 use Rattle.world.specs.Visible.{DoMeet, IsAmong}
 use Rattle.world.specs.Rules.{ClientLaws, VoterLaws}
 use Rattle.world.proofs.Claims.{Bounds, Names, ReportOk, ClientOk, IsClient, VoterOk, WorldOk}

@@ -9,12 +9,12 @@ use Rattle.voter.specs.declared.state.VoterState.{VoterState}
 use Rattle.voter.specs.Steps as voter
 use Rattle.requester.specs.declared.state.ClientState.{ClientState}
 use Rattle.requester.specs.Steps as client
-use Rattle.world.specs.declared.step.Event.{Event}
+use Rattle.world_state.specs.declared.step.Event.{Event}
 use Rattle.world.specs.Restarts.{Happening, OneClient, Restarts, Saved, come_back, if_there}
 use Rattle.world.specs.Rules.{ClientLaws, VoterLaws}
 use Rattle.world.specs.Runs.{AreLimits, IsReached, start_by}
 use Rattle.world.specs.SavedWorlds.{IsSavedWorld, LosesNothing, PlannedSaved, begin_by, happens_by, live_of}
-use Rattle.world.specs.Steps.{WorldState, client_at, dealing_of}
+use Rattle.world_state.specs.Steps.{WorldState, client_at, dealing_of}
 use Rattle.world.specs.Visible.{DealsFrom}
 use Rattle.world.proofs.Claims.{Bounds}
 use Rattle.world.proofs.Mixes.{begin_led, happens_led, live_led, unseen}

@@ -1,11 +1,11 @@
 -- a step that saves, and then sends, as the code makes it
 use Rattle.std.proofs.Common.{◌≡◌, Result, Ok, Err, sym, ap, subst, ◌∙◌}
-use Rattle.world.specs.declared.fault.WorldFault.{WorldFault}
-use Rattle.world.specs.declared.step.Step.{Step}
-use Rattle.world.specs.declared.step.Stepped.{Stepped}
+use Rattle.world_state.specs.declared.fault.WorldFault.{WorldFault}
+use Rattle.world_state.specs.declared.step.Step.{Step}
+use Rattle.world_state.specs.declared.step.Stepped.{Stepped}
 use Rattle.world.specs.Restarts.{Goes, Happening, Saved, happens}
 use Rattle.world.specs.SavedWorlds.{IsSavedWorld, LosesNothing, PlannedSaved, SavesAndSends, happens_by}
-use Rattle.world.specs.Steps.{WorldState, dealing_of}
+use Rattle.world_state.specs.Steps.{WorldState, dealing_of}
 
 -- what the code's step makes of a saved world, in which there was room, is one again
 pub IsSavedWorld-steps : ((w : PlannedSaved) (h : Happening) → IsSavedWorld w → LosesNothing h → IsSavedWorld (happens_by w h)) → (w : PlannedSaved) → IsSavedWorld w

@@ -2,12 +2,12 @@
 use Rattle.std.proofs.Common.{◌≡◌, ℕ, ◌+◌, ◌<◌, List, [], ◌∷◌, ◌++◌, length, drop, get_or, Result, Ok, Err, sym, ap, subst, ◌∙◌, append_assoc}
 use Rattle.std.proofs.lemmas.List.{append-nil, drop_more}
 use Rattle.dealer.specs.Plans.{PlanPair}
-use Rattle.world.specs.declared.fault.WorldFault.{WorldFault}
-use Rattle.world.specs.declared.fault.WorldFault.TheVariants as faults
-use Rattle.world.specs.declared.step.Step.{Step}
-use Rattle.world.specs.declared.step.Stepped.{Stepped}
+use Rattle.world_state.specs.declared.fault.WorldFault.{WorldFault}
+use Rattle.world_state.specs.declared.fault.WorldFault.TheVariants as faults
+use Rattle.world_state.specs.declared.step.Step.{Step}
+use Rattle.world_state.specs.declared.step.Stepped.{Stepped}
 use Rattle.world.specs.Runs.{after, refusal_at, refusals_of, run_by, run_of, start_by}
-use Rattle.world.specs.Steps.{Outcome, Planned, Refuses, WorldState, dealing_of, outcome_of, step, step_of}
+use Rattle.world_state.specs.Steps.{Outcome, Planned, Refuses, WorldState, dealing_of, outcome_of, step, step_of}
 
 -- the run so far, and then that of the steps that are left, is the whole run
 pub record Ran (plans : PlanPair) (clients limit : ℕ) (steps : List Step) (place : ℕ) (w : Planned) (refused : List (ℕ × WorldFault)) : Type 0 where

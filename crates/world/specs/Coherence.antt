@@ -15,8 +15,8 @@ use Rattle.requester.specs.declared.state.ClientState.{ClientState}
 use Rattle.requester.specs.RequesterContract.{IsLive}
 use Rattle.requester.specs.Soundness as client
 use Rattle.requester.specs.Words.{is_idle, is_member, holds_under}
-use Rattle.world.specs.Ranges.{IsNumbered}
-use Rattle.world.specs.Steps.{WorldState, client_at, voter_at}
+use Rattle.world_state.specs.Numbered.{IsNumbered}
+use Rattle.world_state.specs.Steps.{WorldState, client_at, voter_at}
 
 -- the vote is granted to this client's request of this stamp, under this number
 abbrev pub Names : Option Grant → ℕ → ℕ → ℕ → Type 0

@@ -5,5 +5,4 @@ pub mod Rules
 pub mod Runs
 pub mod SavedWorlds
 pub mod States
-pub mod Steps
 pub mod Visible

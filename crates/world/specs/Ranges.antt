@@ -1,14 +1,14 @@
--- Ranges: which client and voter a message of a world names, and how large its numbers are.
-use Rattle.std.specs.Prelude.{ℕ, ◌≡◌, ◌<◌, ◌≤◌, List, length}
+-- How large the numbers of a message are, and what holds after every run.
+use Rattle.std.specs.Prelude.{ℕ, ◌<◌, ◌≤◌, List}
 use Rattle.std.specs.List.{AllByRecursion}
-use Rattle.numbers.specs.Bounds.{max_voters, max_clients}
 use Rattle.message.specs.declared.message.Message.{Message}
 use Rattle.message.specs.declared.message.Message.TheVariants as kinds
 use Rattle.message.specs.declared.message.ClientBody.{ClientBody}
 use Rattle.message.specs.declared.message.ClientBody.TheVariants as to_client
 use Rattle.message.specs.Lines.{voter_number}
 use Rattle.world.specs.Runs.{DrawsInOrder}
-use Rattle.world.specs.Steps.{WorldState, client_at, voter_at}
+use Rattle.world_state.specs.Numbered.{IsNumbered}
+use Rattle.world_state.specs.Steps.{WorldState}
 use Rattle.world.specs.Visible.{IsExclusive}
 
 -- a stamp or a grant number: from 1 to the limit
@@ -32,20 +32,6 @@ IsInRange voters clients limit (kinds.ToClient m) =
 -- each of these messages is in range
 abbrev pub AreInRange : ℕ → ℕ → ℕ → List Message → Type 0
 AreInRange voters clients limit sent = AllByRecursion (IsInRange voters clients limit) sent
-
--- the message names a client and a voter of the world
-abbrev pub IsAddressed : WorldState → Message → Type 0
-IsAddressed w (kinds.ToVoter m) = (m.client < length w.clients) × (m.voter < length w.voters)
-IsAddressed w (kinds.ToClient m) = (m.client < length w.clients) × (m.voter < length w.voters)
-
--- Each client and each voter knows its own number, and there are at most 64 of each. Each message
--- names a client and a voter of the world.
-pub record IsNumbered (w : WorldState) : Type 0 where
-  pub clients : (c : ℕ) → c < length w.clients → (client_at w.clients c).id ≡ c
-  pub voters : (v : ℕ) → v < length w.voters → (voter_at w.voters v).id ≡ v
-  pub few_clients : length w.clients ≤ max_clients
-  pub few_voters : length w.voters ≤ max_voters
-  pub messages : AllByRecursion (IsAddressed w) w.sent
 
 -- what holds after every run of a world with this number of voters, this number of clients and this
 -- limit

@@ -3,7 +3,7 @@
 -- state of the client or voter that made it, before any message is sent. Other steps need not be
 -- saved. A client or voter that restarts has its saved state again. All but the least of a saved state
 -- may be lost.
-use Rattle.std.specs.Prelude.{ℕ, ◌≡◌, ◌<◌, ◌≤◌, ◌==◌, nat_lt, Bool, true, false, List, [], ◌∷◌, ◌++◌, Option, Some, None, Result, Ok, Err, slice_get, slice_index, slice_set, length}
+use Rattle.std.specs.Prelude.{ℕ, ◌≡◌, ◌<◌, ◌≤◌, nat_lt, Bool, true, false, List, [], ◌∷◌, ◌++◌, Option, Some, None, Result, Ok, Err, slice_get, slice_index, slice_set, length}
 use Rattle.numbers.specs.Bounds.{max_voters}
 use Rattle.message.specs.declared.message.Message.{Message}
 use Rattle.message.specs.declared.message.Message.TheVariants as kinds
@@ -14,11 +14,11 @@ use Rattle.requester.specs.declared.state.Seen.{Seen}
 use Rattle.requester.specs.declared.state.Seen.TheVariants.{Nothing, Entered, Left}
 use Rattle.requester.specs.Saved.{least_client}
 use Rattle.requester.specs.Words.{holds_under, is_inside}
-use Rattle.world.specs.declared.fault.WorldFault.{WorldFault}
-use Rattle.world.specs.declared.step.Step.{Step}
-use Rattle.world.specs.declared.step.Step.TheVariants.{Ask, Deliver, Leave, GiveUp, RemindClient, RemindVoter, Exchange}
+use Rattle.world_state.specs.declared.fault.WorldFault.{WorldFault}
+use Rattle.world_state.specs.declared.step.Step.{Step}
+use Rattle.world_state.specs.declared.step.Step.TheVariants.{Ask, Deliver, Leave, GiveUp, RemindClient, RemindVoter, Exchange}
 use Rattle.world.specs.Runs.{start}
-use Rattle.world.specs.Steps.{WorldState, Outcome, Dealing, client_at, voter_at, events, step}
+use Rattle.world_state.specs.Steps.{WorldState, Outcome, Dealing, client_at, voter_at, events, is_silent, step}
 
 -- a client, a voter, or nobody
 pub data Node : Type 0 where
@@ -97,12 +97,6 @@ abbrev pub restart : Node → Saved → Saved
 restart (OneClient c) s = if_there (nat_lt c (length s.live.clients)) (come_back s c (client_at s.clients c)) s
 restart (OneVoter v) s = record s { live = record s.live { voters = slice_set s.live.voters v (voter_at s.voters v) } }
 restart Nobody s = s
-
--- no message was sent, and no client entered or left
-abbrev pub is_silent : ℕ → Seen → Bool
-is_silent sent Nothing = sent == 0
-is_silent sent Entered = false
-is_silent sent Left = false
 
 -- the live state is saved, unless the step was silent
 abbrev pub save_unless : Bool → Node → Saved → Saved

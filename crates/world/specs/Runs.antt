@@ -6,9 +6,9 @@ use Rattle.quorum_set.specs.declared.bridge.Side.TheVariants.{First}
 use Rattle.dealer.specs.Plans.{PlanPair, ArePlans}
 use Rattle.voter.specs.Steps as voter
 use Rattle.requester.specs.Steps as client
-use Rattle.world.specs.declared.fault.WorldFault.{WorldFault}
-use Rattle.world.specs.declared.step.Step.{Step}
-use Rattle.world.specs.Steps.{WorldState, Outcome, Dealing, Planned, dealing_of, step}
+use Rattle.world_state.specs.declared.fault.WorldFault.{WorldFault}
+use Rattle.world_state.specs.declared.step.Step.{Step}
+use Rattle.world_state.specs.Steps.{WorldState, Outcome, Dealing, Planned, dealing_of, step}
 
 -- a world of new voters and clients, in which nothing has happened yet
 abbrev pub start : ℕ → ℕ → ℕ → WorldState

@@ -4,12 +4,12 @@ use Rattle.std.specs.Prelude.{ℕ, ◌≡◌, ◌⊎◌, List, [], ◌∷◌, le
 use Rattle.dealer.specs.Plans.{PlanPair, ArePlans}
 use Rattle.voter.specs.declared.state.VoterState.{VoterState}
 use Rattle.requester.specs.declared.state.ClientState.{ClientState}
-use Rattle.world.specs.declared.fault.WorldFault.{WorldFault}
-use Rattle.world.specs.declared.step.Step.{Step}
-use Rattle.world.specs.declared.step.Stepped.{Stepped}
+use Rattle.world_state.specs.declared.fault.WorldFault.{WorldFault}
+use Rattle.world_state.specs.declared.step.Step.{Step}
+use Rattle.world_state.specs.declared.step.Stepped.{Stepped}
 use Rattle.world.specs.Restarts.{Happening, Goes, Saves, Forgets, Restarts, Saved, begin, happens}
 use Rattle.world.specs.Runs.{AreLimits, run_of, start_by}
-use Rattle.world.specs.Steps.{Dealing, Outcome, Planned, Refuses, WorldState, client_at, dealing_of, outcome_of, step, voter_at}
+use Rattle.world_state.specs.Steps.{Dealing, Outcome, Planned, Refuses, WorldState, client_at, dealing_of, outcome_of, step, voter_at}
 
 -- a world with saved states and its plans, which give the quorum of each ticket
 pub record PlannedSaved : Type 0 where

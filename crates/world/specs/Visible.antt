@@ -4,8 +4,8 @@ use Rattle.std.specs.List.{All}
 use Rattle.numbers.specs.Sets.{IsSet}
 use Rattle.quorum_set.specs.Meetings.{AllMeet}
 use Rattle.quorum_set.specs.declared.bridge.Side.{Side}
-use Rattle.world.specs.declared.step.Event.{Event}
-use Rattle.world.specs.Steps.{Dealing, quorum_dealt}
+use Rattle.world_state.specs.declared.step.Event.{Event}
+use Rattle.world_state.specs.Steps.{Dealing, quorum_dealt}
 
 -- these events may follow while this client, or nobody, is inside
 abbrev pub GoesOn : Option ℕ → List Event → Type 0

@@ -1,6 +1,6 @@
 //! Laws: what is proved about the definitions.
 ghost use Rattle.std.specs.Prelude.{◌≡◌, ◌<◌, ◌⊎◌, ℕ, List, Ok, length, slice_set};
-ghost use Rattle.world.specs.declared.step.Step.{Step};
+ghost use Rattle.world_state.specs.declared.step.Step.{Step};
 ghost use Rattle.world.specs.Coherence.{IsCoherent};
 ghost use Rattle.world.specs.Ranges.{AreInRange, IsSound};
 ghost use Rattle.dealer.specs.Plans.{ArePlans, PlanPair};
@@ -9,7 +9,7 @@ ghost use Rattle.world.specs.Rules.{ClientLaws, VoterLaws};
 ghost use Rattle.world.specs.Runs.{AreLimits, IsReached, run_of, start};
 ghost use Rattle.world.specs.SavedWorlds.{IsLed, IsSavedWorld, LoseNothing, LosesNothing, PlannedSaved, begin_by, happens_by, live_of};
 ghost use Rattle.world.specs.States.{IsWorld};
-ghost use Rattle.world.specs.Steps.{Adds, Dealing, Outcome, Planned, WorldState, client_at, step};
+ghost use Rattle.world_state.specs.Steps.{Adds, Dealing, Outcome, Planned, WorldState, client_at, step};
 ghost use Rattle.world.specs.Visible.{DealsFrom, DoMeet, IsExclusive};
 
 use dealer::tickets_name_quorums;

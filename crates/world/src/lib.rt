@@ -16,9 +16,9 @@
 //!
 //! # What is proved
 //!
-//! - A step is exactly the definition in `specs/Steps.antt`, which is made of the steps of `voter`
-//!   and `requester`. A step that fails changes nothing, and it fails with `OutOfMemory` only if no
-//!   other fault applies.
+//! - A step is exactly the definition in `world_state`, which is made of the steps of `voter` and
+//!   `requester`. A step that fails changes nothing, and it fails with `OutOfMemory` only if no other
+//!   fault applies.
 //! - **At most one client is inside**, over every list of steps: the events of [`run`] read enter
 //!   c, leave c, enter d, leave d, .. The law [`at_most_one_is_inside`] says so as long as any two
 //!   quorums share a voter, whichever quorum each ticket stands for. It also holds while a plan is
@@ -38,8 +38,8 @@
 //! A [`SavedWorld`] can be taken apart into its [`Cycles`] and its [`Stored`] state, for worlds in which more
 //! happens than steps and crashes.
 //!
-//! Depends on `dealer`, whose cycles give the quorums, and on `voter` and `requester`. It also
-//! depends on `message`, `certificate`, `quorum_set` and `numbers`.
+//! Depends on `world_state`, which has the state and its steps, on `dealer`, whose cycles give the quorums,
+//! and on `voter` and `requester`. It also depends on `message`, `certificate`, `quorum_set` and `numbers`.
 //!
 //! ```
 //! // Two of three voters, two clients, stamps up to 1000:
@@ -51,29 +51,19 @@
 //! ```
 #![tactic(auto)]
 
-mod cycles;
-mod fault;
 mod laws;
-mod lists;
-mod moves;
 mod saved;
-mod state;
-mod step;
 mod stored;
 mod trace;
 mod world;
 
-pub use cycles::Cycles;
-pub use fault::WorldFault;
 pub use laws::{
     at_most_one_is_inside, at_most_one_is_inside_with_restarts, later_passes_are_newer,
     later_votes_have_greater_numbers, messages_are_in_range, parts_keep_their_rules,
     restarts_undo_silent_steps, steps_add, worlds_stay_coherent,
 };
-pub use lists::note;
 pub use saved::SavedWorld;
-pub use state::State;
-pub use step::{Event, Step, Stepped};
 pub use stored::{Maker, Stored, copy_client, copy_voter};
 pub use trace::{Trace, run};
 pub use world::World;
+pub use world_state::{Cycles, Event, State, Step, Stepped, WorldFault, note};

@@ -3,15 +3,13 @@ ghost use Rattle.std.specs.Prelude.{◌≡◌, ◌<◌, ◌≤◌, IfErr, IfOk, 
 ghost use Rattle.numbers.specs.Bounds.{max_voters, max_clients, max_stamp};
 ghost use Rattle.message.specs.Lines.{HasLine};
 ghost use Rattle.world.specs.Restarts.{Goes, OneClient, OneVoter, Restarts, maker};
-ghost use Rattle.world.specs.States.{node_of, plans_of, saved_of};
+ghost use Rattle.world.specs.States.{node_of, saved_of};
+ghost use Rattle.world_state.specs.States.{plans_of};
 ghost use Rattle.world.specs.SavedWorlds.{IsSavedWorld, begin_by, happens_by, live_of, live_step_of};
-ghost use Rattle.world.specs.Steps.{Refuses, outcome_of};
+ghost use Rattle.world_state.specs.Steps.{Refuses, outcome_of};
 ghost use Rattle.world.specs.Visible.{IsExclusive};
 
-use crate::cycles::Cycles;
-use crate::fault::WorldFault;
 use crate::laws::saved_worlds_stay_sound;
-use crate::step::{Event, Step, Stepped};
 use crate::stored::{Maker, Stored, copy_client, copy_voter};
 use crate::world::{World, new_clients, new_voters};
 use dealer::Plans;
@@ -20,6 +18,7 @@ use requester::Requester;
 use std::alloc::{AllocError, Global};
 use std::marker::Model;
 use voter::Voter;
+use world_state::{Cycles, Event, Step, Stepped, WorldFault};
 
 /// A world whose clients and voters are saved, and restart from what they saved.
 ///
@@ -36,7 +35,8 @@ pub struct SavedWorld {
 }
 
 impl Model for SavedWorld {
-    ghost use Rattle.world.specs.States.{plans_of, saved_of};
+    ghost use Rattle.world.specs.States.{saved_of};
+    ghost use Rattle.world_state.specs.States.{plans_of};
     ghost use Rattle.std.specs.Coded.{codes};
     ghost use Rattle.voter.specs.contracts.state.VoterState as known;
     ghost use Rattle.world.specs.SavedWorlds.{IsSavedWorld, PlannedSaved};

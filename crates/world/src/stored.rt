@@ -1,20 +1,17 @@
 //! The state of a world with the saved states of its clients and voters, and steps that save.
 ghost use Rattle.std.specs.Prelude.{◌≡◌, ◌<◌, ◌≤◌, length, slice_set, true};
-ghost use Rattle.world.specs.Ranges.{IsNumbered};
+ghost use Rattle.world_state.specs.Numbered.{IsNumbered};
 ghost use Rattle.world.specs.Restarts.{maker, receiver, save, save_unless};
 ghost use Rattle.world.specs.SavedWorlds.{SavesAndSends};
-ghost use Rattle.world.specs.States.{HasRoom, IsStored, contents_of, node_of, plans_of, saved_of};
-ghost use Rattle.world.specs.Steps.{client_at, dealing_of, voter_at};
+ghost use Rattle.world.specs.States.{IsStored, node_of, saved_of};
+ghost use Rattle.world_state.specs.States.{HasRoom, contents_of, plans_of};
+ghost use Rattle.world_state.specs.Steps.{client_at, dealing_of, voter_at};
 
-use crate::cycles::Cycles;
-use crate::fault::WorldFault;
-use crate::moves::{client_of, voter_of};
-use crate::state::State;
-use crate::step::{Step, Stepped};
 use arrayvec::ArrayVec;
 use message::Message;
 use requester::Requester;
 use voter::Voter;
+use world_state::{Cycles, State, Step, Stepped, WorldFault, client_of, voter_of};
 
 /// Who makes a step.
 #[derive(Clone, Copy)]

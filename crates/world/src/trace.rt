@@ -1,19 +1,18 @@
 //! Runs of a world.
 ghost use Rattle.std.specs.Prelude.{◌≡◌, ◌≢◌, ◌≤◌, ◌++◌, ◌∷◌, [], IfOk, OnOk};
 ghost use Rattle.numbers.specs.Bounds.{max_clients, max_stamp};
-ghost use Rattle.world.specs.declared.fault.WorldFault.TheVariants.{OutOfMemory};
+ghost use Rattle.world_state.specs.declared.fault.WorldFault.TheVariants.{OutOfMemory};
 ghost use Rattle.std.specs.List.{AllByRecursion};
 ghost use Rattle.message.specs.Lines.{HasLine};
 ghost use Rattle.world.specs.Runs.{DrawsInOrder, refusals_of, run_by, start_by};
-ghost use Rattle.world.specs.Steps.{dealing_of};
+ghost use Rattle.world_state.specs.Steps.{dealing_of};
 ghost use Rattle.world.specs.Visible.{IsExclusive};
 
-use crate::fault::WorldFault;
-use crate::step::{Event, Step};
 use crate::world::World;
 use dealer::Plans;
 use message::Message;
 use std::alloc::{AllocError, Global};
+use world_state::{Event, Step, WorldFault};
 
 /// What a list of steps did in a new world.
 #[derive(Drop)]

@@ -6,15 +6,11 @@ ghost use Rattle.requester.specs.Steps as requesters;
 ghost use Rattle.voter.specs.Steps as polls;
 ghost use Rattle.message.specs.Lines.{HasLine};
 ghost use Rattle.world.specs.Runs.{DrawsInOrder, IsReached, start_by};
-ghost use Rattle.world.specs.States.{contents_of, plans_of};
-ghost use Rattle.world.specs.Steps.{Refuses, outcome_of, step_of};
+ghost use Rattle.world_state.specs.States.{contents_of, plans_of};
+ghost use Rattle.world_state.specs.Steps.{Refuses, outcome_of, step_of};
 ghost use Rattle.world.specs.Visible.{IsExclusive};
 
-use crate::cycles::Cycles;
-use crate::fault::WorldFault;
 use crate::laws::worlds_stay_sound;
-use crate::state::State;
-use crate::step::{Event, Step, Stepped};
 use crate::trace::Trace;
 use arrayvec::ArrayVec;
 use dealer::Plans;
@@ -24,6 +20,7 @@ use requester::Requester;
 use std::alloc::{AllocError, Global};
 use std::marker::Model;
 use voter::Voter;
+use world_state::{Cycles, Event, State, Step, Stepped, WorldFault};
 
 /// The clients and the voters of one lock, and every message that was ever sent.
 ///
@@ -36,10 +33,11 @@ pub struct World {
 }
 
 impl Model for World {
-    ghost use Rattle.world.specs.States.{IsWorld, plans_of, contents_of};
+    ghost use Rattle.world.specs.States.{IsWorld};
+    ghost use Rattle.world_state.specs.States.{plans_of, contents_of};
     ghost use Rattle.std.specs.Coded.{codes};
     ghost use Rattle.voter.specs.contracts.state.VoterState as known;
-    ghost use Rattle.world.specs.Steps.{Planned};
+    ghost use Rattle.world_state.specs.Steps.{Planned};
 
     ghost Value = { Planned };
 

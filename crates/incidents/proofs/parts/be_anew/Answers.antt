@@ -1,7 +1,8 @@
 use Rattle.std.proofs.Common.{◌≡◌, ◌<◌, List, sym, ap, subst, ◌∙◌}
 use Rattle.requester.specs.declared.state.ClientState.{ClientState}
-use Rattle.world.specs.States.{contents_of, saved_of}
-use Rattle.world.specs.Steps.{client_at}
+use Rattle.world.specs.States.{saved_of}
+use Rattle.world_state.specs.States.{contents_of}
+use Rattle.world_state.specs.Steps.{client_at}
 use Rattle.incidents.proofs.CallLemmas.{starts_as}
 use Rattle.incidents.proofs.parts.be_anew.Goals as goal
 

@@ -1,6 +1,6 @@
 use Rattle.progress.proofs.Everybody.{everybody_gets_in}
 use Rattle.progress.proofs.Kept.{IsKept-reached}
-use Rattle.world.specs.Steps.{dealing_of}
+use Rattle.world_state.specs.Steps.{dealing_of}
 use Rattle.progress.proofs.laws.everybody_can_enter.Goals as goal
 
 pub returns : goal.returns

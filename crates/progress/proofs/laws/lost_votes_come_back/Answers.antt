@@ -1,6 +1,6 @@
 use Rattle.progress.proofs.Ways.{comes_back}
 use Rattle.progress.proofs.Kept.{IsKept-reached}
-use Rattle.world.specs.Steps.{dealing_of}
+use Rattle.world_state.specs.Steps.{dealing_of}
 use Rattle.progress.proofs.laws.lost_votes_come_back.Goals as goal
 
 pub returns : goal.returns

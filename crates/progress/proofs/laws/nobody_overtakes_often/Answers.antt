@@ -1,6 +1,6 @@
 use Rattle.progress.proofs.Counting.{nobody_overtakes}
 use Rattle.progress.proofs.Kept.{IsKept-reached}
-use Rattle.world.specs.Steps.{dealing_of}
+use Rattle.world_state.specs.Steps.{dealing_of}
 use Rattle.progress.proofs.laws.nobody_overtakes_often.Goals as goal
 
 pub returns : goal.returns

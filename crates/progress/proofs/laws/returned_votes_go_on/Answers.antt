@@ -1,6 +1,6 @@
 use Rattle.progress.proofs.Exchanges.{goes_on}
 use Rattle.progress.proofs.Kept.{IsKept-reached}
-use Rattle.world.specs.Steps.{dealing_of}
+use Rattle.world_state.specs.Steps.{dealing_of}
 use Rattle.progress.proofs.laws.returned_votes_go_on.Goals as goal
 
 pub returns : goal.returns

@@ -1,6 +1,6 @@
 use Rattle.progress.proofs.Alone.{gets_in_alone}
 use Rattle.progress.proofs.Kept.{IsKept-reached}
-use Rattle.world.specs.Steps.{dealing_of}
+use Rattle.world_state.specs.Steps.{dealing_of}
 use Rattle.progress.proofs.laws.who_asks_alone_gets_in.Goals as goal
 
 pub returns : goal.returns

@@ -1,6 +1,6 @@
 use Rattle.std.proofs.Common.{◌≡◌, ◌++◌, drop, string_bytes}
 use Rattle.dealer.specs.Plans.{single}
-use Rattle.world.specs.Steps.{dealing_of}
+use Rattle.world_state.specs.Steps.{dealing_of}
 use Rattle.replay.specs.Outputs.{run_output, script_output}
 use Rattle.replay.proofs.output.output_of.Given as goal
 

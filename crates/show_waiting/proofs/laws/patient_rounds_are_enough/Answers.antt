@@ -1,6 +1,6 @@
 use Rattle.std.proofs.Common.{length}
 use Rattle.progress.specs.Rounds.{late_in}
-use Rattle.world.specs.Steps.{dealing_of}
+use Rattle.world_state.specs.Steps.{dealing_of}
 use Rattle.show_waiting.proofs.WaitingLemmas.{patient_bound-of_law}
 use Rattle.show_waiting.proofs.laws.patient_rounds_are_enough.Goals as goal
 

@@ -1,6 +1,6 @@
 use Rattle.std.proofs.Common.{length}
 use Rattle.progress.specs.Rounds.{give_ups_in, late_in, steps_of}
-use Rattle.world.specs.Steps.{dealing_of}
+use Rattle.world_state.specs.Steps.{dealing_of}
 use Rattle.show_waiting.proofs.WaitingLemmas.{bound-of_law}
 use Rattle.show_waiting.proofs.laws.rounds_are_enough.Goals as goal
 

@@ -1,7 +1,7 @@
 use Rattle.std.proofs.Common.{List, sym, ap, subst, ◌∙◌, ◌++◌, ◌∷◌, []}
 use Rattle.progress.specs.WayIn.{Helps}
-use Rattle.world.specs.declared.step.Step.{Step}
-use Rattle.world.specs.Steps.{dealing_of}
+use Rattle.world_state.specs.declared.step.Step.{Step}
+use Rattle.world_state.specs.Steps.{dealing_of}
 use Rattle.ways.specs.Leads.{Leads}
 use Rattle.ways.proofs.Leading.{LeadFurther-none, Leads-more}
 use Rattle.ways.proofs.Staying.{entered_event, helps_stays}

@@ -1,6 +1,6 @@
 use Rattle.std.proofs.Common.{◌≡◌, ◌<◌, ℕ, false}
 use Rattle.requester.specs.Words.{is_inside}
-use Rattle.world.specs.Steps.{client_at}
+use Rattle.world_state.specs.Steps.{client_at}
 use Rattle.ways.proofs.rounds.is_busy.Given as goal
 
 abbrev pub invariant-loop-client : goal.invariant-loop-client

@@ -1,5 +1,5 @@
 use Rattle.std.proofs.Common.{ℕ, ◌+◌, List, sym, ap, subst, ◌∙◌, arith}
-use Rattle.world.specs.declared.fault.WorldFault.{WorldFault}
+use Rattle.world_state.specs.declared.fault.WorldFault.{WorldFault}
 use Rattle.world.proofs.Traces.{Ran, Ran-on, Ran-past}
 use Rattle.world.proofs.trace.run.Goals as goal
 use Rattle.world.proofs.trace.run.Goals.{in-Ok, in-Err+in_ok-keep-in-Err}

@@ -3,7 +3,8 @@ use Rattle.std.proofs.Common.{◌≡◌}
 use Rattle.incidents.specs.Calls.{befalls_by}
 use Rattle.incidents.specs.Fit.{IsFit}
 use Rattle.leases.specs.Incidents.{IsReborn}
-use Rattle.world.specs.States.{plans_of, saved_of}
+use Rattle.world.specs.States.{saved_of}
+use Rattle.world_state.specs.States.{plans_of}
 use Rattle.incidents.proofs.CallLemmas.{befell, kept_by, reborn_on}
 use Rattle.incidents.proofs.incident_world.IncidentWorld.bring_back.Goals.{After-be_reborn}
 use Rattle.incidents.proofs.incident_world.IncidentWorld.bring_back.Goals as goal

@@ -1,4 +1,5 @@
-use Rattle.world.specs.States.{plans_of, saved_of}
+use Rattle.world.specs.States.{saved_of}
+use Rattle.world_state.specs.States.{plans_of}
 use Rattle.incidents.proofs.CallLemmas.{holder_fit, kept_by_eviction}
 use Rattle.incidents.proofs.incident_world.IncidentWorld.evict.Goals as goal
 

@@ -4,7 +4,8 @@ use Rattle.incidents.specs.Fit.{IsFit}
 use Rattle.leases.specs.Incidents.{Happens}
 use Rattle.world.specs.Restarts.{OneClient, Restarts}
 use Rattle.world.specs.SavedWorlds.{PlannedSaved}
-use Rattle.world.specs.States.{plans_of, saved_of}
+use Rattle.world.specs.States.{saved_of}
+use Rattle.world_state.specs.States.{plans_of}
 use Rattle.incidents.proofs.CallLemmas.{kept_by}
 use Rattle.incidents.proofs.incident_world.IncidentWorld.restart_client.Goals.{After-crash_client}
 use Rattle.incidents.proofs.incident_world.IncidentWorld.restart_client.Goals as goal

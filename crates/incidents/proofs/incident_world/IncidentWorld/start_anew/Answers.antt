@@ -3,7 +3,8 @@ use Rattle.std.proofs.Common.{◌≡◌}
 use Rattle.incidents.specs.Calls.{befalls_by}
 use Rattle.incidents.specs.Fit.{IsFit}
 use Rattle.leases.specs.Incidents.{StartsAnew}
-use Rattle.world.specs.States.{plans_of, saved_of}
+use Rattle.world.specs.States.{saved_of}
+use Rattle.world_state.specs.States.{plans_of}
 use Rattle.incidents.proofs.CallLemmas.{befell, kept_by, anew_on}
 use Rattle.incidents.proofs.incident_world.IncidentWorld.start_anew.Goals.{After-be_anew}
 use Rattle.incidents.proofs.incident_world.IncidentWorld.start_anew.Goals as goal

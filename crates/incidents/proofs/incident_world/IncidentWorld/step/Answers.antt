@@ -2,10 +2,11 @@ use Rattle.std.proofs.Common.{sym, subst}
 use Rattle.incidents.specs.Calls.{IsCalm, befalls_by}
 use Rattle.incidents.specs.Fit.{IsFit}
 use Rattle.leases.specs.Incidents.{Happens}
-use Rattle.world.specs.declared.step.Step.{Step}
+use Rattle.world_state.specs.declared.step.Step.{Step}
 use Rattle.world.specs.Restarts.{Goes}
 use Rattle.world.specs.SavedWorlds.{PlannedSaved}
-use Rattle.world.specs.States.{contents_of, plans_of, saved_of}
+use Rattle.world.specs.States.{saved_of}
+use Rattle.world_state.specs.States.{contents_of, plans_of}
 use Rattle.incidents.proofs.CallLemmas.{kept_by_step}
 use Rattle.incidents.proofs.incident_world.IncidentWorld.step.Goals.{After-step}
 use Rattle.incidents.proofs.incident_world.IncidentWorld.step.Goals as goal

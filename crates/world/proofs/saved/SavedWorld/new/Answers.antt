@@ -1,8 +1,8 @@
 use Rattle.std.proofs.Common.{◌≡◌, length, sym, ap, subst, ◌∙◌}
 use Rattle.dealer.specs.Plans.{PlanPair, ArePlans}
 use Rattle.world.specs.SavedWorlds.{IsSavedWorld, PlannedSaved, begin_by}
-use Rattle.world.specs.States.{contents_of, plans_of}
-use Rattle.world.specs.Steps.{Planned, WorldState}
+use Rattle.world_state.specs.States.{contents_of, plans_of}
+use Rattle.world_state.specs.Steps.{Planned, WorldState}
 use Rattle.world.proofs.SavedWorlds.{begin_by-new}
 use Rattle.world.proofs.saved.SavedWorld.new.Goals.{After-into_parts-cycles}
 use Rattle.world.proofs.saved.SavedWorld.new.Goals as goal

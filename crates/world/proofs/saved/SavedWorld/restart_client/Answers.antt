@@ -4,9 +4,10 @@ use Rattle.std.specs.Vec.{with_items}
 use Rattle.requester.specs.declared.state.ClientState.{ClientState}
 use Rattle.world.specs.Restarts.{OneClient, Restarts}
 use Rattle.world.specs.SavedWorlds.{IsSavedWorld, PlannedSaved, happens_by}
-use Rattle.world.specs.States.{contents_of, plans_of, saved_of}
-use Rattle.world.specs.Steps.{client_at}
-use Rattle.world.proofs.Acts.{with_items-items}
+use Rattle.world.specs.States.{saved_of}
+use Rattle.world_state.specs.States.{contents_of, plans_of}
+use Rattle.world_state.specs.Steps.{client_at}
+use Rattle.world_state.proofs.Acts.{with_items-items}
 use Rattle.world.proofs.saved.SavedWorld.restart_client.Goals.{After-copy_client}
 use Rattle.world.proofs.saved.SavedWorld.restart_client.Goals as goal
 

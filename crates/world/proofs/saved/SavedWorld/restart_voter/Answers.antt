@@ -3,9 +3,10 @@ use Rattle.std.specs.Prelude.{slice_set}
 use Rattle.voter.specs.declared.state.VoterState.{VoterState}
 use Rattle.world.specs.Restarts.{OneVoter, Restarts}
 use Rattle.world.specs.SavedWorlds.{IsSavedWorld}
-use Rattle.world.specs.States.{contents_of, plans_of, saved_of}
-use Rattle.world.specs.Steps.{voter_at}
-use Rattle.world.proofs.Acts.{with_items-items}
+use Rattle.world.specs.States.{saved_of}
+use Rattle.world_state.specs.States.{contents_of, plans_of}
+use Rattle.world_state.specs.Steps.{voter_at}
+use Rattle.world_state.proofs.Acts.{with_items-items}
 use Rattle.world.proofs.saved.SavedWorld.restart_voter.Goals as goal
 
 pub invariant_of-self : goal.invariant_of-self

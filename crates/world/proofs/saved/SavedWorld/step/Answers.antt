@@ -1,7 +1,8 @@
 use Rattle.std.proofs.Common.{sym, ap, subst, ◌∙◌, length}
-use Rattle.world.specs.Ranges.{IsNumbered}
-use Rattle.world.specs.Steps.{WorldState}
-use Rattle.world.specs.States.{contents_of, plans_of, saved_of}
+use Rattle.world_state.specs.Numbered.{IsNumbered}
+use Rattle.world_state.specs.Steps.{WorldState}
+use Rattle.world.specs.States.{saved_of}
+use Rattle.world_state.specs.States.{contents_of, plans_of}
 use Rattle.world.proofs.SavingSteps.{IsSavedWorld-steps}
 use Rattle.world.proofs.saved.SavedWorld.step.Goals as goal
 

@@ -1,5 +1,5 @@
 use Rattle.std.proofs.Common.{List, sym, subst}
-use Rattle.world.specs.declared.step.Event.{Event}
+use Rattle.world_state.specs.declared.step.Event.{Event}
 use Rattle.world.specs.Visible.{IsExclusive}
 use Rattle.world.proofs.saved.SavedWorld.visible.Goals as goal
 

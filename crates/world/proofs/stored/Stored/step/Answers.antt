@@ -1,6 +1,6 @@
 use Rattle.std.proofs.Common.{sym, ◌∙◌}
-use Rattle.world.specs.States.{contents_of, plans_of}
-use Rattle.world.specs.Steps.{dealing_of, outcome_of}
+use Rattle.world_state.specs.States.{contents_of, plans_of}
+use Rattle.world_state.specs.Steps.{dealing_of, outcome_of}
 use Rattle.world.proofs.Mixes.{same_lengths}
 use Rattle.world.proofs.stored.Stored.step.Goals as goal
 

@@ -2,7 +2,7 @@ use Rattle.std.proofs.Common.{◌<◌, length, sym, subst, ap, arith}
 use Rattle.std.proofs.lemmas.List.Elements.{All-from_recursion}
 use Rattle.message.specs.declared.message.Message.{Message}
 use Rattle.message.specs.Lines.{HasLine}
-use Rattle.world.specs.Steps.{Planned}
+use Rattle.world_state.specs.Steps.{Planned}
 use Rattle.world.proofs.world.World.message.Goals as goal
 
 pub returns-clause-line : goal.returns-clause-line

@@ -4,8 +4,8 @@ use Rattle.quorum_set.specs.declared.bridge.Side.TheVariants.{First}
 use Rattle.dealer.specs.Plans.{PlanPair, ArePlans}
 use Rattle.voter.specs.Steps.{start}
 use Rattle.world.specs.Runs as runs
-use Rattle.world.specs.States.{plans_of}
-use Rattle.world.specs.Steps.{WorldState}
+use Rattle.world_state.specs.States.{plans_of}
+use Rattle.world_state.specs.Steps.{WorldState}
 use Rattle.world.proofs.world.World.new.Goals.{After-new-6}
 use Rattle.world.proofs.world.World.new.Goals as goal
 

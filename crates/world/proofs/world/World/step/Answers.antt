@@ -1,7 +1,8 @@
 use Rattle.std.proofs.Common.{sym, subst}
-use Rattle.world.specs.Ranges.{IsNumbered}
-use Rattle.world.specs.States.{IsWorld, plans_of, contents_of}
-use Rattle.world.specs.Steps.{WorldState}
+use Rattle.world_state.specs.Numbered.{IsNumbered}
+use Rattle.world.specs.States.{IsWorld}
+use Rattle.world_state.specs.States.{plans_of, contents_of}
+use Rattle.world_state.specs.Steps.{WorldState}
 use Rattle.world.proofs.Plans.{IsReached-does}
 use Rattle.world.proofs.world.World.step.Goals.{After-act}
 use Rattle.world.proofs.world.World.step.Goals as goal

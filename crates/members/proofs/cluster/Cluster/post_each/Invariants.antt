@@ -1,7 +1,0 @@
-use Rattle.std.proofs.Common.{◌≡◌, ◌+◌, ◌≤◌, take}
-use Rattle.std.specs.List.{count_by}
-use Rattle.members.specs.Losses.{is_stray_reply}
-use Rattle.members.proofs.cluster.Cluster.post_each.Given as goal
-
-abbrev pub invariant-loop-message : goal.invariant-loop-message
-invariant-loop-message g l = (l.posted + l.losses.lost ≡ l.message-index) × (count_by (is_stray_reply g.N.ClusterName.cluster.board) (take l.message-index l.outbox.messages) + l.losses.starved ≤ l.losses.lost)

@@ -1,0 +1,4 @@
+pub mod Acts
+pub mod Addressed
+pub mod Items
+pub mod Refused
