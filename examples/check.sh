@@ -326,7 +326,9 @@ shown coterie-votes /dev/null coterie votes 3 2 2 1 1
 shown coterie-any /dev/null coterie any 7 9
 shown compare /dev/null compare three-racks.toml weighted-votes.toml seven-of-nine.toml
 shown compare-with-capacities /dev/null compare wheel-3-fast-hub.toml three-centres.toml
+shown compare-in-two-units /dev/null compare wheel-3.toml wheel-3-fast-hub.toml
 shown near-wheel-3 wheel-3.toml near
+shown near-wheel-3-fast-hub wheel-3-fast-hub.toml near
 shown near-twenty-eight twenty-eight.toml near
 shown near-deal-twenty-eight twenty-eight.toml near --deal 5
 shown deal-names-wheel-3 wheel-3-planned.txt deal --names 5
@@ -337,6 +339,8 @@ example show-racks-of-nothing /dev/null 2 coterie racks
 example show-too-few-capacities /dev/null 1 coterie votes 3 2 2 1 1 --capacity 1 2
 example show-compare-no-such-file /dev/null 3 compare three-racks.toml no-such.toml
 example show-compare-a-plan /dev/null 1 compare three-racks.toml wheel-3.plan
+# of two files of which one has two parts nobody knows which one is no coterie
+example show-compare-two-parts /dev/null 1 compare wheel-3-planned.txt wheel-3.plan
 program=$qlock
 example no-plan-of-twenty-eight twenty-eight.toml 1 plan
 
@@ -350,6 +354,7 @@ parts three-racks.toml expected/plan-three-racks.out > "$work/input"
 shown json-resilience-of-a-plan "$work/input" resilience --json
 shown json-compare /dev/null compare --json three-racks.toml weighted-votes.toml
 shown json-near-wheel-3 wheel-3.toml near --json
+shown json-near-deal-wheel-3 wheel-3.toml near --deal 2 --json
 if command -v python3 > /dev/null; then
     for page in expected/show-json-*.out; do
         if python3 -c 'import json, sys; json.load(sys.stdin)' < "$page"; then passed=$((passed + 1)); else failed=$((failed + 1)); fi
@@ -372,6 +377,7 @@ if command -v python3 > /dev/null; then
         "$here/terminal.py" refused-disjoint.toml "$qlock" plan
         "$here/terminal.py" wheel-3.toml "$show" resilience
         "$here/terminal.py" /dev/null "$qlock" make wheel 2
+        "$here/terminal.py" /dev/null "$qlock" make wheel
         "$here/terminal.py" /dev/null "$qlock" check -f wheel-3.toml -f no-such.plan
         "$here/terminal.py" /dev/null "$qlock" plan -f faults
     } > "$work/terminal"
@@ -395,9 +401,15 @@ helps() {
 helps help "$qlock"
 helps show-help "$show"
 
-# the version is the newest of CHANGELOG.md
-echo "qlock-show $(sed -n 's/^## \([0-9.]*\).*/\1/p' "$here/../CHANGELOG.md" | head -n 1)" > "$work/wanted"
-"$show" --version > "$work/out"
+# the version is the newest of CHANGELOG.md; qlock writes what was asked for on standard error, with status 2
+version=$(sed -n 's/^## \([0-9.]*\).*/\1/p' "$here/../CHANGELOG.md" | head -n 1)
+printf 'qlock-show %s\nqlock %s\n2\n' "$version" "$version" > "$work/wanted"
+{
+    "$show" --version
+    status=0
+    "$qlock" --version 2>&1 > /dev/null || status=$?
+    echo "$status"
+} > "$work/out"
 if diff -u "$work/wanted" "$work/out"; then passed=$((passed + 1)); else failed=$((failed + 1)); fi
 
 # the page of all faults: each fault of the list has a heading, once and in order

@@ -69,10 +69,14 @@ with_subcommands a (sub ∷ subs) = with_subcommands (with_subcommand a sub.top)
 abbrev pub required_subcommand : App → App
 required_subcommand a = record a { top = record a.top { subcommand_required = true } }
 
+-- the same app, which has a version
+abbrev pub with_version : App → App
+with_version a = record a { top = record a.top { has_version = true } }
+
 -- qlock with `make`, `plan` and `check`
 abbrev pub planning_app : App
 planning_app =
-    with_subcommands (required_subcommand (new_app (codes "qlock")))
+    with_subcommands (required_subcommand (with_version (new_app (codes "qlock"))))
     (make_app ∷ new_app (codes "plan") ∷ new_app (codes "check") ∷ [])
 
 -- and with `deal`, `world` and `run`

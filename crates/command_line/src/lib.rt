@@ -30,4 +30,4 @@ pub use arguments::{bare_command, number_argument, tickets_argument, word_argume
 pub use command::{Command, Shape};
 pub use usage::Usage;
 pub use values::{number_of, read_matches, text_at, text_of, texts_of, tickets_of, used_in};
-pub use words::{read_words, sizes_argument, sizes_given};
+pub use words::{VERSION, read_words, sizes_argument, sizes_given};

@@ -13,6 +13,9 @@ use clap::{Arg, ArgMatches};
 use numbers::MAX_CLIENTS;
 use std::alloc::{AllocError, Global};
 
+/// The version of the programs, as in `CHANGELOG.md`.
+pub const VERSION: &str = "0.2.0";
+
 /// The greatest number of clients that run.
 const MOST_CLIENTS: u64 = MAX_CLIENTS as u64;
 
@@ -113,6 +116,7 @@ fn planning_command<'a>(alloc: Global) -> Result<clap::Command<'a>, AllocError>
         "qlock",
         "Plan quorums whose busiest voter is as idle as possible, and run the lock that they guard",
     )
+    .version(VERSION)
     .subcommand_required(true)
     .subcommand(make_command(alloc)?)?
     .subcommand(bare_command(alloc, "plan", "Find a plan: standard input has a coterie"))?

@@ -36,5 +36,5 @@ pub use listened::Listened;
 pub use reason::Reason;
 pub use reports::{
     Hint, files_help, hint_for, refuse_words, report, report_shown, report_unread, tell_of_fault,
-    tell_of_reading, tell_of_reason,
+    tell_of_help, tell_of_reading, tell_of_reason,
 };

@@ -90,6 +90,13 @@ pub fn refuse_words<R: Eprint>(rt: &R, usage: &Usage, words: &[String]) -> u8
     usage_status(usage)
 }
 
+/// Tells how to see which words a command takes, if it does not take these and clap has no text about it.
+pub fn tell_of_help<R: Eprint>(rt: &R, usage: &Usage) {
+    if let Usage::Arguments = usage {
+        let _ = rt.eprintln("The word --help behind a command says which words it takes.");
+    }
+}
+
 /// Tells who sits at a terminal that standard input is read from it, and how it ends.
 pub fn tell_of_reading<R: Eprint, I: IsTerminal>(rt: &R, input: &I) {
     if input.is_terminal() {

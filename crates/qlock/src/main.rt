@@ -5,12 +5,14 @@
 //! fault's line or a text about usage on standard error.
 #![tactic(auto)]
 
+ghost use Rattle.std.specs.Prelude.{◌≡◌};
 ghost use Rattle.commands.specs.Commands.{IsInRange};
+ghost use Rattle.commands.specs.Statuses.{usage_status};
 
 use commands::reads_input;
 use host::{
     Unread, command_line_of, read_files, refuse_words, report, report_unread, tell_of_fault,
-    tell_of_reading, tell_of_reason,
+    tell_of_help, tell_of_reading, tell_of_reason,
 };
 use qlock_cli::{Command, NoGate, Usage, Watched, execute, execute_run, read_words};
 use std::io;
@@ -47,6 +49,18 @@ fn serve_input<R: Read + Drop, T: Threads + Wait + Clock + Sync>(
     };
     let status = report(rt, &served);
     tell_of_fault(rt, &rt.stderr(), status);
+    status
+}
+
+/// Prints why these words name no command, and at a terminal how to see which words there are. Returns
+/// the exit status.
+fn refuse_line(rt: &HostRuntime, usage: &Usage, words: &[String]) -> u8
+    ensures status { result ≡ usage_status usage.now }
+{
+    let status = refuse_words(rt, usage, words);
+    if rt.stderr().is_terminal() {
+        tell_of_help(rt, usage);
+    }
     status
 }
 
@@ -88,13 +102,13 @@ fn run<T: Threads + Wait + Clock + Sync>(rt: &HostRuntime, threads: &T) -> Resul
     let line = command_line_of(rt)?;
     match read_words(rt.alloc(), line.words.as_slice()) {
         Ok(command) => Ok(serve(rt, threads, &command, line.files.as_slice())),
-        Err(usage) => Ok(refuse_words(rt, &usage, line.words.as_slice())),
+        Err(usage) => Ok(refuse_line(rt, &usage, line.words.as_slice())),
     }
 }
 
 fn main(rt: HostRuntime) -> ExitCode {
     ExitCode::from(match run(&rt, &rt) {
         Ok(status) => status,
-        Err(usage) => refuse_words(&rt, &usage, &[]),
+        Err(usage) => refuse_line(&rt, &usage, &[]),
     })
 }

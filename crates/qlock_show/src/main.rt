@@ -15,9 +15,9 @@ ghost use Rattle.qlock_show.specs.HelpRequests.{AsksForText};
 use commands::{DeviceFault, Fault, Usage, Watched};
 use host::{
     Listened, Unread, command_line_of, files_help, read_files, refuse_words, report_shown,
-    report_unread, tell_of_reading, tell_of_reason,
+    report_unread, tell_of_help, tell_of_reading, tell_of_reason,
 };
-use show_cli::{reads_page_input, show};
+use show_cli::{WordAtFault, reads_page_input, show, word_at_fault};
 use show_command_line::{ShowCommand, read_show_words};
 use std::io;
 use std::io::{ErrorKind, Read, Write};
@@ -48,7 +48,25 @@ fn answer_words(rt: &HostRuntime, usage: &Usage, words: &[String]) -> u8
 {
     match usage {
         Usage::Refused(text) if !text.use_stderr() => show_text(rt, text),
-        _ => refuse_words(rt, usage, words),
+        _ => {
+            let status = refuse_words(rt, usage, words);
+            tell_of_help(rt, usage);
+            status
+        }
+    }
+}
+
+/// Tells which of a command's own words its fault is about, if it is about one: a file of `compare`, or a
+/// name of `without`. `known` is the input, if it was read from files.
+fn tell_of_word(rt: &HostRuntime, command: &ShowCommand, known: &[u8], fault: &Fault) {
+    match word_at_fault(rt.alloc(), command, known, fault) {
+        Some(WordAtFault::File(name)) => {
+            let _ = eprintln!(rt; "{name}: qlock-show fault plan -f {name} says where");
+        }
+        Some(WordAtFault::Name(name)) => {
+            let _ = eprintln!(rt; "{name}: no voter has this name");
+        }
+        None => {}
     }
 }
 
@@ -68,18 +86,23 @@ fn serve_over<R: Read + Drop, W: Write + Drop>(
 }
 
 /// Serves the command over an input, which comes from these files, if there are any, and standard output.
-/// Returns the exit status.
+/// `known` is the input, if it was read from files. Returns the exit status.
 fn serve_input<R: Read + Drop>(
     rt: &HostRuntime,
     command: &ShowCommand,
     files: &[String],
+    known: &[u8],
     input: R,
 ) -> u8
     requires { IsShown command.now }
 {
     let mut output = Listened::of(io::writer(rt));
     let served = serve_over(rt, command, files, input, &mut output);
-    report_shown(rt, &served, output.is_unread())
+    let status = report_shown(rt, &served, output.is_unread());
+    if let Err(fault) = &served {
+        tell_of_word(rt, command, known, fault);
+    }
+    status
 }
 
 /// Prints the fault of a file that was not read, and the system's reason. Returns the exit status.
@@ -108,10 +131,10 @@ fn serve(rt: &HostRuntime, command: &ShowCommand, files: &[String]) -> u8
         if reads_page_input(command) {
             tell_of_reading(rt, &input);
         }
-        return serve_input(rt, command, files, input);
+        return serve_input(rt, command, files, &[], input);
     }
     match read_files(rt, files) {
-        Ok(input) => serve_input(rt, command, files, input.as_slice()),
+        Ok(input) => serve_input(rt, command, files, input.as_slice(), input.as_slice()),
         Err(unread) => refuse_file(rt, &unread),
     }
 }

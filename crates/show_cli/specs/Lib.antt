@@ -2,3 +2,4 @@ pub mod Failures
 pub mod Pages
 pub mod Shapes
 pub mod Stories
+pub mod Words

@@ -20,6 +20,9 @@
 //!   though `plan` finds a plan;
 //! - a picture ends as a picture does.
 //!
+//! [`word_at_fault`] returns the name that no voter has, or one of the files; that it is the file which is
+//! no coterie is only tested.
+//!
 //! The figures of the other pages are pinned in the crates that compute them. What the pages say is only
 //! tested. A fault comes only for an input with this fault, and then nothing is written. A failed write may
 //! leave a beginning of such a page.
@@ -32,6 +35,7 @@
 //! ```
 #![tactic(auto)]
 
+mod at_fault;
 mod compared;
 mod losses;
 mod nearness;
@@ -40,4 +44,5 @@ mod scenes;
 mod serving;
 mod shapes;
 
+pub use at_fault::{WordAtFault, word_at_fault};
 pub use serving::{reads_page_input, show};

@@ -7,9 +7,10 @@ ghost use Rattle.show_cli.specs.Failures.{HasCoterie};
 use commands::{Fault, coterie_of};
 use coterie_file::Named;
 use near::{NearPlan, near};
+use quorum_set::are_unit;
 use show_command_line::{Form, NearPage};
 use show_json::near_json;
-use show_words::{push_members, push_percent};
+use show_words::{push_members, push_percent, push_quotient};
 use std::alloc::{AllocError, Global};
 
 /// Appends how far the load is above the bound at most, in percent, rounded up to thousandths.
@@ -37,6 +38,17 @@ fn push_load(text: &mut String, weights: &NearPlan) -> Result<(), AllocError> {
         " above the best possible, as no weights of these quorums have a load below {}/{}\n",
         bound.0, bound.1
     )
+}
+
+/// Appends the throughput, if some capacity is not 1: 1 divided by the load.
+fn push_throughput(text: &mut String, weights: &NearPlan) -> Result<(), AllocError> {
+    if are_unit(weights.capacities()) {
+        return Ok(());
+    }
+    let (part, whole) = weights.load();
+    text.push_str("throughput ")?;
+    push_quotient(text, whole, part)?;
+    text.push_str(", in the unit of the capacities\n")
 }
 
 /// Appends a quorum, if it is one of the coterie: its number, and the names of the voters to ask.
@@ -69,7 +81,11 @@ fn push_quorums(text: &mut String, named: &Named, weights: &NearPlan) -> Result<
 fn weights_words(alloc: Global, named: &Named, weights: &NearPlan) -> Result<String, AllocError> {
     let mut text = String::new(alloc);
     push_load(&mut text, weights)?;
+    push_throughput(&mut text, weights)?;
     push_quorums(&mut text, named, weights)?;
+    text.push_str(
+        "\nThese weights are no plan: qlock check refuses them. Where qlock plan finds a plan, no load is smaller than\nits load.\n",
+    )?;
     Ok(text)
 }
 
@@ -97,7 +113,7 @@ fn shown(
     weights: &NearPlan,
 ) -> Result<String, AllocError> {
     match (page.tickets, page.form) {
-        (_, Form::Json) => near_json(alloc, named, weights),
+        (tickets, Form::Json) => near_json(alloc, named, weights, tickets),
         (Some(count), Form::Words) => dealt_words(alloc, named, weights, count),
         (None, Form::Words) => weights_words(alloc, named, weights),
     }

@@ -22,7 +22,7 @@ use show_json::{deal_json, plan_json};
 use show_plans::{cycle_picture, load_picture};
 use show_refusals::fault_page;
 use show_report::report_page;
-use show_tickets::{even_page, names_page, rounds_page};
+use show_tickets::{names_page, tickets_page};
 use show_waiting::{Waiting, waiting_page};
 use show_words::{plan_words, world_words};
 use show_worlds::world_picture;
@@ -34,8 +34,7 @@ fn tickets_of(alloc: Global, dealing: &Dealing, planned: Planned) -> Result<Stri
 {
     let count = u64::from(dealing.count);
     match dealing.form {
-        TicketForm::Words if dealing.is_even => even_page(alloc, planned, count),
-        TicketForm::Words => rounds_page(alloc, planned, count),
+        TicketForm::Words => tickets_page(alloc, planned, count, dealing.is_even),
         TicketForm::Names => names_page(alloc, planned, count, dealing.is_even),
         TicketForm::Json => deal_json(alloc, planned, count, dealing.is_even),
     }

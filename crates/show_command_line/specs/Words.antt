@@ -10,7 +10,7 @@ use Rattle.numbers.specs.Bounds.{max_clients}
 use Rattle.show_faults.specs.Codes.{IsFaultCode, code_in}
 use Rattle.show_faults.specs.declared.explanation.Explanation.{Explanation}
 use Rattle.command_line.specs.Words as qlock
-use Rattle.command_line.specs.Words.{AreSizes, HasNumber, deal_app, required_subcommand, number_rule, size_texts, sizes_rule, with_rules, with_subcommands, word_rule}
+use Rattle.command_line.specs.Words.{AreSizes, HasNumber, deal_app, required_subcommand, number_rule, size_texts, sizes_rule, with_rules, with_subcommands, with_version, word_rule}
 use Rattle.show_coteries.specs.Names.{IsShapeOf}
 use Rattle.show_coteries.specs.declared.shape.CoterieShape.{CoterieShape}
 use Rattle.show_command_line.specs.declared.command.Form.{Form}
@@ -111,10 +111,6 @@ capacity_rule =
 -- qlock-show coterie, with SHAPE, NUMBERS and --capacity
 abbrev pub coterie_app : App
 coterie_app = with_rules (new_app (codes "coterie")) (word_rule (codes "SHAPE") ∷ sizes_rule ∷ capacity_rule ∷ [])
-
--- the same app, which has a version
-abbrev pub with_version : App → App
-with_version a = record a { top = record a.top { has_version = true } }
 
 -- qlock-show with `plan`, `deal` and `world`
 abbrev pub pages_app : App

@@ -12,8 +12,8 @@ use crate::command::{Dealing, Form, NearPage, Picture, ShowCommand, TicketForm};
 use clap::builder::ValueParser;
 use clap::{Arg, ArgAction, ArgMatches};
 use command_line::{
-    bare_command, number_argument, number_of, read_matches, sizes_argument, sizes_given, text_at,
-    text_of, texts_of, tickets_argument, tickets_of, used_in, word_argument,
+    VERSION, bare_command, number_argument, number_of, read_matches, sizes_argument, sizes_given,
+    text_at, text_of, texts_of, tickets_argument, tickets_of, used_in, word_argument,
 };
 use commands::{Command, Usage, read_words};
 use numbers::MAX_CLIENTS;
@@ -21,9 +21,6 @@ use show_coteries::{shape_of, widened};
 use show_faults::explanation_of;
 use show_waiting::Waiting;
 use std::alloc::{AllocError, Global};
-
-/// The version of the program, as in `CHANGELOG.md`.
-const VERSION: &str = "0.2.0";
 
 /// The most tickets that `near` deals.
 const MOST_TICKETS: u64 = 100_000;
@@ -305,7 +302,11 @@ fn fault_command<'a>(alloc: Global) -> Result<clap::Command<'a>, AllocError>
         "fault",
         "Show where an input is wrong: the input that qlock refused, with its words behind",
     )
-    .arg(words_argument(alloc, "WORDS", "The words behind qlock, such as deal 5"))
+    .arg(words_argument(
+        alloc,
+        "WORDS",
+        "The words behind qlock, such as deal 5; plan for a coterie alone, check for one with a plan",
+    ))
 }
 
 /// Returns the subcommand `picture KIND`.

@@ -45,6 +45,11 @@ fn have_capacities(entries: &[Entry]) -> bool {
     entries.iter().any(|entry| !entry.compared.is_unit)
 }
 
+/// Returns whether all capacities of some candidates are 1, and not of others.
+fn have_two_units(entries: &[Entry]) -> bool {
+    have_capacities(entries) && entries.iter().any(|entry| entry.compared.is_unit)
+}
+
 /// Returns the names of a group of voters.
 fn group_text(alloc: Global, named: &Named, group: &QSet) -> Result<String, AllocError> {
     let mut text = String::new(alloc);
@@ -205,7 +210,8 @@ fn push_losses(
 }
 
 /// Appends what the columns mean.
-fn push_legend(text: &mut String, has_throughput: bool) -> Result<(), AllocError> {
+fn push_legend(text: &mut String, entries: &[Entry]) -> Result<(), AllocError> {
+    let has_throughput = have_capacities(entries);
     text.push_str(
         "\nmay fail: how many voters may fail, whichever they are, so that a quorum is left\n",
     )?;
@@ -213,7 +219,13 @@ fn push_legend(text: &mut String, has_throughput: bool) -> Result<(), AllocError
         "load: the share of the requests that the busiest voter gets, divided by its capacity\nthroughput: 1 divided by the load, in the unit of the capacities\n"
     } else {
         "load: the share of the requests that the busiest voter gets\n"
-    })
+    })?;
+    if have_two_units(entries) {
+        text.push_str(
+            "a coterie without capacities counts each voter as 1: throughputs compare in one unit alone\n",
+        )?;
+    }
+    Ok(())
 }
 
 /// Returns a page with the figures of these coteries side by side: how many voters and quorums each
@@ -238,6 +250,6 @@ pub fn compare_page(alloc: Global, candidates: &[Candidate]) -> Result<String, A
             has_throughput,
         )?;
     }
-    push_legend(&mut text, has_throughput)?;
+    push_legend(&mut text, entries.as_slice())?;
     Ok(text)
 }

@@ -1,10 +1,16 @@
 //! The parts of an input, and where they begin.
+ghost use Rattle.std.specs.Prelude.{◌≡◌, nat_lt};
+ghost use Rattle.commands.specs.Commands.{reads_input};
+ghost use Rattle.show_inputs.specs.Parts.{parts_of};
 
 use commands::{Command, split_part};
 use show_places::{NearMark, near_mark, newlines};
 
 /// Returns how many parts the input of a command of `qlock` has.
-pub fn parts_of(command: &Command) -> usize {
+pub fn parts_of(command: &Command) -> usize
+    ensures value { result ≡ parts_of command.now }
+    ensures some { reads_input command.now ≡ nat_lt 0 result }
+{
     match command {
         Command::Make(_) => 0,
         Command::Plan => 1,

@@ -10,7 +10,10 @@
 //!   lacks and which values have the wrong type;
 //! - `text_faults.rt` names the voters and quorums of a coterie that are at fault.
 //!
-//! What the texts say is only tested.
+//! # What is proved
+//!
+//! How many parts the input of each command has, and whether more files were named than that. What the
+//! texts say is only tested.
 //!
 //! ```
 //! let refused = Refused { command: &Command::Plan, input: b"voters = [", files: &[] };

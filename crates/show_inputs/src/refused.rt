@@ -1,4 +1,7 @@
 //! A refused input: its parts, and how a page names a place in it.
+ghost use Rattle.std.specs.Prelude.{◌≡◌, length, nat_lt};
+ghost use Rattle.show_inputs.specs.Parts.{parts_of};
+
 use crate::input_parts::{lines_before, part_in, parts_of};
 use crate::kinds::{Kind, kind_in};
 use commands::Command;
@@ -33,7 +36,9 @@ impl<'a> Refused<'a> {
     }
 
     /// Returns whether more files were named than the command reads parts.
-    pub fn has_more_files(&self) -> bool {
+    pub fn has_more_files(&self) -> bool
+        ensures { result ≡ nat_lt (parts_of self.now.command.now) (length self.now.files.now) }
+    {
         self.files.len() > parts_of(self.command)
     }
 

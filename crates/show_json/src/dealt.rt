@@ -1,30 +1,30 @@
 //! Dealt tickets as JSON.
 ghost use Rattle.std.specs.Prelude.{◌≤◌};
 
-use crate::parts::{Fraction, fraction_of, line_of, quorum_names};
+use crate::parts::{Fraction, Ticket, fraction_of, line_of, quorum_names};
+use certificate::gcd;
 use coterie_file::Named;
 use dealer::{Account, Receipt};
+use even::Slack;
 use plan_inputs::Planned;
 use serde::Serialize;
-use show_tickets::dealt_tickets;
+use show_tickets::{Dealt, Evenness, dealt_tickets};
 use std::alloc::{AllocError, Global};
-
-/// A ticket.
-#[derive(Drop, Serialize)]
-struct Ticket<'a> {
-    /// Its number, from 0.
-    ticket: u64,
-    /// The number of its quorum, from 0.
-    quorum: usize,
-    /// The names of the voters to ask.
-    voters: Vec<&'a str>,
-}
 
 /// How often the tickets use a voter.
 #[derive(Drop, Serialize)]
 struct Count<'a> {
     name: &'a str,
     count: u64,
+}
+
+/// How even the even order is.
+#[derive(Drop, Serialize)]
+struct EvenPart {
+    /// How much further each ticket goes in the ring of the cycle's tickets.
+    stride: u64,
+    /// Any n tickets in a row use each voter at most n times the load plus this, times its capacity.
+    slack: Fraction,
 }
 
 /// Dealt tickets.
@@ -34,6 +34,8 @@ struct DealPage<'a> {
     counts: Vec<Count<'a>>,
     /// How often the tickets use the voter that is busiest for its capacity, divided by this capacity.
     busiest: Fraction,
+    /// What there is to say of the even order, or null if the tickets are dealt by rounds.
+    even: Option<EvenPart>,
 }
 
 /// Returns the tickets of these receipts.
@@ -71,9 +73,19 @@ fn counts_of<'a>(
     Ok(counts)
 }
 
+/// Returns how even the even order is. The slack is in lowest terms.
+fn even_part(evenness: Evenness) -> EvenPart {
+    let Slack { excess, unit } = evenness.slack;
+    let common = gcd(excess, unit).max(1);
+    EvenPart {
+        stride: evenness.stride,
+        slack: fraction_of((excess / common, unit / common)),
+    }
+}
+
 /// Returns the tickets below `count`, dealt in the even order or by rounds, as one line of JSON: for
-/// each its quorum and the voters to ask, and then how often they use each voter. Fails only if it
-/// runs out of memory.
+/// each its quorum and the voters to ask, then how often they use each voter, and in the even order its
+/// stride and its slack. Fails only if it runs out of memory.
 pub fn deal_json(
     alloc: Global,
     planned: Planned,
@@ -83,11 +95,16 @@ pub fn deal_json(
     requires count { count ≤ 100000 }
 {
     let Planned { named, plan } = planned;
-    let (account, receipts) = dealt_tickets(alloc, plan, count, is_even)?;
+    let Dealt {
+        account,
+        receipts,
+        evenness,
+    } = dealt_tickets(alloc, plan, count, is_even)?;
     let page = DealPage {
         tickets: tickets_of(alloc, &named, &receipts)?,
         counts: counts_of(alloc, &named, &account)?,
         busiest: fraction_of(account.ratio),
+        even: evenness.map(even_part),
     };
     line_of(alloc, &page)
 }

@@ -2,7 +2,7 @@
 ghost use Rattle.std.specs.Prelude.{◌≡◌, ◌<◌, slice_index};
 ghost use Rattle.certificate.specs.Certificates.{cycle_count};
 
-use crate::parts::{Fraction, Quorum, Voter, fraction_of, line_of, quorum_names};
+use crate::parts::{Fraction, Quorum, Ticket, Voter, fraction_of, line_of, quorum_names};
 use certificate::weight_on;
 use coterie_file::Named;
 use near::NearPlan;
@@ -20,6 +20,8 @@ struct NearPage<'a> {
     cycle: u64,
     quorums: Vec<Quorum<'a>>,
     voters: Vec<Voter<'a>>,
+    /// The first tickets that are dealt by these weights, or null if none were asked for.
+    tickets: Option<Vec<Ticket<'a>>>,
 }
 
 /// Returns the quorums that a cycle uses, in the order of their numbers.
@@ -69,16 +71,44 @@ fn voters_of<'a>(
     Ok(voters)
 }
 
+/// Returns the tickets below `count`, dealt by rounds.
+fn tickets_of<'a>(
+    alloc: Global,
+    named: &'a Named,
+    plan: &NearPlan,
+    count: u64,
+) -> Result<Vec<Ticket<'a>>, AllocError> {
+    let mut tickets = Vec::new(alloc);
+    for (ticket, quorum) in plan.listing(alloc, count as usize)?.iter().enumerate() {
+        tickets.push(Ticket {
+            ticket: ticket as u64,
+            quorum: *quorum,
+            voters: quorum_names(alloc, named, *quorum)?,
+        })?;
+    }
+    Ok(tickets)
+}
+
 /// Returns weights that are near the best, as one line of JSON: their load, its bound, their cycle, the
-/// quorums that a cycle uses, and the voters. They are of the named coterie. Fails only if it runs out
-/// of memory.
-pub fn near_json(alloc: Global, named: &Named, plan: &NearPlan) -> Result<String, AllocError> {
+/// quorums that a cycle uses, and the voters; and so many tickets that are dealt by them, if any are asked
+/// for. They are of the named coterie. Fails only if it runs out of memory.
+pub fn near_json(
+    alloc: Global,
+    named: &Named,
+    plan: &NearPlan,
+    tickets: Option<u64>,
+) -> Result<String, AllocError> {
+    let tickets = match tickets {
+        Some(count) => Some(tickets_of(alloc, named, plan, count)?),
+        None => None,
+    };
     let page = NearPage {
         load: fraction_of(plan.load()),
         bound: fraction_of(plan.bound()),
         cycle: plan.cycle_len(),
         quorums: quorums_of(alloc, named, plan)?,
         voters: voters_of(alloc, named, plan)?,
+        tickets,
     };
     line_of(alloc, &page)
 }

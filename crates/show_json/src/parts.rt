@@ -36,6 +36,17 @@ pub(crate) struct Voter<'a> {
     pub(crate) weight: u64,
 }
 
+/// A ticket.
+#[derive(Drop, Serialize)]
+pub(crate) struct Ticket<'a> {
+    /// Its number, from 0.
+    pub(crate) ticket: u64,
+    /// The number of its quorum, from 0.
+    pub(crate) quorum: usize,
+    /// The names of the voters to ask.
+    pub(crate) voters: Vec<&'a str>,
+}
+
 /// Returns a fraction of a numerator and a denominator.
 pub(crate) fn fraction_of((numerator, denominator): (u64, u64)) -> Fraction {
     Fraction {

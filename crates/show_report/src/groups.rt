@@ -4,37 +4,45 @@ use coterie_file::Named;
 use failures::bears;
 use quorum_set::Coterie;
 use show_compare::Loss;
-use show_words::{push_members, push_percent};
+use show_words::{push_members, push_percent, push_tenths};
 use std::alloc::AllocError;
 
-/// Appends the load of the best plan of what is left, if a quorum is.
-fn push_left(text: &mut String, loss: &Loss) -> Result<(), AllocError> {
+/// Appends the load of the best plan of what is left, if a quorum is. If some capacity is not 1, appends
+/// its throughput instead: 1 divided by the load.
+fn push_left(text: &mut String, loss: &Loss, is_unit: bool) -> Result<(), AllocError> {
     let Some(loads) = loss.left else {
         return text.push_str("no quorum is left");
     };
     let (part, whole) = loads.load;
-    push_percent(text, part, whole)
+    if is_unit {
+        push_percent(text, part, whole)
+    } else {
+        push_tenths(text, whole, part)
+    }
 }
 
 /// Appends the table of these losses, if there are several groups and one has several voters. `used` are
-/// the quorums that the plan uses.
+/// the quorums that the plan uses, and `is_unit` says whether all capacities are 1.
 pub(crate) fn push_groups(
     text: &mut String,
     named: &Named,
     used: &Coterie,
     losses: &[Loss],
+    is_unit: bool,
 ) -> Result<(), AllocError> {
     if losses.len() < 2 || losses.len() >= named.coterie().voters() {
         return Ok(());
     }
-    text.push_str(
-        "<h2>When a whole group fails</h2>\n<div class=\"wide\"><table>\n<tr><th>Group, by names</th><th class=\"n\">Load of a new plan</th><th>This plan goes on</th></tr>\n",
+    let figure = if is_unit { "Load" } else { "Throughput" };
+    write!(
+        text,
+        "<h2>When a whole group fails</h2>\n<div class=\"wide\"><table>\n<tr><th>Group, by names</th><th class=\"n\">{figure} of a new plan</th><th>This plan goes on</th></tr>\n"
     )?;
     for loss in losses {
         text.push_str("<tr><td>")?;
         push_members(text, named, &loss.group, " ")?;
         text.push_str("</td><td class=\"n\">")?;
-        push_left(text, loss)?;
+        push_left(text, loss, is_unit)?;
         let goes_on = if bears(used, &loss.group) {
             "with fewer quorums"
         } else {

@@ -1,11 +1,12 @@
 //! Pages of dealt tickets: for each ticket the names of the voters to ask.
 //!
-//! - [`rounds_page`] deals a plan's cycle by rounds, as `qlock deal` does.
-//! - [`even_page`] deals it in the order that is even from the first ticket, and says how even that is.
+//! A plan's cycle is dealt by rounds, as `qlock deal` does, or in the order that is even from the first
+//! ticket.
 //!
-//! Both pages have a line for each ticket, how often each voter is used, and the busiest count. With
-//! capacities they have the ratio too. [`names_page`] has a line for each ticket with the names of its
-//! voters alone, in either order. [`dealt_tickets`] has the same as figures.
+//! - [`tickets_page`] has a line for each ticket, how often each voter is used, and the busiest count. With
+//!   capacities it has the ratio too, and in the even order how even that is.
+//! - [`names_page`] has a line for each ticket with the names of its voters alone.
+//! - [`dealt_tickets`] has the same as figures.
 //!
 //! # What is proved
 //!
@@ -19,7 +20,7 @@
 //!
 //! ```
 //! // Of the wheel with three rims:
-//! let page = even_page(alloc, planned, 5)?; // 0 0 hub rim1 ..
+//! let page = tickets_page(alloc, planned, 5, true)?; // 0 0 hub rim1 ..
 //! ```
 #![tactic(auto)]
 
@@ -28,9 +29,8 @@ mod deal;
 mod even_order;
 mod lines;
 mod names_alone;
-mod rounds;
+mod page;
 
-pub use deal::dealt_tickets;
-pub use even_order::even_page;
+pub use deal::{Dealt, Evenness, dealt_tickets};
 pub use names_alone::names_page;
-pub use rounds::rounds_page;
+pub use page::tickets_page;

@@ -26,9 +26,9 @@ pub fn names_page(
     requires count { count ≤ 100000 }
 {
     let Planned { named, plan } = planned;
-    let (_, receipts) = dealt_tickets(alloc, plan, count, is_even)?;
+    let dealt = dealt_tickets(alloc, plan, count, is_even)?;
     let mut text = String::new(alloc);
-    for receipt in &receipts {
+    for receipt in &dealt.receipts {
         push_voters(&mut text, &named, receipt.quorum)?;
     }
     Ok(text)

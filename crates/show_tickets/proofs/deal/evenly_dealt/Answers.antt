@@ -1,4 +1,4 @@
-use Rattle.std.proofs.Common.{◌∙◌, ap}
+use Rattle.std.proofs.Common.{◌∙◌, ap, refl}
 use Rattle.certificate.specs.Certificates.{Weighted}
 use Rattle.show_tickets.specs.Accounts.{account_of_list}
 use Rattle.even.specs.EvenCycles.{window}
@@ -9,6 +9,10 @@ returns-clause-dealt c = record {
   order = c.in_ok-cycle.cycle;
   plan = c.in_ok-cycle.ensures.plan;
   first = c.in_ok-cycle.ensures.first;
-  account_is = c.in_ok-account.ensures.value ∙ ap (λ (w : Weighted). account_of_list w (window c.in_ok-cycle.cycle 0 c.args.count)) c.in_ok-cycle.ensures.plan;
-  receipts_are = c.in_ok-receipts.ensures;
+  account = c.in_ok-account.ensures.value ∙ ap (λ (w : Weighted). account_of_list w (window c.in_ok-cycle.cycle 0 c.args.count)) c.in_ok-cycle.ensures.plan;
+  receipts = c.in_ok-receipts.ensures;
+  evenness = _;
+  told = refl;
+  stride = c.stride-stride.ensures.value;
+  slack = c.slack-slack.ensures;
 }

@@ -1,0 +1,98 @@
+//! The page of dealt tickets.
+ghost use Rattle.std.specs.Prelude.{◌≡◌, ◌≤◌, length};
+
+use crate::deal::{Dealt, Evenness, dealt_tickets};
+use crate::lines::push_ticket;
+use certificate::Plan;
+use commands::{Planned, push_account, push_ratio};
+use coterie_file::Named;
+use even::Slack;
+use quorum_set::are_unit;
+use std::alloc::{AllocError, Global};
+
+/// The figures of a plan's cycle.
+#[derive(Clone, Copy)]
+struct CycleFigures {
+    /// How many tickets it has.
+    len: u64,
+    /// The plan's load: a numerator and a denominator.
+    load: (u64, u64),
+}
+
+/// Returns the figures of a plan's cycle.
+fn figures_of(plan: &Plan) -> CycleFigures {
+    CycleFigures {
+        len: plan.cycle_len(),
+        load: plan.load(),
+    }
+}
+
+/// Appends the lines of the stride and the slack of an even order, of voters with these capacities.
+fn push_evenness(
+    text: &mut String,
+    capacities: &[u64],
+    figures: CycleFigures,
+    evenness: Evenness,
+) -> Result<(), AllocError> {
+    let CycleFigures {
+        len,
+        load: (part, whole),
+    } = figures;
+    let Evenness {
+        stride,
+        slack: Slack { excess, unit },
+    } = evenness;
+    let for_capacity = if are_unit(capacities) {
+        ""
+    } else {
+        ", for its capacity,"
+    };
+    write!(
+        text,
+        "stride {stride}: the cycle is a ring of length {len}, and each ticket goes {stride} further\n"
+    )?;
+    write!(
+        text,
+        "slack {excess}/{unit}: any n tickets in a row use no voter more often{for_capacity} than n * {part}/{whole} + {excess}/{unit}\n"
+    )
+}
+
+/// Appends the lines of these tickets, of their account, and of the order if it is the even one.
+fn push_page(
+    text: &mut String,
+    named: &Named,
+    figures: CycleFigures,
+    dealt: &Dealt,
+) -> Result<(), AllocError>
+    requires one_each { length dealt.now.account.voters ≡ named.now.system.voters }
+{
+    let _ = named.coterie();
+    for receipt in &dealt.receipts {
+        push_ticket(text, named, receipt)?;
+    }
+    push_account(text, named, &dealt.account)?;
+    push_ratio(text, named.capacities(), &dealt.account)?;
+    match dealt.evenness {
+        Some(evenness) => push_evenness(text, named.capacities(), figures, evenness),
+        None => Ok(()),
+    }
+}
+
+/// Returns the page of the tickets below `count`, dealt in the even order or by rounds: for each its
+/// quorum and the names of the voters to ask, then the account of these tickets, and in the even order
+/// its stride and its slack. Fails only if it runs out of memory.
+pub fn tickets_page(
+    alloc: Global,
+    planned: Planned,
+    count: u64,
+    is_even: bool,
+) -> Result<String, AllocError>
+    requires count { count ≤ 100000 }
+{
+    let Planned { named, plan } = planned;
+    let figures = figures_of(&plan);
+    let dealt = dealt_tickets(alloc, plan, count, is_even)?;
+    let mut text = String::new(alloc);
+    push_page(&mut text, &named, figures, &dealt)?;
+    Ok(text)
+}
