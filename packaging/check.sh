@@ -107,8 +107,10 @@ holds test -s "$place/share/doc/qlock/claims.md"
 holds explains "$place"
 holds test -s "$place/README.md"
 holds "$place/bin/qlock" plan -f "$place/share/doc/qlock/examples/three-racks.toml"
+holds sh -c '! grep -q "\.\./" "$1"' sh "$place/share/doc/qlock/README.md"
 if [ -e "$place/bin/qlockctl" ]; then
-    holds "$place/bin/qlockctl" --help
+    holds test "$("$place/bin/qlockctl" --version)" = "qlockctl version $version"
+    holds test "$("$place/bin/qlock-voter" --version)" = "qlock-voter version $version"
     holds test -s "$place/share/qlock/sql/postgresql.sql"
     holds goes "$place/share/gocode" "$place/lib/pkgconfig"
 fi

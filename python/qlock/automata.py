@@ -1,7 +1,7 @@
 """The voter, the client and the guard, and what quorums lie within voters."""
 import ctypes
 import enum
-from typing import Any, Iterable, List, NamedTuple, Optional, Tuple
+from typing import Any, Iterable, List, NamedTuple, Optional, Tuple, Union
 
 from .faults import BadArgument, BadState
 from .library import call
@@ -59,6 +59,15 @@ def _number(value: int, low: int, high: int, what: str) -> int:
     if not low <= value <= high:
         raise BadArgument(f"{what} is {value}, and has to be from {low} to {high}")
     return value
+
+
+def message_of(line: Union[bytes, str]) -> bytes:
+    """Returns a message as bytes. A text is taken as its UTF-8: a message has ASCII alone."""
+    if isinstance(line, str):
+        return line.encode()
+    if isinstance(line, bytes):
+        return line
+    raise TypeError(f"a message is bytes, and not {type(line).__name__}")
 
 
 def mask_of(voters: Iterable[int]) -> int:
@@ -140,9 +149,10 @@ class Voter(_State):
         voter.held()
         return voter
 
-    def take(self, line: bytes) -> List[bytes]:
+    def take(self, line: Union[bytes, str]) -> List[bytes]:
         """Takes a message, a line without its newline, and returns the replies. The third word of a reply is the client
         that it is for. Raises `BadMessage` or `GrantsSpent`."""
+        line = message_of(line)
         call("voter_take", *self._given(), line, len(line), *self._into())
         return self._lines()
 
@@ -220,8 +230,9 @@ class Client(_State):
         call("client_ask", *self._given(), mask_of(quorum), *self._into())
         return self._lines()
 
-    def take(self, line: bytes) -> Taken:
+    def take(self, line: Union[bytes, str]) -> Taken:
         """Takes a message, a line without its newline. An idle client takes messages too. Raises `BadMessage`."""
+        line = message_of(line)
         entered = ctypes.c_int32()
         call("client_take", *self._given(), line, len(line), *self._into(), ctypes.byref(entered))
         return Taken(self._lines(), entered.value == 1)

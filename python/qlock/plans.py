@@ -4,7 +4,7 @@ import enum
 import sys
 from array import array
 from fractions import Fraction
-from typing import Dict, Iterator, List, NamedTuple, Tuple
+from typing import Dict, Iterator, List, NamedTuple, Tuple, Union
 
 from .faults import BadArgument
 from .library import call_plan
@@ -49,10 +49,23 @@ def _voters(mask: int) -> Quorum:
     return tuple(voter for voter in range(64) if mask >> voter & 1)
 
 
-def names_of(coterie: str) -> List[str]:
+def _text_of(text: Union[str, bytes]) -> str:
+    """Returns a text. Bytes are taken as UTF-8; those that are none are kept, so that the library refuses them."""
+    if isinstance(text, bytes):
+        return text.decode(errors="surrogateescape")
+    if isinstance(text, str):
+        return text
+    raise TypeError(f"a coterie or a plan is a text, and not {type(text).__name__}")
+
+
+def _bytes_of(text: str) -> bytes:
+    return text.encode(errors="surrogateescape")
+
+
+def names_of(coterie: Union[str, bytes]) -> List[str]:
     """Returns the names of the voters of a coterie, in the order of their numbers. Raises the fault of a text that describes
     none, of `qlock.refusals`."""
-    text = coterie.encode()
+    text = _bytes_of(_text_of(coterie))
     return call_plan("names", _NAMES_OUT, text, len(text)).decode("ascii").splitlines()
 
 
@@ -67,13 +80,14 @@ class Plan:
             lines = client.ask(quorum)
     """
 
-    def __init__(self, coterie: str, text: str) -> None:
+    def __init__(self, coterie: Union[str, bytes], text: Union[str, bytes]) -> None:
         """Reads a plan. Raises the fault of the text, of `qlock.refusals`."""
+        coterie, text = _text_of(coterie), _text_of(text)
         self.coterie = coterie
         """the text of the coterie"""
         self.text = text
         """the text of the plan"""
-        self._texts = (coterie.encode(), text.encode())
+        self._texts = (_bytes_of(coterie), _bytes_of(text))
         load_p, load_q, cycle = self._three("check")
         self.load = Fraction(load_p, load_q)
         """the share of the requests that use the busiest voter, divided by its capacity"""
@@ -87,15 +101,15 @@ class Plan:
         self._quorums: Dict[int, Quorum] = {}
 
     @classmethod
-    def find(cls, coterie: str) -> "Plan":
+    def find(cls, coterie: Union[str, bytes]) -> "Plan":
         """Returns a plan of a coterie, the same each time. Raises the fault of a text that describes no coterie, or `NoPlan`."""
-        text = coterie.encode()
+        text = _bytes_of(_text_of(coterie))
         return cls(coterie, call_plan("plan", _PLAN_OUT, text, len(text)).decode("ascii"))
 
     @classmethod
-    def parse(cls, planned: str) -> "Plan":
+    def parse(cls, planned: Union[str, bytes]) -> "Plan":
         """Reads a coterie, a line `%%` and a plan of it, as `qlock check` does. Raises `BadArgument` if there is no such line."""
-        coterie, mark, text = ("\n" + planned).partition("\n" + _MARK)
+        coterie, mark, text = ("\n" + _text_of(planned)).partition("\n" + _MARK)
         if not mark:
             raise BadArgument("there is no line %% between a coterie and a plan")
         return cls((coterie + "\n")[1:], text)

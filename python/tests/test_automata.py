@@ -64,6 +64,14 @@ class Races(unittest.TestCase):
         late = self.voters[0].take(asked[0])
         self.assertEqual(self.clients[0].take(late[0]), ([b"release 0 0 1"], False))
 
+    def test_message_may_be_a_text(self):
+        asked = self.clients[0].ask([0])
+        self.assertEqual(self.voters[0].take(asked[0].decode()), [b"locked 0 0 1 1 1"])
+        with self.assertRaises(qlock.BadMessage):
+            self.voters[0].take("r\u00e9quest")
+        with self.assertRaises(TypeError):
+            self.voters[0].take(1)
+
     def test_guard_refuses_older_grants(self):
         play(self.voters, self.clients, self.clients[0].ask([0, 1]))
         first = self.clients[0].show_pass()

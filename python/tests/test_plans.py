@@ -98,6 +98,15 @@ class Plans(unittest.TestCase):
         with self.assertRaises(qlock.BadArgument):
             plan.masks(0, 1, 2)
 
+    def test_bytes_are_texts(self):
+        plan = Plan.find(WHEEL)
+        self.assertEqual(Plan.find(WHEEL.encode()).text, plan.text)
+        self.assertEqual(Plan(WHEEL.encode(), plan.text.encode()).load, plan.load)
+        with self.assertRaises(qlock.refusals.NotToml):
+            Plan.find(b"\xff")
+        with self.assertRaises(TypeError):
+            Plan.find(3)
+
     def test_client_asks_the_quorum_of_a_ticket(self):
         plan, client = Plan.find(WHEEL), qlock.Client(0)
         client.ask(plan.quorum(4))

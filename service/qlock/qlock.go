@@ -23,6 +23,12 @@ const (
 	MaxStamp    = C.QLOCK_MAX_STAMP
 )
 
+// Version returns the version of libqlock, as in "0.2.0".
+func Version() string {
+	number := uint32(C.qlock_version())
+	return fmt.Sprintf("%d.%d.%d", number/10000, number/100%100, number%100)
+}
+
 // Refusal is why a call was refused. A call that was refused changed nothing. errors.Is finds each one by its name.
 type Refusal int32
 

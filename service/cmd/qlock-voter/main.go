@@ -16,6 +16,7 @@ import (
 	"calvundek.example/service/internal/event"
 	"calvundek.example/service/internal/operator"
 	"calvundek.example/service/internal/voter"
+	"calvundek.example/service/qlock"
 	"calvundek.example/service/transport"
 	"github.com/spf13/cobra"
 )
@@ -34,7 +35,7 @@ func main() {
 
 func command(ctx context.Context) *cobra.Command {
 	var path string
-	root := &cobra.Command{Use: "qlock-voter", Short: "A voter of the lock service", SilenceUsage: true, SilenceErrors: true}
+	root := &cobra.Command{Use: "qlock-voter", Short: "A voter of the lock service", Version: qlock.Version(), SilenceUsage: true, SilenceErrors: true}
 	root.PersistentFlags().StringVarP(&path, "config", "c", "voter.toml", "the voter's file")
 	root.AddCommand(
 		&cobra.Command{Use: "init", Args: cobra.NoArgs, Short: "Make the state of this voter, once",

@@ -13,6 +13,7 @@ import (
 	"calvundek.example/service/internal/config"
 	"calvundek.example/service/internal/operator"
 	"calvundek.example/service/locks"
+	"calvundek.example/service/qlock"
 	"calvundek.example/service/transport"
 	"github.com/spf13/cobra"
 )
@@ -50,7 +51,7 @@ func main() {
 
 func command(ctx context.Context) *cobra.Command {
 	s := &settings{}
-	root := &cobra.Command{Use: "qlockctl", Short: "Operate a lock service", SilenceUsage: true, SilenceErrors: true}
+	root := &cobra.Command{Use: "qlockctl", Short: "Operate a lock service", Version: qlock.Version(), SilenceUsage: true, SilenceErrors: true}
 	flags := root.PersistentFlags()
 	flags.StringVarP(&s.cluster, "cluster", "c", "/etc/qlock/cluster.toml", "the cluster's file")
 	flags.StringVar(&s.access.User, "user", "", "the user of NATS")

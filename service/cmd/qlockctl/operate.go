@@ -321,7 +321,7 @@ func newReport(cluster *config.Cluster, replies []operator.Reply) report {
 }
 
 func (r report) print() {
-	fmt.Printf("cluster %s, load %s\n\nvoter        planned   share   grants\n", r.Cluster, r.Load)
+	fmt.Printf("cluster %s, load %s; grants since each voter's start\n\nvoter        planned   share   grants\n", r.Cluster, r.Load)
 	for _, one := range r.Use {
 		fmt.Printf("%-12s %5.1f %%  %5.1f %%  %d\n", one.Voter, 100*one.Planned, 100*one.Share, one.Grants)
 	}
