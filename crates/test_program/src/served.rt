@@ -30,7 +30,7 @@ fn named(alloc: Global, words: &[String]) -> Option<Command>
 }
 
 /// Returns the command that a command line names, or `None` if it names none.
-pub fn command_of(alloc: Global, line: &str) -> Result<Option<Command>, AllocError>
+fn command_of(alloc: Global, line: &str) -> Result<Option<Command>, AllocError>
     ensures { IfOk result (λ command. IfSome command IsInRange) }
 {
     let words = words_of(alloc, line)?;
@@ -38,7 +38,7 @@ pub fn command_of(alloc: Global, line: &str) -> Result<Option<Command>, AllocErr
 }
 
 /// Runs a command.
-pub fn serve<T: Threads + Wait + Clock + Sync, R: Read, W: Write, G: Gate>(
+fn serve<T: Threads + Wait + Clock + Sync, R: Read, W: Write, G: Gate>(
     rt: &T,
     alloc: Global,
     command: &Command,
