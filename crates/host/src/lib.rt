@@ -8,7 +8,7 @@
 //! - [`refuse_words`] prints why words name no command, [`report_unread`] that a file was not read, and
 //!   [`report`] the fault of a command (`reports.rt`).
 //! - [`tell_of_reading`] and [`tell_of_fault`] print a line more for somebody at a terminal, and
-//!   [`tell_of_reason`] the system's reason.
+//!   [`tell_of_reason`] the system's reason, and [`tell_of_help`] how to see which words a command takes.
 //! - [`Listened`] is a writer that notes whether somebody still reads (`listened.rt`). If nobody does,
 //!   [`report_shown`] passes over the write that failed.
 //!

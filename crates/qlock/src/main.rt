@@ -52,8 +52,8 @@ fn serve_input<R: Read + Drop, T: Threads + Wait + Clock + Sync>(
     status
 }
 
-/// Prints why these words name no command, and at a terminal how to see which words there are. Returns
-/// the exit status.
+/// Prints why these words name no command, and at a terminal how to see which words a command
+/// takes. Returns the exit status.
 fn refuse_line(rt: &HostRuntime, usage: &Usage, words: &[String]) -> u8
     ensures status { result ≡ usage_status usage.now }
 {

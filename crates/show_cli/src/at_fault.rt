@@ -15,6 +15,14 @@ pub enum WordAtFault<'a> {
     Name(&'a str),
 }
 
+/// Returns whether a text describes no coterie.
+fn is_refused(alloc: Global, text: &[u8]) -> bool {
+    match coterie_of(alloc, text) {
+        Err(Fault::Input(_)) => true,
+        _ => false,
+    }
+}
+
 /// Returns the number, from 0, of the first of `count` parts of an input that is no coterie. One of them is
 /// none. Returns `None` if the input has not so many parts: then a file has a line `%%` itself.
 fn refused_part(alloc: Global, input: &[u8], count: usize) -> Option<usize> {
@@ -25,7 +33,7 @@ fn refused_part(alloc: Global, input: &[u8], count: usize) -> Option<usize> {
         let Ok((part, others)) = split_part(rest, 1) else {
             return None;
         };
-        if refused == last && coterie_of(alloc, part).is_err() {
+        if refused == last && is_refused(alloc, part) {
             refused = number;
         }
         rest = others;

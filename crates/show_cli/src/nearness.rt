@@ -1,5 +1,5 @@
 //! Weights that are near the best: how near they are, whom to ask how often, and tickets dealt by them.
-ghost use Rattle.std.specs.Prelude.{◌≡◌, ◌≤◌, IfErr, IfOk, IfSome};
+ghost use Rattle.std.specs.Prelude.{◌≤◌, IfErr, IfOk, IfSome};
 ghost use Rattle.commands.specs.Commands.{Refuses, coterie_part};
 ghost use Rattle.commands.specs.Devices.{IsOwn};
 ghost use Rattle.show_cli.specs.Failures.{HasCoterie};
@@ -77,15 +77,23 @@ fn push_quorums(text: &mut String, named: &Named, weights: &NearPlan) -> Result<
     Ok(())
 }
 
+/// Appends that the weights are no plan, unless their load is the bound.
+fn push_no_plan(text: &mut String, weights: &NearPlan) -> Result<(), AllocError> {
+    if weights.load() == weights.bound() {
+        return Ok(());
+    }
+    text.push_str(
+        "\nThese weights are no plan: qlock check refuses them. Where qlock plan finds a plan, its load is the smallest.\n",
+    )
+}
+
 /// Returns the page about these weights.
 fn weights_words(alloc: Global, named: &Named, weights: &NearPlan) -> Result<String, AllocError> {
     let mut text = String::new(alloc);
     push_load(&mut text, weights)?;
     push_throughput(&mut text, weights)?;
     push_quorums(&mut text, named, weights)?;
-    text.push_str(
-        "\nThese weights are no plan: qlock check refuses them. Where qlock plan finds a plan, no load is smaller than\nits load.\n",
-    )?;
+    push_no_plan(&mut text, weights)?;
     Ok(text)
 }
 

@@ -222,7 +222,7 @@ fn push_legend(text: &mut String, entries: &[Entry]) -> Result<(), AllocError> {
     })?;
     if have_two_units(entries) {
         text.push_str(
-            "a coterie without capacities counts each voter as 1: throughputs compare in one unit alone\n",
+            "a coterie without capacities counts each voter as 1: compare throughputs only if the unit is the same\n",
         )?;
     }
     Ok(())

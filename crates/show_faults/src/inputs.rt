@@ -77,7 +77,8 @@ const I6: Explanation = Explanation {
         `world`, voter i is the first at which the two coteries list different names.\n\
         Words and voters count from 0.",
     example: "$ ./qlock-show without hub rim9 < examples/wheel-3.toml\n\
-        I6 UnknownVoter 1",
+        I6 UnknownVoter 1\n\
+        rim9: no voter has this name",
     mistakes: "The name is in capitals, or is the number of a voter. Or another coterie\n\
         was passed: names are in the line `voters` of the input. Two coteries have\n\
         to list the same voters in the same order.",

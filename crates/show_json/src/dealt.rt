@@ -1,7 +1,7 @@
 //! Dealt tickets as JSON.
 ghost use Rattle.std.specs.Prelude.{◌≤◌};
 
-use crate::parts::{Fraction, Ticket, fraction_of, line_of, quorum_names};
+use crate::parts::{Fraction, Ticket, fraction_of, line_of, ticket_of};
 use certificate::gcd;
 use coterie_file::Named;
 use dealer::{Account, Receipt};
@@ -46,11 +46,7 @@ fn tickets_of<'a>(
 ) -> Result<Vec<Ticket<'a>>, AllocError> {
     let mut tickets = Vec::with_capacity(alloc, receipts.len())?;
     for receipt in receipts {
-        tickets.push(Ticket {
-            ticket: receipt.ticket,
-            quorum: receipt.quorum,
-            voters: quorum_names(alloc, named, receipt.quorum)?,
-        })?;
+        tickets.push(ticket_of(alloc, named, receipt.ticket, receipt.quorum)?)?;
     }
     Ok(tickets)
 }

@@ -4,16 +4,17 @@
 //! are whole: a load is an object of a numerator and a denominator, in lowest terms. Quorums and
 //! tickets are numbered from 0, and voters have their names.
 //!
-//! - [`plan_json`] has a plan, and [`near_json`] weights that are near the best.
-//! - [`deal_json`] has dealt tickets with their quorums, and how often each voter is used.
+//! - [`plan_json`] has a plan, and [`near_json`] weights that are near the best, and tickets by them.
+//! - [`deal_json`] has dealt tickets with their quorums, how often each voter is used, and how even the
+//!   even order is.
 //! - [`resilience_json`] says how many voters may fail, and which groups of them.
 //! - [`compare_json`] has the figures of coteries side by side.
 //!
 //! # What is proved
 //!
 //! Safety, and what weights near the best make of each voter: how often a cycle uses it. The other
-//! figures come from functions that pin them: of `certificate`, `near`, `show_words`, `show_tickets`,
-//! `show_failures` and `show_compare`. What the pages say is only tested.
+//! figures come from functions that pin them: of `certificate`, `near`, `even`, `show_words`,
+//! `show_tickets`, `show_failures` and `show_compare`. What the pages say is only tested.
 //!
 //! Depends on these, on `show_words` for names, and on `serde` and `serde_json` for JSON.
 //!

@@ -2,7 +2,9 @@
 ghost use Rattle.std.specs.Prelude.{◌≡◌, ◌<◌, slice_index};
 ghost use Rattle.certificate.specs.Certificates.{cycle_count};
 
-use crate::parts::{Fraction, Quorum, Ticket, Voter, fraction_of, line_of, quorum_names};
+use crate::parts::{
+    Fraction, Quorum, Ticket, Voter, fraction_of, line_of, quorum_names, ticket_of,
+};
 use certificate::weight_on;
 use coterie_file::Named;
 use near::NearPlan;
@@ -80,11 +82,7 @@ fn tickets_of<'a>(
 ) -> Result<Vec<Ticket<'a>>, AllocError> {
     let mut tickets = Vec::new(alloc);
     for (ticket, quorum) in plan.listing(alloc, count as usize)?.iter().enumerate() {
-        tickets.push(Ticket {
-            ticket: ticket as u64,
-            quorum: *quorum,
-            voters: quorum_names(alloc, named, *quorum)?,
-        })?;
+        tickets.push(ticket_of(alloc, named, ticket as u64, *quorum)?)?;
     }
     Ok(tickets)
 }

@@ -82,6 +82,20 @@ pub(crate) fn quorum_names<'a>(
     }
 }
 
+/// Returns a ticket, which stands for a quorum.
+pub(crate) fn ticket_of<'a>(
+    alloc: Global,
+    named: &'a Named,
+    ticket: u64,
+    quorum: usize,
+) -> Result<Ticket<'a>, AllocError> {
+    Ok(Ticket {
+        ticket,
+        quorum,
+        voters: quorum_names(alloc, named, quorum)?,
+    })
+}
+
 /// Returns a page as one line of JSON, with a newline at its end. What is written has no fault of its
 /// own, so it only fails if memory runs out.
 pub(crate) fn line_of<T: Serialize>(alloc: Global, page: &T) -> Result<String, AllocError> {

@@ -12,7 +12,7 @@
 //!
 //! The figures of the pages are pinned where they are computed: the tickets and the account by rounds in
 //! `commands`, the quorum of each ticket in the even order, its stride and its slack in `even`. The
-//! account of tickets in the even order is that of their quorums. [`dealt_tickets`] pins both. What the
+//! account of tickets in the even order is that of their quorums. [`dealt_tickets`] pins all of these. What the
 //! pages say is only tested.
 //!
 //! Depends on `dealer` and `even` for the two orders, on `commands`, which draws the tickets by rounds
