@@ -7,6 +7,7 @@
 #
 # Without the packages it says how to install them, and ends with status 0. Builds the libraries where it has to (./library).
 set -eu
+trap 'exit 143' TERM
 here=$(CDPATH= cd -- "$(dirname -- "$(readlink -f -- "$0")")" && pwd)
 root=$here/..
 go=$here/go

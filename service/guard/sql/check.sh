@@ -11,6 +11,7 @@ folder=$(mktemp -d)
 as() { if [ "$(id -u)" = 0 ]; then runuser -u postgres -- "$@"; else "$@"; fi; }
 [ "$(id -u)" != 0 ] || chown postgres "$folder"
 trap 'as "$bin/pg_ctl" -D "$folder/data" -m immediate stop > /dev/null 2>&1 || true; rm -rf "$folder"' EXIT
+trap 'exit 143' TERM
 cd "$folder"
 as "$bin/initdb" -D "$folder/data" -U postgres -A trust > /dev/null
 as "$bin/pg_ctl" -D "$folder/data" -w -o "-c listen_addresses= -c unix_socket_directories=$folder" -l "$folder/log" start > /dev/null
