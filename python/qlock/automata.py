@@ -64,10 +64,10 @@ def _number(value: int, low: int, high: int, what: str) -> int:
 def message_of(line: Union[bytes, str]) -> bytes:
     """Returns a message as bytes. A text is taken as its UTF-8: a message has ASCII alone."""
     if isinstance(line, str):
-        return line.encode()
+        return line.encode(errors="surrogatepass")
     if isinstance(line, bytes):
         return line
-    raise TypeError(f"a message is bytes, and not {type(line).__name__}")
+    raise TypeError(f"a message is bytes or a text, and not {type(line).__name__}")
 
 
 def mask_of(voters: Iterable[int]) -> int:

@@ -55,11 +55,15 @@ def _text_of(text: Union[str, bytes]) -> str:
         return text.decode(errors="surrogateescape")
     if isinstance(text, str):
         return text
-    raise TypeError(f"a coterie or a plan is a text, and not {type(text).__name__}")
+    raise TypeError(f"a coterie or a plan is a text or bytes, and not {type(text).__name__}")
 
 
 def _bytes_of(text: str) -> bytes:
-    return text.encode(errors="surrogateescape")
+    """Returns the bytes of a text. Halves of characters, which no file of UTF-8 has, stay as they are."""
+    try:
+        return text.encode(errors="surrogateescape")
+    except UnicodeEncodeError:
+        return text.encode(errors="surrogatepass")
 
 
 def names_of(coterie: Union[str, bytes]) -> List[str]:

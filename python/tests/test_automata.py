@@ -69,6 +69,8 @@ class Races(unittest.TestCase):
         self.assertEqual(self.voters[0].take(asked[0].decode()), [b"locked 0 0 1 1 1"])
         with self.assertRaises(qlock.BadMessage):
             self.voters[0].take("r\u00e9quest")
+        with self.assertRaises(qlock.BadMessage):
+            self.voters[0].take("request \ud800")
         with self.assertRaises(TypeError):
             self.voters[0].take(1)
 

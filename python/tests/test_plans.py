@@ -104,6 +104,8 @@ class Plans(unittest.TestCase):
         self.assertEqual(Plan(WHEEL.encode(), plan.text.encode()).load, plan.load)
         with self.assertRaises(qlock.refusals.NotToml):
             Plan.find(b"\xff")
+        with self.assertRaises(qlock.refusals.NotToml):
+            Plan.find("\ud800")
         with self.assertRaises(TypeError):
             Plan.find(3)
 
