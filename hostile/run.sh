@@ -182,7 +182,6 @@ try 'show deal 5, names' '' "$root/examples/wheel-3-planned.txt" deal --names 5
 try 'show deal 5, JSON' '' "$root/examples/wheel-3-planned.txt" deal --json 5
 try 'show deal --even 5, JSON' '' "$root/examples/wheel-3-planned.txt" deal --even --json 5
 try 'show near' '' "$root/examples/wheel-3.toml" near
-try 'show near --deal 2, JSON' '' "$root/examples/wheel-3.toml" near --json --deal 2
 try 'show coterie' '' /dev/null coterie votes 3 2 2 1 1 --capacity 3 2 2 1 1
 try 'show fault check' '' "$root/examples/refused-plan.txt" fault check
 sed 's/^cycle .*/cycle 05/' "$work/plan" > "$work/cycle"
