@@ -5,14 +5,13 @@
 //! - `capacities` has the commands for voters with capacities.
 //! - `gates` holds up clients.
 //! - `limits` has the commands at the greatest sizes that they take.
-//! - `prefixes` cuts texts short.
+//! - `devices` has each read and each write fail, for the commands of `tables`, and `prefixes` cuts
+//!   texts short.
 //!
 //! - `served` runs a command line, and compares what it writes with the rows of a table.
 //! - `samples` has coteries, plans, scripts and records that the tests share.
 //!
 //! Depends on `qlock_cli`, on `cluster`, on `coterie_file` and on `test_gate`. The line of every fault is in `test_faults`.
-//! What is left when a read or a write fails is proved of `execute`, and `hostile/run.sh` runs the program over
-//! such devices.
 #![tactic(auto)]
 
 /// The text of a plan: its load, its cycle, the quorums' weights and the voters' weights.
@@ -40,6 +39,8 @@ mod coteries;
 #[cfg(test)]
 mod dealing;
 #[cfg(test)]
+mod devices;
+#[cfg(test)]
 mod gates;
 #[cfg(test)]
 mod limits;
@@ -55,5 +56,7 @@ mod running;
 mod samples;
 #[cfg(test)]
 mod served;
+#[cfg(test)]
+mod tables;
 #[cfg(test)]
 mod worlds;

@@ -30,7 +30,7 @@ fn named(alloc: Global, words: &[String]) -> Option<Command>
 }
 
 /// Returns the command that a command line names, or `None` if it names none.
-fn command_of(alloc: Global, line: &str) -> Result<Option<Command>, AllocError>
+pub fn command_of(alloc: Global, line: &str) -> Result<Option<Command>, AllocError>
     ensures { IfOk result (λ command. IfSome command IsInRange) }
 {
     let words = words_of(alloc, line)?;
@@ -38,7 +38,7 @@ fn command_of(alloc: Global, line: &str) -> Result<Option<Command>, AllocError>
 }
 
 /// Runs a command.
-fn serve<T: Threads + Wait + Clock + Sync, R: Read, W: Write, G: Gate>(
+pub fn serve<T: Threads + Wait + Clock + Sync, R: Read, W: Write, G: Gate>(
     rt: &T,
     alloc: Global,
     command: &Command,
