@@ -1,5 +1,5 @@
 //! How a member waits for a message.
-ghost use Rattle.std.specs.Prelude.{◌≡◌, ◌<◌, ◌↔◌, ◌/◌, ℕ, IsTrue, nat_le, nat_lt};
+ghost use Rattle.std.specs.Prelude.{◌≡◌, ◌<◌, ◌/◌, nat_le, nat_lt};
 ghost use Rattle.std.specs.Duration.{as_nanos};
 ghost use Rattle.cluster.specs.Patience.{PatienceState, Waited, begun, counting_anew, is_long, is_short, looks_for_sleep, may_sleep, may_yield, most_starved, next_step, no_patience, with_empty_look, with_reminder, with_sleep, with_yield};
 

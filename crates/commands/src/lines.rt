@@ -8,7 +8,7 @@ use coterie_file::Named;
 use dealer::{Account, Receipt};
 use quorum_set::are_unit;
 use std::alloc::{AllocError, Global};
-use text_lines::{push_field, push_number};
+use texts::{push_field, push_number};
 
 /// Adds the line `TICKET QUORUM`.
 fn push_receipt(text: &mut String, receipt: &Receipt) -> Result<(), AllocError>
@@ -115,7 +115,7 @@ pub fn deal_lines_of(
     ensures { IfOk result (λ text. string_bytes text ≡ flat_map receipt_line receipts.now
         ++ (account_text named.now.names account.now ++ ratio_part named.now.capacities account.now)) }
 {
-    // a line of a ticket below 100,000 has 11 bytes at most
+    // a line of a ticket below 100,000 has 12 bytes at most
     let mut text = String::with_capacity(alloc, receipts.len().saturating_mul(12))?;
     push_receipts(&mut text, receipts)?;
     push_account(&mut text, named, account)?;

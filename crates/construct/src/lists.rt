@@ -1,5 +1,5 @@
 //! Lists of at most 4096 quorums.
-ghost use Rattle.std.specs.Prelude.{◌≡◌, ◌+◌, ◌≤◌, [], ◌∷◌, length, map};
+ghost use Rattle.std.specs.Prelude.{◌+◌, ◌≤◌, [], ◌∷◌, length, map};
 ghost use Rattle.numbers.specs.Bounds.{max_voters, max_quorums};
 ghost use Rattle.numbers.specs.Sets.{union};
 ghost use Rattle.construct.specs.Answers.{Adds, Lists};

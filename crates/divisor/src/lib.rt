@@ -1,8 +1,8 @@
 //! Greatest common divisors of numbers of 64 or 128 bits.
 //!
 //! Dividing two numbers by their greatest common divisor brings them to lowest terms. Plans give
-//! their loads in lowest terms, and the simplex method keeps its fractions in lowest terms. This
-//! crate depends on no other.
+//! their loads in lowest terms, and the simplex method keeps its fractions in lowest terms where they
+//! need 128 bits. This crate depends on no other.
 //!
 //! ```text
 //! assert_eq!(rt; gcd(6, 10), 2);

@@ -1,5 +1,5 @@
 //! The strides that are tried, and the best of them.
-ghost use Rattle.std.specs.Prelude.{◌≡◌, ◌⊎◌, ◌==◌, ◌*◌, ◌<◌, ◌≤◌, length, slice_index, filter, map, take, IfOk};
+ghost use Rattle.std.specs.Prelude.{◌≡◌, ◌⊎◌, ◌==◌, ◌*◌, ◌<◌, ◌≤◌, slice_index, filter, map, take, IfOk};
 ghost use Rattle.std.specs.Int.{IsGcd};
 ghost use Rattle.std.specs.List.{All, range_with_len};
 ghost use Rattle.divisor.specs.Gcd.{gcd_of};

@@ -20,8 +20,8 @@
 //! - As long as nothing but steps and restarts happened, at most one client is inside at a time, and the
 //!   world can be turned into a [`World`](world::World) ([`worlds_stay_calm`]).
 //!
-//! Depends on `world` and `leases`, and on `voter`, `requester`, `message`, `dealer`, `certificate`,
-//! `quorum_set` and `numbers`.
+//! Depends on `world`, `world_state` and `leases`, and on `voter`, `requester`, `message`, `dealer`,
+//! `certificate`, `quorum_set` and `numbers`.
 //!
 //! ```
 //! let mut world = IncidentWorld::new(alloc, Plans::single(plan), 2, 1000)?;

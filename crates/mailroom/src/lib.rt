@@ -16,8 +16,8 @@
 //! The crate `members` has the clients that send these messages.
 //!
 //! ```
-//! let delivered = mailroom.deliver(rt, &message); // 0: the replies are in their mailboxes
-//! let reply = mailroom.next(rt, 1);               // the first one for client 1
+//! let lost = mailroom.deliver(rt, &message); // 0: the replies are in their mailboxes
+//! let reply = mailroom.next(rt, 1);          // the first one for client 1
 //! ```
 #![tactic(auto)]
 

@@ -1,4 +1,4 @@
-//! A running cluster: its nodes and mailboxes, which all members share.
+//! A running cluster: its mailroom, which all members share.
 ghost use Rattle.std.specs.Prelude.{◌≡◌, ◌<◌, ◌≤◌, [], false, true, length};
 ghost use Rattle.std.specs.Coded.{Coded-set};
 ghost use Rattle.numbers.specs.Sets.{IsSet};

@@ -74,8 +74,8 @@
 //! - that a cluster that could not be closed goes on as it was: that is tested.
 //!
 //! This crate depends on `mailroom`, where messages go, and on `node`, which takes votes and gives them
-//! back. It also depends on `board`, `dealer`, `voter`, `requester`, `message`, `certificate`,
-//! `quorum_set` and `numbers`. The crate `cluster` re-exports all that is here, and drives the
+//! back. It also depends on `clerks`, `run_outcome`, `board`, `dealer`, `requester`, `message`,
+//! `certificate`, `quorum_set` and `numbers`. The crate `cluster` re-exports all that is here, and drives the
 //! members.
 #![tactic(auto)]
 

@@ -10,7 +10,7 @@ use Rattle.message.specs.declared.message.VoterBody.TheVariants as asks
 use Rattle.message.specs.declared.message.ClientBody.{ClientBody}
 use Rattle.message.specs.declared.message.ClientBody.TheVariants as to_client
 use Rattle.texts.specs.Fields.{AllFit}
-use Rattle.text_lines.specs.Forms.{Form, IsForm, IsWord, line_of}
+use Rattle.texts.specs.Forms.{Form, IsForm, IsWord, line_of}
 
 -- REQUEST, RELINQUISH and RELEASE, from a client to a voter
 abbrev pub voter_word : VoterBody → List ℕ

@@ -4,7 +4,7 @@ ghost use Rattle.message.specs.declared.message.Message.{Message};
 ghost use Rattle.message.specs.Lines.{HasLine, message_line};
 
 use crate::message::Message;
-use text_lines::lines_are_read_in_one_way;
+use texts::lines_are_read_in_one_way;
 
 /// No message's line, with its newline, is the beginning of another one that is longer.
 pub fn lines_end()

@@ -18,7 +18,7 @@
 //! A client or a voter is at most 63. A stamp or a grant is 1 to 2^64 - 1, and SEEN is below 2^64.
 //! Each is written in decimal without a leading zero. Reading takes no memory.
 //!
-//! This crate depends on `text_lines`. Voters and requesters depend on it.
+//! This crate depends on `texts`. Voters and requesters depend on it.
 //!
 //! ```
 //! let message = read_message(b"request 1 2 3")?;

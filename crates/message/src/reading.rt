@@ -1,12 +1,12 @@
 //! Reading the line of a message.
 ghost use Rattle.std.specs.Prelude.{◌≡◌, ◌∷◌, [], IfOk, IfSome};
 ghost use Rattle.message.specs.declared.message.Message.{Message};
-ghost use Rattle.text_lines.specs.Forms.{IsLineOf};
+ghost use Rattle.texts.specs.Forms.{IsLineOf};
 ghost use Rattle.message.specs.Lines.{HasLine, message_form, message_line, messages_have_form};
 
 use crate::fault::MessageFault;
 use crate::message::{ClientBody, Message, ToClient, ToVoter, VoterBody};
-use text_lines::{Line, read_line};
+use texts::{Line, read_line};
 
 /// The highest number of a client or a voter.
 const HIGHEST: u64 = 63;

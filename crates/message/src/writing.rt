@@ -5,7 +5,7 @@ ghost use Rattle.message.specs.Lines.{HasLine, client_numbers, client_word, mess
 
 use crate::message::{ClientBody, Message, VoterBody};
 use std::alloc::{AllocError, Global};
-use text_lines::push_field;
+use texts::push_field;
 
 /// Appends a word, and the numbers of the sender and the receiver.
 fn push_head(text: &mut String, word: &str, from: u8, to: u8) -> Result<(), AllocError>

@@ -32,7 +32,7 @@ use Rattle.progress.proofs.Moves.{Came, ClientMoved, Makes, Moved, Moved-by, Mov
 use Rattle.progress.proofs.Outstanding.{came_noted}
 use Rattle.progress.proofs.Placed.{AskedAt, AskedBy}
 use Rattle.progress.proofs.Steady as steady
-use Rattle.progress.proofs.Steady.{GivenBack, IsLasting, Marked, Never, Steady, Told}
+use Rattle.progress.proofs.Steady.{IsLasting, Never, Steady}
 use Rattle.progress.proofs.Still.{Early, is_live, live_asks, live_stamp}
 use Rattle.progress.proofs.Sure.{Course}
 use Rattle.progress.proofs.Taking.{Fate, Returns}

@@ -49,7 +49,7 @@
 //! After crashes and incidents, the laws that name no rounds hold once all clients were idle:
 //! `progress_comes_back` of `leases`.
 //!
-//! Depends on `world`, `voter` and `requester`, and on the crates that these are made of.
+//! Depends on `world`, `world_state`, `voter` and `requester`, and on the crates that these are made of.
 #![tactic(auto)]
 
 mod after_losses;

@@ -1,5 +1,5 @@
 //! The calls of a client.
-ghost use Rattle.std.specs.Prelude.{◌≡◌, ◌≢◌, ◌<◌, ◌≤◌, ℕ, [], IfErr, IfOk, OnErr, length, pos};
+ghost use Rattle.std.specs.Prelude.{◌≡◌, ◌≢◌, ◌<◌, ◌≤◌, [], IfErr, IfOk, OnErr, length, pos};
 ghost use Rattle.message.specs.declared.message.ToClient.{ToClient};
 ghost use Rattle.numbers.specs.Bounds.{max_voters};
 ghost use Rattle.numbers.specs.Sets.{members_of};

@@ -1,5 +1,5 @@
 //! Why a call did nothing, and the numbers that C sees.
-ghost use Rattle.std.specs.Prelude.{◌≡◌, ◌≢◌, OnErr, OnOk};
+ghost use Rattle.std.specs.Prelude.{◌≡◌, ◌≢◌, OnErr};
 ghost use Rattle.qlock_c.specs.Numbers.{client_refusal, done, fence_refusal, refused, returned};
 
 use fence::FenceFault;

@@ -1,5 +1,5 @@
 //! The calls of a voter.
-ghost use Rattle.std.specs.Prelude.{◌≡◌, ◌≢◌, ◌<◌, ◌≤◌, ℕ, IfErr, IfOk, OnErr, length};
+ghost use Rattle.std.specs.Prelude.{◌≡◌, ◌≢◌, ◌<◌, ◌≤◌, IfErr, IfOk, OnErr};
 ghost use Rattle.message.specs.declared.message.ToVoter.{ToVoter};
 ghost use Rattle.numbers.specs.Bounds.{max_clients};
 ghost use Rattle.voter.specs.Leases.{reborn};

@@ -4,7 +4,7 @@ use Rattle.std.specs.Bool.{OnFalse}
 use Rattle.std.proofs.lemmas.Grind.{flat_map-append}
 use Rattle.std.proofs.lemmas.List.{append-nil, take_more}
 use Rattle.qlock_plan_c.specs.Calls.{TextCall, names_text}
-use Rattle.fault_lines.specs.Lines.{line_of}
+use Rattle.plan_inputs.specs.Lines.{line_of}
 use Rattle.plan_inputs.specs.Faults.{is_out_of_memory}
 use Rattle.qlock_plan_c.specs.Outputs.{Output, PutsFault, PutsRefusal}
 use Rattle.plan_inputs.specs.declared.fault.InputFault.{InputFault}

@@ -8,7 +8,7 @@ use Rattle.certificate.specs.Certificates.{IsCertificate, IsOptimal, cycle_len, 
 use Rattle.even.specs.EvenCycles.{EvenOrder}
 use Rattle.even.specs.Slacks.{IsSlack}
 use Rattle.even.specs.declared.slack.Slack.{Slack}
-use Rattle.fault_lines.specs.Lines.{line_of}
+use Rattle.plan_inputs.specs.Lines.{line_of}
 use Rattle.qlock_plan_c.specs.Orders.{IsEvenOrder, IsOrder, masks_of}
 use Rattle.qlock_plan_c.specs.Outputs.{IsUnwritten, LacksRoom, Output, Writes}
 use Rattle.plan_inputs.specs.Inputs.{IsPlanText, PlannedSystem, RefusesToPlan, coterie_in, planned_by}

@@ -1,6 +1,6 @@
 -- What a call leaves in `out` and `written`.
 use Rattle.std.specs.Prelude.{ℕ, ◌≡◌, ◌<◌, ◌≤◌, List, ◌++◌, drop, length}
-use Rattle.fault_lines.specs.Lines.{line_of}
+use Rattle.plan_inputs.specs.Lines.{line_of}
 use Rattle.plan_inputs.specs.declared.fault.InputFault.{InputFault}
 use Rattle.plan_inputs.specs.declared.fault.InputFault.TheVariants.{OutOfMemory}
 use Rattle.qlock_plan_c.specs.declared.outcome.Outcome.{Outcome}

@@ -14,7 +14,7 @@
 //! What is written is a stated function of the texts, and each end of a call is stated:
 //! `specs/Calls.antt`. Only where memory ends is not.
 //!
-//! Depends on `plan_inputs`, `fault_lines`, `coterie_file`, `certificate`, `planner`, `dealer`, `even`, `quorum_set`, `words` and
+//! Depends on `plan_inputs`, `coterie_file`, `certificate`, `planner`, `dealer`, `even`, `quorum_set`, `words` and
 //! `numbers`.
 #![tactic(auto)]
 

@@ -2,8 +2,7 @@
 ghost use Rattle.qlock_plan_c.specs.Outputs.{PutsFault, PutsRefusal, PutsText, output};
 
 use crate::outcome::Outcome;
-use fault_lines::line_of;
-use plan_inputs::InputFault;
+use plan_inputs::{InputFault, line_of};
 
 /// Writes a text to the front of `out`, and how many bytes it has. Writes nothing if `out` is too
 /// short.

@@ -2,7 +2,7 @@
 use Rattle.std.proofs.Common.{◌≡◌, ℕ, ◌<◌, ◌≤◌, true, List, [], ◌∷◌, length, subst, arith}
 use Rattle.std.specs.Prelude.{slice_index_or}
 use native.Mathlib.Decide.{ℕ_discrete, dec_le}
-use Rattle.numbers.specs.Sets.{has, meet}
+use Rattle.numbers.specs.Sets.{has}
 use Rattle.quorum_set.specs.Coteries.{QuorumSystem, IsCoterie}
 use Rattle.numbers.proofs.Meetings.{meet-common}
 use Rattle.numbers.proofs.Members.{All-has}

@@ -1,8 +1,8 @@
 -- The text of a script is read in one way.
 use Rattle.std.proofs.Common.{◌≡◌, ◌≢◌, ℕ, ◌+◌, List, [], ◌∷◌, ◌++◌, length, refl, sym, ap, ◌∙◌, inl, inr}
 use Rattle.texts.proofs.CutLemmas.{Lacks}
-use Rattle.text_lines.specs.Forms.{AreFirst, BeginsWithNone, Form, IsForm, IsNext, line_of, text_of}
-use Rattle.text_lines.proofs.LineLemmas.{Lacks-line, all_lines, same_lines, same_next}
+use Rattle.texts.specs.Forms.{AreFirst, BeginsWithNone, Form, IsForm, IsNext, line_of, text_of}
+use Rattle.texts.proofs.LineLemmas.{Lacks-line, all_lines, same_lines, same_next}
 use Rattle.replay.specs.declared.fault.ReplayFault.{ReplayFault}
 use Rattle.replay.specs.declared.fault.ReplayFault.TheVariants.{BadLine, OutOfMemory}
 use Rattle.replay.specs.Scripts.{BeginsWith, IsBadRest, IsBadText, IsFirstBad, IsLine, IsScript, IsWorldLine, Script, script_text, world_form}

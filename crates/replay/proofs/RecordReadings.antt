@@ -2,8 +2,8 @@
 use Rattle.std.proofs.Common.{◌≡◌, ◌≢◌, ℕ, ◌+◌, List, [], ◌∷◌, ◌++◌, length, drop, get_or, refl, sym, ap, ap₂, ◌∙◌, append_assoc, inl, inr, arith}
 use Rattle.std.specs.Prelude.{IfErr, IfOk, MatchResult, Result, Ok, Err}
 use Rattle.std.proofs.lemmas.List.{append-nil}
-use Rattle.text_lines.specs.Forms.{AreFirst, BeginsWithNone, HaveLines, line_of}
-use Rattle.text_lines.proofs.LineLemmas.{no_other, same_lines, same_next, text_of-cons}
+use Rattle.texts.specs.Forms.{AreFirst, BeginsWithNone, HaveLines, line_of}
+use Rattle.texts.proofs.LineLemmas.{no_other, same_lines, same_next, text_of-cons}
 use Rattle.run_outcome.specs.declared.record.RunRecord.{RunRecord}
 use Rattle.replay.specs.declared.fault.ReplayFault.{ReplayFault}
 use Rattle.replay.specs.declared.fault.ReplayFault.TheVariants.{BadLine, OutOfMemory}

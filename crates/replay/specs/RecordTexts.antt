@@ -9,7 +9,7 @@
 -- without a leading zero. One space is between two words.
 use Rattle.std.specs.Prelude.{ℕ, ◌≡◌, ◌≢◌, ◌<◌, ◌≤◌, ◌+◌, ◌^◌, ◌⊎◌, List, [], ◌∷◌, ◌++◌, length, codes}
 use Rattle.std.proofs.Common.{ap, arith, get_or, rules}
-use Rattle.text_lines.specs.Forms.{AreFirst, BeginsWithNone, Form, HaveLines, IsForm, IsNext, line_of, text_of}
+use Rattle.texts.specs.Forms.{AreFirst, BeginsWithNone, Form, HaveLines, IsForm, IsNext, line_of, text_of}
 use Rattle.replay.specs.declared.fault.ReplayFault.{ReplayFault}
 use Rattle.replay.specs.declared.fault.ReplayFault.TheVariants.{BadLine, OutOfMemory}
 use Rattle.run_outcome.specs.Entries.{Draw, Pass}

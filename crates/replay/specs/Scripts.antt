@@ -14,7 +14,7 @@ use Rattle.std.specs.Prelude.{ℕ, ◌≡◌, ◌≢◌, ◌<◌, ◌≤◌, ◌
 use Rattle.std.specs.Str.{bytes_eq}
 use Rattle.std.proofs.Common.{ap, ap₂, sym, ◌∙◌, refl, get_or, arith, rules}
 use Rattle.numbers.specs.Bounds.{max_clients, max_stamp}
-use Rattle.text_lines.specs.Forms.{AreFirst, Form, HaveLines, IsForm, IsNext, IsWord, line_of, text_of}
+use Rattle.texts.specs.Forms.{AreFirst, Form, HaveLines, IsForm, IsNext, IsWord, line_of, text_of}
 use Rattle.world_state.specs.declared.step.Step.{Step}
 use Rattle.world_state.specs.declared.step.Step.TheVariants.{Ask, Deliver, Leave, GiveUp, RemindClient, RemindVoter, Exchange}
 use Rattle.replay.specs.declared.fault.ReplayFault.{ReplayFault}

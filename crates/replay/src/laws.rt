@@ -5,7 +5,7 @@ ghost use Rattle.replay.specs.RecordTexts as record_texts;
 ghost use Rattle.replay.specs.RecordTexts.{HasText, record_text};
 ghost use Rattle.replay.specs.Scripts.{IsFirstBad, IsLine, IsScript, Script, script_text};
 
-use text_lines::Line;
+use texts::Line;
 
 /// States that no line of a script, with its newline, begins a longer line of a script.
 pub fn lines_end<L: Line>()

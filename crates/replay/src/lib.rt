@@ -59,11 +59,11 @@
 //!
 //! This crate depends on:
 //!
-//! - `world`, whose steps it takes;
+//! - `world` and `world_state`, whose steps it takes;
 //! - `certificate` for the plan;
 //! - `dealer` for the account of tickets;
 //! - `run_outcome` for the record of a run;
-//! - `text_lines`, `message` and `texts` for the lines;
+//! - `texts` and `message` for the lines;
 //! - `numbers` for counts and bounds.
 //!
 //! ```text

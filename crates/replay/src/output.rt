@@ -18,7 +18,7 @@ use dealer::Plans;
 use message::{Message, push_message};
 use requester::ClientFault;
 use std::alloc::{AllocError, Global};
-use text_lines::push_field;
+use texts::push_field;
 use voter::VoterFault;
 use world::{Event, Step, World, WorldFault};
 

@@ -1,6 +1,6 @@
 //! Reading a script.
 ghost use Rattle.std.specs.Prelude.{◌≡◌, ◌∷◌, [], IfErr, IfOk, IfSome, MatchResult};
-ghost use Rattle.text_lines.specs.Forms.{HaveLines, IsLineOf, text_of};
+ghost use Rattle.texts.specs.Forms.{HaveLines, IsLineOf, text_of};
 ghost use Rattle.world_state.specs.declared.step.Step.{Step};
 ghost use Rattle.replay.specs.Scripts as scripts;
 ghost use Rattle.replay.specs.Scripts.{BeginsWith, IsBadRest, IsBadText, IsScript, IsWorldLine, script_text, step_form, steps_have_form, world_form, worlds_have_form};
@@ -10,7 +10,7 @@ use crate::fault::ReplayFault;
 use crate::script::Script;
 use numbers::{MAX_CLIENTS, MAX_STAMP};
 use std::alloc::Global;
-use text_lines::{Line, first_lines, next_line};
+use texts::{Line, first_lines, next_line};
 use world::Step;
 
 /// The most clients of a world.

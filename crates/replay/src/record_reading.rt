@@ -8,8 +8,7 @@ use crate::fault::ReplayFault;
 use numbers::{MAX_CLIENTS, MAX_QUORUMS};
 use run_outcome::{Draw, Pass, RunRecord};
 use std::alloc::Global;
-use text_lines::{Line, first_lines, next_line};
-use texts::cut_at;
+use texts::{Line, cut_at, first_lines, next_line};
 
 /// The first line of a record.
 const TITLE: &[u8] = b"quorum-record 1";

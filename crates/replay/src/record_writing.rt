@@ -2,12 +2,12 @@
 ghost use Rattle.std.specs.Prelude.{◌≡◌, ◌≤◌, ◌++◌, ◌∷◌, [], IfOk, OnOk, string_bytes};
 ghost use Rattle.std.specs.List.{All};
 ghost use Rattle.replay.specs.Records.{entries_of};
-ghost use Rattle.text_lines.specs.Forms.{line_of};
+ghost use Rattle.texts.specs.Forms.{line_of};
 ghost use Rattle.replay.specs.RecordTexts.{draw_form, draws_text, pass_form, passes_text, record_text, register_text};
 
 use run_outcome::{Draw, Pass, RunRecord};
 use std::alloc::{AllocError, Global};
-use text_lines::push_field;
+use texts::push_field;
 
 fn push_draw(text: &mut String, draw: &Draw) -> Result<(), AllocError>
     ensures { OnOk result (string_bytes text.new ≡ string_bytes text.old ++ (line_of draw_form draw.now ++ 10 ∷ [])) }

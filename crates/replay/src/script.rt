@@ -3,7 +3,7 @@ ghost use Rattle.std.specs.Prelude.{◌≡◌};
 ghost use Rattle.replay.specs.Scripts.{IsScript};
 
 use std::marker::Model;
-use text_lines::Line;
+use texts::Line;
 
 /// A script: how large a world is, and the steps that happen in it, each on a line of this kind.
 /// Contracts see a `Script` of the specs.

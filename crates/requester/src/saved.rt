@@ -1,5 +1,5 @@
 //! A client as numbers, to be saved and restored, and the least of it.
-ghost use Rattle.std.specs.Prelude.{◌≡◌, ◌<◌, ◌≤◌, ◌+◌, ◌++◌, ◌||◌, not, [], ℕ, List, IsTrue, IfSome, Some, true, length};
+ghost use Rattle.std.specs.Prelude.{◌≡◌, ◌<◌, ◌+◌, ◌||◌, not, [], ℕ, List, IsTrue, IfSome, Some, true, length};
 ghost use Rattle.arrayvec.specs.ArrayVec.{array_vec_len};
 ghost use Rattle.numbers.specs.Bounds.{max_clients, max_voters};
 ghost use Rattle.numbers.specs.Sets.{IsSet};

@@ -2,7 +2,6 @@
 ghost use Rattle.std.specs.Prelude.{◌≡◌, ◌-◌, ◌<◌, ◌≤◌, ℕ, All, List, length, map, true, IfNone, IfOk, IfSome};
 ghost use Rattle.numbers.specs.Sets.{IsSet};
 ghost use Rattle.quorum_set.specs.Capacities.{AreCapacities, are_unit};
-ghost use Rattle.coterie_file.specs.Named.{IsNamed};
 ghost use Rattle.failures.specs.Failures.{Bears, IsSmallest, IsTransversal, MeetsEach, system_without};
 ghost use Rattle.known_loads.specs.SmallestQuorums.{smallest_size};
 ghost use Rattle.show_failures.specs.Groups.{groups_of};

@@ -1,6 +1,6 @@
 -- The quorums of a plan that a cycle uses are a coterie.
-use Rattle.std.proofs.Common.{◌≡◌, ℕ, zero, suc, ◌+◌, ◌<◌, ◌≤◌, Bool, cond, true, false, List, [], ◌∷◌, ◌++◌, length, get_or, map, slice_get, refl, sym, subst, ap, ◌∙◌, arith, Some, Err}
-use Rattle.std.specs.Prelude.{All, AllPairs, filter, nat_lt, slice_index, sum, count_by}
+use Rattle.std.proofs.Common.{◌≡◌, ℕ, zero, suc, ◌+◌, ◌<◌, ◌≤◌, cond, true, false, List, [], ◌∷◌, ◌++◌, length, get_or, map, slice_get, sym, subst, ap, ◌∙◌, arith, Some, Err}
+use Rattle.std.specs.Prelude.{All, AllPairs, filter, slice_index, sum}
 use Rattle.std.specs.List.{range_with_len}
 use Rattle.std.proofs.lemmas.Bool.{le-ltb, lt-ltb}
 use Rattle.std.proofs.lemmas.List.{append-nil, length-map, get_or-map, map-append, map-id}
@@ -10,7 +10,7 @@ use Rattle.std.proofs.lemmas.List.FromFn.{get_or-range_with_len, length-range_wi
 use Rattle.std.proofs.lemmas.List.Kept.{AllPairs-filter}
 use Rattle.std.proofs.lemmas.List.Sums.{count_by-le-length, get_or-le-sum_by, length-filter, sum_by-cons}
 use Rattle.numbers.specs.Sets.{IsSet, meet, within}
-use Rattle.quorum_set.specs.Coteries.{IsCoterie, QuorumSystem, coterie_of, coterie_or}
+use Rattle.quorum_set.specs.Coteries.{IsCoterie, coterie_of, coterie_or}
 use Rattle.quorum_set.specs.declared.fault.CoterieFault.{CoterieFault}
 use Rattle.quorum_set.proofs.FaultLaws.{first_fault-IsCoterie}
 use Rattle.certificate.specs.Certificates.{IsCertificate, Weighted}

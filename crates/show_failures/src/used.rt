@@ -1,5 +1,5 @@
 //! The quorums of a plan that a cycle uses, as a coterie.
-ghost use Rattle.std.specs.Prelude.{◌≡◌, ◌≤◌, length, IfOk};
+ghost use Rattle.std.specs.Prelude.{◌≡◌, length, IfOk};
 ghost use Rattle.certificate.specs.Certificates.{IsCertificate};
 ghost use Rattle.show_failures.specs.Used.{used_below, used_system};
 

@@ -3,8 +3,9 @@ ghost use Rattle.std.specs.Prelude.{◌≡◌, nat_lt};
 ghost use Rattle.commands.specs.Commands.{reads_input};
 ghost use Rattle.show_inputs.specs.Parts.{parts_of};
 
+use crate::lines::newlines;
+use crate::marks::{NearMark, near_mark};
 use commands::{Command, split_part};
-use show_places::{NearMark, near_mark, newlines};
 
 /// Returns how many parts the input of a command of `qlock` has.
 pub fn parts_of(command: &Command) -> usize

@@ -1,6 +1,7 @@
 //! Which keys of a coterie a text lacks, and which of its values are of another type.
+use crate::keys::{item_line, key_line};
+use crate::lines::push_line;
 use crate::refused::{Refused, push_found};
-use show_places::{item_line, key_line, push_line};
 use std::alloc::{AllocError, Global};
 use toml::{Table, Value};
 

@@ -2,10 +2,10 @@
 ghost use Rattle.std.specs.Prelude.{◌≡◌, length, nat_lt};
 ghost use Rattle.show_inputs.specs.Parts.{parts_of};
 
+use crate::files::{FileLine, file_line, push_file};
 use crate::input_parts::{lines_before, part_in, parts_of};
 use crate::kinds::{Kind, kind_in};
 use commands::Command;
-use show_places::{FileLine, file_line, push_file};
 use std::alloc::AllocError;
 
 /// The input that a command of `qlock` refused.

@@ -1,10 +1,11 @@
 //! What is wrong with the text of a coterie, with its names.
 use crate::key_faults::push_keys;
+use crate::keys::item_line;
+use crate::lines::push_line;
 use crate::refused::{Refused, push_found};
 use crate::toml_faults::push_not_toml;
 use coterie_file::{FileFault, NameLists};
 use quorum_set::CoterieFault;
-use show_places::{item_line, push_line};
 use std::alloc::{AllocError, Global};
 
 /// Appends names with a comma between them, in braces.

@@ -1,7 +1,8 @@
 //! Where a text stops being TOML.
+use crate::brackets::unclosed_line;
 use crate::kinds::push_wrong_beginning;
+use crate::lines::{line_of, position_of, push_line};
 use crate::refused::{Refused, push_at};
-use show_places::{line_of, position_of, push_line, unclosed_line};
 use std::alloc::{AllocError, Global};
 
 /// Appends a line of a text on a line of its own, if there is one.

@@ -14,10 +14,9 @@ use coterie_file::FileFault;
 use planner::{Cause, PlannerFault};
 use replay::ReplayFault;
 use show_inputs::{
-    Refused, near_mark_before, parts_of, push_at, push_file_fault, push_line_place, push_part,
-    push_wrong_beginning,
+    NearMark, Refused, is_unended, line_of, near_mark_before, parts_of, push_at, push_file,
+    push_file_fault, push_line, push_line_place, push_part, push_wrong_beginning,
 };
-use show_places::{NearMark, is_unended, line_of, push_file, push_line};
 use std::alloc::{AllocError, Global};
 
 /// Serves a command of `qlock` other than `run` for an input, and throws the output away.

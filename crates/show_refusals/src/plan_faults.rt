@@ -2,7 +2,7 @@
 use certificate::{Plan, PlanFault, check};
 use commands::coterie_of;
 use coterie_file::Named;
-use show_places::{line_of, push_line};
+use show_inputs::{line_of, push_line};
 use std::alloc::{AllocError, Global};
 
 /// How many lines a plan has at most.

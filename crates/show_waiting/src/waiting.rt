@@ -1,7 +1,7 @@
 //! The page of how long a client waits at most.
 ghost use Rattle.std.specs.Prelude.{◌≡◌, ◌≤◌, ◌++◌, ◌*◌, IfOk, OnOk, string_bytes, unwrap_or};
 ghost use Rattle.numbers.specs.Bounds.{max_clients};
-ghost use Rattle.show_waiting.specs.Waiting.{IsInRange, bound, head_text, longest_wait, patience_text, patient_bound, premises_text, rounds_of, rounds_text, seconds_text, tested, waiting_text, withdrawals_of};
+ghost use Rattle.show_waiting.specs.Waiting.{IsInRange, bound, head_text, longest_wait, patience_text, patient_bound, rounds_of, rounds_text, seconds_text, tested, waiting_text, withdrawals_of};
 
 use std::alloc::{AllocError, Global};
 

@@ -13,7 +13,7 @@ use Rattle.std.specs.Prelude.{ℕ, ◌≡◌, ◌≤◌, List, [], ◌∷◌, co
 use Rattle.std.specs.Str.{bytes_eq}
 use Rattle.std.proofs.Common.{ap, ap₂, sym, ◌∙◌, refl, get_or, length, arith, rules}
 use Rattle.texts.specs.Fields.{AllFit}
-use Rattle.text_lines.specs.Forms.{Form, IsForm, IsWord}
+use Rattle.texts.specs.Forms.{Form, IsForm, IsWord}
 use Rattle.world_state.specs.declared.step.Step.TheVariants.{Ask, Deliver, Leave, GiveUp, RemindClient, RemindVoter, Exchange}
 use Rattle.replay.specs.Scripts.{HasStepLine, step_number, step_word}
 use Rattle.stories.specs.declared.turn.Turn.{Turn}

@@ -1,5 +1,5 @@
 //! The guard of a story, and the passes that clients show to it.
-ghost use Rattle.std.specs.Prelude.{◌≡◌, ◌<◌, ℕ, IfNone, IfOk, IfSome, None, Some, false, length, option_map, replicate, slice_index_or, slice_set, true};
+ghost use Rattle.std.specs.Prelude.{◌≡◌, ◌<◌, ℕ, IfNone, IfOk, IfSome, None, Some, false, length, option_map, replicate, slice_set, true};
 ghost use Rattle.numbers.specs.Bounds.{max_clients, max_voters};
 ghost use Rattle.fence.specs.Passes.{Admits, is_not_older};
 ghost use Rattle.stories.specs.Guards.{first_older, guard_after, guard_after_by, guard_did, guard_did_by, is_newer, is_spent, late_of};

@@ -45,8 +45,8 @@
 //!   or how many messages were forgotten; which grant was let go; what the guard did with a pass, and which
 //!   grant in it is older (`specs/Plays.antt`, `specs/Guards.antt`).
 //!
-//! Depends on `incidents`, `leases` and `world`, on `fence` for the guard, on `replay` for the lines of
-//! steps, and on `dealer` for plans.
+//! Depends on `incidents`, `leases`, `world` and `world_state`, on `fence` for the guard, on `replay` for
+//! the lines of steps, and on `dealer` for plans.
 //!
 //! ```
 //! let script = read_story(alloc, b"world 1 9\n# a note\nask 0\ncrash-client 0\n")?;

@@ -1,6 +1,6 @@
 //! Reading a script of a story.
 ghost use Rattle.std.specs.Prelude.{◌≡◌, ◌++◌, ◌∷◌, [], IfErr, IfOk, IfSome, MatchResult, OnOk};
-ghost use Rattle.text_lines.specs.Forms.{IsLineOf};
+ghost use Rattle.texts.specs.Forms.{IsLineOf};
 ghost use Rattle.replay.specs.Scripts as scripts;
 ghost use Rattle.replay.specs.Scripts.{IsScript};
 ghost use Rattle.replay.specs.declared.fault.ReplayFault.TheVariants.{OutOfMemory};
@@ -11,8 +11,7 @@ ghost use Rattle.stories.specs.declared.turn.Turn.{Turn};
 use crate::turn::Turn;
 use replay::{ReplayFault, Script, read_script};
 use std::alloc::{AllocError, Global};
-use text_lines::Line;
-use texts::cut_at;
+use texts::{Line, cut_at};
 use world::Step;
 
 /// A script of a story: how large a world is, and its turns, as the steps.

@@ -1,8 +1,7 @@
 //! The lines of faults are the texts that the program prints.
 use certificate::PlanFault;
 use coterie_file::FileFault;
-use fault_lines::line_of;
-use plan_inputs::InputFault;
+use plan_inputs::{InputFault, line_of};
 use planner::{Cause, PlannerFault};
 use quorum_set::CoterieFault;
 use std::alloc::{AllocError, Global};

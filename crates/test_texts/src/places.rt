@@ -1,5 +1,5 @@
 //! Where lines, marks and brackets are found in texts.
-use show_places::{
+use show_inputs::{
     file_line, is_unended, item_line, key_line, line_of, near_mark, position_of, push_file,
     unclosed_line,
 };

@@ -1,6 +1,6 @@
 //! Worlds whose clients and voters crash and restart.
 ghost use Rattle.std.specs.Prelude.{◌≡◌, ◌<◌, ◌≤◌, IfErr, IfOk, Ok, OnErr, OnOk, Some, length, option_map, slice_get};
-ghost use Rattle.numbers.specs.Bounds.{max_voters, max_clients, max_stamp};
+ghost use Rattle.numbers.specs.Bounds.{max_clients, max_stamp};
 ghost use Rattle.message.specs.Lines.{HasLine};
 ghost use Rattle.world.specs.Restarts.{Goes, OneClient, OneVoter, Restarts, maker};
 ghost use Rattle.world.specs.States.{node_of, saved_of};

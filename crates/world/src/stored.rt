@@ -1,5 +1,5 @@
 //! The state of a world with the saved states of its clients and voters, and steps that save.
-ghost use Rattle.std.specs.Prelude.{◌≡◌, ◌<◌, ◌≤◌, length, slice_set, true};
+ghost use Rattle.std.specs.Prelude.{◌≡◌, ◌<◌, length, slice_set, true};
 ghost use Rattle.world_state.specs.Numbered.{IsNumbered};
 ghost use Rattle.world.specs.Restarts.{maker, receiver, save, save_unless};
 ghost use Rattle.world.specs.SavedWorlds.{SavesAndSends};

@@ -1,5 +1,5 @@
 use Rattle.std.proofs.Common.{[]}
-use Rattle.text_lines.proofs.LineLemmas.{same_cut}
+use Rattle.texts.proofs.LineLemmas.{same_cut}
 use Rattle.replay.proofs.Readings.{Lacks-script_line}
 use Rattle.replay.proofs.laws.lines_end.Goals as goal
 

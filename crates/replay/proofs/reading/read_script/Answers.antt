@@ -1,5 +1,5 @@
 use Rattle.std.proofs.Common.{List, ℕ, ◌∷◌, ◌++◌, ap, inl, refl, sym, ◌∙◌}
-use Rattle.text_lines.specs.Forms.{line_of}
+use Rattle.texts.specs.Forms.{line_of}
 use Rattle.replay.specs.Scripts.{world_form}
 use Rattle.replay.proofs.Readings.{bad_text, begins, never_both, never_refused, none_begins, script_text-unique}
 use Rattle.replay.proofs.reading.read_script.Goals as goal

@@ -1,6 +1,6 @@
 use Rattle.std.proofs.Common.{string_bytes}
 use Rattle.replay.specs.RecordTexts.{draw_form}
-use Rattle.text_lines.proofs.LineLemmas.{text_of-more}
+use Rattle.texts.proofs.LineLemmas.{text_of-more}
 use Rattle.replay.proofs.record_writing.push_draws.Goals as goal
 
 pub loop-draw-preserved : goal.loop-draw-preserved

@@ -1,6 +1,6 @@
 use Rattle.std.proofs.Common.{string_bytes}
 use Rattle.replay.specs.RecordTexts.{pass_form}
-use Rattle.text_lines.proofs.LineLemmas.{text_of-more}
+use Rattle.texts.proofs.LineLemmas.{text_of-more}
 use Rattle.replay.proofs.record_writing.push_passes.Goals as goal
 
 pub loop-pass-preserved : goal.loop-pass-preserved

@@ -1,4 +1,4 @@
-use Rattle.std.proofs.Common.{ℕ, [], ◌∷◌, ◌++◌, List, ◌∙◌, ap, ap₂, arith, sym}
+use Rattle.std.proofs.Common.{ℕ, [], ◌∷◌, ◌++◌, List, ◌∙◌, ap₂, arith, sym}
 use Rattle.std.proofs.lemmas.List.FromFn.{map-range_with_len_more}
 use Rattle.dealer.specs.declared.receipt.Receipt.{Receipt}
 use Rattle.show_tickets.specs.Deals.{even_receipt}

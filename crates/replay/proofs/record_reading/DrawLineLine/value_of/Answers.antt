@@ -1,5 +1,5 @@
 use Rattle.std.proofs.Common.{arith, rules}
-use Rattle.text_lines.proofs.LineLemmas.{three_numbers}
+use Rattle.texts.proofs.LineLemmas.{three_numbers}
 use Rattle.replay.proofs.record_reading.DrawLineLine.value_of.Goals as goal
 
 pub returns-in-len3-clause-text : goal.returns-in-len3-clause-text

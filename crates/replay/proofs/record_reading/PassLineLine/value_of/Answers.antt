@@ -1,5 +1,5 @@
 use Rattle.std.proofs.Common.{arith, rules}
-use Rattle.text_lines.proofs.LineLemmas.{two_numbers}
+use Rattle.texts.proofs.LineLemmas.{two_numbers}
 use Rattle.replay.proofs.record_reading.PassLineLine.value_of.Goals as goal
 
 pub returns-in-len2-clause-text : goal.returns-in-len2-clause-text

@@ -1,5 +1,5 @@
 use Rattle.std.proofs.Common.{arith, rules}
-use Rattle.text_lines.proofs.LineLemmas.{one_number}
+use Rattle.texts.proofs.LineLemmas.{one_number}
 use Rattle.replay.proofs.record_reading.RegisterLineLine.value_of.Goals as goal
 
 pub returns-in-len1-clause-text : goal.returns-in-len1-clause-text

@@ -2,13 +2,13 @@
 ghost use Rattle.std.specs.Prelude.{◌≡◌, ◌≤◌, ◌+◌, ◌++◌, ◌∷◌, length};
 ghost use Rattle.std.specs.Fmt.{decimal};
 ghost use Rattle.arrayvec.specs.ArrayString.{array_string_len};
-ghost use Rattle.fault_lines.specs.Lines.{cause_line, coterie_line, file_line, line_of, numbered_line, plan_line, planner_line};
+ghost use Rattle.plan_inputs.specs.Lines.{cause_line, coterie_line, file_line, line_of, numbered_line, plan_line, planner_line};
 
+use crate::fault::InputFault;
 use arrayvec::ArrayString;
 use certificate::PlanFault;
 use coterie_file::FileFault;
 use itoa::Buffer;
-use plan_inputs::InputFault;
 use planner::{Cause, PlannerFault};
 use quorum_set::CoterieFault;
 

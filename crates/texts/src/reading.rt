@@ -1,12 +1,13 @@
 //! Reading lines.
 ghost use Rattle.std.specs.Prelude.{◌≡◌, ◌≤◌, ℕ, List, IfOk, IfSome, MatchOption, length};
 ghost use Rattle.texts.specs.Fields.{AllFit, fields};
-ghost use Rattle.text_lines.specs.Forms.{AreFirst, BeginsWithNone, IsNext, line_of};
+ghost use Rattle.texts.specs.Forms.{AreFirst, BeginsWithNone, IsNext, line_of};
 
+use crate::cuts::cut_at;
 use crate::line::Line;
+use crate::words::{cut, field};
 use arrayvec::ArrayVec;
 use std::alloc::{AllocError, Global};
-use texts::{cut, cut_at, field};
 
 /// The most numbers of a line.
 pub const MOST_NUMBERS: usize = 5;

@@ -3,8 +3,8 @@ use Rattle.std.proofs.lemmas.List.{append-nil, length-append, nil_from_length}
 use Rattle.std.specs.Fmt.{decimal}
 use Rattle.texts.specs.Fields.{fields}
 use Rattle.texts.proofs.FieldLemmas.{IsBorder-fields, fields-push, some-from_test, zero-from_test}
-use Rattle.text_lines.proofs.LineLemmas.{all_found, next_field}
-use Rattle.text_lines.proofs.reading.numbers_of.Goals as goal
+use Rattle.texts.proofs.LineLemmas.{all_found, next_field}
+use Rattle.texts.proofs.reading.numbers_of.Goals as goal
 
 pub fields-init : goal.fields-init
 fields-init c = record {

@@ -1,7 +1,7 @@
 use Rattle.std.proofs.Common.{◌≡◌, ◌++◌, ℕ, List, length}
 use Rattle.texts.specs.Fields.{AllFit, fields}
 use Rattle.texts.proofs.FieldLemmas.{IsLeft}
-use Rattle.text_lines.proofs.reading.numbers_of.Given as goal
+use Rattle.texts.proofs.reading.numbers_of.Given as goal
 
 abbrev pub invariant-fields : goal.invariant-fields
 invariant-fields l = record {

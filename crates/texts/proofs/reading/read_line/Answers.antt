@@ -1,8 +1,8 @@
 use Rattle.std.proofs.Common.{◌∙◌}
 use Rattle.texts.proofs.FieldLemmas.{IsBorder-fields}
 use Rattle.texts.specs.Fields.{fields}
-use Rattle.text_lines.proofs.LineLemmas.{HasNoSpace-word, line_written}
-use Rattle.text_lines.proofs.reading.read_line.Goals as goal
+use Rattle.texts.proofs.LineLemmas.{HasNoSpace-word, line_written}
+use Rattle.texts.proofs.reading.read_line.Goals as goal
 
 pub returns-in-Some-clause-read : goal.returns-in-Some-clause-read
 returns-in-Some-clause-read g c x h e =

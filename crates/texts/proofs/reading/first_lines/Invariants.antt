@@ -1,6 +1,6 @@
 use Rattle.std.proofs.Common.{◌≡◌, ◌++◌, length}
-use Rattle.text_lines.specs.Forms.{HaveLines, text_of}
-use Rattle.text_lines.proofs.reading.first_lines.Given as goal
+use Rattle.texts.specs.Forms.{HaveLines, text_of}
+use Rattle.texts.proofs.reading.first_lines.Given as goal
 
 -- the lines so far stand before the rest
 abbrev pub invariant-lines : goal.invariant-lines

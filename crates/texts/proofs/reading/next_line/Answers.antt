@@ -1,8 +1,8 @@
 use Rattle.std.proofs.Common.{List, ℕ, ◌∷◌, ◌++◌, None, Some, ap, sym, ◌∙◌}
 use Rattle.texts.proofs.CutLemmas.{cut_at-Some}
-use Rattle.text_lines.specs.Forms.{line_of}
-use Rattle.text_lines.proofs.LineLemmas.{cut_first, same_pair}
-use Rattle.text_lines.proofs.reading.next_line.Goals as goal
+use Rattle.texts.specs.Forms.{line_of}
+use Rattle.texts.proofs.LineLemmas.{cut_first, same_pair}
+use Rattle.texts.proofs.reading.next_line.Goals as goal
 
 pub returns-in-Some-read_line : goal.returns-in-Some-read_line
 returns-in-Some-read_line g c = record {

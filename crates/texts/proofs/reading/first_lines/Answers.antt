@@ -1,5 +1,5 @@
-use Rattle.text_lines.proofs.LineLemmas.{HaveLines-push, text_of-next}
-use Rattle.text_lines.proofs.reading.first_lines.Goals as goal
+use Rattle.texts.proofs.LineLemmas.{HaveLines-push, text_of-next}
+use Rattle.texts.proofs.reading.first_lines.Goals as goal
 
 pub lines-preserved : goal.lines-preserved
 lines-preserved g c =

@@ -1,6 +1,6 @@
 //! Laws of lines, for each kind.
 ghost use Rattle.std.specs.Prelude.{◌≡◌, ◌++◌, ◌∷◌, [], ℕ, List};
-ghost use Rattle.text_lines.specs.Forms.{AreFirst, line_of};
+ghost use Rattle.texts.specs.Forms.{AreFirst, line_of};
 
 use crate::line::Line;
 

@@ -1,7 +1,7 @@
 use Rattle.std.proofs.Common.{◌≡◌, ◌≤◌, ◌*◌, ◌+◌, take}
 use Rattle.arrayvec.specs.ArrayString.{array_string_len}
-use Rattle.fault_lines.specs.Lines.{numbered_line}
-use Rattle.fault_lines.proofs.lines.numbered.Given as goal
+use Rattle.plan_inputs.specs.Lines.{numbered_line}
+use Rattle.plan_inputs.proofs.lines.numbered.Given as goal
 
 abbrev pub invariant-loop-number : goal.invariant-loop-number
 invariant-loop-number l = record {

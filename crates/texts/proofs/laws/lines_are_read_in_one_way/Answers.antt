@@ -1,6 +1,6 @@
 use Rattle.std.proofs.Common.{[]}
-use Rattle.text_lines.proofs.LineLemmas.{same_lines, same_next, same_value}
-use Rattle.text_lines.proofs.laws.lines_are_read_in_one_way.Goals as goal
+use Rattle.texts.proofs.LineLemmas.{same_lines, same_next, same_value}
+use Rattle.texts.proofs.laws.lines_are_read_in_one_way.Goals as goal
 
 pub returns-clause-value : goal.returns-clause-value
 returns-clause-value g c = same_value g.L.Line.form g.met.L.Line.is_form

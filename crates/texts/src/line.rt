@@ -1,6 +1,6 @@
 //! Kinds of lines.
 ghost use Rattle.std.specs.Prelude.{◌≡◌, IfSome};
-ghost use Rattle.text_lines.specs.Forms.{Form, IsForm, IsLineOf};
+ghost use Rattle.texts.specs.Forms.{Form, IsForm, IsLineOf};
 
 /// A kind of line: a word, and numbers after it. Each value has exactly one.
 pub trait Line {

@@ -11,7 +11,7 @@ use Rattle.texts.specs.Fields.{AllFit, HasNoSpace, IsBorder, fields}
 use Rattle.texts.proofs.CutLemmas.{Lacks, Lacks-append, Lacks-decimal, cut_at-append}
 use Rattle.texts.proofs.FieldLemmas.{IsBorder-fields, IsLeft, IsNext}
 use Rattle.texts.proofs.Numbers.{HasNoSpace-decimal, is_space, position_or_len-space}
-use Rattle.text_lines.specs.Forms.{AreFirst, BeginsWithNone, Form, HaveLines, IsForm, IsLineOf, IsWord, line_of, text_of}
+use Rattle.texts.specs.Forms.{AreFirst, BeginsWithNone, Form, HaveLines, IsForm, IsLineOf, IsWord, line_of, text_of}
 
 -- Words and numbers
 
