@@ -3,6 +3,8 @@
 #
 #     hostile/run.sh [WORD]      (tries the cases alone whose label has the word, where one is given)
 #
+# The cases of a program run side by side, on each processor but one. HOSTILE_LANES says on how many.
+#
 # Each case is a command with its input. It is run again and again, for N = 1, 2 and so on until a run meets nothing:
 #
 # - the Nth growth of memory is refused, once, and then each one from the Nth on. The command has to write what it always
@@ -26,8 +28,8 @@ root=$(dirname -- "$here")
 word=${1:-}
 work=$(mktemp -d)
 trap 'rm -rf "$work"' EXIT
-runs=0
-wrong=0
+lanes=${HOSTILE_LANES:-$(($(nproc) > 1 ? $(nproc) - 1 : 1))}
+cases=0
 
 compiler=${CC:-cc}
 command -v "$compiler" > /dev/null || { echo "hostile/run.sh: there is no C compiler $compiler (Debian: gcc, libc6-dev)" >&2; exit 1; }
@@ -37,43 +39,57 @@ command -v "$compiler" > /dev/null || { echo "hostile/run.sh: there is no C comp
 "$root/qlock" make majority 3 > "$work/majority.toml"
 program=$root/build/qlock
 
+# begins a case, which has a folder of its own. It ends once `finish` has told how many runs it had, and how many were wrong
+begin() {
+    own=$work/cases/$1
+    mkdir -p "$own"
+    runs=0
+    wrong=0
+}
+
+# ends a case
+finish() {
+    printf '%-40s %6d runs\n' "$label" "$runs"
+    echo "$runs $wrong" > "$own/counts"
+}
+
 # runs the case with these settings, and keeps what it prints, its status, and whether it met anything; a run that does not end in half
 # a minute has status 124
 hostile() {
     status=0
-    timeout 30 env "$@" HOSTILE_MET="$work/met" LD_PRELOAD="$work/refuse.so" "$program" "${words[@]}" < "$input" > "$work/out" 2> "$work/err" || status=$?
+    timeout 30 env "$@" HOSTILE_MET="$own/met" LD_PRELOAD="$work/refuse.so" "$program" "${words[@]}" < "$input" > "$own/out" 2> "$own/err" || status=$?
     runs=$((runs + 1))
     met=
-    [ ! -s "$work/met" ] || met=1
+    [ ! -s "$own/met" ] || met=1
 }
 
 # prints a run that was wrong
 complain() {
     wrong=$((wrong + 1))
-    printf 'wrong: %s: %s: status %s, %s bytes written, %s\n' "$label" "$*" "$status" "$(wc -c < "$work/out")" "$(head -n 1 "$work/err")"
+    printf 'wrong: %s: %s: status %s, %s bytes written, %s\n' "$label" "$*" "$status" "$(wc -c < "$own/out")" "$(head -n 1 "$own/err")"
 }
 
 # whether the run wrote nothing, and ended by this line and status
 ended_by() {
-    [ "$status" -eq "$2" ] && [ ! -s "$work/out" ] && [ "$(cat "$work/err")" = "$1" ]
+    [ "$status" -eq "$2" ] && [ ! -s "$own/out" ] && [ "$(cat "$own/err")" = "$1" ]
 }
 
 # whether the run wrote what the command always writes; `run` writes some record of all passes that is accepted
 answered() {
-    [ "$status" -eq 0 ] && [ ! -s "$work/err" ] || return 1
+    [ "$status" -eq 0 ] && [ ! -s "$own/err" ] || return 1
     if [ -z "$passes" ]; then
-        cmp -s "$work/out" "$work/usual"
+        cmp -s "$own/out" "$own/usual"
     else
-        { cat "$input"; echo %%; cat "$work/out"; } | "$program" replay 2> /dev/null | grep -qx "register $passes"
+        { cat "$input"; echo %%; cat "$own/out"; } | "$program" replay 2> /dev/null | grep -qx "register $passes"
     fi
 }
 
 # whether what was written is a beginning of what the command always writes; of a record its first line has to be
 begun() {
     if [ -z "$passes" ]; then
-        cmp -s -n "$(wc -c < "$work/out")" "$work/out" "$work/usual"
+        cmp -s -n "$(wc -c < "$own/out")" "$own/out" "$own/usual"
     else
-        [ "$(head -c 15 "$work/out")" = "$(printf 'quorum-record 1' | head -c "$(wc -c < "$work/out")")" ]
+        [ "$(head -c 15 "$own/out")" = "$(printf 'quorum-record 1' | head -c "$(wc -c < "$own/out")")" ]
     fi
 }
 
@@ -85,14 +101,22 @@ spared() {
 # the line of a read that failed; behind -f it has the name of the file
 unread='I3 ReadFault'
 
-# tries all of a case: its label, how many passes its record has to have where it is `run`, its input, and its words
+# tries all of a case in a lane: its label, how many passes its record has to have where it is `run`, its input, and its words
 try() {
-    label=$1 passes=$2 input=$3
-    shift 3
+    case "$1" in *"$word"*) ;; *) return 0 ;; esac
+    while [ "$(jobs -rp | wc -l)" -ge "$lanes" ]; do wait -n || true; done
+    cases=$((cases + 1))
+    try_all "$cases" "$@" &
+}
+
+# tries all of a case: its number, and what `try` is given
+try_all() {
+    begin "$1"
+    label=$2 passes=$3 input=$4
+    shift 4
     words=("$@")
-    case "$label" in *"$word"*) ;; *) return 0 ;; esac
-    local before=$runs n setting
-    "$program" "${words[@]}" < "$input" > "$work/usual"
+    local n setting
+    "$program" "${words[@]}" < "$input" > "$own/usual"
     for setting in HOSTILE_ONCE=1 HOSTILE_FOR_GOOD=1; do
         n=1 met=1
         while [ -n "$met" ]; do
@@ -111,13 +135,13 @@ try() {
     while [ -n "$met" ]; do
         hostile HOSTILE_WRITE=$n HOSTILE_BYTES=1
         if [ -n "$met" ]; then
-            { [ "$status" -eq 3 ] && [ "$(cat "$work/err")" = 'I4 WriteFault' ] && begun; } || complain "write $n"
+            { [ "$status" -eq 3 ] && [ "$(cat "$own/err")" = 'I4 WriteFault' ] && begun; } || complain "write $n"
         else
             answered || complain "one byte a read and a write"
         fi
         n=$((n + 1))
     done
-    printf '%-40s %6d runs\n' "$label" $((runs - before))
+    finish
 }
 
 # a coterie, a line %%, and a plan of it
@@ -191,9 +215,12 @@ unread='I3 ReadFault'
 try 'show waiting' '' /dev/null waiting 5 2 --round 2
 try 'show explain E7' '' /dev/null explain E7
 
+# the members wait for each other, so their cases run one after the other
+wait
+
 # whether the member said this, and nothing else
 said() {
-    [ "$status" -eq 0 ] && [ ! -s "$work/err" ] && [ "$(cat "$work/out")" = "$1" ]
+    [ "$status" -eq 0 ] && [ ! -s "$own/err" ] && [ "$(cat "$own/out")" = "$1" ]
 }
 
 # builds the program of the members
@@ -206,32 +233,34 @@ build_members() {
 # lost, and each other line that it may print, after the number of runs that have to print it
 try_members() {
     label="members: $1" passes='' input=/dev/null words=("$1")
-    local usual=$2 before=$runs n=1
+    local usual=$2 n=1
     shift 2
     case "$label" in *"$word"*) ;; *) return 0 ;; esac
     build_members
-    : > "$work/others"
+    cases=$((cases + 1))
+    begin "$cases"
+    : > "$own/others"
     met=1
     while [ -n "$met" ]; do
         hostile HOSTILE_GROWTH=$n HOSTILE_ONCE=1
         if [ -z "$met" ]; then
             said "$usual" || complain "no growth refused"
         elif ! ended_by 'O1 OutOfMemory' 4 && ! said "$usual"; then
-            { [ "$status" -eq 0 ] && [ ! -s "$work/err" ]; } || complain "growth $n, once"
-            cat "$work/out" >> "$work/others"
+            { [ "$status" -eq 0 ] && [ ! -s "$own/err" ]; } || complain "growth $n, once"
+            cat "$own/out" >> "$own/others"
         fi
         n=$((n + 1))
     done
-    sort "$work/others" | uniq -c | sed 's/^ *//' > "$work/found"
-    printf '%s\n' "$@" | sort > "$work/wanted"
-    sort "$work/found" | cmp -s - "$work/wanted" || { complain "other runs end in other ways"; cat "$work/found"; }
+    sort "$own/others" | uniq -c | sed 's/^ *//' > "$own/found"
+    printf '%s\n' "$@" | sort > "$own/wanted"
+    sort "$own/found" | cmp -s - "$own/wanted" || { complain "other runs end in other ways"; cat "$own/found"; }
     n=1 met=1
     while [ -n "$met" ]; do
         hostile HOSTILE_GROWTH=$n HOSTILE_FOR_GOOD=1
         if [ -n "$met" ]; then ended_by 'O1 OutOfMemory' 4 || complain "growth $n, for good"; else said "$usual" || complain "no growth refused"; fi
         n=$((n + 1))
     done
-    printf '%-40s %6d runs\n' "$label" $((runs - before))
+    finish
 }
 
 # The logs of two voters and the mailbox grow for the member that asks first, and one log and the mailbox for the other one. With
@@ -256,5 +285,13 @@ try_members calls '2 passes, ask 0, pump 0, remind 0, leave 0, give_up 0, refuse
     '3 2 passes, ask 0, pump 0, remind 0, leave 0, give_up 1, refused 0' \
     '2 2 passes, ask 0, pump 0, remind 0, leave 0, give_up 0, refused 1'
 
+# a case without its counts did not come to its end
+runs=0 wrong=0 ended=0
+for counts in "$work"/cases/*/counts; do
+    [ -e "$counts" ] || continue
+    read -r more bad < "$counts"
+    runs=$((runs + more)) wrong=$((wrong + bad)) ended=$((ended + 1))
+done
+[ "$ended" -eq "$cases" ] || { echo "$((cases - ended)) cases did not come to their end"; wrong=$((wrong + 1)); }
 printf '%d runs, %d wrong\n' "$runs" "$wrong"
 [ "$wrong" -eq 0 ]
