@@ -27,7 +27,7 @@ fn push_sent(text: &mut String, number: usize, message: &Message) -> Result<(), 
     requires { HasLine message.now }
     ensures { OnOk result (string_bytes text.new ≡ string_bytes text.old ++ sent_line number message.now) }
 {
-    text.push_str("m")?;
+    text.push('m')?;
     push_field(text, number as u64)?;
     text.push(' ')?;
     push_message(text, message)?;
@@ -177,5 +177,6 @@ pub fn run_script(alloc: Global, plan: Plan, text: &[u8]) -> Result<String, Repl
         Ok(script) => script,
         Err(fault) => return Err(fault),
     };
-    output_of(alloc, plan, &script, text.len())
+    // a script of passes has an output of about twice its length
+    output_of(alloc, plan, &script, text.len().saturating_mul(2))
 }
