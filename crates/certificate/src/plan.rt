@@ -11,7 +11,7 @@ ghost use Rattle.certificate.specs.Ratios.{greatest_ratio};
 use crate::fault::PlanFault;
 use crate::loads::{busiest_count, capacity_total, lightest_quorum, total, weight_on};
 use crate::ratios::greatest_ratio;
-use divisor::gcd;
+use divisor::lowest_terms;
 use numbers::MAX_VOTERS;
 use quorum_set::{Coterie, are_unit};
 use std::alloc::{AllocError, Global};
@@ -248,8 +248,7 @@ impl Plan {
         ensures least { are_unit self.now.capacities ≡ true → (result ≡ unit_load self.now) × IsUnitOptimal self.now }
     {
         let denominator = self.ratio.1 * self.cycle_len;
-        let common = gcd(self.ratio.0, denominator);
-        (self.ratio.0 / common, denominator / common)
+        lowest_terms(self.ratio.0, denominator)
     }
 
     /// Returns the capacity of a voter, 1 to 1000. The voter's number has to be below the number of

@@ -3,7 +3,7 @@ ghost use Rattle.std.specs.Prelude.{◌≡◌, ◌<◌, length, slice_index};
 ghost use Rattle.quorum_set.specs.Capacities.{AreCapacities};
 ghost use Rattle.certificate.specs.Ratios.{greater_of, greatest_ratio};
 
-use divisor::gcd;
+use divisor::lowest_terms;
 
 /// Returns the greater of two fractions; the first if they are equal.
 fn greater_of(first: (u64, u64), second: (u64, u64)) -> (u64, u64)
@@ -28,6 +28,5 @@ pub fn greatest_ratio(counts: &[u64], capacities: &[u64]) -> (u64, u64)
     for (i, count) in counts.iter().enumerate() {
         ratio = greater_of(ratio, (*count, capacities[i]));
     }
-    let common = gcd(ratio.0, ratio.1);
-    (ratio.0 / common, ratio.1 / common)
+    lowest_terms(ratio.0, ratio.1)
 }

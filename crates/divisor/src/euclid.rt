@@ -1,7 +1,7 @@
 //! The greatest common divisor of two numbers.
-ghost use Rattle.std.specs.Prelude.{◌≡◌};
+ghost use Rattle.std.specs.Prelude.{◌≡◌, ◌<◌};
 ghost use Rattle.std.specs.Int.{IsGcd};
-ghost use Rattle.divisor.specs.Gcd.{gcd_of};
+ghost use Rattle.divisor.specs.Gcd.{gcd_of, lowest_terms};
 
 /// Returns the greatest common divisor of two numbers, by Euclid's algorithm. `gcd(x, 0)` is `x`,
 /// and `gcd(0, 0)` is 0.
@@ -18,4 +18,13 @@ pub fn gcd(a: u64, b: u64) -> u64
         less = rest;
     }
     greater
+}
+
+/// Returns a fraction in lowest terms: both numbers, divided by their greatest common divisor. A fraction
+/// whose numbers are both 0 stays as it is.
+pub fn lowest_terms(numerator: u64, denominator: u64) -> (u64, u64)
+    ensures { 0 < denominator → result ≡ lowest_terms numerator denominator }
+{
+    let common = gcd(numerator, denominator).max(1);
+    (numerator / common, denominator / common)
 }

@@ -1,4 +1,4 @@
-//! Greatest common divisors of numbers of 64 or 128 bits.
+//! Greatest common divisors of numbers of 64 or 128 bits, and fractions in lowest terms.
 //!
 //! Dividing two numbers by their greatest common divisor brings them to lowest terms. Plans give
 //! their loads in lowest terms, and the simplex method keeps its fractions in lowest terms where they
@@ -6,6 +6,7 @@
 //!
 //! ```text
 //! assert_eq!(rt; gcd(6, 10), 2);
+//! assert_eq!(rt; lowest_terms(6, 10), (3, 5));
 //! assert_eq!(rt; wide_gcd(6 << 100, 10 << 100), 2 << 100);
 //! ```
 #![tactic(auto)]
@@ -13,5 +14,5 @@
 mod euclid;
 mod wide;
 
-pub use euclid::gcd;
+pub use euclid::{gcd, lowest_terms};
 pub use wide::wide_gcd;

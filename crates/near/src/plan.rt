@@ -7,7 +7,7 @@ ghost use Rattle.near.specs.Nearness.{BearsBound, IsAtMost, IsBounded, IsNear, b
 
 use crate::sums::{Sums, sums_of};
 use crate::weights::{Weights, weights_for};
-use certificate::gcd;
+use certificate::lowest_terms;
 use quorum_set::Coterie;
 use std::alloc::{AllocError, Global};
 use std::marker::Model;
@@ -35,15 +35,6 @@ impl Model for NearPlan {
     ghost invariant = { λ n.
         IsNear (with_weights n.coterie n.capacities.items n.quorum_weights.items n.voter_weights.items)
         × AreSums (with_weights n.coterie n.capacities.items n.quorum_weights.items n.voter_weights.items) n.sums };
-}
-
-/// Returns a fraction in lowest terms.
-fn reduced(numerator: u64, denominator: u64) -> (u64, u64)
-    requires { 0 < denominator }
-    ensures { result ≡ lowest_terms numerator denominator }
-{
-    let common = gcd(numerator, denominator);
-    (numerator / common, denominator / common)
 }
 
 /// Returns the near plan of the weights that the simplex method finds.
@@ -131,7 +122,7 @@ impl NearPlan {
         // It is at least the bound.
         ensures above { IsAtMost (bound_of self.now) result }
     {
-        reduced(self.sums.ratio.0, self.sums.ratio.1 * self.sums.cycle_len)
+        lowest_terms(self.sums.ratio.0, self.sums.ratio.1 * self.sums.cycle_len)
     }
 
     /// Returns the bound, as a numerator and a denominator in lowest terms. No weights of the same
@@ -141,6 +132,6 @@ impl NearPlan {
         ensures near { IsNear self.now }
         ensures bounded { IsBounded self.now }
     {
-        reduced(self.sums.lightest_quorum, self.sums.capacity_total)
+        lowest_terms(self.sums.lightest_quorum, self.sums.capacity_total)
     }
 }

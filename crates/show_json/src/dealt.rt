@@ -2,7 +2,7 @@
 ghost use Rattle.std.specs.Prelude.{◌≤◌};
 
 use crate::parts::{Fraction, Ticket, fraction_of, line_of, ticket_of};
-use certificate::gcd;
+use certificate::lowest_terms;
 use coterie_file::Named;
 use dealer::{Account, Receipt};
 use even::Slack;
@@ -72,10 +72,9 @@ fn counts_of<'a>(
 /// Returns how even the even order is. The slack is in lowest terms.
 fn even_part(evenness: Evenness) -> EvenPart {
     let Slack { excess, unit } = evenness.slack;
-    let common = gcd(excess, unit).max(1);
     EvenPart {
         stride: evenness.stride,
-        slack: fraction_of((excess / common, unit / common)),
+        slack: fraction_of(lowest_terms(excess, unit)),
     }
 }
 

@@ -1,6 +1,6 @@
 //! The figures of a plan at a glance.
 
-use certificate::gcd;
+use certificate::lowest_terms;
 use coterie_file::Named;
 use even::Slack;
 use show_failures::Resilience;
@@ -58,8 +58,8 @@ fn push_failures(
 /// Appends how even the even order is.
 fn push_evenness(text: &mut String, slack: Slack) -> Result<(), AllocError> {
     text.push_str("<div><dt>Evenness</dt><dd><b>")?;
-    let common = gcd(slack.excess, slack.unit).max(1);
-    push_quotient(text, slack.excess / common, slack.unit / common)?;
+    let (excess, unit) = lowest_terms(slack.excess, slack.unit);
+    push_quotient(text, excess, unit)?;
     text.push_str(
         "</b>, the slack: in the even order any n requests in a row use no voter more often, for its capacity, than n times the load plus this</dd></div>\n",
     )
