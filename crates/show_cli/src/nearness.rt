@@ -10,15 +10,12 @@ use near::{NearPlan, near};
 use quorum_set::are_unit;
 use show_command_line::{Form, NearPage};
 use show_json::near_json;
-use show_words::{push_members, push_percent, push_quotient};
+use show_words::{parts_above, push_members, push_percent, push_quotient};
 use std::alloc::{AllocError, Global};
 
 /// Appends how far the load is above the bound at most, in percent, rounded up to thousandths.
 fn push_excess(text: &mut String, load: (u64, u64), bound: (u64, u64)) -> Result<(), AllocError> {
-    let least = u128::from(bound.0).saturating_mul(u128::from(load.1));
-    let own = u128::from(load.0).saturating_mul(u128::from(bound.1));
-    let parts = own.saturating_sub(least).saturating_mul(100_000);
-    let thousandths = parts.div_ceil(least.max(1));
+    let thousandths = parts_above(load, bound, 100_000);
     write!(text, "{}.{:03} %", thousandths / 1000, thousandths % 1000)
 }
 

@@ -2,7 +2,7 @@
 
 use crate::figures::{Comparison, Loads};
 use show_failures::Resilience;
-use show_words::{push_percent, push_tenths};
+use show_words::{parts_above, push_percent, push_tenths};
 use std::alloc::{AllocError, Global};
 
 /// Returns how many members the quorums have: a number, or the least and the greatest.
@@ -42,17 +42,6 @@ pub(crate) fn load_text(
     Ok(text)
 }
 
-/// Returns by how many hundredths of a percent a load is above its bound, rounded up. Beyond what
-/// fits into a number of 64 bits it is only roughly this.
-fn hundredths_above(loads: Loads) -> u64 {
-    let load = loads.load.0.saturating_mul(loads.bound.1);
-    let bound = loads.bound.0.saturating_mul(loads.load.1);
-    let unit = bound / 1_000_000_000 + 1;
-    let part = load.saturating_sub(bound) / unit;
-    let whole = (bound / unit).max(1);
-    (part.saturating_mul(10_000) / whole).saturating_add(1)
-}
-
 /// Returns a load as a fraction if it is the smallest possible one. Otherwise returns how far it is
 /// above, at most.
 pub(crate) fn exact_text(alloc: Global, loads: Loads) -> Result<String, AllocError> {
@@ -60,7 +49,7 @@ pub(crate) fn exact_text(alloc: Global, loads: Loads) -> Result<String, AllocErr
     if loads.load == loads.bound {
         return format!(in alloc; "{part}/{whole}");
     }
-    let hundredths = hundredths_above(loads);
+    let hundredths = parts_above(loads.load, loads.bound, 10_000);
     let ones = hundredths / 100;
     let rest = hundredths % 100;
     format!(in alloc; "at most {ones}.{rest:02} % above the smallest")

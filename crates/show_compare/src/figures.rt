@@ -7,13 +7,14 @@ ghost use Rattle.known_loads.specs.SmallestQuorums.{smallest_size};
 ghost use Rattle.show_failures.specs.Groups.{groups_of};
 ghost use Rattle.show_compare.specs.Comparisons.{AreLoads, IsLoss, largest_size};
 
-use crate::sizes::{largest_size, smallest_size};
+use crate::sizes::largest_size;
 use coterie_file::Named;
 use failures::coterie_without;
 use near::{near, no_load_is_below_the_bound};
 use planner::{PlannerFault, plan};
 use quorum_set::{Coterie, QSet, are_unit};
 use show_failures::{Resilience, groups_of, resilience_of};
+use show_words::smallest_size;
 use std::alloc::{AllocError, Global};
 
 /// The load of weights of a coterie, and a bound. Each is a numerator and a denominator in lowest

@@ -38,12 +38,13 @@ mod totals;
 mod voters;
 mod worlds;
 
+pub use bounds::smallest_size;
 pub use figures::{
     QuorumFigure, VoterFigure, WeightFigure, busy_part, quorum_figures, voter_figures,
     weight_figures,
 };
 pub use names::{name_of, push_members, push_names};
 pub use plans::{plan_words, push_quorum_members};
-pub use share::{push_percent, push_quotient, push_tenths, scaled};
+pub use share::{parts_above, push_percent, push_quotient, push_tenths, scaled};
 pub use totals::{PlanFigures, plan_figures};
 pub use worlds::{push_message_words, world_words};

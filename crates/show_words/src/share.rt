@@ -1,6 +1,6 @@
 //! Parts of a whole, in percent and as bars.
 ghost use Rattle.std.specs.Prelude.{◌≡◌, ◌<◌, ◌≤◌, ◌+◌, ◌*◌, ◌/◌, ◌^◌};
-ghost use Rattle.show_words.specs.Shares.{share_of, tenths_of};
+ghost use Rattle.show_words.specs.Shares.{parts_above, share_of, tenths_of};
 
 use std::alloc::AllocError;
 
@@ -73,6 +73,18 @@ pub fn push_quotient(text: &mut String, part: u64, whole: u64) -> Result<(), All
     push_fraction(text, part, whole)?;
     text.push_str(", about ")?;
     push_tenths(text, part, whole)
+}
+
+/// Returns by how many parts a load is above a bound, where `scale` parts are the bound, rounded up. Both
+/// are numerators and denominators. What doesn't fit into 128 bits counts as the greatest number that
+/// does, and a bound of 0 as the smallest one above.
+pub fn parts_above(load: (u64, u64), bound: (u64, u64), scale: u64) -> u128
+    ensures { result ≡ parts_above load bound scale }
+{
+    let least = u128::from(bound.0) * u128::from(load.1);
+    let own = u128::from(load.0) * u128::from(bound.1);
+    let parts = own.saturating_sub(least).saturating_mul(u128::from(scale));
+    parts.div_ceil(least.max(1))
 }
 
 /// Appends a bar for a part of a whole: of the whole it has 40 characters.

@@ -3,8 +3,11 @@ use Rattle.near.specs.Nearness.{IsNear}
 use Rattle.near.proofs.Bounds.{IsBounded-near, capacity_total-some}
 use Rattle.near.proofs.plan.NearPlan.bound.Goals as goal
 
-pub reduced-requires : goal.reduced-requires
-reduced-requires c = let own = c.self.invariant in omega (arith, own.1.capacity_total, capacity_total-some _ own.0)
+pub returns-clause-value : goal.returns-clause-value
+returns-clause-value c =
+    let own = c.self.invariant in
+    let is = c.lowest_terms.ensures (omega (arith, own.1.capacity_total, capacity_total-some _ own.0)) in
+    search rules
 
 pub returns-clause-bounded : goal.returns-clause-bounded
 returns-clause-bounded c = let near : IsNear c.args.self.now = search rules in IsBounded-near c.args.self.now near
