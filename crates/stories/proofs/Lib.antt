@@ -1,3 +1,4 @@
 pub mod GuardLemmas
 pub mod PlayLemmas
 pub mod Readings
+pub mod TurnLemmas

@@ -52,6 +52,11 @@ HasTurnLine (RebornVoter voter) = voter ≤ 255
 HasTurnLine (AnewClient client) = client ≤ 255
 HasTurnLine (Show client) = client ≤ 255
 
+-- the turn is no step of the world
+abbrev pub IsNoStep : Turn → Type 0
+IsNoStep (Makes step) = ⊥
+IsNoStep t = ⊤
+
 -- the line of a turn
 abbrev pub turn_form : Form Turn
 turn_form = record { word = turn_word; numbers = turn_numbers; fits = HasTurnLine }

@@ -5,11 +5,11 @@ ghost use Rattle.replay.specs.Scripts as scripts;
 ghost use Rattle.replay.specs.Scripts.{IsScript};
 ghost use Rattle.replay.specs.declared.fault.ReplayFault.TheVariants.{OutOfMemory};
 ghost use Rattle.stories.specs.Scripts.{IsBadText, IsTextOf, cut_lines, is_plain, kept, left_behind, place_of, without_notes};
-ghost use Rattle.stories.specs.Turns.{turn_form, turns_have_form};
+ghost use Rattle.stories.specs.Turns.{IsNoStep, turn_form, turns_have_form};
 ghost use Rattle.stories.specs.declared.turn.Turn.{Turn};
 
 use crate::turn::Turn;
-use replay::{ReplayFault, Script, read_script};
+use replay::{ReplayFault, Script, StepLine, read_script};
 use std::alloc::{AllocError, Global};
 use texts::{Line, cut_at};
 use world::Step;
@@ -41,9 +41,18 @@ fn turn_of(word: &[u8], number: u64) -> Option<Turn>
     ensures text { IfSome result (λ t. IsLineOf turn_form t word.now (number ∷ [])) }
     ensures read { (t : Turn) → IsLineOf turn_form t word.now (number ∷ []) → result ≡ Some t }
 {
-    if word == b"deliver".as_slice() {
-        return Some(Turn::Step(Step::Deliver(number)));
+    match StepLine::value_of(word, &[number]) {
+        Some(step) => Some(Turn::Step(step)),
+        None => other_turn_of(word, number),
     }
+}
+
+/// Returns the turn of a word and its number that is no step.
+fn other_turn_of(word: &[u8], number: u64) -> Option<Turn>
+    ensures text { IfSome result (λ t. IsLineOf turn_form t word.now (number ∷ [])) }
+    ensures read { (t : Turn) → IsNoStep t → IsLineOf turn_form t word.now (number ∷ [])
+        → result ≡ Some t }
+{
     let Ok(who) = u8::try_from(number) else {
         return None;
     };
@@ -53,22 +62,19 @@ fn turn_of(word: &[u8], number: u64) -> Option<Turn>
     if word == b"crash-voter".as_slice() {
         return Some(Turn::CrashVoter(who));
     }
+    if word == b"evict".as_slice() {
+        return Some(Turn::Evict(who));
+    }
     if word == b"reborn-voter".as_slice() {
         return Some(Turn::RebornVoter(who));
     }
     if word == b"anew-client".as_slice() {
         return Some(Turn::AnewClient(who));
     }
-    match word {
-        b"ask" => Some(Turn::Step(Step::Ask(who))),
-        b"leave" => Some(Turn::Step(Step::Leave(who))),
-        b"give-up" => Some(Turn::Step(Step::GiveUp(who))),
-        b"remind-client" => Some(Turn::Step(Step::RemindClient(who))),
-        b"remind-voter" => Some(Turn::Step(Step::RemindVoter(who))),
-        b"evict" => Some(Turn::Evict(who)),
-        b"show" => Some(Turn::Show(who)),
-        _ => None,
+    if word == b"show".as_slice() {
+        return Some(Turn::Show(who));
     }
+    None
 }
 
 /// Returns whether a line is no note: whether it is not empty and does not begin with `#`.
