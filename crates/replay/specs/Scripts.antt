@@ -156,7 +156,7 @@ step_by word n =
     if bytes_eq word (codes "remind-client") then Some (RemindClient n) else
     if bytes_eq word (codes "remind-voter") then Some (RemindVoter n) else None
 
-step_by-word : (s : Step) → HasStepLine s → step_by (step_word s) (step_number s) ≡ Some s
+pub step_by-word : (s : Step) → HasStepLine s → step_by (step_word s) (step_number s) ≡ Some s
 unfolding step_by
 step_by-word Exchange h = absurd h
 step_by-word s h = refl

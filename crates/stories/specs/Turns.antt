@@ -9,13 +9,13 @@
 --     show C               client C shows the guard the pass that it had when it was inside last
 --
 -- All other lines are those of a script. C and V are at most 255.
-use Rattle.std.specs.Prelude.{ℕ, ◌≡◌, ◌≤◌, List, [], ◌∷◌, codes, Option, Some, None, ⊤, if◌then◌else◌}
+use Rattle.std.specs.Prelude.{ℕ, ◌≡◌, ◌≤◌, List, [], ◌∷◌, codes, Option, Some, option_map, ⊤, if◌then◌else◌}
 use Rattle.std.specs.Str.{bytes_eq}
 use Rattle.std.proofs.Common.{ap, ap₂, sym, ◌∙◌, refl, get_or, length, arith, rules}
 use Rattle.texts.specs.Fields.{AllFit}
 use Rattle.texts.specs.Forms.{Form, IsForm, IsWord}
-use Rattle.world_state.specs.declared.step.Step.TheVariants.{Ask, Deliver, Leave, GiveUp, RemindClient, RemindVoter, Exchange}
-use Rattle.replay.specs.Scripts.{HasStepLine, step_number, step_word}
+use Rattle.world_state.specs.declared.step.Step.TheVariants.{Ask, Deliver, Exchange}
+use Rattle.replay.specs.Scripts.{HasStepLine, step_by, step_by-word, step_number, step_word}
 use Rattle.stories.specs.declared.turn.Turn.{Turn}
 use Rattle.stories.specs.declared.turn.Turn.TheVariants.{CrashClient, CrashVoter, Evict, RebornVoter, AnewClient, Show, Step as Makes}
 
@@ -67,22 +67,18 @@ turn_form = record { word = turn_word; numbers = turn_numbers; fits = HasTurnLin
 turn_by : List ℕ → ℕ → Option Turn
 turn_by word n =
     if bytes_eq word (codes "exchange") then Some (Makes Exchange) else
-    if bytes_eq word (codes "ask") then Some (Makes (Ask n)) else
-    if bytes_eq word (codes "deliver") then Some (Makes (Deliver n)) else
-    if bytes_eq word (codes "leave") then Some (Makes (Leave n)) else
-    if bytes_eq word (codes "give-up") then Some (Makes (GiveUp n)) else
-    if bytes_eq word (codes "remind-client") then Some (Makes (RemindClient n)) else
-    if bytes_eq word (codes "remind-voter") then Some (Makes (RemindVoter n)) else
     if bytes_eq word (codes "crash-client") then Some (CrashClient n) else
     if bytes_eq word (codes "crash-voter") then Some (CrashVoter n) else
     if bytes_eq word (codes "evict") then Some (Evict n) else
     if bytes_eq word (codes "reborn-voter") then Some (RebornVoter n) else
     if bytes_eq word (codes "anew-client") then Some (AnewClient n) else
-    if bytes_eq word (codes "show") then Some (Show n) else None
+    if bytes_eq word (codes "show") then Some (Show n) else option_map Makes (step_by word n)
 
 turn_by-word : (t : Turn) → HasTurnLine t → turn_by (turn_word t) (get_or (turn_numbers t) 0 0) ≡ Some t
 unfolding turn_by
-turn_by-word (Makes (Ask c)) h = refl
+turn_by-word (Makes Exchange) h = refl
+turn_by-word (Makes (Ask c)) h = ap (option_map Makes) (step_by-word (Ask c) h)
+turn_by-word (Makes s) h = ap (option_map Makes) (step_by-word s h)
 turn_by-word t h = refl
 
 turn_words : (t : Turn) → HasTurnLine t → IsWord (turn_word t)
