@@ -1,2 +1,1 @@
-pub mod ParserLemmas
 pub mod WordLemmas

@@ -73,19 +73,11 @@ required_subcommand a = record a { top = record a.top { subcommand_required = tr
 abbrev pub with_version : App → App
 with_version a = record a { top = record a.top { has_version = true } }
 
--- qlock with `make`, `plan` and `check`
-abbrev pub planning_app : App
-planning_app =
-    with_subcommands (required_subcommand (with_version (new_app (codes "qlock"))))
-    (make_app ∷ new_app (codes "plan") ∷ new_app (codes "check") ∷ [])
-
--- and with `deal`, `world` and `run`
-abbrev pub running_app : App
-running_app = with_subcommands planning_app (deal_app ∷ new_app (codes "world") ∷ run_app ∷ [])
-
--- and with `replay`: the whole command line
+-- qlock with its subcommands: the whole command line
 abbrev pub qlock_app : App
-qlock_app = with_subcommands running_app (new_app (codes "replay") ∷ [])
+qlock_app =
+    with_subcommands (required_subcommand (with_version (new_app (codes "qlock"))))
+    (make_app ∷ new_app (codes "plan") ∷ new_app (codes "check") ∷ deal_app ∷ new_app (codes "world") ∷ run_app ∷ new_app (codes "replay") ∷ [])
 
 -- the text reads as the number n, of 32 bits
 abbrev pub IsNumber : List ℕ → ℕ → Type 0

@@ -1,11 +1,11 @@
 //! Subcommands and arguments as both programs declare them.
-ghost use Rattle.std.specs.Prelude.{◌≡◌, false};
-ghost use Rattle.clap.specs.Words.{app_of, new_app, rule_of};
-ghost use Rattle.command_line.specs.Words.{IsLocal, number_rule, tickets_rule, word_rule};
+ghost use Rattle.std.specs.Prelude.{◌≡◌, false, IfOk};
+ghost use Rattle.clap.specs.Words.{App, Rule, app_of, new_app, rule_of, with_rule, with_subcommand};
+ghost use Rattle.command_line.specs.Words.{IsLocal, number_rule, required_subcommand, tickets_rule, with_version, word_rule};
 
 use clap::Arg;
 use clap::builder::ValueParser;
-use std::alloc::Global;
+use std::alloc::{AllocError, Global};
 
 /// The greatest number of tickets that one call deals.
 pub(crate) const MOST_TICKETS: u64 = 100_000;
@@ -52,4 +52,45 @@ pub fn tickets_argument<'a>(alloc: Global) -> Arg<'a>
         0,
         MOST_TICKETS,
     )
+}
+
+/// Returns a subcommand with one more argument. Fails if memory runs out, or if it ran out as the
+/// subcommand was made.
+pub fn with_argument<'a>(
+    command: Result<clap::Command<'a>, AllocError>,
+    arg: Arg<'a>,
+) -> Result<clap::Command<'a>, AllocError>
+    ensures app { (app : App) (rule : Rule) → IfOk command.entry (λ c. app_of c ≡ app)
+        → rule_of arg.entry ≡ rule → arg.entry.global ≡ false
+        → IfOk result (λ c. app_of c ≡ with_rule app rule) }
+    ensures local { IfOk command.entry IsLocal → arg.entry.global ≡ false → IfOk result IsLocal }
+{
+    command?.arg(arg)
+}
+
+/// Returns a command line with one more subcommand. Fails if memory runs out, or if it ran out as
+/// one of the two was made.
+pub fn with_command<'a>(
+    parser: Result<clap::Command<'a>, AllocError>,
+    added: Result<clap::Command<'a>, AllocError>,
+) -> Result<clap::Command<'a>, AllocError>
+    ensures { (app more : App) → IfOk parser.entry (λ c. app_of c ≡ app)
+        → IfOk added.entry (λ c. app_of c ≡ more) → IfOk added.entry IsLocal
+        → IfOk result (λ c. app_of c ≡ with_subcommand app more.top) }
+{
+    parser?.subcommand(added?)
+}
+
+/// Returns a command line that has a version and needs a subcommand, but has none yet.
+pub fn without_commands<'a>(
+    alloc: Global,
+    name: &'a str,
+    about: &'a str,
+    version: &'a str,
+) -> clap::Command<'a>
+    ensures { app_of result ≡ required_subcommand (with_version (new_app name.now)) }
+{
+    bare_command(alloc, name, about)
+        .version(version)
+        .subcommand_required(true)
 }

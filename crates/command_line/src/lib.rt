@@ -26,7 +26,10 @@ mod usage;
 mod values;
 mod words;
 
-pub use arguments::{bare_command, number_argument, tickets_argument, word_argument};
+pub use arguments::{
+    bare_command, number_argument, tickets_argument, with_argument, with_command, without_commands,
+    word_argument,
+};
 pub use command::{Command, Shape};
 pub use usage::Usage;
 pub use values::{number_of, read_matches, text_at, text_of, texts_of, tickets_of, used_in};

@@ -2,9 +2,12 @@
 ghost use Rattle.std.specs.Prelude.{◌≡◌, ◌≢◌, ◌≤◌, ℕ, List, [], false, IfErr, IfOk, IfSome, None, codes, map, string_bytes};
 ghost use Rattle.clap.specs.Words.{app_of, found_of, rows_of, rule_of, subcommand_rows_of};
 ghost use Rattle.command_line.specs.declared.command.Shape.{Shape};
-ghost use Rattle.command_line.specs.Words.{AreSizes, IsLocal, IsNamedBy, IsNumber, IsShapeOf, Names, Refuses, RefusesUse, deal_app, make_app, planning_app, qlock_app, run_app, running_app, size_texts, sizes_rule, used_as};
+ghost use Rattle.command_line.specs.Words.{AreSizes, IsLocal, IsNamedBy, IsNumber, IsShapeOf, Names, Refuses, RefusesUse, deal_app, make_app, qlock_app, run_app, size_texts, sizes_rule, used_as};
 
-use crate::arguments::{bare_command, number_argument, tickets_argument, word_argument};
+use crate::arguments::{
+    bare_command, number_argument, tickets_argument, with_argument, with_command, without_commands,
+    word_argument,
+};
 use crate::command::{Command, Shape};
 use crate::usage::Usage;
 use crate::values::{number_of, read_matches, text_at, text_of, texts_of, tickets_of, used_in};
@@ -45,17 +48,18 @@ fn make_command<'a>(alloc: Global) -> Result<clap::Command<'a>, AllocError>
     ensures app { IfOk result (λ c. app_of c ≡ make_app) }
     ensures local { IfOk result IsLocal }
 {
-    bare_command(
+    let command = bare_command(
         alloc,
         "make",
         "Write a coterie of a known shape; standard input is not read",
-    )
-    .arg(word_argument(
+    );
+    let shape = word_argument(
         alloc,
         "SHAPE",
         "grid ROWS COLUMNS, majority VOTERS, tree HEIGHT, wheel RIMS or cyclic VOTERS BASE..",
-    ))?
-    .arg(sizes_argument(alloc))
+    );
+    let command = with_argument(Ok(command), shape);
+    with_argument(command, sizes_argument(alloc))
 }
 
 /// Returns the subcommand `deal N`.
@@ -76,80 +80,70 @@ fn run_command<'a>(alloc: Global) -> Result<clap::Command<'a>, AllocError>
     ensures app { IfOk result (λ c. app_of c ≡ run_app) }
     ensures local { IfOk result IsLocal }
 {
-    let arguments = vec![in alloc;
-        number_argument(
-            alloc,
-            "CLIENTS",
-            "How many clients there are, 1 to 64",
-            1,
-            MOST_CLIENTS,
-        ),
-        number_argument(
-            alloc,
-            "PASSES",
-            "How often each client passes, 0 to 1000",
-            0,
-            MOST_PASSES,
-        ),
-        number_argument(
-            alloc,
-            "TURNS",
-            "How many turns each client has for all its passes, 0 to 1000000000000",
-            0,
-            MOST_TURNS,
-        ),
-    ]?;
-    bare_command(
+    let command = bare_command(
         alloc,
         "run",
         "Run clients in threads, and write their record: standard input has the coterie, a line %%, and the plan",
-    )
-    .args(arguments)
-}
-
-/// Returns the command line with `make`, `plan` and `check`.
-fn planning_command<'a>(alloc: Global) -> Result<clap::Command<'a>, AllocError>
-    ensures { IfOk result (λ c. app_of c ≡ planning_app) }
-{
-    bare_command(
+    );
+    let clients = number_argument(
         alloc,
-        "qlock",
-        "Plan quorums whose busiest voter is as idle as possible, and run the lock that they guard",
-    )
-    .version(VERSION)
-    .subcommand_required(true)
-    .subcommand(make_command(alloc)?)?
-    .subcommand(bare_command(alloc, "plan", "Find a plan: standard input has a coterie"))?
-    .subcommand(bare_command(
+        "CLIENTS",
+        "How many clients there are, 1 to 64",
+        1,
+        MOST_CLIENTS,
+    );
+    let passes = number_argument(
         alloc,
-        "check",
-        "Check a plan: standard input has the coterie, a line %%, and the plan",
-    ))
-}
-
-/// Returns the command line with these, and with `deal`, `world` and `run`.
-fn running_command<'a>(alloc: Global) -> Result<clap::Command<'a>, AllocError>
-    ensures { IfOk result (λ c. app_of c ≡ running_app) }
-{
-    planning_command(alloc)?
-        .subcommand(deal_command(alloc)?)?
-        .subcommand(bare_command(
-            alloc,
-            "world",
-            "Run a script of clients and voters: standard input has the coterie, a line %%, the plan, a line %%, and the script",
-        ))?
-        .subcommand(run_command(alloc)?)
+        "PASSES",
+        "How often each client passes, 0 to 1000",
+        0,
+        MOST_PASSES,
+    );
+    let turns = number_argument(
+        alloc,
+        "TURNS",
+        "How many turns each client has for all its passes, 0 to 1000000000000",
+        0,
+        MOST_TURNS,
+    );
+    let command = with_argument(Ok(command), clients);
+    let command = with_argument(command, passes);
+    with_argument(command, turns)
 }
 
 /// Returns the whole command line.
 fn qlock_command<'a>(alloc: Global) -> Result<clap::Command<'a>, AllocError>
     ensures { IfOk result (λ c. app_of c ≡ qlock_app) }
 {
-    running_command(alloc)?.subcommand(bare_command(
+    let parser = without_commands(
+        alloc,
+        "qlock",
+        "Plan quorums whose busiest voter is as idle as possible, and run the lock that they guard",
+        VERSION,
+    );
+    let plan = bare_command(alloc, "plan", "Find a plan: standard input has a coterie");
+    let check = bare_command(
+        alloc,
+        "check",
+        "Check a plan: standard input has the coterie, a line %%, and the plan",
+    );
+    let world = bare_command(
+        alloc,
+        "world",
+        "Run a script of clients and voters: standard input has the coterie, a line %%, the plan, a line %%, and the script",
+    );
+    let replay = bare_command(
         alloc,
         "replay",
         "Check the record of a run: standard input has the coterie, a line %%, the plan, a line %%, and the record",
-    ))
+    );
+    let parser = with_command(Ok(parser), make_command(alloc));
+    let parser = with_command(parser, Ok(plan));
+    let parser = with_command(parser, Ok(check));
+    let parser = with_command(parser, deal_command(alloc));
+    let parser = with_command(parser, Ok(world));
+    let parser = with_command(parser, run_command(alloc));
+    with_command(parser, Ok(replay))
 }
 
 /// Returns the size that a text is, or `None` if it is not a number or too large.

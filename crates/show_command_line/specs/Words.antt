@@ -112,32 +112,24 @@ capacity_rule =
 abbrev pub coterie_app : App
 coterie_app = with_rules (new_app (codes "coterie")) (word_rule (codes "SHAPE") ∷ sizes_rule ∷ capacity_rule ∷ [])
 
--- qlock-show with `plan`, `deal` and `world`
+-- qlock-show with `plan`, `deal`, `world` and `report`
 abbrev pub pages_app : App
 pages_app =
     with_subcommands (required_subcommand (with_version (new_app (codes "qlock-show"))))
-    (plan_app ∷ tickets_app ∷ new_app (codes "world") ∷ [])
-
--- and with `report`
-abbrev pub reports_app : App
-reports_app = with_subcommands pages_app (new_app (codes "report") ∷ [])
+    (plan_app ∷ tickets_app ∷ new_app (codes "world") ∷ new_app (codes "report") ∷ [])
 
 -- and with `without`, `resilience` and `bridge`
 abbrev pub coteries_app : App
 coteries_app =
-    with_subcommands reports_app (without_app ∷ resilience_app ∷ new_app (codes "bridge") ∷ [])
+    with_subcommands pages_app (without_app ∷ resilience_app ∷ new_app (codes "bridge") ∷ [])
 
--- and with `near`, `compare` and `coterie`
+-- and with `near`, `compare`, `coterie` and `waiting`
 abbrev pub planners_app : App
-planners_app = with_subcommands coteries_app (near_app ∷ compare_app ∷ coterie_app ∷ [])
-
--- and with `waiting`
-abbrev pub waits_app : App
-waits_app = with_subcommands planners_app (waiting_app ∷ [])
+planners_app = with_subcommands coteries_app (near_app ∷ compare_app ∷ coterie_app ∷ waiting_app ∷ [])
 
 -- and with `explain`, `fault` and `picture`: the whole command line
 abbrev pub show_app : App
-show_app = with_subcommands waits_app (explain_app ∷ fault_app ∷ picture_app ∷ [])
+show_app = with_subcommands planners_app (explain_app ∷ fault_app ∷ picture_app ∷ [])
 
 -- Which command words name.
 

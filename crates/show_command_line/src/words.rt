@@ -6,14 +6,15 @@ ghost use Rattle.command_line.specs.Words.{IsLocal, used_as};
 ghost use Rattle.command_line.specs.declared.usage.Usage.TheVariants.{Arguments, OutOfMemory};
 ghost use Rattle.show_command_line.specs.Commands.{IsShown};
 ghost use Rattle.show_command_line.specs.declared.command.Picture.{Picture};
-ghost use Rattle.show_command_line.specs.Words.{HasFlag, HasTexts, IsForm, MayHaveCapacities, capacity_rule, coterie_app, planners_app, IsNamedBy, IsTicketForm, MayHaveNumber, Names, Refuses, RefusesUse, compare_app, coteries_app, explain_app, fault_app, files_rule, flag_rule, near_app, near_deal_rule, optional_rule, pages_app, plan_app, picture_app, picture_word, qlock_words, reports_app, resilience_app, round_rule, show_app, tickets_app, waiting_app, waits_app, without_app, words_rule};
+ghost use Rattle.show_command_line.specs.Words.{HasFlag, HasTexts, IsForm, MayHaveCapacities, capacity_rule, coterie_app, planners_app, IsNamedBy, IsTicketForm, MayHaveNumber, Names, Refuses, RefusesUse, compare_app, coteries_app, explain_app, fault_app, files_rule, flag_rule, near_app, near_deal_rule, optional_rule, pages_app, plan_app, picture_app, picture_word, qlock_words, resilience_app, round_rule, show_app, tickets_app, waiting_app, without_app, words_rule};
 
 use crate::command::{Dealing, Form, NearPage, Picture, ShowCommand, TicketForm};
 use clap::builder::ValueParser;
 use clap::{Arg, ArgAction, ArgMatches};
 use command_line::{
     VERSION, bare_command, number_argument, number_of, read_matches, sizes_argument, sizes_given,
-    text_at, text_of, texts_of, tickets_argument, tickets_of, used_in, word_argument,
+    text_at, text_of, texts_of, tickets_argument, tickets_of, used_in, with_argument, with_command,
+    without_commands, word_argument,
 };
 use commands::{Command, Usage, read_words};
 use numbers::MAX_CLIENTS;
@@ -85,23 +86,25 @@ fn deal_command<'a>(alloc: Global) -> Result<clap::Command<'a>, AllocError>
     ensures app { IfOk result (λ c. app_of c ≡ tickets_app) }
     ensures local { IfOk result IsLocal }
 {
-    bare_command(
+    let command = bare_command(
         alloc,
         "deal",
         "Deal tickets with the names of the voters to ask: a coterie, a line %%, and a plan",
-    )
-    .arg(tickets_argument(alloc))?
-    .arg(flag_argument(
+    );
+    let even = flag_argument(
         alloc,
         "even",
         "Deal in the order that is even from the first ticket",
-    ))?
-    .arg(flag_argument(
+    );
+    let names = flag_argument(
         alloc,
         "names",
         "Write the names of the voters to ask alone, a line for each ticket",
-    ))?
-    .arg(json_argument(alloc))
+    );
+    let command = with_argument(Ok(command), tickets_argument(alloc));
+    let command = with_argument(command, even);
+    let command = with_argument(command, names);
+    with_argument(command, json_argument(alloc))
 }
 
 /// Returns the subcommand `without NAMES..`.
@@ -148,13 +151,13 @@ fn compare_command<'a>(alloc: Global) -> Result<clap::Command<'a>, AllocError>
     ensures app { IfOk result (λ c. app_of c ≡ compare_app) }
     ensures local { IfOk result IsLocal }
 {
-    bare_command(
+    let command = bare_command(
         alloc,
         "compare",
         "Show the coteries in these files side by side: sizes, loads, failures borne, and loads without each group of voters",
-    )
-    .arg(files_argument(alloc))?
-    .arg(json_argument(alloc))
+    );
+    let command = with_argument(Ok(command), files_argument(alloc));
+    with_argument(command, json_argument(alloc))
 }
 
 /// Returns an argument that may be left out: a number from `least` to `most`.
@@ -192,13 +195,13 @@ fn near_command<'a>(alloc: Global) -> Result<clap::Command<'a>, AllocError>
     ensures app { IfOk result (λ c. app_of c ≡ near_app) }
     ensures local { IfOk result IsLocal }
 {
-    bare_command(
+    let command = bare_command(
         alloc,
         "near",
         "Find weights near the best where qlock plan finds no plan, with a bound below which no plan's load is: a coterie",
-    )
-    .arg(near_deal_argument(alloc))?
-    .arg(json_argument(alloc))
+    );
+    let command = with_argument(Ok(command), near_deal_argument(alloc));
+    with_argument(command, json_argument(alloc))
 }
 
 /// Returns the option `--capacity NUMBERS..` of `coterie`.
@@ -219,18 +222,19 @@ fn coterie_command<'a>(alloc: Global) -> Result<clap::Command<'a>, AllocError>
     ensures app { IfOk result (λ c. app_of c ≡ coterie_app) }
     ensures local { IfOk result IsLocal }
 {
-    bare_command(
+    let command = bare_command(
         alloc,
         "coterie",
         "Write a coterie of racks, centres or votes, for qlock plan; standard input is not read",
-    )
-    .arg(word_argument(
+    );
+    let shape = word_argument(
         alloc,
         "SHAPE",
         "racks RACKS VOTERS, centres VOTERS.., votes VOTES.. or any SIZE VOTERS",
-    ))?
-    .arg(sizes_argument(alloc))?
-    .arg(capacity_argument(alloc))
+    );
+    let command = with_argument(Ok(command), shape);
+    let command = with_argument(command, sizes_argument(alloc));
+    with_argument(command, capacity_argument(alloc))
 }
 
 /// Returns the option `--round SECONDS`.
@@ -254,26 +258,28 @@ fn waiting_command<'a>(alloc: Global) -> Result<clap::Command<'a>, AllocError>
     ensures app { IfOk result (λ c. app_of c ≡ waiting_app) }
     ensures local { IfOk result IsLocal }
 {
-    bare_command(
+    let command = bare_command(
         alloc,
         "waiting",
         "Show how long a client waits at most until it is inside, in fair rounds; standard input is not read",
-    )
-    .arg(number_argument(
+    );
+    let clients = number_argument(
         alloc,
         "CLIENTS",
         "How many clients there are, 1 to 64",
         1,
         MOST_CLIENTS,
-    ))?
-    .arg(optional_argument(
+    );
+    let withdrawals = optional_argument(
         alloc,
         "WITHDRAWALS",
         "How many others give up while one waits, 0 to 1000000; 0 if it is left out",
         0,
         MOST_WITHDRAWALS,
-    ))?
-    .arg(round_argument(alloc))
+    );
+    let command = with_argument(Ok(command), clients);
+    let command = with_argument(command, withdrawals);
+    with_argument(command, round_argument(alloc))
 }
 
 /// Returns the subcommand `explain CODE`, of which the code may be left out.
@@ -321,76 +327,63 @@ fn picture_command<'a>(alloc: Global) -> Result<clap::Command<'a>, AllocError>
     ))
 }
 
-/// Returns the command line with `plan`, `deal` and `world`.
+/// Returns the command line with `plan`, `deal`, `world` and `report`.
 fn pages_command<'a>(alloc: Global) -> Result<clap::Command<'a>, AllocError>
     ensures { IfOk result (λ c. app_of c ≡ pages_app) }
 {
-    bare_command(
+    let parser = without_commands(
         alloc,
         "qlock-show",
         "Show plans, coteries, faults and scripts of qlock, with names, in words and as pictures",
-    )
-    .version(VERSION)
-    .subcommand_required(true)
-    .subcommand(plan_command(alloc)?)?
-    .subcommand(deal_command(alloc)?)?
-    .subcommand(bare_command(
+        VERSION,
+    );
+    let world = bare_command(
         alloc,
         "world",
         "Tell a script in words: a coterie, a line %%, a plan, a line %%, and a script, or for an exchange two coteries with their plans and a script",
-    ))
-}
-
-/// Returns the command line with `report` too.
-fn reports_command<'a>(alloc: Global) -> Result<clap::Command<'a>, AllocError>
-    ensures { IfOk result (λ c. app_of c ≡ reports_app) }
-{
-    pages_command(alloc)?.subcommand(bare_command(
+    );
+    let report = bare_command(
         alloc,
         "report",
         "Report on a plan as one HTML page: load, quorums, failures borne, evenness, certificate: a coterie, a line %%, and a plan",
-    ))
+    );
+    let parser = with_command(Ok(parser), plan_command(alloc));
+    let parser = with_command(parser, deal_command(alloc));
+    let parser = with_command(parser, Ok(world));
+    with_command(parser, Ok(report))
 }
 
 /// Returns the command line with `without`, `resilience` and `bridge` too.
 fn coteries_command<'a>(alloc: Global) -> Result<clap::Command<'a>, AllocError>
     ensures { IfOk result (λ c. app_of c ≡ coteries_app) }
 {
-    reports_command(alloc)?
-        .subcommand(without_command(alloc)?)?
-        .subcommand(resilience_command(alloc)?)?
-        .subcommand(bare_command(
-            alloc,
-            "bridge",
-            "Show whether each quorum of one coterie meets each of another: a coterie, a line %%, and a coterie",
-        ))
+    let bridge = bare_command(
+        alloc,
+        "bridge",
+        "Show whether each quorum of one coterie meets each of another: a coterie, a line %%, and a coterie",
+    );
+    let parser = with_command(pages_command(alloc), without_command(alloc));
+    let parser = with_command(parser, resilience_command(alloc));
+    with_command(parser, Ok(bridge))
 }
 
-/// Returns the command line with `near`, `compare` and `coterie` too.
+/// Returns the command line with `near`, `compare`, `coterie` and `waiting` too.
 fn planners_command<'a>(alloc: Global) -> Result<clap::Command<'a>, AllocError>
     ensures { IfOk result (λ c. app_of c ≡ planners_app) }
 {
-    coteries_command(alloc)?
-        .subcommand(near_command(alloc)?)?
-        .subcommand(compare_command(alloc)?)?
-        .subcommand(coterie_command(alloc)?)
-}
-
-/// Returns the command line with `waiting` too.
-fn waits_command<'a>(alloc: Global) -> Result<clap::Command<'a>, AllocError>
-    ensures { IfOk result (λ c. app_of c ≡ waits_app) }
-{
-    planners_command(alloc)?.subcommand(waiting_command(alloc)?)
+    let parser = with_command(coteries_command(alloc), near_command(alloc));
+    let parser = with_command(parser, compare_command(alloc));
+    let parser = with_command(parser, coterie_command(alloc));
+    with_command(parser, waiting_command(alloc))
 }
 
 /// Returns the whole command line.
 fn show_command<'a>(alloc: Global) -> Result<clap::Command<'a>, AllocError>
     ensures { IfOk result (λ c. app_of c ≡ show_app) }
 {
-    waits_command(alloc)?
-        .subcommand(explain_command(alloc)?)?
-        .subcommand(fault_command(alloc)?)?
-        .subcommand(picture_command(alloc)?)
+    let parser = with_command(planners_command(alloc), explain_command(alloc));
+    let parser = with_command(parser, fault_command(alloc));
+    with_command(parser, picture_command(alloc))
 }
 
 /// Returns whether a flag with this value is there.
