@@ -1,6 +1,6 @@
 //! Coteries and plans whose voters have capacities.
-use crate::samples::{FAST_HUB, FAST_HUB_PLAN, WHEEL_PLAN};
-use crate::served::{Row, first_wrong};
+use test_served::samples::{FAST_HUB, FAST_HUB_PLAN, WHEEL_PLAN};
+use test_served::{Row, first_wrong};
 
 /// The wheel with three rims, and a third key.
 macro_rules! wheel {

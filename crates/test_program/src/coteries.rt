@@ -1,12 +1,12 @@
 //! Coteries that are made and read again, and coteries that are refused.
 use crate::plan;
-use crate::samples::{WHEEL, WHEEL_PLAN};
-use crate::served::{Row, answer, answer_planned, coterie_of_letters, first_wrong};
 use coterie_file::{read_coterie, write_coterie};
 use std::alloc::{AllocError, Global};
 use std::sync::Wait;
 use std::thread::Threads;
 use std::time::Clock;
+use test_served::samples::{WHEEL, WHEEL_PLAN};
+use test_served::{Row, answer, answer_planned, coterie_of_letters, first_wrong};
 
 /// Shapes that `make` refuses.
 const REFUSED: [Row; 7] = [

@@ -1,6 +1,6 @@
 //! Tickets that are dealt.
-use crate::samples::{LONGER_PLAN, WHEEL, WHEEL_PLAN};
-use crate::served::{Row, first_wrong};
+use test_served::samples::{LONGER_PLAN, WHEEL, WHEEL_PLAN};
+use test_served::{Row, first_wrong};
 
 const DEALT: [Row; 4] = [
     (

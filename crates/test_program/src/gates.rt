@@ -1,6 +1,4 @@
 //! Gates that hold up the clients of a run.
-use crate::samples::{MAJORITY, MAJORITY_PLAN};
-use crate::served::{answer_at, joined};
 use qlock_cli::Gate;
 use std::alloc::{AllocError, Global};
 use std::sync::Wait;
@@ -8,6 +6,8 @@ use std::sync::atomic::{AtomicU64, Ordering};
 use std::thread::Threads;
 use std::time::Clock;
 use test_gate::Meeting;
+use test_served::samples::{MAJORITY, MAJORITY_PLAN};
+use test_served::{answer_at, joined};
 
 /// How often a gate was called at one place for each of two clients.
 #[derive(Drop)]

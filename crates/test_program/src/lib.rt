@@ -4,14 +4,10 @@
 //!   `running`.
 //! - `capacities` has the commands for voters with capacities.
 //! - `gates` holds up clients.
-//! - `limits` has the commands at the greatest sizes that they take.
-//! - `devices` has each read and each write fail, for the commands of `tables`, and `prefixes` cuts
-//!   texts short.
+//! - `limits` has the commands at the greatest sizes that they take, and `prefixes` cuts texts short.
 //!
-//! - `served` runs a command line, and compares what it writes with the rows of a table.
-//! - `samples` has coteries, plans, scripts and records that the tests share.
-//!
-//! Depends on `qlock_cli`, on `cluster`, on `coterie_file` and on `test_gate`. The line of every fault is in `test_faults`.
+//! Depends on `test_served`, which runs a command line, on `qlock_cli`, `coterie_file` and `test_gate`.
+//! Devices that fail are in `test_devices`, and the line of every fault is in `test_faults`.
 #![tactic(auto)]
 
 /// The text of a plan: its load, its cycle, the quorums' weights and the voters' weights.
@@ -39,8 +35,6 @@ mod coteries;
 #[cfg(test)]
 mod dealing;
 #[cfg(test)]
-mod devices;
-#[cfg(test)]
 mod gates;
 #[cfg(test)]
 mod limits;
@@ -52,11 +46,5 @@ mod prefixes;
 mod records;
 #[cfg(test)]
 mod running;
-#[cfg(test)]
-mod samples;
-#[cfg(test)]
-mod served;
-#[cfg(test)]
-mod tables;
 #[cfg(test)]
 mod worlds;

@@ -1,11 +1,11 @@
 //! Commands at the greatest sizes that they take.
 use crate::plan;
-use crate::samples::{ONE, ONE_PLAN, WHEEL, WHEEL_PLAN};
-use crate::served::{Row, answer, answer_planned, first_wrong};
 use std::alloc::{AllocError, Global};
 use std::sync::Wait;
 use std::thread::Threads;
 use std::time::Clock;
+use test_served::samples::{ONE, ONE_PLAN, WHEEL, WHEEL_PLAN};
+use test_served::{Row, answer, answer_planned, first_wrong};
 
 /// A plan of the wheel. Its cycle is as long as a cycle may be, and the weights of its voters add up
 /// to as much.

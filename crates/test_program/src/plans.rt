@@ -1,11 +1,11 @@
-//! Plans that are checked, and plans that are found. `tables` has more of both.
+//! Plans that are checked, and plans that are found. `test_devices` has more of both.
 use crate::plan;
-use crate::samples::{MAJORITY, WHEEL};
-use crate::served::{Row, answer, answer_planned, coterie_of_letters, first_wrong};
 use std::alloc::{AllocError, Global};
 use std::sync::Wait;
 use std::thread::Threads;
 use std::time::Clock;
+use test_served::samples::{MAJORITY, WHEEL};
+use test_served::{Row, answer, answer_planned, coterie_of_letters, first_wrong};
 
 const CHECKED: [Row; 11] = [
     (

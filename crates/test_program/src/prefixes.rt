@@ -1,15 +1,15 @@
 //! Texts that are cut short, and texts and numbers that are too long. `test_planning` has more than 64
 //! voters or 4096 quorums.
 use crate::plan;
-use crate::samples::{
-    FAST_HUB, FAST_HUB_PLAN, MAJORITY, MAJORITY_PLAN, ONE, RECORD, WHEEL, WHEEL_PLAN,
-};
-use crate::served::{Row, answer, first_wrong, joined};
 use std::alloc::{AllocError, Global};
 use std::sync::Wait;
 use std::test::Fail;
 use std::thread::Threads;
 use std::time::Clock;
+use test_served::samples::{
+    FAST_HUB, FAST_HUB_PLAN, MAJORITY, MAJORITY_PLAN, ONE, RECORD, WHEEL, WHEEL_PLAN,
+};
+use test_served::{Row, answer, first_wrong, joined};
 
 /// Returns how many beginnings of a text, without the whole of it, are refused with this fault as the last
 /// part of a command's input.

@@ -1,6 +1,6 @@
-//! Records that are refused. `tables` has those that are replayed.
-use crate::samples::{MAJORITY, MAJORITY_PLAN};
-use crate::served::{Row, first_wrong};
+//! Records that are refused. `test_devices` has those that are replayed.
+use test_served::samples::{MAJORITY, MAJORITY_PLAN};
+use test_served::{Row, first_wrong};
 
 /// The text of a record of three draws and two passes: its second draw, its second pass and its
 /// register.

@@ -1,10 +1,10 @@
 //! Runs in threads, and the replays of their records.
-use crate::samples::{GRID, GRID_PLAN};
-use crate::served::{Row, answer, answer_planned, first_wrong, joined};
 use std::alloc::{AllocError, Global};
 use std::sync::Wait;
 use std::thread::Threads;
 use std::time::Clock;
+use test_served::samples::{GRID, GRID_PLAN};
+use test_served::{Row, answer, answer_planned, first_wrong, joined};
 
 const RUNS: [Row; 2] = [
     (

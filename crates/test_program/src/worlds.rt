@@ -1,6 +1,6 @@
-//! Worlds: scripts, and all that they write. `tables` has one more.
-use crate::samples::{MAJORITY, MAJORITY_PLAN, ONE, ONE_PLAN};
-use crate::served::{Row, first_wrong};
+//! Worlds: scripts, and all that they write. `test_devices` has one more.
+use test_served::samples::{MAJORITY, MAJORITY_PLAN, ONE, ONE_PLAN};
+use test_served::{Row, first_wrong};
 
 /// A vote that arrives again, after its client gave it up.
 const LATE_VOTE: &str =

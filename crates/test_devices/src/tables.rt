@@ -1,5 +1,5 @@
 //! Command lines, the parts of their input, and what they have to write.
-use crate::samples::{
+use test_served::samples::{
     GRID, GRID_PLAN, MAJORITY, MAJORITY_PLAN, RACE, RACE_OUTPUT, RECORD, RECORD_ACCOUNT, WHEEL,
     WHEEL_PLAN,
 };

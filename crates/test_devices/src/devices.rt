@@ -1,7 +1,6 @@
 //! Devices that fail at each read and at each write, and that move few bytes at a time.
 ghost use Rattle.commands.specs.Commands.{IsInRange};
 
-use crate::served::{command_of, joined, serve};
 use crate::tables::{
     CHECKING_AND_DEALING, MAKING_AND_PLANNING, PLAYING_AND_REPLAYING, RUNNING, Row, Wanted,
 };
@@ -12,6 +11,7 @@ use std::io::{Read, Write};
 use std::sync::Wait;
 use std::thread::Threads;
 use std::time::Clock;
+use test_served::{command_of, joined, serve};
 
 /// More reads or writes than any of these commands makes.
 const MANY: usize = 100_000;

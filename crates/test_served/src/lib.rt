@@ -1,0 +1,16 @@
+//! Command lines of `qlock` on texts as input. Only tests use this crate.
+//!
+//! - `served.rt` runs a command line, and compares what it writes with the rows of a table: see
+//!   [`first_wrong`].
+//! - [`samples`] has coteries, plans, scripts and records that tests share.
+//!
+//! Depends on `qlock_cli`. `test_program` and `test_devices` depend on it.
+#![tactic(auto)]
+
+pub mod samples;
+mod served;
+
+pub use served::{
+    Row, answer, answer_at, answer_planned, command_of, coterie_of_letters, first_wrong, joined,
+    serve,
+};
