@@ -1,30 +1,17 @@
 //! The line of each fault, in a text of fixed room. It takes no memory.
-ghost use Rattle.std.specs.Prelude.{◌≡◌, ◌≤◌, ◌+◌, ◌++◌, ◌∷◌, length};
-ghost use Rattle.std.specs.Fmt.{decimal};
-ghost use Rattle.arrayvec.specs.ArrayString.{array_string_len};
+ghost use Rattle.std.specs.Prelude.{◌≡◌, ◌≤◌, length};
 ghost use Rattle.plan_inputs.specs.Lines.{cause_line, coterie_line, file_line, line_of, numbered_line, plan_line, planner_line};
 
 use crate::fault::InputFault;
 use arrayvec::ArrayString;
 use certificate::PlanFault;
 use coterie_file::FileFault;
-use itoa::Buffer;
 use planner::{Cause, PlannerFault};
 use quorum_set::CoterieFault;
+use texts::push_field_in_room;
 
 /// A text with room for the line of any fault.
 type Line = ArrayString<128>;
-
-/// Appends a space and a number in decimal.
-fn push_number(line: &mut Line, number: u64)
-    requires { array_string_len line.old + 21 ≤ 128 }
-    ensures bytes { line.new.bytes ≡ line.old.bytes ++ (32 ∷ decimal number) }
-    ensures len { array_string_len line.new ≤ array_string_len line.old + 21 }
-{
-    let mut buffer = Buffer::new();
-    line.push(' ');
-    line.push_str(buffer.format(number));
-}
 
 /// Returns the words, and each number after a space.
 fn numbered(words: &str, numbers: &[u64]) -> Line
@@ -35,7 +22,7 @@ fn numbered(words: &str, numbers: &[u64]) -> Line
     let mut line = ArrayString::new();
     line.push_str(words);
     for number in numbers {
-        push_number(&mut line, *number);
+        push_field_in_room(&mut line, *number);
     }
     line
 }

@@ -9,17 +9,7 @@ use crate::refusal::Refusal;
 use arrayvec::ArrayString;
 use itoa::Buffer;
 use message::{ClientBody, ToClient, ToVoter, VoterBody};
-
-/// Appends a space and a number in decimal.
-fn push_number<const N: usize>(text: &mut ArrayString<N>, number: u64)
-    requires { array_string_len text.old + 21 ≤ N }
-    ensures bytes { text.new.bytes ≡ text.old.bytes ++ (32 ∷ decimal number) }
-    ensures len { array_string_len text.new ≤ array_string_len text.old + 21 }
-{
-    let mut buffer = Buffer::new();
-    text.push(' ');
-    text.push_str(buffer.format(number));
-}
+use texts::push_field_in_room;
 
 /// Appends a space and the number of a voter or a client.
 fn push_id<const N: usize>(text: &mut ArrayString<N>, id: u8)
@@ -53,19 +43,19 @@ fn push_to_client<const N: usize>(text: &mut ArrayString<N>, message: &ToClient)
     match message.body {
         ClientBody::Locked { stamp, grant } => {
             push_head(text, "locked", from, to);
-            push_number(text, stamp);
-            push_number(text, grant);
+            push_field_in_room(text, stamp);
+            push_field_in_room(text, grant);
         }
         ClientBody::Fail { stamp } => {
             push_head(text, "fail", from, to);
-            push_number(text, stamp);
+            push_field_in_room(text, stamp);
         }
         ClientBody::Inquire { grant } => {
             push_head(text, "inquire", from, to);
-            push_number(text, grant);
+            push_field_in_room(text, grant);
         }
     }
-    push_number(text, message.seen);
+    push_field_in_room(text, message.seen);
     text.push('\n');
 }
 
@@ -90,7 +80,7 @@ fn push_to_voter<const N: usize>(text: &mut ArrayString<N>, message: &ToVoter)
             stamp
         }
     };
-    push_number(text, number);
+    push_field_in_room(text, number);
     text.push('\n');
 }
 

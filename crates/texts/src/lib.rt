@@ -12,7 +12,8 @@
 //! - [`read_line`] reads the value of a line;
 //! - [`next_line`] reads the line at the front of a text;
 //! - [`first_lines`] reads all lines of one kind at the front of a text;
-//! - [`push_field`] and [`push_number`] write the numbers of a line.
+//! - [`push_field`] and [`push_number`] write the numbers of a line, and [`push_field_in_room`] does in a
+//!   text of fixed room.
 //!
 //! Of the readers only [`first_lines`] allocates memory.
 //!
@@ -40,4 +41,4 @@ pub use laws::lines_are_read_in_one_way;
 pub use line::Line;
 pub use reading::{MOST_NUMBERS, first_lines, next_line, read_line};
 pub use words::{cut, field, number};
-pub use writing::{push_field, push_number};
+pub use writing::{push_field, push_field_in_room, push_number};
