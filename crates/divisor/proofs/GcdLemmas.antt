@@ -26,6 +26,11 @@ found_up_to (suc n) a b g is some le = by (eqb (a % suc n) 0 && eqb (b % suc n) 
           | inr off ↦ below (omega arith)
         ]
 
+-- the greatest common divisor is 0 for 0 and 0 alone
+pub IsGcd-none : (a b g : ℕ) → IsGcd a b g → g ≡ 0 → (a ≡ 0) × (b ≡ 0)
+IsGcd-none a b g is none =
+    (eq-zero_of_zero-dvd (subst (λ d. d ∣ a) none is.0), eq-zero_of_zero-dvd (subst (λ d. d ∣ b) none is.1))
+
 no_divisor : (a b : ℕ) → a ≡ 0 → b ≡ 0 → gcd_of a b ≡ 0
 unfolding gcd_of common_divisor_up_to
 no_divisor a b ea eb = rw (ea, eb) refl
@@ -36,9 +41,8 @@ unfolding gcd_of
 gcd_of-IsGcd a b g is =
     elim (cases_eq g 0) [
       | inl none ↦
-          let at_a : a ≡ 0 = eq-zero_of_zero-dvd (subst (λ d. d ∣ a) none is.0) in
-          let at_b : b ≡ 0 = eq-zero_of_zero-dvd (subst (λ d. d ∣ b) none is.1) in
-          none ∙ sym (no_divisor a b at_a at_b)
+          let ends = IsGcd-none a b g is none in
+          none ∙ sym (no_divisor a b ends.0 ends.1)
       | inr some ↦ sym (found_up_to (a + b) a b g is (omega arith) (not_above a b g is (omega arith)))
     ]
   where
@@ -63,9 +67,8 @@ IsGcd-some a b g is some =
     elim (cases_lt 0 g) [
       | inl pos ↦ pos
       | inr low ↦
-          let none : g ≡ 0 = omega arith in
-          let at_b : b ≡ 0 = eq-zero_of_zero-dvd (subst (λ d. d ∣ b) none is.1) in
-          omega arith
+          let ends = IsGcd-none a b g is (omega arith) in
+          omega (arith, ends.1)
     ]
 
 -- both numbers, divided by their greatest common divisor, have none but 1
@@ -159,3 +162,20 @@ lowest_terms-lowest a b some =
 
 pub lowest_terms-exact : (a b : ℕ) → (lowest_terms a b).0 * b ≡ a * (lowest_terms a b).1
 lowest_terms-exact a b = lowest-exact a b (gcd_of a b) (IsGcd-gcd_of a b)
+
+-- where both numbers are 0, so are both quotients
+lowest_terms-none : (a b : ℕ) → a ≡ 0 → b ≡ 0 → lowest_terms a b ≡ (0, 0)
+unfolding gcd_of common_divisor_up_to
+lowest_terms-none a b ea eb = rw (ea, eb) refl
+
+-- the fraction in lowest terms, with 1 for the greatest common divisor of 0 and 0
+pub lowest_terms-max : (a b g : ℕ) → IsGcd a b g → (c : ℕ) → (0 < g → c ≡ g) → (g ≡ 0 → c ≡ 1) → (a / c, b / c) ≡ lowest_terms a b
+lowest_terms-max a b g is c some none =
+    elim (cases_lt 0 g) [
+      | inl pos ↦ ap (λ d. (a / d, b / d)) (some pos ∙ gcd_of-IsGcd a b g is)
+      | inr low ↦
+          let zero_g : g ≡ 0 = omega arith in
+          let ends = IsGcd-none a b g is zero_g in
+          ap (λ d. (a / d, b / d)) (none zero_g) ∙ ap₂ (λ x y. (x, y)) (div-one a ∙ ends.0) (div-one b ∙ ends.1)
+          ∙ sym (lowest_terms-none a b ends.0 ends.1)
+    ]

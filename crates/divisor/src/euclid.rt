@@ -1,5 +1,5 @@
 //! The greatest common divisor of two numbers.
-ghost use Rattle.std.specs.Prelude.{◌≡◌, ◌<◌};
+ghost use Rattle.std.specs.Prelude.{◌≡◌};
 ghost use Rattle.std.specs.Int.{IsGcd};
 ghost use Rattle.divisor.specs.Gcd.{gcd_of, lowest_terms};
 
@@ -23,7 +23,7 @@ pub fn gcd(a: u64, b: u64) -> u64
 /// Returns a fraction in lowest terms: both numbers, divided by their greatest common divisor. A fraction
 /// whose numbers are both 0 stays as it is.
 pub fn lowest_terms(numerator: u64, denominator: u64) -> (u64, u64)
-    ensures { 0 < denominator → result ≡ lowest_terms numerator denominator }
+    ensures { result ≡ lowest_terms numerator denominator }
 {
     let common = gcd(numerator, denominator).max(1);
     (numerator / common, denominator / common)

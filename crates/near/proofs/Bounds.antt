@@ -46,7 +46,7 @@ lowest_terms-cross a b c d some same =
 
 module _ (w : Weighted) (h : IsNear w) where
   -- some voter has a weight, and each capacity is at least 1
-  pub capacity_total-some : 0 < capacity_total w
+  capacity_total-some : 0 < capacity_total w
   capacity_total-some =
       let n = w.system.voters in
       let all : sum_below (λ i. get_or w.voter_weights i 0) n ≡ voter_total w =
@@ -139,9 +139,6 @@ module _ (w : Weighted) (h : IsNear w) where
 module _ (w : Weighted) (sums : Sums) (near : IsNear w) (are : AreSums w sums) where
   denominator-is : sums.ratio.1 * sums.cycle_len ≡ (cycle_ratio w).1 * cycle_len w
   denominator-is = ap₂ (λ x y. x * y) (ap (λ r. r.1) are.ratio) are.cycle_len
-
-  pub stored-some : 0 < sums.ratio.1 * sums.cycle_len
-  stored-some = omega (arith, denominator-is, denominator-some w near)
 
   pub stored-small : sums.ratio.1 * sums.cycle_len ≤ 1000000000
   stored-small = omega (arith, denominator-is, denominator-small w near)

@@ -13,10 +13,7 @@ overflow_mul-denominator c = let kept = IsKept-denominator _ _ _ _ c.self.invari
 
 -- the result is the load
 is_load : (c : After-lowest_terms) → c.lowest_terms.result ≡ load_of c.args.self.now
-is_load c =
-    let kept = IsKept-denominator _ _ _ _ c.self.invariant in
-    let is = c.lowest_terms.ensures kept.0 in
-    search rules
+is_load c = search rules
 
 pub returns-clause-value : goal.returns-clause-value
 returns-clause-value c = is_load (goal.at.returns-clause-value c).After-lowest_terms

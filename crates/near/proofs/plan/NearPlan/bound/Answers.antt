@@ -1,12 +1,11 @@
-use Rattle.std.proofs.Common.{rules, arith}
+use Rattle.std.proofs.Common.{rules}
 use Rattle.near.specs.Nearness.{IsNear}
-use Rattle.near.proofs.Bounds.{IsBounded-near, capacity_total-some}
+use Rattle.near.proofs.Bounds.{IsBounded-near}
 use Rattle.near.proofs.plan.NearPlan.bound.Goals as goal
 
 pub returns-clause-value : goal.returns-clause-value
 returns-clause-value c =
     let own = c.self.invariant in
-    let is = c.lowest_terms.ensures (omega (arith, own.1.capacity_total, capacity_total-some _ own.0)) in
     search rules
 
 pub returns-clause-bounded : goal.returns-clause-bounded
