@@ -7,3 +7,4 @@ mod MadeBlocks
 mod SearchLemmas
 mod ReceiptLemmas
 mod TicketSteps
+mod WholeAccounts

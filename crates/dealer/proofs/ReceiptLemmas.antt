@@ -1,9 +1,11 @@
 -- Receipts and their tickets.
-use Rattle.std.proofs.Common.{◌≡◌, ℕ, suc, zero, List, [], ◌∷◌, map, length, refl, ap, ◌∙◌, arith}
-use Rattle.std.proofs.lemmas.List.{length-map}
-use Rattle.certificate.specs.Certificates.{Weighted}
+use Rattle.std.proofs.Common.{◌≡◌, ◌<◌, ℕ, suc, zero, List, [], ◌∷◌, get_or, map, length, refl, sym, ap, ◌∙◌, arith}
+use Rattle.std.proofs.lemmas.List.{get_or-map, length-map}
+use Rattle.certificate.specs.Certificates.{Weighted, IsCertificate}
 use Rattle.dealer.specs.declared.receipt.Receipt.{Receipt}
+use Rattle.dealer.specs.Cycles.{quorum_of_ticket}
 use Rattle.dealer.specs.Offices.{receipt_of, tickets_of, AreByCycle}
+use Rattle.dealer.proofs.AccountLemmas.{ticket_in_range}
 use Rattle.numbers.specs.Sums.{AreAllBelow}
 
 -- the tickets of the tickets' receipts
@@ -24,3 +26,11 @@ AreByCycle-map w (t ∷ ts) (suc k) d lt = AreByCycle-map w ts k d (omega arith)
 pub AreAllBelow-receipts : (cycle : Weighted) (drawn : List ℕ) (receipts : List Receipt) → receipts ≡ map (receipt_of cycle) drawn → AreAllBelow drawn (length drawn)
     → AreAllBelow (tickets_of receipts) (length receipts)
 AreAllBelow-receipts cycle drawn receipts are all = rw (tickets_of-receipts cycle drawn receipts are, ap length are ∙ length-map drawn (receipt_of cycle)) all
+
+-- a receipt among these names its ticket's quorum, which is one of the plan's
+pub receipt_names : (w : Weighted) (receipts : List Receipt) (i : ℕ) (d : Receipt) → IsCertificate w → AreByCycle w receipts → i < length receipts
+    → ((get_or receipts i d).quorum ≡ quorum_of_ticket w (get_or (tickets_of receipts) i 0)) × ((get_or receipts i d).quorum < length w.system.quorums)
+receipt_names w receipts i d is by_cycle lt =
+    let at = get_or-map (λ (r : Receipt). r.ticket) receipts i d 0 lt in
+    let names = by_cycle i d lt ∙ ap (quorum_of_ticket w) (sym at) in
+    (names, omega (arith, names, ticket_in_range w (get_or (tickets_of receipts) i 0) is))

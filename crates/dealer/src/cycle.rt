@@ -1,5 +1,5 @@
 //! The cycle of a plan.
-ghost use Rattle.std.specs.Prelude.{◌≡◌, ◌<◌, ◌*◌, ℕ, true, length, map, slice_index, IfOk, IfErr};
+ghost use Rattle.std.specs.Prelude.{◌≡◌, ◌<◌, ◌*◌, ◌^◌, ℕ, true, List, length, map, slice_index, sum, IfOk, IfErr};
 ghost use Rattle.numbers.specs.Counts.{times};
 ghost use Rattle.quorum_set.specs.Capacities.{are_unit};
 ghost use Rattle.certificate.specs.Certificates.{IsCertificate, IsOptimal, busiest_count, cycle_len};
@@ -138,6 +138,33 @@ impl Cycle {
         Ok(counts)
     }
 
+    /// Returns the account of `drawn` tickets that use each quorum as often as `quorums` says.
+    pub(crate) fn account_of_counts(
+        &self,
+        alloc: Global,
+        drawn: u64,
+        quorums: Vec<u64>,
+    ) -> Result<Account, AllocError>
+        requires lengths { length quorums.items ≡ length self.now.system.quorums }
+        requires fits { sum quorums.items < 2 ^ 64 }
+        ensures value { (tickets : List ℕ) → length tickets ≡ drawn
+            → quorums.items ≡ (account_of self.now tickets).quorums
+            → IfOk result (λ account. account ≡ account_of self.now tickets) }
+        ensures certificate { IsCertificate self.now }
+        ensures optimal { IsOptimal self.now }
+    {
+        let voters = counts_of_voters(alloc, self.plan.coterie(), &quorums)?;
+        let busiest = greatest_of(&voters);
+        let ratio = greatest_ratio(&voters, self.plan.capacities());
+        Ok(Account {
+            drawn,
+            quorums: Counts::from(quorums),
+            voters: Counts::from(voters),
+            busiest,
+            ratio,
+        })
+    }
+
     /// Returns the account of a list of tickets, in any order. Fails only if it runs out of memory.
     ///
     /// The tickets of whole cycles use each quorum as often as its weight says. No list of that
@@ -164,15 +191,6 @@ impl Cycle {
             IfOk result (λ account. IsLeastBusiest self.now account.drawn account.busiest) }
     {
         let quorums = self.counts_of_quorums(alloc, tickets)?;
-        let voters = counts_of_voters(alloc, self.plan.coterie(), &quorums)?;
-        let busiest = greatest_of(&voters);
-        let ratio = greatest_ratio(&voters, self.plan.capacities());
-        Ok(Account {
-            drawn: tickets.len() as u64,
-            quorums: Counts::from(quorums),
-            voters: Counts::from(voters),
-            busiest,
-            ratio,
-        })
+        self.account_of_counts(alloc, tickets.len() as u64, quorums)
     }
 }

@@ -4,7 +4,7 @@ ghost use Rattle.std.specs.List.{All};
 ghost use Rattle.numbers.specs.Bounds.{max_tickets};
 ghost use Rattle.numbers.specs.Sums.{AreAllBelow};
 ghost use Rattle.quorum_set.specs.Capacities.{are_unit};
-ghost use Rattle.certificate.specs.Certificates.{busiest_count, cycle_len};
+ghost use Rattle.certificate.specs.Certificates.{IsCertificate, IsOptimal, busiest_count, cycle_len};
 ghost use Rattle.dealer.specs.Accounts.{account_of, ratio_of_cycles, IsLeastBusiest, IsLeastRatio};
 ghost use Rattle.dealer.specs.Offices.{receipt_of, tickets_of, share_of, AreByCycle, RefusesTicket, RefusesAccount, AreOut};
 
@@ -41,30 +41,31 @@ impl Model for Office {
     ghost invariant = { λ o. IsOffice o.table.shared.key o.table.shared.table_id o.sheet };
 }
 
-/// Returns the tickets of these receipts.
-fn ticket_numbers(alloc: Global, receipts: &[Receipt]) -> Result<Vec<u64>, AllocError>
-    ensures { IfOk result (λ v. v.items ≡ tickets_of receipts.now) }
+/// Returns how often these receipts use each quorum.
+fn counts_of_receipts(
+    alloc: Global,
+    cycle: &Cycle,
+    receipts: &[Receipt],
+) -> Result<Vec<u64>, AllocError>
+    requires { AreByCycle cycle.now receipts.now }
+    ensures { IfOk result (λ v. v.items ≡ (account_of cycle.now (tickets_of receipts.now)).quorums) }
 {
-    receipts.iter().map(|receipt| receipt.ticket).collect(alloc)
+    let mut counts = vec![in alloc; 0; cycle.plan().coterie().count()]?;
+    for receipt in receipts {
+        counts[receipt.quorum] += 1;
+    }
+    Ok(counts)
 }
 
 /// Returns the account of all tickets of an office.
 fn account_of_all(alloc: Global, cycle: &Cycle, receipts: &[Receipt]) -> Result<Account, AllocError>
-    requires { AreAllBelow (tickets_of receipts.now) (length receipts.now) }
+    requires { AreByCycle cycle.now receipts.now }
     ensures value { IfOk result (λ account. account ≡ account_of cycle.now (tickets_of receipts.now)) }
-    ensures shares { (k : ℕ) → length receipts.now ≡ k * cycle_len cycle.now →
-        IfOk result (λ account. account.quorums ≡ map (λ weight. k * weight) cycle.now.quorum_weights) }
-    ensures even { (k : ℕ) → length receipts.now ≡ k * cycle_len cycle.now →
-        IfOk result (λ account. account.busiest ≡ k * busiest_count cycle.now) }
-    ensures ratio { (k : ℕ) → length receipts.now ≡ k * cycle_len cycle.now →
-        IfOk result (λ account. account.ratio ≡ ratio_of_cycles cycle.now k) }
-    ensures least_ratio { (k : ℕ) → length receipts.now ≡ k * cycle_len cycle.now →
-        IfOk result (λ account. IsLeastRatio cycle.now account.drawn account.ratio) }
-    ensures least { (k : ℕ) → are_unit cycle.now.capacities ≡ true → length receipts.now ≡ k * cycle_len cycle.now →
-        IfOk result (λ account. IsLeastBusiest cycle.now account.drawn account.busiest) }
+    ensures certificate { IfOk result (λ _. IsCertificate cycle.now) }
+    ensures optimal { IfOk result (λ _. IsOptimal cycle.now) }
 {
-    let tickets = ticket_numbers(alloc, receipts)?;
-    cycle.account(alloc, &tickets)
+    let quorums = counts_of_receipts(alloc, cycle, receipts)?;
+    cycle.account_of_counts(alloc, receipts.len() as u64, quorums)
 }
 
 impl Office {
