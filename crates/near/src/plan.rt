@@ -2,12 +2,12 @@
 ghost use Rattle.std.specs.Prelude.{◌≡◌, ◌<◌, IfOk};
 ghost use Rattle.divisor.specs.Gcd.{lowest_terms};
 ghost use Rattle.quorum_set.specs.Capacities.{AreCapacities};
-ghost use Rattle.certificate.specs.Certificates.{cycle_len, load_of};
+ghost use Rattle.certificate.specs.Certificates.{cycle_count, cycle_len, load_of};
 ghost use Rattle.near.specs.Nearness.{BearsBound, IsAtMost, IsBounded, IsNear, bound_of};
 
 use crate::sums::{Sums, sums_of};
 use crate::weights::{Weights, weights_for};
-use certificate::lowest_terms;
+use certificate::{lowest_terms, weight_on};
 use quorum_set::Coterie;
 use std::alloc::{AllocError, Global};
 use std::marker::Model;
@@ -105,6 +105,14 @@ impl NearPlan {
         ensures near { IsNear self.now }
     {
         self.voter_weights.as_slice()
+    }
+
+    /// Returns how often a cycle uses a voter: the sum of the weights of the quorums with that voter.
+    pub fn count(&self, voter: u8) -> u64
+        ensures value { result ≡ cycle_count self.now voter }
+        ensures near { IsNear self.now }
+    {
+        weight_on(&self.coterie, self.quorum_weights.as_slice(), voter)
     }
 
     /// Returns the length of a cycle: the sum of the quorums' weights, 1 to 1,000,000.
