@@ -9,7 +9,7 @@ ghost use Rattle.dealer.specs.Accounts.{account_of, quorums_named, ratio_of_cycl
 
 use crate::account::{Account, counts_of_voters, greatest_of};
 use crate::counts::Counts;
-use crate::rounds::{Block, Listed, blocks_of, listed_of, lists_of, place_in, quorum_in};
+use crate::rounds::{Block, Listed, blocks_of, listed_of, lists_of, place_in, quorum_in, rest_of};
 use certificate::{Plan, greatest_ratio};
 use std::alloc::{AllocError, Global};
 use std::marker::Model;
@@ -120,7 +120,7 @@ impl Cycle {
         ensures in_range { result < length self.now.system.quorums }
         ensures certificate { IsCertificate self.now }
     {
-        self.named_at(ticket % self.plan.cycle_len())
+        self.named_at(rest_of(ticket, self.plan.cycle_len()))
     }
 
     /// Returns how many of the tickets stand for each quorum.
