@@ -1,5 +1,6 @@
 /* A library to preload under the program as it is built: it refuses one growth of memory, or all from one on, fails one read
-   of standard input or one write of standard output, or has each of these move one byte.
+   of standard input or one write of standard output, or has each of these move one byte. A run that takes longer than half a minute
+   is stopped by SIGALRM.
 
      HOSTILE_GROWTH=N    refuses the Nth call that asks for memory; with HOSTILE_FOR_GOOD set, each one from the Nth on
      HOSTILE_READ=N      fails the Nth read of standard input by EIO
@@ -40,6 +41,7 @@ __attribute__((constructor)) static void begin(void) {
     by_bytes = getenv("HOSTILE_BYTES") != NULL;
     if (file)
         met = open(file, O_WRONLY | O_CREAT | O_TRUNC | O_CLOEXEC, 0600);
+    alarm(30);
     is_ready = 1;
 }
 

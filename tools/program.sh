@@ -27,8 +27,8 @@ is_current() {
 if ! is_current "$program"; then
     if is_current "$proved"; then
         mkdir -p "$root/build"
-        cp "$proved" "$program.new"
-        mv "$program.new" "$program"
+        cp "$proved" "$program.$$"
+        mv "$program.$$" "$program"
     else
         echo "$crate: proving and building the program, once; README.md says how long this takes" >&2
         "$root/tools/build" "$crate"

@@ -10,7 +10,7 @@
 //! Without a word, all of these run. Each hold runs twice, once with a voter that ignores the first
 //! member's request for good.
 //!
-//! `hostile/run.sh` refuses each allocation in turn. If it is refused to a voter's log or to a mailbox, a
+//! `hostile/run.py` refuses each allocation in turn. If it is refused to a voter's log or to a mailbox, a
 //! message is lost. The first member is then on its own, as the second one is held up. It repeats its
 //! messages after 1,000 empty looks, and gets in, unless the second one has a vote that it needs. Then
 //! its turns are spent. Any other refused allocation changes nothing, or ends the program with
