@@ -1,6 +1,7 @@
 //! A world that is run step by step, and what can be seen of it.
 ghost use Rattle.std.specs.Prelude.{◌≤◌, ◌^◌};
 
+use message::Message;
 use std::alloc::{AllocError, Global};
 use test_plans::Kind;
 use world::{Event, Step, Stepped, Trace, World, WorldFault};
@@ -49,18 +50,22 @@ impl Fold {
         Ok(answer)
     }
 
-    /// Returns whether a run made the same messages, events and refusals.
-    pub fn is_written_in(&self, trace: &Trace) -> bool {
-        if self.world.sent() != trace.messages.len() {
-            return false;
-        }
-        for (number, message) in trace.messages.iter().enumerate() {
+    /// Returns whether the first messages are these.
+    fn has_sent(&self, messages: &[Message]) -> bool {
+        for (number, message) in messages.iter().enumerate() {
             if number >= self.world.sent() || self.world.message(number) != *message {
                 return false;
             }
         }
-        self.world.visible() == trace.visible.as_slice()
-            && self.refused.as_slice() == trace.refused.as_slice()
+        true
+    }
+
+    /// Returns whether a run made the same messages, events and refusals.
+    pub fn is_written_in(&self, trace: &Trace) -> bool {
+        (self.world.sent() == trace.messages.len())
+            & self.has_sent(&trace.messages)
+            & (self.world.visible() == trace.visible.as_slice())
+            & (self.refused.as_slice() == trace.refused.as_slice())
     }
 }
 

@@ -9,17 +9,13 @@
 //!
 //! In further lists a plan is exchanged for another at a random place, also while a client is inside.
 //!
-//! In a thousand lists of their own, voters and clients are saved, forget and restart. There the
-//! automata run without `world`, and each restart is by the numbers that were saved.
-//!
-//! `world` proves this of every list; here it is seen of three thousand. The tests also count what the
-//! lists tried, so that none passes because nothing happened.
+//! `world` proves this of every list; here it is seen of two thousand. The tests also count what the
+//! lists tried, so that none passes because nothing happened. `test_histories` has a thousand schedules
+//! in which voters and clients restart.
 #![tactic(auto)]
 
 #[cfg(test)]
 mod fold;
-#[cfg(test)]
-mod restarts;
 #[cfg(test)]
 mod schedule;
 #[cfg(test)]

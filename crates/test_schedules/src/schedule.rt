@@ -52,7 +52,8 @@ pub struct Schedule {
     pub steps: Vec<Step>,
     /// How large its world is.
     pub sizes: Sizes,
-    kind: Kind,
+    /// Its coteries.
+    pub kind: Kind,
     voters: u8,
     rng: Pcg64,
     /// Whether the plan was exchanged.

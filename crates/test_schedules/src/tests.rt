@@ -11,18 +11,23 @@ use world::{Event, Step, Trace, run};
 const OFTEN: u64 = 100;
 
 /// Returns the trace of a schedule's run.
-fn trace_of(alloc: Global, kind: Kind, schedule: &Schedule) -> Result<Trace, AllocError> {
+fn trace_of(alloc: Global, schedule: &Schedule) -> Result<Trace, AllocError> {
     let sizes = schedule.sizes;
-    let plans = kind.plans(alloc).ok_or(AllocError)?;
+    let plans = schedule.kind.plans(alloc).ok_or(AllocError)?;
     run(alloc, plans, sizes.clients, sizes.limit, &schedule.steps)
 }
 
-/// Draws the schedule of a seed, and counts what it tried. Returns whether its run is as its steps were
-/// when they were drawn, and at most one client was inside at once.
+/// Returns whether a schedule's run is as its steps were when they were drawn, and at most one client was
+/// inside at once.
+fn is_right(alloc: Global, schedule: &Schedule) -> Result<bool, AllocError> {
+    let trace = trace_of(alloc, schedule)?;
+    Ok(schedule.fold.is_written_in(&trace) & is_exclusive(&trace.visible))
+}
+
+/// Draws the schedule of a seed, and counts what it tried. Returns whether its run is right.
 fn plays(alloc: Global, kind: Kind, seed: u64, tally: &mut Tally) -> Result<bool, AllocError> {
     let schedule = drawn(alloc, kind, seed, tally)?;
-    let trace = trace_of(alloc, kind, &schedule)?;
-    Ok(schedule.fold.is_written_in(&trace) & is_exclusive(&trace.visible))
+    is_right(alloc, &schedule)
 }
 
 /// A coterie or a pair of them, and seeds: from the first to the end, every third one, or every other
@@ -42,7 +47,8 @@ fn tried(alloc: Global, row: &Row) -> Option<Tally> {
     Some(tally)
 }
 
-/// Returns whether the runs of a row were right, and everything was tried often.
+/// Returns whether the runs of a row were right, and everything was tried often. Exchanges while a client
+/// is inside are counted twice: they are rarer.
 fn is_hostile(alloc: Global, row: &Row) -> bool {
     let Some(seen) = tried(alloc, row) else {
         return false;
@@ -54,80 +60,61 @@ fn is_hostile(alloc: Global, row: &Row) -> bool {
         seen.spent,
         seen.absent,
     ];
-    counts.iter().all(|count| *count >= OFTEN)
-}
-
-/// Returns the same of runs over two plans. Exchanges while a client is inside are counted twice: they
-/// are rarer.
-fn is_exchanged(alloc: Global, row: &Row) -> bool {
-    let Some(seen) = tried(alloc, row) else {
-        return false;
-    };
-    let amid = seen.amid.saturating_mul(2);
-    let counts = [
-        seen.entries,
-        seen.repeats,
-        seen.late,
-        seen.spent,
-        seen.absent,
+    let exchanges = [
         seen.exchanges,
-        amid,
+        seen.amid.saturating_mul(2),
         seen.refusals,
         seen.later,
     ];
-    counts.iter().all(|count| *count >= OFTEN)
+    let often = counts.iter().all(|count| *count >= OFTEN);
+    often & (!row.0.are_two() | exchanges.iter().all(|count| *count >= OFTEN))
 }
 
-// The seeds are 0 to 999, and each coterie has a third of them, in two halves.
+/// Each coterie has a third of the seeds 0 to 999, in two halves, and each pair of coteries half of them.
+const ROWS: [[Row; 2]; 4] = [
+    [(Kind::Majority, 0, 500), (Kind::Majority, 501, 1000)],
+    [(Kind::Grid, 1, 500), (Kind::Grid, 502, 1000)],
+    [(Kind::Wheel, 2, 500), (Kind::Wheel, 500, 1000)],
+    [
+        (Kind::MajorityThenAll, 0, 1000),
+        (Kind::GridThenWheel, 1, 1000),
+    ],
+];
 
 #[test]
 fn majorities_keep_exclusion(rt: HostRuntime) {
-    for row in &[(Kind::Majority, 0, 500), (Kind::Majority, 501, 1000)] {
+    for row in &ROWS[0] {
         assert!(rt; is_hostile(rt.alloc(), row));
     }
 }
 
 #[test]
 fn grids_keep_exclusion(rt: HostRuntime) {
-    for row in &[(Kind::Grid, 1, 500), (Kind::Grid, 502, 1000)] {
+    for row in &ROWS[1] {
         assert!(rt; is_hostile(rt.alloc(), row));
     }
 }
 
 #[test]
 fn wheels_keep_exclusion(rt: HostRuntime) {
-    for row in &[(Kind::Wheel, 2, 500), (Kind::Wheel, 500, 1000)] {
+    for row in &ROWS[2] {
         assert!(rt; is_hostile(rt.alloc(), row));
     }
 }
 
-/// The same seeds, of which each pair of coteries has half.
-const TWO: [Row; 2] = [
-    (Kind::MajorityThenAll, 0, 1000),
-    (Kind::GridThenWheel, 1, 1000),
-];
-
 #[test]
 fn schedules_with_exchanges_keep_exclusion(rt: HostRuntime) {
-    for row in &TWO {
-        assert!(rt; is_exchanged(rt.alloc(), row));
+    for row in &ROWS[3] {
+        assert!(rt; is_hostile(rt.alloc(), row));
     }
 }
 
-/// Makes the steps of a schedule, except each delivery whose number in order, from 1 on, is a
-/// multiple of `every`. Returns whether the trace has the same messages, events and refusals.
-fn is_seen_without(
-    alloc: Global,
-    kind: Kind,
-    schedule: &Schedule,
-    every: u32,
-    trace: &Trace,
-) -> Result<bool, AllocError>
+/// Makes these steps, except each delivery whose number in order, from 1 on, is a multiple of `every`.
+fn play_without(fold: &mut Fold, steps: &[Step], every: u32) -> Result<(), AllocError>
     requires { 0 < every }
 {
-    let mut fold = Fold::of_kind(alloc, kind, schedule.sizes)?;
     let mut turn = 0u32;
-    for step in &schedule.steps {
+    for step in steps {
         if matches!(step, Step::Deliver(_)) {
             turn = turn.saturating_add(1);
             if turn % every == 0 {
@@ -136,16 +123,36 @@ fn is_seen_without(
         }
         let _ = fold.play(*step)?;
     }
+    Ok(())
+}
+
+/// Returns whether a trace has the messages, events and refusals of a schedule without these deliveries.
+fn is_seen_without(
+    alloc: Global,
+    schedule: &Schedule,
+    every: u32,
+    trace: &Trace,
+) -> Result<bool, AllocError>
+    requires { 0 < every }
+{
+    let mut fold = Fold::of_kind(alloc, schedule.kind, schedule.sizes)?;
+    play_without(&mut fold, &schedule.steps, every)?;
     Ok(fold.is_written_in(trace))
 }
 
-/// Returns whether a run differs from the same steps without every third delivery, and not from all of
-/// them.
+/// Returns whether a schedule's run differs from the same steps without every third delivery, and not
+/// from all of them.
+fn are_skips_seen(alloc: Global, schedule: &Schedule) -> Result<bool, AllocError> {
+    let trace = trace_of(alloc, schedule)?;
+    let whole = is_seen_without(alloc, schedule, u32::MAX, &trace);
+    let skipped = is_seen_without(alloc, schedule, 3, &trace);
+    Ok((whole == Ok(true)) & (skipped == Ok(false)))
+}
+
+/// Returns the same of a schedule of this coterie.
 fn skips_are_seen(alloc: Global, kind: Kind) -> Result<bool, AllocError> {
     let schedule = drawn(alloc, kind, 1000, &mut Tally::default())?;
-    let trace = trace_of(alloc, kind, &schedule)?;
-    let whole = is_seen_without(alloc, kind, &schedule, u32::MAX, &trace)?;
-    Ok(whole & !is_seen_without(alloc, kind, &schedule, 3, &trace)?)
+    are_skips_seen(alloc, &schedule)
 }
 
 #[test]
