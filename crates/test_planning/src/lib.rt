@@ -5,8 +5,8 @@
 //! - `fractions` computes.
 //! - `failing` has voters fail.
 //! - `nearness` has weights near the best for irregular coteries.
-//! - `certificates` copies plans, `searches` solves, and `plans` finds them.
-//! - `pairs` puts two plans together, and `offices` deals, also with two threads.
+//! - `certificates` copies a plan, `searches` solves, and `plans` finds them.
+//! - `pairs` puts two plans together, and `offices` deals.
 //!
 //! What contracts determine is not tested again, except by worked examples of the definitions.
 //!
