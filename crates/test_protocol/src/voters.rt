@@ -1,11 +1,10 @@
 //! Worked examples of the voter.
-ghost use Rattle.std.specs.Prelude.{◌≡◌, ◌<◌, ◌≤◌, ◌^◌, IfSome};
+ghost use Rattle.std.specs.Prelude.{◌≡◌, ◌<◌, IfSome};
 
 use crate::messages::add_line;
 use message::{Message, ToVoter, read_message};
 use std::alloc::{AllocError, Global};
-use std::test::Fail;
-use voter::{Effect, Grant, Replies, Voter, VoterFault};
+use voter::{Replies, Voter};
 
 /// Returns the message to voter 0 of this line, if it is one.
 fn asked(line: &str) -> Option<ToVoter>
@@ -18,122 +17,73 @@ fn asked(line: &str) -> Option<ToVoter>
     }
 }
 
-/// Returns the lines of the replies, with a semicolon after each.
-fn lines(alloc: Global, replies: &Replies) -> Result<String, AllocError> {
+/// Returns whether the replies have these lines, with a semicolon after each.
+fn are_lines(alloc: Global, replies: &Replies, wanted: &str) -> Result<bool, AllocError> {
     let mut text = String::new(alloc);
     for reply in replies.as_slice() {
         add_line(alloc, &mut text, &Message::ToClient(*reply), ';')?;
     }
-    Ok(text)
+    Ok(text.as_str() == wanted)
 }
 
-/// Returns the lines of the replies, or the fault.
-fn answer(alloc: Global, replies: Result<Replies, VoterFault>) -> Result<String, AllocError> {
-    match replies {
-        Ok(replies) => lines(alloc, &replies),
-        Err(fault) => format!(in alloc; "{fault}"),
+/// Returns whether a voter replies to a message with these lines, or refuses it with this fault, and said
+/// so beforehand.
+fn answers(
+    alloc: Global,
+    voter: &mut Voter,
+    message: &ToVoter,
+    wanted: &str,
+) -> Result<bool, AllocError>
+    requires voter { message.now.voter ≡ voter.old.id }
+    requires client { message.now.client < 64 }
+    ensures id { voter.new.id ≡ voter.old.id }
+{
+    let refused = voter.effect(message).refused;
+    match voter.take(message) {
+        Ok(replies) => Ok(are_lines(alloc, &replies, wanted)? & !refused),
+        Err(fault) => Ok((fault.to_string(alloc)?.as_str() == wanted) & refused),
     }
 }
 
-/// Returns the voter that took each line in turn, or `None` if it did not reply with the lines next
-/// to it.
-fn after(alloc: Global, limit: u64, script: &[(&str, &str)]) -> Result<Option<Voter>, AllocError>
-    requires least { 1 ≤ limit }
-    requires most { limit ≤ 2 ^ 40 }
+/// Returns whether a voter replies to each line in turn with the lines next to it.
+fn plays(alloc: Global, voter: &mut Voter, script: &[(&str, &str)]) -> Result<bool, AllocError>
+    requires { voter.old.id ≡ 0 }
 {
-    let mut voter = Voter::new(0, limit);
-    for (line, want) in script {
+    for (line, wanted) in script {
         let Some(message) = asked(line) else {
-            return Ok(None);
+            return Ok(false);
         };
-        let refused = voter.effect(&message).refused;
-        let got = answer(alloc, voter.take(&message))?;
-        if got.as_str() != *want || refused != (*want == "V1 GrantsSpent") {
-            return Ok(None);
+        if !answers(alloc, voter, &message, wanted)? {
+            return Ok(false);
         }
     }
-    Ok(Some(voter))
+    Ok(true)
 }
 
-/// Returns whether a voter that takes each line in turn replies with the lines next to it.
-fn plays(alloc: Global, limit: u64, script: &[(&str, &str)]) -> Result<bool, AllocError>
-    requires least { 1 ≤ limit }
-    requires most { limit ≤ 2 ^ 40 }
-{
-    Ok(after(alloc, limit, script)?.is_some())
-}
+/// The vote is given back, and no grant is left.
+const GIVEN_BACK: &[(&str, &str)] = &[
+    ("request 1 0 1", "locked 0 1 1 1 1;"),
+    ("request 0 0 1", "inquire 0 1 1 1;"),
+    ("request 2 0 1", "fail 0 2 1 1;"),
+    ("relinquish 1 0 1", "locked 0 0 1 2 1;"),
+    ("release 0 0 1", "V1 GrantsSpent"),
+    ("release 2 0 1", ""),
+    ("release 1 0 1", ""),
+    ("release 0 0 1", ""),
+];
 
-#[test]
-fn vote_that_is_given_back(rt: HostRuntime) -> Result<(), Fail> {
-    let script = [
-        ("request 1 0 1", "locked 0 1 1 1 1;"),
-        ("request 0 0 1", "inquire 0 1 1 1;"),
-        ("request 2 0 1", "fail 0 2 1 1;"),
-        ("relinquish 1 0 1", "locked 0 0 1 2 1;"),
-        ("release 0 0 1", "V1 GrantsSpent"),
-        ("release 2 0 1", ""),
-        ("release 1 0 1", ""),
-        ("release 0 0 1", ""),
-    ];
-    let free = match after(rt.alloc(), 2, script.as_slice())? {
-        Some(voter) => voter.held().is_none(),
-        None => false,
-    };
-    assert!(rt; free);
-    Ok(())
-}
+/// Requests are put into their places.
+const PLACES: &[(&str, &str)] = &[
+    ("request 2 0 2", "locked 0 2 2 1 2;"),
+    ("request 3 0 3", "fail 0 3 3 3;"),
+    ("request 1 0 1", "inquire 0 2 1 3;fail 0 3 3 3;"),
+    ("request 0 0 1", "fail 0 1 1 3;"),
+];
 
 #[test]
-fn requests_in_their_places(rt: HostRuntime) -> Result<(), Fail> {
-    let script = [
-        ("request 2 0 2", "locked 0 2 2 1 2;"),
-        ("request 3 0 3", "fail 0 3 3 3;"),
-        ("request 1 0 1", "inquire 0 2 1 3;fail 0 3 3 3;"),
-        ("request 0 0 1", "fail 0 1 1 3;"),
-    ];
-    assert!(rt; plays(rt.alloc(), 10, script.as_slice())?);
-    Ok(())
-}
-
-#[test]
-fn former_front_receives_fail(rt: HostRuntime) -> Result<(), Fail> {
-    let script = [
-        ("request 0 0 5", "locked 0 0 5 1 5;"),
-        ("request 1 0 7", "fail 0 1 7 7;"),
-        ("request 2 0 6", "fail 0 2 6 7;fail 0 1 7 7;"),
-    ];
-    assert!(rt; plays(rt.alloc(), 10, script.as_slice())?);
-    Ok(())
-}
-
-/// Returns whether the voter gave grant 1 to client 1 under stamp 5, and frees it by this message.
-fn holds(voter: &Voter, release: Option<ToVoter>) -> bool {
-    let grant = Grant {
-        client: 1,
-        stamp: 5,
-        grant: 1,
-    };
-    let freed = Effect {
-        frees: true,
-        refused: false,
-    };
-    match release {
-        Some(release) => (voter.held() == Some(grant)) & (voter.effect(&release) == freed),
-        None => false,
-    }
-}
-
-#[test]
-fn vote_is_held_and_reported_again(rt: HostRuntime) -> Result<(), Fail> {
-    let script = [
-        ("request 1 0 5", "locked 0 1 5 1 5;"),
-        ("request 0 0 4", "inquire 0 1 1 5;"),
-    ];
-    let Some(voter) = after(rt.alloc(), 2, script.as_slice())? else {
-        panic!(rt; "other replies")
-    };
-    let held = holds(&voter, asked("release 1 0 5"));
-    let again = lines(rt.alloc(), &voter.remind())?;
-    assert!(rt; held & (again.as_str() == "locked 0 1 5 1 5;inquire 0 1 1 5;"));
-    Ok(())
+fn voters_reply(rt: HostRuntime) {
+    let mut free = Voter::new(0, 2);
+    assert!(rt; plays(rt.alloc(), &mut free, GIVEN_BACK) == Ok(true));
+    assert!(rt; free.held().is_none());
+    assert!(rt; plays(rt.alloc(), &mut Voter::new(0, 10), PLACES) == Ok(true));
 }

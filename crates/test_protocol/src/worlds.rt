@@ -1,16 +1,59 @@
 //! Runs of the automata together.
-ghost use Rattle.std.specs.Prelude.{◌≤◌, ◌^◌};
-
 use crate::messages::add_line;
-use dealer::Plans;
-use replay::{StepLine, read_script};
 use std::alloc::{AllocError, Global};
-use std::test::Fail;
-use test_plans::{bridged_plans, majority_plan, whole_plan};
+use test_plans::Kind;
+use world::Step::{Ask, Deliver, Exchange, Leave};
 use world::{Step, Trace, run};
 
-/// Writes who entered and left, who drew which ticket, and what was refused.
-fn write_rest(text: &mut String, trace: &Trace) -> Result<(), AllocError> {
+/// Two clients of any two of three voters race, and client 1 enters and leaves.
+const RACE: &[Step] = &[
+    Ask(0),
+    Ask(1),
+    Deliver(2),
+    Deliver(0),
+    Deliver(3),
+    Deliver(4),
+    Deliver(6),
+    Deliver(5),
+    Leave(1),
+    Deliver(7),
+];
+
+const RACE_STORY: &str =
+    "request 0 0 1\nrequest 0 1 1\nrequest 1 0 1\nrequest 1 2 1\nlocked 0 1 1 1 1\ninquire 0 1 1 1\n\
+    locked 2 1 1 1 1\nrelease 1 0 1\nrelease 1 2 1\nlocked 0 0 1 2 1\nenter 1\nleave 1\ndraw 0 0\ndraw 1 1\n";
+
+/// The plan is exchanged while a client asks.
+const EXCHANGED: &[Step] = &[
+    Ask(0),
+    Exchange,
+    Ask(1),
+    Deliver(0),
+    Deliver(1),
+    Deliver(5),
+    Deliver(6),
+    Deliver(2),
+    Deliver(3),
+    Deliver(4),
+    Deliver(9),
+    Leave(0),
+    Deliver(10),
+    Deliver(11),
+    Deliver(12),
+    Deliver(13),
+    Exchange,
+];
+
+const EXCHANGED_STORY: &str =
+    "request 0 0 1\nrequest 0 1 1\nrequest 1 0 1\nrequest 1 1 1\nrequest 1 2 1\nlocked 0 0 1 1 1\n\
+    locked 1 0 1 1 1\nfail 0 1 1 1\nfail 1 1 1 1\nlocked 2 1 1 1 1\nrelease 0 0 1\nrelease 0 1 1\n\
+    locked 0 1 1 2 1\nlocked 1 1 1 2 1\nenter 0\nleave 0\nenter 1\ndraw 0 0\ndraw2 1 0\n16: U4 NoSecondPlan\n";
+
+/// Writes the messages, who entered and left, who drew which ticket, and what was refused.
+fn write_story(alloc: Global, text: &mut String, trace: &Trace) -> Result<(), AllocError> {
+    for message in trace.messages.as_slice() {
+        add_line(alloc, text, message, '\n')?;
+    }
     for event in trace.visible.as_slice() {
         let word = if event.entered { "enter" } else { "leave" };
         write!(text, "{word} {}\n", event.client)?;
@@ -27,73 +70,29 @@ fn write_rest(text: &mut String, trace: &Trace) -> Result<(), AllocError> {
     Ok(())
 }
 
-/// Returns what a run did: the lines of its messages, and the rest.
-fn story(alloc: Global, trace: &Trace) -> Result<String, AllocError> {
+/// Returns what a run of two clients did.
+fn story_of(alloc: Global, kind: Kind, steps: &[Step]) -> Result<String, AllocError> {
+    let plans = kind.plans(alloc).ok_or(AllocError)?;
+    let trace = run(alloc, plans, 2, 1000, steps)?;
     let mut text = String::new(alloc);
-    for message in trace.messages.as_slice() {
-        add_line(alloc, &mut text, message, '\n')?;
-    }
-    write_rest(&mut text, trace)?;
+    write_story(alloc, &mut text, &trace)?;
     Ok(text)
 }
 
-/// Returns whether a run of these plans does this.
-fn makes(
-    alloc: Global,
-    plans: Option<Plans>,
-    clients: u8,
-    limit: u64,
-    steps: &[Step],
-    want: &str,
-) -> Result<bool, Fail>
-    requires some { 1 ≤ clients }
-    requires few { clients ≤ 64 }
-    requires least { 1 ≤ limit }
-    requires most { limit ≤ 2 ^ 40 }
-{
-    let Some(plans) = plans else {
-        return Ok(false);
-    };
-    let trace = run(alloc, plans, clients, limit, steps)?;
-    Ok(story(alloc, &trace)?.as_str() == want)
-}
-
-/// Two clients of any two of three voters race, and client 1 enters and leaves.
-const RACE: &[u8] =
-    b"world 2 1000\nask 0\nask 1\ndeliver 2\ndeliver 0\ndeliver 3\ndeliver 4\ndeliver 6\ndeliver 5\nleave 1\ndeliver 7\n";
-
-#[test]
-fn a_run_has_a_visible_list(rt: HostRuntime) -> Result<(), Fail> {
-    let alloc = rt.alloc();
-    let script = read_script::<StepLine>(alloc, RACE)?;
-    let want =
-        "request 0 0 1\nrequest 0 1 1\nrequest 1 0 1\nrequest 1 2 1\nlocked 0 1 1 1 1\ninquire 0 1 1 1\n\
-        locked 2 1 1 1 1\nrelease 1 0 1\nrelease 1 2 1\nlocked 0 0 1 2 1\nenter 1\nleave 1\ndraw 0 0\ndraw 1 1\n";
-    let plans = majority_plan(alloc).map(|plan| Plans::single(plan));
-    assert!(rt; makes(alloc, plans, 2, 1000, script.steps(), want)?);
-    Ok(())
+/// Returns whether a run does this.
+fn tells(alloc: Global, kind: Kind, steps: &[Step], wanted: &str) -> Result<bool, AllocError> {
+    Ok(story_of(alloc, kind, steps)?.as_str() == wanted)
 }
 
 #[test]
-fn plan_is_exchanged_while_a_client_asks(rt: HostRuntime) -> Result<(), Fail> {
-    let alloc = rt.alloc();
-    let mut steps = Vec::new(alloc);
-    for step in [Step::Ask(0), Step::Exchange, Step::Ask(1)] {
-        steps.push(step)?;
-    }
-    for number in [0, 1, 5, 6, 2, 3, 4, 9] {
-        steps.push(Step::Deliver(number))?;
-    }
-    steps.push(Step::Leave(0))?;
-    for number in [10, 11, 12, 13] {
-        steps.push(Step::Deliver(number))?;
-    }
-    steps.push(Step::Exchange)?;
-    let want =
-        "request 0 0 1\nrequest 0 1 1\nrequest 1 0 1\nrequest 1 1 1\nrequest 1 2 1\nlocked 0 0 1 1 1\n\
-        locked 1 0 1 1 1\nfail 0 1 1 1\nfail 1 1 1 1\nlocked 2 1 1 1 1\nrelease 0 0 1\nrelease 0 1 1\n\
-        locked 0 1 1 2 1\nlocked 1 1 1 2 1\nenter 0\nleave 0\nenter 1\ndraw 0 0\ndraw2 1 0\n16: U4 NoSecondPlan\n";
-    let plans = bridged_plans(alloc, majority_plan(alloc), whole_plan(alloc));
-    assert!(rt; makes(alloc, plans, 2, 1000, &steps, want)?);
-    Ok(())
+fn runs_are_told(rt: HostRuntime) {
+    assert!(rt; tells(rt.alloc(), Kind::Majority, RACE, RACE_STORY) == Ok(true));
+    assert!(rt;
+        tells(
+            rt.alloc(),
+            Kind::MajorityThenAll,
+            EXCHANGED,
+            EXCHANGED_STORY
+        ) == Ok(true)
+    );
 }
