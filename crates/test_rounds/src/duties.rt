@@ -2,7 +2,7 @@
 //!
 //! In a fair round everybody is reminded, what a reminder sends arrives, and so do the replies to that.
 //! Whoever was inside at its beginning leaves.
-use std::alloc::{AllocError, Global};
+use std::alloc::AllocError;
 use world::Step;
 
 /// A step that has to be made.
@@ -15,77 +15,57 @@ pub struct Duty {
     pub depth: u8,
 }
 
-/// What a round still owes.
-#[derive(Drop)]
-pub struct Duties {
-    list: Vec<Duty>,
+/// Adds the reminders of all clients and all voters.
+pub fn add_reminders(duties: &mut Vec<Duty>, clients: u8, voters: u8) -> Result<(), AllocError> {
+    for client in 0..clients {
+        duties.push(Duty {
+            step: Step::RemindClient(client),
+            depth: 2,
+        })?;
+    }
+    for voter in 0..voters {
+        duties.push(Duty {
+            step: Step::RemindVoter(voter),
+            depth: 2,
+        })?;
+    }
+    Ok(())
 }
 
-impl Duties {
-    /// Returns an empty list.
-    pub fn new(alloc: Global) -> Duties {
-        Duties {
-            list: Vec::new(alloc),
-        }
-    }
+/// Adds that a client leaves.
+pub fn add_leave(duties: &mut Vec<Duty>, client: u8) -> Result<(), AllocError> {
+    duties.push(Duty {
+        step: Step::Leave(client),
+        depth: 0,
+    })?;
+    Ok(())
+}
 
-    /// Returns how many there are.
-    pub fn len(&self) -> usize {
-        self.list.len()
+/// Takes the duty at this place out, if there is one.
+pub fn take(duties: &mut Vec<Duty>, place: usize) -> Option<Duty> {
+    if place < duties.len() {
+        Some(duties.remove(place))
+    } else {
+        None
     }
+}
 
-    /// Returns the duty at this place, if there is one.
-    pub fn at(&self, place: usize) -> Option<Duty> {
-        self.list.get(place).copied()
+/// Adds the arrival of each message that a duty sent: those from `first` on, and before `end`.
+pub fn follow(
+    duties: &mut Vec<Duty>,
+    duty: Duty,
+    first: usize,
+    end: usize,
+) -> Result<(), AllocError> {
+    if duty.depth == 0 {
+        return Ok(());
     }
-
-    /// Adds a step without messages that have to arrive.
-    pub fn add_leave(&mut self, client: u8) -> Result<(), AllocError> {
-        self.list.push(Duty {
-            step: Step::Leave(client),
-            depth: 0,
+    let depth = duty.depth - 1;
+    for number in first..end {
+        duties.push(Duty {
+            step: Step::Deliver(number as u64),
+            depth,
         })?;
-        Ok(())
     }
-
-    /// Adds the reminders of all clients and all voters.
-    pub fn add_reminders(&mut self, clients: u8, voters: u8) -> Result<(), AllocError> {
-        for client in 0..clients {
-            self.list.push(Duty {
-                step: Step::RemindClient(client),
-                depth: 2,
-            })?;
-        }
-        for voter in 0..voters {
-            self.list.push(Duty {
-                step: Step::RemindVoter(voter),
-                depth: 2,
-            })?;
-        }
-        Ok(())
-    }
-
-    /// Takes the duty at this place out, if there is one.
-    pub fn take(&mut self, place: usize) -> Option<Duty> {
-        if place < self.list.len() {
-            Some(self.list.remove(place))
-        } else {
-            None
-        }
-    }
-
-    /// Adds the arrival of each message that a duty sent: those from `first` on, and before `end`.
-    pub fn follow(&mut self, duty: Duty, first: usize, end: usize) -> Result<(), AllocError> {
-        if duty.depth == 0 {
-            return Ok(());
-        }
-        let depth = duty.depth - 1;
-        for number in first..end {
-            self.list.push(Duty {
-                step: Step::Deliver(number as u64),
-                depth,
-            })?;
-        }
-        Ok(())
-    }
+    Ok(())
 }

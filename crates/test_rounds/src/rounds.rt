@@ -5,7 +5,8 @@
 //! exchanges the first.
 ghost use Rattle.std.specs.Prelude.{◌<◌, ◌≤◌};
 
-use crate::duties::Duties;
+use crate::duties::{Duty, add_leave, add_reminders, follow, take};
+use crate::fair::{Made, is_fair};
 use crate::rules::{Rule, client_of, is_release, is_request, is_vote_of_other, message_of, takes};
 use crate::waits::Wait;
 use message::Message;
@@ -57,6 +58,8 @@ pub struct Game {
     pub clients: u8,
     /// Whether clients give up, and REQUESTs come late.
     pub rough: bool,
+    /// Whether each round is tested to be fair.
+    pub checked: bool,
     /// The rule that voters and clients follow.
     pub rule: Rule,
     ghost some: { 1 ≤ clients },
@@ -86,17 +89,20 @@ pub struct Tally {
     pub overdue: u64,
     /// How many rounds were not ended.
     pub unfinished: u64,
+    /// How many rounds were tested, and were not fair.
+    pub unfair: u64,
 }
 
 /// A world that is played in fair rounds.
 #[derive(Drop)]
-pub struct Play {
+struct Play {
     world: World,
     game: Game,
     style: Style,
     rng: Pcg64,
     voters: u8,
-    duties: Duties,
+    /// What the round still owes.
+    duties: Vec<Duty>,
     /// The wait of each client.
     waits: Vec<Wait>,
     /// For each message, by number, whether it arrived.
@@ -108,10 +114,10 @@ pub struct Play {
     /// The withdrawals and the late REQUESTs of this round.
     give_ups: u64,
     late: u64,
-    /// All steps.
-    steps: Vec<Step>,
-    /// How many steps had been made when each round began.
-    starts: Vec<usize>,
+    /// The steps of this round.
+    made: Vec<Made>,
+    /// Who was inside when this round began.
+    inside: Option<u8>,
     tally: Tally,
     ghost some: { 1 ≤ voters },
 }
@@ -122,7 +128,7 @@ fn count(number: &mut u64) {
 }
 
 /// Returns the new world of a game.
-pub fn new_world(alloc: Global, game: Game) -> Result<World, AllocError> {
+fn new_world(alloc: Global, game: Game) -> Result<World, AllocError> {
     let plans = game.kind.plans(alloc).ok_or(AllocError)?;
     World::new(alloc, plans, game.clients, LIMIT)
 }
@@ -161,7 +167,7 @@ fn asking_stamp(world: &World, client: u8) -> u64 {
 }
 
 /// Returns the client that is inside, if one is.
-pub fn inside_of(world: &World) -> Option<u8> {
+fn inside_of(world: &World) -> Option<u8> {
     match world.visible().last() {
         Some(event) if event.entered => Some(event.client),
         _ => None,
@@ -170,30 +176,27 @@ pub fn inside_of(world: &World) -> Option<u8> {
 
 impl Play {
     /// Returns the play of a seed, with no round yet.
-    fn new(alloc: Global, game: Game, seed: u64) -> Result<Play, AllocError> {
+    fn new(alloc: Global, game: Game, seed: u64, tally: Tally) -> Result<Play, AllocError> {
         let mut rng = Pcg64::seed_from_u64(seed);
         let style = draw_style(&mut rng, game.rough);
+        let waits = vec![in alloc; Wait::default(); usize::from(game.clients)]?;
         let world = new_world(alloc, game)?;
-        let mut waits = Vec::new(alloc);
-        for _ in 0..game.clients {
-            waits.push(Wait::default())?;
-        }
         Ok(Play {
             world,
             game,
             style,
             rng,
             voters: game.kind.voters(),
-            duties: Duties::new(alloc),
+            duties: Vec::new(alloc),
             waits,
             came: Vec::new(alloc),
             old: 0,
             young: 0,
             give_ups: 0,
             late: 0,
-            steps: Vec::new(alloc),
-            starts: Vec::new(alloc),
-            tally: Tally::default(),
+            made: Vec::new(alloc),
+            inside: None,
+            tally,
         })
     }
 
@@ -229,13 +232,14 @@ impl Play {
 
     /// Notes what a step tries.
     fn note(&mut self, step: Step) -> Result<(), AllocError> {
-        self.steps.push(step)?;
         match step {
-            Step::Deliver(number) => self.note_arrival(number)?,
-            Step::GiveUp(_) => count(&mut self.give_ups),
-            _ => {}
+            Step::Deliver(number) => self.note_arrival(number),
+            Step::GiveUp(_) => {
+                count(&mut self.give_ups);
+                Ok(())
+            }
+            _ => Ok(()),
         }
-        Ok(())
     }
 
     /// Returns whether a step has an effect, by the rule.
@@ -263,11 +267,10 @@ impl Play {
         }
     }
 
-    /// Makes a step.
-    fn make(&mut self, step: Step) -> Result<(), AllocError> {
-        self.note(step)?;
+    /// Makes a step, if it has an effect.
+    fn try_step(&mut self, step: Step) {
         if !self.has_effect(step) {
-            return Ok(());
+            return;
         }
         if let Ok(stepped) = self.world.step(step) {
             match step {
@@ -276,6 +279,15 @@ impl Play {
                 _ => {}
             }
         }
+    }
+
+    /// Makes a step, and notes it.
+    fn make(&mut self, step: Step) -> Result<(), AllocError> {
+        let first = self.world.sent() as u64;
+        self.note(step)?;
+        self.try_step(step);
+        let end = self.world.sent() as u64;
+        self.made.push(Made { step, first, end })?;
         Ok(())
     }
 
@@ -290,7 +302,7 @@ impl Play {
             Order::Oldest => 0,
             Order::Newest => count - 1,
         };
-        match self.duties.at(place) {
+        match self.duties.get(place) {
             Some(duty) if self.style.hostile && matches!(duty.step, Step::Leave(_)) => {
                 place.saturating_add(1) % count
             }
@@ -301,12 +313,12 @@ impl Play {
     /// Does a duty, and adds what it leads to.
     fn do_duty(&mut self) -> Result<(), AllocError> {
         let place = self.draw_place();
-        let Some(duty) = self.duties.take(place) else {
+        let Some(duty) = take(&mut self.duties, place) else {
             return Ok(());
         };
         let first = self.world.sent();
         self.make(duty.step)?;
-        self.duties.follow(duty, first, self.world.sent())
+        follow(&mut self.duties, duty, first, self.world.sent())
     }
 
     /// Draws one of the last messages, or of all.
@@ -403,36 +415,51 @@ impl Play {
 
     /// Begins a round: lists its duties.
     fn begin(&mut self) -> Result<(), AllocError> {
-        self.starts.push(self.steps.len())?;
+        self.made.clear();
+        self.inside = inside_of(&self.world);
         self.old = self.young;
         self.young = self.world.sent();
         self.give_ups = 0;
         self.late = 0;
-        self.duties.add_reminders(self.game.clients, self.voters)?;
-        match inside_of(&self.world) {
-            Some(client) => self.duties.add_leave(client),
+        add_reminders(&mut self.duties, self.game.clients, self.voters)?;
+        match self.inside {
+            Some(client) => add_leave(&mut self.duties, client),
             None => Ok(()),
         }
     }
 
-    /// Ends a round: counts it for each client that waited all along.
+    /// Returns whether this round was fair.
+    fn is_fair(&self) -> bool {
+        is_fair(&self.made, self.game.clients, self.voters, self.inside)
+    }
+
+    /// Counts the round for a client, if it waited all along.
+    fn end_wait(&mut self, client: u8) {
+        let stamp = asking_stamp(&self.world, client);
+        let Some(wait) = self.waits.get_mut(usize::from(client)) else {
+            return;
+        };
+        if stamp == 0 || stamp != wait.stamp {
+            *wait = Wait::of(stamp);
+            return;
+        }
+        wait.pass(self.give_ups, self.late);
+        self.tally.longest = self.tally.longest.max(wait.rounds);
+        if wait.is_over(self.game.clients) {
+            count(&mut self.tally.overdue);
+        }
+    }
+
+    /// Ends a round: counts it.
     fn end(&mut self) {
         count(&mut self.tally.rounds);
         self.tally.give_ups = self.tally.give_ups.saturating_add(self.give_ups);
         self.tally.late = self.tally.late.saturating_add(self.late);
+        if self.game.checked && !self.is_fair() {
+            count(&mut self.tally.unfair);
+        }
         for client in 0..self.game.clients {
-            let stamp = asking_stamp(&self.world, client);
-            if let Some(wait) = self.waits.get_mut(usize::from(client)) {
-                if stamp == 0 || stamp != wait.stamp {
-                    *wait = Wait::of(stamp);
-                    continue;
-                }
-                wait.pass(self.give_ups, self.late);
-                self.tally.longest = self.tally.longest.max(wait.rounds);
-                if wait.is_over(self.game.clients) {
-                    count(&mut self.tally.overdue);
-                }
-            }
+            self.end_wait(client);
         }
     }
 
@@ -456,58 +483,33 @@ impl Play {
         Ok(())
     }
 
-    /// Returns how many rounds there were.
-    pub fn rounds(&self) -> usize {
-        self.starts.len()
+    /// Plays this many fair rounds.
+    fn rounds(&mut self, count: u32) -> Result<(), AllocError> {
+        for _ in 0..count {
+            self.round()?;
+        }
+        Ok(())
     }
 
-    /// Returns how many messages were sent.
-    pub fn sent(&self) -> usize {
-        self.world.sent()
-    }
-
-    /// Returns the steps of a round.
-    pub fn steps_of(&self, round: usize) -> &[Step] {
-        let whole = self.steps.len();
-        let start = self.starts.get(round).copied().unwrap_or(whole);
-        let end = self
-            .starts
-            .get(round.saturating_add(1))
-            .copied()
-            .unwrap_or(whole);
-        self.steps.get(start..end).unwrap_or_default()
-    }
-
-    /// Returns what the play tried.
-    pub fn tally(&self) -> Tally {
+    /// Returns the tally, with what the play tried.
+    fn tally(&self) -> Tally {
         let came = self.came.iter().filter(|came| **came).count();
         let mut tally = self.tally;
-        tally.losses = (self.world.sent().saturating_sub(came)) as u64;
+        let lost = self.world.sent().saturating_sub(came) as u64;
+        tally.losses = tally.losses.saturating_add(lost);
         tally
     }
 }
 
-/// Plays this many fair rounds by a seed.
-pub fn played(alloc: Global, game: Game, seed: u64, rounds: u32) -> Result<Play, AllocError> {
-    let mut play = Play::new(alloc, game, seed)?;
-    for _ in 0..rounds {
-        play.round()?;
-    }
-    Ok(play)
-}
-
-impl Tally {
-    /// Adds what another play tried.
-    pub fn add(&mut self, other: &Tally) {
-        self.rounds = self.rounds.saturating_add(other.rounds);
-        self.entries = self.entries.saturating_add(other.entries);
-        self.give_ups = self.give_ups.saturating_add(other.give_ups);
-        self.late = self.late.saturating_add(other.late);
-        self.repeats = self.repeats.saturating_add(other.repeats);
-        self.losses = self.losses.saturating_add(other.losses);
-        self.exchanges = self.exchanges.saturating_add(other.exchanges);
-        self.longest = self.longest.max(other.longest);
-        self.overdue = self.overdue.saturating_add(other.overdue);
-        self.unfinished = self.unfinished.saturating_add(other.unfinished);
-    }
+/// Plays this many fair rounds by a seed, and returns the tally with what they tried.
+pub fn tally_of(
+    alloc: Global,
+    game: Game,
+    seed: u64,
+    rounds: u32,
+    tally: Tally,
+) -> Result<Tally, AllocError> {
+    let mut play = Play::new(alloc, game, seed, tally)?;
+    play.rounds(rounds)?;
+    Ok(play.tally())
 }

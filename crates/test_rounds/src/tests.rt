@@ -3,14 +3,13 @@
 ghost use Rattle.std.specs.Prelude.{◌≤◌};
 
 use crate::fair::{Made, is_fair};
-use crate::rounds::{Game, Play, Tally, inside_of, new_world, played};
+use crate::rounds::{Game, Tally, tally_of};
 use crate::rules::Rule;
 use crate::waits::SCHEDULES;
 use show_waiting::longest_wait;
 use std::alloc::{AllocError, Global};
 use test_plans::Kind;
 use world::Step::{Deliver, Leave, RemindClient, RemindVoter};
-use world::{Step, World};
 
 /// The coteries of the schedules: each has a fifth of the seeds.
 const KINDS: [Kind; 5] = [
@@ -30,11 +29,10 @@ const ROUNDS_OF_TWO: u32 = 160;
 /// How often, at least, the schedules of a row have to try each thing that is counted.
 const OFTEN: u64 = 100;
 
-/// Returns what these schedules tried, for the seeds below `seeds`.
-fn tried(alloc: Global, game: Game, seeds: u64, rounds: u32) -> Result<Tally, AllocError> {
-    let mut tally = Tally::default();
-    for seed in 0..seeds {
-        tally.add(&played(alloc, game, seed, rounds)?.tally());
+/// Returns a tally with what a fifth of the schedules tried, for the seeds from 0 on.
+fn tried(alloc: Global, game: Game, mut tally: Tally) -> Result<Tally, AllocError> {
+    for seed in 0..SCHEDULES / 5 {
+        tally = tally_of(alloc, game, seed, ROUNDS, tally)?;
     }
     Ok(tally)
 }
@@ -50,9 +48,10 @@ fn tried_by_all(alloc: Global, clients: u8, rough: bool) -> Result<Tally, AllocE
             kind,
             clients,
             rough,
+            checked: false,
             rule: Rule::Sound,
         };
-        tally.add(&tried(alloc, game, SCHEDULES / 5, ROUNDS)?);
+        tally = tried(alloc, game, tally)?;
     }
     Ok(tally)
 }
@@ -100,43 +99,17 @@ fn withdrawals_and_late_requests_are_paid_for(rt: HostRuntime) {
     }
 }
 
-/// Makes these steps, and returns them with the numbers of their messages.
-fn made(alloc: Global, world: &mut World, steps: &[Step]) -> Result<Vec<Made>, AllocError> {
-    let mut made = Vec::new(alloc);
-    for step in steps {
-        let first = world.sent() as u64;
-        let _ = world.step(*step);
-        made.push(Made {
-            step: *step,
-            first,
-            end: world.sent() as u64,
-        })?;
-    }
-    Ok(made)
-}
-
-/// Returns whether each round of a play is fair in a world of its own, which sends as many messages.
-fn are_fair(alloc: Global, play: &Play, world: &mut World) -> Result<bool, AllocError> {
-    let mut fair = true;
-    for round in 0..play.rounds() {
-        let inside = inside_of(world);
-        let steps = made(alloc, world, play.steps_of(round))?;
-        fair &= is_fair(&steps, world.clients(), world.voters(), inside);
-    }
-    Ok(fair & (world.sent() == play.sent()))
-}
-
 /// Returns whether the rounds of a schedule of this coterie are fair.
 fn is_fair_throughout(alloc: Global, kind: Kind, rough: bool) -> Result<bool, AllocError> {
     let game = Game {
         kind,
         clients: 4,
         rough,
+        checked: true,
         rule: Rule::Sound,
     };
-    let play = played(alloc, game, 7, ROUNDS)?;
-    let mut world = new_world(alloc, game)?;
-    are_fair(alloc, &play, &mut world)
+    let tally = tally_of(alloc, game, 7, ROUNDS, Tally::default())?;
+    Ok((tally.unfair == 0) & (tally.rounds == u64::from(ROUNDS)))
 }
 
 #[test]
@@ -161,7 +134,7 @@ macro_rules! made {
 
 /// The steps of a round with one client and one voter, who is inside at its beginning, and whether the
 /// round is fair.
-const SMALL_ROUNDS: [(&[Made], Option<u8>, bool); 8] = [
+const SMALL_ROUNDS: [(&[Made], Option<u8>, bool); 6] = [
     (
         &[
             made!(RemindClient(0), 0, 1),
@@ -192,25 +165,6 @@ const SMALL_ROUNDS: [(&[Made], Option<u8>, bool); 8] = [
         ],
         None,
         false,
-    ),
-    // the message does not arrive
-    (
-        &[made!(RemindClient(0), 0, 1), made!(RemindVoter(0), 1, 1)],
-        None,
-        false,
-    ),
-    // of two reminders, each with an arrival, one has the reply
-    (
-        &[
-            made!(RemindClient(0), 0, 1),
-            made!(Deliver(0), 1, 2),
-            made!(RemindClient(0), 2, 3),
-            made!(Deliver(2), 3, 4),
-            made!(RemindVoter(0), 4, 4),
-            made!(Deliver(3), 4, 4),
-        ],
-        None,
-        true,
     ),
     // the voter is not reminded
     (&[made!(RemindClient(0), 0, 0)], None, false),
@@ -248,9 +202,10 @@ fn overdue(alloc: Global, rule: Rule, seed: u64) -> Result<u64, AllocError> {
         kind: Kind::Grid,
         clients: 2,
         rough: false,
+        checked: false,
         rule,
     };
-    Ok(played(alloc, game, seed, ROUNDS_OF_TWO)?.tally().overdue)
+    Ok(tally_of(alloc, game, seed, ROUNDS_OF_TWO, Tally::default())?.overdue)
 }
 
 /// Returns in how many schedules somebody was not inside in time under a rule.
