@@ -2,18 +2,16 @@
 use message::{Message, read_message, write_message};
 use std::alloc::{AllocError, Global};
 
-/// Adds the line of a message, if it has one, and then `end`.
+/// Adds the line of a message, if it has one, and a semicolon.
 pub(crate) fn add_line(
     alloc: Global,
     text: &mut String,
     message: &Message,
-    end: char,
 ) -> Result<(), AllocError> {
     if message.has_line() {
         text.push_str(write_message(alloc, message)?.as_str())?;
-        text.push(end)?;
     }
-    Ok(())
+    text.push(';')
 }
 
 /// Lines, and whether each is that of a message.

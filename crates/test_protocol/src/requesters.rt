@@ -48,7 +48,7 @@ fn reply_to(client: &mut Requester, step: &str) -> Result<Reply, ClientFault>
 fn is_reply(alloc: Global, reply: &Reply, lines: &str, seen: Seen) -> Result<bool, AllocError> {
     let mut text = String::new(alloc);
     for message in reply.out.as_slice() {
-        add_line(alloc, &mut text, &Message::ToVoter(*message), ';')?;
+        add_line(alloc, &mut text, &Message::ToVoter(*message))?;
     }
     Ok((text.as_str() == lines) & (reply.seen == seen))
 }

@@ -21,7 +21,7 @@ fn asked(line: &str) -> Option<ToVoter>
 fn are_lines(alloc: Global, replies: &Replies, wanted: &str) -> Result<bool, AllocError> {
     let mut text = String::new(alloc);
     for reply in replies.as_slice() {
-        add_line(alloc, &mut text, &Message::ToClient(*reply), ';')?;
+        add_line(alloc, &mut text, &Message::ToClient(*reply))?;
     }
     Ok(text.as_str() == wanted)
 }

@@ -1,9 +1,8 @@
 //! Runs of the automata together.
-use crate::messages::add_line;
 use std::alloc::{AllocError, Global};
 use test_plans::Kind;
 use world::Step::{Ask, Deliver, Exchange, Leave};
-use world::{Step, Trace, run};
+use world::{Event, Step, Trace, WorldFault, run};
 
 /// Two clients of any two of three voters race, and client 1 enters and leaves.
 const RACE: &[Step] = &[
@@ -18,10 +17,6 @@ const RACE: &[Step] = &[
     Leave(1),
     Deliver(7),
 ];
-
-const RACE_STORY: &str =
-    "request 0 0 1\nrequest 0 1 1\nrequest 1 0 1\nrequest 1 2 1\nlocked 0 1 1 1 1\ninquire 0 1 1 1\n\
-    locked 2 1 1 1 1\nrelease 1 0 1\nrelease 1 2 1\nlocked 0 0 1 2 1\nenter 1\nleave 1\ndraw 0 0\ndraw 1 1\n";
 
 /// The plan is exchanged while a client asks.
 const EXCHANGED: &[Step] = &[
@@ -44,55 +39,67 @@ const EXCHANGED: &[Step] = &[
     Exchange,
 ];
 
-const EXCHANGED_STORY: &str =
-    "request 0 0 1\nrequest 0 1 1\nrequest 1 0 1\nrequest 1 1 1\nrequest 1 2 1\nlocked 0 0 1 1 1\n\
-    locked 1 0 1 1 1\nfail 0 1 1 1\nfail 1 1 1 1\nlocked 2 1 1 1 1\nrelease 0 0 1\nrelease 0 1 1\n\
-    locked 0 1 1 2 1\nlocked 1 1 1 2 1\nenter 0\nleave 0\nenter 1\ndraw 0 0\ndraw2 1 0\n16: U4 NoSecondPlan\n";
-
-/// Writes the messages, who entered and left, who drew which ticket, and what was refused.
-fn write_story(alloc: Global, text: &mut String, trace: &Trace) -> Result<(), AllocError> {
-    for message in trace.messages.as_slice() {
-        add_line(alloc, text, message, '\n')?;
-    }
-    for event in trace.visible.as_slice() {
-        let word = if event.entered { "enter" } else { "leave" };
-        write!(text, "{word} {}\n", event.client)?;
-    }
-    for (client, ticket) in trace.draws.as_slice() {
-        write!(text, "draw {client} {ticket}\n")?;
-    }
-    for (client, ticket) in trace.draws2.as_slice() {
-        write!(text, "draw2 {client} {ticket}\n")?;
-    }
-    for (place, fault) in trace.refused.as_slice() {
-        write!(text, "{place}: {fault}\n")?;
-    }
-    Ok(())
+/// Client 0 or 1 enters or leaves.
+macro_rules! event {
+    ($client:literal, $entered:literal) => {
+        Event {
+            client: $client,
+            entered: $entered,
+        }
+    };
 }
 
-/// Returns what a run of two clients did.
-fn story_of(alloc: Global, kind: Kind, steps: &[Step]) -> Result<String, AllocError> {
+/// What a run did: how many messages were sent, who entered and left, who drew which ticket of each plan,
+/// and which steps were refused.
+type Told = (
+    usize,
+    &'static [Event],
+    [&'static [(u8, u64)]; 2],
+    &'static [(usize, WorldFault)],
+);
+
+const RUNS: [(Kind, &[Step], Told); 2] = [
+    (
+        Kind::Majority,
+        RACE,
+        (
+            10,
+            &[event!(1, true), event!(1, false)],
+            [&[(0, 0), (1, 1)], &[]],
+            &[],
+        ),
+    ),
+    (
+        Kind::MajorityThenAll,
+        EXCHANGED,
+        (
+            14,
+            &[event!(0, true), event!(0, false), event!(1, true)],
+            [&[(0, 0)], &[(1, 0)]],
+            &[(16, WorldFault::NoSecondPlan)],
+        ),
+    ),
+];
+
+/// Returns whether a run did this.
+fn is_told(trace: &Trace, told: &Told) -> bool {
+    let (sent, visible, [draws, draws2], refused) = *told;
+    (trace.messages.len() == sent)
+        & (trace.visible.as_slice() == visible)
+        & (trace.draws.as_slice() == draws)
+        & (trace.draws2.as_slice() == draws2)
+        & (trace.refused.as_slice() == refused)
+}
+
+/// Returns whether two clients make these steps, and do this.
+fn makes(alloc: Global, kind: Kind, steps: &[Step], told: &Told) -> Result<bool, AllocError> {
     let plans = kind.plans(alloc).ok_or(AllocError)?;
-    let trace = run(alloc, plans, 2, 1000, steps)?;
-    let mut text = String::new(alloc);
-    write_story(alloc, &mut text, &trace)?;
-    Ok(text)
-}
-
-/// Returns whether a run does this.
-fn tells(alloc: Global, kind: Kind, steps: &[Step], wanted: &str) -> Result<bool, AllocError> {
-    Ok(story_of(alloc, kind, steps)?.as_str() == wanted)
+    Ok(is_told(&run(alloc, plans, 2, 1000, steps)?, told))
 }
 
 #[test]
 fn runs_are_told(rt: HostRuntime) {
-    assert!(rt; tells(rt.alloc(), Kind::Majority, RACE, RACE_STORY) == Ok(true));
-    assert!(rt;
-        tells(
-            rt.alloc(),
-            Kind::MajorityThenAll,
-            EXCHANGED,
-            EXCHANGED_STORY
-        ) == Ok(true)
-    );
+    for (kind, steps, told) in &RUNS {
+        assert!(rt; makes(rt.alloc(), *kind, steps, told) == Ok(true));
+    }
 }
