@@ -29,13 +29,17 @@ fn walks(alloc: Global) -> Result<Vec<QSet>, AllocError> {
     Ok(sets)
 }
 
-/// Returns the fault of the coterie of all walks, if no plan is found.
-fn fault_of_walks(alloc: Global) -> Option<PlannerFault> {
-    let walks = Coterie::of(64, walks(alloc).ok()?).ok()?;
-    if walks.voters() != 64 {
+/// Returns the fault of a coterie of 64 voters, if no plan is found.
+fn fault_of(alloc: Global, coterie: &Coterie) -> Option<PlannerFault> {
+    if coterie.voters() != 64 {
         return None;
     }
-    plan(alloc, &walks, &[1; 64]).err()
+    plan(alloc, coterie, &[1; 64]).err()
+}
+
+/// Returns the fault of the coterie of all walks, if no plan is found.
+fn fault_of_walks(alloc: Global) -> Option<PlannerFault> {
+    fault_of(alloc, &Coterie::of(64, walks(alloc).ok()?).ok()?)
 }
 
 #[test]
@@ -43,11 +47,18 @@ fn numbers_that_grow_too_large_end_the_search(rt: HostRuntime) {
     assert!(rt; fault_of_walks(rt.alloc()) == Some(PlannerFault::NoPlan(Cause::Overflow)));
 }
 
-/// Returns the load of the plan of a shape whose voters all have capacity 1, if there is a plan.
-fn load_of(alloc: Global, shape: Shape) -> Option<(u64, u64)> {
-    let coterie = built(alloc, shape).ok()?;
+/// Returns the load of the plan of a coterie whose voters all have capacity 1, if there is a plan.
+fn load(alloc: Global, coterie: &Coterie) -> Option<(u64, u64)> {
     let capacities = &[1; 64][..coterie.voters()];
-    Some(plan(alloc, &coterie, capacities).ok()?.load())
+    match plan(alloc, coterie, capacities) {
+        Ok(plan) => Some(plan.load()),
+        Err(_) => None,
+    }
+}
+
+/// Returns the same of the coterie of a shape.
+fn load_of(alloc: Global, shape: Shape) -> Option<(u64, u64)> {
+    load(alloc, &built(alloc, shape).ok()?)
 }
 
 /// Returns whether this load is `share / all`.
