@@ -4,13 +4,14 @@ ghost use Rattle.std.specs.Prelude.{◌≡◌};
 
 use board::BoardFault;
 use certificate::PlanFault;
-use cluster::{Blank, ClusterFault, ClusterName};
+use cluster::{Blank, Cluster, ClusterFault, ClusterName, Member};
 use construct::ConstructFault;
 use coterie_file::FileFault;
 use dealer::{DealFault, OfficeFault, Plans};
 use fraction::FracFault;
 use members::CloseFault;
 use message::MessageFault;
+use plan_inputs::line_of;
 use planner::{Cause, PlannerFault};
 use qlock_cli::{DeviceFault, Fault, InputFault};
 use quorum_set::{BridgeFault, CoterieFault};
@@ -18,26 +19,107 @@ use replay::ReplayFault;
 use requester::ClientFault;
 use runs::RunFault;
 use simplex::SimplexFault;
-use std::alloc::{AllocError, Global};
+use std::alloc::Global;
 use std::fmt::Display;
 use std::marker::Brand;
-use std::test::Fail;
 use test_plans::majority_plan;
 use voter::VoterFault;
 use world::WorldFault;
 
-const COTERIES: [(CoterieFault, &str); 8] = [
-    (CoterieFault::NoVoters, "E1 NoVoters"),
-    (CoterieFault::TooManyVoters, "E2 TooManyVoters"),
-    (CoterieFault::NoQuorums, "E3 NoQuorums"),
-    (CoterieFault::TooManyQuorums, "E4 TooManyQuorums"),
-    (CoterieFault::EmptyQuorum(4095), "E5 EmptyQuorum 4095"),
+/// A fault of a coterie.
+macro_rules! coterie {
+    ($fault:expr) => {
+        InputFault::File(FileFault::Coterie($fault))
+    };
+}
+
+/// No plan was found, for this cause.
+macro_rules! no_plan {
+    ($cause:ident) => {
+        InputFault::Planner(PlannerFault::NoPlan(Cause::$cause))
+    };
+}
+
+/// The faults of coteries, of plans and of searches for plans, which are lines of the planning library, too.
+const INPUTS: [(InputFault, &str); 34] = [
+    (coterie!(CoterieFault::NoVoters), "E1 NoVoters"),
+    (coterie!(CoterieFault::TooManyVoters), "E2 TooManyVoters"),
+    (coterie!(CoterieFault::NoQuorums), "E3 NoQuorums"),
+    (coterie!(CoterieFault::TooManyQuorums), "E4 TooManyQuorums"),
     (
-        CoterieFault::VoterOutOfRange(7, 64),
+        coterie!(CoterieFault::EmptyQuorum(4095)),
+        "E5 EmptyQuorum 4095",
+    ),
+    (
+        coterie!(CoterieFault::VoterOutOfRange(7, 64)),
         "E6 VoterOutOfRange 7 64",
     ),
-    (CoterieFault::Disjoint(2, 10), "E7 Disjoint 2 10"),
-    (CoterieFault::Contained(0, 3), "E8 Contained 0 3"),
+    (coterie!(CoterieFault::Disjoint(2, 10)), "E7 Disjoint 2 10"),
+    (coterie!(CoterieFault::Contained(0, 3)), "E8 Contained 0 3"),
+    (InputFault::File(FileFault::NotToml), "F1 NotToml"),
+    (InputFault::File(FileFault::Keys), "F2 Keys"),
+    (InputFault::File(FileFault::BadName(63)), "F3 BadName 63"),
+    (
+        InputFault::File(FileFault::RepeatedName(1)),
+        "F4 RepeatedName 1",
+    ),
+    (
+        InputFault::File(FileFault::UnknownName(12)),
+        "F5 UnknownName 12",
+    ),
+    (
+        InputFault::File(FileFault::RepeatedMember(0)),
+        "F6 RepeatedMember 0",
+    ),
+    (
+        InputFault::File(FileFault::CapacityCount(2)),
+        "F7 CapacityCount 2",
+    ),
+    (
+        InputFault::File(FileFault::BadCapacity(18446744073709551615)),
+        "F8 BadCapacity 18446744073709551615",
+    ),
+    (InputFault::Plan(PlanFault::WrongLength), "P1 WrongLength"),
+    (InputFault::Plan(PlanFault::TooLarge), "P2 TooLarge"),
+    (InputFault::Plan(PlanFault::Empty), "P3 Empty"),
+    (
+        InputFault::Plan(PlanFault::NotOptimal {
+            busiest_count: 1,
+            voter_total: 20,
+            lightest_quorum: 300,
+            cycle_len: 18446744073709551615,
+        }),
+        "P4 NotOptimal 1 20 300 18446744073709551615",
+    ),
+    (
+        InputFault::Plan(PlanFault::BadText { line: 6 }),
+        "P5 BadText 6",
+    ),
+    (InputFault::Plan(PlanFault::WrongLoad), "P6 WrongLoad"),
+    (InputFault::Plan(PlanFault::WrongCycle), "P7 WrongCycle"),
+    (
+        InputFault::Plan(PlanFault::NotOptimalRatio {
+            ratio_numerator: 18446744073709551615,
+            ratio_denominator: 18446744073709551615,
+            capacity_total: 18446744073709551615,
+            lightest_quorum: 18446744073709551615,
+            cycle_len: 18446744073709551615,
+        }),
+        "P8 NotOptimalRatio 18446744073709551615 18446744073709551615 18446744073709551615 18446744073709551615 18446744073709551615",
+    ),
+    (
+        InputFault::Plan(PlanFault::WrongCapacity),
+        "P9 WrongCapacity",
+    ),
+    (no_plan!(Overflow), "N1 NoPlan S1"),
+    (no_plan!(PivotLimit), "N1 NoPlan S2"),
+    (no_plan!(NoRow), "N1 NoPlan S3"),
+    (no_plan!(WrongLength), "N1 NoPlan P1"),
+    (no_plan!(TooLarge), "N1 NoPlan P2"),
+    (no_plan!(Empty), "N1 NoPlan P3"),
+    (no_plan!(NotOptimal), "N1 NoPlan P4"),
+    (no_plan!(NotOptimalRatio), "N1 NoPlan P8"),
+    (InputFault::OutOfMemory, "O1 OutOfMemory"),
 ];
 
 const BRIDGES: [(BridgeFault, &str); 2] = [
@@ -46,22 +128,6 @@ const BRIDGES: [(BridgeFault, &str); 2] = [
         "J1 NotBridged 4094 4095",
     ),
     (BridgeFault::OutOfMemory, "O1 OutOfMemory"),
-];
-
-const COTERIE_TEXTS: [(FileFault, &str); 10] = [
-    (FileFault::NotToml, "F1 NotToml"),
-    (FileFault::Keys, "F2 Keys"),
-    (FileFault::BadName(63), "F3 BadName 63"),
-    (FileFault::RepeatedName(1), "F4 RepeatedName 1"),
-    (FileFault::UnknownName(12), "F5 UnknownName 12"),
-    (FileFault::RepeatedMember(0), "F6 RepeatedMember 0"),
-    (FileFault::CapacityCount(2), "F7 CapacityCount 2"),
-    (FileFault::BadCapacity(63), "F8 BadCapacity 63"),
-    (
-        FileFault::Coterie(CoterieFault::Disjoint(1, 2)),
-        "E7 Disjoint 1 2",
-    ),
-    (FileFault::OutOfMemory, "O1 OutOfMemory"),
 ];
 
 const SHAPES: [(ConstructFault, &str); 4] = [
@@ -86,48 +152,6 @@ const SIMPLEX_METHODS: [(SimplexFault, &str); 4] = [
     (SimplexFault::OutOfMemory, "O1 OutOfMemory"),
 ];
 
-const PLANS: [(PlanFault, &str); 10] = [
-    (PlanFault::WrongLength, "P1 WrongLength"),
-    (PlanFault::TooLarge, "P2 TooLarge"),
-    (PlanFault::Empty, "P3 Empty"),
-    (
-        PlanFault::NotOptimal {
-            busiest_count: 3,
-            voter_total: 5,
-            lightest_quorum: 2,
-            cycle_len: 4,
-        },
-        "P4 NotOptimal 3 5 2 4",
-    ),
-    (
-        PlanFault::NotOptimalRatio {
-            ratio_numerator: 3,
-            ratio_denominator: 1,
-            capacity_total: 7,
-            lightest_quorum: 4,
-            cycle_len: 5,
-        },
-        "P8 NotOptimalRatio 3 1 7 4 5",
-    ),
-    (PlanFault::BadText { line: 6 }, "P5 BadText 6"),
-    (PlanFault::WrongCapacity, "P9 WrongCapacity"),
-    (PlanFault::WrongLoad, "P6 WrongLoad"),
-    (PlanFault::WrongCycle, "P7 WrongCycle"),
-    (PlanFault::OutOfMemory, "O1 OutOfMemory"),
-];
-
-const PLANNERS: [(PlannerFault, &str); 9] = [
-    (PlannerFault::NoPlan(Cause::Overflow), "N1 NoPlan S1"),
-    (PlannerFault::NoPlan(Cause::PivotLimit), "N1 NoPlan S2"),
-    (PlannerFault::NoPlan(Cause::NoRow), "N1 NoPlan S3"),
-    (PlannerFault::NoPlan(Cause::WrongLength), "N1 NoPlan P1"),
-    (PlannerFault::NoPlan(Cause::TooLarge), "N1 NoPlan P2"),
-    (PlannerFault::NoPlan(Cause::Empty), "N1 NoPlan P3"),
-    (PlannerFault::NoPlan(Cause::NotOptimal), "N1 NoPlan P4"),
-    (PlannerFault::NoPlan(Cause::NotOptimalRatio), "N1 NoPlan P8"),
-    (PlannerFault::OutOfMemory, "O1 OutOfMemory"),
-];
-
 const DRAWS: [(DealFault, &str); 2] = [
     (DealFault::QuotaSpent, "L1 QuotaSpent"),
     (DealFault::OutOfMemory, "O1 OutOfMemory"),
@@ -140,10 +164,6 @@ const OFFICES: [(OfficeFault, &str); 2] = [
     ),
     (OfficeFault::OutOfMemory, "O1 OutOfMemory"),
 ];
-
-const MESSAGES: [(MessageFault, &str); 1] = [(MessageFault::BadLine, "M1 BadLine")];
-
-const VOTERS: [(VoterFault, &str); 1] = [(VoterFault::GrantsSpent, "V1 GrantsSpent")];
 
 const CLIENTS: [(ClientFault, &str); 4] = [
     (ClientFault::Busy, "C1 Busy"),
@@ -213,16 +233,6 @@ const DEVICES: [(DeviceFault, &str); 4] = [
     (DeviceFault::OutOfMemory, "O1 OutOfMemory"),
 ];
 
-const INPUTS: [(InputFault, &str); 4] = [
-    (InputFault::File(FileFault::Keys), "F2 Keys"),
-    (InputFault::Plan(PlanFault::WrongLoad), "P6 WrongLoad"),
-    (
-        InputFault::Planner(PlannerFault::NoPlan(Cause::PivotLimit)),
-        "N1 NoPlan S2",
-    ),
-    (InputFault::OutOfMemory, "O1 OutOfMemory"),
-];
-
 const COMMANDS: [(Fault, &str); 9] = [
     (Fault::MissingPart(3), "I1 MissingPart 3"),
     (Fault::UnknownVoter(63), "I6 UnknownVoter 63"),
@@ -238,92 +248,114 @@ const COMMANDS: [(Fault, &str); 9] = [
     (Fault::OutOfMemory, "O1 OutOfMemory"),
 ];
 
+/// Returns whether a fault has this line.
+fn has_line<F: Display>(alloc: Global, fault: &F, line: &str) -> bool {
+    match fault.to_string(alloc) {
+        Ok(text) => text.as_str() == line,
+        Err(_) => false,
+    }
+}
+
 /// Returns whether each fault has the line next to it.
-fn have_lines<F: Display>(alloc: Global, table: &[(F, &str)]) -> Result<bool, AllocError> {
+fn have_lines<F: Display>(alloc: Global, table: &[(F, &str)]) -> bool {
     for (fault, line) in table {
-        if fault.to_string(alloc)?.as_str() != *line {
-            return Ok(false);
+        if !has_line(alloc, fault, line) {
+            return false;
         }
     }
-    Ok(true)
+    true
 }
 
 /// Returns whether each fault of coteries and plans has its line.
-fn plans_have_lines(alloc: Global) -> Result<bool, AllocError> {
-    Ok(
-        have_lines(alloc, &COTERIES)?
-            & have_lines(alloc, &BRIDGES)?
-            & have_lines(alloc, &COTERIE_TEXTS)?
-            & have_lines(alloc, &SHAPES)?
-            & have_lines(alloc, &FRACTIONS)?
-            & have_lines(alloc, &SIMPLEX_METHODS)?
-            & have_lines(alloc, &PLANS)?
-            & have_lines(alloc, &PLANNERS)?
-            & have_lines(alloc, &INPUTS)?,
-    )
+fn plans_have_lines(alloc: Global) -> bool {
+    have_lines(alloc, &INPUTS)
+        & has_line(alloc, &FileFault::OutOfMemory, "O1 OutOfMemory")
+        & has_line(alloc, &PlanFault::OutOfMemory, "O1 OutOfMemory")
+        & has_line(alloc, &PlannerFault::OutOfMemory, "O1 OutOfMemory")
+        & have_lines(alloc, &BRIDGES)
+        & have_lines(alloc, &SHAPES)
+        & have_lines(alloc, &FRACTIONS)
+        & have_lines(alloc, &SIMPLEX_METHODS)
 }
 
 #[test]
 fn faults_of_plans(rt: HostRuntime) {
-    assert!(rt; plans_have_lines(rt.alloc()) == Ok(true));
+    assert!(rt; plans_have_lines(rt.alloc()));
+}
+
+/// The planning library writes the same lines.
+#[test]
+fn faults_of_the_planning_library(rt: HostRuntime) {
+    for (fault, line) in &INPUTS {
+        assert!(rt; line_of(fault).as_str() == *line);
+    }
 }
 
 /// Returns whether each fault of the lock has its line.
-fn the_lock_has_lines(alloc: Global) -> Result<bool, AllocError> {
-    Ok(
-        have_lines(alloc, &DRAWS)?
-            & have_lines(alloc, &OFFICES)?
-            & have_lines(alloc, &MESSAGES)?
-            & have_lines(alloc, &VOTERS)?
-            & have_lines(alloc, &CLIENTS)?
-            & have_lines(alloc, &WORLDS)?
-            & have_lines(alloc, &BOARDS)?
-            & have_lines(alloc, &CLUSTERS)?,
-    )
+fn the_lock_has_lines(alloc: Global) -> bool {
+    have_lines(alloc, &DRAWS)
+        & have_lines(alloc, &OFFICES)
+        & has_line(alloc, &MessageFault::BadLine, "M1 BadLine")
+        & has_line(alloc, &VoterFault::GrantsSpent, "V1 GrantsSpent")
+        & have_lines(alloc, &CLIENTS)
+        & have_lines(alloc, &WORLDS)
+        & have_lines(alloc, &BOARDS)
+        & have_lines(alloc, &CLUSTERS)
 }
 
 #[test]
 fn faults_of_the_lock(rt: HostRuntime) {
-    assert!(rt; the_lock_has_lines(rt.alloc()) == Ok(true));
+    assert!(rt; the_lock_has_lines(rt.alloc()));
 }
 
 /// Returns whether each fault of the program has its line.
-fn the_program_has_lines(alloc: Global) -> Result<bool, AllocError> {
-    Ok(
-        have_lines(alloc, &RECORDS_AND_SCRIPTS)?
-            & have_lines(alloc, &RUNS)?
-            & have_lines(alloc, &DEVICES)?
-            & have_lines(alloc, &COMMANDS)?,
-    )
+fn the_program_has_lines(alloc: Global) -> bool {
+    have_lines(alloc, &RECORDS_AND_SCRIPTS)
+        & have_lines(alloc, &RUNS)
+        & have_lines(alloc, &DEVICES)
+        & have_lines(alloc, &COMMANDS)
 }
 
 #[test]
 fn faults_of_the_program(rt: HostRuntime) {
-    assert!(rt; the_program_has_lines(rt.alloc()) == Ok(true));
+    assert!(rt; the_program_has_lines(rt.alloc()));
 }
 
-/// Returns the fault of a cluster that is closed without its last member.
-fn closed_without_one<N: ClusterName>(alloc: Global, blank: Blank) -> Result<String, AllocError>
-    requires { blank ≡ N.cluster }
-{
-    let (cluster, mut members) = blank.open::<N>(alloc)?;
+/// Returns whether a cluster that is closed without its last member has the line of its fault.
+fn is_missing<N: ClusterName>(
+    alloc: Global,
+    cluster: Cluster<N>,
+    mut members: Vec<Member<N>>,
+) -> bool {
     drop(members.pop());
     match cluster.close(alloc, members) {
-        Ok(_) => String::from_str(alloc, "closed"),
-        Err(fault) => fault.to_string(alloc),
+        Ok(_) => false,
+        Err(fault) => has_line(alloc, &fault, "K3 MembersOut 1"),
     }
 }
 
+/// Returns the same of a cluster that is opened first.
+fn is_missing_once_open<N: ClusterName>(alloc: Global, blank: Blank) -> bool
+    requires { blank ≡ N.cluster }
+{
+    match blank.open::<N>(alloc) {
+        Ok((cluster, members)) => is_missing(alloc, cluster, members),
+        Err(_) => false,
+    }
+}
+
+/// Returns a cluster of the majorities of three voters that is not open yet, for two clients.
+fn blank(alloc: Global) -> Option<Blank> {
+    let plans = Plans::single(majority_plan(alloc)?);
+    Blank::new(alloc, plans, 2, 1).ok()
+}
+
 #[test]
-fn faults_of_closed_clusters(rt: HostRuntime) -> Result<(), Fail> {
-    let alloc = rt.alloc();
-    let Some(plan) = majority_plan(alloc) else {
-        panic!(rt; "no plan")
-    };
-    let blank = Blank::new(alloc, Plans::single(plan), 2, 1)?;
-    let text = closed_without_one::<Brand>(alloc, blank)?;
+fn faults_of_closed_clusters(rt: HostRuntime) {
     let lost: CloseFault<Brand> = CloseFault::Lost(ClusterFault::Board(BoardFault::VoteOut(2)));
-    let lost = lost.to_string(alloc)?;
-    assert!(rt; (text.as_str() == "K3 MembersOut 1") & (lost.as_str() == "B2 VoteOut 2"));
-    Ok(())
+    assert!(rt; has_line(rt.alloc(), &lost, "B2 VoteOut 2"));
+    let Some(blank) = blank(rt.alloc()) else {
+        panic!(rt; "no memory")
+    };
+    assert!(rt; is_missing_once_open::<Brand>(rt.alloc(), blank));
 }
