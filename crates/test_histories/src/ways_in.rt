@@ -37,6 +37,14 @@ const ROWS: [(&[Step], u8); 5] = [
     ),
 ];
 
+/// Returns who gets in, if anybody does.
+fn let_in_now(alloc: Global, world: &mut World) -> Result<Option<u8>, AllocError> {
+    match let_in(alloc, world)? {
+        Some(way) => Ok(Some(way.client)),
+        None => Ok(None),
+    }
+}
+
 /// Returns who gets in after these steps, if anybody does.
 fn let_in_after(alloc: Global, steps: &[Step]) -> Result<Option<u8>, AllocError> {
     let plan = majority_plan(alloc).ok_or(AllocError)?;
@@ -44,8 +52,7 @@ fn let_in_after(alloc: Global, steps: &[Step]) -> Result<Option<u8>, AllocError>
     for step in steps {
         let _ = world.step(*step);
     }
-    let way = let_in(alloc, &mut world)?;
-    Ok(way.map(|way| way.client))
+    let_in_now(alloc, &mut world)
 }
 
 #[test]

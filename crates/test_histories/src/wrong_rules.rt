@@ -113,36 +113,44 @@ fn most_inside(alloc: Global, rule: Rule, steps: &[Step]) -> Result<usize, Alloc
     Ok(played(alloc, rule, ALL, steps)?.most_inside)
 }
 
+/// Returns whether one client is inside at most with the right rules, and two are with this one.
+fn lets_two_in(alloc: Global, rule: Rule, steps: &[Step]) -> bool {
+    (most_inside(alloc, Rule::Sound, steps) == Ok(1)) & (most_inside(alloc, rule, steps) == Ok(2))
+}
+
 #[test]
 fn wrong_rules_let_two_clients_in(rt: HostRuntime) {
     for (rule, steps) in &TWO_INSIDE {
-        assert!(rt; most_inside(rt.alloc(), Rule::Sound, steps) == Ok(1));
-        assert!(rt; most_inside(rt.alloc(), *rule, steps) == Ok(2));
+        assert!(rt; lets_two_in(rt.alloc(), *rule, steps));
     }
 }
 
-/// Wrong rules, with histories in which a client enters more often or not at all: the client, and how
+/// A wrong rule, a history in which a client enters more often by it or not at all, the client, and how
 /// often it enters with the right rules and with the wrong one.
-const ENTRIES: [(Rule, &[Step], usize, u64, u64); 3] = [
+type Row = (Rule, &'static [Step], usize, u64, u64);
+
+const ENTRIES: [Row; 3] = [
     (Rule::ClockIgnoresVoters, OVERTAKEN, 0, 2, 3),
     (Rule::IdleClientIsDeaf, LOST_RELEASES, 1, 1, 0),
     (Rule::AskedVoteIsKept, EACH_HAS_ONE, 0, 1, 0),
 ];
 
-/// Returns how often each client enters.
-fn entries(alloc: Global, rule: Rule, steps: &[Step]) -> Result<[u64; 4], AllocError> {
-    Ok(played(alloc, rule, ALL, steps)?.entries)
-}
-
 /// Returns how often a client enters, or `None` if memory runs out.
 fn entries_of(alloc: Global, rule: Rule, steps: &[Step], client: usize) -> Option<u64> {
-    entries(alloc, rule, steps).ok()?.get(client).copied()
+    let entries = played(alloc, rule, ALL, steps).ok()?.entries;
+    entries.get(client).copied()
+}
+
+/// Returns whether a client enters as often as a row says.
+fn has_entries(alloc: Global, row: &Row) -> bool {
+    let (rule, steps, client, sound, wrong) = *row;
+    (entries_of(alloc, Rule::Sound, steps, client) == Some(sound))
+        & (entries_of(alloc, rule, steps, client) == Some(wrong))
 }
 
 #[test]
 fn wrong_rules_let_clients_in_too_often_or_not_at_all(rt: HostRuntime) {
-    for (rule, steps, client, sound, wrong) in &ENTRIES {
-        assert!(rt; entries_of(rt.alloc(), Rule::Sound, steps, *client) == Some(*sound));
-        assert!(rt; entries_of(rt.alloc(), *rule, steps, *client) == Some(*wrong));
+    for row in &ENTRIES {
+        assert!(rt; has_entries(rt.alloc(), row));
     }
 }
