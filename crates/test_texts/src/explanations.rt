@@ -18,26 +18,19 @@ fn is_whole(explanation: &Explanation) -> bool {
         & !explanation.mistakes.is_empty()
 }
 
-/// Returns how many of these explanations are whole.
-fn whole_count(explanations: &[Explanation]) -> usize {
-    explanations
-        .iter()
-        .filter(|explanation| is_whole(explanation))
-        .count()
-}
-
-/// Returns how many explanations there are, and how many of them are whole.
-fn counts() -> (usize, usize) {
+/// Returns how many explanations are whole, or 0 if one of them is not.
+fn whole() -> usize {
     let mut count = 0usize;
-    let mut whole = 0usize;
     for section in sections() {
+        if !section.explanations.iter().all(is_whole) {
+            return 0;
+        }
         count = count.saturating_add(section.explanations.len());
-        whole = whole.saturating_add(whole_count(section.explanations));
     }
-    (count, whole)
+    count
 }
 
 #[test]
 fn explanations_are_whole(rt: HostRuntime) {
-    assert_eq!(rt; counts(), (67, 67));
+    assert!(rt; whole() == 67);
 }

@@ -1,12 +1,10 @@
 //! Tests of stories, and of small crates of words and texts, through public calls. This crate has nothing
 //! but tests.
 //!
-//! - `crashes` plays scripts with notes and crashes.
-//! - `guards` plays scripts in which voters let grants go, and voters and clients come back without their
-//!   states, and asks what a guard does with passes.
-//! - `words` has the words of the command line, and `files` has words that name files.
-//! - `explanations` has that each fault is explained, and `faults` has the line of each fault that the
-//!   planning library for C writes.
+//! - `played` plays stories with crashes, with voters and clients that come back without their states, and
+//!   with grants that are let go and a guard that is shown passes.
+//! - `words` has the words of the command line, and which of them name files.
+//! - `explanations` has that each fault is explained.
 //! - `listened` has writers whose reader is gone.
 //! - `places` finds lines, columns, marks and brackets.
 //!
@@ -14,18 +12,12 @@
 #![tactic(auto)]
 
 #[cfg(test)]
-mod crashes;
-#[cfg(test)]
 mod explanations;
-#[cfg(test)]
-mod faults;
-#[cfg(test)]
-mod files;
-#[cfg(test)]
-mod guards;
 #[cfg(test)]
 mod listened;
 #[cfg(test)]
 mod places;
+#[cfg(test)]
+mod played;
 #[cfg(test)]
 mod words;

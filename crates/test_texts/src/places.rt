@@ -4,7 +4,6 @@ use show_inputs::{
     unclosed_line,
 };
 use std::alloc::{AllocError, Global};
-use std::test::Fail;
 
 /// Texts, the number of a line, the line with that number or `none`, and whether it is the last one
 /// and lacks its newline.
@@ -28,11 +27,8 @@ fn line_in(text: &str, number: usize) -> &[u8] {
 #[test]
 fn lines_are_found(rt: HostRuntime) {
     for (text, number, line, is_last) in &LINES {
-        assert!(rt;
-            (line_in(text, *number) == line.as_bytes())
-                & (is_unended(text.as_bytes(), *number) == *is_last),
-            "{text:?} {number}"
-        );
+        assert!(rt; line_in(text, *number) == line.as_bytes());
+        assert!(rt; is_unended(text.as_bytes(), *number) == *is_last);
     }
 }
 
@@ -59,7 +55,7 @@ fn near_line(text: &str, first: usize) -> usize {
 #[test]
 fn near_marks_are_found(rt: HostRuntime) {
     for (text, first, line) in &NEAR_MARKS {
-        assert!(rt; near_line(text, *first) == *line, "{text:?}");
+        assert!(rt; near_line(text, *first) == *line);
     }
 }
 
@@ -75,10 +71,7 @@ const PLACES: [(&str, usize, (usize, usize)); 5] = [
 #[test]
 fn columns_count_characters(rt: HostRuntime) {
     for (text, place, position) in &PLACES {
-        assert!(rt;
-            position_of(text.as_bytes(), *place) == *position,
-            "{text:?}"
-        );
+        assert!(rt; position_of(text.as_bytes(), *place) == *position);
     }
 }
 
@@ -105,7 +98,7 @@ fn unclosed_in(text: &str) -> usize {
 #[test]
 fn unclosed_brackets_are_found(rt: HostRuntime) {
     for (text, line) in &BRACKETS {
-        assert!(rt; unclosed_in(text) == *line, "{text:?}");
+        assert!(rt; unclosed_in(text) == *line);
     }
 }
 
@@ -135,7 +128,7 @@ fn lines_in(text: &str) -> (usize, usize) {
 #[test]
 fn keys_and_items_are_found(rt: HostRuntime) {
     for (text, lines) in &KEYS {
-        assert!(rt; lines_in(text) == *lines, "{text:?}");
+        assert!(rt; lines_in(text) == *lines);
     }
 }
 
@@ -164,21 +157,26 @@ fn names_in(alloc: Global, text: &str) -> Result<Vec<String>, AllocError> {
     Ok(names)
 }
 
-/// Returns the place of a line of an input: the name of its file, or `input`, and the number there.
-fn place_in(alloc: Global, input: &str, names: &str, line: usize) -> Result<String, AllocError> {
+/// Returns whether a line of an input has this place: the name of its file, or `input`, and its number
+/// there.
+fn is_place(
+    alloc: Global,
+    input: &str,
+    names: &str,
+    line: usize,
+    wanted: &str,
+) -> Result<bool, AllocError> {
     let names = names_in(alloc, names)?;
     let place = file_line(input.as_bytes(), names.as_slice(), line);
     let mut text = String::new(alloc);
     push_file(&mut text, place.file.unwrap_or("input"))?;
     write!(text, " {}", place.line)?;
-    Ok(text)
+    Ok(text.as_str() == wanted)
 }
 
 #[test]
-fn lines_are_in_files(rt: HostRuntime) -> Result<(), Fail> {
+fn lines_are_in_files(rt: HostRuntime) {
     for (input, names, line, place) in &FILES {
-        let found = place_in(rt.alloc(), input, names, *line)?;
-        assert!(rt; found.as_str() == *place, "{input:?} {names}");
+        assert!(rt; is_place(rt.alloc(), input, names, *line, place) == Ok(true));
     }
-    Ok(())
 }
