@@ -1,151 +1,154 @@
-//! What only a run can show: calls find memory, and the board grants and settles what it has.
-ghost use Rattle.std.specs.Prelude.{◌≡◌, ◌<◌, ◌≤◌, None};
+//! Every voter's node serves every client: it drops no message that it has to take, and takes none that
+//! would free a vote that is taken.
+ghost use Rattle.std.specs.Prelude.{◌≡◌, ◌<◌, ◌≤◌, None, IfSome};
 
-use crate::boards::seated;
 use board::{Board, ClientSeat, VoterSeat};
-use message::{ClientBody, ToClient, ToVoter, VoterBody};
-use node::{ClusterName, Mailbox, Node};
-use std::alloc::{AllocError, Global};
+use message::{ToVoter, VoterBody};
+use node::{ClusterName, Node};
+use quorum_set::{Coterie, QSet};
+use std::alloc::Global;
 use std::marker::Brand;
 
-/// How many messages a mailbox has to hold at once: more than a cluster has voters and clients.
-const MANY: u64 = 1_000;
-
-/// Returns a FAIL of voter 2 to client 1 with this stamp.
-fn fail(stamp: u64) -> ToClient {
-    ToClient {
-        voter: 2,
-        client: 1,
-        seen: 1,
-        body: ClientBody::Fail { stamp },
-    }
-}
-
-/// Returns whether a mailbox holds this many messages, and gives them back in order.
-fn holds<N: ClusterName>(alloc: Global, voters: usize, count: u64) -> Result<bool, AllocError>
-    requires { voters ≡ N.cluster.board.voters }
-{
-    let mut mailbox: Mailbox<N> = Mailbox::new(alloc, 1);
-    for stamp in 0..count {
-        if !mailbox.put(fail(stamp), voters)? {
-            return Ok(false);
-        }
-    }
-    for stamp in 0..count {
-        if mailbox.take(1) != Some(fail(stamp)) {
-            return Ok(false);
-        }
-    }
-    Ok(mailbox.is_empty())
-}
-
-#[test]
-fn mailbox_holds_many_messages(rt: HostRuntime) {
-    assert!(rt; holds::<Brand>(rt.alloc(), 3, MANY) == Ok(true));
-}
-
-/// Returns whether a node takes this message of client 0 to voter 0.
+/// Returns whether a node takes this message, or `None` if memory runs out.
 fn hears<N: ClusterName>(
     board: &Board,
     node: &mut Node<N>,
+    client: u8,
     body: VoterBody,
-) -> Result<bool, AllocError>
+) -> Option<bool>
     requires board { board.now ≡ N.cluster.board }
-    requires client { 0 < board.now.clients }
-    requires voter { node.old.number ≡ 0 }
-    ensures voter { node.new.number ≡ 0 }
+    ensures number { node.new.number ≡ node.old.number }
 {
+    if client >= board.clients() {
+        return None;
+    }
     let message = ToVoter {
-        client: 0,
-        voter: 0,
+        client,
+        voter: node.number(),
         body,
     };
-    Ok(node.take(board, &message)?.is_some())
+    match node.take(board, &message) {
+        Ok(replies) => Some(replies.is_some()),
+        Err(_) => None,
+    }
 }
 
-/// Returns whether a node grants its vote to the first request of client 0, which takes it.
-fn enters<N: ClusterName>(
+/// Returns whether a client can take a voter's vote under this grant, from 1 to 3.
+fn takes(board: &Board, seat: &mut ClientSeat, voter: u8, grant: u64) -> bool
+    requires grant { (1 ≤ grant) × (grant ≤ 3) }
+    requires table { seat.old.table ≡ board.now.table }
+    ensures table { seat.new.table ≡ seat.old.table }
+{
+    usize::from(voter) < board.voters()
+        && seat.held(voter).is_none()
+        && seat.take(board, voter, grant)
+}
+
+/// Gives back a voter's vote, and returns whether the client had it.
+fn gives(board: &Board, seat: &mut ClientSeat, voter: u8) -> bool
+    requires table { seat.old.table ≡ board.now.table }
+    ensures table { seat.new.table ≡ seat.old.table }
+{
+    if seat.held(voter).is_none() {
+        return false;
+    }
+    seat.give_back(board, voter);
+    true
+}
+
+/// Returns whether a node grants its vote to the late client, takes it back for the early one, whose
+/// request comes first, and grants it again. It has to drop a message that would free the vote while it
+/// is taken.
+fn serves<N: ClusterName>(
     board: &Board,
     node: &mut Node<N>,
-    client: &mut ClientSeat,
-) -> Result<bool, AllocError>
+    late: &mut ClientSeat,
+    early: &mut ClientSeat,
+) -> bool
     requires board { board.now ≡ N.cluster.board }
-    requires sizes { (0 < board.now.clients) × (0 < board.now.voters) }
-    requires voter { node.old.number ≡ 0 }
-    requires client { client.old.table ≡ board.now.table }
-    ensures voter { node.new.number ≡ 0 }
-    ensures table { client.new.table ≡ client.old.table }
+    requires late { late.old.table ≡ board.now.table }
+    requires early { early.old.table ≡ board.now.table }
 {
-    let granted = hears(board, node, VoterBody::Request { stamp: 1 })?;
-    if client.held(0).is_some() {
-        return Ok(false);
-    }
-    Ok(client.take(board, 0, 1) & granted)
+    let (voter, last, first) = (node.number(), late.client(), early.client());
+    let relinquish = VoterBody::Relinquish { grant: 1 };
+    let asked = hears(board, node, last, VoterBody::Request { stamp: 2 });
+    let took = takes(board, late, voter, 1);
+    let asked_too = hears(board, node, first, VoterBody::Request { stamp: 1 });
+    let dropped = hears(board, node, last, relinquish);
+    let gave = gives(board, late, voter);
+    let relinquished = hears(board, node, last, relinquish);
+    let took_too = takes(board, early, voter, 2);
+    let gave_too = gives(board, early, voter);
+    let released = hears(board, node, first, VoterBody::Release { stamp: 1 });
+    let heard = [asked, asked_too, dropped, relinquished, released];
+    (heard == [Some(true), Some(true), Some(false), Some(true), Some(true)])
+        & took
+        & gave
+        & took_too
+        & gave_too
 }
 
-/// Returns whether a node drops what would free a vote that is taken, and reminds of it; and frees
-/// the vote once it is given back, and then grants it again.
-fn frees<N: ClusterName>(
-    board: &Board,
-    node: &mut Node<N>,
-    client: &mut ClientSeat,
-) -> Result<bool, AllocError>
-    requires board { board.now ≡ N.cluster.board }
-    requires client { (0 < board.now.clients) × (client.old.table ≡ board.now.table) }
-    requires voter { node.old.number ≡ 0 }
-    ensures voter { node.new.number ≡ 0 }
-{
-    let early = hears(board, node, VoterBody::Release { stamp: 1 })?;
-    let reminded = node.remind().messages().len() == 1;
-    if client.held(0).is_none() {
-        return Ok(false);
-    }
-    client.give_back(board, 0);
-    let freed = hears(board, node, VoterBody::Release { stamp: 1 })?;
-    let silent = node.remind().messages().is_empty();
-    let again = hears(board, node, VoterBody::Request { stamp: 2 })?;
-    Ok(!early & reminded & freed & silent & again)
-}
-
-/// Whether a node did what it has to do, and the grant that it leaves with its seat.
-type Left = (bool, Option<(u8, u64)>);
-
-/// Returns what a node leaves after client 0 took its vote, and, if `gives` says so, gave it back.
-fn left_of<N: ClusterName>(
+/// Does the same with a node of its own. Its last offer has to end with it.
+fn is_served<N: ClusterName>(
     alloc: Global,
     board: &Board,
     seat: VoterSeat,
-    client: &mut ClientSeat,
-    gives: bool,
-) -> Result<Left, AllocError>
+    late: &mut ClientSeat,
+    early: &mut ClientSeat,
+) -> bool
     requires board { board.now ≡ N.cluster.board }
-    requires clients { (0 < board.now.clients) × (board.now.clients ≤ 64) }
-    requires voters { 0 < board.now.voters }
-    requires seat { seat ≡ record { table = board.now.table; voter = 0; current = None; last = 0 } }
-    requires client { client.old.table ≡ board.now.table }
+    requires clients { board.now.clients ≤ 64 }
+    requires voter { (seat.voter < board.now.voters) × (seat.voter < 64) }
+    requires fresh { (seat.table ≡ board.now.table) × (seat.current ≡ None) × (seat.last ≡ 0) }
+    requires late { late.old.table ≡ board.now.table }
+    requires early { early.old.table ≡ board.now.table }
 {
     let mut node: Node<N> = Node::new(alloc, seat);
-    let entered = enters(board, &mut node, client)?;
-    let freed = !gives || frees(board, &mut node, client)?;
-    Ok((entered & freed, node.into_seat(board).current()))
+    let served = serves(board, &mut node, late, early);
+    served & node.into_seat(board).current().is_none()
 }
 
-/// Returns the same of a node on a board of its own, or `None` if memory runs out.
-fn left(alloc: Global, gives: bool) -> Option<Left> {
-    match seated(alloc, 1, 1) {
-        Some((board, _root, seat, mut client)) => {
-            left_of::<Brand>(alloc, &board, seat, &mut client, gives).ok()
+/// Returns the coterie of one quorum of 64 voters, or `None` if memory runs out.
+fn all_voters(alloc: Global) -> Option<Coterie>
+    ensures { IfSome result (λ c. c.voters ≡ 64) }
+{
+    let sets = vec![in alloc; QSet::of_bits(u64::MAX)].ok()?;
+    Coterie::of(64, sets).ok()
+}
+
+/// Returns whether this voter serves this client and the next one, on a board of their own.
+fn pair_is_served(alloc: Global, coterie: &Coterie, voter: u8, client: u8) -> bool
+    requires coterie { coterie.now.voters ≡ 64 }
+    requires numbers { (voter < 64) × (client < 64) }
+{
+    let Ok((board, mut root)) = Board::new(alloc, coterie, 64, 1) else {
+        return false;
+    };
+    let seat = root.voter(&board, voter);
+    let mut late = root.client(&board, client);
+    let mut early = root.client(&board, (client + 1) % 64);
+    is_served::<Brand>(alloc, &board, seat, &mut late, &mut early)
+}
+
+/// Returns the first voter, and the first client that it does not serve, if there are such.
+fn first_unserved(alloc: Global, coterie: &Coterie) -> Option<(u8, u8)>
+    requires { coterie.now.voters ≡ 64 }
+{
+    for voter in 0..64u8 {
+        for client in 0..64u8 {
+            if !pair_is_served(alloc, coterie, voter, client) {
+                return Some((voter, client));
+            }
         }
-        None => None,
     }
+    None
 }
 
 #[test]
-fn node_takes_and_settles(rt: HostRuntime) {
-    assert!(rt; left(rt.alloc(), true) == Some((true, None)));
-}
-
-#[test]
-fn node_keeps_a_grant_that_is_taken(rt: HostRuntime) {
-    assert!(rt; left(rt.alloc(), false) == Some((true, Some((0, 1)))));
+fn every_voter_serves_every_client(rt: HostRuntime) {
+    let all = match all_voters(rt.alloc()) {
+        Some(coterie) => first_unserved(rt.alloc(), &coterie) == None,
+        None => false,
+    };
+    assert!(rt; all);
 }
