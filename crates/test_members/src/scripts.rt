@@ -1,15 +1,16 @@
 //! Scripts: calls of members on one thread, each with what it has to return.
 ghost use Rattle.std.specs.Prelude.{◌≡◌};
 
+use crate::sleeps::{Comes, sleeps};
 use dealer::{Plans, Receipt};
-use members::{Blank, Cluster, ClusterFault, ClusterName, Member};
+use members::{Blank, CloseFault, Cluster, ClusterFault, ClusterName, Member};
 use message::{ToClient, ToVoter};
-use quorum_set::Side;
-use requester::{ClientFault, Phase, Seen};
+use requester::{ClientFault, Seen};
 use std::alloc::Global;
 use std::marker::Brand;
 use std::sync::Wait;
-use test_plans::{bridged_plans, majority_plan, whole_plan};
+use std::time::Clock;
+use test_plans::majority_plan;
 
 /// A call of a member or of its cluster, and what it has to return.
 #[derive(Clone, Copy)]
@@ -17,10 +18,12 @@ pub(crate) enum Act {
     /// Draws this ticket, which names this quorum.
     Ask(u64, usize),
     Pump(Option<Seen>),
-    /// Asks, and enters with the second message.
-    Enter,
-    /// Takes this many messages, or as many as there are. Whatever is seen of them is right.
-    Pumps(u32),
+    /// Takes all messages that wait. Whatever is seen of them is right.
+    Hear,
+    /// Asks, takes this many messages, of which the last one lets it in, passes and leaves.
+    Serve(u32),
+    /// Sleeps for this many milliseconds at most while a message comes, if it does sleep.
+    Sleep(Comes, u64, bool),
     /// Reminds. No message finds no memory.
     Remind,
     /// Sends once more what it sent last. No message finds no memory.
@@ -29,19 +32,12 @@ pub(crate) enum Act {
     Pass(Result<u64, ClusterFault>),
     Leave(Result<(), ClusterFault>),
     GiveUp(Result<(), ClusterFault>),
-    Exchange(Result<(), ClusterFault>),
-    /// Is in this phase, and has the number of its place.
-    Is(Phase),
-    /// Has drawn these of a plan.
-    Receipts(Side, &'static [Receipt]),
-    /// Has passed this many times.
-    Passes(usize),
     /// Has lost this many messages.
     Lost(u64),
     /// Gives a voter a message. This many messages are lost.
     Deliver(ToVoter, u64),
-    /// Puts a message into a mailbox, if it gets in.
-    Post(ToClient, bool),
+    /// Puts a message into a mailbox.
+    Post(ToClient),
 }
 
 /// A script: who acts, and how.
@@ -57,73 +53,68 @@ pub(crate) const LEAVE: Act = Act::Leave(Ok(()));
 
 const GIVE_UP: Act = Act::GiveUp(Ok(()));
 
-/// Whom the clients of a cluster of three voters ask: any two, all three, or all three once the plan is
-/// exchanged.
-#[derive(Clone, Copy)]
-pub(crate) enum Asked {
-    AnyTwo,
-    All,
-    AnyTwoThenAll,
-}
-
-/// Returns their plans.
-fn plans_of(alloc: Global, asked: Asked) -> Option<Plans> {
-    match asked {
-        Asked::AnyTwo => Some(Plans::single(majority_plan(alloc)?)),
-        Asked::All => Some(Plans::single(whole_plan(alloc)?)),
-        Asked::AnyTwoThenAll => bridged_plans(alloc, majority_plan(alloc), whole_plan(alloc)),
-    }
-}
-
-/// Creates a cluster of 1 to 64 clients. Each may draw 40 tickets of each plan.
-pub(crate) fn blank_of(alloc: Global, asked: Asked, clients: u8) -> Option<Blank> {
+/// Creates a cluster of 1 to 64 clients, which ask any two of three voters. Each may draw 40 tickets.
+pub(crate) fn blank_of(alloc: Global, clients: u8) -> Option<Blank> {
     if clients == 0 || clients > 64 {
         return None;
     }
-    Blank::new(alloc, plans_of(alloc, asked)?, clients, 40).ok()
+    Blank::new(alloc, Plans::single(majority_plan(alloc)?), clients, 40).ok()
 }
 
-/// Returns whether a member's call returns what it has to.
-fn does<N: ClusterName>(
+/// Has a member take the messages that wait for it, 64 at most. Returns whether it took all.
+fn hears<N: ClusterName>(rt: &impl Wait, cluster: &Cluster<N>, member: &mut Member<N>) -> bool {
+    for _ in 0..64 {
+        if member.pump(rt, cluster).is_none() {
+            return true;
+        }
+    }
+    false
+}
+
+/// Returns whether a member asks, enters by the last of this many messages, passes and leaves.
+fn serves<N: ClusterName>(
     rt: &impl Wait,
     cluster: &Cluster<N>,
     member: &mut Member<N>,
-    place: usize,
+    messages: u32,
+) -> bool {
+    let asked = member.ask(rt, cluster).is_ok();
+    for _ in 1..messages {
+        let _ = member.pump(rt, cluster);
+    }
+    let entered = member.pump(rt, cluster) == Some(Seen::Entered);
+    let passed = member.pass(cluster).is_ok();
+    asked & entered & passed & member.leave(rt, cluster).is_ok()
+}
+
+/// Returns whether a member's call returns what it has to.
+fn does<N: ClusterName, R: Wait + Clock>(
+    rt: &R,
+    cluster: &Cluster<N>,
+    member: &mut Member<N>,
     act: Act,
 ) -> bool {
     match act {
         Act::Ask(ticket, quorum) => member.ask(rt, cluster) == Ok(Receipt { ticket, quorum }),
         Act::Pump(seen) => member.pump(rt, cluster) == seen,
-        Act::Enter => {
-            member.ask(rt, cluster).is_ok()
-                && member.pump(rt, cluster) == Some(Seen::Nothing)
-                && member.pump(rt, cluster) == Some(Seen::Entered)
-        }
-        Act::Pumps(times) => {
-            for _ in 0..times {
-                let _ = member.pump(rt, cluster);
-            }
-            true
-        }
+        Act::Hear => hears(rt, cluster, member),
+        Act::Serve(messages) => serves(rt, cluster, member, messages),
+        Act::Sleep(comes, millis, slept) => sleeps(rt, cluster, member, comes, millis) == slept,
         Act::Remind => member.remind(rt, cluster) == 0,
         Act::Repeat => member.repeat(rt, cluster) == 0,
         Act::Pass(passed) => member.pass(cluster) == passed,
         Act::Leave(left) => member.leave(rt, cluster) == left,
         Act::GiveUp(gave_up) => member.give_up(rt, cluster) == gave_up,
-        Act::Exchange(exchanged) => member.exchange() == exchanged,
-        Act::Is(phase) => (usize::from(member.client()) == place) & (member.phase() == phase),
-        Act::Receipts(side, receipts) => member.receipts(side) == receipts,
-        Act::Passes(passes) => member.passes().len() == passes,
         Act::Lost(lost) => member.lost() == lost,
         Act::Deliver(message, lost) => cluster.deliver(rt, &message) == lost,
-        Act::Post(message, gets_in) => cluster.post(rt, message) == gets_in,
+        Act::Post(message) => cluster.post(rt, message),
     }
 }
 
 /// Plays a script, and returns how many of its acts return what they have to, before the first that
 /// doesn't.
-pub(crate) fn plays<N: ClusterName>(
-    rt: &impl Wait,
+fn plays<N: ClusterName, R: Wait + Clock>(
+    rt: &R,
     cluster: &Cluster<N>,
     members: &mut [Member<N>],
     script: Script,
@@ -131,7 +122,7 @@ pub(crate) fn plays<N: ClusterName>(
     let mut done: usize = 0;
     for (place, act) in script {
         let answered = match members.get_mut(*place) {
-            Some(member) => does(rt, cluster, member, *place, *act),
+            Some(member) => does(rt, cluster, member, *act),
             None => false,
         };
         if !answered {
@@ -142,39 +133,85 @@ pub(crate) fn plays<N: ClusterName>(
     done
 }
 
-/// Opens a cluster, and plays a script on it. Returns how far it went.
-fn opened<N: ClusterName>(
-    rt: &impl Wait,
+/// Plays a script, and then closes the cluster, if all members are idle. Returns how far the script went,
+/// or `None` if the close lost the cluster.
+fn ends<N: ClusterName, R: Wait + Clock>(
+    rt: &R,
+    alloc: Global,
+    cluster: Cluster<N>,
+    mut members: Vec<Member<N>>,
+    script: Script,
+) -> Option<usize> {
+    let done = plays(rt, &cluster, members.as_mut_slice(), script);
+    let closed = cluster.close(alloc, members);
+    match &closed {
+        Err(CloseFault::Lost(_)) => None,
+        _ => Some(done),
+    }
+}
+
+/// Opens a cluster, plays a script, and closes the cluster. If it can't be closed yet, plays the rest of
+/// the script, and closes it then. Returns how far the whole script went.
+fn opened<N: ClusterName, R: Wait + Clock>(
+    rt: &R,
     alloc: Global,
     blank: Blank,
     script: Script,
+    rest: Script,
 ) -> Option<usize>
     requires { blank ≡ N.cluster }
 {
-    let (cluster, mut members) = blank.open::<N>(alloc).ok()?;
-    Some(plays(rt, &cluster, members.as_mut_slice(), script))
+    let Ok((cluster, mut members)) = blank.open::<N>(alloc) else {
+        return None;
+    };
+    let done = plays(rt, &cluster, members.as_mut_slice(), script);
+    match cluster.close(alloc, members) {
+        Ok(_) => Some(done),
+        Err(
+            CloseFault::Unready {
+                cluster,
+                members,
+                ..
+            },
+        ) => {
+            let more = ends(rt, alloc, cluster, members, rest)?;
+            Some(done.saturating_add(more))
+        }
+        Err(CloseFault::Lost(_)) => None,
+    }
 }
 
-/// Plays a script on a cluster that is opened for it. Returns how far it went if that is not to its
-/// end, or 0 if memory runs out.
-pub(crate) fn stuck_at(
-    rt: &impl Wait,
+/// Plays a script on a cluster that is opened for it, and tries to close the cluster before the rest of the
+/// script. Returns how far it went if that is not to its end, or 0 if there is no cluster, or a close lost
+/// it.
+pub(crate) fn stuck_at<R: Wait + Clock>(
+    rt: &R,
     alloc: Global,
-    asked: Asked,
-    clients: u8,
+    blank: Option<Blank>,
     script: Script,
+    rest: Script,
 ) -> Option<usize> {
-    let Some(blank) = blank_of(alloc, asked, clients) else {
+    let Some(blank) = blank else {
         return Some(0);
     };
-    match opened::<Brand>(rt, alloc, blank, script) {
-        Some(done) if done == script.len() => None,
+    match opened::<Brand, _>(rt, alloc, blank, script, rest) {
+        Some(done) if done == script.len().saturating_add(rest.len()) => None,
         done => Some(done.unwrap_or(0)),
     }
 }
 
+/// Plays a script on a cluster of this many clients. Returns how far it went if that is not to its end.
+pub(crate) fn stuck<R: Wait + Clock>(
+    rt: &R,
+    alloc: Global,
+    clients: u8,
+    script: Script,
+) -> Option<usize> {
+    stuck_at(rt, alloc, blank_of(alloc, clients), script, &[])
+}
+
 /// Three members ask for quorums that overlap, and get in one after the other.
-const THREE: [(usize, Act); 30] = [
+pub(crate) const THREE: [(usize, Act); 30] = [
     (0, Act::Ask(0, 0)),
     (2, Act::Ask(1, 1)),
     (1, Act::Ask(2, 2)),
@@ -249,55 +286,8 @@ const REPEATED: [(usize, Act); 17] = [
     (0, Act::Lost(0)),
 ];
 
-/// Three members ask all three voters, the one with the greatest number first. Each request precedes the
-/// one before, as the stamps are equal. Member 1 waits in front, and receives no FAIL. Then member 0's
-/// request comes, and each voter sends FAIL to member 1.
-const FORMER_FRONT: [(usize, Act); 25] = [
-    (2, Act::Ask(0, 0)),
-    (1, Act::Ask(1, 0)),
-    (1, EMPTY),
-    (0, Act::Ask(2, 0)),
-    (0, EMPTY),
-    (1, NOTHING),
-    (1, NOTHING),
-    (1, NOTHING),
-    (1, EMPTY),
-    (2, NOTHING),
-    (2, NOTHING),
-    (2, ENTERED),
-    (2, LEAVE),
-    (1, EMPTY),
-    (0, NOTHING),
-    (0, NOTHING),
-    (0, ENTERED),
-    (0, LEAVE),
-    (1, NOTHING),
-    (1, NOTHING),
-    (1, ENTERED),
-    (1, LEAVE),
-    (0, Act::Lost(0)),
-    (1, Act::Lost(0)),
-    (2, Act::Lost(0)),
-];
-
-#[test]
-fn members_do_what_the_scripts_say(rt: HostRuntime) {
-    for script in [THREE.as_slice(), ONE.as_slice(), REPEATED.as_slice()] {
-        assert_eq!(rt; stuck_at(&rt, rt.alloc(), Asked::AnyTwo, 3, script), None);
-    }
-}
-
-#[test]
-fn the_former_front_receives_fail(rt: HostRuntime) {
-    assert_eq!(rt;
-        stuck_at(&rt, rt.alloc(), Asked::All, 3, &FORMER_FRONT),
-        None
-    );
-}
-
 /// What a fresh member refuses.
-const FRESH: [(usize, Act); 5] = [
-    (0, Act::Is(Phase::Idle)),
+const FRESH: [(usize, Act); 4] = [
     (0, Act::Pass(Err(ClusterFault::NotInside))),
     (0, EMPTY),
     (0, Act::Leave(Err(ClusterFault::NotInside))),
@@ -308,6 +298,13 @@ const FRESH: [(usize, Act); 5] = [
 ];
 
 #[test]
-fn fresh_members_refuse(rt: HostRuntime) {
-    assert_eq!(rt; stuck_at(&rt, rt.alloc(), Asked::AnyTwo, 2, &FRESH), None);
+fn members_do_what_the_scripts_say(rt: HostRuntime) {
+    for script in [
+        THREE.as_slice(),
+        ONE.as_slice(),
+        REPEATED.as_slice(),
+        FRESH.as_slice(),
+    ] {
+        assert_eq!(rt; stuck(&rt, rt.alloc(), 3, script), None);
+    }
 }
