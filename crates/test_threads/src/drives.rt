@@ -1,112 +1,101 @@
-//! Drives: two members at once, gates that stay shut, and members that run out.
-ghost use Rattle.std.specs.Prelude.{◌≡◌};
+//! Drives: two members at once, a plan that is exchanged, a gate that stays shut, and members that run out
+//! of tickets.
+ghost use Rattle.std.specs.Prelude.{nat_lt};
 
-use crate::clusters::{MANY, Outcome, blank_of, done, driven};
-use cluster::{Blank, Cluster, ClusterFault, ClusterName, Member, NoGate, drive};
+use crate::clusters::{MANY, driven, driven_by, figures};
+use certificate::Plan;
+use cluster::{ClusterFault, Gate, NoGate, RunRecord};
 use dealer::DealFault;
-use std::alloc::{AllocError, Global};
-use std::marker::Brand;
-use std::sync::Wait;
-use std::test::Fail;
-use std::thread::Threads;
-use std::time::Clock;
+use quorum_set::Side;
+use replay::check_record;
+use std::alloc::Global;
 use test_gate::Meeting;
-use test_plans::majority_plan;
+use test_plans::{bridged_plans, majority_plan, whole_plan};
 
 #[test]
-fn two_members_run_at_once(rt: HostRuntime) -> Result<(), Fail> {
-    let alloc = rt.alloc();
+fn two_members_run_at_once(rt: HostRuntime) {
     let gate = Meeting::new();
-    let outcome = driven(&rt, alloc, majority_plan(alloc), (2, 1, 1, MANY), &gate)?;
-    assert!(rt; (outcome == Some(done(2, 2))) & gate.took_place());
-    Ok(())
+    let found = figures(&rt, rt.alloc(), (2, 1, 1, MANY), &gate);
+    assert!(rt; (found == Some((None, 2, 2))) & gate.took_place());
 }
-
-/// How many passes each of two members has to make, in how many turns; and how many tickets they
-/// draw, how many passes they make, and why it ends early.
-type Row = (u64, u64, usize, usize, Option<ClusterFault>);
-
-/// Drives of two members that may draw three tickets each.
-const ROWS: [Row; 4] = [
-    (0, 0, 0, 0, None),
-    (1, 0, 2, 0, Some(ClusterFault::TurnsSpent(0))),
-    (2, MANY, 4, 4, None),
-    (
-        4,
-        MANY,
-        6,
-        6,
-        Some(ClusterFault::Deal(DealFault::QuotaSpent)),
-    ),
-];
 
 #[test]
-fn members_come_as_far_as_they_may(rt: HostRuntime) -> Result<(), Fail> {
+fn members_pass_once_for_each_ticket(rt: HostRuntime) {
+    let found = figures(&rt, rt.alloc(), (2, 3, 4, MANY), &NoGate);
+    let spent = ClusterFault::Deal(DealFault::QuotaSpent);
+    assert!(rt; found == Some((Some(spent), 6, 6)));
+}
+
+/// How many tickets of a plan were drawn, how often each quorum and each voter was used, and the busiest.
+type Counts<'a> = (u64, &'a [u64], &'a [u64], u64);
+
+/// Returns whether the record is accepted for the draws of one plan, and has these counts.
+fn has_counts(
+    alloc: Global,
+    plan: Option<Plan>,
+    side: Side,
+    record: &RunRecord,
+    counts: Counts,
+) -> Option<bool> {
+    let account = check_record(alloc, &plan?, side, record).ok()?;
+    let (drawn, quorums, voters, busiest) = counts;
+    Some(
+        (account.drawn == drawn)
+            & (account.quorums.as_slice() == quorums)
+            & (account.voters.as_slice() == voters)
+            & (account.busiest == busiest),
+    )
+}
+
+/// The counts of ten passes by the first plan, and of ten by the second.
+const FIRST: Counts = (10, &[4, 3, 3], &[7, 7, 6], 7);
+
+const SECOND: Counts = (10, &[10], &[10, 10, 10], 10);
+
+#[test]
+fn half_of_the_passes_use_each_plan(rt: HostRuntime) {
     let alloc = rt.alloc();
-    for (passes, turns, draws, passed, fault) in ROWS {
-        let size = (2, 3, passes, turns);
-        let outcome = driven(&rt, alloc, majority_plan(alloc), size, &NoGate)?;
-        let wanted = Outcome {
-            draws,
-            fault,
-            ..done(2, passed)
-        };
-        assert_eq!(rt; outcome, Some(wanted), "{passes} passes");
-    }
-    Ok(())
-}
-
-/// How many members come back from a drive of none, and the faults of the first member after a
-/// drive with no turns and after one with many.
-type Again = (usize, Option<ClusterFault>, Option<ClusterFault>);
-
-/// Returns the fault of the first member.
-fn first_fault<N: ClusterName>(members: &[Member<N>]) -> Option<ClusterFault> {
-    match members.first() {
-        Some(member) => member.fault(),
-        None => None,
-    }
-}
-
-/// Returns how many members come back from a drive of none.
-fn nobody<N: ClusterName + Send + Sync, R: Threads + Wait + Clock + Sync>(
-    rt: &R,
-    alloc: Global,
-    cluster: &Cluster<N>,
-) -> usize {
-    match drive(rt, cluster, Vec::new(alloc), 1, 0, &NoGate) {
-        Ok(members) => members.len(),
-        Err(_) => 64,
-    }
-}
-
-/// Drives a cluster's members twice. Returns `None` unless only the second drive succeeds.
-fn driven_again<N: ClusterName + Send + Sync, R: Threads + Wait + Clock + Sync>(
-    rt: &R,
-    alloc: Global,
-    blank: Blank,
-) -> Result<Option<Again>, AllocError>
-    requires { blank ≡ N.cluster }
-{
-    let (cluster, members) = blank.open::<N>(alloc)?;
-    let came = nobody(rt, alloc, &cluster);
-    let Err(driven) = drive(rt, &cluster, members, 1, 0, &NoGate) else {
-        return Ok(None);
+    let plans = bridged_plans(alloc, majority_plan(alloc), whole_plan(alloc));
+    let Some(ending) = driven_by(&rt, alloc, plans, (2, 10, 10, MANY), &NoGate) else {
+        panic!(rt; "no record")
     };
-    let first = first_fault(driven.members.as_slice());
-    match drive(rt, &cluster, driven.members, 1, 1_000_000, &NoGate) {
-        Ok(members) => Ok(Some((came, first, first_fault(members.as_slice())))),
-        Err(_) => Ok(None),
+    let record = &ending.record;
+    let first = has_counts(alloc, majority_plan(alloc), Side::First, record, FIRST);
+    let second = has_counts(alloc, whole_plan(alloc), Side::Second, record, SECOND);
+    assert!(rt; (record.register == 20) & (first == Some(true)) & (second == Some(true)));
+}
+
+/// A gate that never lets client 0 pass.
+#[derive(Drop)]
+struct Shut;
+
+impl Gate for Shut {
+    ghost lets = { λ _ client. nat_lt 0 client };
+
+    fn before(&self, _client: u8) {}
+
+    fn drawn(&self, _client: u8) {}
+
+    fn may_pass(&self, client: u8) -> bool {
+        client != 0
+    }
+}
+
+/// Returns whether the record of a run on majorities is accepted.
+fn is_accepted(alloc: Global, record: &RunRecord) -> bool {
+    match majority_plan(alloc) {
+        Some(plan) => check_record(alloc, &plan, Side::First, record).is_ok(),
+        None => false,
     }
 }
 
 #[test]
-fn faults_go_with_the_next_drive(rt: HostRuntime) -> Result<(), Fail> {
-    let alloc = rt.alloc();
-    let Some(blank) = blank_of(alloc, majority_plan(alloc), 1, 2) else {
-        panic!(rt; "no cluster")
+fn a_client_without_turns_leaves_a_sound_record(rt: HostRuntime) {
+    let Some(ending) = driven(&rt, rt.alloc(), (2, 1, 1, 100_000), &Shut) else {
+        panic!(rt; "no record")
     };
-    let again = driven_again::<Brand, _>(&rt, alloc, blank)?;
-    assert_eq!(rt; again, Some((0, Some(ClusterFault::TurnsSpent(0)), None)));
-    Ok(())
+    let record = &ending.record;
+    let spent = ending.fault == Some(ClusterFault::TurnsSpent(0));
+    let counted = record.register == record.passes.len() as u64;
+    assert!(rt; spent & counted & (record.draws.len() == 2) & is_accepted(rt.alloc(), record));
 }

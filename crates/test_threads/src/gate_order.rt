@@ -1,11 +1,9 @@
 //! The order in which a gate is called: before a client asks, once it has drawn its ticket, and
 //! whether it may pass.
+use crate::clusters::{MANY, driven};
 use cluster::{Gate, RunRecord};
-use runs::{RunFault, record_of_run};
 use std::sync::atomic::{AtomicBool, Ordering};
-use std::test::Fail;
 use std::thread;
-use test_plans::majority_plan;
 
 /// How many times client 1 yields its thread at each of its calls.
 const YIELDS: u32 = 20_000;
@@ -55,28 +53,23 @@ impl Gate for OneFirst {
     }
 }
 
-/// Returns the clients of a run's first two tickets, in order.
-fn who_drew(run: &Result<RunRecord, RunFault>) -> Option<(u8, u8)> {
-    let Ok(run) = run else {
-        return None;
-    };
-    match (run.draws.first(), run.draws.get(1)) {
-        (Some((first, ..)), Some((second, ..))) => Some((*first, *second)),
+/// Returns the clients of a record's first two tickets, in order.
+fn who_drew(record: &RunRecord) -> Option<(u8, u8)> {
+    match record.draws.as_slice() {
+        [(first, ..), (second, ..)] => Some((*first, *second)),
         _ => None,
     }
 }
 
 #[test]
-fn a_client_draws_between_two_calls_of_the_gate(rt: HostRuntime) -> Result<(), Fail> {
+fn a_client_draws_between_two_calls_of_the_gate(rt: HostRuntime) {
     let gate = OneFirst {
         drew: AtomicBool::new(false),
         asked_early: AtomicBool::new(false),
     };
-    let Some(plan) = majority_plan(rt.alloc()) else {
-        panic!(rt; "no plan")
+    let Some(ending) = driven(&rt, rt.alloc(), (2, 1, 1, MANY), &gate) else {
+        panic!(rt; "no record")
     };
-    let run = record_of_run(&rt, rt.alloc(), plan, 2, 1, 1_000_000_000_000, &gate);
     let early = gate.asked_early.load(Ordering::SeqCst);
-    assert!(rt; (who_drew(&run) == Some((1, 0))) & !early);
-    Ok(())
+    assert!(rt; (who_drew(&ending.record) == Some((1, 0))) & !early);
 }

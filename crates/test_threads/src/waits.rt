@@ -1,12 +1,13 @@
 //! How a member of a drive waits: when it yields, sleeps and reminds. Its clock is one of these tests,
 //! which counts its readings: a yield reads it twice, and so does a sleep.
 ghost use Rattle.std.specs.Prelude.{◌≡◌};
+ghost use Rattle.members.specs.Members.{AreIdle};
 
-use crate::clusters::blank_of;
-use cluster::{Blank, Cluster, ClusterFault, ClusterName, Member, NoGate, drive};
+use cluster::{Blank, Cluster, ClusterFault, ClusterName, Driven, Member, NoGate, drive};
+use dealer::Plans;
 use message::{ClientBody, ToClient};
 use requester::Seen;
-use std::alloc::{AllocError, Global};
+use std::alloc::Global;
 use std::io;
 use std::marker::Brand;
 use std::sync::Wait;
@@ -85,39 +86,58 @@ struct Waited {
     spent: bool,
 }
 
-/// Has client 1 of two enter, and then drives client 0, which can't get in, for this many turns.
-/// Returns `None` if client 1 did not enter, or memory ran out.
+/// Returns whether a drive ended because the turns of client 0 were spent.
+fn has_spent<N: ClusterName>(driven: &Result<Vec<Member<N>>, Driven<N>>) -> bool {
+    match driven {
+        Ok(_) => false,
+        Err(driven) => driven.fault == ClusterFault::TurnsSpent(0),
+    }
+}
+
+/// Has one member enter, and then drives the others, which can't get in, for this many turns.
+fn waits<N: ClusterName + Send + Sync, R: Threads + Wait + Clock + Sync>(
+    rt: &R,
+    cluster: &Cluster<N>,
+    others: Vec<Member<N>>,
+    inside: &mut Member<N>,
+    turns: u64,
+    course: Course,
+) -> Waited
+    requires idle { AreIdle others.items }
+{
+    let entered = enters(rt, cluster, inside);
+    let clock = Counting {
+        rt,
+        cluster,
+        course,
+        readings: AtomicU64::new(0),
+    };
+    let driven = drive(&clock, cluster, others, 1, turns, &NoGate);
+    Waited {
+        readings: clock.readings.load(Ordering::SeqCst),
+        messages: heard(rt, cluster, inside),
+        spent: entered & has_spent(&driven),
+    }
+}
+
+/// Has client 1 of two enter, and then drives client 0 for this many turns. Returns `None` if memory runs
+/// out.
 fn waited_by<N: ClusterName + Send + Sync, R: Threads + Wait + Clock + Sync>(
     rt: &R,
     alloc: Global,
     blank: Blank,
     turns: u64,
     course: Course,
-) -> Result<Option<Waited>, AllocError>
+) -> Option<Waited>
     requires { blank ≡ N.cluster }
 {
-    let (cluster, mut members) = blank.open::<N>(alloc)?;
-    let Some(mut inside) = members.pop() else {
-        return Ok(None);
+    let Ok((cluster, mut members)) = blank.open::<N>(alloc) else {
+        return None;
     };
-    if !enters(rt, &cluster, &mut inside) {
-        return Ok(None);
+    match members.pop() {
+        Some(mut inside) => Some(waits(rt, &cluster, members, &mut inside, turns, course)),
+        None => None,
     }
-    let clock = Counting {
-        rt,
-        cluster: &cluster,
-        course,
-        readings: AtomicU64::new(0),
-    };
-    let spent = match drive(&clock, &cluster, members, 1, turns, &NoGate) {
-        Ok(_) => false,
-        Err(driven) => driven.fault == ClusterFault::TurnsSpent(0),
-    };
-    Ok(Some(Waited {
-        readings: clock.readings.load(Ordering::SeqCst),
-        messages: heard(rt, &cluster, &mut inside),
-        spent,
-    }))
 }
 
 /// Does the same on a cluster of three voters, all of which each client asks.
@@ -126,105 +146,67 @@ fn client_0_waits<R: Threads + Wait + Clock + Sync>(
     alloc: Global,
     turns: u64,
     course: Course,
-) -> Result<Option<Waited>, AllocError> {
-    match blank_of(alloc, whole_plan(alloc), 2, 1) {
-        Some(blank) => waited_by::<Brand, _>(rt, alloc, blank, turns, course),
-        None => Ok(None),
-    }
+) -> Option<Waited> {
+    let plans = Plans::single(whole_plan(alloc)?);
+    let blank = Blank::new(alloc, plans, 2, 1).ok()?;
+    waited_by::<Brand, _>(rt, alloc, blank, turns, course)
 }
 
-/// A clock that stands still.
-const STILL: Course = Course {
-    pace: 0,
-    rings_at: u64::MAX,
-};
+/// No reading is this one, so no message comes.
+const NEVER: u64 = u64::MAX;
 
-/// Turns, how often the clock is read, and how many messages come to the client that is inside.
+/// Paces of the clock, readings at which a message comes, turns; how often the clock is read, and how many
+/// messages come to the client that is inside.
 ///
 /// - An INQUIRE of each voter comes at once, and a LOCKED and an INQUIRE of each by each reminder.
 /// - The looks behind 17 to 500 empty ones yield. Those behind 512, 544, and so on to 992 sleep.
 /// - The reminder before look 1001 brings three messages, so the next one is before look 2004.
 /// - After a reminder it sleeps behind 16 times as many looks: 512, 528, and so on.
-const ROWS: [(u64, u64, u64); 8] = [
-    (17, 0, 3),
-    (18, 2, 3),
-    (501, 2 * 484, 3),
-    (512, 2 * 484, 3),
-    (513, 2 * 485, 3),
-    (1_000, 2 * 500, 3),
-    (1_001, 2 * 500, 9),
-    (2_004, 2 * 500 + 2 * 515, 15),
+/// - If a yield took more than 500 microseconds, the client sleeps in place of yielding from then on:
+///   behind 32, 64, and so on to 992 empty looks.
+/// - A message may come when the client yields for the first time, behind 17 empty looks, or when it
+///   sleeps for the first time, behind 512. The look after that finds it, and the count begins anew.
+const ROWS: [(u64, u64, u64, u64, u64); 15] = [
+    (0, NEVER, 17, 0, 3),
+    (0, NEVER, 18, 2, 3),
+    (0, NEVER, 501, 2 * 484, 3),
+    (0, NEVER, 512, 2 * 484, 3),
+    (0, NEVER, 513, 2 * 485, 3),
+    (0, NEVER, 1_000, 2 * 500, 3),
+    (0, NEVER, 1_001, 2 * 500, 9),
+    (0, NEVER, 2_004, 2 * 500 + 2 * 515, 15),
+    (500, NEVER, 1_000, 2 * 500, 3),
+    (501, NEVER, 1_000, 2 * 32, 3),
+    (1_000_000, NEVER, 1_000, 2 * 32, 3),
+    (0, 0, 1_018, 2 * 501, 3),
+    (0, 0, 1_019, 2 * 501, 9),
+    (0, 968, 1_513, 2 * 985, 3),
+    (0, 968, 1_514, 2 * 985, 9),
 ];
 
 #[test]
-fn a_member_yields_then_sleeps_then_reminds(rt: HostRuntime) -> Result<(), Fail> {
-    for (turns, readings, messages) in ROWS {
+fn a_member_yields_then_sleeps_then_reminds(rt: HostRuntime) {
+    for (pace, rings_at, turns, readings, messages) in ROWS {
         let wanted = Waited {
             readings,
             messages,
             spent: true,
         };
-        let found = client_0_waits(&rt, rt.alloc(), turns, STILL)?;
+        let course = Course { pace, rings_at };
+        let found = client_0_waits(&rt, rt.alloc(), turns, course);
         assert!(rt; found == Some(wanted), "{turns} turns");
     }
-    Ok(())
-}
-
-/// How many microseconds a clock goes on at each reading, and how often it is read in 1,000 turns. If a
-/// yield took more than 500, the client sleeps in place of yielding from then on: behind 32, 64, and
-/// so on to 992 empty looks.
-const PACES: [(u64, u64); 3] = [(500, 2 * 500), (501, 2 * 32), (1_000_000, 2 * 32)];
-
-#[test]
-fn a_member_sleeps_once_a_yield_was_long(rt: HostRuntime) -> Result<(), Fail> {
-    for (pace, readings) in PACES {
-        let course = Course {
-            pace,
-            rings_at: u64::MAX,
-        };
-        let wanted = Waited {
-            readings,
-            messages: 3,
-            spent: true,
-        };
-        let found = client_0_waits(&rt, rt.alloc(), 1_000, course)?;
-        assert!(rt; found == Some(wanted), "{pace} microseconds");
-    }
-    Ok(())
-}
-
-/// The reading at which a message comes, turns, how often the clock is read, and how many messages come
-/// to the client that is inside.
-///
-/// The message comes when the client yields for the first time, behind 17 empty looks, or when it sleeps
-/// for the first time, behind 512. The look after that finds it, and the count begins anew.
-const RINGS: [(u64, u64, u64, u64); 4] = [
-    (0, 1_018, 2 * 501, 3),
-    (0, 1_019, 2 * 501, 9),
-    (968, 1_513, 2 * 985, 3),
-    (968, 1_514, 2 * 985, 9),
-];
-
-#[test]
-fn a_message_begins_the_count_anew(rt: HostRuntime) -> Result<(), Fail> {
-    for (rings_at, turns, readings, messages) in RINGS {
-        let course = Course { pace: 0, rings_at };
-        let wanted = Waited {
-            readings,
-            messages,
-            spent: true,
-        };
-        let found = client_0_waits(&rt, rt.alloc(), turns, course)?;
-        assert!(rt; found == Some(wanted), "reading {rings_at}, {turns} turns");
-    }
-    Ok(())
 }
 
 /// The client sleeps 16 times for a millisecond before its first reminder, and nothing wakes it.
 #[test]
 fn a_member_sleeps_for_a_millisecond(rt: HostRuntime) -> Result<(), Fail> {
+    let still = Course {
+        pace: 0,
+        rings_at: NEVER,
+    };
     let before = Instant::now(&rt)?;
-    let found = client_0_waits(&rt, rt.alloc(), 1_000, STILL)?;
+    let found = client_0_waits(&rt, rt.alloc(), 1_000, still);
     let time = before.elapsed(&rt)?;
     assert!(rt; found.is_some() & (time >= Duration::from_millis(16)));
     Ok(())

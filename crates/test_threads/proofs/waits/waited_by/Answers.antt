@@ -5,6 +5,6 @@ use Rattle.requester.specs.Words.{is_idle}
 use Rattle.test_threads.proofs.waits.waited_by.Goals as goal
 
 -- all but the last of the members are idle, as all of them are
-pub drive-requires-clause-idle : goal.drive-requires-clause-idle
-drive-requires-clause-idle g c κs within =
-    subst AreIdle (sym c.pop.ensures.rest) (All-take (λ (m : MemberState). is_idle m.requester.phase ≡ true) _ _ c.in_ok-cluster.ensures.idle)
+pub waits-requires-clause-idle : goal.waits-requires-clause-idle
+waits-requires-clause-idle g c κs within =
+    subst AreIdle (sym c.pop.ensures.rest) (All-take (λ (m : MemberState). is_idle m.requester.phase ≡ true) _ _ c.in-Ok.ensures.idle)
