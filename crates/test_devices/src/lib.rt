@@ -4,7 +4,7 @@
 //! - `devices` has the devices, and runs each command over them.
 //! - `tables` has the commands, their inputs, and what they have to write.
 //!
-//! Depends on `qlock_cli`, on `test_served`, and on `cluster` for the runs.
+//! Depends on `qlock_cli` and `test_served`.
 #![tactic(auto)]
 
 #[cfg(test)]

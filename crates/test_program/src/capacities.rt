@@ -1,6 +1,6 @@
 //! Coteries and plans whose voters have capacities.
+use test_served::Row;
 use test_served::samples::{FAST_HUB, FAST_HUB_PLAN, WHEEL_PLAN};
-use test_served::{Row, first_wrong};
 
 /// The wheel with three rims, and a third key.
 macro_rules! wheel {
@@ -45,7 +45,7 @@ macro_rules! plan_two {
 }
 
 /// Plans that are found, and capacities that are refused.
-const PLANNED: [Row; 6] = [
+pub(crate) const PLANNED: [Row; 6] = [
     ("plan", &[FAST_HUB], FAST_HUB_PLAN),
     (
         "plan",
@@ -62,13 +62,8 @@ const PLANNED: [Row; 6] = [
     ("plan", &[majority!("[2, 1, 1.0]")], "F2 Keys"),
 ];
 
-#[test]
-fn plans_follow_capacities(rt: HostRuntime) {
-    assert!(rt; first_wrong(&rt, rt.alloc(), &PLANNED) == Ok(None));
-}
-
 /// Plans that are checked, and tickets that are dealt.
-const SERVED: [Row; 4] = [
+pub(crate) const SERVED: [Row; 4] = [
     ("check", &[FAST_HUB, FAST_HUB_PLAN], "load 3/7 cycle 7\n"),
     ("check", &[FAST_HUB, WHEEL_PLAN], "P9 WrongCapacity"),
     (
@@ -85,8 +80,3 @@ const SERVED: [Row; 4] = [
         "0 0\n1 1\n2 2\n3 3\n4 0\n5 1\n6 2\nvoter v0 6\nvoter v1 3\nvoter v2 3\nvoter v3 3\nbusiest 6\nratio 3/1\n",
     ),
 ];
-
-#[test]
-fn commands_take_plans_with_capacities(rt: HostRuntime) {
-    assert!(rt; first_wrong(&rt, rt.alloc(), &SERVED) == Ok(None));
-}

@@ -1,28 +1,39 @@
 //! Coteries that are made and read again, and coteries that are refused.
-use crate::plan;
 use coterie_file::{read_coterie, write_coterie};
 use std::alloc::{AllocError, Global};
 use std::sync::Wait;
+use std::test::Fail;
 use std::thread::Threads;
 use std::time::Clock;
-use test_served::samples::{WHEEL, WHEEL_PLAN};
-use test_served::{Row, answer, answer_planned, coterie_of_letters, first_wrong};
+use test_served::{Row, answer, coterie_of_letters};
 
-/// Shapes that `make` refuses.
-const REFUSED: [Row; 7] = [
+/// Shapes that `make` refuses, and texts that are no coteries.
+pub(crate) const REFUSED: [Row; 10] = [
     ("make grid 1 5", &[], "G1 BadSize"),
     ("make majority 15", &[], "G2 TooLarge"),
     ("make tree 4", &[], "G2 TooLarge"),
     ("make cyclic 4 0 2", &[], "E7 Disjoint 0 1"),
     ("make cyclic 2 0 1", &[], "E8 Contained 0 1"),
-    ("make cyclic 7 0 3 3", &[], "G1 BadSize"),
-    ("make cyclic 65 0", &[], "G2 TooLarge"),
+    (
+        "plan",
+        &["voters = [\"a\"]\nquorums = []\n"],
+        "E3 NoQuorums",
+    ),
+    ("plan", &[""], "F2 Keys"),
+    ("plan", &["voters = [\n"], "F1 NotToml"),
+    (
+        "plan",
+        &["voters = [\"a b\", \"c\"]\nquorums = [[\"c\"]]\n"],
+        "F3 BadName 0",
+    ),
+    (
+        "plan",
+        &[
+            "voters = [[[[[[[[[[[[[[[[[[[[[[[[[[[[[[[[[[[[[[[[[[[[[[[[[[[[[[[[[[[[[[[[[[[[[[[[[[[[[[[[[[[[[[[[[[[[[[[[[[[[",
+        ],
+        "F1 NotToml",
+    ),
 ];
-
-#[test]
-fn shapes_are_refused(rt: HostRuntime) {
-    assert!(rt; first_wrong(&rt, rt.alloc(), &REFUSED) == Ok(None));
-}
 
 /// Shapes, and how many lines their texts have.
 const LINES: [(&str, usize); 5] = [
@@ -33,70 +44,24 @@ const LINES: [(&str, usize); 5] = [
     ("make cyclic 13 0 1 3 9", 16),
 ];
 
-/// Returns whether a shape's text has this number of lines, and is written again as it was once it
-/// is read.
-fn reads_back<T: Threads + Wait + Clock + Sync>(
-    rt: &T,
-    alloc: Global,
-    line: &str,
-    lines: usize,
-) -> Result<bool, AllocError> {
-    let text = answer(rt, alloc, line, b"")?;
-    match read_coterie(alloc, text.as_str()) {
+/// Returns whether a text of this number of lines is written again as it was once it is read.
+fn reads_back(alloc: Global, text: &str, lines: usize) -> Result<bool, AllocError> {
+    match read_coterie(alloc, text) {
         Ok(named) => {
             let again = write_coterie(alloc, &named)?;
-            Ok(again.as_str() == text.as_str() && text.as_str().lines().count() == lines)
+            Ok((again.as_str() == text) & (text.lines().count() == lines))
         }
         Err(_) => Ok(false),
     }
 }
 
 #[test]
-fn shapes_read_back(rt: HostRuntime) {
+fn shapes_read_back(rt: HostRuntime) -> Result<(), Fail> {
     for (line, lines) in &LINES {
-        assert!(rt; reads_back(&rt, rt.alloc(), line, *lines) == Ok(true));
+        let text = answer(&rt, rt.alloc(), line, &[])?;
+        assert!(rt; reads_back(rt.alloc(), text.as_str(), *lines)?);
     }
-}
-
-/// Shapes, plans of them, and what `check` writes.
-const CERTIFICATES: [(&str, &str, &str); 2] = [
-    (
-        "make tree 2",
-        plan!(
-            "1/2",
-            "12",
-            "1 1 1 1 1 1 2 0 0 0 2 0 0 0 2",
-            "2 1 1 1 1 1 1"
-        ),
-        "load 1/2 cycle 12\n",
-    ),
-    (
-        "make cyclic 13 0 1 3 9",
-        plan!(
-            "4/13",
-            "13",
-            "1 1 1 1 1 1 1 1 1 1 1 1 1",
-            "1 1 1 1 1 1 1 1 1 1 1 1 1"
-        ),
-        "load 4/13 cycle 13\n",
-    ),
-];
-
-/// Returns whether `check` writes this for the coterie of a shape and a plan.
-fn is_checked<T: Threads + Wait + Clock + Sync>(
-    rt: &T,
-    alloc: Global,
-    row: &(&str, &str, &str),
-) -> Result<bool, AllocError> {
-    let coterie = answer(rt, alloc, row.0, b"")?;
-    Ok(answer_planned(rt, alloc, "check", coterie.as_str(), row.1)?.as_str() == row.2)
-}
-
-#[test]
-fn certificates_of_shapes(rt: HostRuntime) {
-    for row in &CERTIFICATES {
-        assert!(rt; is_checked(&rt, rt.alloc(), row) == Ok(true));
-    }
+    Ok(())
 }
 
 /// Voters and quorums of letters, and how they are refused.
@@ -109,45 +74,61 @@ const LETTERS: [(&str, &str, &str); 6] = [
     ("a", "aa", "F6 RepeatedMember 0"),
 ];
 
-/// Returns whether `deal` refuses a coterie of letters like this.
-fn is_refused<T: Threads + Wait + Clock + Sync>(
-    rt: &T,
-    alloc: Global,
-    row: &(&str, &str, &str),
-) -> Result<bool, AllocError> {
-    let coterie = coterie_of_letters(alloc, row.0, row.1)?;
-    let text = answer_planned(rt, alloc, "deal 5", coterie.as_str(), WHEEL_PLAN)?;
-    Ok(text.as_str() == row.2)
-}
-
-#[test]
-fn coteries_are_refused(rt: HostRuntime) {
-    for row in &LETTERS {
-        assert!(rt; is_refused(&rt, rt.alloc(), row) == Ok(true));
-    }
-}
-
-/// Texts that are no coteries.
-const TEXTS: [Row; 5] = [
+/// A wall of rows of 1, 2 and 3; two weighted majorities; a nucleus system; majorities of
+/// majorities: voters, quorums, and how their plans begin.
+const OTHERS: [(&str, &str, &str); 5] = [
     (
-        "deal 5",
-        &["voters = [\"a\"]\nquorums = []\n", WHEEL_PLAN],
-        "E3 NoQuorums",
+        "abcdef",
+        "abd abe abf acd ace acf bcd bce bcf def",
+        "quorum-plan 1\nload 1/2\n",
     ),
-    ("deal 5", &["", WHEEL_PLAN], "F2 Keys"),
-    ("deal 5", &["voters = [\n", WHEEL_PLAN], "F1 NotToml"),
     (
-        "deal 5",
-        &[
-            "voters = [\"a b\", \"c\"]\nquorums = [[\"c\"]]\n",
-            WHEEL_PLAN,
-        ],
-        "F3 BadName 0",
+        "abcdefg",
+        "abc abd abe abf abg acde acdf acdg acef aceg acfg adef adeg adfg aefg bcdef bcdeg bcdfg bcefg bdefg",
+        "quorum-plan 1\nload 3/5\n",
     ),
-    ("check", &[WHEEL], "I1 MissingPart 2"),
+    (
+        "abcdefghij",
+        "ab ac ade adf adgh adgi adgj adhij aefgh aefgi aefgj aefhij bcde bcdf bcdgh bcdgi bcdgj bcdhij bcefgh bcefgi bcefgj bcefhij",
+        "quorum-plan 1\nload 27/53\n",
+    ),
+    (
+        "abcdefghijklmnop",
+        "abcd abce abcf abde abdf abef acde acdf acef adef bcde bcdf bcef bdef cdef abcg abdh abei abfj acdk acel acfm aden adfo aefp bcdp bceo bcfn bdem bdfl befk cdej cdfi cefh defg",
+        "quorum-plan 1\nload 1/2\n",
+    ),
+    (
+        "abcdefghi",
+        "abde abdf abef acde acdf acef bcde bcdf bcef abgh abgi abhi acgh acgi achi bcgh bcgi bchi degh degi dehi dfgh dfgi dfhi efgh efgi efhi",
+        "quorum-plan 1\nload 4/9\n",
+    ),
 ];
 
+/// Returns what `plan` writes for a coterie of letters.
+fn planned<T: Threads + Wait + Clock + Sync>(
+    rt: &T,
+    alloc: Global,
+    voters: &str,
+    quorums: &str,
+) -> Result<String, AllocError> {
+    let coterie = coterie_of_letters(alloc, voters, quorums)?;
+    answer(rt, alloc, "plan", &[coterie.as_str()])
+}
+
 #[test]
-fn texts_are_refused(rt: HostRuntime) {
-    assert!(rt; first_wrong(&rt, rt.alloc(), &TEXTS) == Ok(None));
+fn coteries_are_refused(rt: HostRuntime) -> Result<(), Fail> {
+    for (voters, quorums, fault) in &LETTERS {
+        let text = planned(&rt, rt.alloc(), voters, quorums)?;
+        assert!(rt; text.as_str() == *fault);
+    }
+    Ok(())
+}
+
+#[test]
+fn other_families_have_the_known_loads(rt: HostRuntime) -> Result<(), Fail> {
+    for (voters, quorums, beginning) in &OTHERS {
+        let text = planned(&rt, rt.alloc(), voters, quorums)?;
+        assert!(rt; text.as_str().starts_with(beginning));
+    }
+    Ok(())
 }

@@ -1,8 +1,8 @@
 //! Tickets that are dealt.
+use test_served::Row;
 use test_served::samples::{LONGER_PLAN, WHEEL, WHEEL_PLAN};
-use test_served::{Row, first_wrong};
 
-const DEALT: [Row; 4] = [
+pub(crate) const DEALT: [Row; 4] = [
     (
         "deal 0",
         &[WHEEL, WHEEL_PLAN],
@@ -24,8 +24,3 @@ const DEALT: [Row; 4] = [
         "0 0\n1 1\n2 2\n3 3\n4 0\n5 1\n6 2\n7 3\n8 3\n9 3\nvoter v0 6\nvoter v1 6\nvoter v2 6\nvoter v3 6\nbusiest 6\n",
     ),
 ];
-
-#[test]
-fn tickets_are_dealt(rt: HostRuntime) {
-    assert!(rt; first_wrong(&rt, rt.alloc(), &DEALT) == Ok(None));
-}

@@ -1,10 +1,9 @@
 //! Tests of the whole program, over a reader and a writer. This crate has nothing but tests.
 //!
-//! - Each command has a module: `coteries` and `plans`, `dealing`, `worlds`, `records` and
-//!   `running`.
-//! - `capacities` has the commands for voters with capacities.
-//! - `gates` holds up clients.
-//! - `limits` has the commands at the greatest sizes that they take, and `prefixes` cuts texts short.
+//! - Each command has a module with a table of command lines: `coteries` and `plans`, `dealing`, `worlds`,
+//!   `records` and `running`. `capacities` has the commands for voters with capacities. `rows` runs all
+//!   tables.
+//! - `prefixes` cuts texts short.
 //!
 //! Depends on `test_served`, which runs a command line, on `qlock_cli`, `coterie_file` and `test_gate`.
 //! Devices that fail are in `test_devices`, and the line of every fault is in `test_faults`.
@@ -35,15 +34,13 @@ mod coteries;
 #[cfg(test)]
 mod dealing;
 #[cfg(test)]
-mod gates;
-#[cfg(test)]
-mod limits;
-#[cfg(test)]
 mod plans;
 #[cfg(test)]
 mod prefixes;
 #[cfg(test)]
 mod records;
+#[cfg(test)]
+mod rows;
 #[cfg(test)]
 mod running;
 #[cfg(test)]

@@ -1,13 +1,11 @@
 //! Plans that are checked, and plans that are found. `test_devices` has more of both.
 use crate::plan;
-use std::alloc::{AllocError, Global};
-use std::sync::Wait;
-use std::thread::Threads;
-use std::time::Clock;
-use test_served::samples::{MAJORITY, WHEEL};
-use test_served::{Row, answer, answer_planned, coterie_of_letters, first_wrong};
+use std::test::Fail;
+use test_served::samples::{MAJORITY, ONE, WHEEL};
+use test_served::{Row, answer};
 
-const CHECKED: [Row; 11] = [
+/// Plans that are checked, and one that is found though two voters are in no quorum.
+pub(crate) const CHECKED: [Row; 13] = [
     (
         "check",
         &[WHEEL, plan!("3/5", "10", "2 2 2 4", "2 1 1 1")],
@@ -58,18 +56,18 @@ const CHECKED: [Row; 11] = [
         &[WHEEL, plan!("3/5", "5", "1000001 1 1 2", "2 1 1 1")],
         "P2 TooLarge",
     ),
-    // two voters are in no quorum
     (
         "plan",
         &["voters = [\"a\", \"b\", \"c\"]\nquorums = [[\"a\"]]\n"],
         plan!("1/1", "1", "1", "1 0 0"),
     ),
+    (
+        "check",
+        &[ONE, plan!("10000000/1", "1", "1", "1")],
+        "P5 BadText 2",
+    ),
+    ("check", &[WHEEL], "I1 MissingPart 2"),
 ];
-
-#[test]
-fn plans_are_checked(rt: HostRuntime) {
-    assert!(rt; first_wrong(&rt, rt.alloc(), &CHECKED) == Ok(None));
-}
 
 /// Shapes, and the plans that are found.
 const FOUND: [(&str, &str); 3] = [
@@ -81,79 +79,47 @@ const FOUND: [(&str, &str); 3] = [
     ("make tree 0", plan!("1/1", "1", "1", "1")),
 ];
 
-/// Returns whether this plan is found for the coterie of a shape.
-fn is_found<T: Threads + Wait + Clock + Sync>(
-    rt: &T,
-    alloc: Global,
-    shape: &str,
-    wanted: &str,
-) -> Result<bool, AllocError> {
-    let coterie = answer(rt, alloc, shape, b"")?;
-    Ok(answer(rt, alloc, "plan", coterie.as_bytes())?.as_str() == wanted)
-}
-
 #[test]
-fn plans_are_found(rt: HostRuntime) {
+fn plans_are_found(rt: HostRuntime) -> Result<(), Fail> {
     for (shape, wanted) in &FOUND {
-        assert!(rt; is_found(&rt, rt.alloc(), shape, wanted) == Ok(true));
+        let coterie = answer(&rt, rt.alloc(), shape, &[])?;
+        let found = answer(&rt, rt.alloc(), "plan", &[coterie.as_str()])?;
+        assert!(rt; found.as_str() == *wanted);
     }
+    Ok(())
 }
 
-/// Returns whether `check` writes this load for a coterie and the plan that `plan` finds.
-fn has_load<T: Threads + Wait + Clock + Sync>(
-    rt: &T,
-    alloc: Global,
-    coterie: &str,
-    wanted: &str,
-) -> Result<bool, AllocError> {
-    let plan = answer(rt, alloc, "plan", coterie.as_bytes())?;
-    let text = answer_planned(rt, alloc, "check", coterie, plan.as_str())?;
-    Ok(text.as_str().starts_with(wanted))
-}
-
-/// A wall of rows of 1, 2 and 3; two weighted majorities; a nucleus system; majorities of
-/// majorities: voters, quorums and loads.
-const OTHERS: [(&str, &str, &str); 5] = [
+/// Shapes, plans of them, and what `check` writes.
+const CERTIFICATES: [(&str, &str, &str); 2] = [
     (
-        "abcdef",
-        "abd abe abf acd ace acf bcd bce bcf def",
-        "load 1/2 ",
+        "make tree 2",
+        plan!(
+            "1/2",
+            "12",
+            "1 1 1 1 1 1 2 0 0 0 2 0 0 0 2",
+            "2 1 1 1 1 1 1"
+        ),
+        "load 1/2 cycle 12\n",
     ),
     (
-        "abcdefg",
-        "abc abd abe abf abg acde acdf acdg acef aceg acfg adef adeg adfg aefg bcdef bcdeg bcdfg bcefg bdefg",
-        "load 3/5 ",
-    ),
-    (
-        "abcdefghij",
-        "ab ac ade adf adgh adgi adgj adhij aefgh aefgi aefgj aefhij bcde bcdf bcdgh bcdgi bcdgj bcdhij bcefgh bcefgi bcefgj bcefhij",
-        "load 27/53 ",
-    ),
-    (
-        "abcdefghijklmnop",
-        "abcd abce abcf abde abdf abef acde acdf acef adef bcde bcdf bcef bdef cdef abcg abdh abei abfj acdk acel acfm aden adfo aefp bcdp bceo bcfn bdem bdfl befk cdej cdfi cefh defg",
-        "load 1/2 ",
-    ),
-    (
-        "abcdefghi",
-        "abde abdf abef acde acdf acef bcde bcdf bcef abgh abgi abhi acgh acgi achi bcgh bcgi bchi degh degi dehi dfgh dfgi dfhi efgh efgi efhi",
-        "load 4/9 ",
+        "make cyclic 13 0 1 3 9",
+        plan!(
+            "4/13",
+            "13",
+            "1 1 1 1 1 1 1 1 1 1 1 1 1",
+            "1 1 1 1 1 1 1 1 1 1 1 1 1"
+        ),
+        "load 4/13 cycle 13\n",
     ),
 ];
 
-/// Returns whether a plan of this load is found for a coterie of letters.
-fn letters_have_load<T: Threads + Wait + Clock + Sync>(
-    rt: &T,
-    alloc: Global,
-    row: &(&str, &str, &str),
-) -> Result<bool, AllocError> {
-    let coterie = coterie_of_letters(alloc, row.0, row.1)?;
-    has_load(rt, alloc, coterie.as_str(), row.2)
-}
-
 #[test]
-fn other_families_have_the_known_loads(rt: HostRuntime) {
-    for row in &OTHERS {
-        assert!(rt; letters_have_load(&rt, rt.alloc(), row) == Ok(true));
+fn certificates_of_shapes_are_accepted(rt: HostRuntime) -> Result<(), Fail> {
+    for (shape, plan, wanted) in &CERTIFICATES {
+        let coterie = answer(&rt, rt.alloc(), shape, &[])?;
+        let input = format!(in rt.alloc(); "{coterie}%%\n{plan}")?;
+        let checked = answer(&rt, rt.alloc(), "check", &[input.as_str()])?;
+        assert!(rt; checked.as_str() == *wanted);
     }
+    Ok(())
 }

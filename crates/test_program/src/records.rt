@@ -1,6 +1,6 @@
 //! Records that are refused. `test_devices` has those that are replayed.
+use test_served::Row;
 use test_served::samples::{MAJORITY, MAJORITY_PLAN};
-use test_served::{Row, first_wrong};
 
 /// The text of a record of three draws and two passes: its second draw, its second pass and its
 /// register.
@@ -18,7 +18,7 @@ macro_rules! record {
     };
 }
 
-const REPLAYED: [Row; 7] = [
+pub(crate) const REPLAYED: [Row; 7] = [
     (
         "replay",
         &[MAJORITY, MAJORITY_PLAN, record!("0 0 0", "1 1", "2")],
@@ -55,8 +55,3 @@ const REPLAYED: [Row; 7] = [
         "A7 BadLine 1",
     ),
 ];
-
-#[test]
-fn records_are_refused(rt: HostRuntime) {
-    assert!(rt; first_wrong(&rt, rt.alloc(), &REPLAYED) == Ok(None));
-}

@@ -1,6 +1,6 @@
 //! Worlds: scripts, and all that they write. `test_devices` has one more.
+use test_served::Row;
 use test_served::samples::{MAJORITY, MAJORITY_PLAN, ONE, ONE_PLAN};
-use test_served::{Row, first_wrong};
 
 /// A vote that arrives again, after its client gave it up.
 const LATE_VOTE: &str =
@@ -37,7 +37,7 @@ const REMINDED: &str =
 const REMINDED_OUTPUT: &str =
     "m 0 request 0 0 1\nm 1 request 0 0 1\nm 2 locked 0 0 1 1 1\nm 3 locked 0 0 1 1 1\nm 4 locked 0 0 1 1 1\nenter 0\n! C3 NotAsking\n! C1 Busy\n! U2 NoSuchClient 7\n! U3 NoSuchVoter 3\n";
 
-const PLAYED: [Row; 6] = [
+pub(crate) const PLAYED: [Row; 6] = [
     (
         "world",
         &[MAJORITY, MAJORITY_PLAN, LATE_VOTE],
@@ -50,12 +50,7 @@ const PLAYED: [Row; 6] = [
     ("world", &[ONE, ONE_PLAN, REMINDED], REMINDED_OUTPUT),
 ];
 
-#[test]
-fn scripts_are_played(rt: HostRuntime) {
-    assert!(rt; first_wrong(&rt, rt.alloc(), &PLAYED) == Ok(None));
-}
-
-const REFUSED: [Row; 3] = [
+pub(crate) const REFUSED: [Row; 3] = [
     ("world", &[MAJORITY, MAJORITY_PLAN, ""], "A7 BadLine 1"),
     (
         "world",
@@ -68,8 +63,3 @@ const REFUSED: [Row; 3] = [
         "A7 BadLine 2",
     ),
 ];
-
-#[test]
-fn scripts_are_refused_by_their_first_bad_line(rt: HostRuntime) {
-    assert!(rt; first_wrong(&rt, rt.alloc(), &REFUSED) == Ok(None));
-}

@@ -11,6 +11,5 @@ pub mod samples;
 mod served;
 
 pub use served::{
-    Row, answer, answer_at, answer_planned, command_of, coterie_of_letters, first_wrong, joined,
-    serve,
+    Row, answer, answer_at, command_of, coterie_of_letters, first_wrong, joined, serve,
 };

@@ -56,56 +56,6 @@ pub fn serve<T: Threads + Wait + Clock + Sync, R: Read, W: Write, G: Gate>(
     }
 }
 
-/// Returns what the command line writes for an input of bytes, or the text of its fault. The gate
-/// holds up the clients of a run.
-pub fn answer_at<T: Threads + Wait + Clock + Sync, G: Gate>(
-    rt: &T,
-    alloc: Global,
-    line: &str,
-    input: &[u8],
-    gate: &G,
-) -> Result<String, AllocError> {
-    let Some(command) = command_of(alloc, line)? else {
-        return String::from_str(alloc, "no command");
-    };
-    let mut written = Vec::new(alloc);
-    let mut reader = Watched::of(input);
-    let mut writer = Watched::of(&mut written);
-    match serve(rt, alloc, &command, &mut reader, &mut writer, gate) {
-        Ok(()) => match std::str::from_utf8(&written) {
-            Ok(text) => String::from_str(alloc, text),
-            Err(_) => String::from_str(alloc, "no text"),
-        },
-        Err(fault) => fault.to_string(alloc),
-    }
-}
-
-/// Does the same without a gate.
-pub fn answer<T: Threads + Wait + Clock + Sync>(
-    rt: &T,
-    alloc: Global,
-    line: &str,
-    input: &[u8],
-) -> Result<String, AllocError> {
-    answer_at(rt, alloc, line, input, &NoGate)
-}
-
-/// Returns what the command line writes for an input of two parts, or the text of its fault.
-pub fn answer_planned<T: Threads + Wait + Clock + Sync>(
-    rt: &T,
-    alloc: Global,
-    line: &str,
-    coterie: &str,
-    plan: &str,
-) -> Result<String, AllocError> {
-    let input = format!(in alloc; "{coterie}%%\n{plan}")?;
-    answer(rt, alloc, line, input.as_bytes())
-}
-
-/// A row of a table: a command line, the parts of its input, and what it writes or the text of its
-/// fault.
-pub type Row<'a> = (&'a str, &'a [&'a str], &'a str);
-
 /// Returns the input that has these parts.
 pub fn joined(alloc: Global, parts: &[&str]) -> Result<String, AllocError> {
     let mut input = String::new(alloc);
@@ -118,6 +68,55 @@ pub fn joined(alloc: Global, parts: &[&str]) -> Result<String, AllocError> {
     Ok(input)
 }
 
+/// Runs a command over texts. Returns what it writes, or the text of its fault.
+fn written<T: Threads + Wait + Clock + Sync, G: Gate>(
+    rt: &T,
+    alloc: Global,
+    command: &Command,
+    input: &[u8],
+    gate: &G,
+) -> Result<String, AllocError>
+    requires { IsInRange command.now }
+{
+    let mut output = Vec::new(alloc);
+    let mut reader = Watched::of(input);
+    let mut writer = Watched::of(&mut output);
+    match serve(rt, alloc, command, &mut reader, &mut writer, gate) {
+        Ok(()) => String::from_str(alloc, std::str::from_utf8(&output).unwrap_or("no text")),
+        Err(fault) => fault.to_string(alloc),
+    }
+}
+
+/// Returns what the command line writes for an input of these parts, or the text of its fault. The
+/// gate holds up the clients of a run.
+pub fn answer_at<T: Threads + Wait + Clock + Sync, G: Gate>(
+    rt: &T,
+    alloc: Global,
+    line: &str,
+    parts: &[&str],
+    gate: &G,
+) -> Result<String, AllocError> {
+    let Some(command) = command_of(alloc, line)? else {
+        return String::from_str(alloc, "no command");
+    };
+    let input = joined(alloc, parts)?;
+    written(rt, alloc, &command, input.as_bytes(), gate)
+}
+
+/// Does the same without a gate.
+pub fn answer<T: Threads + Wait + Clock + Sync>(
+    rt: &T,
+    alloc: Global,
+    line: &str,
+    parts: &[&str],
+) -> Result<String, AllocError> {
+    answer_at(rt, alloc, line, parts, &NoGate)
+}
+
+/// A row of a table: a command line, the parts of its input, and what it writes or the text of its
+/// fault.
+pub type Row<'a> = (&'a str, &'a [&'a str], &'a str);
+
 /// Returns the place of the first row whose command line writes something else, or `None` if there
 /// is none.
 pub fn first_wrong<T: Threads + Wait + Clock + Sync>(
@@ -127,9 +126,7 @@ pub fn first_wrong<T: Threads + Wait + Clock + Sync>(
 ) -> Result<Option<usize>, AllocError> {
     for (place, row) in rows.iter().enumerate() {
         let (line, parts, wanted) = *row;
-        let input = joined(alloc, parts)?;
-        let written = answer(rt, alloc, line, input.as_bytes())?;
-        if written.as_str() != wanted {
+        if answer(rt, alloc, line, parts)?.as_str() != wanted {
             return Ok(Some(place));
         }
     }
