@@ -2,7 +2,7 @@
 ghost use Rattle.std.specs.Prelude.{◌≡◌};
 
 use crate::scripts::{THREE, blank_of, stuck_at};
-use members::{Blank, CloseFault, ClusterName};
+use members::{Blank, ClusterName};
 use std::alloc::Global;
 use std::marker::Brand;
 
@@ -17,31 +17,28 @@ fn a_cluster_that_is_not_closed_goes_on_as_it_was(rt: HostRuntime) {
     }
 }
 
-/// Returns how many members are missing or not idle when a cluster is closed after one of its members
-/// was dropped. Returns `None` if it is closed.
-fn missing_with_one_gone<N: ClusterName>(alloc: Global, blank: Blank) -> Option<u64>
+/// Returns the fault of a close after one of the members was dropped.
+fn fault_with_one_gone<N: ClusterName>(alloc: Global, blank: Blank) -> Option<String>
     requires { blank ≡ N.cluster }
 {
     let Ok((cluster, mut members)) = blank.open::<N>(alloc) else {
         return None;
     };
     drop(members.pop());
-    let closed = cluster.close(alloc, members);
-    match &closed {
-        Err(CloseFault::Unready { missing, .. }) => Some(*missing),
-        _ => None,
-    }
+    let fault = cluster.close(alloc, members).err()?;
+    fault.to_string(alloc).ok()
 }
 
 /// Returns the same of a cluster of this many clients.
-fn missing_of(alloc: Global, clients: u8) -> Option<u64> {
+fn fault_of(alloc: Global, clients: u8) -> Option<String> {
     let blank = blank_of(alloc, clients)?;
-    missing_with_one_gone::<Brand>(alloc, blank)
+    fault_with_one_gone::<Brand>(alloc, blank)
 }
 
 #[test]
 fn a_member_that_is_gone_is_missing(rt: HostRuntime) {
     for clients in [2, 3] {
-        assert_eq!(rt; missing_of(rt.alloc(), clients), Some(1));
+        let fault = fault_of(rt.alloc(), clients).unwrap_or(String::new(rt.alloc()));
+        assert!(rt; fault.as_str() == "K3 MembersOut 1");
     }
 }

@@ -2,7 +2,7 @@
 //!
 //! Here messages are lost because they would move a vote that is taken. In `hostile/run.sh` messages are
 //! lost because memory runs out.
-use crate::scripts::{Act, EMPTY, ENTERED, NOTHING, stuck};
+use crate::scripts::{Act, EMPTY, ENTERED, LEAVE, NOTHING, stuck};
 use message::{ClientBody, ToClient, ToVoter, VoterBody};
 
 /// A request of client 1 to voter 2, whose vote is free.
@@ -21,7 +21,7 @@ const TAKEN: ToVoter = ToVoter {
 
 /// Messages are delivered while client 0 is inside with the votes of voters 0 and 1. One is lost, and client
 /// 1 sees only the reply to the other one.
-const DELIVERED: [(usize, Act); 8] = [
+const DELIVERED: [(usize, Act); 9] = [
     (0, Act::Ask(0, 0)),
     (0, NOTHING),
     (0, ENTERED),
@@ -30,6 +30,7 @@ const DELIVERED: [(usize, Act); 8] = [
     (0, Act::Deliver(REQUEST, 0)),
     (1, NOTHING),
     (1, EMPTY),
+    (0, LEAVE),
 ];
 
 /// A request of client 0 to voter 0, whose vote is free.
@@ -99,10 +100,11 @@ fn each_message_arrives_or_is_lost(rt: HostRuntime) {
 /// Returns the script in which this message is posted to client 0 before the replies of voters 0 and 1,
 /// whom it asks, or behind them, when it is inside. It takes all that waits, and has lost this many
 /// messages.
-fn posted(before: bool, message: ToClient, lost: u64) -> [(usize, Act); 4] {
+fn posted(before: bool, message: ToClient, lost: u64) -> [(usize, Act); 5] {
     let (post, ask) = ((0, Act::Post(message)), (0, Act::Ask(0, 0)));
     let (first, second) = if before { (post, ask) } else { (ask, post) };
-    [first, second, (0, Act::Hear), (0, Act::Lost(lost))]
+    let heard = (0, Act::Hear);
+    [first, second, heard, (0, Act::Lost(lost)), (0, Act::End)]
 }
 
 /// Returns a message of this voter to client 0.

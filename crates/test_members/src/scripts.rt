@@ -22,7 +22,7 @@ pub(crate) enum Act {
     Hear,
     /// Asks, takes this many messages, of which the last one lets it in, passes and leaves.
     Serve(u32),
-    /// Sleeps for this many milliseconds at most while a message comes, if it does sleep.
+    /// Goes to sleep for this many milliseconds while a message comes. Says whether it has to sleep.
     Sleep(Comes, u64, bool),
     /// Reminds. No message finds no memory.
     Remind,
@@ -32,6 +32,8 @@ pub(crate) enum Act {
     Pass(Result<u64, ClusterFault>),
     Leave(Result<(), ClusterFault>),
     GiveUp(Result<(), ClusterFault>),
+    /// Leaves or gives up, whichever it can.
+    End,
     /// Has lost this many messages.
     Lost(u64),
     /// Gives a voter a message. This many messages are lost.
@@ -105,6 +107,7 @@ fn does<N: ClusterName, R: Wait + Clock>(
         Act::Pass(passed) => member.pass(cluster) == passed,
         Act::Leave(left) => member.leave(rt, cluster) == left,
         Act::GiveUp(gave_up) => member.give_up(rt, cluster) == gave_up,
+        Act::End => member.leave(rt, cluster).is_ok() | member.give_up(rt, cluster).is_ok(),
         Act::Lost(lost) => member.lost() == lost,
         Act::Deliver(message, lost) => cluster.deliver(rt, &message) == lost,
         Act::Post(message) => cluster.post(rt, message),
@@ -133,8 +136,7 @@ fn plays<N: ClusterName, R: Wait + Clock>(
     done
 }
 
-/// Plays a script, and then closes the cluster, if all members are idle. Returns how far the script went,
-/// or `None` if the close lost the cluster.
+/// Plays a script that leaves all members idle, and closes the cluster. Returns how far the script went.
 fn ends<N: ClusterName, R: Wait + Clock>(
     rt: &R,
     alloc: Global,
@@ -143,15 +145,13 @@ fn ends<N: ClusterName, R: Wait + Clock>(
     script: Script,
 ) -> Option<usize> {
     let done = plays(rt, &cluster, members.as_mut_slice(), script);
-    let closed = cluster.close(alloc, members);
-    match &closed {
-        Err(CloseFault::Lost(_)) => None,
-        _ => Some(done),
-    }
+    cluster.close(alloc, members).ok()?;
+    Some(done)
 }
 
 /// Opens a cluster, plays a script, and closes the cluster. If it can't be closed yet, plays the rest of
-/// the script, and closes it then. Returns how far the whole script went.
+/// the script, and closes it then. Returns how far the whole script went, or `None` if the cluster was
+/// not closed.
 fn opened<N: ClusterName, R: Wait + Clock>(
     rt: &R,
     alloc: Global,
@@ -182,8 +182,8 @@ fn opened<N: ClusterName, R: Wait + Clock>(
 }
 
 /// Plays a script on a cluster that is opened for it, and tries to close the cluster before the rest of the
-/// script. Returns how far it went if that is not to its end, or 0 if there is no cluster, or a close lost
-/// it.
+/// script. Returns how far it went if that is not to its end, or 0 if there is no cluster, or it was not
+/// closed.
 pub(crate) fn stuck_at<R: Wait + Clock>(
     rt: &R,
     alloc: Global,
@@ -266,7 +266,7 @@ const ONE: [(usize, Act); 16] = [
 
 /// What a member sends twice has the same effect as what it sends once. Each voter replies to the
 /// repeated REQUEST again, and takes no notice of the repeated RELEASE.
-const REPEATED: [(usize, Act); 17] = [
+const REPEATED: [(usize, Act); 18] = [
     (0, Act::Repeat),
     (0, EMPTY),
     (0, Act::Ask(0, 0)),
@@ -283,6 +283,7 @@ const REPEATED: [(usize, Act); 17] = [
     (1, NOTHING),
     (1, ENTERED),
     (1, EMPTY),
+    (1, LEAVE),
     (0, Act::Lost(0)),
 ];
 
