@@ -1,6 +1,6 @@
 //! Lost messages: each is counted once, and what gets into a mailbox is not.
 //!
-//! Here messages are lost because they would move a vote that is taken. In `hostile/run.sh` messages are
+//! Here messages are lost because they would move a vote that is taken. In `hostile/run.py` messages are
 //! lost because memory runs out.
 use crate::scripts::{Act, EMPTY, ENTERED, LEAVE, NOTHING, stuck};
 use message::{ClientBody, ToClient, ToVoter, VoterBody};
