@@ -5,7 +5,6 @@ ghost use Rattle.certificate.specs.Certificates.{cycle_count};
 use crate::parts::{
     Fraction, Quorum, Ticket, Voter, fraction_of, line_of, quorum_names, ticket_of,
 };
-use certificate::weight_on;
 use coterie_file::Named;
 use near::NearPlan;
 use serde::Serialize;
@@ -55,7 +54,7 @@ fn voter_of<'a>(named: &'a Named, plan: &NearPlan, voter: u8) -> Voter<'a>
     Voter {
         name: name_of(named, voter),
         capacity: plan.capacities()[voter as usize],
-        count: weight_on(plan.coterie(), plan.quorum_weights(), voter),
+        count: plan.count(voter),
         weight: plan.voter_weights()[voter as usize],
     }
 }

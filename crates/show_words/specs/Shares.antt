@@ -16,8 +16,8 @@ share_of scale part whole = (min part (whole_of whole) * scale + whole_of whole 
 abbrev pub tenths_of : ℕ → ℕ → ℕ
 tenths_of part whole = (min part (2 ^ 32 - 1) * 10 + whole_of whole / 2) / whole_of whole
 
--- by how many parts a load is above a bound, where `scale` parts are the bound, rounded up; 2^128 - 1
--- products at most are divided, by 1 at least
+-- by how many parts a load is above a bound, where `scale` parts are the bound, rounded up; the product
+-- counts as 2^128 - 1 at most, and the bound as 1 at least
 abbrev pub parts_above : ℕ × ℕ → ℕ × ℕ → ℕ → ℕ
 parts_above load bound scale =
     div_ceil (min ((load.0 * bound.1 - bound.0 * load.1) * scale) (2 ^ 128 - 1)) (max (bound.0 * load.1) 1)
