@@ -39,8 +39,21 @@ sum-values_below n f =
     ∙ sum_below-same n (λ i. get_or (values_below n f) i 0) f (get_or-values_below n f)
 
 -- no more quorums are counted than are named
-pub sum-times-le : (n : ℕ) (list : List ℕ) → sum (values_below n (λ j. times j list)) ≤ length list
+sum-times-le : (n : ℕ) (list : List ℕ) → sum (values_below n (λ j. times j list)) ≤ length list
 sum-times-le n list = omega (arith, sum-values_below n (λ j. times j list), length-sum_below n list)
+
+-- the counts of tickets' quorums: one for each quorum, and in all no more than the tickets
+pub counts-long : (w : Weighted) (tickets counts : List ℕ) → counts ≡ (account_of w tickets).quorums → length counts ≡ length w.system.quorums
+counts-long w tickets counts are = ap length are ∙ length-values_below (length w.system.quorums) (λ j. times j (quorums_named w tickets))
+
+pub counts-fit : (w : Weighted) (tickets counts : List ℕ) → counts ≡ (account_of w tickets).quorums → sum counts ≤ length tickets
+counts-fit w tickets counts are =
+    omega (
+      arith,
+      ap sum are,
+      sum-times-le (length w.system.quorums) (quorums_named w tickets),
+      length-map tickets (quorum_of_ticket w),
+    )
 
 -- tickets name quorums of the plan alone
 pub ticket_in_range : (w : Weighted) (ticket : ℕ) → IsCertificate w → quorum_of_ticket w ticket < length w.system.quorums

@@ -1,29 +1,18 @@
-use Rattle.std.proofs.Common.{◌≡◌, ◌*◌, ap, ◌∙◌, length, map, sum, arith}
-use Rattle.std.proofs.lemmas.List.{length-map}
+use Rattle.std.proofs.Common.{◌≡◌, ◌*◌, map, arith}
 use Rattle.std.proofs.lemmas.Result.{IfOk-weaker}
-use Rattle.numbers.specs.Counts.{times}
 use Rattle.certificate.specs.Certificates.{busiest_count}
-use Rattle.dealer.specs.Cycles.{quorum_of_ticket}
-use Rattle.dealer.specs.Accounts.{account_of, quorums_named, ratio_of_cycles, IsLeastBusiest, IsLeastRatio}
-use Rattle.dealer.proofs.AccountLemmas.{length-values_below, sum-times-le}
+use Rattle.dealer.specs.Accounts.{account_of, ratio_of_cycles, IsLeastBusiest, IsLeastRatio}
+use Rattle.dealer.proofs.AccountLemmas.{counts-fit, counts-long}
 use Rattle.dealer.proofs.WholeAccounts.{whole-even, whole-least, whole-least_ratio, whole-ratio, whole-shares}
 use Rattle.dealer.proofs.cycle.Cycle.account.Goals as goal
 
 pub account_of_counts-requires-clause-lengths : goal.account_of_counts-requires-clause-lengths
 account_of_counts-requires-clause-lengths c =
-    let w = c.args.self.now in
-    ap length c.in_ok-quorums.ensures ∙ length-values_below (length w.system.quorums) (λ j. times j (quorums_named w c.args.tickets.now))
+    counts-long c.args.self.now c.args.tickets.now c.in_ok-quorums.quorums.items c.in_ok-quorums.ensures
 
 pub account_of_counts-requires-clause-fits : goal.account_of_counts-requires-clause-fits
 account_of_counts-requires-clause-fits c =
-    let w = c.args.self.now in
-    let tickets = c.args.tickets.now in
-    omega (
-      arith,
-      ap sum c.in_ok-quorums.ensures,
-      sum-times-le (length w.system.quorums) (quorums_named w tickets),
-      length-map tickets (quorum_of_ticket w),
-    )
+    omega (arith, counts-fit c.args.self.now c.args.tickets.now c.in_ok-quorums.quorums.items c.in_ok-quorums.ensures)
 
 pub returns-clause-value : goal.returns-clause-value
 returns-clause-value c = c.account_of_counts.ensures.value c.args.tickets.now (omega arith) c.in_ok-quorums.ensures
