@@ -1,20 +1,30 @@
--- what the digits are that `decimal` writes
-use Rattle.std.proofs.Common.{zero, suc, eqb, cond, take, drop, ◌≡◌, ◌≢◌, ℕ, ◌+◌, ◌*◌, ◌<◌, ◌^◌, List, [], ◌∷◌, ◌++◌, length, get_or, refl, sym, ap, subst, ◌∙◌, arith, inl, inr, Bool, true, false}
+-- what `parse` says of the digits that `decimal` writes
+use Rattle.std.proofs.Common.{suc, eqb, cond, take, drop, ◌≡◌, ◌≢◌, ℕ, ◌+◌, ◌<◌, ◌^◌, List, [], ◌∷◌, ◌++◌, length, get_or, Result, Ok, refl, sym, arith, inl, inr, Bool, true, false}
 use Rattle.std.proofs.lemmas.Bool.{cases_eq}
-use Rattle.std.proofs.lemmas.Int.Digits.{digits_value_more}
+use Rattle.std.proofs.lemmas.Str.{IsUtf8-from_ascii}
 use Rattle.std.specs.Fmt.{decimal}
-use Rattle.std.specs.Char.{digit_value}
-use Rattle.std.specs.Str.Parse.{AllDigits, digits_value}
-use Rattle.std.proofs.lemmas.Str.Parse.{IsNumeralModel, numerals_by_value, tells_digits, digits_value-take-le, digit_from_value}
+use Rattle.std.specs.Str.Parse.{ParsesUnsigned, AllDigits, digits_value}
+use Rattle.std.specs.Str.{IsUtf8}
+use Rattle.std.proofs.lemmas.Str.Parse.{IsNumeralModel, numerals_by_value, tells_digits, parse_plain, digit_at, digit_from_value}
 use Rattle.std.specs.Prelude.{◌==◌, not}
 use Rattle.std.proofs.lemmas.Bool.Decides.{nat_tests}
 use Rattle.std.specs.List.{position_or_len}
 use Rattle.std.proofs.lemmas.Grind.{common_steps}
 use Rattle.texts.specs.Fields.{IsBorder, HasNoSpace}
-use Rattle.std.proofs.lemmas.Fmt.{digits_decimal, digits_value-decimal, decimal_digit, first_decimal}
+use Rattle.std.proofs.lemmas.Fmt.{decimal-digits_value, digits_decimal, decimal_digit, first_decimal, decimal_nonempty, IsAscii-decimal}
 
 pub IsNumeralModel-decimal : IsNumeralModel (AllDigits 10) (digits_value 10)
 IsNumeralModel-decimal = numerals_by_value (AllDigits 10) tells_digits
+
+pub is_decimal : {E : Type 0} (bs : List ℕ) (n : ℕ) (r : Result ℕ E) → ParsesUnsigned 64 10 bs r → get_or bs 0 0 ≢ 43 → (get_or bs 0 0 ≡ 48 → length bs ≡ 1) → r ≡ Ok n → bs ≡ decimal n
+is_decimal bs n r h plain short e =
+    let f = rw e at (parse_plain IsNumeralModel-decimal 64 bs r h plain) in
+    rw f.1 (sym (decimal-digits_value IsNumeralModel-decimal bs f.0.0 f.0.1 short f.0.2))
+
+pub first_is_digit : (n : ℕ) → n < 2 ^ 64 → get_or (decimal n) 0 0 ≢ 43
+first_is_digit n small e =
+    let d = digit_at (decimal n) 0 (digits_decimal IsNumeralModel-decimal n small) (decimal_nonempty n small) in
+    absurd (omega arith)
 
 pub zero_is_short : (n : ℕ) → n < 2 ^ 64 → get_or (decimal n) 0 0 ≡ 48 → length (decimal n) ≡ 1
 zero_is_short n small e =
@@ -23,29 +33,8 @@ zero_is_short n small e =
       | inr nz ↦ absurd (omega (arith, first_decimal n (omega arith) small))
     ]
 
-suc-add : (n : ℕ) → suc n + 1 ≡ suc (n + 1)
-suc-add n = omega arith
-
--- one more digit
-pub digits_more : (ds : List ℕ) (i : ℕ) → i < length ds → AllDigits 10 (take i ds) → digit_value (get_or ds i 0) < 10 → AllDigits 10 (take (i + 1) ds)
-digits_more [] i inside before digit = absurd (omega (arith, inside))
-digits_more (d ∷ ds) zero inside before digit = (digit, tt)
-digits_more (d ∷ ds) (suc i) inside before digit = rw (suc-add i) (before.0, digits_more ds i (omega (arith, inside)) before.1 digit)
-
-pub digit_in : (ds : List ℕ) (i : ℕ) → i < length ds → AllDigits 10 ds → digit_value (get_or ds i 0) < 10
-digit_in [] i inside digits = absurd (omega (arith, inside))
-digit_in (d ∷ ds) zero inside digits = digits.0
-digit_in (d ∷ ds) (suc i) inside digits = digit_in ds i (omega (arith, inside)) digits.1
-
--- the number of the first digits of a number of 64 bits, and one more, has 64 bits
-pub begins_small : (n : ℕ) (ds : List ℕ) (i : ℕ) → n < 2 ^ 64 → ds ≡ decimal n → i < length ds
-    → (digit_value (get_or ds i 0) < 10) × (digits_value 10 (take i ds) * 10 + digit_value (get_or ds i 0) < 2 ^ 64)
-begins_small n ds i small e inside =
-    let digits = subst (AllDigits 10) (sym e) (digits_decimal IsNumeralModel-decimal n small) in
-    let most = digits_value-take-le 10 ds (i + 1) (omega arith) in
-    let more = digits_value_more 10 ds i inside in
-    let whole = ap (digits_value 10) e ∙ digits_value-decimal IsNumeralModel-decimal n small in
-    (digit_in ds i inside digits, omega (arith, small, most, more, whole))
+pub IsUtf8-decimal : (n : ℕ) → n < 2 ^ 64 → IsUtf8 (decimal n)
+IsUtf8-decimal n small = IsUtf8-from_ascii _ (IsAscii-decimal n small)
 
 digits_no_space : (ds : List ℕ) → AllDigits 10 ds → HasNoSpace ds
 digits_no_space [] h = tt

@@ -21,7 +21,8 @@ HasNoSpace bytes = AllByRecursion (λ b. b ≢ 32) bytes
 abbrev pub AllFit : List ℕ → Type 0
 AllFit ns = AllByRecursion (λ n. n < 2 ^ 64) ns
 
--- what may be a number's digits: at least one byte, and no leading zero
+-- what may be a number's digits: at least one byte, no sign in front, and no leading zero
 pub record IsPlain (digits : List ℕ) : Type 0 where
   pub some : 0 < length digits
+  pub unsigned : slice_index digits 0 ≢ 43
   pub short : slice_index digits 0 ≡ 48 → length digits ≡ 1

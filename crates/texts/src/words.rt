@@ -1,34 +1,18 @@
 //! Words and numbers of a line, with one space between any two.
-ghost use Rattle.std.specs.Prelude.{◌≡◌, ◌+◌, ◌*◌, ◌<◌, ◌≤◌, ◌^◌, ◌++◌, ◌∷◌, ◌==◌, ℕ, List, IfNone, IfSome, MatchOption, length, position};
+ghost use Rattle.std.specs.Prelude.{◌≡◌, ◌<◌, ◌≤◌, ◌^◌, ◌++◌, ◌∷◌, ◌==◌, ℕ, List, IfSome, MatchOption, length, position};
 ghost use Rattle.std.specs.Bool.{OnFalse, OnTrue};
-ghost use Rattle.std.specs.Char.{digit_value};
 ghost use Rattle.std.specs.Fmt.{decimal};
 ghost use Rattle.std.specs.List.{position_or_len};
 ghost use Rattle.texts.specs.Fields.{HasNoSpace, IsBorder, IsPlain};
 
-/// Returns whether there is a byte, and no leading zero.
+/// Returns whether there is a byte, no sign in front, and no leading zero.
 fn is_plain(digits: &[u8]) -> bool
     ensures plain { OnTrue result (IsPlain digits.now) }
     ensures other { OnFalse result (¬ (IsPlain digits.now)) }
 {
     match digits {
-        [] | [b'0', _, ..] => false,
+        [] | [b'+', ..] | [b'0', _, ..] => false,
         _ => true,
-    }
-}
-
-/// Returns the number that one more digit makes of a number. Returns `None` if the byte is no digit,
-/// or if the number is not below 2^64.
-fn with_digit(number: u64, digit: u8) -> Option<u64>
-    ensures some { IfSome result (λ n. (digit_value digit < 10) × (n ≡ number * 10 + digit_value digit)) }
-    ensures none { IfNone result (digit_value digit < 10 → 2 ^ 64 ≤ number * 10 + digit_value digit) }
-{
-    if !digit.is_ascii_digit() {
-        return None;
-    }
-    match number.checked_mul(10) {
-        Some(tens) => tens.checked_add(u64::from(digit - b'0')),
-        None => None,
     }
 }
 
@@ -43,14 +27,13 @@ pub fn number(digits: &[u8]) -> Option<u64>
     if !is_plain(digits) {
         return None;
     }
-    let mut number = 0;
-    for digit in digits {
-        match with_digit(number, *digit) {
-            Some(longer) => number = longer,
-            None => return None,
-        }
+    match str::from_utf8(digits) {
+        Ok(text) => match text.parse::<u64>() {
+            Ok(n) => Some(n),
+            Err(_) => None,
+        },
+        Err(_) => None,
     }
-    Some(number)
 }
 
 fn first_space(bytes: &[u8]) -> Option<usize>

@@ -11,10 +11,6 @@ use std::alloc::AllocError;
 pub fn push_number(text: &mut String, number: u64) -> Result<(), AllocError>
     ensures { OnOk result (string_bytes text.new ≡ string_bytes text.old ++ decimal number) }
 {
-    // clients and voters are often below 10
-    if number < 10 {
-        return text.push(char::from(b'0' + number as u8));
-    }
     let mut buffer = Buffer::new();
     text.push_str(buffer.format(number))
 }

@@ -1,47 +1,33 @@
-use Rattle.std.proofs.Common.{ℕ, ◌+◌, ◌*◌, Some, get_or, subst, sym, ap, ◌∙◌, arith}
-use Rattle.std.specs.Char.{digit_value}
+use Rattle.std.proofs.Common.{subst, sym, ◌∙◌}
 use Rattle.std.specs.Fmt.{decimal}
-use Rattle.std.specs.Str.Parse.{digits_value}
-use Rattle.std.proofs.lemmas.Fmt.{decimal_nonempty, decimal-digits_value, digits_value-decimal}
-use Rattle.std.proofs.lemmas.Int.Digits.{digits_value_more}
-use Rattle.std.proofs.lemmas.List.{take_all}
+use Rattle.std.proofs.lemmas.Fmt.{parse-decimal, decimal_nonempty}
 use Rattle.texts.specs.Fields.{IsPlain}
-use Rattle.texts.proofs.Numbers.{IsNumeralModel-decimal, begins_small, digits_more, zero_is_short}
+use Rattle.texts.proofs.Numbers.{is_decimal, first_is_digit, zero_is_short, IsUtf8-decimal}
 use Rattle.texts.proofs.words.number.Goals as goal
 
 pub returns-then-not-is_plain-clause-read : goal.returns-then-not-is_plain-clause-read
 returns-then-not-is_plain-clause-read c n small e =
-    let plain : IsPlain (decimal n) = record { some = decimal_nonempty n small; short = zero_is_short n small } in
+    let plain : IsPlain (decimal n) = record { some = decimal_nonempty n small; unsigned = first_is_digit n small; short = zero_is_short n small } in
     absurd (c.if-not-is_plain.ensures.other (subst IsPlain (sym e) plain))
 
-pub returns-in-None-clause-read : goal.returns-in-None-clause-read
-returns-in-None-clause-read c n small e =
-    let begins = begins_small n c.args.digits.now c.loop-digit.digit-index small e c.loop-digit-test.true in
-    let large = c.in-None.ensures.none begins.0 in
-    absurd (omega (arith, begins.1, large, c.loop-digit.invariant.value))
-
-pub loop-digit-preserved : goal.loop-digit-preserved
-loop-digit-preserved c =
-    let digits = c.args.digits.now in
-    let place = c.loop-digit.digit-index in
-    let found = c.in-Some.ensures.some in
-    record {
-      digits = digits_more digits place c.loop-digit-test.true c.loop-digit.invariant.digits found.0;
-      value = found.1 ∙ ap (λ (n : ℕ). n * 10 + digit_value (get_or digits place 0)) c.loop-digit.invariant.value
-          ∙ sym (digits_value_more 10 digits place c.loop-digit-test.true);
-      small = omega arith;
-    }
-
-pub returns-clause-written : goal.returns-clause-written
-returns-clause-written c =
-    let digits = c.args.digits.now in
-    let whole = take_all c.loop-digit.digit-index digits c.loop-digit-test.false in
+pub returns-in-Ok-parse-clause-written : goal.returns-in-Ok-parse-clause-written
+returns-in-Ok-parse-clause-written c =
     let plain = c.if-not-is_plain.ensures.plain in
-    let value = c.loop-digit.invariant.value ∙ ap (digits_value 10) whole in
-    let written = decimal-digits_value IsNumeralModel-decimal digits (rw whole at c.loop-digit.invariant.digits) plain.some plain.short (omega (arith, value, c.loop-digit.invariant.small)) in
-    sym (ap decimal value ∙ written)
+    let p = rw c.in-Ok.ensures.cases.0 at c.parse.ensures.value.0 in
+    is_decimal c.args.digits.now c.in-Ok-parse.n c.parse.result p plain.unsigned plain.short c.in-Ok-parse.is
 
-pub returns-clause-read : goal.returns-clause-read
-returns-clause-read c n small e =
-    let whole = take_all c.loop-digit.digit-index c.args.digits.now c.loop-digit-test.false in
-    ap Some (c.loop-digit.invariant.value ∙ ap (digits_value 10) (whole ∙ e) ∙ digits_value-decimal IsNumeralModel-decimal n small)
+pub returns-in-Ok-parse-clause-read : goal.returns-in-Ok-parse-clause-read
+returns-in-Ok-parse-clause-read c n small e =
+    let g = parse-decimal 64 n c.in-Ok.text.now c.parse.result small small (c.in-Ok.ensures.cases.0 ∙ e) c.parse.ensures.value.0 in
+    let o = sym c.in-Ok-parse.is ∙ g in
+    cc
+
+pub returns-in-Err-parse-clause-read : goal.returns-in-Err-parse-clause-read
+returns-in-Err-parse-clause-read c n small e =
+    let g = parse-decimal 64 n c.in-Ok.text.now c.parse.result small small (c.in-Ok.ensures.cases.0 ∙ e) c.parse.ensures.value.0 in
+    let o = sym c.in-Err-parse.is ∙ g in
+    cc
+
+pub returns-in-Err-clause-read : goal.returns-in-Err-clause-read
+returns-in-Err-clause-read c n small e =
+    absurd (c.in-Err.ensures.cases.0 (rw e (IsUtf8-decimal n small)))
