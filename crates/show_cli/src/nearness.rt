@@ -9,8 +9,9 @@ use coterie_file::Named;
 use near::{NearPlan, near};
 use quorum_set::are_unit;
 use show_command_line::{Form, NearPage};
+use show_figures::parts_above;
 use show_json::near_json;
-use show_words::{parts_above, push_members, push_percent, push_quotient};
+use show_words::{push_members, push_percent, push_quotient};
 use std::alloc::{AllocError, Global};
 
 /// Appends how far the load is above the bound at most, in percent, rounded up to thousandths.

@@ -1,8 +1,8 @@
 //! The texts of figures in a table.
 
-use crate::figures::{Comparison, Loads};
 use show_failures::Resilience;
-use show_words::{parts_above, push_percent, push_tenths};
+use show_figures::{Comparison, Loads, parts_above};
+use show_words::{push_percent, push_tenths};
 use std::alloc::{AllocError, Global};
 
 /// Returns how many members the quorums have: a number, or the least and the greatest.

@@ -1,10 +1,10 @@
 //! The page of coteries side by side.
 
 use crate::cells::{borne_text, exact_text, load_text, members_text};
-use crate::figures::{Comparison, Loss, comparison_of};
 use crate::table::{Cells, cells_of, push_table};
 use coterie_file::Named;
 use quorum_set::QSet;
+use show_figures::{Comparison, Loss, comparison_of};
 use show_words::push_members;
 use std::alloc::{AllocError, Global};
 

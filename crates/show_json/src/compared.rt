@@ -3,7 +3,8 @@
 use crate::parts::{Fraction, fraction_of, line_of, names_of};
 use coterie_file::Named;
 use serde::Serialize;
-use show_compare::{Candidate, Loads, Loss, comparison_of};
+use show_compare::Candidate;
+use show_figures::{Loads, Loss, comparison_of};
 use std::alloc::{AllocError, Global};
 
 /// A load, and a bound below which no load is.

@@ -8,7 +8,7 @@ use dealer::{Account, Receipt};
 use even::Slack;
 use plan_inputs::Planned;
 use serde::Serialize;
-use show_tickets::{Dealt, Evenness, dealt_tickets};
+use show_figures::{Dealt, Evenness, dealt_tickets};
 use std::alloc::{AllocError, Global};
 
 /// How often the tickets use a voter.

@@ -10,13 +10,10 @@
 //! - [`resilience_json`] says how many voters may fail, and which groups of them.
 //! - [`compare_json`] has the figures of coteries side by side.
 //!
-//! # What is proved
+//! They are proved safe; what they say is only tested. The figures come from functions that pin them: of
+//! `show_figures`, `show_failures`, `certificate` and `near`.
 //!
-//! Safety, and what weights near the best make of each voter: how often a cycle uses it. The other
-//! figures come from functions that pin them: of `certificate`, `near`, `even`, `show_words`,
-//! `show_tickets`, `show_failures` and `show_compare`. What the pages say is only tested.
-//!
-//! Depends on these, on `show_words` for names, and on `serde` and `serde_json` for JSON.
+//! Depends on these, on `show_compare` for what to compare, and on `serde` and `serde_json` for JSON.
 //!
 //! ```
 //! // Of the wheel with three rims:

@@ -1,6 +1,4 @@
 //! Weights that are near the best, as JSON.
-ghost use Rattle.std.specs.Prelude.{◌≡◌, ◌<◌, slice_index};
-ghost use Rattle.certificate.specs.Certificates.{cycle_count};
 
 use crate::parts::{
     Fraction, Quorum, Ticket, Voter, fraction_of, line_of, quorum_names, ticket_of,
@@ -8,7 +6,7 @@ use crate::parts::{
 use coterie_file::Named;
 use near::NearPlan;
 use serde::Serialize;
-use show_words::name_of;
+use show_figures::{NearVoter, name_of, near_voter};
 use std::alloc::{AllocError, Global};
 
 /// Weights that are near the best.
@@ -44,21 +42,6 @@ fn quorums_of<'a>(
     Ok(quorums)
 }
 
-/// Returns a voter: its capacity, how often a cycle uses it, and its weight.
-fn voter_of<'a>(named: &'a Named, plan: &NearPlan, voter: u8) -> Voter<'a>
-    requires { voter < plan.now.system.voters }
-    ensures capacity { result.capacity ≡ slice_index plan.now.capacities voter }
-    ensures count { result.count ≡ cycle_count plan.now voter }
-    ensures weight { result.weight ≡ slice_index plan.now.voter_weights voter }
-{
-    Voter {
-        name: name_of(named, voter),
-        capacity: plan.capacities()[voter as usize],
-        count: plan.count(voter),
-        weight: plan.voter_weights()[voter as usize],
-    }
-}
-
 /// Returns the voters, in the order of their numbers.
 fn voters_of<'a>(
     alloc: Global,
@@ -67,7 +50,18 @@ fn voters_of<'a>(
 ) -> Result<Vec<Voter<'a>>, AllocError> {
     let mut voters = Vec::new(alloc);
     for number in 0..plan.coterie().voters() {
-        voters.push(voter_of(named, plan, number as u8))?;
+        let voter = number as u8;
+        let NearVoter {
+            capacity,
+            count,
+            weight,
+        } = near_voter(plan, voter);
+        voters.push(Voter {
+            name: name_of(named, voter),
+            capacity,
+            count,
+            weight,
+        })?;
     }
     Ok(voters)
 }

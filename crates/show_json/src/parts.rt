@@ -3,7 +3,7 @@
 use coterie_file::Named;
 use quorum_set::QSet;
 use serde::Serialize;
-use show_words::name_of;
+use show_figures::name_of;
 use std::alloc::{AllocError, Global};
 
 /// A fraction in lowest terms.

@@ -4,7 +4,7 @@ use crate::parts::{Fraction, Quorum, Voter, fraction_of, line_of, quorum_names};
 use certificate::Plan;
 use coterie_file::Named;
 use serde::Serialize;
-use show_words::{name_of, quorum_figures, voter_figures};
+use show_figures::{name_of, quorum_figures, voter_figures};
 use std::alloc::{AllocError, Global};
 
 /// The sums by which the voters' weights show that no plan has a smaller load.

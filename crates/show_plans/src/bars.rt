@@ -3,11 +3,12 @@ use crate::columns::Columns;
 use certificate::Plan;
 use coterie_file::Named;
 use quorum_set::are_unit;
+use show_figures::{VoterFigure, name_of, scaled};
 use show_svg::{
     Area, Point, close_group, close_text, close_title, line, open_text, open_titled, push_escaped,
     rect,
 };
-use show_words::{VoterFigure, name_of, push_percent, push_quotient, push_tenths, scaled};
+use show_words::{push_percent, push_quotient, push_tenths};
 use std::alloc::AllocError;
 
 /// How high the room for the bars is.

@@ -1,7 +1,7 @@
 //! Where the columns of the voters are in the picture of the load.
 use coterie_file::Named;
+use show_figures::{VoterFigure, name_of};
 use show_svg::{LETTER, Point, upright_words, words};
-use show_words::{VoterFigure, name_of};
 use std::alloc::AllocError;
 
 /// How far the first column is from the left edge.

@@ -10,8 +10,8 @@ use certificate::Plan;
 use coterie_file::Named;
 use dealer::Cycle;
 use even::EvenCycle;
+use show_figures::{VoterFigure, voter_figures};
 use show_svg::{Point, close_picture, open_picture, words};
-use show_words::{VoterFigure, voter_figures};
 use std::alloc::{AllocError, Global};
 
 /// How much room there is between the strip and the graph.

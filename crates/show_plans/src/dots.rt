@@ -4,10 +4,10 @@ use crate::roots::{MOST, square_root};
 use certificate::Plan;
 use coterie_file::Named;
 use quorum_set::QSet;
+use show_figures::{QuorumFigure, name_of, scaled};
 use show_svg::{
     Point, circle, close_group, close_text, close_title, line, open_text, open_titled, push_escaped,
 };
-use show_words::{QuorumFigure, name_of, scaled};
 use std::alloc::AllocError;
 
 /// How many quorums a picture has at most.

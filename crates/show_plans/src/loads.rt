@@ -8,8 +8,8 @@ use crate::dots::Dots;
 use certificate::Plan;
 use coterie_file::Named;
 use quorum_set::are_unit;
+use show_figures::{QuorumFigure, VoterFigure, quorum_figures, voter_figures};
 use show_svg::{Point, close_picture, open_picture, words};
-use show_words::{QuorumFigure, VoterFigure, quorum_figures, voter_figures};
 use std::alloc::{AllocError, Global};
 
 /// How far the bars' upper ends are from the upper edge at least.

@@ -3,11 +3,11 @@ use crate::columns::name_room;
 use coterie_file::Named;
 use dealer::Cycle;
 use quorum_set::QSet;
+use show_figures::{VoterFigure, name_of};
 use show_svg::{
     Area, Point, close_group, close_text, close_title, line, open_text, open_titled, open_upright,
     push_escaped, rect, words,
 };
-use show_words::{VoterFigure, name_of};
 use std::alloc::AllocError;
 
 /// Appends the names of a quorum's members, with a space before each.

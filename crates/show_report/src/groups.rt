@@ -3,7 +3,7 @@
 use coterie_file::Named;
 use failures::bears;
 use quorum_set::Coterie;
-use show_compare::Loss;
+use show_figures::Loss;
 use show_words::{push_members, push_percent, push_tenths};
 use std::alloc::AllocError;
 

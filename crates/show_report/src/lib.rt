@@ -8,13 +8,11 @@
 //!
 //! # What is proved
 //!
-//! The figures of the report are pinned where they are computed: those of the plan, its quorums and its
-//! voters in `show_words`, the voters without which no quorum is left in `show_failures`. The slack is
-//! that of the even order of the plan. Names have no sign that means something in HTML (law
-//! [`names_are_plain_in_html`]). What the document says is only tested.
+//! Names have no sign that means something in HTML (law [`names_are_plain_in_html`]). The figures come
+//! from `show_figures` and `show_failures`, which pin them. What the document says is only tested.
 //!
-//! Depends on `show_words` for figures, on `show_plans` for the picture, on `show_failures`,
-//! `show_compare` and `even`, and on `certificate` and `coterie_file`.
+//! Depends on these, on `show_words` for percentages, on `show_plans` for the picture, and on
+//! `certificate` and `coterie_file`.
 //!
 //! ```
 //! // Of the wheel with three rims:

@@ -1,17 +1,15 @@
 //! The whole report.
-ghost use Rattle.std.specs.Prelude.{IfOk};
-ghost use Rattle.show_report.specs.Slacks.{IsEvenSlack};
 
 use crate::groups::push_groups;
 use crate::summary::{Borne, push_summary};
 use crate::tables::{push_certificate, push_quorums, push_voters};
 use certificate::Plan;
 use coterie_file::Named;
-use even::{EvenCycle, Slack};
-use show_compare::losses_of;
 use show_failures::{resilience_of, used_coterie};
+use show_figures::{
+    losses_of, plan_figures, quorum_figures, slack_of, voter_figures, weight_figures,
+};
 use show_plans::load_picture;
-use show_words::{plan_figures, quorum_figures, voter_figures, weight_figures};
 use std::alloc::{AllocError, Global};
 
 /// The beginning of the document, with its head and its styles.
@@ -50,15 +48,6 @@ ol{padding-left:1.25rem}
 </head>
 <body>
 ";
-
-/// Returns the slack of the even order of a plan.
-fn slack_of(alloc: Global, plan: &Plan) -> Result<Slack, AllocError>
-    ensures { IfOk result (IsEvenSlack plan.now) }
-{
-    let copied = plan.copy(alloc)?;
-    let cycle = EvenCycle::of(alloc, copied)?;
-    Ok(cycle.slack())
-}
 
 /// Appends the picture.
 fn push_picture(text: &mut String, picture: &str) -> Result<(), AllocError> {

@@ -4,8 +4,9 @@ use certificate::lowest_terms;
 use coterie_file::Named;
 use even::Slack;
 use show_failures::Resilience;
+use show_figures::PlanFigures;
 use show_svg::push_escaped;
-use show_words::{PlanFigures, push_members, push_percent, push_quotient};
+use show_words::{push_members, push_percent, push_quotient};
 use std::alloc::AllocError;
 
 /// Appends the load, and before it the throughput if some capacity is not 1: 1 divided by the load.

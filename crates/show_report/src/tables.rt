@@ -4,10 +4,8 @@
 
 use certificate::Plan;
 use coterie_file::Named;
-use show_words::{
-    PlanFigures, QuorumFigure, VoterFigure, WeightFigure, busy_part, name_of, push_percent,
-    push_quorum_members,
-};
+use show_figures::{PlanFigures, QuorumFigure, VoterFigure, WeightFigure, busy_part, name_of};
+use show_words::{push_percent, push_quorum_members};
 use std::alloc::AllocError;
 
 /// Appends the table of these quorums: whom to ask, and how often.

@@ -6,17 +6,9 @@
 //! - [`tickets_page`] has a line for each ticket, how often each voter is used, and the busiest count. With
 //!   capacities it has the ratio too, and in the even order how even that is.
 //! - [`names_page`] has a line for each ticket with the names of its voters alone.
-//! - [`dealt_tickets`] has the same as figures.
 //!
-//! # What is proved
-//!
-//! The figures of the pages are pinned where they are computed: the tickets and the account by rounds in
-//! `commands`, the quorum of each ticket in the even order, its stride and its slack in `even`. The
-//! account of tickets in the even order is that of their quorums. [`dealt_tickets`] pins all of these. What the
-//! pages say is only tested.
-//!
-//! Depends on `dealer` and `even` for the two orders, on `commands`, which draws the tickets by rounds
-//! and has the lines of an account, and on `show_words` for names.
+//! They are proved safe; what they say is only tested. Depends on `show_figures`, which deals the tickets,
+//! on `commands`, which has the lines of an account, and on `show_words` for names.
 //!
 //! ```
 //! // Of the wheel with three rims:
@@ -24,13 +16,9 @@
 //! ```
 #![tactic(auto)]
 
-mod account;
-mod deal;
-mod even_order;
 mod lines;
 mod names_alone;
 mod page;
 
-pub use deal::{Dealt, Evenness, dealt_tickets};
 pub use names_alone::names_page;
 pub use page::tickets_page;

@@ -1,9 +1,9 @@
 //! The voters to ask for each ticket, and nothing else: for scripts.
 ghost use Rattle.std.specs.Prelude.{◌≤◌};
 
-use crate::deal::dealt_tickets;
 use commands::Planned;
 use coterie_file::Named;
+use show_figures::dealt_tickets;
 use show_words::push_members;
 use std::alloc::{AllocError, Global};
 

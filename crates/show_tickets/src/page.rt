@@ -1,13 +1,13 @@
 //! The page of dealt tickets.
 ghost use Rattle.std.specs.Prelude.{◌≡◌, ◌≤◌, length};
 
-use crate::deal::{Dealt, Evenness, dealt_tickets};
 use crate::lines::push_ticket;
 use certificate::Plan;
 use commands::{Planned, push_account, push_ratio};
 use coterie_file::Named;
 use even::Slack;
 use quorum_set::are_unit;
+use show_figures::{Dealt, Evenness, dealt_tickets};
 use std::alloc::{AllocError, Global};
 
 /// The figures of a plan's cycle.

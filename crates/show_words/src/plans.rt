@@ -1,13 +1,14 @@
 //! A plan in words: how often to ask which voters, and why no plan is better.
 
-use crate::figures::{QuorumFigure, quorum_figures, voter_figures, weight_figures};
 use crate::names::push_members;
 use crate::reasons::push_reasons;
 use crate::share::{push_fraction, push_percent, push_quotient};
-use crate::totals::{PlanFigures, plan_figures};
 use crate::voters::push_voters;
 use certificate::Plan;
 use coterie_file::Named;
+use show_figures::{
+    PlanFigures, QuorumFigure, plan_figures, quorum_figures, voter_figures, weight_figures,
+};
 use std::alloc::{AllocError, Global};
 
 /// Appends the load, and what a cycle asks of its busiest voter. For capacities that are not all 1

@@ -1,9 +1,7 @@
 //! Why no plan has a smaller load.
 
-use crate::figures::WeightFigure;
-use crate::names::name_of;
-use crate::totals::PlanFigures;
 use coterie_file::Named;
+use show_figures::{PlanFigures, WeightFigure, name_of};
 use std::alloc::AllocError;
 
 /// Appends the names and weights of these voters, with commas between them.

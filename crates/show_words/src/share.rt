@@ -1,35 +1,10 @@
 //! Parts of a whole, in percent and as bars.
-ghost use Rattle.std.specs.Prelude.{◌≡◌, ◌<◌, ◌≤◌, ◌+◌, ◌*◌, ◌/◌, ◌^◌};
-ghost use Rattle.show_words.specs.Shares.{parts_above, share_of, tenths_of};
 
+use show_figures::{share, tenths};
 use std::alloc::AllocError;
 
 /// How many characters a bar of the whole has.
 const BAR: u64 = 40;
-
-/// Returns the part of the whole in units of which `scale` are the whole, rounded to the nearest.
-/// The whole is not 0.
-pub fn scaled(part: u64, whole: u64, scale: u64) -> u64
-    requires some { 0 < whole }
-    requires part { part ≤ whole }
-    requires whole { whole < 2 ^ 32 }
-    requires scale { scale < 2 ^ 16 }
-    ensures nearest { result ≡ (part * scale + whole / 2) / whole }
-    ensures most { result ≤ scale }
-{
-    (part * scale + whole / 2) / whole
-}
-
-/// Returns the part of the whole in units of which `scale` are the whole. A part that is greater than
-/// the whole counts as the whole, and a whole of 0 as one of 1.
-fn share(part: u64, whole: u64, scale: u64) -> u64
-    requires { scale < 2 ^ 16 }
-    ensures value { result ≡ share_of scale part whole }
-    ensures most { result ≤ scale }
-{
-    let whole = whole.clamp(1, u64::from(u32::MAX));
-    scaled(part.min(whole), whole, scale)
-}
 
 /// Appends a part of a whole in percent, with one digit after the point, as ` 60.0 %`. A part that
 /// is greater than the whole counts as the whole, and a whole of 0 as one of 1.
@@ -49,16 +24,6 @@ pub fn push_fraction(text: &mut String, part: u64, whole: u64) -> Result<(), All
     }
 }
 
-/// Returns a quotient in tenths, rounded to the nearest. Both numbers count as 2^32 - 1 at most, and
-/// a divisor of 0 as 1.
-fn tenths(part: u64, whole: u64) -> u64
-    ensures { result ≡ tenths_of part whole }
-{
-    let most = u64::from(u32::MAX);
-    let whole = whole.clamp(1, most);
-    (part.min(most) * 10 + whole / 2) / whole
-}
-
 /// Appends a quotient with one digit after the point, as `2041.7`. Both numbers count as 2^32 - 1 at
 /// most, and a divisor of 0 as 1.
 pub fn push_tenths(text: &mut String, part: u64, whole: u64) -> Result<(), AllocError> {
@@ -73,18 +38,6 @@ pub fn push_quotient(text: &mut String, part: u64, whole: u64) -> Result<(), All
     push_fraction(text, part, whole)?;
     text.push_str(", about ")?;
     push_tenths(text, part, whole)
-}
-
-/// Returns by how many parts a load is above a bound, where `scale` parts are the bound, rounded up. Both
-/// are numerators and denominators. What doesn't fit into 128 bits counts as the greatest number that
-/// does, and a bound of 0 as the smallest one above.
-pub fn parts_above(load: (u64, u64), bound: (u64, u64), scale: u64) -> u128
-    ensures { result ≡ parts_above load bound scale }
-{
-    let least = u128::from(bound.0) * u128::from(load.1);
-    let own = u128::from(load.0) * u128::from(bound.1);
-    let parts = own.saturating_sub(least).saturating_mul(u128::from(scale));
-    parts.div_ceil(least.max(1))
 }
 
 /// Appends a bar for a part of a whole: of the whole it has 40 characters.

@@ -1,10 +1,8 @@
 //! The table of the voters of a plan: how busy each is.
 
-use crate::figures::{VoterFigure, busy_part};
-use crate::names::name_of;
 use crate::share::{push_bar, push_percent};
-use crate::totals::PlanFigures;
 use coterie_file::Named;
+use show_figures::{PlanFigures, VoterFigure, busy_part, name_of};
 use std::alloc::AllocError;
 
 /// Appends the line of a voter: its share of the requests, how often a cycle uses it, a bar, and its

@@ -4,12 +4,13 @@ ghost use Rattle.world.specs.SavedWorlds.{live_of};
 ghost use Rattle.stories.specs.Plays.{play, world_after};
 ghost use Rattle.ways.specs.Leads.{LeadsIn};
 
-use crate::names::{name_of, push_names};
+use crate::names::push_names;
 use coterie_file::Named;
 use dealer::Plans;
 use incidents::IncidentWorld;
 use message::{ClientBody, Message, ToClient, ToVoter, VoterBody};
 use requester::{Phase, Requester, Seen};
+use show_figures::name_of;
 use std::alloc::{AllocError, Global};
 use stories::{Happening, Late, Player, StoryScript, Turn};
 use voter::{Grant, Voter};

@@ -4,8 +4,8 @@ use coterie_file::Named;
 use incidents::IncidentWorld;
 use message::Message;
 use quorum_set::QSet;
+use show_figures::name_of;
 use show_svg::{LETTER, Point, line, upright_words, words};
-use show_words::name_of;
 use std::alloc::{AllocError, Global};
 use stories::{Moment, Turn};
 

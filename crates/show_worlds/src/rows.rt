@@ -4,11 +4,11 @@ use coterie_file::Named;
 use incidents::IncidentWorld;
 use message::Message;
 use requester::Seen;
+use show_figures::name_of;
 use show_svg::{
     Area, Point, circle, close_group, close_text, close_title, line, open_text, open_titled,
     push_escaped, rect,
 };
-use show_words::name_of;
 use std::alloc::AllocError;
 use stories::{Happening, Late, Moment, Story, Turn};
 use world::{Step, WorldFault};

@@ -1,0 +1,4 @@
+mod CountLemmas
+mod FigureLemmas
+mod PlanLoads
+mod WeightLemmas

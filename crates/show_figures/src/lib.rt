@@ -1,0 +1,67 @@
+//! The figures that pages show: of plans, coteries, dealt tickets and weights near the best.
+//!
+//! Each is exact. The crates of pages and pictures take their figures from here, and their public
+//! functions promise safety alone.
+//!
+//! - [`plan_figures`] has the load of a plan, its cycle, the sums of its certificate, and the sizes that
+//!   bound its load. [`quorum_figures`], [`voter_figures`] and [`weight_figures`] say how often a cycle uses
+//!   each quorum and each voter, and what the voters weigh. [`slack_of`] says how even the even order is.
+//! - [`near_voter`] says what weights near the best make of a voter.
+//! - [`comparison_of`] has the figures of a coterie: how many voters and quorums there are, how many
+//!   members the quorums have, the load, how many voters may fail, and the load of what is left when a
+//!   group of voters fails, such as a rack.
+//! - [`dealt_tickets`] deals tickets by rounds, as `qlock deal` does, or in the even order.
+//! - [`scaled`], [`share`], [`tenths`] and [`parts_above`] round parts of a whole, and [`name_of`] has the
+//!   name of a voter.
+//!
+//! # What is proved
+//!
+//! The figures of a plan are those of the definitions in `certificate` and `known_loads`: each quorum
+//! that a cycle uses is there, with its weight, the most used first, of equally used ones the smaller
+//! number first. Each voter is there with its count and its capacity, and each voter that has a weight
+//! with its weight. The slack is that of the even order of the plan.
+//!
+//! Of a coterie the numbers of voters and of quorums, the least and the greatest number of members, and
+//! the groups are exact. Its load is that of the plan that `planner` finds, which is the smallest
+//! possible one, or else that of the weights that `near` finds. Each load is one of the coterie, or of
+//! what is left of it, and no weights have a load below the bound beside it. If a loss has no load, no
+//! quorum is left. How many voters may fail is that of `show_failures`.
+//!
+//! The tickets and the account are those of their order, and so are stride and slack of the even one.
+//!
+//! Depends on `certificate`, `known_loads`, `even`, `near` and `planner`, on `commands`, which deals by
+//! rounds, on `show_failures` for failures and groups, and on `coterie_file` for names.
+//!
+//! ```
+//! // Of the wheel with three rims:
+//! plan_figures(&plan).load                      // 3/5
+//! let figures = quorum_figures(alloc, &plan)?;
+//! figures[0]                                    // quorum 3, of weight 2
+//! comparison_of(alloc, &named)?.loads.load      // 3/5
+//! ```
+#![tactic(auto)]
+
+mod account;
+mod bounds;
+mod comparisons;
+mod deal;
+mod even_order;
+mod figures;
+mod names;
+mod near_voters;
+mod shares;
+mod sizes;
+mod slacks;
+mod totals;
+
+pub use comparisons::{Comparison, Loads, Loss, comparison_of, losses_of};
+pub use deal::{Dealt, Evenness, dealt_tickets};
+pub use figures::{
+    QuorumFigure, VoterFigure, WeightFigure, busy_part, quorum_figures, voter_figures,
+    weight_figures,
+};
+pub use names::name_of;
+pub use near_voters::{NearVoter, near_voter};
+pub use shares::{parts_above, scaled, share, tenths};
+pub use slacks::slack_of;
+pub use totals::{PlanFigures, plan_figures};

@@ -1,2 +1,0 @@
-mod FigureLemmas
-mod WeightLemmas
