@@ -100,7 +100,7 @@ fn load_page(alloc: Global, input: &[u8]) -> Result<String, Fault>
         Err(fault) => return Err(fault),
     };
     match load_picture(alloc, &planned.named, &planned.plan) {
-        Ok(page) => Ok(page),
+        Ok(drawing) => Ok(drawing.into_text()),
         Err(_) => Err(Fault::OutOfMemory),
     }
 }
@@ -115,7 +115,7 @@ fn cycle_page(alloc: Global, input: &[u8]) -> Result<String, Fault>
         Err(fault) => return Err(fault),
     };
     match cycle_picture(alloc, &planned.named, &planned.plan) {
-        Ok(page) => Ok(page),
+        Ok(drawing) => Ok(drawing.into_text()),
         Err(_) => Err(Fault::OutOfMemory),
     }
 }
@@ -153,7 +153,7 @@ fn story_picture(alloc: Global, input: &[u8]) -> Result<String, Fault>
         Err(fault) => return Err(fault),
     };
     match world_picture(alloc, &named, plans, &script) {
-        Ok(page) => Ok(page),
+        Ok(drawing) => Ok(drawing.into_text()),
         Err(_) => Err(Fault::OutOfMemory),
     }
 }

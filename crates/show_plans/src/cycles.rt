@@ -1,17 +1,15 @@
 //! The picture of the first cycle.
-ghost use Rattle.std.specs.Prelude.{IfOk, string_bytes};
-ghost use Rattle.show_svg.specs.Pictures.{IsEnded};
 
 use crate::growth::Growth;
 use crate::order::Order;
 use crate::strip::Strip;
-use crate::tally::samples_of;
+use crate::tally::{Sample, samples_of};
 use certificate::Plan;
 use coterie_file::Named;
 use dealer::Cycle;
-use even::EvenCycle;
+use even::{EvenCycle, Slack};
 use show_figures::{VoterFigure, voter_figures};
-use show_svg::{Point, close_picture, open_picture, words};
+use show_svg::{Drawing, Point, open_picture, words};
 use std::alloc::{AllocError, Global};
 
 /// How much room there is between the strip and the graph.
@@ -23,6 +21,13 @@ const POINTS: u64 = 360;
 /// How wide a picture is at least, for its heading.
 const LEAST_WIDTH: u64 = 680;
 
+/// Returns how the count of the busiest voter grows in the even order of a plan, and the order's slack.
+fn even_samples(alloc: Global, plan: &Plan) -> Result<(Vec<Sample>, Slack), AllocError> {
+    let even = EvenCycle::of(alloc, plan.copy(alloc)?)?;
+    let samples = samples_of(alloc, plan, Order::Even(&even), POINTS)?;
+    Ok((samples, even.slack()))
+}
+
 /// Appends how the count of the busiest voter grows, in both orders, below the strip.
 fn push_growth(
     alloc: Global,
@@ -31,16 +36,9 @@ fn push_growth(
     plan: &Plan,
     cycle: &Cycle,
 ) -> Result<(), AllocError> {
-    let even = EvenCycle::of(alloc, plan.copy(alloc)?)?;
     let rounds = samples_of(alloc, plan, Order::Rounds(cycle), POINTS)?;
-    let evenly = samples_of(alloc, plan, Order::Even(&even), POINTS)?;
-    growth.push_legend(out, plan, even.slack())?;
-    growth.push_band(out)?;
-    growth.push_counts(out)?;
-    growth.push_numbers(out)?;
-    growth.push_limit(out)?;
-    growth.push_curves(out, plan, &rounds, &evenly)?;
-    growth.push_end(out)
+    let (even, slack) = even_samples(alloc, plan)?;
+    growth.push_graph(out, plan, &rounds, &even, slack)
 }
 
 /// Appends the heading, which says what the strip is.
@@ -90,13 +88,10 @@ fn push_cycle(
 /// the rows of its quorum's voters. Below it is how the count of the busiest voter grows over the
 /// whole cycle, beside the least that is possible, and the same in the even order of the crate
 /// `even`. The plan is one of the named coterie. Fails only if memory runs out.
-pub fn cycle_picture(alloc: Global, named: &Named, plan: &Plan) -> Result<String, AllocError>
-    ensures { IfOk result (λ page. IsEnded (string_bytes page)) }
-{
+pub fn cycle_picture(alloc: Global, named: &Named, plan: &Plan) -> Result<Drawing, AllocError> {
     let voters = voter_figures(alloc, plan)?;
     let cycle = Cycle::from_plan(alloc, plan.copy(alloc)?)?;
     let mut out = String::new(alloc);
     push_cycle(alloc, &mut out, named, plan, &voters, &cycle)?;
-    close_picture(&mut out)?;
-    Ok(out)
+    Drawing::finish(out)
 }

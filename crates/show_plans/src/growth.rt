@@ -131,7 +131,7 @@ impl Growth {
     }
 
     /// Appends the part of the graph that has a strip, if the strip has not all tickets.
-    pub fn push_band(&self, out: &mut String) -> Result<(), AllocError> {
+    fn push_band(&self, out: &mut String) -> Result<(), AllocError> {
         if self.shown >= self.len {
             return Ok(());
         }
@@ -156,7 +156,7 @@ impl Growth {
     }
 
     /// Appends the numbers beside the graph.
-    pub fn push_counts(&self, out: &mut String) -> Result<(), AllocError> {
+    fn push_counts(&self, out: &mut String) -> Result<(), AllocError> {
         let most = self.ratio.0 / self.ratio.1.max(1);
         let step = step_for(most, MARKS);
         for mark in 0..=most / step.max(1) {
@@ -174,7 +174,7 @@ impl Growth {
     }
 
     /// Appends the numbers of tickets below the graph.
-    pub fn push_numbers(&self, out: &mut String) -> Result<(), AllocError> {
+    fn push_numbers(&self, out: &mut String) -> Result<(), AllocError> {
         let step = step_for(self.len, self.width / NUMBER);
         for mark in 0..=self.len / step.max(1) {
             self.push_number(out, mark.saturating_mul(step))?;
@@ -189,7 +189,7 @@ impl Growth {
     }
 
     /// Appends the line below which no list of quorums can go.
-    pub fn push_limit(&self, out: &mut String) -> Result<(), AllocError> {
+    fn push_limit(&self, out: &mut String) -> Result<(), AllocError> {
         let end = self.place(self.len, self.ratio.0, self.ratio.1);
         line(out, self.place(0, 0, 1), end, LIMIT)
     }
@@ -245,7 +245,7 @@ impl Growth {
     }
 
     /// Appends the counts in the order of rounds and in the even order.
-    pub fn push_curves(
+    fn push_curves(
         &self,
         out: &mut String,
         plan: &Plan,
@@ -258,7 +258,7 @@ impl Growth {
     }
 
     /// Appends the greatest count beside the end of its line.
-    pub fn push_end(&self, out: &mut String) -> Result<(), AllocError> {
+    fn push_end(&self, out: &mut String) -> Result<(), AllocError> {
         let (count, capacity) = self.ratio;
         let Point { x, y } = self.place(self.len, count, capacity);
         let place = Point::at(x.saturating_add(8), y.saturating_add(4));
@@ -293,12 +293,7 @@ impl Growth {
     }
 
     /// Appends what the lines are, above the graph.
-    pub fn push_legend(
-        &self,
-        out: &mut String,
-        plan: &Plan,
-        slack: Slack,
-    ) -> Result<(), AllocError> {
+    fn push_legend(&self, out: &mut String, plan: &Plan, slack: Slack) -> Result<(), AllocError> {
         let (part, whole) = plan.load();
         self.push_keys(out, are_unit(plan.capacities()), slack)?;
         self.open_key(out, 2, LIMIT)?;
@@ -325,5 +320,24 @@ impl Growth {
         rect(out, area, BAND)?;
         let place = Point::at(58, y.saturating_add(4));
         words(out, place, "", "the tickets of the strip")
+    }
+
+    /// Appends the graph: the counts of these samples, in the order of rounds and in the even order, which
+    /// has this slack.
+    pub fn push_graph(
+        &self,
+        out: &mut String,
+        plan: &Plan,
+        rounds: &[Sample],
+        even: &[Sample],
+        slack: Slack,
+    ) -> Result<(), AllocError> {
+        self.push_legend(out, plan, slack)?;
+        self.push_band(out)?;
+        self.push_counts(out)?;
+        self.push_numbers(out)?;
+        self.push_limit(out)?;
+        self.push_curves(out, plan, rounds, even)?;
+        self.push_end(out)
     }
 }

@@ -10,18 +10,18 @@
 //!
 //! # What is proved
 //!
-//! Each call returns, fails only if memory runs out, and its text ends with `</svg>`. Nothing else is
-//! proved of what a picture shows. The private helper of the dots is a square root, rounded down.
-//! The drawn radius is clamped, and nothing is proved of it. The numbers in titles are computed from
-//! figures of `show_words`, and from what calls of `certificate` and `dealer` return; that they are in
-//! their places is only tested.
+//! Each call returns, and fails only if memory runs out. Its [`Drawing`](show_svg::Drawing) ends with
+//! `</svg>`. Nothing else is proved of what a picture shows. The private helper of the dots is a square
+//! root, rounded down. The drawn radius is clamped, and nothing is proved of it. The numbers in titles
+//! are computed from figures of `show_figures`, and from what calls of `certificate` and `dealer` return;
+//! that they are in their places is only tested.
 //!
-//! Depends on `show_svg` for the texts, on `show_words` for figures, on `dealer` for cycles, and on
-//! `coterie_file` for names.
+//! Depends on `show_svg` for the texts, on `show_figures` and `show_words` for figures, on `dealer` for
+//! cycles, and on `coterie_file` for names.
 //!
 //! ```
 //! // Of the wheel with three rims:
-//! let text = load_picture(alloc, &named, &plan)?; // <svg xmlns=..
+//! let drawing = load_picture(alloc, &named, &plan)?; // <svg xmlns=..
 //! ```
 #![tactic(auto)]
 

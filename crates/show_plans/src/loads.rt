@@ -1,6 +1,4 @@
 //! The picture of the load.
-ghost use Rattle.std.specs.Prelude.{IfOk, string_bytes};
-ghost use Rattle.show_svg.specs.Pictures.{IsEnded};
 
 use crate::bars::{Bars, ROOM};
 use crate::columns::Columns;
@@ -9,7 +7,7 @@ use certificate::Plan;
 use coterie_file::Named;
 use quorum_set::are_unit;
 use show_figures::{QuorumFigure, VoterFigure, quorum_figures, voter_figures};
-use show_svg::{Point, close_picture, open_picture, words};
+use show_svg::{Drawing, Point, open_picture, words};
 use std::alloc::{AllocError, Global};
 
 /// How far the bars' upper ends are from the upper edge at least.
@@ -107,13 +105,10 @@ fn push_load(
 /// below which no plan can go, and the quorums that a cycle uses as rows of dots, the most used
 /// first. If some capacity is not 1, a bar is how busy the voter is for its capacity, beside the
 /// busiest voter. The plan is one of the named coterie. Fails only if memory runs out.
-pub fn load_picture(alloc: Global, named: &Named, plan: &Plan) -> Result<String, AllocError>
-    ensures { IfOk result (λ page. IsEnded (string_bytes page)) }
-{
+pub fn load_picture(alloc: Global, named: &Named, plan: &Plan) -> Result<Drawing, AllocError> {
     let voters = voter_figures(alloc, plan)?;
     let quorums = quorum_figures(alloc, plan)?;
     let mut out = String::new(alloc);
     push_load(&mut out, named, plan, &voters, &quorums)?;
-    close_picture(&mut out)?;
-    Ok(out)
+    Drawing::finish(out)
 }

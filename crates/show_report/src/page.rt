@@ -85,7 +85,7 @@ pub fn report_page(
     push_quorums(&mut text, named, plan, quorums.as_slice())?;
     push_voters(&mut text, named, &figures, voters.as_slice())?;
     push_groups(&mut text, named, &used, losses.as_slice(), figures.is_unit)?;
-    push_picture(&mut text, picture.as_str())?;
+    push_picture(&mut text, picture.text())?;
     push_certificate(&mut text, named, &figures, weights.as_slice())?;
     text.push_str("</body>\n</html>\n")?;
     Ok(text)

@@ -1,6 +1,4 @@
 //! The elements of an SVG text. Coordinates are pixels from the upper left corner.
-ghost use Rattle.std.specs.Prelude.{◌≡◌, ◌++◌, OnOk, string_bytes};
-ghost use Rattle.show_svg.specs.Pictures.{last_line};
 
 use crate::escape::push_escaped;
 use std::alloc::AllocError;
@@ -53,13 +51,6 @@ pub fn open_picture(
         out,
         "</title>\n<rect width=\"{width}\" height=\"{height}\" fill=\"#ffffff\"/>\n"
     )
-}
-
-/// Ends a picture.
-pub fn close_picture(out: &mut String) -> Result<(), AllocError>
-    ensures { OnOk result (string_bytes out.new ≡ string_bytes out.old ++ last_line) }
-{
-    out.push_str("</svg>\n")
 }
 
 /// Appends a line.

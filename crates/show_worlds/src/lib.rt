@@ -7,13 +7,13 @@
 //! browser shows under the pointer.
 //!
 //! The picture is one document with no script and no outside file. It is proved that the call
-//! returns, fails only if memory runs out, and that its text ends with `</svg>`. That the picture
-//! shows the messages of `world` is only tested.
+//! returns, and fails only if memory runs out. Its [`Drawing`](show_svg::Drawing) ends with `</svg>`. That
+//! the picture shows the messages of `world` is only tested.
 //!
 //! Depends on `show_svg` for the texts, on `stories` for the story, and on `coterie_file` for names.
 //!
 //! ```
-//! let text = world_picture(alloc, &named, plans, &script)?; // <svg xmlns=..
+//! let drawing = world_picture(alloc, &named, plans, &script)?; // <svg xmlns=..
 //! ```
 #![tactic(auto)]
 

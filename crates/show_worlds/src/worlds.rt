@@ -1,6 +1,4 @@
 //! The picture of a story.
-ghost use Rattle.std.specs.Prelude.{IfOk, string_bytes};
-ghost use Rattle.show_svg.specs.Pictures.{IsEnded};
 
 use crate::arrows::{push_all_lost, push_arrows};
 use crate::chart::{Chart, shown_moments};
@@ -8,9 +6,7 @@ use crate::kinds::{Kind, lost, push_heads, push_kinds};
 use crate::rows::{INSIDE, MAKER, push_bars, push_crash, push_makers, push_rows};
 use coterie_file::Named;
 use dealer::Plans;
-use show_svg::{
-    Area, Point, circle, close_picture, close_text, open_picture, open_text, rect, words,
-};
+use show_svg::{Area, Drawing, Point, circle, close_text, open_picture, open_text, rect, words};
 use std::alloc::{AllocError, Global};
 use stories::{Story, StoryScript, story_of};
 
@@ -129,12 +125,9 @@ pub fn world_picture(
     named: &Named,
     plans: Plans,
     script: &StoryScript,
-) -> Result<String, AllocError>
-    ensures { IfOk result (λ page. IsEnded (string_bytes page)) }
-{
+) -> Result<Drawing, AllocError> {
     let story = story_of(alloc, plans, script)?;
     let mut out = String::new(alloc);
     push_story(alloc, &mut out, named, &story)?;
-    close_picture(&mut out)?;
-    Ok(out)
+    Drawing::finish(out)
 }
