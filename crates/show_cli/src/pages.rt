@@ -24,8 +24,8 @@ use show_refusals::fault_page;
 use show_report::report_page;
 use show_tickets::{names_page, tickets_page};
 use show_waiting::{Waiting, waiting_page};
-use show_words::{plan_words, world_words};
-use show_worlds::world_picture;
+use show_words::plan_words;
+use show_worlds::{world_picture, world_words};
 use std::alloc::{AllocError, Global};
 
 /// Returns dealt tickets.

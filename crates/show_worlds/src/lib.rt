@@ -1,4 +1,7 @@
-//! Pictures of stories, as SVG 1.1 texts.
+//! Stories for people: in words, and as pictures.
+//!
+//! [`world_words`] plays a story, and says in sentences what happens: who asks whom, who gets which vote,
+//! and who waits for whom. If clients wait at the end while nobody is inside, it says how one gets in.
 //!
 //! [`world_picture`] shows a story as a sequence chart: who sends what to whom, and when it
 //! arrives. There is a column for each client and each voter that sends or receives something, and
@@ -6,13 +9,17 @@
 //! is not delivered in these rows ends in a cross. Arrows have titles with exact figures, which a
 //! browser shows under the pointer.
 //!
-//! The picture is one document with no script and no outside file. It is proved that the call
-//! returns, and fails only if memory runs out. Its [`Drawing`](show_svg::Drawing) ends with `</svg>`. That
-//! the picture shows the messages of `world` is only tested.
+//! The picture is one SVG document with no script and no outside file.
 //!
-//! Depends on `show_svg` for the texts, on `stories` for the story, and on `coterie_file` for names.
+//! It is proved that each call returns, and fails only if memory runs out. The
+//! [`Drawing`](show_svg::Drawing) ends with `</svg>`. Both play the turns of the story, and a way in is one
+//! of `stories`, which pins it. What words and picture say of them is only tested.
+//!
+//! Depends on `show_svg` for the texts of pictures, on `stories` for the story, on `show_words` for lists
+//! of names, and on `coterie_file` for names.
 //!
 //! ```
+//! let text = world_words(alloc, &named, plans, &script)?;          // 1. client 0 wants the lock ..
 //! let drawing = world_picture(alloc, &named, plans, &script)?; // <svg xmlns=..
 //! ```
 #![tactic(auto)]
@@ -22,6 +29,8 @@ mod chart;
 mod kinds;
 mod lanes;
 mod rows;
+mod words;
 mod worlds;
 
+pub use words::world_words;
 pub use worlds::world_picture;

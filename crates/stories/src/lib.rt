@@ -44,8 +44,9 @@
 //!   messages were sent, from which number on, and whether a client entered or left; or the step's fault;
 //!   or how many messages were forgotten; which grant was let go; what the guard did with a pass, and which
 //!   grant in it is older (`specs/Plays.antt`, `specs/Guards.antt`).
+//! - A way in from the end of a story ([`Player::into_way`]) is one of `ways`.
 //!
-//! Depends on `incidents`, `leases`, `world` and `world_state`, on `fence` for the guard, on `replay` for
+//! Depends on `incidents`, `leases`, `world`, `world_state` and `ways`, on `fence` for the guard, on `replay` for
 //! the lines of steps, and on `dealer` for plans.
 //!
 //! ```

@@ -5,6 +5,7 @@ ghost use Rattle.stories.specs.Guards.{late_of};
 ghost use Rattle.stories.specs.Plays.{count, count_beside, count_on, first_scene, note, pass_at, play, turn_did};
 ghost use Rattle.stories.specs.declared.turn.Turn.TheVariants as turns;
 ghost use Rattle.requester.specs.Words.{is_inside};
+ghost use Rattle.ways.specs.Leads.{LeadsIn};
 ghost use Rattle.world.specs.Restarts.{crash_seen, pass_of};
 ghost use Rattle.world.specs.SavedWorlds.{live_of};
 ghost use Rattle.world.specs.States.{node_of};
@@ -20,6 +21,7 @@ use incidents::{IncidentFault, IncidentWorld};
 use requester::Seen;
 use std::alloc::{AllocError, Global};
 use std::marker::Model;
+use ways::{WayIn, let_in};
 use world::{Maker, Step, World, WorldFault};
 
 /// A world in which clients and voters crash, voters let grants go, and voters and clients come back
@@ -403,10 +405,27 @@ impl Player {
     }
 
     /// Ends a story with no turns but steps, crashes and shows, and returns the live world.
-    pub fn into_world(self) -> World
+    fn into_world(self) -> World
         requires { self.calm ≡ true }
         ensures { result ≡ live_of self.world }
     {
         self.world.into_world()
+    }
+
+    /// Ends the story. Returns a way in from there, and the world after its steps, if clients wait while
+    /// nobody is inside. Returns `None` after evictions, rebirths and clients anew. Fails only if memory
+    /// runs out.
+    pub fn into_way(self, alloc: Global) -> Result<Option<(WayIn, World)>, AllocError>
+        ensures { IfOk result (λ found. IfSome found (λ end.
+            LeadsIn (live_of self.world) end.1 end.0.client end.0.steps.items)) }
+    {
+        if !self.is_calm() {
+            return Ok(None);
+        }
+        let mut world = self.into_world();
+        match let_in(alloc, &mut world)? {
+            Some(way) => Ok(Some((way, world))),
+            None => Ok(None),
+        }
     }
 }

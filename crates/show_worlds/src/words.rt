@@ -1,20 +1,18 @@
 //! A story in words: who asks whom, who gets which vote, and who waits for whom.
-ghost use Rattle.std.specs.Prelude.{◌≡◌, IfOk, IfSome, OnOk};
-ghost use Rattle.world.specs.SavedWorlds.{live_of};
+ghost use Rattle.std.specs.Prelude.{◌≡◌, OnOk};
 ghost use Rattle.stories.specs.Plays.{play, world_after};
-ghost use Rattle.ways.specs.Leads.{LeadsIn};
 
-use crate::names::push_names;
 use coterie_file::Named;
 use dealer::Plans;
 use incidents::IncidentWorld;
 use message::{ClientBody, Message, ToClient, ToVoter, VoterBody};
 use requester::{Phase, Requester, Seen};
 use show_figures::name_of;
+use show_words::push_names;
 use std::alloc::{AllocError, Global};
 use stories::{Happening, Late, Player, StoryScript, Turn};
 use voter::{Grant, Voter};
-use ways::{WayIn, let_in};
+use ways::WayIn;
 use world::{Step, World};
 
 /// Returns the client that has the vote of a voter, if there is one.
@@ -68,7 +66,7 @@ fn push_to_client(text: &mut String, named: &Named, message: &ToClient) -> Resul
 }
 
 /// Appends what a message says.
-pub fn push_message_words(
+pub(crate) fn push_message_words(
     text: &mut String,
     named: &Named,
     message: &Message,
@@ -558,26 +556,10 @@ fn ending_words(
     Ok(text)
 }
 
-/// Returns a way in from the end of a story, and the world after its steps, if clients wait while nobody
-/// is inside. Returns nothing after evictions, rebirths and clients anew. Fails only if memory runs out.
-fn way_of(alloc: Global, player: Player) -> Result<Option<(WayIn, World)>, AllocError>
-    ensures { IfOk result (λ found. IfSome found (λ end.
-        LeadsIn (live_of player.world) end.1 end.0.client end.0.steps.items)) }
-{
-    if !player.is_calm() {
-        return Ok(None);
-    }
-    let mut world = player.into_world();
-    match let_in(alloc, &mut world)? {
-        Some(way) => Ok(Some((way, world))),
-        None => Ok(None),
-    }
-}
-
 /// Returns the words of a way in from the end of a story, if there is one.
 fn way_words(alloc: Global, named: &Named, player: Player) -> Result<String, AllocError> {
     let mut text = String::new(alloc);
-    if let Some((way, world)) = way_of(alloc, player)? {
+    if let Some((way, world)) = player.into_way(alloc)? {
         push_way_in(&mut text, named, &way, &world)?;
     }
     Ok(text)
