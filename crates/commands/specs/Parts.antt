@@ -1,8 +1,20 @@
 -- The parts of an input: texts with a line `%%` between them.
 use Rattle.std.specs.Prelude.{ℕ, ◌+◌, ◌-◌, ◌==◌, ◌||◌, ◌&&◌, Bool, List, [], ◌∷◌, length, take, drop, Option, None, Some, Result, Ok, Err, nat_eq, slice_index, if◌then◌else◌, zero, suc}
 use Rattle.std.specs.List.{starts_with}
+use Rattle.command_line.specs.declared.command.Command.{Command}
+use Rattle.command_line.specs.declared.command.Command.TheVariants.{Make, Plan, Check, Deal, World, Run, Replay}
 use Rattle.commands.specs.declared.fault.Fault.{Fault}
 use Rattle.commands.specs.declared.fault.Fault.TheVariants.{MissingPart}
+
+-- how many parts the input of a command of `qlock` has
+abbrev pub parts_of : Command → ℕ
+parts_of (Make shape) = 0
+parts_of Plan = 1
+parts_of Check = 2
+parts_of (Deal tickets) = 2
+parts_of (Run clients passes turns) = 2
+parts_of World = 3
+parts_of Replay = 3
 
 -- whether a line `%%` begins at place i: at the start or after a newline, and with a newline at its
 -- end

@@ -15,8 +15,8 @@
 //! or if memory ran out. A fault other than a failed write writes nothing. After a failed write a
 //! beginning of the output was written.
 //!
-//! `qlock_cli` has these calls too. Programs that show more of the same inputs read them by [`coterie_of`], [`planned_of`], [`staged_of`] and
-//! [`split_part`], and deal by [`dealt`].
+//! `qlock_cli` has these calls too. Programs that show more of the same inputs read them by
+//! [`coterie_of`], [`planned_of`], [`staged_of`], [`parts_of`] and [`split_part`], and deal by [`dealt`].
 //!
 //! ```
 //! let command = read_words(alloc, words)?; // of `qlock plan`: Command::Plan
@@ -42,7 +42,7 @@ pub use dealing::dealt;
 pub use fault::Fault;
 pub use laws::{named_commands_are_in_range, refusals_come_of_the_input};
 pub use lines::{push_account, push_ratio};
-pub use parts::split_part;
+pub use parts::{parts_of, split_part};
 pub use plan_inputs::{InputFault, Planned};
 pub use serving::{execute, input_for, reads_input, write_answer};
 pub use statuses::{status_of, usage_status};

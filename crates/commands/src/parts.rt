@@ -1,12 +1,27 @@
 //! The parts of an input: texts with a line `%%` between them.
-ghost use Rattle.std.specs.Prelude.{◌≡◌, ◌+◌, ◌≤◌, length, true, Ok, Err, IfErr, IfSome, MatchResult};
+ghost use Rattle.std.specs.Prelude.{◌≡◌, ◌+◌, ◌≤◌, length, nat_lt, true, Ok, Err, IfErr, IfSome, MatchResult};
+ghost use Rattle.commands.specs.Commands.{reads_input};
 ghost use Rattle.commands.specs.declared.fault.Fault.TheVariants.{MissingPart};
-ghost use Rattle.commands.specs.Parts.{first_mark, is_mark, split};
+ghost use Rattle.commands.specs.Parts.{first_mark, is_mark, parts_of, split};
 
 use crate::fault::Fault;
+use command_line::Command;
 
 /// The line that separates two parts.
 const MARK: &[u8] = b"%%\n";
+
+/// Returns how many parts the input of a command has.
+pub fn parts_of(command: &Command) -> usize
+    ensures value { result ≡ parts_of command.now }
+    ensures some { reads_input command.now ≡ nat_lt 0 result }
+{
+    match command {
+        Command::Make(_) => 0,
+        Command::Plan => 1,
+        Command::Check | Command::Deal(_) | Command::Run { .. } => 2,
+        Command::World | Command::Replay => 3,
+    }
+}
 
 /// Returns whether a separating line begins at a place.
 fn begins_mark(input: &[u8], place: usize) -> bool

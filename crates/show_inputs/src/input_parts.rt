@@ -1,24 +1,8 @@
 //! The parts of an input, and where they begin.
-ghost use Rattle.std.specs.Prelude.{◌≡◌, nat_lt};
-ghost use Rattle.commands.specs.Commands.{reads_input};
-ghost use Rattle.show_inputs.specs.Parts.{parts_of};
 
 use crate::lines::newlines;
 use crate::marks::{NearMark, near_mark};
-use commands::{Command, split_part};
-
-/// Returns how many parts the input of a command of `qlock` has.
-pub fn parts_of(command: &Command) -> usize
-    ensures value { result ≡ parts_of command.now }
-    ensures some { reads_input command.now ≡ nat_lt 0 result }
-{
-    match command {
-        Command::Make(_) => 0,
-        Command::Plan => 1,
-        Command::Check | Command::Deal(_) | Command::Run { .. } => 2,
-        Command::World | Command::Replay => 3,
-    }
-}
+use commands::{Command, parts_of, split_part};
 
 /// Returns what follows the first separating line, or nothing if there is none.
 fn after_first(input: &[u8], next: usize) -> &[u8] {

@@ -1,7 +1,6 @@
 //! The kinds of texts that are parts of an input, and texts that are in another's place.
-use crate::input_parts::parts_of;
 use crate::refused::Refused;
-use commands::Command;
+use commands::{Command, parts_of};
 use coterie_file::{FileFault, NameLists};
 use std::alloc::{AllocError, Global};
 

@@ -14,10 +14,8 @@
 //!   lacks and which values have the wrong type;
 //! - `text_faults.rt` names the voters and quorums of a coterie that are at fault.
 //!
-//! # What is proved
-//!
-//! How many parts the input of each command has, and whether more files were named than that. Which
-//! places are found and what the texts say is only tested. Lines and columns count from 1.
+//! They are proved safe; which places are found and what the texts say is only tested. Lines and columns
+//! count from 1.
 //!
 //! ```
 //! let refused = Refused { command: &Command::Plan, input: b"voters = [", files: &[] };
@@ -39,7 +37,7 @@ mod toml_faults;
 
 pub use brackets::unclosed_line;
 pub use files::{FileLine, file_line, push_file};
-pub use input_parts::{near_mark_before, parts_of};
+pub use input_parts::near_mark_before;
 pub use keys::{item_line, key_line};
 pub use kinds::{Kind, push_wrong_beginning};
 pub use lines::{is_unended, line_of, newlines, position_of, push_line};

@@ -1,9 +1,7 @@
 //! A refused input: its parts, and how a page names a place in it.
-ghost use Rattle.std.specs.Prelude.{◌≡◌, length, nat_lt};
-ghost use Rattle.show_inputs.specs.Parts.{parts_of};
 
 use crate::files::{FileLine, file_line, push_file};
-use crate::input_parts::{lines_before, part_in, parts_of};
+use crate::input_parts::{lines_before, part_in};
 use crate::kinds::{Kind, kind_in};
 use commands::Command;
 use std::alloc::AllocError;
@@ -33,13 +31,6 @@ impl<'a> Refused<'a> {
     /// Returns the name of a part.
     pub fn name(&self, number: usize) -> &'static str {
         self.kind(number).name()
-    }
-
-    /// Returns whether more files were named than the command reads parts.
-    pub fn has_more_files(&self) -> bool
-        ensures { result ≡ nat_lt (parts_of self.now.command.now) (length self.now.files.now) }
-    {
-        self.files.len() > parts_of(self.command)
     }
 
     /// Returns the file that has a line of the input, and the line's number in it.

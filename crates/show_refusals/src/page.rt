@@ -1,6 +1,7 @@
 //! Where an input has its fault, and with which names.
-ghost use Rattle.std.specs.Prelude.{◌≡◌, IfErr, IfOk, OnOk, string_bytes};
+ghost use Rattle.std.specs.Prelude.{◌≡◌, IfErr, IfOk, OnOk, length, nat_lt, string_bytes};
 ghost use Rattle.commands.specs.Commands.{IsInRange, IsServed};
+ghost use Rattle.commands.specs.Parts.{parts_of};
 ghost use Rattle.show_refusals.specs.Codes.{code_of};
 ghost use Rattle.show_refusals.specs.Pages.{IsFaultPage, IsTaken, MayTurnDown, NamesCode, is_outside};
 
@@ -8,14 +9,14 @@ use crate::codes::code_of;
 use crate::plan_faults::{Parts, push_bad_numbers, push_plan_values};
 use crate::shape_faults::push_shape_fault;
 use certificate::PlanFault;
-use commands::{Command, Fault, InputFault, Watched, execute, planned_of};
+use commands::{Command, Fault, InputFault, Watched, execute, parts_of, planned_of};
 use construct::ConstructFault;
 use coterie_file::FileFault;
 use planner::{Cause, PlannerFault};
 use replay::ReplayFault;
 use show_inputs::{
-    NearMark, Refused, is_unended, line_of, near_mark_before, parts_of, push_at, push_file,
-    push_file_fault, push_line, push_line_place, push_part, push_wrong_beginning,
+    NearMark, Refused, is_unended, line_of, near_mark_before, push_at, push_file, push_file_fault,
+    push_line, push_line_place, push_part, push_wrong_beginning,
 };
 use std::alloc::{AllocError, Global};
 
@@ -106,6 +107,13 @@ fn push_unseen(
     Ok(())
 }
 
+/// Returns whether more files were named than the command reads parts.
+fn has_more_files(refused: &Refused) -> bool
+    ensures { result ≡ nat_lt (parts_of refused.now.command.now) (length refused.now.files.now) }
+{
+    refused.files.len() > parts_of(refused.command)
+}
+
 /// Appends a line of a part: where it is, and its text.
 fn push_bad_line(
     alloc: Global,
@@ -121,7 +129,7 @@ fn push_bad_line(
         return write!(text, ": {name} is empty\n");
     }
     let found = line_of(part, line);
-    if found == Some(b"%%".as_slice()) && refused.has_more_files() {
+    if found == Some(b"%%".as_slice()) && has_more_files(refused) {
         // the line is between two files, and that there are too many was said
         return Ok(());
     }
@@ -324,7 +332,7 @@ fn is_empty(refused: &Refused) -> bool {
 fn push_file_count(text: &mut String, refused: &Refused) -> Result<(), AllocError> {
     let most = parts_of(refused.command);
     let named = refused.files.len();
-    if most == 0 || !refused.has_more_files() {
+    if most == 0 || !has_more_files(refused) {
         return Ok(());
     }
     let word = if most == 1 { "file" } else { "files" };
