@@ -1,4 +1,5 @@
 pub mod Files
+pub mod HelpRequests
 pub mod Listening
 pub mod Reasons
 pub mod Statuses

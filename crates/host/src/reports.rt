@@ -21,7 +21,7 @@ Input:
 ";
 
 /// Returns what a request for help gets besides, if the text is one about help.
-pub fn files_help(error: &clap::Error) -> &'static str {
+pub(crate) fn files_help(error: &clap::Error) -> &'static str {
     match error.kind() {
         ErrorKind::DisplayHelp => FILES_HELP,
         _ => "",

@@ -7,54 +7,18 @@
 //! program ends with status 0 and says nothing.
 #![tactic(auto)]
 
-ghost use Rattle.std.specs.Prelude.{◌≡◌, ◌⊎◌};
-ghost use Rattle.commands.specs.Statuses.{usage_status};
 ghost use Rattle.show_command_line.specs.Commands.{IsShown};
-ghost use Rattle.qlock_show.specs.HelpRequests.{AsksForText};
 
-use commands::{DeviceFault, Fault, Usage, Watched};
+use commands::{Fault, Usage, Watched};
 use host::{
-    Listened, Unread, command_line_of, files_help, read_files, refuse_words, report_shown,
-    report_unread, tell_of_help, tell_of_reading, tell_of_reason,
+    Listened, Unread, answer_words, command_line_of, read_files, report_shown, report_unread,
+    tell_of_reading, tell_of_reason,
 };
 use show_cli::{WordAtFault, reads_page_input, show, word_at_fault};
 use show_command_line::{ShowCommand, read_show_words};
 use std::io;
-use std::io::{ErrorKind, Read, Write};
+use std::io::{Read, Write};
 use std::process::ExitCode;
-
-/// Prints a text that was asked for, and behind help how files are named.
-fn print_text(rt: &HostRuntime, text: &clap::Error) -> io::Result<()> {
-    rt.print(text)?;
-    rt.print(files_help(text))
-}
-
-/// Prints a text that was asked for, help or the version, on standard output. Returns the exit
-/// status: 0, or 3 if the write failed.
-fn show_text(rt: &HostRuntime, text: &clap::Error) -> u8
-    ensures { (result ≡ 0) ⊎ (result ≡ 3) }
-{
-    let failed = Err(Fault::Device(DeviceFault::WriteFault));
-    match print_text(rt, text) {
-        Ok(()) => 0,
-        Err(error) => report_shown(rt, &failed, error.kind() == ErrorKind::BrokenPipe),
-    }
-}
-
-/// Prints a text that was asked for, or why the words name no command. Returns the exit status.
-fn answer_words(rt: &HostRuntime, usage: &Usage, words: &[String]) -> u8
-    ensures asked { AsksForText usage.now → (result ≡ 0) ⊎ (result ≡ 3) }
-    ensures refused { ¬ AsksForText usage.now → result ≡ usage_status usage.now }
-{
-    match usage {
-        Usage::Refused(text) if !text.use_stderr() => show_text(rt, text),
-        _ => {
-            let status = refuse_words(rt, usage, words);
-            tell_of_help(rt, usage);
-            status
-        }
-    }
-}
 
 /// Tells which of a command's own words its fault is about, if it is about one: a file of `compare`, or a
 /// name of `without`. `known` is the input, if it was read from files.
