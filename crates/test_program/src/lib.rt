@@ -4,9 +4,11 @@
 //!   `records` and `running`. `capacities` has the commands for voters with capacities. `rows` runs all
 //!   tables.
 //! - `prefixes` cuts texts short.
+//! - `devices` has devices that fail at each read and at each write, and that move few bytes at a time. It
+//!   runs the commands of `tables` over them.
 //!
-//! Depends on `test_served`, which runs a command line, on `qlock_cli`, `coterie_file` and `test_gate`.
-//! Devices that fail are in `test_devices`, and the line of every fault is in `test_faults`.
+//! Depends on `test_served`, which runs a command line, on `qlock_cli`, `coterie_file` and `test_gate`. The
+//! line of every fault is in `test_faults`.
 #![tactic(auto)]
 
 /// The text of a plan: its load, its cycle, the quorums' weights and the voters' weights.
@@ -34,6 +36,8 @@ mod coteries;
 #[cfg(test)]
 mod dealing;
 #[cfg(test)]
+mod devices;
+#[cfg(test)]
 mod plans;
 #[cfg(test)]
 mod prefixes;
@@ -43,5 +47,7 @@ mod records;
 mod rows;
 #[cfg(test)]
 mod running;
+#[cfg(test)]
+mod tables;
 #[cfg(test)]
 mod worlds;

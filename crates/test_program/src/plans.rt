@@ -1,4 +1,4 @@
-//! Plans that are checked, and plans that are found. `test_devices` has more of both.
+//! Plans that are checked, and plans that are found. `tables` has more of both.
 use crate::plan;
 use std::test::Fail;
 use test_served::samples::{MAJORITY, ONE, WHEEL};

@@ -1,4 +1,4 @@
-//! Records that are refused. `test_devices` has those that are replayed.
+//! Records that are refused. `tables` has those that are replayed.
 use test_served::Row;
 use test_served::samples::{MAJORITY, MAJORITY_PLAN};
 

@@ -1,4 +1,4 @@
-//! Worlds: scripts, and all that they write. `test_devices` has one more.
+//! Worlds: scripts, and all that they write. `tables` has one more.
 use test_served::Row;
 use test_served::samples::{MAJORITY, MAJORITY_PLAN, ONE, ONE_PLAN};
 

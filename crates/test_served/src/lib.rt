@@ -4,7 +4,7 @@
 //!   [`first_wrong`].
 //! - [`samples`] has coteries, plans, scripts and records that tests share.
 //!
-//! Depends on `qlock_cli`. `test_program` and `test_devices` depend on it.
+//! Depends on `qlock_cli`. `test_program` depends on it.
 #![tactic(auto)]
 
 pub mod samples;
