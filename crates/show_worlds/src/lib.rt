@@ -19,7 +19,7 @@
 //! of names, and on `coterie_file` for names.
 //!
 //! ```
-//! let text = world_words(alloc, &named, plans, &script)?;          // 1. client 0 wants the lock ..
+//! let text = world_words(alloc, &named, plans, &script)?;      // 1. client 0 wants the lock ..
 //! let drawing = world_picture(alloc, &named, plans, &script)?; // <svg xmlns=..
 //! ```
 #![tactic(auto)]
