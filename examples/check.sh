@@ -14,6 +14,7 @@ pictures=$here/../docs/pictures
 write=${1:-}
 work=$(mktemp -d)
 trap 'rm -rf "$work"' EXIT
+trap 'exit 143' TERM
 passed=0
 failed=0
 

@@ -26,6 +26,7 @@ takes longer than half a minute.
 import os
 import re
 import shutil
+import signal
 import subprocess
 import sys
 import tempfile
@@ -360,6 +361,8 @@ def try_all(word, room):
 
 def main():
     word = sys.argv[1] if len(sys.argv) > 1 else ""
+    # (the folder goes then, too)
+    signal.signal(signal.SIGTERM, lambda *_: sys.exit(143))
     with tempfile.TemporaryDirectory() as name:
         room = Path(name)
         build()

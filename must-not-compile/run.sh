@@ -16,6 +16,7 @@ here=$(CDPATH= cd -- "$(dirname -- "$0")" && pwd)
 root=$(dirname -- "$here")
 work=$(mktemp -d)
 trap 'rm -rf "$work"' EXIT
+trap 'exit 143' TERM
 # the crates that it depends on, in the order of crates.txt; those without a folder are the kit's
 below=$(cut -d: -f1 "$root/crates.txt" | grep -xF -e "$("$root/tools/below.sh" dealer; "$root/tools/below.sh" board)")
 cases=0
