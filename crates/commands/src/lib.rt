@@ -5,7 +5,7 @@
 //! which of them failed. The command `run`, whose clients work in threads, is defined here too.
 //! `qlock_cli` serves it, so that what only reads and writes texts doesn't depend on threads.
 //!
-//! The module `parts` splits the input, `answer` makes the output, `dealing` draws its tickets, and
+//! The module `parts` counts and splits the parts of an input, `answer` makes the output, `dealing` draws its tickets, and
 //! `lines` makes its lines.
 //!
 //! # What is proved

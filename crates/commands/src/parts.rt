@@ -10,7 +10,7 @@ use command_line::Command;
 /// The line that separates two parts.
 const MARK: &[u8] = b"%%\n";
 
-/// Returns how many parts the input of a command has.
+/// Returns how many parts the input of a command has, 0 to 3.
 pub fn parts_of(command: &Command) -> usize
     ensures value { result ≡ parts_of command.now }
     ensures some { reads_input command.now ≡ nat_lt 0 result }

@@ -26,7 +26,9 @@ fn show_text<R: Print + Eprint>(rt: &R, text: &clap::Error) -> u8
     }
 }
 
-/// Prints a text that was asked for, or why the words name no command. Returns the exit status.
+/// Prints a text that was asked for, or why the words name no command. Returns the exit status: for help
+/// and the version 0, also if nobody reads them, or 3 if the write failed; for other words 2, or 4 if
+/// memory ran out.
 pub fn answer_words<R: Print + Eprint>(rt: &R, usage: &Usage, words: &[String]) -> u8
     ensures asked { AsksForText usage.now → (result ≡ 0) ⊎ (result ≡ 3) }
     ensures refused { ¬ AsksForText usage.now → result ≡ usage_status usage.now }

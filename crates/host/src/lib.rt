@@ -7,16 +7,16 @@
 //!   system did not open or read it has the [`Reason`] (`reason.rt`).
 //! - [`refuse_words`] prints why words name no command, [`report_unread`] that a file was not read, and
 //!   [`report`] the fault of a command (`reports.rt`). [`answer_words`] prints help and the version, which
-//!   were asked for, on standard output (`answers.rt`).
+//!   were asked for, on standard output, and refuses other words (`answers.rt`).
 //! - [`tell_of_reading`] and [`tell_of_fault`] print a line more for somebody at a terminal, and
 //!   [`tell_of_reason`] the system's reason, and [`tell_of_help`] how to see which words a command takes.
 //! - [`Listened`] is a writer that notes whether somebody still reads (`listened.rt`). If nobody does,
 //!   [`report_shown`] passes over the write that failed.
 //!
 //! What is proved is the exit status that [`refuse_words`], [`answer_words`], [`report_unread`],
-//! [`report`] and [`report_shown`] return, which words name files, where a line `%%` is put between two texts, the
-//! reason for each kind of error, and what [`Listened`] notes. What a file has, and what is printed, is
-//! only tested.
+//! [`report`] and [`report_shown`] return, which words name files, where a line `%%` is put between two
+//! texts, the reason for each kind of error, and what [`Listened`] notes. What a file has, and what is
+//! printed, is only tested.
 //!
 //! ```
 //! let line = command_line_of(rt)?;

@@ -11,7 +11,7 @@ use quorum_set::are_unit;
 use show_command_line::{Form, NearPage};
 use show_figures::parts_above;
 use show_json::near_json;
-use show_words::{push_members, push_percent, push_quotient};
+use show_words::{push_percent, push_quorum_members, push_quotient};
 use std::alloc::{AllocError, Global};
 
 /// Appends how far the load is above the bound at most, in percent, rounded up to thousandths.
@@ -52,9 +52,7 @@ fn push_throughput(text: &mut String, weights: &NearPlan) -> Result<(), AllocErr
 /// Appends a quorum, if it is one of the coterie: its number, and the names of the voters to ask.
 fn push_quorum(text: &mut String, named: &Named, quorum: usize) -> Result<(), AllocError> {
     write!(text, "{quorum:>7}  ")?;
-    if quorum < named.coterie().count() {
-        push_members(text, named, named.coterie().quorum(quorum), " ")?;
-    }
+    push_quorum_members(text, named, quorum)?;
     text.push('\n')
 }
 

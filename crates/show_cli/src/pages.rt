@@ -22,9 +22,8 @@ use show_json::{deal_json, plan_json};
 use show_plans::{cycle_picture, load_picture};
 use show_refusals::fault_page;
 use show_report::report_page;
-use show_tickets::{names_page, tickets_page};
 use show_waiting::{Waiting, waiting_page};
-use show_words::plan_words;
+use show_words::{names_page, plan_words, tickets_page};
 use show_worlds::{world_picture, world_words};
 use std::alloc::{AllocError, Global};
 

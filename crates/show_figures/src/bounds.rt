@@ -8,7 +8,7 @@ ghost use Rattle.known_loads.specs.SmallestQuorums.{smallest_capacity, smallest_
 use quorum_set::{Coterie, QSet};
 
 /// Returns the number of members of the smallest quorum.
-pub fn smallest_size(coterie: &Coterie) -> usize
+pub(crate) fn smallest_size(coterie: &Coterie) -> usize
     requires { IsCoterie coterie.now }
     ensures { result ≡ smallest_size coterie.now }
 {

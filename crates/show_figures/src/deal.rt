@@ -73,8 +73,8 @@ fn dealt_by_rounds(alloc: Global, plan: Plan, count: u64) -> Result<Dealt, Alloc
     })
 }
 
-/// Deals the tickets below `count`, in the even order or by rounds. Fails only if it runs out of
-/// memory.
+/// Deals the tickets below `count`, 100,000 at most, in the even order or by rounds. Fails only if it
+/// runs out of memory.
 pub fn dealt_tickets(
     alloc: Global,
     plan: Plan,

@@ -1,17 +1,19 @@
 //! The figures that pages show: of plans, coteries, dealt tickets and weights near the best.
 //!
-//! Each is exact. The crates of pages and pictures take their figures from here, and their public
-//! functions promise safety alone.
+//! The crates of words, tables, JSON and pictures take their figures from here, and promise safety alone.
 //!
 //! - [`plan_figures`] has the load of a plan, its cycle, the sums of its certificate, and the sizes that
-//!   bound its load. [`quorum_figures`], [`voter_figures`] and [`weight_figures`] say how often a cycle uses
-//!   each quorum and each voter, and what the voters weigh. [`slack_of`] says how even the even order is.
-//! - [`near_voter`] says what weights near the best make of a voter.
+//!   bound its load. [`quorum_figures`], [`voter_figures`] and [`weight_figures`] say how often a cycle
+//!   uses each quorum and each voter, and what the voters weigh, [`busy_part`] how busy a voter is, and
+//!   [`slack_of`] how even the even order is.
+//! - [`near_voter`] says how often weights near the best use a voter, and its weight.
 //! - [`comparison_of`] has the figures of a coterie: how many voters and quorums there are, how many
 //!   members the quorums have, the load, how many voters may fail, and the load of what is left when a
-//!   group of voters fails, such as a rack.
+//!   group of voters fails, such as a rack ([`losses_of`]). The load is that of the plan that `planner`
+//!   finds: it is the smallest possible one. If it finds none, the load is that of the weights that `near`
+//!   finds, with a bound.
 //! - [`dealt_tickets`] deals tickets by rounds, as `qlock deal` does, or in the even order.
-//! - [`scaled`], [`share`], [`tenths`] and [`parts_above`] round parts of a whole, and [`name_of`] has the
+//! - [`share`], [`tenths`] and [`parts_above`] round parts of a whole, and [`name_of`] has the
 //!   name of a voter.
 //!
 //! # What is proved
@@ -19,15 +21,17 @@
 //! The figures of a plan are those of the definitions in `certificate` and `known_loads`: each quorum
 //! that a cycle uses is there, with its weight, the most used first, of equally used ones the smaller
 //! number first. Each voter is there with its count and its capacity, and each voter that has a weight
-//! with its weight. The slack is that of the even order of the plan.
+//! with its weight. The slack is that of the even order of the plan. Of weights near the best the count
+//! and the weight of a voter are exact too.
 //!
 //! Of a coterie the numbers of voters and of quorums, the least and the greatest number of members, and
-//! the groups are exact. Its load is that of the plan that `planner` finds, which is the smallest
-//! possible one, or else that of the weights that `near` finds. Each load is one of the coterie, or of
-//! what is left of it, and no weights have a load below the bound beside it. If a loss has no load, no
-//! quorum is left. How many voters may fail is that of `show_failures`.
+//! the groups are exact. Each load is that of some weights of the coterie, or of what is left of it, and
+//! no weights have a load below the bound beside it. If a loss has no load, no quorum is left. How many
+//! voters may fail is that of `show_failures`.
 //!
-//! The tickets and the account are those of their order, and so are stride and slack of the even one.
+//! The tickets and the account are those of their order, and so are stride and slack of the even one. How
+//! parts are rounded is defined in `specs/Shares.antt`. A voter's name is the one that the coterie's text
+//! gives it.
 //!
 //! Depends on `certificate`, `known_loads`, `even`, `near` and `planner`, on `commands`, which deals by
 //! rounds, on `show_failures` for failures and groups, and on `coterie_file` for names.
@@ -62,6 +66,6 @@ pub use figures::{
 };
 pub use names::name_of;
 pub use near_voters::{NearVoter, near_voter};
-pub use shares::{parts_above, scaled, share, tenths};
+pub use shares::{parts_above, share, tenths};
 pub use slacks::slack_of;
 pub use totals::{PlanFigures, plan_figures};

@@ -1,10 +1,10 @@
-//! What weights near the best make of each voter.
+//! How often weights near the best use a voter, and its weight.
 ghost use Rattle.std.specs.Prelude.{◌≡◌, ◌<◌, slice_index};
 ghost use Rattle.certificate.specs.Certificates.{cycle_count};
 
 use near::NearPlan;
 
-/// What weights near the best make of a voter.
+/// How often weights near the best use a voter, and its weight.
 #[derive(Clone, Copy)]
 pub struct NearVoter {
     /// Its capacity, 1 to 1000.

@@ -3,8 +3,8 @@ ghost use Rattle.std.specs.Prelude.{◌≡◌, ◌<◌, ◌≤◌, ◌+◌, ◌*
 ghost use Rattle.show_figures.specs.Shares.{parts_above, share_of, tenths_of};
 
 /// Returns the part of the whole in units of which `scale` are the whole, rounded to the nearest.
-/// The whole is not 0.
-pub fn scaled(part: u64, whole: u64, scale: u64) -> u64
+/// The whole is 1 to 2^32 - 1, the part at most the whole, and the scale below 2^16.
+fn scaled(part: u64, whole: u64, scale: u64) -> u64
     requires some { 0 < whole }
     requires part { part ≤ whole }
     requires whole { whole < 2 ^ 32 }
@@ -15,8 +15,9 @@ pub fn scaled(part: u64, whole: u64, scale: u64) -> u64
     (part * scale + whole / 2) / whole
 }
 
-/// Returns the part of the whole in units of which `scale` are the whole. A part that is greater than
-/// the whole counts as the whole, and a whole of 0 as one of 1.
+/// Returns the part of the whole in units of which `scale` are the whole, rounded to the nearest. The
+/// whole counts as 1 at least and as 2^32 - 1 at most, and a part that is greater as the whole. The scale is
+/// below 2^16.
 pub fn share(part: u64, whole: u64, scale: u64) -> u64
     requires { scale < 2 ^ 16 }
     ensures value { result ≡ share_of scale part whole }

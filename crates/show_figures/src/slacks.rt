@@ -6,7 +6,7 @@ use certificate::Plan;
 use even::{EvenCycle, Slack};
 use std::alloc::{AllocError, Global};
 
-/// Returns the slack of the even order of a plan.
+/// Returns the slack of the even order of a plan. Fails only if it runs out of memory.
 pub fn slack_of(alloc: Global, plan: &Plan) -> Result<Slack, AllocError>
     ensures { IfOk result (IsEvenSlack plan.now) }
 {

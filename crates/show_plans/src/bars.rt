@@ -3,7 +3,7 @@ use crate::columns::Columns;
 use certificate::Plan;
 use coterie_file::Named;
 use quorum_set::are_unit;
-use show_figures::{VoterFigure, name_of, scaled};
+use show_figures::{VoterFigure, name_of, share};
 use show_svg::{
     Area, Point, close_group, close_text, close_title, line, open_text, open_titled, push_escaped,
     rect,
@@ -78,8 +78,7 @@ pub struct Bars {
 
 /// Returns how high a bar of this part is, if one of the whole has the full height.
 fn height(part: u64, whole: u64, full: u64) -> u64 {
-    let whole = whole.clamp(1, u64::from(u32::MAX));
-    scaled(part.min(whole), whole, full.min(u64::from(u16::MAX)))
+    share(part, whole, full.min(u64::from(u16::MAX)))
 }
 
 /// Returns the axis for a load: of those with room for its bar the one with the highest bars.

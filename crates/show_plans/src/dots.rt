@@ -4,7 +4,7 @@ use crate::roots::{MOST, square_root};
 use certificate::Plan;
 use coterie_file::Named;
 use quorum_set::QSet;
-use show_figures::{QuorumFigure, name_of, scaled};
+use show_figures::{QuorumFigure, name_of, share};
 use show_svg::{
     Point, circle, close_group, close_text, close_title, line, open_text, open_titled, push_escaped,
 };
@@ -39,8 +39,7 @@ pub struct Dots {
 /// which has the greatest radius.
 fn radius(part: u64, whole: u64, greatest: u64) -> u64 {
     let greatest = greatest.min(MOST);
-    let whole = whole.clamp(1, u64::from(u32::MAX));
-    let square = scaled(part.min(whole), whole, greatest * greatest);
+    let square = share(part, whole, greatest * greatest);
     square_root(square.min(MOST * MOST)).max(LEAST)
 }
 

@@ -16,8 +16,8 @@
 //! are computed from figures of `show_figures`, and from what calls of `certificate` and `dealer` return;
 //! that they are in their places is only tested.
 //!
-//! Depends on `show_svg` for the texts, on `show_figures` and `show_words` for figures, on `dealer` for
-//! cycles, and on `coterie_file` for names.
+//! Depends on `show_svg` for the texts, on `show_figures` for figures, on `show_words` for percentages, on
+//! `dealer` for cycles, and on `coterie_file` for names.
 //!
 //! ```
 //! // Of the wheel with three rims:

@@ -26,7 +26,7 @@ pub(crate) fn push_quorums(
             text,
             "</td><td class=\"n\">{weight}</td><td class=\"n\">{quorum}</td><td>"
         )?;
-        push_quorum_members(text, named, plan, quorum)?;
+        push_quorum_members(text, named, quorum)?;
         text.push_str("</td></tr>\n")?;
     }
     text.push_str("</table></div>\n")

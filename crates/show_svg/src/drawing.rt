@@ -5,7 +5,7 @@ ghost use Rattle.show_svg.specs.Pictures.{IsEnded, last_line};
 use std::alloc::AllocError;
 use std::marker::Model;
 
-/// A finished picture: a text that ends with `</svg>`.
+/// A finished picture: a text whose last line is `</svg>`.
 #[derive(Drop)]
 pub struct Drawing {
     text: String,
@@ -23,7 +23,7 @@ impl Model for Drawing {
 }
 
 impl Drawing {
-    /// Ends a picture. Fails only if memory runs out.
+    /// Ends a picture: appends its last line, `</svg>`. Fails only if memory runs out.
     pub fn finish(text: String) -> Result<Drawing, AllocError>
         ensures { IfOk result (λ drawing. drawing ≡ string_bytes text ++ last_line) }
     {

@@ -1,14 +1,24 @@
-//! What people read of plans: words with the names of voters.
+//! What people read of plans and of dealt tickets: words with the names of voters.
 //!
-//! [`plan_words`] makes a page of the figures of a plan: the load, whom to ask how often, and why no
-//! plan is better. With capacities the page also has the throughput, and how busy each voter is for its
-//! capacity. It is proved safe; what it says is only tested.
+//! - [`plan_words`] makes a page of the figures of a plan: the load, whom to ask how often, and why no
+//!   plan is better. With capacities it also has the throughput, and how busy each voter is for its
+//!   capacity.
+//! - [`tickets_page`] has a line for each ticket of a plan, how often each voter is used, and the busiest
+//!   count. With capacities it has the ratio too, and in the even order how even that is.
+//! - [`names_page`] has a line for each ticket with the names of its voters alone.
 //!
-//! Depends on `certificate` for plans, on `show_figures` for figures, and on `coterie_file` for names.
+//! - [`push_names`], [`push_members`], [`push_quorum_members`], [`push_percent`], [`push_tenths`] and
+//!   [`push_quotient`] write parts of pages.
+//!
+//! They are proved safe; what they say is only tested.
+//!
+//! Depends on `certificate` for plans, on `show_figures` for figures and dealt tickets, on `commands` for
+//! the lines of an account, and on `coterie_file` for names.
 //!
 //! ```
 //! // Of the wheel with three rims:
-//! let text = plan_words(alloc, &named, &plan)?; // load 3/5,  60.0 %: ..
+//! let text = plan_words(alloc, &named, &plan)?;       // load 3/5,  60.0 %: ..
+//! let page = tickets_page(alloc, planned, 5, true)?;  // 0 0 hub rim1 ..
 //! ```
 #![tactic(auto)]
 
@@ -16,8 +26,12 @@ mod names;
 mod plans;
 mod reasons;
 mod share;
+mod ticket_names;
+mod tickets;
 mod voters;
 
-pub use names::{push_members, push_names};
-pub use plans::{plan_words, push_quorum_members};
+pub use names::{push_members, push_names, push_quorum_members};
+pub use plans::plan_words;
 pub use share::{push_percent, push_quotient, push_tenths};
+pub use ticket_names::names_page;
+pub use tickets::tickets_page;

@@ -31,3 +31,17 @@ pub fn push_members(
     let members = quorum.members();
     push_names(text, named, members.as_slice(), between)
 }
+
+/// Appends the names of the members of the quorum with this number, with spaces between them. Appends
+/// nothing if there is no such quorum.
+pub fn push_quorum_members(
+    text: &mut String,
+    named: &Named,
+    quorum: usize,
+) -> Result<(), AllocError> {
+    if quorum < named.coterie().count() {
+        push_members(text, named, named.coterie().quorum(quorum), " ")
+    } else {
+        Ok(())
+    }
+}

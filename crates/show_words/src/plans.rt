@@ -1,6 +1,6 @@
 //! A plan in words: how often to ask which voters, and why no plan is better.
 
-use crate::names::push_members;
+use crate::names::push_quorum_members;
 use crate::reasons::push_reasons;
 use crate::share::{push_fraction, push_percent, push_quotient};
 use crate::voters::push_voters;
@@ -36,21 +36,6 @@ fn push_load(text: &mut String, plan: &PlanFigures) -> Result<(), AllocError> {
     text.push_str(", in the unit of the capacities: if these are requests per second, so is this\n")
 }
 
-/// Appends the names of the members of a quorum of a plan, with spaces between them, if the plan has
-/// a quorum of this number.
-pub fn push_quorum_members(
-    text: &mut String,
-    named: &Named,
-    plan: &Plan,
-    quorum: usize,
-) -> Result<(), AllocError> {
-    if quorum < plan.coterie().count() {
-        push_members(text, named, plan.coterie().quorum(quorum), " ")
-    } else {
-        Ok(())
-    }
-}
-
 /// Appends the table of these quorums: the share of the requests, the weight, the number and the
 /// members.
 fn push_quorums(
@@ -64,7 +49,7 @@ fn push_quorums(
         let QuorumFigure { quorum, weight } = *figure;
         push_percent(text, weight, plan.cycle_len())?;
         write!(text, " {weight:>8} {quorum:>7}  ")?;
-        push_quorum_members(text, named, plan, quorum)?;
+        push_quorum_members(text, named, quorum)?;
         text.push('\n')?;
     }
     Ok(())

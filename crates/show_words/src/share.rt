@@ -6,8 +6,8 @@ use std::alloc::AllocError;
 /// How many characters a bar of the whole has.
 const BAR: u64 = 40;
 
-/// Appends a part of a whole in percent, with one digit after the point, as ` 60.0 %`. A part that
-/// is greater than the whole counts as the whole, and a whole of 0 as one of 1.
+/// Appends a part of a whole in percent, with one digit after the point, as ` 60.0 %`. The whole counts
+/// as 1 at least and as 2^32 - 1 at most, and a part that is greater as the whole.
 pub fn push_percent(text: &mut String, part: u64, whole: u64) -> Result<(), AllocError> {
     let tenths = share(part, whole, 1_000);
     let ones = tenths / 10;

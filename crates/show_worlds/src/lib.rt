@@ -12,11 +12,11 @@
 //! The picture is one SVG document with no script and no outside file.
 //!
 //! It is proved that each call returns, and fails only if memory runs out. The
-//! [`Drawing`](show_svg::Drawing) ends with `</svg>`. Both play the turns of the story, and a way in is one
-//! of `stories`, which pins it. What words and picture say of them is only tested.
+//! [`Drawing`](show_svg::Drawing) ends as a picture does. Both play the turns of the story, and a way in is
+//! what `Player::into_way` of `stories` returns. What words and picture say of them is only tested.
 //!
-//! Depends on `show_svg` for the texts of pictures, on `stories` for the story, on `show_words` for lists
-//! of names, and on `coterie_file` for names.
+//! Depends on `show_svg` for the texts of pictures, on `stories` for the story, on `show_figures` and
+//! `show_words` for names of voters and lists of them, and on `coterie_file` for names.
 //!
 //! ```
 //! let text = world_words(alloc, &named, plans, &script)?;      // 1. client 0 wants the lock ..

@@ -412,9 +412,9 @@ impl Player {
         self.world.into_world()
     }
 
-    /// Ends the story. Returns a way in from there, and the world after its steps, if clients wait while
-    /// nobody is inside. Returns `None` after evictions, rebirths and clients anew. Fails only if memory
-    /// runs out.
+    /// Ends the story. Returns a way in from there, and the world after its steps, if `let_in` of `ways`
+    /// finds one: it looks for one if clients wait while nobody is inside. Returns `None` after evictions,
+    /// rebirths and clients anew. Fails only if memory runs out.
     pub fn into_way(self, alloc: Global) -> Result<Option<(WayIn, World)>, AllocError>
         ensures { IfOk result (λ found. IfSome found (λ end.
             LeadsIn (live_of self.world) end.1 end.0.client end.0.steps.items)) }

@@ -1,6 +1,6 @@
 use Rattle.std.proofs.Common.{◌∙◌, ap}
 use Rattle.quorum_set.specs.Coteries.{QuorumSystem}
-use Rattle.show_tickets.proofs.page.tickets_page.Goals as goal
+use Rattle.show_words.proofs.tickets.tickets_page.Goals as goal
 
 pub push_page-requires : goal.push_page-requires
 push_page-requires c = record {

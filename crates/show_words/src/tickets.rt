@@ -1,10 +1,11 @@
-//! The page of dealt tickets.
+//! The page of dealt tickets: for each the names of the voters to ask.
 ghost use Rattle.std.specs.Prelude.{◌≡◌, ◌≤◌, length};
 
-use crate::lines::push_ticket;
+use crate::names::push_quorum_members;
 use certificate::Plan;
 use commands::{Planned, push_account, push_ratio};
 use coterie_file::Named;
+use dealer::Receipt;
 use even::Slack;
 use quorum_set::are_unit;
 use show_figures::{Dealt, Evenness, dealt_tickets};
@@ -25,6 +26,16 @@ fn figures_of(plan: &Plan) -> CycleFigures {
         len: plan.cycle_len(),
         load: plan.load(),
     }
+}
+
+/// Appends the line of a ticket: its number, its quorum, and the names of the voters to ask, if there is
+/// a quorum of this number.
+fn push_ticket(text: &mut String, named: &Named, receipt: &Receipt) -> Result<(), AllocError> {
+    let ticket = receipt.ticket;
+    let quorum = receipt.quorum;
+    write!(text, "{ticket} {quorum} ")?;
+    push_quorum_members(text, named, quorum)?;
+    text.push('\n')
 }
 
 /// Appends the lines of the stride and the slack of an even order, of voters with these capacities.
