@@ -23,8 +23,8 @@ use show_plans::{cycle_picture, load_picture};
 use show_refusals::fault_page;
 use show_report::report_page;
 use show_waiting::{Waiting, waiting_page};
-use show_words::{names_page, plan_words, tickets_page};
-use show_worlds::{world_picture, world_words};
+use show_words::{names_page, plan_words, tickets_page, world_words};
+use show_worlds::world_picture;
 use std::alloc::{AllocError, Global};
 
 /// Returns dealt tickets.

@@ -1,10 +1,10 @@
 //! The messages of a world: an arrow for each arrival, and a cross for each that never came.
 use crate::chart::{Chart, ROW, arrival, shown_moments};
 use crate::kinds::{Kind, arrow, kind_of, lost};
-use crate::words::push_message_words;
 use coterie_file::Named;
 use message::Message;
 use show_svg::{Point, close_group, close_text, close_title, open_text, open_titled, push_escaped};
+use show_words::push_message_words;
 use std::alloc::{AllocError, Global};
 use stories::{Moment, Story};
 

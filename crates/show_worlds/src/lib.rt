@@ -1,7 +1,4 @@
-//! Stories for people: in words, and as pictures.
-//!
-//! [`world_words`] plays a story, and says in sentences what happens: who asks whom, who gets which vote,
-//! and who waits for whom. If clients wait at the end while nobody is inside, it says how one gets in.
+//! Stories for people, as pictures.
 //!
 //! [`world_picture`] shows a story as a sequence chart: who sends what to whom, and when it
 //! arrives. There is a column for each client and each voter that sends or receives something, and
@@ -11,15 +8,14 @@
 //!
 //! The picture is one SVG document with no script and no outside file.
 //!
-//! It is proved that each call returns, and fails only if memory runs out. The
-//! [`Drawing`](show_svg::Drawing) ends as a picture does. Both play the turns of the story, and a way in is
-//! what `Player::into_way` of `stories` returns. What words and picture say of them is only tested.
+//! It is proved that the call returns, and fails only if memory runs out. The
+//! [`Drawing`](show_svg::Drawing) ends as a picture does. What the picture says of the story is only
+//! tested.
 //!
-//! Depends on `show_svg` for the texts of pictures, on `stories` for the story, on `show_figures` and
-//! `show_words` for names of voters and lists of them, and on `coterie_file` for names.
+//! Depends on `show_svg` for the texts of pictures, on `stories` for the story, on `show_figures` for names
+//! of voters, on `show_words` for the words of messages, and on `coterie_file` for names.
 //!
 //! ```
-//! let text = world_words(alloc, &named, plans, &script)?;      // 1. client 0 wants the lock ..
 //! let drawing = world_picture(alloc, &named, plans, &script)?; // <svg xmlns=..
 //! ```
 #![tactic(auto)]
@@ -29,8 +25,6 @@ mod chart;
 mod kinds;
 mod lanes;
 mod rows;
-mod words;
 mod worlds;
 
-pub use words::world_words;
 pub use worlds::world_picture;

@@ -1,14 +1,15 @@
 //! A story in words: who asks whom, who gets which vote, and who waits for whom.
-ghost use Rattle.std.specs.Prelude.{◌≡◌, OnOk};
+ghost use Rattle.std.specs.Prelude.{◌≡◌, ◌<◌, ◌≤◌, ℕ, IfNone, IfSome, OnOk};
+ghost use Rattle.world_state.specs.declared.step.Step.TheVariants.{Deliver};
 ghost use Rattle.stories.specs.Plays.{play, world_after};
 
+use crate::names::push_names;
 use coterie_file::Named;
 use dealer::Plans;
 use incidents::IncidentWorld;
 use message::{ClientBody, Message, ToClient, ToVoter, VoterBody};
 use requester::{Phase, Requester, Seen};
 use show_figures::name_of;
-use show_words::push_names;
 use std::alloc::{AllocError, Global};
 use stories::{Happening, Late, Player, StoryScript, Turn};
 use voter::{Grant, Voter};
@@ -66,7 +67,7 @@ fn push_to_client(text: &mut String, named: &Named, message: &ToClient) -> Resul
 }
 
 /// Appends what a message says.
-pub(crate) fn push_message_words(
+pub fn push_message_words(
     text: &mut String,
     named: &Named,
     message: &Message,
@@ -165,15 +166,21 @@ fn push_step(
     }
 }
 
+/// Returns the number of the message that a step delivers, if it is one of the first `sent` ones.
+fn delivered(step: Step, sent: usize) -> Option<usize>
+    ensures number { IfSome result (λ number. (step ≡ Deliver number) × (number < sent)) }
+    ensures none { IfNone result ((number : ℕ) → step ≡ Deliver number → sent ≤ number) }
+{
+    match step {
+        Step::Deliver(number) if number < sent as u64 => Some(number as usize),
+        _ => None,
+    }
+}
+
 /// Returns the message that arrives in a step of a story, if one does.
 fn arrival(world: &IncidentWorld, step: Step) -> Option<Message> {
-    let Step::Deliver(number) = step else {
-        return None;
-    };
-    if number >= world.sent() as u64 {
-        return None;
-    }
-    Some(world.message(number as usize))
+    let number = delivered(step, world.sent())?;
+    Some(world.message(number))
 }
 
 /// Appends a turn, before it is made.
@@ -463,13 +470,8 @@ fn push_stale_vote(
 
 /// Returns the message that arrives in a step of a way in, if one does.
 fn arrival_on_way(world: &World, step: Step) -> Option<Message> {
-    let Step::Deliver(number) = step else {
-        return None;
-    };
-    if number >= world.sent() as u64 {
-        return None;
-    }
-    Some(world.message(number as usize))
+    let number = delivered(step, world.sent())?;
+    Some(world.message(number))
 }
 
 /// Appends a way by which a client gets in: who is reminded, and which messages arrive. The world is

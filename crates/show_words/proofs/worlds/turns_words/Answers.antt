@@ -1,6 +1,6 @@
 use Rattle.std.proofs.Common.{refl}
 use Rattle.stories.proofs.PlayLemmas.{world_on}
-use Rattle.show_worlds.proofs.words.turns_words.Goals as goal
+use Rattle.show_words.proofs.worlds.turns_words.Goals as goal
 
 pub loop-turn-preserved : goal.loop-turn-preserved
 loop-turn-preserved c =

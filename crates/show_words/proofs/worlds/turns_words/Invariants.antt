@@ -1,6 +1,6 @@
 use Rattle.std.proofs.Common.{◌≡◌, drop}
 use Rattle.stories.specs.Plays.{world_after}
-use Rattle.show_worlds.proofs.words.turns_words.Given as goal
+use Rattle.show_words.proofs.worlds.turns_words.Given as goal
 
 -- the turns that are left lead to the world after all of them
 abbrev pub invariant-loop-turn : goal.invariant-loop-turn
