@@ -7,6 +7,9 @@
 //! program ends with status 0 and says nothing.
 #![tactic(auto)]
 
+ghost use Rattle.std.specs.Prelude.{◌≡◌};
+ghost use Rattle.commands.specs.Faults.{device_refusal};
+ghost use Rattle.commands.specs.Statuses.{status_of};
 ghost use Rattle.show_command_line.specs.Commands.{IsShown};
 
 use commands::{Fault, Usage, Watched};
@@ -70,7 +73,9 @@ fn serve_input<R: Read + Drop>(
 }
 
 /// Prints the fault of a file that was not read, and the system's reason. Returns the exit status.
-fn refuse_file(rt: &HostRuntime, unread: &Unread) -> u8 {
+fn refuse_file(rt: &HostRuntime, unread: &Unread) -> u8
+    ensures { result ≡ status_of (device_refusal unread.now.fault) }
+{
     let status = report_unread(rt, unread);
     tell_of_reason(rt, unread);
     status

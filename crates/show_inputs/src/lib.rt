@@ -14,8 +14,8 @@
 //!   lacks and which values have the wrong type;
 //! - `text_faults.rt` names the voters and quorums of a coterie that are at fault.
 //!
-//! They are proved safe; which places are found and what the texts say is only tested. Lines and columns
-//! count from 1.
+//! They are proved safe, and [`newlines`] counts exactly. Which places are found and what the texts say is
+//! only tested. Lines and columns count from 1.
 //!
 //! ```
 //! let refused = Refused { command: &Command::Plan, input: b"voters = [", files: &[] };

@@ -1,4 +1,6 @@
 //! Lines of a text, and how they are shown.
+ghost use Rattle.std.specs.Prelude.{◌≡◌, ◌==◌, filter, length};
+
 use std::alloc::AllocError;
 
 /// The most bytes of a line that are shown.
@@ -47,7 +49,9 @@ pub fn push_line(text: &mut String, line: &[u8]) -> Result<(), AllocError> {
 }
 
 /// Returns how many newlines a text has.
-pub fn newlines(text: &[u8]) -> usize {
+pub fn newlines(text: &[u8]) -> usize
+    ensures { result ≡ length (filter (λ b. b == 10) text.now) }
+{
     text.iter().filter(|byte| **byte == b'\n').count()
 }
 

@@ -1,4 +1,6 @@
 //! Weights that are near the best, as JSON.
+ghost use Rattle.std.specs.Prelude.{◌≡◌, ◌<◌, codes, slice_index, slice_index_or};
+ghost use Rattle.certificate.specs.Certificates.{cycle_count};
 
 use crate::parts::{
     Fraction, Quorum, Ticket, Voter, fraction_of, line_of, quorum_names, ticket_of,
@@ -42,6 +44,27 @@ fn quorums_of<'a>(
     Ok(quorums)
 }
 
+/// Returns a voter: its name, its capacity, how often a cycle uses it, and its weight.
+fn voter_of<'a>(named: &'a Named, plan: &NearPlan, voter: u8) -> Voter<'a>
+    requires { voter < plan.now.system.voters }
+    ensures name { result.name.now ≡ slice_index_or named.now.names voter (codes "?") }
+    ensures capacity { result.capacity ≡ slice_index plan.now.capacities voter }
+    ensures count { result.count ≡ cycle_count plan.now voter }
+    ensures weight { result.weight ≡ slice_index plan.now.voter_weights voter }
+{
+    let NearVoter {
+        capacity,
+        count,
+        weight,
+    } = near_voter(plan, voter);
+    Voter {
+        name: name_of(named, voter),
+        capacity,
+        count,
+        weight,
+    }
+}
+
 /// Returns the voters, in the order of their numbers.
 fn voters_of<'a>(
     alloc: Global,
@@ -50,18 +73,7 @@ fn voters_of<'a>(
 ) -> Result<Vec<Voter<'a>>, AllocError> {
     let mut voters = Vec::new(alloc);
     for number in 0..plan.coterie().voters() {
-        let voter = number as u8;
-        let NearVoter {
-            capacity,
-            count,
-            weight,
-        } = near_voter(plan, voter);
-        voters.push(Voter {
-            name: name_of(named, voter),
-            capacity,
-            count,
-            weight,
-        })?;
+        voters.push(voter_of(named, plan, number as u8))?;
     }
     Ok(voters)
 }

@@ -1,6 +1,8 @@
 //! The quorums as a grid of dots: voters across, quorums down.
+ghost use Rattle.std.specs.Prelude.{◌<◌, ◌≤◌, ◌+◌, ◌*◌, min};
+ghost use Rattle.show_figures.specs.Shares.{share_of};
+
 use crate::columns::Columns;
-use crate::roots::{MOST, square_root};
 use certificate::Plan;
 use coterie_file::Named;
 use quorum_set::QSet;
@@ -15,6 +17,9 @@ const ROWS: usize = 100;
 
 /// How high a row is.
 const ROW: u64 = 14;
+
+/// The greatest radius of a dot, in tenths of a pixel.
+const MOST: u64 = 60;
 
 /// The least radius of a dot, in tenths of a pixel: a smaller one would not be seen.
 const LEAST: u64 = 12;
@@ -35,12 +40,15 @@ pub struct Dots {
     len: u64,
 }
 
-/// Returns the radius of a dot, in tenths of a pixel. Its area is this part of the whole area,
-/// which has the greatest radius.
-fn radius(part: u64, whole: u64, greatest: u64) -> u64 {
+/// Returns the radius of a dot, in tenths of a pixel. Its area is this part of the area with the greatest
+/// radius, rounded down; no dot is smaller than `LEAST`.
+fn radius(part: u64, whole: u64, greatest: u64) -> u64
+    ensures seen { 12 ≤ result }
+    ensures area { 12 < result → result * result ≤ share_of (min greatest 60 * min greatest 60) part whole }
+    ensures nearest { share_of (min greatest 60 * min greatest 60) part whole < (result + 1) * (result + 1) }
+{
     let greatest = greatest.min(MOST);
-    let square = share(part, whole, greatest * greatest);
-    square_root(square.min(MOST * MOST)).max(LEAST)
+    share(part, whole, greatest * greatest).isqrt().max(LEAST)
 }
 
 /// Returns how many rows a picture of this many quorums has.

@@ -6,15 +6,15 @@
 //! Each picture is one document with no script and no outside file. It fits a page: it is at most
 //! some 900 pixels wide. It is cut off with a note if it would be too long. Bars and dots have
 //! titles with exact figures, which a browser shows under the pointer. A dot's area is in
-//! proportion to its quorum's weight, except that no dot has a radius below 0.6 pixels.
+//! proportion to its quorum's weight, except that no dot has a radius below 1.2 pixels.
 //!
 //! # What is proved
 //!
 //! Each call returns, and fails only if memory runs out. Its [`Drawing`](show_svg::Drawing) ends with
-//! `</svg>`. Nothing else is proved of what a picture shows. The private helper of the dots is a square
-//! root, rounded down. The drawn radius is clamped, and nothing is proved of it. The numbers in titles
-//! are computed from figures of `show_figures`, and from what calls of `certificate` and `dealer` return;
-//! that they are in their places is only tested.
+//! `</svg>`. Nothing else is proved of what a picture shows. A private helper has the radius of each dot:
+//! the root of its share of the area, rounded down, and no smaller than 12 tenths of a pixel. The numbers
+//! in titles are computed from figures of `show_figures`, and from what calls of `certificate`, `dealer`
+//! and `even` return; that they are in their places is only tested.
 //!
 //! Depends on `show_svg` for the texts, on `show_figures` for figures, on `show_words` for percentages, on
 //! `dealer` for cycles, and on `coterie_file` for names.
@@ -32,7 +32,6 @@ mod dots;
 mod growth;
 mod loads;
 mod order;
-mod roots;
 mod strip;
 mod tally;
 

@@ -9,7 +9,7 @@
 //! # What is proved
 //!
 //! Names have no sign that means something in HTML (law [`names_are_plain_in_html`]). The figures come
-//! from `show_figures` and `show_failures`, which pin them. What the document says is only tested.
+//! from `show_figures`, `show_failures` and `failures`, which pin them. What the document says is only tested.
 //!
 //! Depends on these, on `show_words` for percentages, on `show_plans` for the picture, and on
 //! `certificate` and `coterie_file`.

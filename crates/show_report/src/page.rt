@@ -1,10 +1,14 @@
 //! The whole report.
+ghost use Rattle.std.specs.Prelude.{◌≡◌, ◌-◌, length, true};
+ghost use Rattle.failures.specs.Failures.{IsSmallest, IsTransversal};
+ghost use Rattle.show_failures.specs.Used.{used_system};
 
 use crate::groups::push_groups;
 use crate::summary::{Borne, push_summary};
 use crate::tables::{push_certificate, push_quorums, push_voters};
 use certificate::Plan;
 use coterie_file::Named;
+use quorum_set::Coterie;
 use show_failures::{resilience_of, used_coterie};
 use show_figures::{
     losses_of, plan_figures, quorum_figures, slack_of, voter_figures, weight_figures,
@@ -57,6 +61,22 @@ fn push_picture(text: &mut String, picture: &str) -> Result<(), AllocError> {
     )
 }
 
+/// Returns how many failures the coterie of a plan bears, and how many the quorums that the plan uses.
+fn borne_by(plan: &Plan, used: &Coterie) -> Borne
+    requires { used.now ≡ used_system plan.now }
+    ensures of_all { IsTransversal plan.now.system result.of_all.blocking }
+    ensures all_borne { result.of_all.borne ≡ length result.of_all.blocking - 1 }
+    ensures all_smallest { result.of_all.is_smallest ≡ true → IsSmallest plan.now.system.quorums result.of_all.blocking }
+    ensures of_plan { IsTransversal used.now result.of_plan.blocking }
+    ensures borne { result.of_plan.borne ≡ length result.of_plan.blocking - 1 }
+    ensures smallest { result.of_plan.is_smallest ≡ true → IsSmallest used.now.quorums result.of_plan.blocking }
+{
+    Borne {
+        of_all: resilience_of(plan.coterie()),
+        of_plan: resilience_of(used),
+    }
+}
+
 /// Returns a report of a plan as one HTML document, without a script and without an outside file: its
 /// load, or its throughput if some capacity is not 1, how many failures its coterie and its own quorums
 /// bear, how even it is, whom to ask how often, how busy each voter is, what the loss of each group of
@@ -70,10 +90,7 @@ pub fn report_page(
 ) -> Result<String, AllocError> {
     let figures = plan_figures(plan);
     let used = used_coterie(alloc, plan)?;
-    let borne = Borne {
-        of_all: resilience_of(plan.coterie()),
-        of_plan: resilience_of(&used),
-    };
+    let borne = borne_by(plan, &used);
     let losses = losses_of(alloc, named)?;
     let slack = slack_of(alloc, plan)?;
     let quorums = quorum_figures(alloc, plan)?;
