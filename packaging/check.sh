@@ -15,6 +15,7 @@ finish() {
     rm -rf "$work"
 }
 trap finish EXIT
+trap 'exit 143' TERM
 failed=0
 passed=0
 version=$("$root/tools/version")

@@ -20,6 +20,7 @@ root=$here/../..
 build=${QLOCK_BUILD:-$root/build}
 work=$(mktemp -d)
 trap 'rm -rf "$work"' EXIT
+trap 'exit 143' TERM
 passed=0
 failed=0
 left_out=
