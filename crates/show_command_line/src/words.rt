@@ -225,7 +225,7 @@ fn coterie_command<'a>(alloc: Global) -> Result<clap::Command<'a>, AllocError>
     let command = bare_command(
         alloc,
         "coterie",
-        "Write a coterie of racks, centres or votes, for qlock plan; standard input is not read",
+        "Write a coterie of racks, centres, votes or any sets of one size, for qlock plan; standard input is not read",
     );
     let shape = word_argument(
         alloc,

@@ -59,7 +59,7 @@ call_codes =
     codes "M1" ∷
     codes "B1" ∷
     codes "K1" ∷ codes "K3" ∷ codes "K4" ∷
-    codes "U4" ∷
+    codes "U4" ∷ codes "U5" ∷ codes "U6" ∷ codes "U7" ∷
     codes "J1" ∷
     []
 

@@ -166,6 +166,45 @@ const U4: Explanation = Explanation {
         five parts to `qlock-show world`. A world makes one exchange.",
 };
 
+const U5: Explanation = Explanation {
+    code: "U5",
+    name: "NoGrant",
+    arguments: "v",
+    meaning: "Voter v is to let its grant go, and its vote is free. The incident changes\n\
+        nothing. The crate is `incidents`.",
+    example: "world.evict(0) // in a new world\n\
+        U5 NoGrant 0",
+    mistakes: "The client that had the vote left or gave up meanwhile. In a script of\n\
+        `qlock-show world` such a line is no fault: the page says that the voter has\n\
+        given no grant.",
+};
+
+const U6: Explanation = Explanation {
+    code: "U6",
+    name: "GrantsForgotten",
+    arguments: "v",
+    meaning: "Voter v is to come back without its state, and it gave more grants than it is\n\
+        said to have given, or its limit is smaller than that. The incident changes\n\
+        nothing. The crate is `incidents`.",
+    example: "world.bring_back(0, 0) // after a grant of voter 0\n\
+        U6 GrantsForgotten 0",
+    mistakes: "The number was noted before the last grant: note a block of grants before\n\
+        the first of them is given.",
+};
+
+const U7: Explanation = Explanation {
+    code: "U7",
+    name: "StampsForgotten",
+    arguments: "c",
+    meaning: "Client c is to start anew, and its clock is behind the stamp of its last\n\
+        request, or above its limit. The incident changes nothing. The crate is\n\
+        `incidents`.",
+    example: "world.start_anew(0, 0) // after a request of client 0\n\
+        U7 StampsForgotten 0",
+    mistakes: "The clock was noted before the last request: note a block of stamps before\n\
+        the first of them is used.",
+};
+
 const J1: Explanation = Explanation {
     code: "J1",
     name: "NotBridged",
@@ -185,5 +224,7 @@ const J1: Explanation = Explanation {
 pub(crate) fn calls() -> &'static [Explanation]
     ensures { codes_of result.now ≡ call_codes }
 {
-    &[Q1, Q2, S1, S2, S3, L1, L2, M1, B1, K1, K3, K4, U4, J1]
+    &[
+        Q1, Q2, S1, S2, S3, L1, L2, M1, B1, K1, K3, K4, U4, U5, U6, U7, J1,
+    ]
 }

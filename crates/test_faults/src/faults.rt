@@ -9,6 +9,7 @@ use construct::ConstructFault;
 use coterie_file::FileFault;
 use dealer::{DealFault, OfficeFault, Plans};
 use fraction::FracFault;
+use incidents::IncidentFault;
 use members::CloseFault;
 use message::MessageFault;
 use plan_inputs::line_of;
@@ -185,6 +186,19 @@ const WORLDS: [(WorldFault, &str); 7] = [
     (WorldFault::OutOfMemory, "O1 OutOfMemory"),
 ];
 
+const INCIDENTS: [(IncidentFault, &str); 4] = [
+    (
+        IncidentFault::World(WorldFault::NoSuchVoter(64)),
+        "U3 NoSuchVoter 64",
+    ),
+    (IncidentFault::NoGrant(63), "U5 NoGrant 63"),
+    (IncidentFault::GrantsForgotten(0), "U6 GrantsForgotten 0"),
+    (
+        IncidentFault::StampsForgotten(255),
+        "U7 StampsForgotten 255",
+    ),
+];
+
 const BOARDS: [(BoardFault, &str); 4] = [
     (BoardFault::SeatsOut(2), "B1 SeatsOut 2"),
     (BoardFault::VoteOut(63), "B2 VoteOut 63"),
@@ -299,6 +313,7 @@ fn the_lock_has_lines(alloc: Global) -> bool {
         & has_line(alloc, &VoterFault::GrantsSpent, "V1 GrantsSpent")
         & have_lines(alloc, &CLIENTS)
         & have_lines(alloc, &WORLDS)
+        & have_lines(alloc, &INCIDENTS)
         & have_lines(alloc, &BOARDS)
         & have_lines(alloc, &CLUSTERS)
 }
