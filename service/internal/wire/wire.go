@@ -124,12 +124,19 @@ func Next(lines []byte) (lock, line, rest []byte, found bool) {
 	return lock, line, rest, true
 }
 
-// Split hands lines to a function as messages with this header, none of them much longer than MostBytes.
+// Split hands lines to a function as messages with this header, none of them much longer than MostBytes. A line that is longer
+// by itself has a message of its own.
 func (h Header) Split(lines []byte, send func(message []byte)) {
 	for len(lines) > 0 {
 		end := len(lines)
 		if end > MostBytes {
 			end = bytes.LastIndexByte(lines[:MostBytes], '\n') + 1
+		}
+		if end == 0 {
+			end = bytes.IndexByte(lines, '\n') + 1
+		}
+		if end == 0 {
+			end = len(lines)
 		}
 		send(append(h.Append(make([]byte, 0, 160+end)), lines[:end]...))
 		lines = lines[end:]

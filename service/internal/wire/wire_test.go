@@ -2,6 +2,7 @@ package wire
 
 import (
 	"bytes"
+	"reflect"
 	"strings"
 	"testing"
 )
@@ -45,6 +46,22 @@ func TestSplit(t *testing.T) {
 	})
 	if count < 2 || total != len(lines) {
 		t.Error(count, total)
+	}
+}
+
+// A line that is too long for one message is sent alone, and does not hold up the others.
+func TestSplitOfLongLines(t *testing.T) {
+	short, long := "orders x\n", "orders "+strings.Repeat("x", 2*MostBytes)+"\n"
+	var got []string
+	(Header{Cluster: "a", Coterie: "b", Kind: FromOperator, Name: "n"}).Split([]byte(short+long+short+long[:2*MostBytes]), func(message []byte) {
+		_, rest, err := Read(message)
+		if err != nil {
+			t.Error(err)
+		}
+		got = append(got, string(rest))
+	})
+	if want := []string{short, long, short, long[:2*MostBytes]}; !reflect.DeepEqual(got, want) {
+		t.Errorf("%d messages", len(got))
 	}
 }
 
