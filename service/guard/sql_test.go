@@ -64,27 +64,104 @@ func line(state []byte) string {
 	return fmt.Sprintf("%d|%d", turn, sum)
 }
 
-func TestSQLite(t *testing.T) {
+// newSQLite makes a database with a guard, and returns the program and the database.
+func newSQLite(t *testing.T, name string) (path, db string) {
+	t.Helper()
 	path, err := exec.LookPath("sqlite3")
 	if err != nil {
 		t.Skip("apt-get install sqlite3")
 	}
-	db := filepath.Join(t.TempDir(), "guard.db")
+	db = filepath.Join(t.TempDir(), "guard.db")
 	text, err := os.ReadFile("sql/sqlite.sql")
 	if err != nil {
 		t.Fatal(err)
 	}
-	made := exec.Command(path, db)
-	made.Stdin = strings.NewReader(string(text) + "INSERT INTO qlock_guard (name) VALUES ('g');")
-	if out, err := made.CombinedOutput(); err != nil {
+	if out, err := shell(path, db, string(text)+"INSERT INTO qlock_guard (name) VALUES ('"+name+"');"); err != nil {
 		t.Fatalf("%v: %s", err, out)
 	}
+	return path, db
+}
+
+// shell gives a script to sqlite3, and returns all that it wrote.
+func shell(path, db, script string) (string, error) {
+	command := exec.Command(path, db)
+	command.Stdin = strings.NewReader(script)
+	out, err := command.CombinedOutput()
+	return string(out), err
+}
+
+// shows returns a pass that shows one grant of the first voter.
+func shows(grant byte) []byte {
+	pass := make([]byte, guard.PassBytes)
+	pass[0] = grant
+	return pass
+}
+
+func TestSQLite(t *testing.T) {
+	path, db := newSQLite(t, "g")
 	var digits []string // hexadecimal digits as a number
 	for i := 0; i < 16; i++ {
 		digits = append(digits, fmt.Sprintf("((instr('0123456789ABCDEF', substr(grant_number, %d, 1)) - 1) << %d)", i+1, 60-4*i))
 	}
 	judge(t, dialect{[]string{path, db}, "INSERT INTO qlock_admit (name, pass) VALUES ('g', x'%x');",
 		"SELECT turn, (SELECT coalesce(sum(" + strings.Join(digits, " + ") + "), 0) FROM qlock_seen) FROM qlock_guard;"})
+}
+
+// Whatever the statement says of conflicts, a newer pass is admitted and an older one refused.
+func TestSQLitePolicies(t *testing.T) {
+	for _, policy := range []string{"", "OR IGNORE", "OR ROLLBACK", "OR ABORT", "OR FAIL", "OR REPLACE"} {
+		path, db := newSQLite(t, "g")
+		for _, one := range []struct {
+			grant   byte
+			refused string
+			turn    string
+		}{{5, "", "1"}, {7, "", "2"}, {7, "", "2"}, {5, "qlock: older grant", "2"}, {0, "qlock: no pass", "2"}} {
+			out, err := shell(path, db,
+				fmt.Sprintf("INSERT %s INTO qlock_admit (name, pass) VALUES ('g', x'%x');", policy, shows(one.grant)))
+			if (err != nil) != (one.refused != "") || !strings.Contains(out, one.refused) {
+				t.Errorf("INSERT %s of the grant %d: %v %s", policy, one.grant, err, out)
+			}
+			if turn, err := shell(path, db, "SELECT turn FROM qlock_guard;"); err != nil || turn != one.turn+"\n" {
+				t.Errorf("INSERT %s of the grant %d: %v, and the turn is %s", policy, one.grant, err, turn)
+			}
+		}
+	}
+}
+
+// Whoever follows the head of the file writes with a pass that is admitted, and reads its turn, also if another client
+// follows at once. With an older one nothing is written.
+func TestSQLiteRecipe(t *testing.T) {
+	path, db := newSQLite(t, "orders")
+	text, err := os.ReadFile("sql/sqlite.sql")
+	if err != nil {
+		t.Fatal(err)
+	}
+	var recipe strings.Builder
+	for _, line := range strings.Split(string(text), "\n") {
+		if step := strings.TrimPrefix(line, "--     "); step != line {
+			fmt.Fprintln(&recipe, step)
+		}
+	}
+	if out, err := shell(path, db, "CREATE TABLE orders (writer INTEGER); INSERT INTO orders VALUES (0);"); err != nil {
+		t.Fatalf("%v: %s", err, out)
+	}
+	for _, one := range []struct {
+		grant          byte
+		refused        bool
+		writes, writer string
+	}{{5, false, "1\n", "5\n"}, {7, false, "3\n", "7\n"}, {5, true, "qlock: older grant", "7\n"}, {9, false, "5\n", "9\n"}} {
+		filled := strings.NewReplacer(
+			":pass", fmt.Sprintf("x'%x'", shows(one.grant)),
+			"SET ...", fmt.Sprintf("SET writer = %d", one.grant),
+			"COMMIT;", fmt.Sprintf("COMMIT; INSERT INTO qlock_admit (name, pass) VALUES ('orders', x'%x');", shows(one.grant+1)))
+		out, err := shell(path, db, filled.Replace(recipe.String()))
+		if (err != nil) != one.refused || !strings.Contains(out, one.writes) || !one.refused && out != one.writes {
+			t.Errorf("the grant %d: %v %s", one.grant, err, out)
+		}
+		if writer, err := shell(path, db, "SELECT writer FROM orders;"); err != nil || writer != one.writer {
+			t.Errorf("the grant %d: %v, and the writer is %s", one.grant, err, writer)
+		}
+	}
 }
 
 // QLOCK_PGHOST names the folder of the socket of a PostgreSQL server on which this user may make tables.

@@ -1,14 +1,19 @@
 -- The guard of libqlock for SQLite, which has no functions of its own: a row that is inserted into a view is a call.
 -- Admit and write in one transaction:
 --
+--     .bail on
 --     BEGIN IMMEDIATE;
---     INSERT INTO qlock_admit (name, pass) VALUES ('orders', :pass);    -- an error ends the transaction
+--     INSERT INTO qlock_admit (name, pass) VALUES ('orders', :pass);    -- after an error: ROLLBACK, and no write
 --     UPDATE orders SET ...;
+--     SELECT turn FROM qlock_guard WHERE name = 'orders';               -- after COMMIT it may be another client's
 --     COMMIT;
---     SELECT turn FROM qlock_guard WHERE name = 'orders';
+--
+-- A refusal is an error of the INSERT. It undoes this statement alone. The transaction stays open, and COMMIT would keep
+-- what was written after it. `.bail on` is for a script of the shell sqlite3: then the shell ends at an error, and keeps
+-- nothing, and without it the shell goes on. A program has no such line, and rolls back itself.
 --
 -- A pass has 512 bytes: for each of 64 voters the number of a grant, 8 bytes, the lowest first (locks.Held.Token). Bind it
--- as a blob. After an error the transaction has to be rolled back, as with each error.
+-- as a blob.
 
 CREATE TABLE qlock_guard (
     name TEXT PRIMARY KEY,
@@ -51,7 +56,9 @@ BEGIN
                  || hex(substr(NEW.pass, 8 * v + 6, 1)) || hex(substr(NEW.pass, 8 * v + 5, 1))
                  || hex(substr(NEW.pass, 8 * v + 4, 1)) || hex(substr(NEW.pass, 8 * v + 3, 1))
                  || hex(substr(NEW.pass, 8 * v + 2, 1)) || hex(substr(NEW.pass, 8 * v + 1, 1))));
-    INSERT OR REPLACE INTO qlock_seen (name, voter, grant_number)
+    -- not INSERT OR REPLACE: if the statement that fires this trigger has a policy for conflicts, SQLite takes that one
+    DELETE FROM qlock_seen WHERE name = NEW.name AND substr(NEW.pass, 8 * voter + 1, 8) <> zeroblob(8);
+    INSERT INTO qlock_seen (name, voter, grant_number)
         SELECT NEW.name, v,
                     hex(substr(NEW.pass, 8 * v + 8, 1)) || hex(substr(NEW.pass, 8 * v + 7, 1))
                  || hex(substr(NEW.pass, 8 * v + 6, 1)) || hex(substr(NEW.pass, 8 * v + 5, 1))
