@@ -230,6 +230,9 @@ func TestWrongCertificatesAndUsers(t *testing.T) {
 			time.Sleep(50 * time.Millisecond)
 			connected = link.Connected()
 		}
+		if !connected && link.Returns() > 0 {
+			t.Errorf("%s: %d returns", what, link.Returns())
+		}
 		if connected != (what == "everything is right") {
 			t.Errorf("%s: connected is %v", what, connected)
 		}

@@ -4,6 +4,7 @@ import (
 	"fmt"
 	"os"
 	"strings"
+	"sync/atomic"
 	"time"
 
 	"calvundek.example/service/internal/config"
@@ -14,28 +15,34 @@ import (
 const Room = 1 << 16
 
 // NATS is a connection to one of the servers of NATS. If it fails, it goes on to the next one, for ever.
-type NATS struct{ connection *nats.Conn }
+type NATS struct {
+	connection *nats.Conn
+	returns    atomic.Uint64
+}
 
 // Connect begins to connect to a cluster's servers, to the first in their order that is there. It returns before a
 // connection is there. A server that stands still is left after three seconds. Where all processes have one order, their
 // messages take one server.
 func Connect(cluster *config.Cluster, access config.Access, name string) (*NATS, error) {
+	n := new(NATS)
 	options := []nats.Option{
 		nats.Name(name), nats.NoEcho(), nats.DontRandomize(), nats.IgnoreAuthErrorAbort(), nats.Timeout(time.Second),
 		nats.MaxReconnects(-1), nats.RetryOnFailedConnect(true),
 		nats.ReconnectWait(100 * time.Millisecond), nats.ReconnectJitter(100*time.Millisecond, 200*time.Millisecond),
 		nats.ReconnectBufSize(-1), // what can't leave is lost, and not sent late
 		nats.PingInterval(time.Second), nats.MaxPingsOutstanding(2),
+		nats.FlusherTimeout(time.Second), // else a server that reads nothing holds whoever sends, and no ping leaves
+		nats.ReconnectHandler(func(*nats.Conn) { n.returns.Add(1) }),
 	}
 	more, err := identity(cluster, access)
 	if err != nil {
 		return nil, err
 	}
-	connection, err := nats.Connect(strings.Join(cluster.Servers, ","), append(options, more...)...)
+	n.connection, err = nats.Connect(strings.Join(cluster.Servers, ","), append(options, more...)...)
 	if err != nil {
 		return nil, fmt.Errorf("nats: %w", err)
 	}
-	return &NATS{connection}, nil
+	return n, nil
 }
 
 // identity returns the options that say who this process is, and which servers it believes.
@@ -76,8 +83,9 @@ func (n *NATS) Listen(mailbox string) (<-chan []byte, error) {
 // Connected returns whether there is a connection.
 func (n *NATS) Connected() bool { return n.connection.IsConnected() }
 
-// Returns returns how often the connection came back.
-func (n *NATS) Returns() uint64 { return n.connection.Stats().Reconnects }
+// Returns returns how often the connection came back. A first one that came late counts too. An attempt that a server
+// refused does not; only the statistics of nats.Conn count it.
+func (n *NATS) Returns() uint64 { return n.returns.Load() }
 
 // Close sends what was given to Send, if that takes less than a second, and ends the connection.
 func (n *NATS) Close() {

@@ -1,0 +1,184 @@
+package transport_test
+
+import (
+	"bufio"
+	"fmt"
+	"net"
+	"os"
+	"os/exec"
+	"path/filepath"
+	"strings"
+	"testing"
+	"time"
+
+	"calvundek.example/service/internal/config"
+	"calvundek.example/service/internal/local"
+	"calvundek.example/service/transport"
+)
+
+func connect(t *testing.T, address string, access config.Access) *transport.NATS {
+	t.Helper()
+	link, err := transport.Connect(&config.Cluster{Servers: []string{"nats://" + address}}, access, "test")
+	if err != nil {
+		t.Fatal(err)
+	}
+	t.Cleanup(link.Close)
+	return link
+}
+
+// until waits until something is so.
+func until(t *testing.T, what string, so func() bool) {
+	t.Helper()
+	for end := time.Now().Add(20 * time.Second); !so(); time.Sleep(10 * time.Millisecond) {
+		if time.Now().After(end) {
+			t.Fatalf("after 20 seconds it is not so that %s", what)
+		}
+	}
+}
+
+// greet speaks to a client as a server until it was asked for a sign of life, and then reads nothing more.
+func greet(connection net.Conn) {
+	fmt.Fprint(connection, `INFO {"server_id":"test","version":"2.9.10","proto":1,"max_payload":1048576}`+"\r\n")
+	for lines := bufio.NewScanner(connection); lines.Scan(); {
+		if lines.Text() == "PING" {
+			fmt.Fprint(connection, "PONG\r\n")
+			return
+		}
+	}
+}
+
+// A server that stands still holds nobody who sends for long, and is noticed.
+func TestServerStandsStill(t *testing.T) {
+	listener, err := net.Listen("tcp", "127.0.0.1:0")
+	if err != nil {
+		t.Fatal(err)
+	}
+	accepted := make(chan net.Conn, 1) // the later ones wait, as those of a server that stands still
+	go func() {
+		if connection, err := listener.Accept(); err == nil {
+			greet(connection)
+			accepted <- connection
+		}
+	}()
+	link := connect(t, listener.Addr().String(), config.Access{})
+	connection := <-accepted
+	t.Cleanup(func() { // before the link is closed: it may be held
+		listener.Close()
+		connection.Close()
+	})
+	until(t, "there is a connection", link.Connected)
+	var slowest, noticed time.Duration
+	ended := make(chan struct{})
+	go func() {
+		defer close(ended)
+		message, begin := make([]byte, 64<<10), time.Now()
+		for time.Since(begin) < 10*time.Second && noticed == 0 {
+			sent := time.Now()
+			_ = link.Send("box", message)
+			if took := time.Since(sent); took > slowest {
+				slowest = took
+			}
+			if noticed == 0 && !link.Connected() {
+				noticed = time.Since(begin)
+			}
+			time.Sleep(time.Millisecond)
+		}
+	}()
+	select {
+	case <-ended:
+	case <-time.After(25 * time.Second):
+		t.Fatal("whoever sends is held")
+	}
+	if slowest > 5*time.Second { // a second, on a machine with much else to do
+		t.Errorf("a message took %v", slowest)
+	}
+	if noticed == 0 {
+		t.Error("it was not noticed within ten seconds")
+	}
+}
+
+// server is a server of NATS that can be killed and started again.
+type server struct {
+	path, address, log string
+	run                *exec.Cmd
+}
+
+// start starts the server, which is not running.
+func (s *server) start(t *testing.T) {
+	t.Helper()
+	host, port, _ := net.SplitHostPort(s.address)
+	s.run = exec.Command(s.path, "-a", host, "-p", port, "--user", "shop", "--pass", "right", "-l", s.log)
+	if err := s.run.Start(); err != nil {
+		t.Fatal(err)
+	}
+	until(t, "the server listens", func() bool {
+		connection, err := net.Dial("tcp", s.address)
+		if err == nil {
+			connection.Close()
+		}
+		return err == nil
+	})
+}
+
+// kill ends the server.
+func (s *server) kill() {
+	_ = s.run.Process.Kill()
+	_ = s.run.Wait()
+}
+
+// begin starts a new server, which has one user.
+func begin(t *testing.T) *server {
+	t.Helper()
+	path, err := local.NATSServer()
+	if err != nil {
+		t.Skip("apt-get install nats-server")
+	}
+	ports, err := local.FreePorts(1)
+	if err != nil {
+		t.Fatal(err)
+	}
+	s := &server{path: path, address: fmt.Sprintf("127.0.0.1:%d", ports[0]), log: filepath.Join(t.TempDir(), "log")}
+	s.start(t)
+	t.Cleanup(func() { s.kill() })
+	return s
+}
+
+// user returns the access of the user with a password.
+func user(t *testing.T, password string) config.Access {
+	t.Helper()
+	path := filepath.Join(t.TempDir(), "secret")
+	if err := os.WriteFile(path, []byte(password+"\n"), 0o600); err != nil {
+		t.Fatal(err)
+	}
+	return config.Access{User: "shop", Secret: path}
+}
+
+// Each return of a server counts once.
+func TestReturns(t *testing.T) {
+	s := begin(t)
+	link := connect(t, s.address, user(t, "right"))
+	until(t, "there is a connection", link.Connected)
+	before := link.Returns()
+	for n := uint64(1); n <= 2; n++ {
+		s.kill()
+		until(t, "the connection is lost", func() bool { return !link.Connected() })
+		s.start(t)
+		until(t, "the return counts", func() bool { return link.Returns() > before })
+		if before++; !link.Connected() || link.Returns() != before {
+			t.Errorf("return %d: connected is %v, and %d of %d returns count", n, link.Connected(), link.Returns(), before)
+		}
+	}
+}
+
+// An attempt that the server refuses is no return.
+func TestRefusedAttempts(t *testing.T) {
+	s := begin(t)
+	link := connect(t, s.address, user(t, "wrong"))
+	until(t, "the server refused some attempts", func() bool {
+		log, err := os.ReadFile(s.log)
+		return err == nil && strings.Count(string(log), "authentication error") > 3
+	})
+	if link.Connected() || link.Returns() > 0 {
+		t.Errorf("connected is %v, and %d returns count", link.Connected(), link.Returns())
+	}
+}
