@@ -25,6 +25,7 @@ var ErrSave = errors.New("the state can't be saved")
 const (
 	tick      = 50 * time.Millisecond
 	mostTaken = 4096            // messages of one batch
+	mostTold  = 4096            // sessions of which it knows what it told them
 	longest   = time.Second     // for which a step that sends nothing waits for the next save
 	blockSize = uint64(1) << 35 // how many grants of a lock a voter may give until it loses its state once more
 )
@@ -57,7 +58,10 @@ type Daemon struct {
 	room       []byte
 	before     qlock.Voter // of the step that is made
 
-	older           bool // a session heard of a later save than this state has
+	older           bool              // a session heard of a later save than this state has
+	begun           uint64            // how often the state was saved before this run, or before told was emptied
+	told            map[string]uint64 // the last count of saves that a session heard of this run
+	done            map[string][]byte // replies to what operators let go, by the names of their questions
 	messages, admin <-chan []byte
 	started         time.Time
 	granted         uint64       // grants given since then
@@ -80,7 +84,7 @@ func Open(own *config.Voter, cluster *config.Cluster, carrier transport.Transpor
 	d := &Daemon{cluster: cluster, own: own, store: state, carrier: carrier, log: log, m: newMetrics(),
 		votes: map[string]*vote{}, busy: map[*vote]struct{}{}, dirty: map[*vote]struct{}{},
 		table: table{ttl: cluster.TTL.Duration, changed: map[int]Session{}},
-		out:   map[string][]byte{}, replies: map[string]answer{}, started: time.Now()}
+		out:   map[string][]byte{}, replies: map[string]answer{}, started: time.Now(), begun: state.saves, told: map[string]uint64{}, done: map[string][]byte{}}
 	d.plans, d.newPlans, err = state.plans.follow(NewGenerations(cluster))
 	if err != nil {
 		state.db.Close()
@@ -148,6 +152,9 @@ func (d *Daemon) Run(ctx context.Context) error {
 		}
 		if d.older {
 			d.log.Write("older-copy", "saves", d.store.saves)
+			if err := d.store.condemn(); err != nil {
+				d.log.Write("save-failed", "why", err)
+			}
 			return fmt.Errorf("%s: %w", file(d.own.Data), ErrOlder)
 		}
 		if err := d.commit(now); err != nil {
@@ -200,7 +207,7 @@ func (d *Daemon) leases(now time.Time, silent time.Duration) {
 	switch {
 	case back:
 		d.table.hear(now)
-	case silent > 2*tick:
+	case silent > 2*tick && silent > d.table.ttl/8: // less is a part of each turn where saves are slow
 		d.table.skip(silent)
 	}
 }
@@ -217,7 +224,7 @@ func (d *Daemon) take(message []byte, now time.Time) {
 		return
 	}
 	d.hears(h)
-	if h.Saves > d.store.saves {
+	if d.isBehind(h) {
 		d.older = true // nothing leaves any more
 		return
 	}
@@ -239,6 +246,12 @@ func (d *Daemon) take(message []byte, now time.Time) {
 		lines = rest
 		d.line(h, lock, line, now)
 	}
+}
+
+// isBehind returns whether the sender heard of a save that this state does not have: one of an earlier run, as this run did not
+// tell it. How often this run saved doesn't matter.
+func (d *Daemon) isBehind(h wire.Header) bool {
+	return h.Saves > d.begun && h.Saves > d.told[h.Name]
 }
 
 // isOurs returns whether a message is of this cluster, and of a plan that is not retired.
@@ -316,7 +329,10 @@ func (d *Daemon) refuse(v *vote, why error) {
 	d.m.refused.Inc()
 	if errors.Is(why, qlock.GrantsSpent) {
 		d.m.spent.Inc()
-		d.log.Write("grants-spent", "lock", v.name)
+		if !v.isSpent {
+			v.isSpent = true
+			d.log.Write("grants-spent", "lock", v.name)
+		}
 	}
 }
 
@@ -408,11 +424,12 @@ func (d *Daemon) claim(h wire.Header, line string, now time.Time) {
 func (d *Daemon) round(now time.Time) {
 	for v := range d.busy {
 		for v.held.Number > 0 && v.isWanted() && d.table.isDead(int(v.held.Client), now) {
-			d.m.expired.Inc()
-			d.log.Write("lease-expired", "lock", v.name, "client", v.held.Client, "stamp", v.held.Stamp, "grant", v.held.Number)
+			held := v.held
 			if !d.letGo(v, now) {
 				break
 			}
+			d.m.expired.Inc()
+			d.log.Write("lease-expired", "lock", v.name, "client", held.Client, "stamp", held.Stamp, "grant", held.Number)
 		}
 		if v.timer.IsDue(now) {
 			if lines, err := v.Remind(nil); err == nil && len(lines) > 0 {
@@ -465,7 +482,11 @@ func (d *Daemon) commit(now time.Time) error {
 func (d *Daemon) deliver() {
 	meta := d.store.meta
 	header := wire.Header{Cluster: meta.Cluster, Kind: wire.FromVoter, Number: meta.Voter, Block: meta.Block, Name: meta.Identity, Saves: d.store.saves}
+	if len(d.told) >= mostTold {
+		d.begun, d.told = d.store.saves, map[string]uint64{}
+	}
 	for session, lines := range d.out {
+		d.told[session] = header.Saves
 		box := wire.SessionBox(meta.Cluster, session)
 		header.Coterie = d.speaks(session)
 		header.Split(lines, func(message []byte) { d.post(box, message) })

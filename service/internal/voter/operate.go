@@ -12,8 +12,14 @@ import (
 	"calvundek.example/service/qlock"
 )
 
-// mostShown is how many votes one reply shows. Those that somebody has or waits for come first.
+// mostShown is how many votes one reply shows, of those that somebody has or waits for.
 const mostShown = 1000
+
+// mostDone is how many replies are kept to what operators let go.
+const mostDone = 64
+
+// mostReply is how long a reply may be: less than what NATS takes.
+const mostReply = 900 << 10
 
 // Status is what an operator sees of a voter.
 type Status struct {
@@ -78,11 +84,39 @@ func (d *Daemon) operate(message []byte, now time.Time) {
 		d.m.foreign.Inc()
 		return
 	}
-	reply, err := json.Marshal(d.obey(strings.Fields(string(lines)), now))
-	if err != nil {
-		reply = []byte(`{"error":"no reply can be written"}`)
+	reply, isDone := d.done[h.Name]
+	if !isDone {
+		words := strings.Fields(string(lines))
+		if reply, err = written(d.obey(words, now)); err != nil {
+			reply = []byte(`{"error":"no reply can be written"}`)
+		}
+		if len(words) > 0 && (words[0] == "evict" || words[0] == "unlock") {
+			d.noteDone(h.Name, reply)
+		}
 	}
 	d.replies[wire.OperatorBox(d.cluster.ID, h.Name)] = answer{h.Coterie, reply}
+}
+
+// noteDone keeps the reply to a question, whose name is its own, so that a question that comes again lets nothing else go.
+func (d *Daemon) noteDone(name string, reply []byte) {
+	if len(d.done) >= mostDone {
+		d.done = map[string][]byte{}
+	}
+	d.done[name] = reply
+}
+
+// written returns a reply as JSON. A status that is too long for one message shows fewer votes.
+func written(reply interface{}) ([]byte, error) {
+	for {
+		text, err := json.Marshal(reply)
+		s, is := reply.(Status)
+		if err != nil || len(text) <= mostReply || !is || len(s.Votes) == 0 {
+			return text, err
+		}
+		fewer := len(s.Votes) / 2
+		s.Dropped, s.Votes = s.Dropped+len(s.Votes)-fewer, s.Votes[:fewer]
+		reply = s
+	}
 }
 
 // obey does what these words say: `status`, `lock LOCK`, `sessions`, `evict NUMBER`, `unlock LOCK GRANT`, or what exchange obeys.

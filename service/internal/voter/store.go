@@ -45,6 +45,7 @@ var (
 	metaBucket    = []byte("meta")
 	savesKey      = []byte("saves")
 	plansKey      = []byte("plans")
+	olderKey      = []byte("older") // is there if this copy was found to be an older one
 	voteBucket    = []byte("votes")
 	sessionBucket = []byte("sessions")
 )
@@ -172,6 +173,9 @@ func (s *store) begin(folder string, want Meta) error {
 			return fmt.Errorf("%s: %w", file(folder), ErrDamaged)
 		}
 		s.saves = binary.LittleEndian.Uint64(saves)
+		if tx.Bucket(metaBucket).Get(olderKey) != nil {
+			return fmt.Errorf("%s: %w", file(folder), ErrOlder)
+		}
 		return nil
 	})
 	if err != nil {
@@ -234,6 +238,11 @@ func (s *store) save(votes map[*vote]struct{}, sessions map[int]Session, plans *
 		s.saves++
 	}
 	return err
+}
+
+// condemn notes that this is an older copy, so that no start serves with it: its saves would hide what it forgot.
+func (s *store) condemn() error {
+	return s.db.Update(func(tx *bbolt.Tx) error { return tx.Bucket(metaBucket).Put(olderKey, []byte{1}) })
 }
 
 func putSaves(tx *bbolt.Tx, saves uint64) error {

@@ -21,6 +21,8 @@ type vote struct {
 	since time.Time    // when it was granted
 	asks  map[int]ask  // by client: who has it, and who waits
 	timer remind.Timer // for the reminder of whoever has it
+
+	isSpent bool // it was logged that all grants are given
 }
 
 // isHolder returns whether the client has the vote.

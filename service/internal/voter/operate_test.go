@@ -1,0 +1,47 @@
+package voter_test
+
+import (
+	"strings"
+	"testing"
+	"time"
+
+	"calvundek.example/service/internal/config"
+	"calvundek.example/service/internal/wire"
+	"calvundek.example/service/internal/worlds"
+)
+
+// A question of an operator that comes once more, as the reply was late, lets nothing else go: not the session that took the number
+// meanwhile.
+func TestRepeatedEvict(t *testing.T) {
+	w := worlds.New(t, worlds.Majority, time.Second)
+	one := speaker(t, w, 0, "one")
+	one("orders request 0 0 1", 0)
+	port := w.Bus.Port()
+	heard, err := port.Listen(wire.OperatorBox("test", "op"))
+	if err != nil {
+		t.Fatal(err)
+	}
+	header := wire.Header{Cluster: "test", Coterie: config.Hash(w.Cluster.Coterie), Kind: wire.FromOperator, Name: "op"}
+	ask := func(words string) string {
+		_ = port.Send(wire.AdminBox("test", 0), append(header.Append(nil), words+"\n"...))
+		_, body, _ := wire.Read(<-heard)
+		return strings.TrimSpace(string(body))
+	}
+	if got := ask("evict 0"); got != `{"let_go":1}` {
+		t.Fatal(got)
+	}
+	two := speakerOf(t, w, 0, "two", 3)
+	if two("orders request 0 0 101", 0) == 0 {
+		t.Fatal("the next session has no vote")
+	}
+	if got := ask("evict 0"); got != `{"let_go":1}` {
+		t.Errorf("the reply comes again: %s", got)
+	}
+	header.Name = "op2"
+	if heard, err = port.Listen(wire.OperatorBox("test", "op2")); err != nil {
+		t.Fatal(err)
+	}
+	if got := ask("lock orders"); !strings.Contains(got, `"client":0`) || !strings.Contains(got, `"stamp":101`) {
+		t.Errorf("the next session lost its vote: %s", got)
+	}
+}
