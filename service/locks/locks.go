@@ -32,6 +32,7 @@ var (
 	ErrPrefix   = errors.New("locks: a prefix has at most 31 of A-Z a-z 0-9 _ - . : and no dot first")
 	ErrNested   = errors.New("locks: the context is that of a holder of this lock, who would wait for himself")
 	ErrNotHeld  = errors.New("locks: the lock was given back before")
+	ErrLapsed   = errors.New("locks: the lock may have been somebody else's before it was given back")
 	ErrNoQuorum = errors.New("locks: no quorum of voters replied")
 	ErrNumbers  = errors.New("locks: all client numbers are in use")
 	ErrRetired  = errors.New("locks: the plan of the cluster's file is retired; take the newest file")
@@ -195,7 +196,8 @@ func (h *Held) Token() []byte { return append([]byte(nil), h.token...) }
 // since. End the work then, and call Unlock: until then votes that are left keep others out. It is also closed by Unlock.
 func (h *Held) Lost() <-chan struct{} { return h.lost }
 
-// Unlock gives the lock back. It returns ErrNotHeld for the second time.
+// Unlock gives the lock back. It returns ErrLapsed if the lock may have been lost before, also if Lost did not say so yet.
+// It returns ErrNotHeld for the second time.
 func (h *Held) Unlock() error {
 	return h.client.call(func() error { return h.client.unlock(h) })
 }

@@ -338,7 +338,7 @@ func TestLostVoter(t *testing.T) {
 		if !isLost(held) {
 			t.Error("a client whose votes were forgotten does not know")
 		}
-		if err := held.Unlock(); err != nil {
+		if err := held.Unlock(); !errors.Is(err, ErrLapsed) {
 			t.Error(err)
 		}
 		next := take(t, b, "x")

@@ -95,9 +95,15 @@ func (c *Client) dequeue(name string, w *waiter) {
 	c.pump(l)
 }
 
+// unlock gives a lock back. A holder that may have lost it hears so, also if no round noticed it yet.
 func (c *Client) unlock(h *Held) error {
 	if h.lock.held != h {
 		return ErrNotHeld
+	}
+	c.lapse()
+	var err error
+	if h.over {
+		err = ErrLapsed
 	}
 	h.lock.held = nil
 	if !h.over {
@@ -107,7 +113,7 @@ func (c *Client) unlock(h *Held) error {
 	c.stats.Passes++
 	c.leave(h.lock)
 	c.pump(h.lock)
-	return nil
+	return err
 }
 
 // lose closes Lost of a lock that is still held.
@@ -127,8 +133,8 @@ func (c *Client) pump(l *lock) {
 	case l.shown.Phase == qlock.Asking && len(l.queue) == 0:
 		c.stats.GivenUp++
 		c.giveUp(l)
-	case l.shown.Phase == qlock.Inside && l.held == nil && len(l.queue) == 0:
-		c.leave(l)
+	case l.shown.Phase == qlock.Inside && l.held == nil && (len(l.queue) == 0 || c.mayBeLost(l, c.doubtful())):
+		c.leave(l) // the next round asks anew for who waits, after its heartbeat
 	case l.shown.Phase == qlock.Inside && l.held == nil:
 		c.hand(l)
 	}
@@ -298,10 +304,15 @@ func (c *Client) lapse() {
 		return
 	}
 	for l := range c.busy {
-		if l.shown.Phase != qlock.Idle && c.votes(l)&doubtful != 0 && (l.held == nil || !l.held.over) {
+		if l.shown.Phase != qlock.Idle && c.mayBeLost(l, doubtful) && (l.held == nil || !l.held.over) {
 			c.spoil(l)
 		}
 	}
+}
+
+// mayBeLost returns whether a client has the vote of a voter which may have let it go.
+func (c *Client) mayBeLost(l *lock, doubtful uint64) bool {
+	return doubtful != 0 && c.votes(l)&doubtful != 0
 }
 
 // votes returns the voters whose votes a client has.

@@ -130,8 +130,9 @@ func (c *Client) reserveFirst(ctx context.Context) error {
 }
 
 // abandon gives a number back that some voters gave to this session. It never claims this epoch again: the line that
-// gives it back may come late.
+// gives it back may come late. Locks of this number are forgotten.
 func (c *Client) abandon(voters uint64) {
+	c.locks, c.busy = map[string]*lock{}, map[*lock]struct{}{}
 	c.header.Number, c.header.Epoch, c.header.Reserved, c.reserved = 0, 0, 0, 0
 	for v := range c.peers {
 		c.peers[v].reserved, c.peers[v].sent = 0, map[uint64]time.Duration{}
@@ -367,7 +368,7 @@ func (c *Client) message(data []byte) {
 		return
 	}
 	c.peers[h.Number].heard = time.Now()
-	for {
+	for c.why == nil {
 		lock, line, rest, found := wire.Next(lines)
 		if !found {
 			return

@@ -183,7 +183,10 @@ func pass(m *mouth, client *locks.Client, place string) error {
 	close(left)
 	<-reported
 	m.say("leave %s", place)
-	return held.Unlock()
+	if err := held.Unlock(); !errors.Is(err, locks.ErrLapsed) {
+		return err
+	}
+	return nil // that it was lost is nothing new here
 }
 
 // addOne adds one to the count of a place, and returns whether the guard let it.

@@ -15,14 +15,17 @@ import (
 	"calvundek.example/service/internal/config"
 	"calvundek.example/service/internal/operator"
 	"calvundek.example/service/internal/voter"
+	"calvundek.example/service/internal/wire"
+	"calvundek.example/service/locks"
 	"calvundek.example/service/qlock"
 	"github.com/spf13/cobra"
 )
 
 // The errors of commands.
 var (
-	errSilent = errors.New("some voters did not reply")
-	errFree   = errors.New("nobody has the votes of a quorum")
+	errSilent  = errors.New("some voters did not reply")
+	errRefused = errors.New("some voters did not do it")
+	errFree    = errors.New("nobody has the votes of a quorum")
 )
 
 func initCommand(s *settings) *cobra.Command {
@@ -98,18 +101,27 @@ func printJSON(replies []operator.Reply) error {
 	return json.NewEncoder(os.Stdout).Encode(answers)
 }
 
-// complete returns an error if some voter did not reply.
-func complete(replies []operator.Reply) error {
-	var missing []string
+// complete returns an error if some voter did not reply, or did not do what it was asked.
+func complete(replies []operator.Reply) (err error) {
+	var silent, refused []string
 	for _, r := range replies {
-		if r.Err != nil {
-			missing = append(missing, r.Name)
+		if errors.Is(r.Err, operator.ErrSilent) {
+			silent = append(silent, r.Name)
+		} else if r.Err != nil {
+			refused = append(refused, fmt.Sprintf("%s (%v)", r.Name, r.Err))
 		}
 	}
-	if missing != nil {
-		return fmt.Errorf("%w: %s", errSilent, strings.Join(missing, ", "))
+	if silent != nil {
+		err = fmt.Errorf("%w: %s", errSilent, strings.Join(silent, ", "))
 	}
-	return nil
+	if refused == nil {
+		return err
+	}
+	why := fmt.Errorf("%w: %s", errRefused, strings.Join(refused, ", "))
+	if err == nil {
+		return why
+	}
+	return fmt.Errorf("%w; %v", err, why)
 }
 
 // simple makes a command that asks all voters the same, and prints a line for each.
@@ -191,6 +203,9 @@ func unlockCommand(ctx context.Context, s *settings) *cobra.Command {
 		Long: "Lets the grants of a lock go that the client has who has the votes of a quorum. That client may still believe that it " +
 			"has the lock: only the guard refuses what it writes then.",
 		RunE: func(_ *cobra.Command, args []string) error {
+			if !wire.IsName([]byte(args[0])) {
+				return fmt.Errorf("%w: %q", locks.ErrName, args[0])
+			}
 			return s.ask(ctx, func(ctx context.Context, cluster *config.Cluster, console *operator.Console) error {
 				return unlock(ctx, s, cluster, console, args[0])
 			})
@@ -205,9 +220,12 @@ func unlock(ctx context.Context, s *settings, cluster *config.Cluster, console *
 	}
 	votes := map[[2]uint64]uint64{} // by client and stamp: who granted
 	grants := map[int]uint64{}
-	for _, r := range replies {
+	for i, r := range replies {
 		var v voter.VoteView
-		if r.Err == nil && json.Unmarshal(r.Body, &v) == nil && v.Client >= 0 {
+		if r.Err != nil {
+			continue
+		}
+		if replies[i].Err = json.Unmarshal(r.Body, &v); replies[i].Err == nil && v.Client >= 0 {
 			votes[[2]uint64{uint64(v.Client), v.Stamp}] |= 1 << r.Voter
 			grants[r.Voter] = v.Grant
 		}
@@ -216,6 +234,9 @@ func unlock(ctx context.Context, s *settings, cluster *config.Cluster, console *
 		if cluster.HasAny(mask) {
 			return letGoAll(ctx, s, console, lock, mask, grants)
 		}
+	}
+	if err := complete(replies); err != nil {
+		return fmt.Errorf("%s: by the replies nobody has the votes of a quorum, but %w", lock, err)
 	}
 	return fmt.Errorf("%s: %w", lock, errFree)
 }

@@ -70,8 +70,7 @@ func run(ctx context.Context, config locks.Config, wait, grace time.Duration, lo
 	work, done := held.Context(ctx)
 	defer done()
 	code, err := runProgram(work, grace, words, "QLOCK_PASS="+hex.EncodeToString(held.Token()))
-	lost := work.Err() != nil && ctx.Err() == nil
-	_ = held.Unlock() // an error says that it is lost, which the context said before
+	lost := held.Unlock() != nil // the context may not say so yet
 	switch {
 	case lost:
 		return status{exitLost, fmt.Errorf("%s: %w", lock, errLost)}
@@ -85,16 +84,18 @@ func run(ctx context.Context, config locks.Config, wait, grace time.Duration, lo
 	return nil
 }
 
-// withoutLock returns the status of a command that has no lock: 75 if its time is over, and 78 if time would not help.
+// withoutLock returns the status of a command that has no lock: 75 if its time or its session is over, and 78 if another
+// try would not help.
 func withoutLock(limit context.Context, err error) error {
-	if limit.Err() == nil {
+	if limit.Err() == nil && !errors.Is(err, locks.ErrLost) {
 		return status{exitSettings, err}
 	}
 	return status{exitNoLock, err}
 }
 
 // runProgram runs a program until it ends, or the context does. It returns the program's exit status. The program has a
-// process group of its own, so that all of it gets the signals. It is killed when this process is.
+// process group of its own, so that all of it gets the signals. If the context ends, all of the group ends. The program is
+// killed when this process is.
 func runProgram(ctx context.Context, grace time.Duration, words []string, environment string) (int, error) {
 	runtime.LockOSThread() // the program is killed when the thread ends that started it
 	defer runtime.UnlockOSThread()
@@ -111,14 +112,27 @@ func runProgram(ctx context.Context, grace time.Duration, words []string, enviro
 	case err := <-ended:
 		return exitCode(err)
 	case <-ctx.Done():
-		_ = syscall.Kill(-program.Process.Pid, syscall.SIGTERM)
 	}
+	group, limit := -program.Process.Pid, time.Now().Add(grace)
+	_ = syscall.Kill(group, syscall.SIGTERM)
 	select {
 	case err := <-ended:
+		endGroup(group, limit)
 		return exitCode(err)
 	case <-time.After(grace):
-		_ = syscall.Kill(-program.Process.Pid, syscall.SIGKILL)
+		_ = syscall.Kill(group, syscall.SIGKILL)
 		return exitCode(<-ended)
+	}
+}
+
+// endGroup waits until the processes of a group have ended whose program has. It kills those that are left at the limit.
+// Their group keeps its number until the last one has ended, so no other processes get the signal.
+func endGroup(group int, limit time.Time) {
+	for ; syscall.Kill(group, 0) == nil; time.Sleep(10 * time.Millisecond) {
+		if !time.Now().Before(limit) {
+			_ = syscall.Kill(group, syscall.SIGKILL)
+			return
+		}
 	}
 }
 

@@ -3,11 +3,16 @@ package main
 import (
 	"bytes"
 	"context"
+	"errors"
 	"fmt"
 	"os"
 	"os/exec"
+	"path/filepath"
 	"testing"
 	"time"
+
+	"calvundek.example/service/internal/worlds"
+	"calvundek.example/service/locks"
 )
 
 // The exit status of a program is handed on, and a program whose lock is lost is ended.
@@ -53,13 +58,102 @@ func TestProgramIsKilledWithRun(t *testing.T) {
 	}
 	_ = run.Process.Kill()
 	_ = run.Wait()
+	ends(t, program)
+}
+
+// ends waits until a process has ended.
+func ends(t *testing.T, process int) {
+	t.Helper()
 	for end := time.Now().Add(5 * time.Second); ; time.Sleep(10 * time.Millisecond) {
-		stat, err := os.ReadFile(fmt.Sprintf("/proc/%d/stat", program))
+		stat, err := os.ReadFile(fmt.Sprintf("/proc/%d/stat", process))
 		if err != nil || bytes.Contains(stat, []byte(") Z ")) {
 			return
 		}
 		if time.Now().After(end) {
-			t.Fatal("the program goes on")
+			t.Fatal("the process goes on")
+		}
+	}
+}
+
+// The group of a program whose lock is lost is ended, though the program itself ended before.
+func TestGroupIsEnded(t *testing.T) {
+	file := filepath.Join(t.TempDir(), "process")
+	text := "sh -c 'trap \"\" TERM; echo $$ > $FILE.new; mv $FILE.new $FILE; exec sleep 60' & wait"
+	ctx, cancel := context.WithCancel(context.Background())
+	defer cancel()
+	go func() {
+		for end := time.Now().Add(10 * time.Second); time.Now().Before(end); time.Sleep(10 * time.Millisecond) {
+			if _, err := os.Stat(file); err == nil {
+				break
+			}
+		}
+		cancel()
+	}()
+	code, err := runProgram(ctx, 300*time.Millisecond, []string{"sh", "-c", text}, "FILE="+file)
+	if err != nil || code != 143 {
+		t.Errorf("%d, %v", code, err)
+	}
+	word, err := os.ReadFile(file)
+	if err != nil {
+		t.Fatal(err)
+	}
+	var process int
+	if _, err := fmt.Sscan(string(word), &process); err != nil {
+		t.Fatal(err)
+	}
+	ends(t, process)
+}
+
+// A session that was ended while its lock was waited for is no fault of the settings.
+func TestWithoutLock(t *testing.T) {
+	over, cancel := context.WithCancel(context.Background())
+	cancel()
+	for _, one := range []struct {
+		limit context.Context
+		err   error
+		want  int
+	}{
+		{context.Background(), locks.ErrName, exitSettings},
+		{context.Background(), fmt.Errorf("x: %w", locks.ErrLost), exitNoLock},
+		{over, locks.ErrNoQuorum, exitNoLock},
+	} {
+		var got status
+		if !errors.As(withoutLock(one.limit, one.err), &got) || got.code != one.want {
+			t.Errorf("%v: %d", one.err, got.code)
+		}
+	}
+}
+
+// fileOf writes a cluster's file.
+func fileOf(t *testing.T, w *worlds.World) string {
+	t.Helper()
+	text, err := w.Cluster.Text()
+	if err != nil {
+		t.Fatal(err)
+	}
+	path := filepath.Join(t.TempDir(), "cluster.toml")
+	if err := os.WriteFile(path, text, 0o600); err != nil {
+		t.Fatal(err)
+	}
+	return path
+}
+
+// The status says whether the lock may have been lost.
+func TestStatusOfRun(t *testing.T) {
+	w := worlds.New(t, worlds.Majority, time.Second)
+	path := fileOf(t, w)
+	for cut, want := range map[time.Duration]int{0: 7, 300 * time.Millisecond: exitLost} {
+		port := w.Bus.Port()
+		text := "exit 7"
+		if cut > 0 {
+			text = "sleep 60"
+			time.AfterFunc(cut, func() { port.Cut(true) })
+			time.AfterFunc(cut+2*time.Second, func() { port.Cut(false) }) // so that the session can be closed
+		}
+		err := run(context.Background(), locks.Config{Cluster: path, Transport: port}, 10*time.Second, time.Second, "x", []string{"sh", "-c", text})
+		var got status
+		if !errors.As(err, &got) || got.code != want {
+			t.Errorf("%s: %v", text, err)
 		}
 	}
 }

@@ -101,7 +101,8 @@ func (c *Console) isOurs(h wire.Header) bool {
 	return false
 }
 
-// collect collects replies for some time.
+// collect collects replies for some time. The first one of a voter counts: what comes later is a reply to the same question
+// that was repeated, or asked by another plan.
 func (c *Console) collect(ctx context.Context, wait time.Duration, voters []int, replies map[int][]byte) {
 	timer := time.NewTimer(wait)
 	defer timer.Stop()
@@ -109,7 +110,7 @@ func (c *Console) collect(ctx context.Context, wait time.Duration, voters []int,
 		select {
 		case m := <-c.replies:
 			h, body, err := wire.Read(m)
-			if err == nil && c.isOurs(h) {
+			if err == nil && c.isOurs(h) && replies[h.Number] == nil {
 				replies[h.Number] = body
 			}
 		case <-timer.C:

@@ -1,0 +1,84 @@
+package main
+
+import (
+	"context"
+	"errors"
+	"fmt"
+	"strings"
+	"testing"
+	"time"
+
+	"calvundek.example/service/internal/operator"
+	"calvundek.example/service/internal/worlds"
+	"calvundek.example/service/locks"
+)
+
+// What voters did not do is named: one did not reply, another one refused.
+func TestComplete(t *testing.T) {
+	refusal := fmt.Errorf("%w: unknown command", operator.ErrRefused)
+	good, silent, refused := operator.Reply{Name: "a"}, operator.Reply{Name: "b", Err: operator.ErrSilent}, operator.Reply{Name: "c", Err: refusal}
+	for _, one := range []struct {
+		replies []operator.Reply
+		want    string
+	}{
+		{[]operator.Reply{good}, "<nil>"},
+		{[]operator.Reply{good, silent}, "some voters did not reply: b"},
+		{[]operator.Reply{good, refused}, "some voters did not do it: c (refused: unknown command)"},
+		{[]operator.Reply{silent, refused}, "some voters did not reply: b; some voters did not do it: c (refused: unknown command)"},
+	} {
+		if got := fmt.Sprint(complete(one.replies)); got != one.want {
+			t.Errorf("%s, not %s", got, one.want)
+		}
+	}
+	if err := complete([]operator.Reply{silent, refused}); !errors.Is(err, errSilent) {
+		t.Error(err)
+	}
+}
+
+// A lock is let go whoever has it. That nobody has it is said only if all voters say so.
+func TestUnlock(t *testing.T) {
+	w := worlds.New(t, worlds.Majority, 5*time.Second)
+	s := &settings{}
+	ask := func() error {
+		ctx, cancel := context.WithTimeout(context.Background(), time.Second)
+		defer cancel()
+		return unlock(ctx, s, w.Cluster, w.Console(), "x")
+	}
+	if err := ask(); !errors.Is(err, errFree) {
+		t.Error(err)
+	}
+	ctx, cancel := context.WithTimeout(context.Background(), 20*time.Second)
+	defer cancel()
+	client, err := locks.Open(ctx, locks.Config{Cluster: fileOf(t, w), Transport: w.Bus.Port()})
+	if err != nil {
+		t.Fatal(err)
+	}
+	held, err := client.Lock(ctx, "x")
+	if err != nil {
+		t.Fatal(err)
+	}
+	if err := ask(); err != nil {
+		t.Error(err)
+	}
+	select {
+	case <-held.Lost():
+	case <-time.After(5 * time.Second):
+		t.Error("a lock that was let go is held")
+	}
+	w.Stop(1)
+	w.Stop(2)
+	if err := ask(); !errors.Is(err, errSilent) || errors.Is(err, errFree) || !strings.HasSuffix(err.Error(), "did not reply: b, c") {
+		t.Error(err)
+	}
+}
+
+// A name that no lock has is refused before anybody is asked.
+func TestUnlockName(t *testing.T) {
+	for _, name := range []string{"a b", ".", "", strings.Repeat("x", 65)} {
+		root := command(context.Background())
+		root.SetArgs([]string{"unlock", "--cluster", "/there/is/none", name})
+		if err := root.Execute(); !errors.Is(err, locks.ErrName) {
+			t.Errorf("%q: %v", name, err)
+		}
+	}
+}

@@ -1,0 +1,49 @@
+package operator_test
+
+import (
+	"context"
+	"fmt"
+	"testing"
+	"time"
+
+	"calvundek.example/service/internal/operator"
+	"calvundek.example/service/internal/wire"
+	"calvundek.example/service/internal/worlds"
+)
+
+// twice is a transport whose voters reply to each question twice, and the second reply is another one.
+type twice struct{ box chan []byte }
+
+func (c twice) Listen(string) (<-chan []byte, error) { return c.box, nil }
+
+func (c twice) Send(mailbox string, message []byte) error {
+	asked, _, err := wire.Read(message)
+	if err != nil {
+		return err
+	}
+	for voter := 0; voter < 3; voter++ {
+		if mailbox == wire.AdminBox(asked.Cluster, voter) {
+			reply := wire.Header{Cluster: asked.Cluster, Coterie: asked.Coterie, Kind: wire.FromVoter, Number: voter, Name: "identity"}
+			for _, body := range []string{"first", "second"} {
+				c.box <- append(reply.Append(nil), body...)
+			}
+		}
+	}
+	return nil
+}
+
+// The first reply of a voter counts: a later one is to a repetition of the question.
+func TestFirstReplyCounts(t *testing.T) {
+	ctx, cancel := context.WithTimeout(context.Background(), 5*time.Second)
+	defer cancel()
+	console := operator.New(worlds.NewCluster(t, worlds.Majority, time.Second), twice{make(chan []byte, 100)})
+	replies, err := console.Ask(ctx, "unlock x 1", console.All()...)
+	if err != nil {
+		t.Fatal(err)
+	}
+	for _, r := range replies {
+		if r.Err != nil || string(r.Body) != "first" {
+			t.Error(fmt.Sprint(r.Name, ": ", string(r.Body), ", ", r.Err))
+		}
+	}
+}

@@ -1,0 +1,137 @@
+package locks
+
+import (
+	"errors"
+	"math/bits"
+	"testing"
+	"time"
+
+	"calvundek.example/service/internal/wire"
+	"calvundek.example/service/internal/worlds"
+)
+
+// still returns a client whose loop stands still: a test takes its turns.
+func still(t *testing.T, w *worlds.World) *Client {
+	t.Helper()
+	c, err := newClient(w.Cluster, Config{Transport: w.Bus.Port()})
+	if err != nil {
+		t.Fatal(err)
+	}
+	if c.messages, err = c.carrier.Listen(wire.SessionBox(w.Cluster.ID, c.header.Name)); err != nil {
+		t.Fatal(err)
+	}
+	if err := c.begin(within(t, 20*time.Second)); err != nil {
+		t.Fatal(err)
+	}
+	c.firstTicket()
+	return c
+}
+
+// turns takes messages until something holds, and returns whether it does.
+func turns(c *Client, most time.Duration, holds func() bool) bool {
+	for end := time.After(most); !holds(); c.flush() {
+		select {
+		case m := <-c.messages:
+			c.message(m)
+		case <-end:
+			return false
+		}
+	}
+	return true
+}
+
+// A client that stood still takes the last vote after another one is in doubt. It hands nothing out, and asks anew.
+func TestDoubtfulVoteIsNotHandedOut(t *testing.T) {
+	w := worlds.New(t, worlds.Majority, 20*time.Second)
+	c := still(t, w)
+	turns(c, 200*time.Millisecond, func() bool { return false }) // the replies to what was said before
+	call := &waiter{got: make(chan *Held, 1), since: time.Now()}
+	if err := c.enqueue("x", call); err != nil {
+		t.Fatal(err)
+	}
+	c.flush()
+	l := c.locks["x"]
+	if !turns(c, 5*time.Second, func() bool { return c.votes(l) != 0 }) || bits.OnesCount64(c.votes(l)) != 1 {
+		t.Fatalf("votes of %b", c.votes(l))
+	}
+	p := &c.peers[bits.TrailingZeros64(c.votes(l))]
+	before := p.known
+	p.known -= c.cluster.TTL.Duration
+	stamp := l.shown.Stamp
+	turns(c, 300*time.Millisecond, func() bool { return len(call.got) > 0 })
+	if len(call.got) > 0 || l.held != nil {
+		t.Fatal("a lock is handed out by a vote that may be somebody else's")
+	}
+	p.known = before
+	c.round(time.Now())
+	c.flush()
+	if !turns(c, 5*time.Second, func() bool { return len(call.got) > 0 }) || l.shown.Stamp <= stamp {
+		t.Error("the client does not ask anew")
+	}
+}
+
+// A holder that lost the lock hears it from Unlock, also if the loop did not notice it before.
+func TestUnlockSaysThatItIsLost(t *testing.T) {
+	w := worlds.New(t, worlds.Majority, 20*time.Second)
+	c, _ := start(t, w)
+	held := take(t, c, "x")
+	err := c.call(func() error {
+		for v := range c.peers {
+			c.peers[v].known -= c.cluster.TTL.Duration
+		}
+		return c.unlock(held)
+	})
+	if !errors.Is(err, ErrLapsed) {
+		t.Error(err)
+	}
+	if err := held.Unlock(); !errors.Is(err, ErrNotHeld) {
+		t.Error(err)
+	}
+	if lost := c.Stats().Lost; lost != 1 {
+		t.Errorf("%d are lost", lost)
+	}
+	if err := take(t, c, "x").Unlock(); err != nil {
+		t.Error(err)
+	}
+}
+
+// A number that is given back leaves no lock behind that speaks for it.
+func TestAbandonedNumberSpeaksNoMore(t *testing.T) {
+	w := worlds.New(t, worlds.Majority, time.Second)
+	c, err := newClient(w.Cluster, Config{Transport: w.Bus.Port()})
+	if err != nil {
+		t.Fatal(err)
+	}
+	c.header.Number, c.header.Epoch, c.asked, c.claimed = 3, 5, 3, 5
+	if _, err := c.find("x"); err != nil {
+		t.Fatal(err)
+	}
+	c.abandon(0)
+	c.header.Number, c.header.Epoch = 4, 1
+	l, err := c.find("x")
+	if err != nil {
+		t.Fatal(err)
+	}
+	lines, err := l.Ask(c.plan.Quorums[0], nil)
+	if err != nil {
+		t.Fatal(err)
+	}
+	if from, _ := wire.Ends(lines); from != 4 {
+		t.Errorf("number %d asks", from)
+	}
+}
+
+// What a message has behind the line that ends the session is not taken.
+func TestNothingIsTakenAfterTheEnd(t *testing.T) {
+	w := worlds.New(t, worlds.Majority, time.Second)
+	c, err := newClient(w.Cluster, Config{Transport: w.Bus.Port()})
+	if err != nil {
+		t.Fatal(err)
+	}
+	c.header.Number, c.header.Epoch = 3, 5
+	h := wire.Header{Cluster: w.Cluster.ID, Coterie: c.plan.mark, Kind: wire.FromVoter, Number: 1, Name: "identity"}
+	c.message(append(h.Append(nil), ". taken 3 5\nx nonsense\n"...))
+	if !errors.Is(c.why, ErrLost) || c.stats.Refused != 0 {
+		t.Errorf("%v, %d lines are refused", c.why, c.stats.Refused)
+	}
+}
