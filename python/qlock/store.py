@@ -93,9 +93,12 @@ class Store:
             raise self._missing() from None
         try:
             fcntl.flock(self._lock, fcntl.LOCK_EX | fcntl.LOCK_NB)
-        except OSError as fault:
+        except BlockingIOError as fault:
             os.close(self._lock)
             raise InUse(f"{self._path} is in use by another process") from fault
+        except OSError:
+            os.close(self._lock)
+            raise
 
     @classmethod
     def create(cls, path: str, state: bytes, owner: str = "") -> None:

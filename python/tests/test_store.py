@@ -1,4 +1,5 @@
 """A store keeps what was saved, for one process, and makes no state anew."""
+import errno
 import os
 import subprocess
 import sys
@@ -122,6 +123,16 @@ class Stores(unittest.TestCase):
                 Store(self.path)
             self.assertEqual(subprocess.run(other, check=False).returncode, 7)
         self.assertEqual(subprocess.run(other, check=False).returncode, 0)
+
+    def test_lock_that_fails_is_not_one_in_use(self):
+        before = os.listdir("/proc/self/fd")
+        for code, expected in ((errno.ENOLCK, OSError), (errno.EWOULDBLOCK, InUse)):
+            fault = OSError(code, os.strerror(code))
+            with mock.patch("fcntl.flock", side_effect=fault), self.assertRaises(expected):
+                Store(self.path)
+        self.assertEqual(os.listdir("/proc/self/fd"), before)
+        with Store(self.path):
+            pass
 
 
 if __name__ == "__main__":
