@@ -286,7 +286,7 @@ int32_t qlock_client_pass(const uint8_t *state, size_t n, uint8_t *pass, size_t 
 /* Writes 1 to `*yes` if all members of some of these `n` quorums are among `voters`, also a mask, and 0 if not: whether the voters
    that answered, or that are there, are enough.
 
-   QLOCK_BAD_ARGUMENT  `n` is 0, or a mask is 0 */
+   QLOCK_BAD_ARGUMENT  `n` is 0, or one of the `masks` is 0 (`voters` may be 0) */
 int32_t qlock_has_quorum(const uint64_t *masks, size_t n, uint64_t voters, int32_t *yes);
 
 /* Writes 1 to `*yes` if each of the `n` first quorums has a common member with each of the `m` second ones, and 0 if not. Then the

@@ -314,7 +314,8 @@ class Fence(_State):
 
     def admit(self, shown: bytes) -> int:
         """Admits a pass, as `Client.show_pass` returns it, and returns its turn: a fencing token, which is greater for each later
-        request. Raises `OlderGrant` if a newer pass was admitted before, and `NoPass` if this one has no grant."""
+        request, as long as only passes are shown that clients had. Raises `OlderGrant` if a newer pass was admitted before, and
+        `NoPass` if this one has no grant."""
         turn = ctypes.c_uint64()
         call("fence_admit", *self._given(), shown, len(shown), ctypes.byref(turn))
         return turn.value

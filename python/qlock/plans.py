@@ -23,7 +23,7 @@ class Order(enum.IntEnum):
     """An order of a plan's tickets. In both, the tickets of whole cycles use each quorum as often as the plan says."""
 
     BY_ROUNDS = 0
-    """as `qlock deal`: each quorum once, then those of weight 2 or more once more, and so on"""
+    """as `qlock deal`: each quorum of weight 1 or more once, then those of weight 2 or more once more, and so on"""
     EVEN = 1
     """even from the first ticket, whichever it is: `Plan.slack` says how even"""
 
@@ -100,7 +100,7 @@ class Plan:
         self.names = names_of(coterie)
         """the names of the voters, in the order of their numbers"""
         self.capacities = self._capacities()
-        """the capacities of the voters: of a voter of capacity 2 the plan asks twice as much as of one of capacity 1"""
+        """the capacities of the voters: one of capacity 2 may be asked twice as often as one of capacity 1 for the same load"""
         self._masks: Dict[Order, "array[int]"] = {}
         self._quorums: Dict[int, Quorum] = {}
 

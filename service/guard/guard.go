@@ -3,8 +3,8 @@
 //
 // A client can lose a lock without noticing it: it stood still for longer than the TTL. Then it goes on writing. The place
 // that the lock protects keeps a guard, and admits each write by the pass that the client shows (locks.Held.Token). Any two
-// passes share a voter, and a voter numbers its grants. So of two passes one shows a newer grant of some voter, and once
-// this one was admitted the other is refused.
+// passes of one plan, or of a plan and the next one, share a voter, and a voter numbers its grants. So of two such passes
+// one shows a newer grant of some voter, and once this one was admitted the other is refused.
 //
 // What a user of a guard has to do:
 //
@@ -42,7 +42,8 @@ var (
 func New() []byte { return make([]byte, Bytes) }
 
 // Admit admits a pass, and returns the new state of the guard and the turn of the pass: a fencing token, the same for all
-// shows of one pass, and greater for each pass that is admitted later. Keep the new state in the transaction that writes.
+// shows of one pass, and greater for each pass that is admitted later, as long as only passes are shown that clients had.
+// Keep the new state in the transaction that writes.
 func Admit(state, pass []byte) (next []byte, turn uint64, err error) {
 	if len(state) != Bytes {
 		return nil, 0, ErrState

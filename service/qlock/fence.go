@@ -27,7 +27,9 @@ func RestoreFence(state []byte) (*Fence, error) {
 func (f *Fence) State() []byte { return f.state[:] }
 
 // Admit admits a pass and returns its turn, the fencing token: one number, the same for all shows of one pass, and
-// greater for each pass that is admitted later. It returns OlderGrant if somebody entered since.
+// greater for each pass that is admitted later, as long as only passes are shown that clients had. It returns OlderGrant
+// if a pass with a newer grant of some voter was admitted before, NoPass if this one has no grant, and TurnsSpent at the
+// last turn.
 func (f *Fence) Admit(pass []byte) (turn uint64, err error) {
 	var number C.uint64_t
 	err = refusal(C.qlock_fence_admit(at(f.state[:]), FenceBytes, at(pass), C.size_t(len(pass)), &number))

@@ -15,8 +15,8 @@
 //!
 //! - Each call is exactly its incident of `leases` (`specs/Incidents.antt` there), or fails, says why, and
 //!   changes nothing. So the laws of `leases` hold of what these calls make.
-//! - Whatever befalls, clients, voters and messages stay numbered and in range, and each message has a
-//!   line of text ([`worlds_stay_fit`]).
+//! - Whatever befalls, clients, voters and messages stay numbered and in range. Each message has a line of
+//!   text, if those have one that nobody sent ([`worlds_stay_fit`]).
 //! - As long as nothing but steps and restarts happened, at most one client is inside at a time, and the
 //!   world can be turned into a [`World`](world::World) ([`worlds_stay_calm`]).
 //!

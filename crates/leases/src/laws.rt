@@ -135,8 +135,8 @@ pub fn turns_name_requests()
 }
 
 /// Exclusion comes back: after evictions, rebirths and clients that start anew and disclaim, once all
-/// clients are idle, as they are and as saved, at most one is inside at a time for as long as no more
-/// befall.
+/// clients are idle, as they are and as saved, at most one is inside at a time for as long as there are
+/// steps, saves, losses, crashes and restarts alone.
 pub fn exclusion_comes_back()
     ensures { (voters clients limit : ℕ) (quorums : List (List ℕ)) (deal : Dealing) (incidents : List Incident)
         (happenings : List Happening)

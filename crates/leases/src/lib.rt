@@ -36,7 +36,7 @@
 //! - **at most one is inside, also while clients start anew**, as long as no grant is let go and a voter
 //!   is reborn only when all clients are done with it ([`at_most_one_is_inside_with_rebirths`]);
 //! - after evictions, rebirths and clients anew, once all clients are idle, as they are and as saved, at
-//!   most one is inside for as long as no more befall ([`exclusion_comes_back`]);
+//!   most one is inside for as long as no incident befalls ([`exclusion_comes_back`]);
 //! - after these, once all clients are idle as they are, **requests get on again**: the laws of `progress`
 //!   that name no rounds hold ([`progress_comes_back`]);
 //! - no request up to a stamp that a voter has finished is known there again, while the voter keeps its
@@ -52,8 +52,9 @@
 //!
 //! A voter's process may be a [`VoterNode`](voter_node::VoterNode), which takes many messages before it is
 //! saved, and sends after it. Its runs are incidents too ([`nodes_run_as_incidents`]), and so are those of a
-//! service with a node for each voter ([`services_run_as_incidents`]). So all of this holds for services
-//! made of nodes (`src/node_runs.rt`).
+//! service with a node for each voter, while no voter's limit changes ([`services_run_as_incidents`]). So
+//! all of this holds for these; what is said of clients inside, if all messages to them were sent
+//! (`src/node_runs.rt`).
 //!
 //! Fencing tokens are from Gray and Cheriton's leases (SOSP 1989) and Burrows' sequencers (Chubby, OSDI
 //! 2006). Here a token is one number for each voter, as votes of one quorum have no common counter.

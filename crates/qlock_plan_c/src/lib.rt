@@ -11,8 +11,8 @@
 //! `include/qlock_plan.h` at the top of the repository says the same for C, and `docs/embedding.md`
 //! how to use it.
 //!
-//! What is written is a stated function of the texts, and each end of a call is stated:
-//! `specs/Calls.antt`. Only where memory ends is not.
+//! What is written is a stated function of the texts, for `qlock_plan` the text of an optimal plan, and each
+//! end of a call is stated: `specs/Calls.antt`. Only where memory ends is not.
 //!
 //! Depends on `plan_inputs`, `coterie_file`, `certificate`, `planner`, `dealer`, `even`, `quorum_set`, `words` and
 //! `numbers`.

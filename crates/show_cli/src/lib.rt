@@ -12,7 +12,7 @@
 //!
 //! - the input has the parts that the command needs: a plan of a coterie, one coterie or two, or a story
 //!   whose coteries go together;
-//! - of `without` and `waiting` the whole page is determined;
+//! - of `without`, `waiting` and `coterie` the whole page is determined;
 //! - of `explain` the code is, but not what the text says; the page of all faults and the list of their
 //!   lines have each code once, in order;
 //! - a `fault` page ends with the code of a fault with which `qlock` may refuse the input, or it says

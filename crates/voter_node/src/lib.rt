@@ -23,8 +23,8 @@
 //!
 //! Each call is the step of `specs/Nodes.antt`. A host that restarts by forgetting and leaves saves out
 //! finds the same after a crash as if it had saved each time ([`saves_may_be_left_out`]). The runs of a
-//! node are those of a voter in a world of incidents (`nodes_run_as_incidents` of `leases`), so the laws
-//! of `leases` hold for services that are made of nodes (`services_run_as_incidents`).
+//! node are those of a voter in a world of incidents (`nodes_run_as_incidents` of `leases`). The laws of
+//! `leases` hold for services that are made of nodes, as `services_run_as_incidents` there says.
 //!
 //! Depends on `voter`, `message` and `numbers`.
 //!

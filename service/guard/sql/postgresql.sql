@@ -13,14 +13,14 @@ CREATE TABLE qlock_guard (
     seen bigint[] NOT NULL DEFAULT array_fill(0::bigint, ARRAY[64])    -- the newest grant of each voter
 );
 
--- Returns the number at a place of a pass, 0 to 63. Grants are below 2^40, so they fit.
+-- Returns the number at a place of a pass, 0 to 63. Grants are at most 2^40, so they fit.
 CREATE FUNCTION qlock_grant(pass bytea, voter integer) RETURNS bigint
 LANGUAGE sql IMMUTABLE STRICT AS $$
     SELECT sum(get_byte(pass, 8 * voter + i)::bigint << (8 * i))::bigint FROM generate_series(0, 7) AS i
 $$;
 
--- Admits a pass, and returns its turn: the same for all shows of one pass, and greater for each later one. The row is
--- locked until the transaction ends, so two writers come one after the other.
+-- Admits a pass, and returns its turn: the same for all shows of one pass, and greater for each later one, as long as only
+-- passes are shown that clients had. The row is locked until the transaction ends, so two writers come one after the other.
 CREATE FUNCTION qlock_admit(guard text, pass bytea) RETURNS bigint
 LANGUAGE plpgsql AS $$
 DECLARE
