@@ -118,7 +118,11 @@ func run(o options) error {
 		p.fail(errInterrupted)
 	}()
 	began, mover := time.Now(), newMover(p)
-	for err == nil && (time.Since(began) < o.length || w.look().Passes < o.passes) && !(o.open && w.look().faults() > 0) {
+	// that a lock is lost while it is held is a matter of luck, so it goes on until one was, at most for thrice the time
+	lacks := func(f findings) bool {
+		return f.Passes < o.passes || !o.open && f.Lost == 0 && time.Since(began) < 3*o.length
+	}
+	for err == nil && (time.Since(began) < o.length || lacks(w.look())) && !(o.open && w.look().faults() > 0) {
 		if err = p.calm(); err == nil {
 			err = p.check()
 		}

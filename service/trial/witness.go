@@ -122,6 +122,8 @@ func (w *witness) judge(name string, words []string) string {
 	case "lost":
 		delete(w.place(words[1]).inside, name)
 		w.found.Lost++
+	case "lapsed": // who left heard only from Unlock that it was lost
+		w.found.Lost++
 	case "leave":
 		delete(w.place(words[1]).inside, name)
 		one.excused = false

@@ -164,14 +164,14 @@ func pass(m *mouth, client *locks.Client, place string) error {
 		return err
 	}
 	m.say("enter %s", place)
-	left := make(chan struct{})
-	reported := make(chan struct{})
+	left, told := make(chan struct{}), make(chan bool)
 	go func() {
-		defer close(reported)
 		select {
 		case <-held.Lost():
 			m.say("lost %s", place)
+			told <- true
 		case <-left:
+			told <- false
 		}
 	}()
 	token := hex.EncodeToString(held.Token())
@@ -181,12 +181,16 @@ func pass(m *mouth, client *locks.Client, place string) error {
 		}
 	}
 	close(left)
-	<-reported
+	isTold := <-told
 	m.say("leave %s", place)
-	if err := held.Unlock(); !errors.Is(err, locks.ErrLapsed) {
+	err = held.Unlock()
+	if !errors.Is(err, locks.ErrLapsed) {
 		return err
 	}
-	return nil // that it was lost is nothing new here
+	if !isTold {
+		m.say("lapsed")
+	}
+	return nil
 }
 
 // addOne adds one to the count of a place, and returns whether the guard let it.
