@@ -161,7 +161,7 @@ func (p *player) stop(from []*local.Process, length time.Duration) {
 		return
 	}
 	process := fmt.Sprintf("%s-%d", one.Name, one.Pid())
-	for i := 0; i < 200 && from[0] == p.workers[0] && !p.witness.isInside(process); i++ {
+	for i := 0; i < 2000 && from[0] == p.workers[0] && !p.witness.isInside(process); i++ {
 		time.Sleep(time.Millisecond) // a client stands still while it is inside, if it comes inside soon
 	}
 	one.Signal(syscall.SIGSTOP)

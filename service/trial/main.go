@@ -120,7 +120,7 @@ func run(o options) error {
 	began, mover := time.Now(), newMover(p)
 	// that a lock is lost while it is held is a matter of luck, so it goes on until one was, at most for thrice the time
 	lacks := func(f findings) bool {
-		return f.Passes < o.passes || !o.open && f.Lost == 0 && time.Since(began) < 3*o.length
+		return f.Passes < o.passes || !o.open && f.losses() == 0 && time.Since(began) < 3*o.length
 	}
 	for err == nil && (time.Since(began) < o.length || lacks(w.look())) && !(o.open && w.look().faults() > 0) {
 		if err = p.calm(); err == nil {
@@ -174,7 +174,7 @@ func verdict(f findings, counts map[string]int, o options) error {
 	if o.exchange != "" && counts[exchanged] < 2 {
 		return fmt.Errorf("%w: the plan was not exchanged and back", errFaults)
 	}
-	if f.Passes == 0 || f.Lost == 0 {
+	if f.Passes == 0 || f.losses() == 0 {
 		return fmt.Errorf("%w: too little happened", errFaults)
 	}
 	for _, kind := range kinds {

@@ -42,6 +42,9 @@ type findings struct {
 // faults returns how many faults were found.
 func (f findings) faults() int { return f.TwoInside + f.Torn + f.LostUpdates + f.LongWaits }
 
+// losses returns how often something showed that a lock was lost while it was held.
+func (f findings) losses() int { return f.Lost + f.Met + f.Refused }
+
 // witness judges. It is outside of the workers' processes, and calls the library only for the guard.
 type witness struct {
 	mutex    sync.Mutex
