@@ -118,7 +118,7 @@ func run(o options) error {
 		p.fail(errInterrupted)
 	}()
 	began, mover := time.Now(), newMover(p)
-	// that a lock is lost while it is held is a matter of luck, so it goes on until one was, at most for thrice the time
+	// that a lock is lost while it is held is a matter of luck, so it goes on until something shows it, at most for thrice the time
 	lacks := func(f findings) bool {
 		return f.Passes < o.passes || !o.open && f.losses() == 0 && time.Since(began) < 3*o.length
 	}

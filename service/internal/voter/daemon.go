@@ -60,8 +60,8 @@ type Daemon struct {
 
 	older           bool              // a session heard of a later save than this state has
 	begun           uint64            // how often the state was saved before this run, or before told was emptied
-	told            map[string]uint64 // the last count of saves that a session heard of this run
-	done            map[string][]byte // replies to what operators let go, by the names of their questions
+	told            map[string]uint64 // the last count of saves that a session heard of this run, once it spoke in it
+	done            map[string][]byte // replies to what operators let go, by their questions
 	messages, admin <-chan []byte
 	started         time.Time
 	granted         uint64       // grants given since then
@@ -228,6 +228,9 @@ func (d *Daemon) take(message []byte, now time.Time) {
 		d.older = true // nothing leaves any more
 		return
 	}
+	if _, spoke := d.told[h.Name]; !spoke {
+		d.told[h.Name] = d.begun
+	}
 	if h.Epoch > 0 {
 		switch d.table.admit(h.Number, h.Name, h.Epoch, h.Reserved, now) {
 		case taken:
@@ -249,7 +252,8 @@ func (d *Daemon) take(message []byte, now time.Time) {
 }
 
 // isBehind returns whether the sender heard of a save that this state does not have: one of an earlier run, as this run did not
-// tell it. How often this run saved doesn't matter.
+// tell it. How often this run saved doesn't matter. Until a session spoke in this run it is told the count from before it: else
+// a greater one would hide what it heard.
 func (d *Daemon) isBehind(h wire.Header) bool {
 	return h.Saves > d.begun && h.Saves > d.told[h.Name]
 }
@@ -486,7 +490,11 @@ func (d *Daemon) deliver() {
 		d.begun, d.told = d.store.saves, map[string]uint64{}
 	}
 	for session, lines := range d.out {
-		d.told[session] = header.Saves
+		header.Saves = d.begun
+		if _, spoke := d.told[session]; spoke {
+			header.Saves = d.store.saves
+			d.told[session] = header.Saves
+		}
 		box := wire.SessionBox(meta.Cluster, session)
 		header.Coterie = d.speaks(session)
 		header.Split(lines, func(message []byte) { d.post(box, message) })

@@ -9,6 +9,7 @@ import (
 
 	"calvundek.example/service/internal/config"
 	"calvundek.example/service/internal/event"
+	"calvundek.example/service/internal/wire"
 	"calvundek.example/service/qlock"
 )
 
@@ -45,6 +46,28 @@ func TestLongStatus(t *testing.T) {
 	var got Status
 	if err := json.Unmarshal(text, &got); err != nil || len(got.Votes) == 0 || got.Dropped+len(got.Votes) != 400 {
 		t.Error(len(got.Votes), got.Dropped, err)
+	}
+}
+
+// post is a carrier that keeps what was sent.
+type post struct{ sent [][]byte }
+
+func (p *post) Send(_ string, message []byte) error { p.sent = append(p.sent, message); return nil }
+
+func (p *post) Listen(string) (<-chan []byte, error) { return nil, nil }
+
+// What a voter tells a session before that one spoke hides no save of which it heard before.
+func TestReminderOfAnOlderCopy(t *testing.T) {
+	carrier := new(post)
+	d := &Daemon{store: &store{meta: Meta{Cluster: "test", Identity: "copy"}, saves: 106}, carrier: carrier, m: newMetrics(), mark: "mark", begun: 100,
+		told: map[string]uint64{}, out: map[string][]byte{"me": []byte("orders inquire 0 0 1 1\n")}}
+	d.deliver()
+	h, _, err := wire.Read(carrier.sent[0])
+	if err != nil || h.Saves > 100 {
+		t.Error(h.Saves, err)
+	}
+	if !d.isBehind(wire.Header{Name: "me", Saves: 105}) {
+		t.Error("a reminder hides that this is an older copy")
 	}
 }
 

@@ -84,25 +84,26 @@ func (d *Daemon) operate(message []byte, now time.Time) {
 		d.m.foreign.Inc()
 		return
 	}
-	reply, isDone := d.done[h.Name]
+	question := h.Name + " " + string(lines)
+	reply, isDone := d.done[question]
 	if !isDone {
 		words := strings.Fields(string(lines))
 		if reply, err = written(d.obey(words, now)); err != nil {
 			reply = []byte(`{"error":"no reply can be written"}`)
 		}
 		if len(words) > 0 && (words[0] == "evict" || words[0] == "unlock") {
-			d.noteDone(h.Name, reply)
+			d.noteDone(question, reply)
 		}
 	}
 	d.replies[wire.OperatorBox(d.cluster.ID, h.Name)] = answer{h.Coterie, reply}
 }
 
-// noteDone keeps the reply to a question, whose name is its own, so that a question that comes again lets nothing else go.
-func (d *Daemon) noteDone(name string, reply []byte) {
+// noteDone keeps the reply to a question, which has a name of its own, so that one that comes again lets nothing else go.
+func (d *Daemon) noteDone(question string, reply []byte) {
 	if len(d.done) >= mostDone {
 		d.done = map[string][]byte{}
 	}
-	d.done[name] = reply
+	d.done[question] = reply
 }
 
 // written returns a reply as JSON. A status that is too long for one message shows fewer votes.
