@@ -54,12 +54,13 @@ use Rattle.leases.proofs.Raises.{no_inquiry, raised_by_step}
 use Rattle.leases.specs.Orderly.{EndsOld}
 use Rattle.leases.proofs.Rebirths.{ends_within}
 use Rattle.leases.specs.Comeback.{AllIdle, AreLawful, IsEviction, IsLawful, unseen}
-use Rattle.leases.proofs.Numbers.{AsksInRange, befalls_on, begin_on, both, length_map, nobody}
+use Rattle.passes.proofs.Requests.{both}
+use Rattle.leases.proofs.Numbers.{AsksInRange, befalls_on, begin_on, length_map, nobody}
 use Rattle.world.proofs.Restarts.{SavedOk, all_ok}
 use Rattle.world.proofs.Reached.{accepts_among}
 use Rattle.world.proofs.VoterMoves.{more_granted}
-use Rattle.world.proofs.Claims.{AskOk, IsClient, MessageOk, ReportOk, WorldOk, Bounds, put-same}
-use Rattle.world.proofs.Places.{client_at-set}
+use Rattle.world.proofs.Claims.{AskOk, IsClient, MessageOk, ReportOk, WorldOk, Bounds}
+use Rattle.world.proofs.Places.{client_here}
 use Rattle.world.proofs.Reached.{Given, new_voters, start_ok, start_unused, voter_new, voter_past}
 use Rattle.quorum_set.specs.declared.bridge.Side.{Side}
 use Rattle.quorum_set.specs.declared.bridge.Side.TheVariants.{First, Second}
@@ -322,9 +323,6 @@ count_within b G s num v =
     let far = y.limit in
     omega arith
 
-client_set_same : (cs : List ClientState) (c : ℕ) (x : ClientState) → c < length cs → client_at (slice_set cs c x) c ≡ x
-client_set_same cs c x within = ap (λ (f : ℕ → ClientState). f c) (client_at-set cs c x within) ∙ put-same (client_at cs) c x
-
 -- ---- what clients do
 
 record Steps (b : Bounds) (s : Saved) (c : ℕ) (cause : client.Cause) : Type 0 where
@@ -377,9 +375,9 @@ client_settles b given G s num st c cause go o is silent e =
     let range = given.client.ranges x cause o was.sound go.accepts comes is in
     settle_by b s c o silent e gone from
     (out_fits b (count s.voters) (count_within b G s num) (slice_set s.clients c (client_at (slice_set s.live.clients c y) c)) c x y cause
-    (client_set_same s.clients c (client_at (slice_set s.live.clients c y) c) (subst (λ n. c < n) (sym num.sizes.2) go.within) ∙ client_set_same s.live.clients c y (subst (λ n. c < n) (sym num.sizes.0) go.within))
+    (client_here s.clients c (client_at (slice_set s.live.clients c y) c) (subst (λ n. c < n) (sym num.sizes.2) go.within) ∙ client_here s.live.clients c y (subst (λ n. c < n) (sym num.sizes.0) go.within))
     (was.id go.within) on (λ v t g locks. (go.came v t g locks).0) (kept.limit ∙ lim) (held_counted b G s num c) o.out kept.out range)
-    (client_set_same s.live.clients c y (subst (λ n. c < n) (sym num.sizes.0) go.within))
+    (client_here s.live.clients c y (subst (λ n. c < n) (sym num.sizes.0) go.within))
 
 with_draw_settled : (b : Bounds) (s : Saved) → Settled b s → (side : Side) (c : ℕ) → Settled b (record s { live = draw_of side s.live c })
 with_draw_settled b s st First c = record { sent = st.sent; live_voters = st.live_voters; voters = st.voters; behind = st.behind; last = st.last; last_saved = st.last_saved }
@@ -419,7 +417,7 @@ client_says b given G s num st c within n many false e =
     let k = slice_set s.clients c x in
     record {
       sent = AllByRecursion-append (Fits b (count s.voters) k) s.live.sent (map kinds.ToVoter (client.remind x)) u.sent
-          (repeats_fit b (count s.voters) (count_within b G s num) k c x (client_set_same s.clients c x (subst (λ q. c < q) (sym num.sizes.2) within)) (was.id within) (was.limit within) (st.last c) (client.remind x)
+          (repeats_fit b (count s.voters) (count_within b G s num) k c x (client_here s.clients c x (subst (λ q. c < q) (sym num.sizes.2) within)) (was.id within) (was.limit within) (st.last c) (client.remind x)
           (given.client.repeats x) (given.client.reminders x was.sound));
       live_voters = u.live_voters;
       voters = u.voters;
@@ -622,7 +620,7 @@ settled_anew b s st c clock true is =
     let behind = st.behind c in
     let u = live_goes b s st c z (omega arith) none in
     let t : Saved = record s { live = record s.live { clients = slice_set s.live.clients c z } } in
-    let there : client_at t.live.clients c ≡ z = client_set_same s.live.clients c z (ltb-true _ _ parts.0) in
+    let there : client_at t.live.clients c ≡ z = client_here s.live.clients c z (ltb-true _ _ parts.0) in
     let w = saved_goes b t u c z (omega arith) (subst (λ (y : ClientState). NotBehind z y) (sym there) (self z)) none in
     record { sent = w.sent; live_voters = w.live_voters; voters = w.voters; behind = w.behind; last = w.last; last_saved = w.last_saved }
 

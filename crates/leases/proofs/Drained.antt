@@ -1,46 +1,22 @@
 -- requests that are finished stay out
-use Rattle.std.proofs.Common.{◌≡◌, ℕ, ◌≤◌, Bool, true, false, List, length, Option, Some, None, refl, sym, ap, subst, ◌∙◌, inl, inr, arith}
+use Rattle.std.proofs.Common.{◌≡◌, ℕ, ◌≤◌, Bool, true, false, List, length, Some, refl, sym, ap, subst, ◌∙◌, inl, inr, arith}
 use Rattle.std.specs.Prelude.{max, slice_index, slice_set}
 use Rattle.std.proofs.Math.Nat.{max-eq_left, max-eq_right}
 use Rattle.std.proofs.lemmas.Bool.{cases_lt, cases_eq, false≢true}
 use Rattle.std.proofs.lemmas.List.{get_or-set_same, get_or-set_other, set_past}
 use Rattle.message.specs.declared.message.ToVoter.{ToVoter}
-use Rattle.message.specs.declared.request.Request.{Request}
 use Rattle.message.specs.declared.message.VoterBody.{VoterBody}
 use Rattle.message.specs.declared.message.VoterBody.TheVariants as asks
-use Rattle.voter.specs.declared.state.Grant.{Grant}
 use Rattle.voter.specs.declared.state.VoterState.{VoterState}
-use Rattle.voter.specs.Waiting.{front}
-use Rattle.voter.specs.Steps.{Outcome, admit, finish, free_vote, grant_front, grant_to, join_queue, join_queue_by, outcome_of, queue, see, step, take_release, take_relinquish, take_request}
+use Rattle.voter.specs.Steps.{Outcome, admit, free_vote, outcome_of, queue, see, step, take_release, take_relinquish, take_request}
 use Rattle.voter.specs.VoterContract.{Brings}
-use Rattle.voter.proofs.Cases.{by_admit, by_release, by_relinquish, by_request}
+use Rattle.voter.proofs.Cases.{by_relinquish, by_request}
 use Rattle.voter.proofs.Effects.{step-Some}
+use Rattle.voter.proofs.Finished.{Same, finished-take_release, same-admit, same-grant_front}
 use Rattle.world.specs.Rules.{VoterLaws}
 use Rattle.leases.specs.Drained.{AsksNoMore, IsOut}
 
 -- ---- finished stamps never fall
-
-abbrev Same : VoterState → VoterState → Type 0
-Same v w = w.finished ≡ v.finished
-
-same-grant_to : (v : VoterState) (o : Option Request) → Same v (grant_to v o).state
-same-grant_to v None = refl
-same-grant_to v (Some r) = refl
-
-same-grant_front : (v : VoterState) → Same v (grant_front v).state
-unfolding grant_front
-same-grant_front v = same-grant_to v (front v.waiting)
-
-same-join_queue_by : (waits granted : Bool) (v : VoterState) (g : Grant) (c s : ℕ) → Same v (join_queue_by waits granted v g c s).state
-same-join_queue_by false true v g c s = refl
-same-join_queue_by waits granted v g c s = refl
-
-same-admit : (v : VoterState) (c s : ℕ) → Same v (admit v c s).state
-unfolding join_queue
-same-admit v c s = by_admit (λ o. Same v o.state) v c s (λ _. same-grant_front (queue v c s)) (λ g _. same-join_queue_by _ _ v g c s)
-
-finished-take_release : (v : VoterState) (c s : ℕ) → (take_release v c s).state.finished ≡ (finish v c s).finished
-finished-take_release v c s = by_release (λ o. o.state.finished ≡ (finish v c s).finished) v c s (λ _. same-grant_front (free_vote (finish v c s))) (λ _ _. refl) (λ _ _. refl)
 
 at_least_max : (a b : ℕ) → a ≤ max a b
 at_least_max a b = elim (cases_lt a b) [

@@ -1,24 +1,31 @@
 -- what a guard admits, and in which order
-use Rattle.std.proofs.Common.{◌≡◌, ℕ, zero, suc, ◌<◌, ◌≤◌, true, List, [], ◌∷◌, ◌++◌, map, take, refl, sym, ap, subst, ◌∙◌, ◌⊎◌, inl, inr, arith}
-use Rattle.std.specs.Prelude.{max, slice_index}
+use Rattle.std.proofs.Common.{◌≡◌, ℕ, zero, suc, ◌≤◌, true, List, [], ◌∷◌, ◌++◌, take, refl, sym, ap, subst, ◌∙◌, ◌⊎◌, inl, inr, arith}
+use Rattle.std.specs.Prelude.{slice_index}
 use Rattle.std.specs.List.{AllByRecursion}
-use Rattle.std.proofs.Math.Nat.{max-eq_left, max-eq_right}
 use Rattle.std.proofs.lemmas.Bool.Decides.{nat_tests}
-use Rattle.std.proofs.lemmas.Bool.{cases_lt}
 use Rattle.std.proofs.lemmas.Option.{same_Some}
 use Rattle.voter.specs.declared.state.Grant.{Grant}
-use Rattle.world.specs.Restarts.{IsIn, Saved, begin, pass_of, stamp_of}
+use Rattle.world.specs.Restarts.{IsIn, IsSameRequest, Saved, begin, pass_of, stamp_of}
 use Rattle.world.specs.Runs.{AreLimits}
 use Rattle.world_state.specs.Steps.{Dealing, client_at}
 use Rattle.world.specs.Visible.{DealsFrom, DoMeet}
 use Rattle.world.specs.Rules.{ClientLaws, VoterLaws}
 use Rattle.world.proofs.Claims.{Bounds}
 use Rattle.world.proofs.Reached.{Given}
-use Rattle.leases.specs.Incidents.{AreApart, Incident, all_befall, befalls}
+use Rattle.leases.specs.Incidents.{Incident, all_befall, befalls}
 use Rattle.fence.specs.Passes.{Admits, is_not_older}
-use Rattle.leases.specs.Shows.{AreAdmitted, AreInOrder, AreOfOne, ComesTogether, DoNotInterleave, Follows, HasSeenOnly, IsCurrent, IsNotOlder, Show, Story, WasIn, pass_in, world_at}
+use Rattle.leases.specs.Shows.{HasSeenOnly, IsCurrent, IsShown, Show, Story, WasIn, pass_in, world_at}
+use Rattle.passes.specs.Grants.{AreApart, AreOfOne, Giving, IsCoterie, IsPass, Pass, ShareQuorum}
+use Rattle.passes.specs.Guarded.{AreAdmitted, AreEntered, AreInOrder, DoNotInterleave, Entry, HaveOnePassEach, RequestsHaveOneTurn, ShowTheSame, TurnsTellRequests}
+use Rattle.passes.proofs.Guards.{NamesRequests, in_order, no_interleaving, own_quorum, requests_apart}
+use Rattle.passes.proofs.Guards.{two_passes}
+use Rattle.passes.proofs.Turns.{one_turn, turns}
+use Rattle.numbers.proofs.Lists.{AllByRecursion-weaker}
+use Rattle.requester.specs.declared.state.ClientState.{ClientState}
+use Rattle.requester.specs.Words.{held_of, is_inside, members}
 use Rattle.leases.proofs.Passes.{one_pass}
-use Rattle.leases.proofs.Numbers.{all_on, under_grant, Further, Knows, Naming, Numbered, begin_on, befalls_on, count, knows_on, nobody, same_number, two_inside, two_passes}
+use Rattle.passes.proofs.Requests.{has_grant, list_all-holds, under_grant}
+use Rattle.leases.proofs.Numbers.{all_on, among_of, grant_of, Further, IsGrant, Knows, Naming, Numbered, begin_on, befalls_on, count, knows_on, nobody, same_number}
 
 -- ---- every client at every moment
 
@@ -57,46 +64,6 @@ whole b given deal deals G s ok (i ∷ is) =
     let f = join G one.named rest.named (count s.voters) (count (befalls deal s i).voters) (count (all_befall deal (i ∷ is) s).voters) one.further rest.further in
     record { named = rest.named; further = f; every = next_moments b deal G rest.named s i is ok f rest.every }
 
--- ---- the guard
-
-not_older : (seen pass : List ℕ) → Admits seen pass → (first : List ℕ) → ((v : ℕ) → v < 64 → slice_index first v ≤ slice_index seen v) → IsNotOlder first pass
-not_older seen pass admits first has v few some =
-    let e = admits v few in
-    let least : slice_index seen v ≤ slice_index pass v = grind (arith, nat_tests) in
-    let most = has v few in
-    omega arith
-
-pub at_least : (a c m : ℕ) → m ≡ max a c → (a ≤ m) × (c ≤ m)
-at_least a c m is = elim (cases_lt a c) [
-  | inl less ↦ let same : m ≡ c = is ∙ max-eq_right (omega arith) in (omega arith, omega arith)
-  | inr most ↦ let same : m ≡ a = is ∙ max-eq_left most in (omega arith, omega arith)
-]
-
-later_ones : (story : Story) (first seen : List ℕ) → ((v : ℕ) → v < 64 → slice_index first v ≤ slice_index seen v) → (ws : List Show) → AreAdmitted seen (map (pass_in story) ws)
-    → AllByRecursion (λ w. IsNotOlder first (pass_in story w)) ws
-later_ones story first seen has [] admitted = tt
-later_ones story first seen has (w ∷ ws) admitted = (
-  not_older seen (pass_in story w) admitted.0 first has,
-  later_ones story first admitted.1.0 (λ v few. let up = at_least (slice_index seen v) (slice_index (pass_in story w) v) (slice_index admitted.1.0 v) (admitted.1.1 v few) in
-      let low = up.0 in let most = has v few in omega arith) ws admitted.1.2,
-)
-
-all_follow : (story : Story) (w : Show) → ((u : Show) → WasIn story u → AreOfOne story w u ⊎ AreApart (pass_in story w) (pass_in story u)) → (ws : List Show) → AllByRecursion (WasIn story) ws
-    → AllByRecursion (λ u. IsNotOlder (pass_in story w) (pass_in story u)) ws → AllByRecursion (Follows story w) ws
-all_follow story w pairs [] ins older = tt
-all_follow story w pairs (u ∷ us) ins older = ((older.0, pairs u ins.0), all_follow story w pairs us ins.1 older.1)
-
-in_order : (story : Story) → ((w u : Show) → WasIn story w → WasIn story u → AreOfOne story w u ⊎ AreApart (pass_in story w) (pass_in story u))
-    → (seen : List ℕ) (ws : List Show) → AllByRecursion (WasIn story) ws → AreAdmitted seen (map (pass_in story) ws) → AreInOrder story ws
-in_order story pairs seen [] ins admitted = tt
-in_order story pairs seen (w ∷ ws) ins admitted =
-    let after = admitted.1.0 in
-    let has : (v : ℕ) → v < 64 → slice_index (pass_in story w) v ≤ slice_index after v = λ v few.
-    (at_least (slice_index seen v) (slice_index (pass_in story w) v) (slice_index after v) (admitted.1.1 v few)).1 in (
-      all_follow story w (λ u inside. pairs w u ins.0 inside) ws ins.1 (later_ones story (pass_in story w) after has ws admitted.1.2),
-      in_order story pairs after ws ins.1 admitted.1.2,
-    )
-
 -- ---- two moments
 
 pub befall-append : (deal : Dealing) (is js : List Incident) (s : Saved) → all_befall deal (is ++ js) s ≡ all_befall deal js (all_befall deal is s)
@@ -133,7 +100,7 @@ story_of voters clients limit deal incidents = record { deal = deal; first = beg
 
 pub same_pass : ClientLaws → VoterLaws → (voters clients limit : ℕ) (quorums : List (List ℕ)) (deal : Dealing) (incidents : List Incident) (w x : Show)
     → AreLimits voters clients limit → DoMeet voters quorums → DealsFrom quorums deal
-    → WasIn (story_of voters clients limit deal incidents) w → WasIn (story_of voters clients limit deal incidents) x → AreOfOne (story_of voters clients limit deal incidents) w x
+    → WasIn (story_of voters clients limit deal incidents) w → WasIn (story_of voters clients limit deal incidents) x → IsSameRequest (world_at (story_of voters clients limit deal incidents) w.moment) w.client (world_at (story_of voters clients limit deal incidents) x.moment) x.client
     → pass_in (story_of voters clients limit deal incidents) w ≡ pass_in (story_of voters clients limit deal incidents) x
 same_pass cs vs voters clients limit quorums deal incidents w x limits meets deals in_w in_x one =
     let first = begin voters clients limit in
@@ -148,52 +115,129 @@ same_pass cs vs voters clients limit quorums deal incidents w x limits meets dea
     ] in
     subst (λ (k : ℕ). pass_of s c ≡ pass_of t k) one.0 passes
 
--- ---- no interleaving
+-- ---- what is shown is a pass
 
-abbrev OnePass : Story → Type 0
-OnePass story = (w x : Show) → WasIn story w → WasIn story x → AreOfOne story w x → pass_in story w ≡ pass_in story x
+-- the grants that clients have
+abbrev giving : Naming → (ℕ → ℕ) → Giving
+giving G N v c s g = IsGrant G N v c s g
 
-never_again : (story : Story) → OnePass story → (w u : Show) → WasIn story w → AreApart (pass_in story w) (pass_in story u) → IsNotOlder (pass_in story w) (pass_in story u)
-    → (us : List Show) → AllByRecursion (WasIn story) us → AllByRecursion (Follows story u) us → AllByRecursion (λ x. AreOfOne story w x → ⊥) us
-never_again story one w u in_w apart older [] ins follow = tt
-never_again story one w u in_w apart older (x ∷ xs) ins follow = (
-  λ of_one.
-      let v = apart.voter in
-      let some = apart.second_has in
-      let first_some = apart.first_has in
-      let at_w = older v apart.within apart.second_has in
-      let as_x : slice_index (pass_in story w) v ≡ slice_index (pass_in story x) v = ap (λ (p : List ℕ). slice_index p v) (one w x in_w ins.0 of_one) in
-      let at_x = follow.0.0 v apart.within (omega arith) in
-      apart.apart v apart.first_has (omega arith),
-  never_again story one w u in_w apart older xs ins.1 follow.1,
-)
+names : (G : Naming) (N : ℕ → ℕ) → NamesRequests (giving G N)
+names G N v g c s d t one two =
+    let e : grant_of c s g ≡ grant_of d t g = sym one.0 ∙ two.0 in
+    (ap (λ (k : Grant). k.client) e, ap (λ (k : Grant). k.stamp) e)
 
-together : (story : Story) → OnePass story → (w : Show) (ws : List Show) → WasIn story w → AllByRecursion (WasIn story) ws → AllByRecursion (Follows story w) ws → AreInOrder story ws → ComesTogether story w ws
-together story one w [] in_w ins follow order = tt
-together story one w (u ∷ us) in_w ins follow order = elim follow.0.1 [
-  | inl same ↦ inl (same, together story one w us in_w ins.1 follow.1 order.1)
-  | inr apart ↦ inr (never_again story one w u in_w apart follow.0.0 us ins.1 order.0)
-]
+knows_pass : (b : Bounds) (G : Naming) (N : ℕ → ℕ) (c : ℕ) (x : ClientState) → Knows b G N c x → is_inside x.phase ≡ true → IsPass b.quorums (giving G N) (record { client = c; stamp = x.stamp; grants = x.held })
+knows_pass b G N c x k inside = record {
+  quorum = members x;
+  among = among_of b G N c x k inside;
+  covers = λ v member. has_grant x v (list_all-holds x (members x) v (k.sound.inside inside) member);
+  given = λ v some. k.votes v (held_of x v) (under_grant x v some);
+}
 
-pub no_interleaving : (story : Story) → OnePass story → (ws : List Show) → AllByRecursion (WasIn story) ws → AreInOrder story ws → DoNotInterleave story ws
-no_interleaving story one [] ins order = tt
-no_interleaving story one (w ∷ ws) ins order = (together story one w ws ins.0 ins.1 order.0 order.1, no_interleaving story one ws ins.1 order.1)
+coterie : (b : Bounds) → Given b → IsCoterie b.voters b.quorums
+coterie b given = record { few = given.limits.few_voters; meets = given.meet.meets }
 
-pub admitted_in_order : ClientLaws → VoterLaws → (voters clients limit : ℕ) (quorums : List (List ℕ)) (deal : Dealing) (incidents : List Incident) (seen : List ℕ) (shows : List Show)
-    → AreLimits voters clients limit → DoMeet voters quorums → DealsFrom quorums deal
-    → AllByRecursion (WasIn (record { deal = deal; first = begin voters clients limit; incidents = incidents })) shows
-    → AreAdmitted seen (map (pass_in (record { deal = deal; first = begin voters clients limit; incidents = incidents })) shows)
-    → AreInOrder (record { deal = deal; first = begin voters clients limit; incidents = incidents }) shows
-admitted_in_order cs vs voters clients limit quorums deal incidents seen shows limits meets deals ins admitted =
+-- what a story's shows are: passes, by grants that have one name, and one pass for each request
+record Passes_of (quorums : List (List ℕ)) (voters : ℕ) (story : Story) : Type 0 where
+  named : Naming
+  most : ℕ → ℕ
+  coterie : IsCoterie voters quorums
+  passes : (p : Pass) → IsShown story p → IsPass quorums (giving named most) p
+  one : (p q : Pass) → IsShown story p → IsShown story q → AreOfOne p q → p.grants ≡ q.grants
+
+passes_of : ClientLaws → VoterLaws → (voters clients limit : ℕ) (quorums : List (List ℕ)) (deal : Dealing) (incidents : List Incident)
+    → AreLimits voters clients limit → DoMeet voters quorums → DealsFrom quorums deal → Passes_of quorums voters (story_of voters clients limit deal incidents)
+passes_of cs vs voters clients limit quorums deal incidents limits meets deals =
     let b : Bounds = record { voters = voters; clients = clients; limit = limit; quorums = quorums } in
     let given : Given b = record { client = cs; voter = vs; limits = limits; meet = meets } in
     let all = whole b given deal deals nobody (begin voters clients limit) (begin_on b given) incidents in
-    let story : Story = record { deal = deal; first = begin voters clients limit; incidents = incidents } in
-    in_order story (λ w u in_w in_u.
-    two_inside b limits.few_voters meets all.named (count (all_befall deal incidents (begin voters clients limit)).voters) w.client u.client
-    (client_at (world_at story w.moment).live.clients w.client) (client_at (world_at story u.moment).live.clients u.client)
-    (all.every w.moment w.client) (all.every u.moment u.client) in_w in_u)
-    seen shows ins admitted
+    let story = story_of voters clients limit deal incidents in
+    let N = count (all_befall deal incidents (begin voters clients limit)).voters in
+    record {
+      named = all.named;
+      most = N;
+      coterie = coterie b given;
+      passes = λ p is. subst (λ (q : Pass). IsPass quorums (giving all.named N) q) is.2
+          (knows_pass b all.named N is.0.client (client_at (world_at story is.0.moment).live.clients is.0.client) (all.every is.0.moment is.0.client) is.1);
+      one = λ p q is_p is_q same. sym (ap (λ (k : Pass). k.grants) is_p.2)
+          ∙ same_pass cs vs voters clients limit quorums deal incidents is_p.0 is_q.0 limits meets deals is_p.1 is_q.1
+          (ap (λ (k : Pass). k.client) is_p.2 ∙ same.0 ∙ sym (ap (λ (k : Pass). k.client) is_q.2), ap (λ (k : Pass). k.stamp) is_p.2 ∙ same.1 ∙ sym (ap (λ (k : Pass). k.stamp) is_q.2))
+          ∙ ap (λ (k : Pass). k.grants) is_q.2;
+    }
+
+pairs : (quorums : List (List ℕ)) (voters : ℕ) (story : Story) → (k : Passes_of quorums voters story) → (p q : Pass) → IsShown story p → IsShown story q → AreOfOne p q ⊎ AreApart p.grants q.grants
+pairs quorums voters story k p q is_p is_q = two_passes voters quorums (giving k.named k.most) k.coterie (names k.named k.most) p q (k.passes p is_p) (k.passes q is_q)
+
+one_each : (quorums : List (List ℕ)) (voters : ℕ) (story : Story) → (k : Passes_of quorums voters story) → (p : Pass) → IsShown story p → (ps : List Pass) → AllByRecursion (IsShown story) ps
+    → AllByRecursion (λ q. AreOfOne p q → ShareQuorum quorums p.grants q.grants) ps
+one_each quorums voters story k p is_p [] are = tt
+one_each quorums voters story k p is_p (q ∷ qs) are = (
+  λ same. own_quorum quorums (giving k.named k.most) p q.grants (k.passes p is_p) (k.one p q is_p are.0 same),
+  one_each quorums voters story k p is_p qs are.1,
+)
+
+all_one_each : (quorums : List (List ℕ)) (voters : ℕ) (story : Story) → Passes_of quorums voters story → (ps : List Pass) → AllByRecursion (IsShown story) ps → HaveOnePassEach quorums ps
+all_one_each quorums voters story k [] are = tt
+all_one_each quorums voters story k (p ∷ ps) are = (one_each quorums voters story k p are.0 ps are.1, all_one_each quorums voters story k ps are.1)
+
+same_each : (quorums : List (List ℕ)) (voters : ℕ) (story : Story) → (k : Passes_of quorums voters story) → (e : Entry) → IsShown story e.pass → (es : List Entry) → AllByRecursion (λ f. IsShown story f.pass) es
+    → AllByRecursion (λ f. AreOfOne e.pass f.pass → e.pass.grants ≡ f.pass.grants) es
+same_each quorums voters story k e is_e [] are = tt
+same_each quorums voters story k e is_e (f ∷ fs) are = (k.one e.pass f.pass is_e are.0, same_each quorums voters story k e is_e fs are.1)
+
+all_show_same : (quorums : List (List ℕ)) (voters : ℕ) (story : Story) → Passes_of quorums voters story → (es : List Entry) → AllByRecursion (λ f. IsShown story f.pass) es → ShowTheSame es
+all_show_same quorums voters story k [] are = tt
+all_show_same quorums voters story k (e ∷ es) are = (same_each quorums voters story k e are.0 es are.1, all_show_same quorums voters story k es are.1)
+
+pub admitted_in_order : ClientLaws → VoterLaws → (voters clients limit : ℕ) (quorums : List (List ℕ)) (deal : Dealing) (incidents : List Incident) (seen : List ℕ) (passes : List Pass)
+    → AreLimits voters clients limit → DoMeet voters quorums → DealsFrom quorums deal
+    → AllByRecursion (IsShown (story_of voters clients limit deal incidents)) passes → AreAdmitted seen passes → AreInOrder passes
+admitted_in_order cs vs voters clients limit quorums deal incidents seen passes limits meets deals are admitted =
+    let story = story_of voters clients limit deal incidents in
+    let k = passes_of cs vs voters clients limit quorums deal incidents limits meets deals in
+    in_order (IsShown story) (pairs quorums voters story k) seen passes are admitted
+
+pub not_interleaved : ClientLaws → VoterLaws → (voters clients limit : ℕ) (quorums : List (List ℕ)) (deal : Dealing) (incidents : List Incident) (passes : List Pass)
+    → AreLimits voters clients limit → DoMeet voters quorums → DealsFrom quorums deal
+    → AllByRecursion (IsShown (story_of voters clients limit deal incidents)) passes → AreInOrder passes → DoNotInterleave passes
+not_interleaved cs vs voters clients limit quorums deal incidents passes limits meets deals are order =
+    let story = story_of voters clients limit deal incidents in
+    let k = passes_of cs vs voters clients limit quorums deal incidents limits meets deals in
+    let passes_are = AllByRecursion-weaker (IsShown story) (IsPass quorums (giving k.named k.most)) k.passes passes are in
+    requests_apart quorums passes (no_interleaving voters quorums (giving k.named k.most) k.coterie passes passes_are order) (all_one_each quorums voters story k passes are)
+
+pub turns_of : ClientLaws → VoterLaws → (voters clients limit : ℕ) (quorums : List (List ℕ)) (deal : Dealing) (incidents : List Incident) (seen : List ℕ) (turn : ℕ) (entries : List Entry)
+    → AreLimits voters clients limit → DoMeet voters quorums → DealsFrom quorums deal
+    → AllByRecursion (λ e. IsShown (story_of voters clients limit deal incidents) e.pass) entries → AreEntered seen turn entries → TurnsTellRequests entries × RequestsHaveOneTurn entries
+turns_of cs vs voters clients limit quorums deal incidents seen turn entries limits meets deals are entered =
+    let story = story_of voters clients limit deal incidents in
+    let k = passes_of cs vs voters clients limit quorums deal incidents limits meets deals in (
+      turns (IsShown story) (pairs quorums voters story k) seen turn entries are entered,
+      one_turn (IsShown story) (pairs quorums voters story k) seen turn entries are entered (all_show_same quorums voters story k entries are),
+    )
+
+-- ---- two moments of a run
+
+pub apart_inside : ClientLaws → VoterLaws → (voters clients limit : ℕ) (quorums : List (List ℕ)) (deal : Dealing) (before after : List Incident) (c d : ℕ)
+    → AreLimits voters clients limit → DoMeet voters quorums → DealsFrom quorums deal
+    → IsIn (all_befall deal before (begin voters clients limit)) c
+    → IsIn (all_befall deal after (all_befall deal before (begin voters clients limit))) d
+    → IsSameRequest (all_befall deal before (begin voters clients limit)) c (all_befall deal after (all_befall deal before (begin voters clients limit))) d
+    ⊎ AreApart (pass_of (all_befall deal before (begin voters clients limit)) c) (pass_of (all_befall deal after (all_befall deal before (begin voters clients limit))) d)
+apart_inside cs vs voters clients limit quorums deal before after c d limits meets deals in_c in_d =
+    let b : Bounds = record { voters = voters; clients = clients; limit = limit; quorums = quorums } in
+    let given : Given b = record { client = cs; voter = vs; limits = limits; meet = meets } in
+    let s = all_befall deal before (begin voters clients limit) in
+    let t = all_befall deal after s in
+    let first = all_on b given deal deals nobody (begin voters clients limit) (begin_on b given) before in
+    let second = all_on b given deal deals first.named s first.ok after in
+    let N = count t.voters in
+    let x = client_at s.live.clients c in
+    let y = client_at t.live.clients d in
+    two_passes voters quorums (giving second.named N) (coterie b given) (names second.named N)
+    (record { client = c; stamp = x.stamp; grants = x.held }) (record { client = d; stamp = y.stamp; grants = y.held })
+    (knows_pass b second.named N c x (knows_on b first.named second.named (count s.voters) N second.further c x (first.ok.live_clients c)) in_c)
+    (knows_pass b second.named N d y (second.ok.live_clients d) in_d)
 
 -- ---- who is not refused
 
@@ -247,7 +291,7 @@ pub one_current : ClientLaws → VoterLaws → (voters clients limit : ℕ) (quo
     → c ≡ d
 one_current cs vs voters clients limit quorums deal incidents c d limits meets deals in_c in_d current_c current_d =
     let s = all_befall deal incidents (begin voters clients limit) in
-    elim (two_passes cs vs voters clients limit quorums deal incidents [] c d limits meets deals in_c in_d) [
+    elim (apart_inside cs vs voters clients limit quorums deal incidents [] c d limits meets deals in_c in_d) [
       | inl same ↦ same.0
       | inr apart ↦
           let v = apart.voter in
@@ -256,20 +300,3 @@ one_current cs vs voters clients limit quorums deal incidents c d limits meets d
           let one : g.0 ≡ h.0 = same_Some g.0 h.0 (sym g.1 ∙ h.1) in
           absurd (apart.apart v apart.first_has (sym g.2 ∙ ap (λ (k : Grant). k.grant) one ∙ h.2))
     ]
-
--- ---- any two shows of a story
-
-pub all_pairs : ClientLaws → VoterLaws → (voters clients limit : ℕ) (quorums : List (List ℕ)) (deal : Dealing) (incidents : List Incident) (w u : Show)
-    → AreLimits voters clients limit → DoMeet voters quorums → DealsFrom quorums deal
-    → WasIn (record { deal = deal; first = begin voters clients limit; incidents = incidents }) w
-    → WasIn (record { deal = deal; first = begin voters clients limit; incidents = incidents }) u
-    → AreOfOne (record { deal = deal; first = begin voters clients limit; incidents = incidents }) w u
-    ⊎ AreApart (pass_in (record { deal = deal; first = begin voters clients limit; incidents = incidents }) w) (pass_in (record { deal = deal; first = begin voters clients limit; incidents = incidents }) u)
-all_pairs cs vs voters clients limit quorums deal incidents w u limits meets deals in_w in_u =
-    let b : Bounds = record { voters = voters; clients = clients; limit = limit; quorums = quorums } in
-    let given : Given b = record { client = cs; voter = vs; limits = limits; meet = meets } in
-    let all = whole b given deal deals nobody (begin voters clients limit) (begin_on b given) incidents in
-    let story : Story = record { deal = deal; first = begin voters clients limit; incidents = incidents } in
-    two_inside b limits.few_voters meets all.named (count (all_befall deal incidents (begin voters clients limit)).voters) w.client u.client
-    (client_at (world_at story w.moment).live.clients w.client) (client_at (world_at story u.moment).live.clients u.client)
-    (all.every w.moment w.client) (all.every u.moment u.client) in_w in_u

@@ -9,4 +9,3 @@ pub mod Raises
 pub mod Rebirths
 pub mod Resumed
 pub mod ServiceLemmas
-pub mod Turns

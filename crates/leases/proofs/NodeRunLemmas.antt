@@ -32,7 +32,7 @@ use Rattle.leases.specs.Comeback.{AreLawful, IsEviction}
 use Rattle.leases.specs.Orderly.{AreOrderly}
 use Rattle.leases.specs.NodeRuns.{ArePlaces, EvictsNone, HasVoter, MayCome, MayRun, Places, WasSent, arrival_by, eviction_of, incidents_from, incidents_of, unless_refused, with_voter}
 use Rattle.leases.proofs.Guards.{befall-append}
-use Rattle.leases.proofs.Numbers.{voter_set_same}
+use Rattle.world.proofs.Places.{voter_here}
 
 -- ---- a world in which a voter has another state
 
@@ -59,7 +59,7 @@ more_sent sent a b = append_assoc sent (map kinds.ToClient a) (map kinds.ToClien
 
 saves_mid : (s : Saved) (v : ℕ) (y z : VoterState) (more : List ToClient) → v < length s.live.voters → save (OneVoter v) (mid s v y z more) ≡ mid s v y y more
 saves_mid s v y z more within =
-    let e = ap (λ (w : VoterState). slice_set (slice_set s.voters v z) v w) (voter_set_same s.live.voters v y within) ∙ set-set s.voters v z y in
+    let e = ap (λ (w : VoterState). slice_set (slice_set s.voters v z) v w) (voter_here s.live.voters v y within) ∙ set-set s.voters v z y in
     ap (λ (l : List VoterState). record (mid s v y z more) { voters = l }) e
 
 abbrev IsMid : Saved → ℕ → VoterState → List ToClient → Saved → Type 0
@@ -92,7 +92,7 @@ heard : (s : Saved) (y z : VoterState) (more : List ToClient) (m : ToVoter) (o :
     → is_request_within y.limit m.body ≡ true → voter.step y m ≡ Some o → IsMid s m.voter o.state (more ++ o.replies) (hear (mid s m.voter y z more) m)
 heard s y z more m o within client stamp is =
     let t = mid s m.voter y z more in
-    let here = voter_set_same s.live.voters m.voter y within in
+    let here = voter_here s.live.voters m.voter y within in
     let known : is_message t m ≡ true = ap (λ (w : VoterState). nat_lt m.client (length s.live.clients) && is_request_within w.limit m.body) here
     ∙ (λ i. lt_true m.client (length s.live.clients) client i && stamp i) in
     let comes = ap (λ b. if_voter b m.voter (if_client (is_message t m) m.client (vote t.live m))) (still_within s m.voter y within)
@@ -112,7 +112,7 @@ delivered : (deal : Dealing) (s : Saved) (y z : VoterState) (more : List ToClien
 unfolding step
 delivered deal s y z more m o k within at is =
     let t = mid s m.voter y z more in
-    let here = voter_set_same s.live.voters m.voter y within in
+    let here = voter_here s.live.voters m.voter y within in
     let there = get_more s.live.sent (map kinds.ToClient more) k (kinds.ToVoter m) at in
     let comes = ap (λ (x : Option voter.Outcome). after_voter t.live m.voter x) (ap (λ (w : VoterState). voter.step w m) here ∙ is) in
     let end = spoken s m.voter y z more o within in
@@ -125,7 +125,7 @@ reminded deal s v y z more within =
     let t = mid s v y z more in
     let lines = λ (w : VoterState). map kinds.ToClient (voter.remind w) in
     let comes = ap (λ b. if_voter b v (Ok (say t.live (lines (voter_at t.live.voters v))))) (still_within s v y within)
-    ∙ ap (λ (w : VoterState). Ok (say t.live (lines w))) (voter_set_same s.live.voters v y within) in
+    ∙ ap (λ (w : VoterState). Ok (say t.live (lines w))) (voter_here s.live.voters v y within) in
     let e : record t { live = (say t.live (lines y)).state } ≡ mid s v y z (more ++ voter.remind y) =
     ap (λ (l : List Message). record s { live = record s.live { voters = slice_set s.live.voters v y; sent = l }; voters = slice_set s.voters v z }) (more_sent s.live.sent more (voter.remind y)) in
     let end = settles (is_silent (length (lines y)) Nothing) s v y z (more ++ voter.remind y) within in
@@ -252,7 +252,7 @@ is_eviction : (s : Saved) (v : ℕ) (n : nodes.Node) (z : VoterState) (g : Grant
     → IsEviction (mid s v n.live z n.outbox) (release_of n.live g)
 is_eviction s v n z g within id held = record {
   grant = g;
-  held = ap (λ k. (voter_at (slice_set s.live.voters v n.live) k).held) id ∙ ap (λ (w : VoterState). w.held) (voter_set_same s.live.voters v n.live within) ∙ held;
+  held = ap (λ k. (voter_at (slice_set s.live.voters v n.live) k).held) id ∙ ap (λ (w : VoterState). w.held) (voter_here s.live.voters v n.live within) ∙ held;
   client = refl;
   body = refl;
 }
@@ -299,8 +299,8 @@ put_has s v y more lives is_saved id clients = record {
   lives = (let e = length-set s.live.voters v y in omega arith);
   is_saved = (let e = length-set s.voters v y in omega arith);
   id = id;
-  live = voter_set_same s.live.voters v y lives;
-  saved = voter_set_same s.voters v y is_saved;
+  live = voter_here s.live.voters v y lives;
+  saved = voter_here s.voters v y is_saved;
   clients = clients;
 }
 
@@ -316,7 +316,7 @@ forgets : (s : Saved) (v : ℕ) (y : VoterState) → HasVoter s v y → restart 
 forgets s v y has =
     let least = ap least_voter has.saved in
     let saved = ap (λ (w : VoterState). slice_set s.voters v w) least in
-    let read = voter_set_same s.voters v (least_voter (voter_at s.voters v)) has.is_saved ∙ least in
+    let read = voter_here s.voters v (least_voter (voter_at s.voters v)) has.is_saved ∙ least in
     let live = ap (λ (w : VoterState). slice_set s.live.voters v w) read in
     let sent = sym (append-nil s.live.sent) in
     λ i. record s { live = record s.live { voters = live i; sent = sent i }; voters = saved i }

@@ -1,15 +1,14 @@
 -- each number of a voter is that of one grant, whatever befalls
 use Rattle.std.proofs.Common.{◌≡◌, ℕ, ◌+◌, ◌<◌, ◌≤◌, Bool, true, false, cond, List, [], ◌∷◌, ◌++◌, map, length, Option, Some, None, Result, Ok, Err, refl, sym, ap, subst, ◌∙◌, ◌⊎◌, inl, inr, arith, eqb}
-use Rattle.std.specs.Prelude.{◌==◌, ◌&&◌, ◌||◌, is_some, nat_le, nat_lt, replicate, slice_get, slice_index, slice_set}
+use Rattle.std.specs.Prelude.{◌==◌, ◌&&◌, is_some, nat_le, nat_lt, replicate, slice_get, slice_index, slice_set}
 use Rattle.std.specs.FinMap as fin
 use Rattle.std.specs.Ordering.{nat_cmp}
-use Rattle.std.specs.List.{AllByRecursion, list_all}
+use Rattle.std.specs.List.{AllByRecursion}
 use Rattle.std.proofs.lemmas.Option.{none-some, same_Some}
-use Rattle.std.proofs.lemmas.Bool.{false≢true, ltb-true, cases_eq}
+use Rattle.std.proofs.lemmas.Bool.{false≢true, ltb-true}
 use Rattle.std.proofs.lemmas.Bool.Decides.{nat_tests}
 use Rattle.std.proofs.lemmas.List.{length-set, set_past}
 use Rattle.numbers.proofs.Lists.{AllByRecursion-append, AllByRecursion-get, AllByRecursion-weaker, slice_index-replicate_zero}
-use Rattle.numbers.specs.Sets.{has}
 use Rattle.message.specs.declared.message.ToVoter.{ToVoter}
 use Rattle.message.specs.declared.message.ToClient.{ToClient}
 use Rattle.message.specs.declared.message.Message.{Message}
@@ -27,8 +26,7 @@ use Rattle.voter.specs.VoteMoves.{VoteMoves, GrantIsNew}
 use Rattle.voter.specs.VoterContract.{AllReport, Brings, IsEntry, ReportsVote}
 use Rattle.requester.specs.declared.fault.ClientFault.{ClientFault}
 use Rattle.requester.specs.declared.state.ClientState.{ClientState}
-use Rattle.requester.specs.declared.state.Phase.{Phase}
-use Rattle.requester.specs.declared.state.Phase.TheVariants.{Idle, Asking, Inside}
+use Rattle.requester.specs.declared.state.Phase.TheVariants.{Idle}
 use Rattle.requester.specs.declared.state.Seen.TheVariants.{Nothing}
 use Rattle.requester.specs.RequesterContract.{Accepts, AllInRange, AllRepeat, AllSay, ComesInRange, IsLocked, IsReached, KeepsQuorum, Locks, RemindersInRange, SaysInRange}
 use Rattle.requester.specs.Saved.{least_client}
@@ -36,25 +34,26 @@ use Rattle.requester.proofs.SavedLemmas.{least_is_sound}
 use Rattle.requester.proofs.SoundSteps.{IsSound-clear_votes}
 use Rattle.requester.specs.Soundness as sound
 use Rattle.requester.specs.Steps as client
-use Rattle.requester.specs.Words.{held_of, holds, holds_under, is_idle, is_inside, members}
+use Rattle.requester.specs.Words.{holds_under, is_inside, members}
 use Rattle.quorum_set.specs.declared.bridge.Side.{Side}
 use Rattle.quorum_set.specs.declared.bridge.Side.TheVariants.{First, Second}
 use Rattle.world_state.specs.declared.fault.WorldFault.{WorldFault}
 use Rattle.world_state.specs.declared.step.Step.TheVariants.{Ask, Deliver, Leave, GiveUp, RemindClient, RemindVoter, Exchange}
-use Rattle.world.specs.Restarts.{Node, OneClient, OneVoter, Nobody, Saved, Happening, Goes, Saves, Forgets, Restarts, IsIn, IsSameRequest, pass_of}
+use Rattle.world.specs.Restarts.{Node, OneClient, OneVoter, Nobody, Saved, Happening, Goes, Saves, Forgets, Restarts}
 use Rattle.world.specs.Restarts.{begin, come_back, forget, happens, if_there, receiver, restart, save, save_and_send, save_unless}
 use Rattle.world_state.specs.Steps.{is_silent}
-use Rattle.world.specs.Runs.{AreLimits, start}
+use Rattle.world.specs.Runs.{start}
 use Rattle.world_state.specs.Steps.{Dealing, Outcome, after_client, after_voter, client_at, client_did, come, draw_of, exchange, if_client, if_voter, next_ticket, quorum_dealt, say, step, voter_at, voter_did}
 use Rattle.world.specs.Visible.{DealsFrom, DoMeet, IsAmong}
 use Rattle.world.specs.Rules.{ClientLaws, VoterLaws}
-use Rattle.world.proofs.Claims.{Bounds, put-each, put-same}
+use Rattle.world.proofs.Claims.{Bounds, put-each}
 use Rattle.world.specs.Ranges.{IsWithin}
 use Rattle.world.proofs.ClientMoves.{Draws, member_below}
-use Rattle.world.proofs.Places.{client_at-set, voter_at-set}
+use Rattle.world.proofs.Places.{client_at-set, voter_at-set, voter_here}
 use Rattle.world.proofs.Reached.{Given, accepts_among, start_ok, start_unused}
 use Rattle.world.proofs.Restarts.{AreAll, within_or}
-use Rattle.leases.specs.Incidents.{AreApart, Incident, Happens, Hears, IsReborn, StartsAnew, HasLimit, IsRaised, all_befall, anew, be_raised, be_reborn, befalls, come_back_as, have_limit, hear, is_above, is_ahead, is_limit, is_message, is_request_within, limited, reborn, start_anew, start_as}
+use Rattle.leases.specs.Incidents.{Incident, Happens, Hears, IsReborn, StartsAnew, HasLimit, IsRaised, all_befall, anew, be_raised, be_reborn, befalls, come_back_as, have_limit, hear, is_above, is_ahead, is_limit, is_message, is_request_within, limited, reborn, start_anew, start_as}
+use Rattle.passes.proofs.Requests.{both, inside_busy}
 use Rattle.leases.proofs.Raises.{no_inquiry, raised_by_step}
 
 -- ---- what is named
@@ -294,9 +293,6 @@ set_voter P vs v y here all = elim (within_or vs v) [
   | inr past ↦ subst (λ (l : List VoterState). EachVoter P l) (sym (set_past vs v y past)) all
 ]
 
-pub voter_set_same : (vs : List VoterState) (v : ℕ) (y : VoterState) → v < length vs → voter_at (slice_set vs v y) v ≡ y
-voter_set_same vs v y within = ap (λ (f : ℕ → VoterState). f v) (voter_at-set vs v y within) ∙ put-same (voter_at vs) v y
-
 -- ---- the world
 
 pub record Numbered (b : Bounds) (G : Naming) (s : Saved) : Type 0 where
@@ -524,7 +520,7 @@ voter_says b G s ok v seen within rs report place carry n many false is =
     let z = voter_at s.live.voters v in
     let now = slice_set s.voters v z in
     let on = saved_voter b G s ok v z (ok.live_voters v) (ok.behind v) (same_number z.granted) in
-    let there : z.granted ≡ count now v = ap (λ (y : VoterState). y.granted) (sym (voter_set_same s.voters v z (subst (λ k. v < k) (sym ok.sizes.3) within))) in
+    let there : z.granted ≡ count now v = ap (λ (y : VoterState). y.granted) (sym (voter_here s.voters v z (subst (λ k. v < k) (sym ok.sizes.3) within))) in
     record {
       named = on.named;
       ok = record {
@@ -566,7 +562,7 @@ voter_tried laws b G s ok m told (Some o) is =
     } in
     let put_on = voter_put_on b G s ok v o.state n votes in
     let t : Saved = record s { live = record s.live { voters = slice_set s.live.voters v o.state } } in
-    let there : voter_at t.live.voters v ≡ o.state = voter_set_same s.live.voters v o.state (subst (λ k. v < k) (sym ok.sizes.1) told.1) in
+    let there : voter_at t.live.voters v ≡ o.state = voter_here s.live.voters v o.state (subst (λ k. v < k) (sym ok.sizes.1) told.1) in
     let says = voter_says b put_on.named t put_on.ok v (seen_after y.seen m.body) told.1 o.replies
     (subst (λ (z : VoterState). AllReport z.held o.replies) (sym there) meets.heard)
     (subst (λ (z : VoterState). AllReportPlace z o.replies) (sym there) (laws.answers y m o was.sound is).place)
@@ -733,10 +729,6 @@ happens_on b given deal deals G s ok (Restarts who) = restart_on b G s ok who
 
 -- ---- what befalls
 
-pub both : (p q : Bool) → (p && q) ≡ true → (p ≡ true) × (q ≡ true)
-both true q e = (refl, e)
-both false q e = absurd (false≢true e)
-
 asks_by : (b : Bounds) (limit : ℕ) (body : VoterBody) → limit ≤ b.limit → is_request_within limit body ≡ true → AsksInRange b.limit body
 asks_by b limit (asks.Request t) below e =
     let parts = both (nat_le 1 t) (nat_le t limit) e in
@@ -783,7 +775,7 @@ reborn_on b G s ok v above true is =
     let most : above ≤ y.limit = (let h = ends.1 in grind (arith, nat_tests)) in
     let first = live_voter b G s ok v z (reborn_votes b G G v y above (ok.live_voters v) most) (let behind = ok.behind v in omega arith) in
     let t : Saved = record s { live = record s.live { voters = slice_set s.live.voters v z } } in
-    let there : voter_at t.live.voters v ≡ z = voter_set_same s.live.voters v z (ltb-true _ _ parts.0) in
+    let there : voter_at t.live.voters v ≡ z = voter_here s.live.voters v z (ltb-true _ _ parts.0) in
     let count_there : count t.live.voters v ≡ above = ap (λ (w : VoterState). w.granted) there in
     let second = saved_voter b first.named t first.ok v z (reborn_votes b G first.named v y above (ok.live_voters v) most) (let behind = ok.behind v in omega arith) (omega arith) in
     then_on b G s t (come_back_as s v z) first second
@@ -924,81 +916,8 @@ begin_on b given =
 
 -- ---- two passes
 
-pub list_all-holds : (x : ClientState) (q : List ℕ) (v : ℕ) → list_all (holds x) q ≡ true → has q v ≡ true → holds x v ≡ true
-list_all-holds x [] v all is = absurd (false≢true is)
-list_all-holds x (u ∷ us) v all is = elim (eqb u v) as (λ b. eqb u v ≡ b → (b || has us v) ≡ true → holds x v ≡ true) [
-  | true ↦ λ e _. let same : u ≡ v = grind (arith, nat_tests) in subst (λ n. holds x n ≡ true) same (grind (arith, nat_tests))
-  | false ↦ λ _ rest. list_all-holds x us v (grind (arith, nat_tests)) rest
-] refl is
-
-is_idle-inside : (p : Phase) → is_inside p ≡ true → is_idle p ≡ false
-is_idle-inside Idle e = absurd (false≢true e)
-is_idle-inside Asking e = refl
-is_idle-inside Inside e = refl
-
-among_of : (b : Bounds) (G : Naming) (N : ℕ → ℕ) (c : ℕ) (x : ClientState) → Knows b G N c x → is_inside x.phase ≡ true → IsAmong b.quorums (members x)
+pub among_of : (b : Bounds) (G : Naming) (N : ℕ → ℕ) (c : ℕ) (x : ClientState) → Knows b G N c x → is_inside x.phase ≡ true → IsAmong b.quorums (members x)
 among_of b G N c x k inside = elim k.quorum [
-  | inl none ↦ let some = k.sound.asked (is_idle-inside x.phase inside) in let len = ap (λ (q : List ℕ). length q) none in absurd (omega arith)
+  | inl none ↦ let some = k.sound.asked (inside_busy x.phase inside) in let len = ap (λ (q : List ℕ). length q) none in absurd (omega arith)
   | inr among ↦ among
 ]
-
-has_grant : (x : ClientState) (v : ℕ) → holds x v ≡ true → 1 ≤ held_of x v
-has_grant x v is = grind (arith, nat_tests)
-
-pub under_grant : (x : ClientState) (v : ℕ) → 1 ≤ held_of x v → holds_under x v (held_of x v) ≡ true
-under_grant x v some = grind (arith, nat_tests)
-
-same_request : (b : Bounds) (G : Naming) (N : ℕ → ℕ) (c d : ℕ) (x y : ClientState) → Knows b G N c x → Knows b G N d y
-    → (v : ℕ) → 1 ≤ held_of x v → held_of x v ≡ held_of y v → (c ≡ d) × (x.stamp ≡ y.stamp)
-same_request b G N c d x y first second v some same =
-    let g = held_of x v in
-    let h = held_of y v in
-    let one = first.votes v g (under_grant x v some) in
-    let two = second.votes v h (under_grant y v (omega arith)) in
-    let e : grant_of c x.stamp g ≡ grant_of d y.stamp h = sym one.0 ∙ ap (λ n. G v n) same ∙ two.0 in
-    (ap (λ (k : Grant). k.client) e, ap (λ (k : Grant). k.stamp) e)
-
--- two clients that are inside, perhaps at different times
-pub two_inside : (b : Bounds) → b.voters ≤ 64 → DoMeet b.voters b.quorums → (G : Naming) (N : ℕ → ℕ) (c d : ℕ) (x y : ClientState) → Knows b G N c x → Knows b G N d y
-    → is_inside x.phase ≡ true → is_inside y.phase ≡ true → ((c ≡ d) × (x.stamp ≡ y.stamp)) ⊎ AreApart x.held y.held
-two_inside b few meet G N c d x y knows_x knows_y in_x in_y =
-    let j = among_of b G N c x knows_x in_x in
-    let k = among_of b G N d y knows_y in_y in
-    let common = meet.meets j.0 k.0 j.1 k.1 in
-    let v = common.0 in
-    let below = common.1 in
-    let x_has = list_all-holds x (members x) v (knows_x.sound.inside in_x) (ap (λ (q : List ℕ). has q v) j.2 ∙ common.2) in
-    let y_has = list_all-holds y (members y) v (knows_y.sound.inside in_y) (ap (λ (q : List ℕ). has q v) k.2 ∙ common.3) in
-    let same = same_request b G N c d x y knows_x knows_y in
-    let apart : (((w : ℕ) → 1 ≤ held_of x w → held_of x w ≡ held_of y w → ⊥) → AreApart x.held y.held) = λ never. record {
-      voter = v;
-      within = omega arith;
-      first_has = has_grant x v x_has;
-      second_has = has_grant y v y_has;
-      apart = never;
-    } in
-    elim (cases_eq c d) [
-      | inl one ↦ elim (cases_eq x.stamp y.stamp) [
-        | inl stamp ↦ inl (one, stamp)
-        | inr other ↦ inr (apart (λ w some e. other (same w some e).1))
-      ]
-      | inr other ↦ inr (apart (λ w some e. other (same w some e).0))
-    ]
-
-pub two_passes : ClientLaws → VoterLaws → (voters clients limit : ℕ) (quorums : List (List ℕ)) (deal : Dealing) (before after : List Incident) (c d : ℕ)
-    → AreLimits voters clients limit → DoMeet voters quorums → DealsFrom quorums deal
-    → IsIn (all_befall deal before (begin voters clients limit)) c
-    → IsIn (all_befall deal after (all_befall deal before (begin voters clients limit))) d
-    → IsSameRequest (all_befall deal before (begin voters clients limit)) c (all_befall deal after (all_befall deal before (begin voters clients limit))) d
-    ⊎ AreApart (pass_of (all_befall deal before (begin voters clients limit)) c) (pass_of (all_befall deal after (all_befall deal before (begin voters clients limit))) d)
-two_passes cs vs voters clients limit quorums deal before after c d limits meets deals in_c in_d =
-    let b : Bounds = record { voters = voters; clients = clients; limit = limit; quorums = quorums } in
-    let given : Given b = record { client = cs; voter = vs; limits = limits; meet = meets } in
-    let s = all_befall deal before (begin voters clients limit) in
-    let t = all_befall deal after s in
-    let first = all_on b given deal deals nobody (begin voters clients limit) (begin_on b given) before in
-    let second = all_on b given deal deals first.named s first.ok after in
-    let x = client_at s.live.clients c in
-    let y = client_at t.live.clients d in
-    two_inside b limits.few_voters meets second.named (count t.voters) c d x y
-    (knows_on b first.named second.named (count s.voters) (count t.voters) second.further c x (first.ok.live_clients c)) (second.ok.live_clients d) in_c in_d

@@ -1,28 +1,23 @@
 -- a request has one pass: a client that is inside keeps its votes until it leaves
-use Rattle.std.proofs.Common.{◌≡◌, ℕ, ◌<◌, ◌≤◌, Bool, true, false, cond, List, [], ◌∷◌, map, length, Option, Some, None, Result, Ok, Err, refl, sym, ap, subst, ◌∙◌, ◌⊎◌, inl, inr, arith, eqb, ltb}
-use Rattle.std.specs.Prelude.{if◌then◌else◌, ◌==◌, ◌&&◌, not, is_some, nat_le, nat_lt, slice_get, slice_set}
+use Rattle.std.proofs.Common.{◌≡◌, ℕ, ◌<◌, ◌≤◌, Bool, true, false, cond, List, [], ◌∷◌, map, length, Option, Some, None, Result, Ok, Err, refl, sym, ap, subst, ◌∙◌, inl, inr, arith, eqb}
+use Rattle.std.specs.Prelude.{◌&&◌, is_some, nat_le, nat_lt, slice_get, slice_set}
 use Rattle.std.proofs.lemmas.Bool.{false≢true, ltb-true}
 use Rattle.std.proofs.lemmas.Bool.Decides.{nat_tests}
 use Rattle.std.proofs.lemmas.List.{set_past}
 use Rattle.numbers.proofs.Lists.{AllByRecursion-get}
-use Rattle.message.specs.declared.message.ToClient.{ToClient}
 use Rattle.message.specs.declared.message.Message.{Message}
 use Rattle.message.specs.declared.message.Message.TheVariants as kinds
-use Rattle.message.specs.declared.message.ClientBody.{ClientBody}
-use Rattle.message.specs.declared.message.ClientBody.TheVariants as to_client
 use Rattle.voter.specs.Steps as voter
 use Rattle.requester.specs.declared.fault.ClientFault.{ClientFault}
-use Rattle.requester.specs.declared.fault.ClientFault.TheVariants.{Busy}
 use Rattle.requester.specs.declared.state.ClientState.{ClientState}
 use Rattle.requester.specs.declared.state.Phase.{Phase}
-use Rattle.requester.specs.declared.state.Phase.TheVariants.{Idle, Asking, Inside}
 use Rattle.requester.specs.declared.state.Seen.{Seen}
-use Rattle.requester.specs.declared.state.Seen.TheVariants.{Nothing, Entered, Left}
+use Rattle.requester.specs.declared.state.Seen.TheVariants.{Nothing}
 use Rattle.requester.specs.RequesterContract.{Accepts, Sees}
 use Rattle.requester.specs.Saved.{least_client}
 use Rattle.requester.specs.Soundness as sound
 use Rattle.requester.specs.Steps as client
-use Rattle.requester.specs.Words.{holds, holds_under, is_hindered, last_of, is_asking, is_covered, is_current, is_idle, is_inside, is_member, members}
+use Rattle.requester.specs.Words.{is_idle, is_inside}
 use Rattle.quorum_set.specs.declared.bridge.Side.{Side}
 use Rattle.quorum_set.specs.declared.bridge.Side.TheVariants.{First, Second}
 use Rattle.world_state.specs.declared.fault.WorldFault.{WorldFault}
@@ -33,129 +28,16 @@ use Rattle.world.specs.Runs.{AreLimits}
 use Rattle.world_state.specs.Steps.{Dealing, Outcome, after_client, after_voter, client_at, client_did, come, draw_of, exchange, if_client, if_voter, next_ticket, quorum_dealt, say, step, voter_at, voter_did}
 use Rattle.world.specs.Visible.{DealsFrom, DoMeet}
 use Rattle.world.specs.Rules.{ClientLaws, VoterLaws}
-use Rattle.world.proofs.Claims.{Bounds, put, put-same}
-use Rattle.world.proofs.Places.{client_at-set}
+use Rattle.world.proofs.Claims.{Bounds, put}
+use Rattle.world.proofs.Places.{client_at-set, client_here}
 use Rattle.world.proofs.Reached.{Given, accepts_among}
 use Rattle.world.proofs.Restarts.{within_or}
 use Rattle.leases.specs.Incidents.{Incident, Happens, Hears, IsReborn, StartsAnew, HasLimit, IsRaised, all_befall, anew, be_raised, be_reborn, befalls, have_limit, is_ahead, is_message, start_anew}
 use Rattle.leases.proofs.Raises.{no_inquiry, raised_by_step}
-use Rattle.leases.proofs.Numbers.{Naming, Numbered, Told, all_on, befalls_on, begin_on, both, count, list_all-holds, nobody}
+use Rattle.leases.proofs.Numbers.{Naming, Numbered, Told, all_on, befalls_on, begin_on, count, nobody}
+use Rattle.passes.proofs.Requests.{HasOnly, both, ended, inside_busy, only_after, only_least, only_self, quiet_stays, silent_sees}
 
 -- ---- a client that is inside
-
-record Stays (x y : ClientState) : Type 0 where
-  phase : y.phase ≡ x.phase
-  stamp : y.stamp ≡ x.stamp
-  held : y.held ≡ x.held
-
-not_asking : (p : Phase) → is_inside p ≡ true → is_asking p ≡ false
-not_asking Idle e = absurd (false≢true e)
-not_asking Asking e = absurd (false≢true e)
-not_asking Inside e = refl
-
-locked_stays : (x : ClientState) (v s g : ℕ) (current fresh : Bool) → (fresh ≡ true → ⊥) → Stays x (client.take_locked_by current fresh x v s g).state
-locked_stays x v s g false fresh never = record { phase = refl; stamp = refl; held = refl }
-locked_stays x v s g true false never = record { phase = refl; stamp = refl; held = refl }
-locked_stays x v s g true true never = absurd (never refl)
-
-never_fresh : (x : ClientState) (v g : ℕ) → (is_member x v ≡ true → holds x v ≡ true) → client.is_fresh x v g ≡ true → ⊥
-never_fresh x v g has fresh =
-    let parts = both (is_member x v && not (holds x v)) (nat_lt (last_of x v) g) fresh in
-    let rest = both (is_member x v) (not (holds x v)) parts.0 in
-    let held = has rest.0 in
-    false≢true (sym (ap (λ b. not b) held) ∙ rest.1)
-
-fail_stays : (x : ClientState) (v : ℕ) (counts : Bool) → counts ≡ false → Stays x (client.take_fail_by counts x v).state
-fail_stays x v false e = record { phase = refl; stamp = refl; held = refl }
-fail_stays x v true e = absurd (false≢true (sym e))
-
-inquire_stays : (x : ClientState) (v : ℕ) (counts hindered : Bool) → counts ≡ false → Stays x (client.take_inquire_by counts hindered x v).state
-inquire_stays x v false hindered e = record { phase = refl; stamp = refl; held = refl }
-inquire_stays x v true hindered e = absurd (false≢true (sym e))
-
-and_false : (p q : Bool) → p ≡ false → (p && q) ≡ false
-and_false false q e = refl
-and_false true q e = absurd (false≢true (sym e))
-
-body_stays : (x : ClientState) (v : ℕ) (body : ClientBody) → is_inside x.phase ≡ true → is_covered x ≡ true → Stays x (client.take_body x v body).state
-unfolding client.take_locked client.take_fail client.take_inquire
-body_stays x v (to_client.Locked s g) inside covered =
-    locked_stays x v s g (is_current x s) (client.is_fresh x v g) (never_fresh x v g (λ member. list_all-holds x (members x) v covered member))
-body_stays x v (to_client.Fail s) inside covered = fail_stays x v (is_asking x.phase && s == x.stamp && is_member x v && not (holds x v)) (and_false (is_asking x.phase && s == x.stamp && is_member x v) (not (holds x v)) (and_false (is_asking x.phase && s == x.stamp) (is_member x v)
-    (and_false (is_asking x.phase) (s == x.stamp) (not_asking x.phase inside))))
-body_stays x v (to_client.Inquire g) inside covered = inquire_stays x v (is_asking x.phase && holds_under x v g) (is_hindered x) (and_false (is_asking x.phase) (holds_under x v g) (not_asking x.phase inside))
-
-takes_stays : (x : ClientState) (m : ToClient) → is_inside x.phase ≡ true → is_covered x ≡ true → Stays x (client.take x m).state
-unfolding client.take
-takes_stays x m inside covered =
-    let s = body_stays (client.see x m.seen) m.voter m.body inside covered in
-    record { phase = s.phase; stamp = s.stamp; held = s.held }
-
--- ---- one pass of one request
-
--- the client is past this stamp, or done with it, or inside under it with this pass
-abbrev HasOnly : ℕ → List ℕ → ClientState → Type 0
-HasOnly s p x = (s < x.stamp) ⊎ ((x.stamp ≡ s) × ((is_idle x.phase ≡ true) ⊎ ((is_inside x.phase ≡ true) × (x.held ≡ p))))
-
-less_or_same : (a b : ℕ) → a ≤ b → (a < b) ⊎ (a ≡ b)
-less_or_same a b h = elim (ltb a b) as (λ t. ltb a b ≡ t → (a < b) ⊎ (a ≡ b)) [
-  | true ↦ λ t. inl (grind (arith, nat_tests))
-  | false ↦ λ t. inr (grind (arith, nat_tests))
-] refl
-
--- a step that isn't behind in its stamp, and is idle if it has the same
-ended : (s : ℕ) (p : List ℕ) (x y : ClientState) → x.stamp ≡ s → x.stamp ≤ y.stamp → (x.stamp ≡ y.stamp → is_idle y.phase ≡ true) → HasOnly s p y
-ended s p x y at rises idle = elim (less_or_same x.stamp y.stamp rises) [
-  | inl less ↦ inl (omega arith)
-  | inr same ↦ inr (sym same ∙ at, inl (idle same))
-]
-
-abbrev outcome_or : client.Outcome → Result client.Outcome ClientFault → client.Outcome
-outcome_or d (Ok a) = a
-outcome_or d (Err e) = d
-
-same_outcome : (a o : client.Outcome) (r : Result client.Outcome ClientFault) → r ≡ Ok a → r ≡ Ok o → a ≡ o
-same_outcome a o r one two = ap (λ q. outcome_or a q) (sym one ∙ two)
-
-abbrev is_done : Result client.Outcome ClientFault → Bool
-is_done (Ok a) = true
-is_done (Err e) = false
-
-err_ok : (e : ClientFault) (o : client.Outcome) → Err e ≡ Ok o → ⊥
-err_ok e o is = false≢true (ap (λ r. is_done r) is)
-
-not_busy : (p : Phase) (spent : Option ClientFault) (a o : client.Outcome) → is_inside p ≡ true → client.unless (if is_idle p then spent else Some Busy) a ≡ Ok o → ⊥
-not_busy Inside spent a o inside is = err_ok _ o is
-not_busy p spent a o inside is = false≢true inside
-
-inside_after : ClientLaws → (s : ℕ) (p : List ℕ) (x : ClientState) (cause : client.Cause) (o : client.Outcome) → sound.IsSound x → Accepts x cause → client.step x cause ≡ Ok o
-    → x.stamp ≡ s → is_inside x.phase ≡ true → x.held ≡ p → HasOnly s p o.state
-unfolding client.step client.ask
-inside_after laws s p x (client.Asks q) o ok accepts is at inside held = absurd (not_busy x.phase _ _ o inside is)
-inside_after laws s p x (client.Takes m) o ok accepts is at inside held =
-    let t = takes_stays x m inside (ok.inside inside) in
-    let same : client.take x m ≡ o = same_outcome (client.take x m) o (Ok (client.take x m)) refl is in
-    subst (λ (r : client.Outcome). HasOnly s p r.state) same (inr (t.stamp ∙ at, inr (ap (λ k. is_inside k) t.phase ∙ inside, t.held ∙ held)))
-inside_after laws s p x client.Leaves o ok accepts is at inside held =
-    let kept = laws.meets x client.Leaves o ok accepts is in
-    ended s p x o.state at kept.later.stamp (λ same. kept.quorum.1)
-inside_after laws s p x client.GivesUp o ok accepts is at inside held =
-    let kept = laws.meets x client.GivesUp o ok accepts is in
-    ended s p x o.state at kept.later.stamp (λ same. kept.quorum.1)
-
-only_after : ClientLaws → (s : ℕ) (p : List ℕ) (x : ClientState) (cause : client.Cause) (o : client.Outcome) → sound.IsSound x → Accepts x cause → client.step x cause ≡ Ok o
-    → HasOnly s p x → HasOnly s p o.state
-only_after laws s p x cause o ok accepts is (inl less) = let rises = (laws.meets x cause o ok accepts is).later.stamp in inl (omega arith)
-only_after laws s p x cause o ok accepts is (inr same) = elim same.1 [
-  | inl idle ↦
-      let later = (laws.meets x cause o ok accepts is).later in
-      ended s p x o.state same.0 later.stamp (λ e. later.idle e idle)
-  | inr inside ↦ inside_after laws s p x cause o ok accepts is same.0 inside.0 inside.1
-]
-
-only_least : (s : ℕ) (p : List ℕ) (x : ClientState) → HasOnly s p x → HasOnly s p (least_client x)
-only_least s p x (inl less) = inl less
-only_least s p x (inr same) = inr (same.0, inl refl)
 
 only_anew : (s : ℕ) (p : List ℕ) (x : ClientState) (clock : ℕ) → x.stamp ≤ clock → HasOnly s p x → HasOnly s p (anew x clock)
 only_anew s p x clock ahead (inl less) = inl (omega arith)
@@ -164,9 +46,6 @@ only_anew s p x clock ahead (inr same) = ended s p x (anew x clock) same.0 ahead
 -- who is inside has a saved state that has this pass alone
 abbrev IsSavedIn : ClientState → ClientState → Type 0
 IsSavedIn x y = is_inside x.phase ≡ true → HasOnly x.stamp x.held y
-
-only_self : (x : ClientState) → is_inside x.phase ≡ true → HasOnly x.stamp x.held x
-only_self x inside = inr (refl, inr (inside, refl))
 
 -- ---- a property of each client, live and saved
 
@@ -191,20 +70,8 @@ both_last laws d s p = record {
   anew = λ c x y clock ahead has at. let h = only_anew s p x clock ahead (has at).0 in (h, h);
 }
 
-inside_busy : (p : Phase) → is_inside p ≡ true → is_idle p ≡ true → ⊥
-inside_busy Idle inside idle = false≢true inside
-inside_busy Asking inside idle = false≢true inside
-inside_busy Inside inside idle = false≢true idle
-
-quiet_stays : ClientLaws → (x : ClientState) (cause : client.Cause) (o : client.Outcome) → sound.IsSound x → Accepts x cause → client.step x cause ≡ Ok o
-    → is_inside x.phase ≡ true → is_inside o.state.phase ≡ true → (o.state.stamp ≡ x.stamp) × (o.state.held ≡ x.held)
-unfolding client.step client.ask
-quiet_stays laws x (client.Asks q) o ok accepts is inside still = absurd (not_busy x.phase _ _ o inside is)
-quiet_stays laws x (client.Takes m) o ok accepts is inside still =
-    let t = takes_stays x m inside (ok.inside inside) in
-    subst (λ (r : client.Outcome). (r.state.stamp ≡ x.stamp) × (r.state.held ≡ x.held)) (same_outcome (client.take x m) o (Ok (client.take x m)) refl is) (t.stamp, t.held)
-quiet_stays laws x client.Leaves o ok accepts is inside still = absurd (inside_busy o.state.phase still (laws.meets x client.Leaves o ok accepts is).quorum.1)
-quiet_stays laws x client.GivesUp o ok accepts is inside still = absurd (inside_busy o.state.phase still (laws.meets x client.GivesUp o ok accepts is).quorum.1)
+inside_idle : (p : Phase) → is_inside p ≡ true → is_idle p ≡ true → ⊥
+inside_idle p inside idle = false≢true (sym (inside_busy p inside) ∙ idle)
 
 saved_in_last : ClientLaws → Lasts (λ c x y. IsSavedIn x y)
 saved_in_last laws = record {
@@ -260,9 +127,6 @@ set_both R lives saveds c x y within within_saved here all q =
     (subst (λ (g : ℕ → ClientState). R q (put (client_at lives) c x q) (g q)) (sym (client_at-set saveds c y within_saved))
     (both_at R (client_at lives) (client_at saveds) c x y q here (all q)))
 
-client_set_same : (cs : List ClientState) (c : ℕ) (x : ClientState) → c < length cs → client_at (slice_set cs c x) c ≡ x
-client_set_same cs c x within = ap (λ (f : ℕ → ClientState). f c) (client_at-set cs c x within) ∙ put-same (client_at cs) c x
-
 -- ---- incidents
 
 pair_save : (R : ℕ → ClientState → ClientState → Type 0) → Lasts R → (who : Node) (s : Saved) → Pairs R s → Pairs R (save who s)
@@ -274,11 +138,6 @@ pair_save_unless : (R : ℕ → ClientState → ClientState → Type 0) → Last
 pair_save_unless R lasts true who s all = all
 pair_save_unless R lasts false who s all = pair_save R lasts who s all
 
-silent_sees : (n : ℕ) (seen : Seen) → is_silent n seen ≡ true → seen ≡ Nothing
-silent_sees n Nothing e = refl
-silent_sees n Entered e = absurd (false≢true e)
-silent_sees n Left e = absurd (false≢true e)
-
 -- the list of the live clients after a step, and who is saved then
 pair_did : (R : ℕ → ClientState → ClientState → Type 0) → Lasts R → ClientLaws → (lives saveds : List ClientState) (c : ℕ) (cause : client.Cause) (o : client.Outcome)
     → c < length lives → c < length saveds → sound.IsSound (client_at lives c) → Accepts (client_at lives c) cause → client.step (client_at lives c) cause ≡ Ok o → EachPair R lives saveds
@@ -289,7 +148,7 @@ pair_did R lasts laws lives saveds c cause o within within_saved ok accepts is a
     let y = client_at saveds c in (
       λ silent. set_live R lives saveds c o.state (lasts.quiet c x y cause o ok accepts is
           (subst (λ (seen : Seen). Sees x.phase seen o.state.phase) (silent_sees (length o.out) o.seen silent) (laws.meets x cause o ok accepts is).seen) (all c)) all,
-      subst (λ (z : ClientState). EachPair R (slice_set lives c o.state) (slice_set saveds c z)) (sym (client_set_same lives c o.state within))
+      subst (λ (z : ClientState). EachPair R (slice_set lives c o.state) (slice_set saveds c z)) (sym (client_here lives c o.state within))
           (set_both R lives saveds c o.state o.state within within_saved (lasts.loud c x y cause o ok accepts is (all c)) all),
     )
 
@@ -466,7 +325,7 @@ one_pass cs vs voters clients limit quorums deal before after c limits meets dea
     elim later [
       | inl less ↦ absurd (omega arith)
       | inr is ↦ elim is.1 [
-        | inl idle ↦ absurd (inside_busy y.phase in_t idle)
+        | inl idle ↦ absurd (inside_idle y.phase in_t idle)
         | inr inside ↦ inside.1
       ]
     ]

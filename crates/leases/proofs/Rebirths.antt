@@ -34,12 +34,13 @@ use Rattle.world.specs.Visible.{DealsFrom, DoMeet, IsExclusive}
 use Rattle.world.specs.Rules.{ClientLaws, VoterLaws}
 use Rattle.world.proofs.Claims.{AskOk, Bounds, ReportOk, MessageOk, VoterOk, WorldOk, put, put-same}
 use Rattle.world.proofs.Exclusion.{Walked, Walked-step}
-use Rattle.world.proofs.Places.{client_at-set, voter_at-set}
+use Rattle.world.proofs.Places.{client_at-set, voter_at-set, voter_here}
 use Rattle.world.proofs.Reached.{Given}
 use Rattle.world.proofs.Restarts.{ComesBack, Mix, SavedOk, begin_ok, client_less, client_tried, happens_ok, if_one, if_voter_one, live_ok, voter_tried}
 use Rattle.leases.specs.Incidents.{Incident, Happens, Hears, IsReborn, StartsAnew, HasLimit, IsRaised, all_befall, anew, be_raised, be_reborn, befalls, have_limit, hear, is_above, is_ahead, is_limit, is_message, is_request_within, limited, reborn, start_anew}
 use Rattle.leases.specs.Orderly.{AreOrderly, CountsNoMore, EndsOld, IsOver, IsPast}
-use Rattle.leases.proofs.Numbers.{anew_sound, both, may_have, voter_set_same}
+use Rattle.passes.proofs.Requests.{both}
+use Rattle.leases.proofs.Numbers.{anew_sound, may_have}
 use Rattle.leases.proofs.Raises.{no_inquiry, raised_by_step}
 
 put_at : {A : Type 0} (P : A → Type 0) (Y : ℕ → A) (v : ℕ) (z : A) (q : ℕ) → (q ≡ v → P z) → (q ≢ v → P (Y q)) → P (put Y v z q)
@@ -154,8 +155,8 @@ rebirth_ok b given s ok v above over true is =
       sizes = (ok.sizes.0, length-set s.live.voters v z ∙ ok.sizes.1, ok.sizes.2, length-set s.voters v z ∙ ok.sizes.3);
       mixes = λ X Y mix other.
           let at : Y v ≡ z = elim (other v) [
-            | inl e ↦ e ∙ voter_set_same s.live.voters v z within
-            | inr e ↦ e ∙ voter_set_same s.voters v z within_saved
+            | inl e ↦ e ∙ voter_here s.live.voters v z within
+            | inr e ↦ e ∙ voter_here s.voters v z within_saved
           ] in
           let Z = put Y v y in
           let before : Mix M N Z = λ q. put_at (λ (a : VoterState). (a ≡ M q) ⊎ (a ≡ N q)) Y v y q (λ same. inl (ap M (sym same)))
@@ -310,7 +311,7 @@ limit_ok b given s ok v limit true is =
       sizes = (ok.sizes.0, length-set s.live.voters v z ∙ ok.sizes.1, ok.sizes.2, ok.sizes.3);
       mixes = λ X Y mix other. elim (other v) [
         | inl e ↦
-            let at : Y v ≡ z = e ∙ voter_set_same s.live.voters v z may.within in
+            let at : Y v ≡ z = e ∙ voter_here s.live.voters v z may.within in
             let Z = put Y v (M v) in
             let here : Z v ≡ M v = put-same Y v (M v) in
             let before : Mix M N Z = λ q. put_at (λ (a : VoterState). (a ≡ M q) ⊎ (a ≡ N q)) Y v (M v) q (λ same. inl (ap M (sym same)))

@@ -1,7 +1,6 @@
 -- Worlds in which a voter may let a grant go while its client holds it, voters and clients come back
 -- without their states, and voters take messages that nobody sent.
-use Rattle.std.specs.Prelude.{ℕ, ◌≡◌, ◌<◌, ◌≤◌, ◌&&◌, nat_le, nat_lt, Bool, true, false, List, [], ◌∷◌, length, slice_index, slice_set}
-use Rattle.numbers.specs.Bounds.{max_voters}
+use Rattle.std.specs.Prelude.{ℕ, ◌&&◌, nat_le, nat_lt, Bool, true, false, List, [], ◌∷◌, length, slice_set}
 use Rattle.message.specs.declared.message.ToVoter.{ToVoter}
 use Rattle.message.specs.declared.message.VoterBody.{VoterBody}
 use Rattle.message.specs.declared.message.VoterBody.TheVariants as asks
@@ -114,11 +113,3 @@ befalls deal s (IsRaised c clock) = be_raised (nat_lt c (length s.live.clients))
 abbrev pub all_befall : Dealing → List Incident → Saved → Saved
 all_befall deal [] s = s
 all_befall deal (i ∷ is) s = all_befall deal is (befalls deal s i)
-
--- both passes have a grant of some voter, and no voter's grant is in both
-pub record AreApart (first second : List ℕ) : Type 0 where
-  pub voter : ℕ
-  pub within : voter < max_voters
-  pub first_has : 1 ≤ slice_index first voter
-  pub second_has : 1 ≤ slice_index second voter
-  pub apart : (v : ℕ) → 1 ≤ slice_index first v → slice_index first v ≡ slice_index second v → ⊥

@@ -6,5 +6,4 @@ pub mod NodeRuns
 pub mod Orderly
 pub mod Services
 pub mod Shows
-pub mod Turns
 pub mod Visits

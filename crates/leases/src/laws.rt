@@ -1,13 +1,14 @@
 //! Laws: what a guard may rely on.
-ghost use Rattle.std.specs.Prelude.{◌≡◌, ◌⊎◌, ℕ, List, Some, map};
+ghost use Rattle.std.specs.Prelude.{◌≡◌, ◌⊎◌, ℕ, List, Some};
 ghost use Rattle.std.specs.List.{AllByRecursion};
 ghost use Rattle.leases.specs.Comeback.{AllIdle, AreLawful, unseen};
 ghost use Rattle.leases.specs.Drained.{AsksNoMore, IsOut};
-ghost use Rattle.leases.specs.Incidents.{AreApart, Incident, all_befall};
+ghost use Rattle.leases.specs.Incidents.{Incident, all_befall};
 ghost use Rattle.leases.specs.Orderly.{AreOrderly};
 ghost use Rattle.fence.specs.Passes.{Admits};
-ghost use Rattle.leases.specs.Shows.{AreAdmitted, AreInOrder, DoNotInterleave, HasSeenOnly, IsCurrent, Show, WasIn, pass_in, story_of};
-ghost use Rattle.leases.specs.Turns.{AreEntered, Entry, TurnsNameRequests};
+ghost use Rattle.leases.specs.Shows.{HasSeenOnly, IsCurrent, IsShown, story_of};
+ghost use Rattle.passes.specs.Grants.{AreApart, Pass};
+ghost use Rattle.passes.specs.Guarded.{AreAdmitted, AreEntered, AreInOrder, DoNotInterleave, Entry, RequestsHaveOneTurn, TurnsTellRequests};
 ghost use Rattle.world.specs.Restarts.{Happening, IsIn, IsSameRequest, all_happen, begin, pass_of, stamp_of};
 ghost use Rattle.world.specs.Runs.{AreLimits};
 ghost use Rattle.world_state.specs.Steps.{Dealing};
@@ -40,11 +41,10 @@ pub fn passes_are_apart()
 /// Clients that were inside at any time show them, at any time, in any order and again.
 pub fn admitted_passes_are_in_order()
     ensures { (voters clients limit : ℕ) (quorums : List (List ℕ)) (deal : Dealing) (incidents : List Incident)
-        (seen : List ℕ) (shows : List Show)
+        (seen : List ℕ) (passes : List Pass)
         → AreLimits voters clients limit → DoMeet voters quorums → DealsFrom quorums deal
-        → AllByRecursion (WasIn (story_of deal voters clients limit incidents)) shows
-        → AreAdmitted seen (map (pass_in (story_of deal voters clients limit incidents)) shows)
-        → AreInOrder (story_of deal voters clients limit incidents) shows }
+        → AllByRecursion (IsShown (story_of deal voters clients limit incidents)) passes
+        → AreAdmitted seen passes → AreInOrder passes }
 {
     parts_keep_their_rules();
 }
@@ -53,11 +53,10 @@ pub fn admitted_passes_are_in_order()
 /// those of this request.
 pub fn admitted_passes_do_not_interleave()
     ensures { (voters clients limit : ℕ) (quorums : List (List ℕ)) (deal : Dealing) (incidents : List Incident)
-        (seen : List ℕ) (shows : List Show)
+        (seen : List ℕ) (passes : List Pass)
         → AreLimits voters clients limit → DoMeet voters quorums → DealsFrom quorums deal
-        → AllByRecursion (WasIn (story_of deal voters clients limit incidents)) shows
-        → AreAdmitted seen (map (pass_in (story_of deal voters clients limit incidents)) shows)
-        → DoNotInterleave (story_of deal voters clients limit incidents) shows }
+        → AllByRecursion (IsShown (story_of deal voters clients limit incidents)) passes
+        → AreAdmitted seen passes → DoNotInterleave passes }
 {
     admitted_passes_are_in_order();
     parts_keep_their_rules();
@@ -127,9 +126,8 @@ pub fn turns_name_requests()
     ensures { (voters clients limit : ℕ) (quorums : List (List ℕ)) (deal : Dealing) (incidents : List Incident)
         (seen : List ℕ) (turn : ℕ) (entries : List Entry)
         → AreLimits voters clients limit → DoMeet voters quorums → DealsFrom quorums deal
-        → AllByRecursion (λ e. WasIn (story_of deal voters clients limit incidents) e.show) entries
-        → AreEntered (story_of deal voters clients limit incidents) seen turn entries
-        → TurnsNameRequests (story_of deal voters clients limit incidents) entries }
+        → AllByRecursion (λ e. IsShown (story_of deal voters clients limit incidents) e.pass) entries
+        → AreEntered seen turn entries → TurnsTellRequests entries × RequestsHaveOneTurn entries }
 {
     parts_keep_their_rules();
 }

@@ -59,8 +59,10 @@
 //! Fencing tokens are from Gray and Cheriton's leases (SOSP 1989) and Burrows' sequencers (Chubby, OSDI
 //! 2006). Here a token is one number for each voter, as votes of one quorum have no common counter.
 //!
-//! Depends on `world`, `world_state`, `progress`, `voter_node` and `fence`, and on definitions of `voter`,
-//! `requester`, `message` and `numbers`.
+//! What of this holds of voters alone, whatever their clients are, has `passes`.
+//!
+//! Depends on `passes`, `world`, `world_state`, `progress`, `voter_node` and `fence`, and on definitions of
+//! `voter`, `requester`, `message` and `numbers`.
 #![tactic(auto)]
 
 mod again;
