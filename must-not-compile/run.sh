@@ -1,6 +1,6 @@
 #!/bin/sh
 # Tries what must not compile: a clerk that draws after it was dropped, a client's seat that joins twice or is copied, an office
-# that draws after it was closed, and a call of the board that waits for a lock.
+# that draws after it was closed, and a call of the board, or a draw, that waits for a lock.
 #
 #     must-not-compile/run.sh
 #
@@ -18,7 +18,7 @@ work=$(mktemp -d)
 trap 'rm -rf "$work"' EXIT
 trap 'exit 143' TERM
 # the crates that it depends on, in the order of crates.txt; those without a folder are the kit's
-below=$(cut -d: -f1 "$root/crates.txt" | grep -xF -e "$("$root/tools/below.sh" dealer; "$root/tools/below.sh" board)")
+below=$(cut -d: -f1 "$root/crates.txt" | grep -xF -e "$("$root/tools/below" dealer board)")
 cases=0
 wrong=0
 
@@ -83,4 +83,4 @@ for edit in "$here"/*.edit; do
 done
 
 echo "$cases cases, $wrong wrong"
-[ "$cases" -eq 5 ] && [ "$wrong" -eq 0 ]
+[ "$cases" -eq 6 ] && [ "$wrong" -eq 0 ]

@@ -11,6 +11,7 @@ ghost use Rattle.board.specs.Seats.{BoardState};
 use crate::fault::BoardFault;
 use crate::root::BoardRoot;
 use crate::table::{Sheet, VoteTable};
+use numbers::MAX_VOTERS;
 use quorum_set::{Bridge, Coterie, QSet, Side};
 use std::alloc::{AllocError, Global};
 use std::marker::Model;
@@ -238,8 +239,8 @@ fn joint_quorums(alloc: Global, bridge: &Bridge) -> Result<Vec<QSet>, AllocError
 }
 
 /// Returns 64 flags: the first `count` are true, the others false.
-fn first(count: u64) -> [bool; 64]
-    requires { count ≤ 64 }
+fn first(count: u64) -> [bool; MAX_VOTERS]
+    requires { count ≤ max_voters }
     ensures first { (k : ℕ) → slice_index_or result k false ≡ nat_lt k count }
     ensures sum { sum_by weight result ≡ count }
 {
@@ -251,10 +252,10 @@ fn first(count: u64) -> [bool; 64]
 }
 
 /// Returns 64 flags, all false.
-fn none() -> [bool; 64]
-    ensures { result ≡ replicate 64 false }
+fn none() -> [bool; MAX_VOTERS]
+    ensures { result ≡ replicate max_voters false }
 {
-    [false; 64]
+    [false; MAX_VOTERS]
 }
 
 /// Returns `count` zeros.

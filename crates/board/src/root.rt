@@ -196,7 +196,7 @@ fn first_held(held: &[u64; MAX_VOTERS]) -> Option<u8>
     ensures { MatchOption result ((v : ℕ) → slice_index held.now v ≡ 0)
         (λ v. (slice_index held.now v ≢ 0) × ((k : ℕ) → k < v → slice_index held.now k ≡ 0)) }
 {
-    for voter in 0..64u8 {
+    for voter in 0..MAX_VOTERS as u8 {
         if held[usize::from(voter)] != 0 {
             return Some(voter);
         }

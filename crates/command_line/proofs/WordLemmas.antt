@@ -1,6 +1,7 @@
 -- Lemmas on the sizes of a shape, and on what words name.
 use Rattle.std.proofs.Common.{◌≡◌, ℕ, ◌+◌, ◌<◌, ◌≤◌, List, [], ◌∷◌, ◌++◌, length, get_or, take, zero, suc, ap₂, refl, sym, subst, ◌∙◌, arith, rules, codes, Some}
 use Rattle.std.proofs.lemmas.Option.{same_Some}
+use Rattle.numbers.specs.Bounds.{max_dealt}
 use Rattle.clap.specs.Words.{Row, Text, fault_of, first_of, subcommand_of}
 use Rattle.command_line.specs.Words.{AreSizes, HasNumber, IsNamedBy, IsNumber, IsShapeOf, NamesNone, Refuses, RefusesByClap, RefusesUse, qlock_app, size_texts}
 use Rattle.command_line.specs.declared.command.Command.TheVariants.{Deal, Make, Run}
@@ -49,7 +50,7 @@ NamesNone-no_shape_of rows name sizes given are none (Make shape) named =
 NamesNone-no_shape_of rows name sizes given are none command named = search rules
 
 -- where `deal` was used with no number in range, it names nothing
-pub NamesNone-deal : (rows : List Row) → ((n : ℕ) → HasNumber (codes "N") 0 100000 rows n → ⊥) → NamesNone (Some (codes "deal", rows))
+pub NamesNone-deal : (rows : List Row) → ((n : ℕ) → HasNumber (codes "N") 0 max_dealt rows n → ⊥) → NamesNone (Some (codes "deal", rows))
 NamesNone-deal rows none (Deal n) named = none n named.1
 NamesNone-deal rows none command named = search rules
 

@@ -11,7 +11,7 @@ use Rattle.clap.specs.Lexer.{usize_max}
 use Rattle.clap.specs.declared.builder.range.ValueRange.{ValueRange}
 use Rattle.clap.specs.declared.builder.command.Command.{Command as Parser}
 use Rattle.clap.specs.declared.builder.command.Command.TheViews.{out-Command}
-use Rattle.numbers.specs.Bounds.{max_clients}
+use Rattle.numbers.specs.Bounds.{max_clients, max_dealt}
 use Rattle.command_line.specs.declared.command.Command.{Command}
 use Rattle.command_line.specs.declared.command.Command.TheVariants.{Check, Deal, Make, Plan, Replay, Run, World}
 use Rattle.command_line.specs.declared.command.Shape.{Shape}
@@ -35,7 +35,7 @@ number_rule name least most = record (word_rule name) { parser = Some (Unsigned 
 
 -- N, the number of tickets to deal: at most 100,000
 abbrev pub tickets_rule : Rule
-tickets_rule = number_rule (codes "N") 0 100000
+tickets_rule = number_rule (codes "N") 0 max_dealt
 
 -- NUMBERS: any count of numbers, each at most 9999
 abbrev pub sizes_rule : Rule
@@ -125,7 +125,7 @@ IsNamedBy (Some used) (Run clients passes turns) =
     × HasNumber (codes "CLIENTS") 1 max_clients used.1 clients
     × HasNumber (codes "PASSES") 0 1000 used.1 passes
     × HasNumber (codes "TURNS") 0 (10 ^ 12) used.1 turns
-IsNamedBy (Some used) (Deal n) = (used.0 ≡ codes "deal") × HasNumber (codes "N") 0 100000 used.1 n
+IsNamedBy (Some used) (Deal n) = (used.0 ≡ codes "deal") × HasNumber (codes "N") 0 max_dealt used.1 n
 
 -- the subcommand with this name is used, with these matches
 abbrev pub used_as : Text → ArgMatches → Option (Text × List Row)

@@ -5,10 +5,8 @@ ghost use Rattle.command_line.specs.Words.{IsLocal, number_rule, required_subcom
 
 use clap::Arg;
 use clap::builder::ValueParser;
+use numbers::MAX_DEALT;
 use std::alloc::{AllocError, Global};
-
-/// The greatest number of tickets that one call deals.
-pub(crate) const MOST_TICKETS: u64 = 100_000;
 
 /// Returns a subcommand without arguments.
 pub fn bare_command<'a>(alloc: Global, name: &'a str, about: &'a str) -> clap::Command<'a>
@@ -50,7 +48,7 @@ pub fn tickets_argument<'a>(alloc: Global) -> Arg<'a>
         "N",
         "How many tickets to deal, 0 to 100000",
         0,
-        MOST_TICKETS,
+        MAX_DEALT,
     )
 }
 

@@ -1,11 +1,12 @@
 //! What clap finds in the words, and the values of arguments.
 ghost use Rattle.std.specs.Prelude.{◌≡◌, ◌<◌, ℕ, [], length, slice_index_or, true, IfErr, IfOk, IfSome, None, codes, map, option_map, string_bytes};
+ghost use Rattle.numbers.specs.Bounds.{max_dealt};
 ghost use Rattle.clap.specs.Words.{all_of, app_of, first_of, found_of, is_simple_and_free, rows_of, subcommand_rows_of};
 ghost use Rattle.command_line.specs.Words.{HasMatches, HasNumber, RefusesByClap};
 
-use crate::arguments::MOST_TICKETS;
 use crate::usage::Usage;
 use clap::ArgMatches;
+use numbers::MAX_DEALT;
 
 /// Returns what clap finds in the words. The first word is the program's own name.
 pub fn read_matches<'a>(
@@ -64,10 +65,10 @@ pub fn number_of(used: &ArgMatches, name: &str, least: u64, most: u64) -> Option
 
 /// Returns how many tickets to deal, or `None` if the argument is no number or too large.
 pub fn tickets_of(used: &ArgMatches) -> Option<u32>
-    ensures some { IfSome result (HasNumber (codes "N") 0 100000 (rows_of (found_of used.now))) }
-    ensures none { result ≡ None → (number : ℕ) → ¬ HasNumber (codes "N") 0 100000 (rows_of (found_of used.now)) number }
+    ensures some { IfSome result (HasNumber (codes "N") 0 max_dealt (rows_of (found_of used.now))) }
+    ensures none { result ≡ None → (number : ℕ) → ¬ HasNumber (codes "N") 0 max_dealt (rows_of (found_of used.now)) number }
 {
-    match number_of(used, "N", 0, MOST_TICKETS) {
+    match number_of(used, "N", 0, MAX_DEALT) {
         Some(tickets) => Some(tickets as u32),
         None => None,
     }

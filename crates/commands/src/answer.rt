@@ -101,6 +101,7 @@ fn deal_text_of(alloc: Global, planned: Planned, count: u64) -> Result<String, A
 {
     let Planned { named, plan } = planned;
     let (account, receipts) = dealt(alloc, plan, count)?;
+    // Called for its contract alone: each voter has a name.
     let _ = named.coterie();
     deal_lines_of(alloc, &named, &receipts, &account)
 }
@@ -217,6 +218,7 @@ fn replayed(alloc: Global, planned: &Planned, text: &[u8]) -> Result<String, Rep
 {
     let run = read_record(alloc, text)?;
     let account = account_of_record(alloc, &planned.plan, &run)?;
+    // Called for its contract alone: each voter has a name.
     let _ = planned.named.coterie();
     match record_lines_of(alloc, &planned.named, &account, run.register) {
         Ok(page) => Ok(page),

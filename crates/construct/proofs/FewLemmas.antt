@@ -1,21 +1,16 @@
--- Lists of at most 4096 sets, and sets that are made number by number.
-use Rattle.std.proofs.Common.{◌≡◌, ℕ, ◌+◌, ◌-◌, ◌<◌, ◌≤◌, Bool, true, false, ◌||◌, cond, eqb, List, [], ◌∷◌, ◌++◌, length, get_or, take, map, zero, suc, sym, refl, ap, ap₂, subst, ◌∙◌, inl, inr, arith, Result, Ok, Err, Vec, length-append, append_assoc}
+-- Lists of at most 4096 sets.
+use Rattle.std.proofs.Common.{◌≡◌, ℕ, ◌+◌, ◌<◌, ◌≤◌, Bool, false, ◌||◌, cond, List, [], ◌∷◌, ◌++◌, length, get_or, take, map, zero, suc, sym, refl, ap, ap₂, subst, ◌∙◌, inl, inr, arith, Result, Ok, Err, Vec, length-append, append_assoc}
 use Rattle.std.specs.declared.alloc.Global.{Global}
 use Rattle.std.specs.Result.{IsErrAnd}
-use Rattle.std.specs.List.{All}
 use Rattle.std.specs.Bool.{OnFalse}
 use Rattle.std.proofs.lemmas.Bool.{cases_lt, lt-ltb, le-ltb, OnFalse_at, OnFalse_from}
-use Rattle.std.proofs.lemmas.List.{append-nil, map-append, take_more}
-use Rattle.std.proofs.lemmas.List.Elements.{All-head, All-tail}
-use Rattle.numbers.specs.Sets.{has, union, IsSet, set_where}
-use Rattle.numbers.proofs.SetLemmas.{has-set_where, is_set_where, set_where-same}
+use Rattle.std.proofs.lemmas.List.{append-nil, take_more}
 use Rattle.construct.specs.Answers.{Adds, Gives, Lists, coterie_at, few, is_out_of_memory}
 use Rattle.numbers.specs.Results.{GivesUnless}
 use Rattle.quorum_set.specs.Coteries.{QuorumSystem}
 use Rattle.construct.specs.Majority.{sets_from}
 use Rattle.construct.specs.declared.fault.ConstructFault.{ConstructFault}
 use Rattle.construct.specs.declared.fault.ConstructFault.TheVariants.{BadSize, TooLarge}
-use Rattle.construct.proofs.SetLemmas.{eqb_turned}
 
 pub few-small : (sets : List (List ℕ)) → length sets ≤ 4096 → few sets ≡ Ok sets
 unfolding few
@@ -149,41 +144,6 @@ few-first old first second fault e =
     few-longer (old ++ first) (old ++ (first ++ second)) fault e
     (omega (arith, length-append old first, length-append old (first ++ second), length-append first second))
 
-or_moved : (a b c d : Bool) → b ≡ d → ((a || (b || c))) ≡ ((d || a) || c)
-or_moved true true c d e = ap (λ x. (x || true) || c) e
-or_moved true false c d e = ap (λ x. (x || true) || c) e
-or_moved false true c d e = ap (λ x. (x || false) || c) e
-or_moved false false c d e = ap (λ x. (x || false) || c) e
-
--- a set with one number more
-abbrev pub with : ℕ → List ℕ → List ℕ
-with i s = set_where (λ j. eqb j i || has s j)
-
--- a number joined before or after the others
-pub union-with : (begun : List ℕ) (low : ℕ) (s : List ℕ) → union begun (low ∷ s) ≡ union (with low begun) s
-union-with begun low s =
-    set_where-same (λ v. has begun v || has (low ∷ s) v) (λ v. has (with low begun) v || has s v) (λ i lt.
-    or_moved (has begun i) (eqb low i) (has s i) (eqb i low) (eqb_turned low i)
-    ∙ ap (λ b. b || has s i) (sym (has-set_where (λ j. eqb j low || has begun j) i lt)))
-
-pub union-begun : (begun : List ℕ) → IsSet begun → union begun [] ≡ begun
-union-begun begun set = sym (is_set_where begun (λ v. has begun v || has [] v) set (λ i lt. or_none (has begun i)))
-  where
-    or_none : (b : Bool) → b ≡ (b || false)
-    or_none true = refl
-    or_none false = refl
-
-pub union-none : (s : List ℕ) → IsSet s → union [] s ≡ s
-union-none s set = sym (is_set_where s (λ v. has [] v || has s v) set (λ i lt. refl))
-
-pub map-union_none : (sets : List (List ℕ)) → All IsSet sets → map (union []) sets ≡ sets
-map-union_none [] all = refl
-map-union_none (s ∷ sets) all = ap₂ (λ x xs. x ∷ xs) (union-none s (All-head IsSet s sets all)) (map-union_none sets (All-tail IsSet s sets all))
-
-map-union_with : (begun : List ℕ) (low : ℕ) (sets : List (List ℕ)) → map (union begun) (map (λ s. low ∷ s) sets) ≡ map (union (with low begun)) sets
-map-union_with begun low [] = refl
-map-union_with begun low (s ∷ sets) = ap₂ (λ x xs. x ∷ xs) (union-with begun low s) (map-union_with begun low sets)
-
 pub sets_from-none : (a n k : ℕ) → n < k → sets_from a n k ≡ []
 unfolding sets_from
 sets_from-none a n zero lt = absurd (omega arith)
@@ -191,23 +151,6 @@ sets_from-none a zero (suc k) lt = refl
 sets_from-none a (suc n) (suc k) lt =
     ap₂ (λ xs ys. map (λ s. a ∷ s) xs ++ ys) (sets_from-none (a + 1) n k (omega arith)) (sets_from-none (a + 1) n (suc k) (omega arith))
 
--- the sets with the first voter, and those without it
-pub sets_from-joined : (begun : List ℕ) (low n k : ℕ) → (k ≡ 0 → ⊥) → k ≤ n
-    → map (union begun) (sets_from low n k) ≡ map (union (with low begun)) (sets_from (low + 1) (n - 1) (k - 1)) ++ map (union begun) (sets_from (low + 1) (n - 1) k)
-unfolding sets_from
-sets_from-joined begun low n zero some le = absurd (some refl)
-sets_from-joined begun low zero (suc k) some le = absurd (omega arith)
-sets_from-joined begun low (suc n) (suc k) some le =
-    let fewer : n ≡ suc n - 1 = omega arith in
-    let less : k ≡ suc k - 1 = omega arith in
-    map-append (union begun) (map (λ s. low ∷ s) (sets_from (low + 1) n k)) (sets_from (low + 1) n (suc k))
-    ∙ ap₂ (λ xs ys. xs ++ ys) (map-union_with begun low (sets_from (low + 1) n k)) refl
-    ∙ ap₂ (λ m l. map (union (with low begun)) (sets_from (low + 1) m l) ++ map (union begun) (sets_from (low + 1) m (suc k))) fewer less
-
--- no set, and one set, of no further voters
+-- no set more
 pub few-nothing : (old : List (List ℕ)) → length old ≤ 4096 → few (old ++ []) ≡ Ok old
 few-nothing old le = ap few (append-nil old) ∙ few-small old le
-
-pub sets_from-one : (begun : List ℕ) (low n k : ℕ) → k ≡ 0 → IsSet begun → map (union begun) (sets_from low n k) ≡ begun ∷ []
-unfolding sets_from
-sets_from-one begun low n k e set = rw e (ap (λ s. s ∷ []) (union-begun begun set))

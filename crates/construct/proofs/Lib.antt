@@ -5,6 +5,7 @@ pub mod GridLemmas
 pub mod WheelLemmas
 pub mod CyclicLemmas
 pub mod TreeLemmas
+pub mod Combinations
 pub mod MajorityLemmas
 pub mod CentreLemmas
 pub mod VoteLemmas

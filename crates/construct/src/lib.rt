@@ -5,8 +5,8 @@
 //! the fault of its sizes: `BadSize` if they are too small, `TooLarge` if the coterie would be out
 //! of bounds. All but cyclic lists are proved to be coteries at every size that they take. A cyclic
 //! list is a coterie if its base allows it; if not, `cyclic` returns the first pair of quorums at
-//! fault. The crate depends on `quorum_set`, which defines coteries, and on `numbers`. Other crates
-//! deal with the texts of coteries and with plans.
+//! fault. The crate depends on `quorum_set`, which defines coteries, on `numbers`, and on `itertools`,
+//! which lists combinations. Other crates deal with the texts of coteries and with plans.
 //!
 //! Two things matter for the choice: the load that the best plan puts on the busiest voter (Naor
 //! and Wool, SIAM J. Comput. 27(2), 1998), and how many members a lock has to ask. Of n voters:

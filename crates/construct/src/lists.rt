@@ -1,14 +1,18 @@
 //! Lists of at most 4096 quorums.
-ghost use Rattle.std.specs.Prelude.{◌+◌, ◌≤◌, [], ◌∷◌, length, map};
+ghost use Rattle.std.specs.Prelude.{◌≡◌, ◌+◌, ◌≤◌, [], ◌∷◌, length, IfOk, vec_len};
+ghost use Rattle.std.specs.List.{range_with_len};
+ghost use Rattle.itertools.specs.Odometer.{ways};
+ghost use Rattle.itertools.specs.Pool.{ascending_low, ascending_high, combination_can, combination_left};
 ghost use Rattle.numbers.specs.Bounds.{max_voters, max_quorums};
-ghost use Rattle.numbers.specs.Sets.{union};
+ghost use Rattle.numbers.specs.Sets.{has, set_where};
 ghost use Rattle.construct.specs.Answers.{Adds, Lists};
 ghost use Rattle.construct.specs.Majority.{sets_from};
 
 use crate::fault::ConstructFault;
-use numbers::MAX_QUORUMS;
+use itertools::{Combinations, Itertools};
+use numbers::{MAX_QUORUMS, MAX_VOTERS};
 use quorum_set::QSet;
-use std::alloc::Global;
+use std::alloc::{AllocError, Global};
 
 /// Adds a set, or fails with `TooLarge` if there are 4096 already.
 #[tactic(auto, using(crate::proofs::FewLemmas::few_push, crate::proofs::FewLemmas::many_push))]
@@ -33,37 +37,40 @@ pub(crate) fn push_all(sets: &mut Vec<QSet>, more: &[QSet]) -> Result<(), Constr
     Ok(())
 }
 
-/// Adds the sets of `size` of the `n` voters from `low` on, each joined with `begun`, in
-/// lexicographic order.
-fn push_sets(
-    sets: &mut Vec<QSet>,
-    begun: &QSet,
-    low: u8,
-    n: u8,
-    size: u8,
-) -> Result<(), ConstructFault>
-    requires voters { low + n ≤ max_voters }
-    requires few { length sets.now.items ≤ max_quorums }
-    ensures { Adds result sets.old.items sets.new.items (map (union begun.now) (sets_from low n size)) }
+/// Returns the set of these members. Leaves out numbers of 64 or more.
+fn set_of(members: &[u8]) -> QSet
+    ensures { result ≡ set_where (has members.now) }
 {
-    if size == 0 {
-        return push(sets, begun.copy());
+    let mut set = QSet::empty();
+    for member in members {
+        if usize::from(*member) < MAX_VOTERS {
+            set.insert(*member);
+        }
     }
-    if n < size {
-        return Ok(());
-    }
-    let mut with_low = begun.copy();
-    with_low.insert(low);
-    push_sets(sets, &with_low, low + 1, n - 1, size - 1)?;
-    push_sets(sets, begun, low + 1, n - 1, size)
+    set
 }
 
-/// Returns the sets of `size` of the `n` voters from `low` on, in lexicographic order.
+/// Returns an iterator over the choices of `size` of the `n` numbers from `low` on.
+fn choices(alloc: Global, low: u8, n: u8, size: u8) -> Result<Combinations<u8, Global>, AllocError>
+    requires { low + n ≤ max_voters }
+    ensures can { IfOk result combination_can }
+    ensures pool { IfOk result (λ c. c.pool.items ≡ range_with_len low n) }
+    ensures room { IfOk result (λ c. vec_len c.pool ≡ n) }
+    ensures left { IfOk result (λ c. combination_left c
+        ≡ ways ascending_low (ascending_high (vec_len c.pool) size) size []) }
+{
+    (low..low + n).combinations(alloc, usize::from(size))
+}
+
+/// Returns the sets of `size` of the `n` voters from `low` on, in lexicographic order. Ends with
+/// `TooLarge` at the first set after 4096, so it never goes through all sets of a large number.
 pub(crate) fn sets_of(alloc: Global, low: u8, n: u8, size: u8) -> Result<Vec<QSet>, ConstructFault>
     requires { low + n ≤ max_voters }
     ensures { Lists result (sets_from low n size) }
 {
     let mut sets = Vec::new(alloc);
-    push_sets(&mut sets, &QSet::empty(), low, n, size)?;
+    for members in choices(alloc, low, n, size)? {
+        push(&mut sets, set_of(&members?))?;
+    }
     Ok(sets)
 }

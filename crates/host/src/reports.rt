@@ -7,7 +7,8 @@ ghost use Rattle.commands.specs.Statuses.{status_of, usage_status};
 use crate::files::Unread;
 use crate::line::{END, MARK};
 use clap::error::ErrorKind;
-use commands::{DeviceFault, Fault, Usage, status_of, usage_status};
+use commands::{DeviceFault, Fault, InputFault, Usage, status_of, usage_status};
+use planner::PlannerFault;
 use std::io::IsTerminal;
 
 /// The exit status of a refused input.
@@ -106,12 +107,23 @@ pub fn tell_of_reading<R: Eprint, I: IsTerminal>(rt: &R, input: &I) {
     }
 }
 
-/// Tells who sits at a terminal how to see where an input is wrong, if it was refused.
-pub fn tell_of_fault<R: Eprint, E: IsTerminal>(rt: &R, error: &E, status: u8) {
-    if status == INPUT_REFUSED && error.is_terminal() {
-        let _ = rt.eprintln(
-            "qlock-show fault, with the same words and the same input, says where.",
-        );
+/// Returns what helps after an input was refused with this fault: where it is wrong, or, if it has no
+/// fault and no plan was found, what there is in place of a plan.
+fn advice_on(fault: &Fault) -> &'static str {
+    match fault {
+        Fault::Input(InputFault::Planner(PlannerFault::NoPlan(_))) => {
+            "qlock-show near, with the same input, finds weights that are near the best."
+        }
+        _ => "qlock-show fault, with the same words and the same input, says where.",
+    }
+}
+
+/// Tells who sits at a terminal what helps, if the input was refused.
+pub fn tell_of_fault<R: Eprint, E: IsTerminal>(rt: &R, error: &E, served: &Result<(), Fault>) {
+    if let Err(fault) = served {
+        if status_of(fault) == INPUT_REFUSED && error.is_terminal() {
+            let _ = rt.eprintln(advice_on(fault));
+        }
     }
 }
 

@@ -20,8 +20,7 @@ use Rattle.world_state.specs.declared.step.Stepped.{Stepped}
 use Rattle.world.specs.Restarts.{Goes, OneClient, OneVoter, Saved, come_back, happens, if_there, restart, save_and_send}
 use Rattle.world.specs.SavedWorlds.{PlannedSaved, SavesAndSends}
 use Rattle.world_state.specs.Steps.{Outcome, WorldState, after_voter, client_at, dealing_of, if_client, if_voter, vote, voter_at}
-use Rattle.world.proofs.Claims.{put-same}
-use Rattle.world.proofs.Places.{client_at-set}
+use Rattle.world.proofs.Places.{client_here}
 use Rattle.leases.specs.Incidents.{Incident, Happens, Hears, anew, be_reborn, come_back_as, hear, is_above, is_ahead, reborn, start_anew, start_as}
 use Rattle.incidents.specs.declared.fault.IncidentFault.{IncidentFault}
 use Rattle.incidents.specs.declared.parts.Evicted.{Evicted}
@@ -134,9 +133,6 @@ pub anew_on : {T F : Type 0} (r : Result T F) (s : Saved) (c clock : ℕ) (new :
 anew_on (Ok t) s c clock new within is done = done ∙ sym (anew_is s c clock within is)
 anew_on (Err fault) s c clock new within is done = done
 
-client_set_same : (cs : List ClientState) (c : ℕ) (x : ClientState) → c < length cs → client_at (slice_set cs c x) c ≡ x
-client_set_same cs c x within = ap (λ (f : ℕ → ClientState). f c) (client_at-set cs c x within) ∙ put-same (client_at cs) c x
-
 -- a client that is saved anew, and then comes back, started anew
 pub starts_as : (s : Saved) (c clock limit : ℕ) (x : ClientState) (live : WorldState) (clients : List ClientState) (new : Saved) → c < length s.clients → x ≡ client_at s.live.clients c → x.id ≡ c → limit ≡ x.limit
     → live ≡ s.live → clients ≡ slice_set s.clients c (client.anew c limit clock) → new ≡ come_back (record { live = live; clients = clients; voters = s.voters }) c (client_at clients c)
@@ -146,7 +142,7 @@ starts_as s c clock limit x live clients new within who id limit_is live_is clie
     let same : client.anew c limit clock ≡ anew x clock = ap₂ (λ (i l : ℕ). client.anew i l clock) (sym id) limit_is in
     let made : clients ≡ slice_set s.clients c y = clients_are ∙ ap (λ (z : ClientState). slice_set s.clients c z) (same ∙ ap (λ (z : ClientState). anew z clock) who) in
     came ∙ ap₂ (λ (w : WorldState) (l : List ClientState). come_back (record { live = w; clients = l; voters = s.voters }) c (client_at l c)) live_is made
-    ∙ ap (λ (z : ClientState). come_back (record s { clients = slice_set s.clients c y }) c z) (client_set_same s.clients c y within)
+    ∙ ap (λ (z : ClientState). come_back (record s { clients = slice_set s.clients c y }) c z) (client_here s.clients c y within)
 
 -- ---- a voter and a client that come back as they are
 

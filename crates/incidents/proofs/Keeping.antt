@@ -44,7 +44,8 @@ use Rattle.world.proofs.Plans.{plans_deal, plans_meet, quorums_of}
 use Rattle.world.proofs.Reached.{Given, accepts_among, start_ok, start_unused}
 use Rattle.world.proofs.SavedWorlds.{SavedLaws}
 use Rattle.leases.specs.Incidents.{Incident, Happens, Hears, IsReborn, StartsAnew, HasLimit, IsRaised, anew, be_raised, be_reborn, befalls, have_limit, hear, is_above, is_ahead, is_limit, is_message, is_request_within, limited, reborn, start_anew}
-use Rattle.leases.proofs.Numbers.{AsksInRange, both, may_have, set_client, set_voter, under_grant}
+use Rattle.leases.proofs.Numbers.{AsksInRange, may_have, set_client, set_voter}
+use Rattle.passes.proofs.Requests.{both, under_grant}
 use Rattle.leases.proofs.Raises.{no_inquiry, raised_by_step}
 use Rattle.incidents.specs.Calls.{befalls_by}
 use Rattle.incidents.specs.Fit.{IsFit, IsFitState, IsWritten}

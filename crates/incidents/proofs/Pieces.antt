@@ -38,7 +38,8 @@ use Rattle.world.proofs.Claims.{Bounds}
 use Rattle.world.proofs.ClientMoves.{Draws, member_below}
 use Rattle.world.proofs.Reached.{Given}
 use Rattle.leases.specs.Incidents.{anew, limited, reborn}
-use Rattle.leases.proofs.Numbers.{AsksInRange, anew_sound, brought, under_grant}
+use Rattle.leases.proofs.Numbers.{AsksInRange, anew_sound, brought}
+use Rattle.passes.proofs.Requests.{under_grant}
 use Rattle.incidents.specs.Fit.{IsFitClient, IsFitMessage, IsFitVoter}
 
 abbrev pub FitClient : Bounds → ℕ → ClientState → Type 0

@@ -1,5 +1,5 @@
 -- How many messages of a step are lost.
-use Rattle.std.specs.Prelude.{◌≡◌, ◌⊎◌, ℕ, ◌+◌, ◌-◌, ◌*◌, ◌^◌, Bool, ◌||◌, length, min, nat_le}
+use Rattle.std.specs.Prelude.{◌≡◌, ◌⊎◌, ℕ, ◌+◌, ◌-◌, ◌*◌, ◌^◌, Bool, ◌||◌, [], length, min, nat_le}
 use Rattle.message.specs.declared.message.ToClient.{ToClient}
 use Rattle.message.specs.declared.message.ToVoter.{ToVoter}
 use Rattle.board.specs.Seats.{BoardState}
@@ -19,11 +19,11 @@ is_stray_reply board m = nat_le board.voters m.voter || nat_le board.clients m.c
 abbrev pub most_lost : ℕ → ℕ
 most_lost sent = 3 * sent
 
--- What became of a message to this voter, with the outbox before and after. Either it is lost, and the
--- outbox stays as it was. Or the outbox has the voter's replies, and each of them is posted or lost.
-abbrev pub IsDelivered : ℕ → OutboxState → OutboxState → ℕ → ℕ → Type 0
-IsDelivered voter before after posted lost =
-    ((posted ≡ 0) × (lost ≡ 1) × (after ≡ before))
+-- What became of a message to this voter, with the outbox afterwards. Either it is lost, and the outbox
+-- is empty. Or the outbox has the voter's replies, and each of them is posted or lost.
+abbrev pub IsDelivered : ℕ → OutboxState → ℕ → ℕ → Type 0
+IsDelivered voter after posted lost =
+    ((posted ≡ 0) × (lost ≡ 1) × (after.messages ≡ []))
     ⊎ ((posted + lost ≡ length after.messages) × (after.voter ≡ voter))
 
 -- the losses of two steps; each count stays at its greatest value, 2^64 - 1

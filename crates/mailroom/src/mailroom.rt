@@ -1,5 +1,5 @@
 //! The mailroom of a cluster: where the messages of all its members go.
-ghost use Rattle.std.specs.Prelude.{◌≡◌, ℕ, ◌+◌, ◌<◌, ◌≤◌, true, false, None, Ok, IfErr, IfNone, IfOk, IfSome, length, nat_le, nat_lt, slice_index_or};
+ghost use Rattle.std.specs.Prelude.{◌≡◌, ℕ, ◌+◌, ◌<◌, ◌≤◌, [], true, false, None, Ok, IfErr, IfNone, IfOk, IfSome, length, nat_le, nat_lt, slice_index_or};
 ghost use Rattle.std.specs.List.{count_by};
 ghost use Rattle.numbers.specs.Bounds.{max_clients, max_voters};
 ghost use Rattle.mailroom.specs.Losses.{IsDelivered, is_stray, is_stray_reply, most_lost};
@@ -88,19 +88,20 @@ impl<N: ClusterName> Mailroom<N> {
         (board, nodes)
     }
 
-    /// Gives a message to its voter's node, with the replies in `outbox` in place of what was there.
+    /// Gives a message to its voter's node, with the replies in `outbox`, which has to be empty.
     /// Returns `false` if the node dropped the message, or the cluster doesn't have the voter or the
-    /// client. Fails if the node ran out of memory. Then the message is lost and `outbox` is unchanged.
+    /// client. Fails if the node ran out of memory. Then the message is lost and `outbox` is empty.
     fn tell(
         &self,
         rt: &impl Wait,
         message: &ToVoter,
         outbox: &mut Outbox,
     ) -> Result<bool, AllocError>
+        requires empty { outbox.old.messages ≡ [] }
         ensures stray { is_stray N.cluster.board message.now ≡ true → result ≡ Ok false }
         ensures taken { IfOk result (λ taken. taken ≡ true → outbox.new.voter ≡ message.now.voter) }
-        ensures else_same { IfOk result (λ taken. taken ≡ false → outbox.new ≡ outbox.old) }
-        ensures memory { IfErr result (λ _. outbox.new ≡ outbox.old) }
+        ensures else_empty { IfOk result (λ taken. taken ≡ false → outbox.new.messages ≡ []) }
+        ensures memory { IfErr result (λ _. outbox.new.messages ≡ []) }
     {
         if usize::from(message.client) >= self.mailboxes.len() {
             return Ok(false);
@@ -194,13 +195,14 @@ impl<N: ClusterName> Mailroom<N> {
 
     /// Gives a message to its voter, and the voter's replies to their clients. Each reply is posted
     /// or lost. If the message itself is lost, nothing is posted, that counts as one, and `outbox` is
-    /// unchanged. Otherwise `outbox` gets the replies.
+    /// empty. Otherwise `outbox` has the replies, in place of what was there.
     fn deliver_into(&self, rt: &impl Wait, message: &ToVoter, outbox: &mut Outbox) -> Posted
         ensures few { result.losses.lost ≤ most_lost 1 }
         ensures starved { result.losses.starved ≤ result.losses.lost }
         ensures stray { is_stray N.cluster.board message.now ≡ true → result.losses ≡ record { lost = 1; starved = 0 } }
-        ensures each { IsDelivered message.now.voter outbox.old outbox.new result.posted result.losses.lost }
+        ensures each { IsDelivered message.now.voter outbox.new result.posted result.losses.lost }
     {
+        outbox.clear();
         let Some(line) = self.line(rt, message.voter) else {
             return Posted::nothing(Losses::one());
         };

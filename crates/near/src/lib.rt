@@ -3,8 +3,8 @@
 //! The planner finds an optimal plan, or none: the exact weights of a large irregular coterie may
 //! sum to more than 1,000,000. [`near`] finds rounded weights for each coterie. A [`NearPlan`] has
 //! their load, and a bound: no weights of the coterie have a load below it. So anybody sees how far
-//! the load is above the smallest possible one, at most. In tests with 20 to 64 voters this was less
-//! than 0.02 %.
+//! the load is above the smallest possible one, at most. In tests with 90 random coteries of 20 to 64
+//! voters, two thirds of them with random capacities, this was less than 0.02 %.
 //!
 //! The bound is made of weights of the voters, by the duality of linear programs (Naor and Wool,
 //! SIAM J. Comput. 27(2), 1998).

@@ -58,9 +58,9 @@ fn found(alloc: Global, coterie: &Coterie, capacities: &[u64]) -> Result<NearPla
 /// Finds weights of a coterie's quorums whose load is near the smallest possible one, and weights of
 /// its voters that show how near. There has to be a capacity for each voter, 1 to 1000.
 ///
-/// The quorums' weights sum to at most 1,000,000. In tests with 20 to 64 voters they summed to less
-/// than 100,000, and the load was less than 0.02 % above the bound. Fails only if it runs out of
-/// memory.
+/// The quorums' weights sum to at most 1,000,000. In tests with 90 random coteries of 20 to 64 voters,
+/// two thirds of them with random capacities, they summed to less than 100,000. The load was less than
+/// 0.02 % above the bound. Fails only if it runs out of memory.
 pub fn near(alloc: Global, coterie: &Coterie, capacities: &[u64]) -> Result<NearPlan, AllocError>
     requires capacities { AreCapacities capacities.now coterie.now.voters }
     ensures coterie { IfOk result (λ n. n.system ≡ coterie.now) }

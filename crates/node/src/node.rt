@@ -121,7 +121,7 @@ impl<N: ClusterName> Node<N> {
     }
 
     /// Does what [`Node::take`] does, with the replies in `outbox` in place of what was there.
-    /// Returns whether it took the message. If not, or if it fails, `outbox` is unchanged.
+    /// Returns whether it took the message. If not, or if it fails, `outbox` is empty.
     pub fn take_into(
         &mut self,
         board: &Board,
@@ -134,13 +134,14 @@ impl<N: ClusterName> Node<N> {
             step self.old.voter message.now ≡ Some (record { replies = outbox.new.messages; state = self.new.voter })) }
         ensures of_voter { IfOk result (λ taken. taken ≡ true → outbox.new.voter ≡ self.new.number) }
         ensures logged { IfOk result (λ taken. taken ≡ true → self.new.log ≡ self.old.log ++ message.now ∷ []) }
-        ensures dropped { IfOk result (λ taken. taken ≡ false → (self.new ≡ self.old) × (outbox.new ≡ outbox.old)
+        ensures dropped { IfOk result (λ taken. taken ≡ false → (self.new ≡ self.old) × (outbox.new.messages ≡ [])
             × (((effect_of self.old.voter message.now).refused ≡ true)
             ⊎ ((effect_of self.old.voter message.now).frees ≡ true))) }
-        ensures refused { IfErr result (λ _. (self.new ≡ self.old) × (outbox.new ≡ outbox.old)) }
+        ensures refused { IfErr result (λ _. (self.new ≡ self.old) × (outbox.new.messages ≡ [])) }
         ensures number { self.new.number ≡ self.old.number }
     {
         voters_keep_their_laws();
+        outbox.clear();
         self.log.reserve(1)?;
         let effect = self.voter.effect(message);
         if effect.refused || !settle(&mut self.seat, board, effect.frees) {

@@ -7,8 +7,8 @@ use std::marker::Model;
 use voter::Replies;
 
 /// The messages of one voter that have to go out: its replies to a message, or its reminders. Only a
-/// node fills an outbox, and nobody takes a message out of it. So whoever sends its messages can count
-/// whether all were sent. Contracts see an `OutboxState`.
+/// node fills an outbox, and nobody takes a single message out of it. So whoever sends its messages can
+/// count whether all were sent. Contracts see an `OutboxState`.
 #[derive(Drop)]
 pub struct Outbox {
     pub(crate) voter: u8,
@@ -34,6 +34,13 @@ impl Outbox {
             voter: 0,
             messages: Replies::new(),
         }
+    }
+
+    /// Drops the messages.
+    pub fn clear(&mut self)
+        ensures { self.new ≡ record { voter = self.old.voter; messages = [] } }
+    {
+        self.messages.clear();
     }
 
     /// Returns the messages, three at most, in the order in which the voter made them.

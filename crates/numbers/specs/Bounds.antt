@@ -25,6 +25,10 @@ max_stamp = 2 ^ 40
 abbrev pub max_tickets : ℕ
 max_tickets = 2 ^ 63
 
+-- the most tickets that one command deals
+abbrev pub max_dealt : ℕ
+max_dealt = 100000
+
 -- the greatest capacity of a voter; the least is 1
 abbrev pub max_capacity : ℕ
 max_capacity = 1000

@@ -29,5 +29,8 @@ pub const MAX_STAMP: u64 = 1 << 40;
 /// The most tickets. As each pass has a ticket, it is also the highest number of a register.
 pub const MAX_TICKETS: u64 = 1 << 63;
 
+/// The most tickets that one command deals.
+pub const MAX_DEALT: u64 = 100_000;
+
 /// The greatest capacity of a voter. The least is 1.
 pub const MAX_CAPACITY: u64 = 1000;

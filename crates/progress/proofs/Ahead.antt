@@ -14,7 +14,8 @@ use Rattle.voter.specs.declared.state.VoterState.{VoterState}
 use Rattle.voter.specs.Entries.{request_of}
 use Rattle.voter.specs.Steps as voter
 use Rattle.voter.specs.VoterContract.{IsEntry}
-use Rattle.voter.specs.Waiting.{front, precedes}
+use Rattle.message.specs.Requests.{precedes}
+use Rattle.voter.specs.Waiting.{front}
 use Rattle.voter.proofs.Cases.{by_admit, by_release, by_request}
 use Rattle.voter.proofs.Effects.{step-Some}
 use Rattle.world_state.specs.declared.step.Step.{Step}

@@ -23,7 +23,7 @@ use Rattle.voter.specs.Replies.{AllCarry, seen_after}
 use Rattle.voter.specs.Steps as voter
 use Rattle.voter.specs.VoteMoves.{VoteMoves}
 use Rattle.voter.specs.VoterContract.{IsEntry}
-use Rattle.voter.specs.Waiting.{precedes}
+use Rattle.message.specs.Requests.{precedes}
 use Rattle.requester.specs.declared.fault.ClientFault.TheVariants.{Busy}
 use Rattle.requester.specs.declared.state.ClientState.{ClientState}
 use Rattle.requester.proofs.SoundSteps.{ask-Ok as ask_ok}

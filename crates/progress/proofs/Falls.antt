@@ -11,7 +11,7 @@ use Rattle.message.specs.declared.request.Request.{Request}
 use Rattle.voter.specs.declared.state.Grant.{Grant}
 use Rattle.voter.specs.Entries.{request_of}
 use Rattle.voter.specs.Steps as voter
-use Rattle.voter.specs.Waiting.{precedes}
+use Rattle.message.specs.Requests.{precedes}
 use Rattle.requester.specs.declared.state.ClientState.{ClientState}
 use Rattle.requester.specs.Words.{holds, is_asking, last_of}
 use Rattle.world_state.specs.declared.step.Step.{Step}

@@ -19,7 +19,7 @@ use Rattle.voter.specs.declared.state.Grant.{Grant}
 use Rattle.voter.specs.declared.state.VoterState.{VoterState}
 use Rattle.voter.specs.Steps as voter
 use Rattle.voter.specs.VoterContract.{IsEntry}
-use Rattle.voter.specs.Waiting.{precedes}
+use Rattle.message.specs.Requests.{precedes}
 use Rattle.requester.specs.declared.state.ClientState.{ClientState}
 use Rattle.requester.specs.Held.{IsGivenBack}
 use Rattle.requester.specs.RequesterContract.{AllSay, MeetsContract, Says}

@@ -2,7 +2,7 @@
 use Rattle.std.proofs.Common.{◌≡◌, ◌≢◌, ℕ, suc, ◌+◌, ◌*◌, ◌<◌, ◌≤◌, Bool, true, false, List, [], ◌∷◌, ◌++◌, length, map, Ok, Err, refl, sym, ap, subst, ◌∙◌, ◌⊎◌, inl, inr, arith}
 use Rattle.std.specs.Prelude.{Result, nat_lt, slice_set, Some}
 use Rattle.std.proofs.lemmas.Bool.{cases_eq, ltb-true}
-use Rattle.std.proofs.lemmas.List.{append-nil, ext_get_or, length-set, set_past}
+use Rattle.std.proofs.lemmas.List.{append-nil, length-set, set_past}
 use Rattle.message.specs.declared.message.Message.TheVariants as kinds
 use Rattle.voter.specs.declared.state.VoterState.{VoterState}
 use Rattle.voter.specs.Saved.{least_voter}
@@ -26,6 +26,7 @@ use Rattle.world.specs.Visible.{DealsFrom}
 use Rattle.world.proofs.Added.{Adds-step}
 use Rattle.world.proofs.Claims.{Bounds}
 use Rattle.world.proofs.EveryRun.{coherent_by, run_from}
+use Rattle.world.proofs.Mixes.{same_clients, same_voters}
 use Rattle.world.proofs.Places.{client_at-set, voter_at-set}
 use Rattle.world.proofs.Plans.{run_then}
 use Rattle.world.proofs.Reached.{Given, RunOk}
@@ -492,14 +493,6 @@ all_on laws b given deal deals [] s ok all = (ok, all)
 all_on laws b given deal deals (h ∷ hs) s ok all =
     let now = happens_ok b given deal deals s ok h in
     all_on laws b given deal deals hs (happens deal s h) now (happens_on laws b given deal s ok all h now)
-
-same_clients : (xs ys : List ClientState) → length xs ≡ length ys → Mix (client_at ys) (client_at ys) (client_at xs) → xs ≡ ys
-unfolding client_at
-same_clients xs ys long mix = ext_get_or (requester.start 0 1) xs ys long (λ n within. elim (mix n) [ inl e ↦ e | inr e ↦ e ])
-
-same_voters : (xs ys : List VoterState) → length xs ≡ length ys → Mix (voter_at ys) (voter_at ys) (voter_at xs) → xs ≡ ys
-unfolding voter_at
-same_voters xs ys long mix = ext_get_or (voter.start 0 1) xs ys long (λ n within. elim (mix n) [ inl e ↦ e | inr e ↦ e ])
 
 -- in a new world all are saved as they are
 same_nodes : (laws : Laws) (b : Bounds) → Given b → EachEndures (begin b.voters b.clients b.limit)

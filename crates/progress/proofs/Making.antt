@@ -1,20 +1,34 @@
 -- how to make fair rounds
-use Rattle.std.proofs.Common.{◌≡◌, ℕ, zero, suc, ◌+◌, ◌-◌, ◌<◌, ◌≤◌, List, [], ◌∷◌, ◌++◌, length, map, refl, sym, ap, subst, ◌∙◌, inl, inr, arith, append_assoc}
-use Rattle.std.specs.Prelude.{slice_index_or}
-use Rattle.std.specs.List.{Contains, range_with_len}
+use Rattle.std.proofs.Common.{◌≡◌, ℕ, zero, suc, ◌+◌, ◌-◌, ◌<◌, ◌≤◌, false, List, [], ◌∷◌, ◌++◌, length, map, Option, None, Some, Ok, Err, refl, sym, ap, subst, ◌∙◌, inl, inr, arith, append_assoc, length-append}
+use Rattle.std.specs.Prelude.{if◌then◌else◌, nat_lt, slice_get, slice_index_or}
+use Rattle.std.specs.List.{AllByRecursion, Contains, range_with_len}
 use Rattle.std.proofs.lemmas.Bool.{cases_eq}
+use Rattle.std.proofs.lemmas.Bool.Decides.{nat_tests}
 use Rattle.std.proofs.lemmas.List.{append-nil}
 use Rattle.std.proofs.lemmas.List.Elements.{Contains-append_cases, Contains-append_left, Contains-append_right}
+use Rattle.numbers.proofs.Lists.{AllByRecursion-append}
+use Rattle.message.specs.declared.message.Message.{Message}
+use Rattle.message.specs.declared.message.Message.TheVariants as kinds
+use Rattle.message.specs.declared.message.VoterBody.{VoterBody}
+use Rattle.message.specs.declared.message.VoterBody.TheVariants as asks
+use Rattle.voter.specs.declared.state.VoterState.{VoterState}
 use Rattle.requester.proofs.RangeLemmas.{is_inside-busy}
 use Rattle.world_state.specs.declared.step.Step.{Step}
-use Rattle.world_state.specs.declared.step.Step.TheVariants.{Deliver, Leave, RemindClient, RemindVoter}
-use Rattle.world.specs.Runs.{run_of}
-use Rattle.world_state.specs.Steps.{Dealing, WorldState, client_at}
+use Rattle.world_state.specs.declared.step.Step.TheVariants.{Ask, Deliver, Exchange, GiveUp, Leave, RemindClient, RemindVoter}
+use Rattle.world.specs.Coherence.{IsCoherent}
+use Rattle.world.specs.Runs.{after, run_of}
+use Rattle.world_state.specs.Steps.{Dealing, WorldState, client_at, step, voter_at}
+use Rattle.world.proofs.Added.{Adds-step}
 use Rattle.world.proofs.Plans.{run_then}
-use Rattle.progress.specs.Rounds.{AreFairRounds, IsAnswered, IsFairRound, IsReminded}
+use Rattle.progress.specs.Rounds.{IsAnswered, IsFairRound, IsReminded, IsTimely, give_up, give_ups_in, late_body, late_message, late_step, late_steps, steps_of}
+use Rattle.progress.specs.Rules.{Laws, VoterLaws}
+use Rattle.progress.specs.WayIn.{HasGrants, Serves}
 use Rattle.progress.proofs.Along.{next}
 use Rattle.progress.proofs.Known.{within_by}
 use Rattle.progress.proofs.Longer.{IsAnswered-more, IsReminded-more, contains_here, contains_next}
+use Rattle.progress.proofs.Moves.{Moved, Moved-step, each_voter}
+use Rattle.progress.proofs.Sure.{Course, IsSure, IsSure-after}
+use Rattle.progress.proofs.Ways.{few_by}
 
 -- ---- the same step for each of some numbers
 
@@ -110,13 +124,112 @@ all_reminded deal x (t ∷ ss) s there =
       | inr later ↦ subst (λ l. IsReminded deal x (first ++ l) s) (append-nil rest) (IsReminded-more deal x first rest [] s (all_reminded deal y ss s later))
     ]
 
+-- ---- no other steps: each is a reminder, a Leave, or the arrival of a message that was sent in the round
+
+each_serves : (sent : ℕ) (f : ℕ → Step) (low n : ℕ) → ((k : ℕ) → low ≤ k → Serves sent (f k)) → AllByRecursion (Serves sent) (each f low n)
+unfolding each
+each_serves sent f low zero serves = tt
+each_serves sent f low (suc n) serves = (serves low (omega arith), each_serves sent f (low + 1) n (λ k least. serves k (omega arith)))
+
+sent_more : (deal : Dealing) (x : WorldState) (s : Step) → length x.sent ≤ length (next deal x s).sent
+sent_more deal x s = elim (step deal x s) as (λ r. step deal x s ≡ r → length x.sent ≤ length (after x r).sent) [
+  | Ok o ↦ λ e.
+      let adds = Adds-step deal x s o e in
+      let more = ap length adds.sent in
+      omega (arith, more, length-append x.sent adds.more)
+  | Err fault ↦ λ e. omega arith
+] (refl {a = step deal x s})
+
+sent_run : (deal : Dealing) (steps : List Step) (x : WorldState) → length x.sent ≤ length (run_of deal steps x).sent
+sent_run deal [] x = omega arith
+sent_run deal (s ∷ steps) x =
+    let first = sent_more deal x s in
+    let rest = sent_run deal steps (next deal x s) in
+    omega (arith, first, rest)
+
+answer_serves : (deal : Dealing) (u : WorldState) (k sent : ℕ) → sent ≤ k → sent ≤ length u.sent → AllByRecursion (Serves sent) (answer deal u k)
+unfolding answer
+answer_serves deal u k sent least most =
+    (least, each_serves sent Deliver (length u.sent) (length (next deal u (Deliver k)).sent - length u.sent) (λ j later. omega arith))
+
+answer_all_serves : (deal : Dealing) (u : WorldState) (low n sent : ℕ) → sent ≤ low → sent ≤ length u.sent → AllByRecursion (Serves sent) (answer_all deal u low n)
+unfolding answer_all
+answer_all_serves deal u low zero sent least most = tt
+answer_all_serves deal u low (suc n) sent least most =
+    let y = run_of deal (answer deal u low) u in
+    let grows = sent_run deal (answer deal u low) u in
+    AllByRecursion-append (Serves sent) (answer deal u low) (answer_all deal y (low + 1) n) (answer_serves deal u low sent least most)
+    (answer_all_serves deal y (low + 1) n sent (omega arith) (omega arith))
+
+remind_serves : (deal : Dealing) (x : WorldState) (s : Step) (sent : ℕ) → Serves sent s → sent ≤ length x.sent → AllByRecursion (Serves sent) (remind deal x s)
+unfolding remind
+remind_serves deal x s sent serves most =
+    let grows = sent_more deal x s in
+    (serves, answer_all_serves deal (next deal x s) (length x.sent) (length (next deal x s).sent - length x.sent) sent most (omega arith))
+
+remind_all_serves : (deal : Dealing) (x : WorldState) (ss : List Step) (sent : ℕ) → AllByRecursion (Serves sent) ss → sent ≤ length x.sent → AllByRecursion (Serves sent) (remind_all deal x ss)
+unfolding remind_all
+remind_all_serves deal x [] sent serve most = tt
+remind_all_serves deal x (s ∷ ss) sent serve most =
+    let y = run_of deal (remind deal x s) x in
+    let grows = sent_run deal (remind deal x s) x in
+    AllByRecursion-append (Serves sent) (remind deal x s) (remind_all deal y ss) (remind_serves deal x s sent serve.0 most)
+    (remind_all_serves deal y ss sent serve.1 (omega arith))
+
+-- so no REQUEST is late
+
+body_in_time : (old k : ℕ) (b : VoterBody) → old ≤ k → late_body old k b ≡ 0
+body_in_time old k (asks.Request stamp) least = let e : nat_lt k old ≡ false = grind (arith, nat_tests) in ap (λ b. if b then 1 else 0) e
+body_in_time old k (asks.Relinquish grant) least = refl
+body_in_time old k (asks.Release stamp) least = refl
+
+message_in_time : (old k : ℕ) (o : Option Message) → old ≤ k → late_message old k o ≡ 0
+message_in_time old k None least = refl
+message_in_time old k (Some (kinds.ToVoter m)) least = body_in_time old k m.body least
+message_in_time old k (Some (kinds.ToClient m)) least = refl
+
+step_in_time : (old low : ℕ) (sent : List Message) (s : Step) → old ≤ low → Serves low s → late_step old sent s ≡ 0
+step_in_time old low sent (Ask c) most serves = absurd serves
+step_in_time old low sent (Deliver k) most serves = message_in_time old k (slice_get sent k) (omega arith)
+step_in_time old low sent (Leave c) most serves = refl
+step_in_time old low sent (GiveUp c) most serves = absurd serves
+step_in_time old low sent (RemindClient c) most serves = refl
+step_in_time old low sent (RemindVoter v) most serves = refl
+step_in_time old low sent Exchange most serves = absurd serves
+
+in_time : (old low : ℕ) (sent : List Message) (steps : List Step) → old ≤ low → AllByRecursion (Serves low) steps → late_steps old sent steps ≡ 0
+in_time old low sent [] most serve = refl
+in_time old low sent (s ∷ steps) most serve =
+    let first = step_in_time old low sent s most serve.0 in
+    let rest = in_time old low sent steps most serve.1 in
+    omega (arith, first, rest)
+
+-- and nobody gives up
+
+no_give_up : (low : ℕ) (s : Step) → Serves low s → give_up s ≡ 0
+no_give_up low (Ask c) serves = refl
+no_give_up low (Deliver k) serves = refl
+no_give_up low (Leave c) serves = refl
+no_give_up low (GiveUp c) serves = absurd serves
+no_give_up low (RemindClient c) serves = refl
+no_give_up low (RemindVoter v) serves = refl
+no_give_up low Exchange serves = refl
+
+no_give_ups : (low : ℕ) (steps more : List Step) → AllByRecursion (Serves low) steps → give_ups_in more ≡ 0 → give_ups_in (steps ++ more) ≡ 0
+no_give_ups low [] more serve none = none
+no_give_ups low (s ∷ steps) more serve none =
+    let first = no_give_up low s serve.0 in
+    let rest = no_give_ups low steps more serve.1 none in
+    omega (arith, first, rest)
+
 -- ---- a round
 
-fair_round : (deal : Dealing) (w : WorldState) → (round : List Step) × IsFairRound deal w round
+fair_round : (deal : Dealing) (w : WorldState) → (round : List Step) × IsFairRound deal w round × AllByRecursion (Serves (length w.sent)) round
 fair_round deal w =
     let n = length w.clients in
     let m = length w.voters in
     let all = each RemindClient 0 n ++ each RemindVoter 0 m in
+    let sent = length w.sent in
     let reminders = remind_all deal w all in
     let leaves = each Leave 0 n in (
       reminders ++ leaves,
@@ -129,12 +242,54 @@ fair_round deal w =
             let within = within_by w c (is_inside-busy (client_at w.clients c).phase inside) in
             Contains-append_right reminders leaves (Leave c) (contains_each Leave 0 n c (omega arith) (omega arith));
       },
+      AllByRecursion-append (Serves sent) reminders leaves
+          (remind_all_serves deal w all sent
+          (AllByRecursion-append (Serves sent) (each RemindClient 0 n) (each RemindVoter 0 m) (each_serves sent RemindClient 0 n (λ k least. tt)) (each_serves sent RemindVoter 0 m (λ k least. tt)))
+          (omega arith))
+          (each_serves sent Leave 0 n (λ k least. tt)),
     )
 
--- k rounds, one after the other
-pub rounds_of : (deal : Dealing) (w : WorldState) (k : ℕ) → (rounds : List (List Step)) × AreFairRounds deal w rounds × (length rounds ≡ k)
-rounds_of deal w zero = ([], tt, refl)
-rounds_of deal w (suc k) =
+-- k rounds, one after the other; `old` messages were sent before the round before the first
+rounds_after : (deal : Dealing) (old : ℕ) (w : WorldState) (k : ℕ) → old ≤ length w.sent → (rounds : List (List Step)) × IsTimely deal old w k rounds
+rounds_after deal old w zero most = ([], record { fair = tt; count = refl; in_time = refl; kept_up = refl })
+rounds_after deal old w (suc k) most =
     let first = fair_round deal w in
-    let rest = rounds_of deal (run_of deal first.0 w) k in
-    (first.0 ∷ rest.0, (first.1, rest.1), ap suc rest.2)
+    let u = run_of deal first.0 w in
+    let rest = rounds_after deal (length w.sent) u k (sent_run deal first.0 w) in
+    let now = in_time old (length w.sent) w.sent first.0 most first.2 in
+    let later = rest.1.in_time in (
+      first.0 ∷ rest.0,
+      record {
+        fair = (first.1, rest.1.fair);
+        count = ap suc rest.1.count;
+        in_time = omega (arith, now, later);
+        kept_up = no_give_ups (length w.sent) first.0 (steps_of rest.0) first.2 rest.1.kept_up;
+      },
+    )
+
+pub rounds_of : (deal : Dealing) (w : WorldState) (k : ℕ) → (rounds : List (List Step)) × IsTimely deal 0 w k rounds
+rounds_of deal w k = rounds_after deal 0 w k (omega arith)
+
+-- ---- a step gives at most one grant
+
+one_left : (laws : VoterLaws) (w u : WorldState) → IsCoherent w → Moved w u → (n : ℕ) → HasGrants (suc n) w → HasGrants n u
+one_left laws w u ok (inl k) n left v within =
+    let some = subst (λ (vs : List VoterState). (voter_at vs v).granted + suc n ≤ (voter_at vs v).limit) (sym k.voters) (left v (let same = ap length k.voters in omega arith)) in
+    omega arith
+one_left laws w u ok (inr (inl k)) n left v within =
+    let y = voter_at w.voters k.message.voter in
+    let few = few_by _ y k.outcome.state (laws.numbers y k.message k.outcome (ok.voters k.message.voter) k.step) in
+    let same = (laws.carries y k.message k.outcome k.step).limit in
+    each_voter (λ q z. q < length w.voters → z.granted + n ≤ z.limit) w u k
+    (λ there. (let some = left k.message.voter there in omega (arith, few, same)))
+    (λ q there. (let some = left q there in omega arith)) v (let count = k.count in omega arith)
+one_left laws w u ok (inr (inr k)) n left v within =
+    let some = subst (λ (vs : List VoterState). (voter_at vs v).granted + suc n ≤ (voter_at vs v).limit) (sym k.voters) (left v (let same = ap length k.voters in omega arith)) in
+    omega arith
+
+pub grants_left : (laws : Laws) (p : Course) (steps : List Step) (x : WorldState) → IsSure p x → (n : ℕ) → HasGrants (length steps + n) x → HasGrants n (run_of p.deal steps x)
+grants_left laws p [] x r n left = λ v within. (let some = left v within in omega arith)
+grants_left laws p (s ∷ steps) x r n left =
+    let ok = (r []).coherent in
+    grants_left laws p steps (next p.deal x s) (IsSure-after p x r s) n
+    (one_left laws.voter x (next p.deal x s) ok (Moved-step p.deal x ok.numbered s) (length steps + n) (λ v within. (let some = left v within in omega arith)))

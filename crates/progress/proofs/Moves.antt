@@ -2,7 +2,7 @@
 use Rattle.std.proofs.Common.{◌≡◌, ◌≢◌, ℕ, ◌<◌, Bool, true, false, List, [], ◌∷◌, ◌++◌, map, length, set, Option, Some, None, Result, Ok, Err, refl, sym, ap, subst, ◌∙◌, ◌⊎◌, inl, inr}
 use Rattle.std.specs.Prelude.{nat_lt, slice_get}
 use Rattle.std.specs.List.{AllByRecursion}
-use Rattle.std.proofs.lemmas.List.{append-nil, get_or-set_same, get_or-set_other, length-set}
+use Rattle.std.proofs.lemmas.List.{append-nil, length-set}
 use Rattle.std.proofs.lemmas.Bool.{cases_eq, ltb-true}
 use Rattle.message.specs.declared.message.Message.{Message}
 use Rattle.message.specs.declared.message.Message.TheVariants as kinds
@@ -23,6 +23,7 @@ use Rattle.world.specs.Runs.{IsReached, after, run_of}
 use Rattle.world_state.specs.Steps.{Dealing, Outcome, Planned, WorldState, after_client, after_voter, client_at, come, dealing_of, draw_of, events, exchange, if_client, if_voter}
 use Rattle.world_state.specs.Steps.{next_ticket, quorum_dealt, say, step, voter_at}
 use Rattle.numbers.proofs.Lists.{AllByRecursion-get}
+pub use Rattle.world.proofs.Places.{client_here, client_others, voter_here, voter_others}
 use Rattle.world.proofs.Plans.{IsReached-after as reached_after}
 
 -- what came is a message that was sent to this client
@@ -96,22 +97,6 @@ MovedBy s w u = ((k : ClientMoved w u) × Makes s k.who k.cause) ⊎ ((k : Voter
 Moved-self : (s : Step) (w u : WorldState) → u.clients ≡ w.clients → u.voters ≡ w.voters → u.sent ≡ w.sent → u.visible ≡ w.visible → MovedBy s w u
 Moved-self s w u clients voters sent visible =
     inr (inr (record { more = []; reminder = inl ([], refl, inl refl); clients = clients; voters = voters; sent = sent ∙ sym (append-nil w.sent); visible = visible }))
-
-pub client_here : (cs : List ClientState) (c : ℕ) (x : ClientState) → c < length cs → client_at (set cs c x) c ≡ x
-unfolding client_at
-client_here cs c x within = get_or-set_same cs c x (requester.start 0 1) within
-
-pub client_others : (cs : List ClientState) (c : ℕ) (x : ClientState) (q : ℕ) → q ≢ c → client_at (set cs c x) q ≡ client_at cs q
-unfolding client_at
-client_others cs c x q other = get_or-set_other cs c q x (requester.start 0 1) other
-
-pub voter_here : (vs : List VoterState) (v : ℕ) (y : VoterState) → v < length vs → voter_at (set vs v y) v ≡ y
-unfolding voter_at
-voter_here vs v y within = get_or-set_same vs v y (voter.start 0 1) within
-
-pub voter_others : (vs : List VoterState) (v : ℕ) (y : VoterState) (q : ℕ) → q ≢ v → voter_at (set vs v y) q ≡ voter_at vs q
-unfolding voter_at
-voter_others vs v y q other = get_or-set_other vs v q y (voter.start 0 1) other
 
 -- a client's step, and what became of the world
 pub client_made : (w : WorldState) (c : ℕ) (cause : requester.Cause) → c < length w.clients → Came w c cause → (o : requester.Outcome) → requester.step (client_at w.clients c) cause ≡ Ok o

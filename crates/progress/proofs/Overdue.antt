@@ -17,7 +17,7 @@ use Rattle.voter.specs.declared.state.VoterState.{VoterState}
 use Rattle.voter.specs.Entries.{request_of}
 use Rattle.voter.specs.Steps as voter
 use Rattle.voter.specs.VoterContract.{IsEntry}
-use Rattle.voter.specs.Waiting.{precedes}
+use Rattle.message.specs.Requests.{precedes}
 use Rattle.requester.specs.declared.state.ClientState.{ClientState}
 use Rattle.requester.specs.Steps as requester
 use Rattle.requester.specs.Words.{holds, is_asking, is_current, is_idle, is_inquired, is_inside, is_member, last_of}

@@ -3,43 +3,37 @@ use Rattle.std.proofs.Common.{◌≡◌, ℕ, zero, suc, ◌+◌, ◌*◌, ◌<�
 use Rattle.std.specs.Prelude.{◌&&◌, nat_le}
 use Rattle.std.proofs.Math.Nat.{suc-mul}
 use Rattle.std.proofs.lemmas.Bool.{cases_eq, cases_lt, false≢true}
-use Rattle.std.proofs.lemmas.List.{append_assoc, append_cancel_left, get_or_past}
-use Rattle.numbers.specs.Sets.{has}
+use Rattle.std.proofs.lemmas.List.{get_or_past}
 use Rattle.numbers.specs.Sums.{sum_below}
 use Rattle.numbers.proofs.SumsBelow.{sum_below-add, sum_below-same}
 use Rattle.requester.specs.declared.state.ClientState.{ClientState}
 use Rattle.requester.specs.Steps as requester
 use Rattle.requester.specs.Words.{is_asking}
-use Rattle.requester.proofs.SoundSteps.{is_asking-busy}
-use Rattle.voter.specs.VoterContract.{IsEntry}
 use Rattle.world_state.specs.declared.step.Event.{Event}
 use Rattle.world_state.specs.declared.step.Step.{Step}
 use Rattle.world.specs.Runs.{IsReached, run_of}
-use Rattle.world_state.specs.Steps.{Dealing, Planned, WorldState, client_at, dealing_of, voter_at}
+use Rattle.world_state.specs.Steps.{Dealing, Planned, WorldState, client_at, dealing_of}
 use Rattle.world.proofs.Plans.{run_then}
-use Rattle.progress.specs.Overtaking.{IsKnownEverywhere, StillRuns, entries_of}
+use Rattle.progress.specs.Overtaking.{entries_of}
 use Rattle.progress.specs.Patience.{ArePatient, long_block}
 use Rattle.progress.specs.Rounds.{AreFairRounds, DoesNotGiveUp, late_in, steps_of}
 use Rattle.progress.specs.Rules.{Laws}
 use Rattle.progress.specs.WayIn.{Asks, HasGrants}
-use Rattle.progress.proofs.Along.{along-last, next}
+use Rattle.progress.proofs.Along.{next}
 use Rattle.progress.proofs.Always.{Heeds, heeds}
 use Rattle.progress.proofs.Behind.{stamp_of}
 use Rattle.progress.proofs.Counted.{three_turns, turns_up_to-append}
-use Rattle.progress.proofs.Counting.{entries_of-append}
 use Rattle.progress.proofs.Hearing.{trails_along}
 use Rattle.progress.proofs.Kept.{IsKept-reached}
-use Rattle.progress.proofs.Known.{known_after}
 use Rattle.progress.proofs.LongBlocks.{long_block_moves}
 use Rattle.progress.proofs.Longer.{Grows-moved, Grows-run}
-use Rattle.progress.proofs.Moves.{Moved-by, MovedBy, MovedBy-step, kept-by}
-use Rattle.progress.proofs.Placed.{Heeds-moved}
-use Rattle.progress.proofs.Still.{Lasts-run, RunsOn, SameAsk, left_before}
-use Rattle.progress.proofs.Sure.{Course, IsSure, IsSure-after, IsSure-reached, IsSure-run, course_of, stays_coherent}
+use Rattle.progress.proofs.Moves.{Moved-by, MovedBy-step}
+use Rattle.progress.proofs.Still.{Lasts-run, left_before}
+use Rattle.progress.proofs.Sure.{Course, IsSure, IsSure-after, IsSure-reached, IsSure-run, course_of}
 use Rattle.progress.proofs.Tame.{asks_up_to, turns_up_to}
 use Rattle.progress.proofs.Together.{asks_within}
-use Rattle.progress.proofs.Turns.{asks_at, gives_up_never, no_turn, none_turned, own_give_ups, own_give_ups-append, shown, stamp_stays, sum_has, turn, turns, turns-append}
-use Rattle.progress.proofs.Waiting.{asks_on, fair-split, late-more, late-split, runs_along, split_rounds, split_total, steps-append}
+use Rattle.progress.proofs.Turns.{asks_at, gives_up_never, no_turn, none_turned, own_give_ups, stamp_stays, sum_has, turn, turns, turns-append}
+use Rattle.progress.proofs.Waiting.{asks_after, fair-split, late-more, late-split, split_rounds, split_total, steps-append}
 
 -- ---- turns
 
@@ -182,42 +176,21 @@ not_entered laws p none_old x c k r rs more reached heeded asks fair patient sta
     let n = length x.clients in
     let y = run_of deal r x in
     let ry = IsSure-run p r x reached in
-    let heeded_y = kept-by (Heeds c) (Heeds-moved laws c) deal r x (stays_coherent p x reached) heeded in
     let rest = steps_of rs in
-    let goes = run_then deal r rest x in
     let z = run_of deal rest y in
-    let first = shown laws p r x reached in
-    let later = shown laws p rest y ry in
-    let same : first.0 ++ later.0 ≡ more = append_cancel_left x.visible (first.0 ++ later.0) more
-    (sym (append_assoc x.visible first.0 later.0) ∙ ap (λ es. es ++ later.0) (sym first.1) ∙ sym later.1 ∙ ap (λ (u : WorldState). u.visible) (sym goes) ∙ visible) in
-    let entered = sym (entries_of-append c first.0 later.0) ∙ ap (entries_of c) same ∙ none in
-    let gave = sym (own_give_ups-append c r rest) ∙ stays in
-    let none_later : entries_of c later.0 ≡ 0 = omega arith in
-    let stays_later : own_give_ups c rest ≡ 0 = omega arith in
-    let on_first = asks_on laws p c r x first.0 reached first.1 (let e : entries_of c first.0 ≡ 0 = omega arith in e) (let e : own_give_ups c r ≡ 0 = omega arith in e) asks.asks in
-    let on_later = asks_on laws p c rest y later.0 ry later.1 none_later stays_later on_first.0 in
-    let left_z = subst (λ (u : WorldState). HasGrants 1 u) goes left in
-    let left_y : HasGrants 1 y = λ v within. (let lt = left_before laws p rest y ry left_z v within in omega arith) in
-    let own : SameAsk (client_at x.clients c) (client_at x.clients c) = record { stamp = refl; asks = refl; quorum = λ _. refl } in
-    let along = runs_along laws p x c r x reached own asks.asks on_first.1 left_y in
-    let end = (along-last (RunsOn p x c) MovedBy deal r x along).same in
-    let known : IsKnownEverywhere y c = record {
-      runs = is_asking-busy (client_at y.clients c).phase on_first.0;
-      known = λ v member. subst (λ t. IsEntry (voter_at y.voters v) c t) (sym end.stamp)
-          (known_after laws p x r c v along (fair.0.clients c asks.client) asks.asks (ap (λ l. has l v) (sym (end.quorum asks.asks)) ∙ member));
-    } in
-    let runs : StillRuns y z c = record { runs = is_asking-busy (client_at z.clients c).phase on_later.0; same = (none_turned laws p c rest y ry on_later.1).1 } in
-    let trails = trails_along laws p y c rest ry heeded_y known left_z runs in
+    let a = asks_after laws p x c r rest more reached heeded asks fair.0 stays left visible none in
+    let later = a.later in
+    let trails = trails_along laws p y c rest ry a.heeds a.known a.left a.runs in
     let s = stamp_of y c in
-    let own_none = none_up_to laws p s c rest y ry on_later.1 in
+    let own_none = none_up_to laws p s c rest y ry a.turns_not in
     let most : (d : ℕ) → turns_up_to deal s d rest y ≤ 3 = λ d. elim (cases_eq d c) [
       | inl mine ↦ (let e : turns_up_to deal s d rest y ≡ 0 = ap (λ i. turns_up_to deal s i rest y) mine ∙ own_none in omega arith)
       | inr other ↦ three_turns laws p y c d other rs x x (omega arith) (Lasts-run laws p r x reached d).stamp trails fair.1 patient.1
     ] in
     let few = few_up_to deal s n c rest y asks.client own_none most in
     let grows = Grows-run laws p r x reached in
-    let waits : Stays p c n s y = record { clients = grows.clients; sure = ry; asks = on_first.0; stamp = refl } in
-    let moved = blocks_move laws p none_old c n s k rs y (length x.sent) waits long fair.1 left_z on_later.1 in
+    let waits : Stays p c n s y = record { clients = grows.clients; sure = ry; asks = a.asks; stamp = refl } in
+    let moved = blocks_move laws p none_old c n s k rs y (length x.sent) waits long fair.1 a.left a.turns_not in
     omega arith
 
 patient_by : (laws : Laws) (p : Course) → ((u : ℕ) → p.old u ≡ 0) → (w : WorldState) (c : ℕ) (rounds : List (List Step)) (more : List Event) → IsSure p w → Heeds c w → Asks w c → AreFairRounds p.deal w rounds

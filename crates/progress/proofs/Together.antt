@@ -11,7 +11,7 @@ use Rattle.message.specs.declared.request.Request.{Request}
 use Rattle.voter.specs.declared.state.Grant.{Grant}
 use Rattle.voter.specs.declared.state.VoterState.{VoterState}
 use Rattle.voter.specs.VoterContract.{IsEntry}
-use Rattle.voter.specs.Waiting.{precedes}
+use Rattle.message.specs.Requests.{precedes}
 use Rattle.requester.specs.declared.state.ClientState.{ClientState}
 use Rattle.requester.specs.Steps as requester
 use Rattle.requester.specs.Words.{holds, is_asking, is_current, is_member, last_of, members}

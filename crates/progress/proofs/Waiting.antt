@@ -24,7 +24,7 @@ use Rattle.world.specs.Runs.{IsReached, run_of}
 use Rattle.world_state.specs.Steps.{Dealing, Planned, WorldState, client_at, dealing_of, voter_at}
 use Rattle.world.proofs.Plans.{run_then}
 use Rattle.progress.specs.Overtaking.{IsKnownEverywhere, StillRuns, entries_of}
-use Rattle.progress.specs.Rounds.{AreFairRounds, DoesNotGiveUp, IsStill, block, give_ups_in, late_body, late_in, late_message, late_step, late_steps, steps_of}
+use Rattle.progress.specs.Rounds.{AreFairRounds, DoesNotGiveUp, IsFairRound, IsStill, block, give_ups_in, late_body, late_in, late_message, late_step, late_steps, steps_of}
 use Rattle.progress.specs.Rules.{Laws}
 use Rattle.progress.specs.WayIn.{Asks, HasGrants}
 use Rattle.progress.proofs.Along.{Along, along-last, next}
@@ -338,21 +338,27 @@ give_ups-append : (a b : List Step) → give_ups_in (a ++ b) ≡ give_ups_in a +
 give_ups-append [] b = omega arith
 give_ups-append (s ∷ a) b = (let rest = give_ups-append a b in omega arith)
 
--- the client c asked before the first round r, and did not enter
-not_entered : (laws : Laws) (p : Course) (x : WorldState) (c k : ℕ) (r : List Step) (rs : List (List Step)) (more : List Event) → AreOld p x → IsSure p x → Heeds c x → Asks x c
-    → AreFairRounds p.deal x (r ∷ rs) → own_give_ups c (r ++ steps_of rs) ≡ 0 → HasGrants 1 (run_of p.deal (r ++ steps_of rs) x)
-    → 5 * length x.clients + 2 * give_ups_in (r ++ steps_of rs) + late_in p.deal 0 x (r ∷ rs) + olds_of p (length x.voters) x ≤ suc k → k * block (length x.clients) ≤ length rs
-    → (run_of p.deal (r ++ steps_of rs) x).visible ≡ x.visible ++ more → entries_of c more ≡ 0 → ⊥
-not_entered laws p x c k r rs more few_x reached heeded asks fair stays left total long visible none =
+-- What holds after a fair round r that begins while the client c asks, if c neither enters nor gives up in r
+-- and in the steps after it.
+pub record AsksAfter (p : Course) (x : WorldState) (c : ℕ) (r rest : List Step) : Type 0 where
+  pub later : List Event
+  pub shows : (run_of p.deal rest (run_of p.deal r x)).visible ≡ (run_of p.deal r x).visible ++ later
+  pub none : entries_of c later ≡ 0
+  pub stays : own_give_ups c rest ≡ 0
+  pub heeds : Heeds c (run_of p.deal r x)
+  pub asks : asks_at (run_of p.deal r x) c ≡ true
+  pub turns_not : turns p.deal c rest (run_of p.deal r x) ≡ 0
+  pub left : HasGrants 1 (run_of p.deal rest (run_of p.deal r x))
+  pub known : IsKnownEverywhere (run_of p.deal r x) c
+  pub runs : StillRuns (run_of p.deal r x) (run_of p.deal rest (run_of p.deal r x)) c
+
+pub asks_after : (laws : Laws) (p : Course) (x : WorldState) (c : ℕ) (r rest : List Step) (more : List Event) → IsSure p x → Heeds c x → Asks x c → IsFairRound p.deal x r
+    → own_give_ups c (r ++ rest) ≡ 0 → HasGrants 1 (run_of p.deal (r ++ rest) x) → (run_of p.deal (r ++ rest) x).visible ≡ x.visible ++ more → entries_of c more ≡ 0 → AsksAfter p x c r rest
+asks_after laws p x c r rest more reached heeded asks fair stays left visible none =
     let deal = p.deal in
-    let n = length x.clients in
-    let m = length x.voters in
     let y = run_of deal r x in
     let ry = IsSure-run p r x reached in
-    let go = Goes-run laws p r x few_x reached in
-    let fewer_olds = olds_fall p m x y go in
     let heeded_y = kept-by (Heeds c) (Heeds-moved laws c) deal r x (stays_coherent p x reached) heeded in
-    let rest = steps_of rs in
     let goes = run_then deal r rest x in
     let z = run_of deal rest y in
     let first = shown laws p r x reached in
@@ -373,28 +379,58 @@ not_entered laws p x c k r rs more few_x reached heeded asks fair stays left tot
     let known : IsKnownEverywhere y c = record {
       runs = is_asking-busy (client_at y.clients c).phase on_first.0;
       known = λ v member. subst (λ t. IsEntry (voter_at y.voters v) c t) (sym end.stamp)
-          (known_after laws p x r c v along (fair.0.clients c asks.client) asks.asks (ap (λ l. has l v) (sym (end.quorum asks.asks)) ∙ member));
+          (known_after laws p x r c v along (fair.clients c asks.client) asks.asks (ap (λ l. has l v) (sym (end.quorum asks.asks)) ∙ member));
     } in
     let runs : StillRuns y z c = record { runs = is_asking-busy (client_at z.clients c).phase on_later.0; same = (none_turned laws p c rest y ry on_later.1).1 } in
-    let twice : (d : ℕ) → d ≢ c → entries_of d later.0 ≤ 2 = λ d other. overtakes_twice laws deal y c d rest later.0 (stays_coherent p y ry) heeded_y known other runs later.1 in
-    let h : ℕ → ℕ = λ d. 2 * entries_of d later.0 + one_if (asks_at z d) in
-    let most : (d : ℕ) → 2 * entries_of d later.0 + one_if (asks_at z d) ≤ 5 = λ d. (let one = one_most (asks_at z d) in elim (cases_eq d c) [
-      | inl mine ↦ (let e : entries_of d later.0 ≡ 0 = ap (λ i. entries_of i later.0) mine ∙ none_later in omega arith)
+    record {
+      later = later.0;
+      shows = later.1;
+      none = none_later;
+      stays = stays_later;
+      heeds = heeded_y;
+      asks = on_first.0;
+      turns_not = on_later.1;
+      left = left_z;
+      known = known;
+      runs = runs;
+    }
+
+-- the client c asked before the first round r, and did not enter
+not_entered : (laws : Laws) (p : Course) (x : WorldState) (c k : ℕ) (r : List Step) (rs : List (List Step)) (more : List Event) → AreOld p x → IsSure p x → Heeds c x → Asks x c
+    → AreFairRounds p.deal x (r ∷ rs) → own_give_ups c (r ++ steps_of rs) ≡ 0 → HasGrants 1 (run_of p.deal (r ++ steps_of rs) x)
+    → 5 * length x.clients + 2 * give_ups_in (r ++ steps_of rs) + late_in p.deal 0 x (r ∷ rs) + olds_of p (length x.voters) x ≤ suc k → k * block (length x.clients) ≤ length rs
+    → (run_of p.deal (r ++ steps_of rs) x).visible ≡ x.visible ++ more → entries_of c more ≡ 0 → ⊥
+not_entered laws p x c k r rs more few_x reached heeded asks fair stays left total long visible none =
+    let deal = p.deal in
+    let n = length x.clients in
+    let m = length x.voters in
+    let y = run_of deal r x in
+    let ry = IsSure-run p r x reached in
+    let go = Goes-run laws p r x few_x reached in
+    let fewer_olds = olds_fall p m x y go in
+    let rest = steps_of rs in
+    let z = run_of deal rest y in
+    let a = asks_after laws p x c r rest more reached heeded asks fair.0 stays left visible none in
+    let later = a.later in
+    let twice : (d : ℕ) → d ≢ c → entries_of d later ≤ 2 = λ d other. overtakes_twice laws deal y c d rest later (stays_coherent p y ry) a.heeds a.known other a.runs a.shows in
+    let h : ℕ → ℕ = λ d. 2 * entries_of d later + one_if (asks_at z d) in
+    let most : (d : ℕ) → 2 * entries_of d later + one_if (asks_at z d) ≤ 5 = λ d. (let one = one_most (asks_at z d) in elim (cases_eq d c) [
+      | inl mine ↦ (let e : entries_of d later ≡ 0 = ap (λ i. entries_of i later) mine ∙ a.none in omega arith)
       | inr other ↦ (let few = twice d other in omega arith)
     ]) in
     let fives = sum_five n c h asks.client (let one = one_most (asks_at z c) in omega arith) most in
-    let bound = turns_by laws p n rest y later.0 h ry later.1 (λ d less. omega arith) in
+    let bound = turns_by laws p n rest y later h ry a.shows (λ d less. omega arith) in
     let grows = Grows-run laws p r x reached in
     let some = sum_has n c (λ d. one_if (asks_at y d)) asks.client in
-    let asked : one_if (asks_at y c) ≡ 1 = ap one_if on_first.0 in
+    let asked : one_if (asks_at y c) ≡ 1 = ap one_if a.asks in
     let waits : Waits p c n m y = record {
       clients = grows.clients;
       voters = grows.voters;
       few = λ v. (let old_most = few_x v in let rises = (go.outlasts v).granted in omega arith);
       sure = ry;
-      asks = on_first.0;
+      asks = a.asks;
     } in
-    let turned = blocks_turn laws p c n m k rs y later.0 (length x.sent) waits none_later long fair.1 left_z later.1 stays_later in
+    let turned = blocks_turn laws p c n m k rs y later (length x.sent) waits a.none long fair.1 a.left a.shows a.stays in
     let fewer = give_ups-append r rest in
     omega arith
 

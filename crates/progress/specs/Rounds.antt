@@ -105,3 +105,11 @@ give_ups_in (s ∷ steps) = give_up s + give_ups_in steps
 -- none of these steps is a withdrawal of this client
 abbrev pub DoesNotGiveUp : ℕ → List Step → Type 0
 DoesNotGiveUp c steps = AllByRecursion (λ s. s ≢ GiveUp c) steps
+
+-- k fair rounds in which nothing is late and nobody gives up; `old` messages were sent before the round
+-- before the first
+pub record IsTimely (deal : Dealing) (old : ℕ) (w : WorldState) (k : ℕ) (rounds : List (List Step)) : Type 0 where
+  pub fair : AreFairRounds deal w rounds
+  pub count : length rounds ≡ k
+  pub in_time : late_in deal old w rounds ≡ 0
+  pub kept_up : give_ups_in (steps_of rounds) ≡ 0

@@ -14,7 +14,7 @@ use Rattle.voter.specs.Replies.{AllCarry, CarrySeen}
 use Rattle.voter.specs.Steps as voter
 use Rattle.voter.specs.VoteMoves.{GrantIsNew, VoteMoves}
 use Rattle.voter.specs.VoterContract as votes
-use Rattle.voter.specs.Waiting.{precedes}
+use Rattle.message.specs.Requests.{precedes}
 use Rattle.requester.specs.declared.fault.ClientFault.TheVariants.{Busy}
 use Rattle.requester.specs.declared.state.ClientState.{ClientState}
 use Rattle.requester.specs.declared.state.Seen.TheVariants.{Left, Nothing}

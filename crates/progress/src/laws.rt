@@ -3,7 +3,7 @@ ghost use Rattle.std.specs.Prelude.{◌≡◌, ◌≢◌, ◌≤◌, ◌+◌, �
 ghost use Rattle.progress.specs.LostVotes.{ComesBack, GoesOn, HasLostVote, HasReturnedVote};
 ghost use Rattle.progress.specs.Overtaking.{IsKnownEverywhere, StillRuns, entries_of};
 ghost use Rattle.progress.specs.Patience.{ArePatient, long_block};
-ghost use Rattle.progress.specs.Rounds.{AreFairRounds, DoesNotGiveUp, IsFairRound, IsStill, block, give_ups_in, late_in, steps_of};
+ghost use Rattle.progress.specs.Rounds.{AreFairRounds, DoesNotGiveUp, IsFairRound, IsStill, IsTimely, block, give_ups_in, late_in, steps_of};
 ghost use Rattle.progress.specs.Rules.{Laws};
 ghost use Rattle.progress.specs.WayIn.{Asks, AsksAlone, GetsIn, HasGrants, IsFree, IsWayIn};
 ghost use Rattle.voter.specs.declared.state.Grant.{Grant};
@@ -129,13 +129,18 @@ pub fn everybody_can_enter()
     worlds_keep_their_rules();
 }
 
-/// There are any number of fair rounds in every world, one after the other: that rounds are fair can be met.
+/// There are any number of fair rounds in every world, one after the other, in which no REQUEST is late
+/// and nobody gives up.
 ///
-/// It says nothing of late REQUESTs, and of the grants that are left.
+/// After any steps each voter has as many grants left as it had before, less the number of steps. So all
+/// that the laws on rounds ask for can be met together.
 pub fn fair_rounds_can_be_made()
-    ensures { (deal : Dealing) (w : WorldState) (k : ℕ) → (rounds : List (List Step))
-        × AreFairRounds deal w rounds × (length rounds ≡ k) }
-{}
+    ensures made { (deal : Dealing) (w : WorldState) (k : ℕ) → (rounds : List (List Step)) × IsTimely deal 0 w k rounds }
+    ensures left { (w : Planned) (steps : List Step) (n : ℕ) → IsReached w → HasGrants (length steps + n) w.state
+        → HasGrants n (run_of (dealing_of w.plans) steps w.state) }
+{
+    worlds_keep_their_rules();
+}
 
 /// A fair round stays fair if steps before it and after it are counted to it.
 ///

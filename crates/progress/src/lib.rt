@@ -26,7 +26,8 @@
 //!   within (n + 8) * (3 n + l) fair rounds, however many others give up, if each request that is made in
 //!   these rounds runs for two whole rounds before it is given up.
 //! - **Fair rounds need not be neighbours** ([`rounds_may_be_longer`]): steps before a fair round and after
-//!   it may be counted to it. Any number can be made in every world ([`fair_rounds_can_be_made`]).
+//!   it may be counted to it. Any number can be made in every world, in which no REQUEST is late and
+//!   nobody gives up ([`fair_rounds_can_be_made`]).
 //!
 //! In a fair round everybody is reminded, the messages of the reminders and the replies to them arrive,
 //! and who was inside when it began leaves. All else is up to an adversary.

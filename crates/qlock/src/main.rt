@@ -48,7 +48,7 @@ fn serve_input<R: Read + Drop, T: Threads + Wait + Clock + Sync>(
         _ => execute(rt.alloc(), command, &mut reader, &mut writer),
     };
     let status = report(rt, &served);
-    tell_of_fault(rt, &rt.stderr(), status);
+    tell_of_fault(rt, &rt.stderr(), &served);
     status
 }
 

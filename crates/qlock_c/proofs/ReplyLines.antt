@@ -24,6 +24,7 @@ use Rattle.voter.proofs.ReplyLemmas.{AllCarry-remind, AllReport-remind, AllRepor
 use Rattle.words.specs.WordBytes.{FitIn64Bits}
 use Rattle.qlock_c.specs.Bytes.{IsVoter}
 use Rattle.qlock_c.specs.Lines.{ClientsCanRead}
+use Rattle.qlock_c.specs.Sent.{OfEachVoter}
 
 -- The numbers of a voter fit
 
@@ -97,14 +98,14 @@ can_read : (v : VoterState) (rs : List ToClient) → IsKept v → FitIn64Bits (w
 can_read v [] kept fit carry report place = tt
 can_read v (r ∷ rs) kept fit carry report place = (has_line v r kept fit carry.0 report.0 place.0, can_read v rs kept fit carry.1 report.1 place.1)
 
-pub step_can_be_read : (v : VoterState) (m : ToVoter) (o : Outcome) (after : List ℕ) → IsKept v → step v m ≡ Some o → IsVoter after o.state → ClientsCanRead o.replies
+step_can_be_read : (v : VoterState) (m : ToVoter) (o : Outcome) (after : List ℕ) → IsKept v → step v m ≡ Some o → IsVoter after o.state → ClientsCanRead o.replies
 step_can_be_read v m o after kept is saved =
     let carry = CarrySeen-step v m o is in
     can_read o.state o.replies saved.kept saved.fit
     (subst₂ (λ id seen. AllCarry id seen o.replies) (sym carry.id) (sym carry.seen) carry.carried)
     (MeetsContract-step v m o is).heard (AreAnswers-step v m o kept.sound is).place
 
-pub remind_can_be_read : (v : VoterState) (bytes : List ℕ) → IsVoter bytes v → ClientsCanRead (remind v)
+remind_can_be_read : (v : VoterState) (bytes : List ℕ) → IsVoter bytes v → ClientsCanRead (remind v)
 remind_can_be_read v bytes is = can_read v (remind v) is.kept is.fit (AllCarry-remind v) (AllReport-remind v) (AllReportPlace-remind v)
 
 evicted_by : (o : Option Grant) (v : VoterState) (grant : ℕ) (out : Outcome) (after : List ℕ) → IsKept v → evict_held o v grant ≡ Some out → IsVoter after out.state → ClientsCanRead out.replies
@@ -114,5 +115,12 @@ evicted_by (Some g) v grant out after kept is saved = elim (g.grant == grant) as
   | false ↦ λ e. subst (λ (p : Outcome). ClientsCanRead p.replies) (same_Some _ _ e) tt
 ] is
 
-pub evict_can_be_read : (v : VoterState) (grant : ℕ) (o : Outcome) (after : List ℕ) → IsKept v → evict v grant ≡ Some o → IsVoter after o.state → ClientsCanRead o.replies
+evict_can_be_read : (v : VoterState) (grant : ℕ) (o : Outcome) (after : List ℕ) → IsKept v → evict v grant ≡ Some o → IsVoter after o.state → ClientsCanRead o.replies
 evict_can_be_read v grant o after kept is saved = evicted_by v.held v grant o after kept is saved
+
+pub voters_can_be_read : OfEachVoter ClientsCanRead
+voters_can_be_read = record {
+  steps = λ before after v m o is steps saved. step_can_be_read v m o after is.kept steps saved;
+  evictions = λ before after v grant o is evicts saved. evict_can_be_read v grant o after is.kept evicts saved;
+  reminders = λ bytes v is. remind_can_be_read v bytes is;
+}

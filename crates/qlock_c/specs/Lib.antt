@@ -5,4 +5,5 @@ pub mod Lines
 pub mod Made
 pub mod Numbers
 pub mod QuorumSteps
+pub mod Sent
 pub mod VoterSteps

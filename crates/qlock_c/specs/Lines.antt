@@ -25,6 +25,10 @@ lines_to_voters messages = flat_map (λ m. line_of (kinds.ToVoter m)) messages
 abbrev pub ClientsCanRead : List ToClient → Type 0
 ClientsCanRead messages = AllByRecursion (λ m. HasLine (kinds.ToClient m)) messages
 
+-- each of these messages to voters has a line, so that its voter takes it
+abbrev pub VotersCanRead : List ToVoter → Type 0
+VotersCanRead messages = AllByRecursion (λ m. HasLine (kinds.ToVoter m)) messages
+
 -- the bytes are the line of this message, without a newline, and it is for the voter with this number
 pub record IsToVoter (line : List ℕ) (id : ℕ) (message : ToVoter) : Type 0 where
   pub has_line : HasLine (kinds.ToVoter message)

@@ -19,7 +19,7 @@ use crate::saved_bytes::{GRANTS_BYTES, STATE_BYTES, load_client, store_client, s
 use arrayvec::ArrayVec;
 use fence::pass_of;
 use message::{Message, ToClient, read_message};
-use numbers::MAX_STAMP;
+use numbers::{MAX_CLIENTS, MAX_STAMP, MAX_VOTERS};
 use quorum_set::QSet;
 use requester::{Phase, Requester, Seen};
 
@@ -50,7 +50,7 @@ fn new(id: u8, limit: u64, state: &mut [u8]) -> Result<(), Refusal>
     ensures made { IsMade (AreInRange id limit) state.old (IsClient state.new (steps.start id limit)) (returned result) }
     ensures refused { OnErr result (state.new ≡ state.old) }
 {
-    if id >= 64 || limit < 1 || limit > MAX_STAMP {
+    if usize::from(id) >= MAX_CLIENTS || limit < 1 || limit > MAX_STAMP {
         return Err(Refusal::BadArgument);
     }
     if state.len() != STATE_BYTES {
@@ -180,7 +180,7 @@ fn grant(state: &[u8], voter: u8, grant: &mut u64) -> Result<(), Refusal>
     ensures shows { voter < max_voters → ClientShowsGrant state.now voter grant.new (returned result) }
     ensures refused { OnErr result (grant.new ≡ grant.old) }
 {
-    if voter >= 64 {
+    if usize::from(voter) >= MAX_VOTERS {
         return Err(Refusal::BadArgument);
     }
     let client = load_client(state)?;
@@ -210,7 +210,7 @@ fn anew(id: u8, limit: u64, clock: u64, state: &mut [u8]) -> Result<(), Refusal>
     ensures made { IsMade (AreWithin id limit clock) state.old (IsClient state.new (anew id limit clock)) (returned result) }
     ensures refused { OnErr result (state.new ≡ state.old) }
 {
-    if id >= 64 || limit < 1 || limit > MAX_STAMP || clock > limit {
+    if usize::from(id) >= MAX_CLIENTS || limit < 1 || limit > MAX_STAMP || clock > limit {
         return Err(Refusal::BadArgument);
     }
     if state.len() != STATE_BYTES {

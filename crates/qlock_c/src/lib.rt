@@ -10,7 +10,8 @@
 //! - `src/saved_bytes.rt`: the states as bytes.
 //! - `src/lines.rt`: messages as lines, in a text of fixed room.
 //! - `src/refusal.rt`: why a call was refused, and the numbers that C sees.
-//! - `src/laws.rt`: each message that a voter sends has a line that its client takes.
+//! - `src/laws.rt`: each message has a line that its receiver takes, and the rooms in the header are
+//!   enough.
 //!
 //! `include/qlock.h` at the top of the repository says the same for C, and `docs/embedding.md` how
 //! to use it.

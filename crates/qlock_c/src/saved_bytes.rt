@@ -92,9 +92,9 @@ pub fn load_grants(bytes: &[u8], refusal: Refusal) -> Result<[u64; MAX_VOTERS], 
     if bytes.len() != GRANTS_BYTES {
         return Err(refusal);
     }
-    let mut words = ArrayVec::<u64, 64>::new();
+    let mut words = ArrayVec::<u64, MAX_VOTERS>::new();
     read_words(bytes, &mut words);
-    let mut grants = [0; 64];
+    let mut grants = [0; MAX_VOTERS];
     grants.copy_from_slice(words.as_slice());
     Ok(grants)
 }

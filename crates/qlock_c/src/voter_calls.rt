@@ -15,7 +15,7 @@ use crate::refusal::{Refusal, number_of};
 use crate::saved_bytes::{STATE_BYTES, load_voter, store_voter};
 use arrayvec::ArrayVec;
 use message::{Message, ToVoter, read_message};
-use numbers::MAX_STAMP;
+use numbers::{MAX_CLIENTS, MAX_STAMP, MAX_VOTERS};
 use voter::{Grant, Voter};
 
 /// Reads the line of a message to the voter with this number.
@@ -35,7 +35,7 @@ fn new(id: u8, limit: u64, state: &mut [u8]) -> Result<(), Refusal>
     ensures made { IsMade (AreInRange id limit) state.old (IsVoter state.new (start id limit)) (returned result) }
     ensures refused { OnErr result (state.new ≡ state.old) }
 {
-    if id >= 64 || limit < 1 || limit > MAX_STAMP {
+    if usize::from(id) >= MAX_VOTERS || limit < 1 || limit > MAX_STAMP {
         return Err(Refusal::BadArgument);
     }
     if state.len() != STATE_BYTES {
@@ -98,7 +98,7 @@ fn reborn(id: u8, above: u64, limit: u64, state: &mut [u8]) -> Result<(), Refusa
     ensures made { IsMade (AreWithin id limit above) state.old (IsVoter state.new (reborn id above limit)) (returned result) }
     ensures refused { OnErr result (state.new ≡ state.old) }
 {
-    if id >= 64 || limit < 1 || limit > MAX_STAMP || above > limit {
+    if usize::from(id) >= MAX_VOTERS || limit < 1 || limit > MAX_STAMP || above > limit {
         return Err(Refusal::BadArgument);
     }
     if state.len() != STATE_BYTES {
@@ -145,7 +145,7 @@ fn knows(
     ensures refused { OnErr result
         ((stamp.new ≡ stamp.old) × (finished.new ≡ finished.old) × (seen.new ≡ seen.old)) }
 {
-    if client >= 64 {
+    if usize::from(client) >= MAX_CLIENTS {
         return Err(Refusal::BadArgument);
     }
     let voter = load_voter(state)?;

@@ -107,6 +107,18 @@ impl Requester {
         Some(Requester { state })
     }
 
+    /// Returns a copy of the client: what it saves is restored.
+    pub fn copy(&self) -> Requester
+        ensures { result ≡ self.now }
+    {
+        let mut words = ArrayVec::new();
+        self.save(&mut words);
+        match Requester::restore(words.as_slice()) {
+            Some(copy) => copy,
+            None => unreachable!(),
+        }
+    }
+
     /// Forgets all but the least that has to survive a crash: the clock and the last stamp. The
     /// client is then idle.
     ///

@@ -12,7 +12,7 @@ ghost use Rattle.requester.specs.Words.{is_covered, is_inside};
 
 use crate::state::{ClientState, Members, Phase};
 use arrayvec::ArrayVec;
-use numbers::{MAX_STAMP, MAX_VOTERS};
+use numbers::{MAX_CLIENTS, MAX_STAMP, MAX_VOTERS};
 use quorum_set::QSet;
 
 /// How many numbers a saved client has.
@@ -119,7 +119,7 @@ impl ClientState {
         ensures all { IsTrue result → (v : ℕ) → v < max_voters → is_vote_sound self.now v ≡ true }
         ensures read { ((v : ℕ) → v < max_voters → is_vote_sound self.now v ≡ true) → IsTrue result }
     {
-        for v in 0..64u8 {
+        for v in 0..MAX_VOTERS as u8 {
             if !self.is_vote_sound(v) {
                 return false;
             }
@@ -206,7 +206,7 @@ fn client_of(words: &[u64]) -> ClientState
     let mut last = [0; MAX_VOTERS];
     last.copy_from_slice(&words[74..138]);
     ClientState {
-        id: (words[1] % 64) as u8,
+        id: (words[1] % MAX_CLIENTS as u64) as u8,
         limit: words[2],
         clock: words[3],
         phase: phase_of(words[4]),

@@ -83,6 +83,7 @@ pub fn record_of_run<R: Threads + Wait + Clock + Sync, G: Gate>(
     ensures let_pass { IfOk result (λ _. 0 < passes → AreLet (G.lets gate.now) clients) }
     ensures in_turns { IfOk result (λ _. 2 * passes ≤ turns) }
 {
+    // The call's contract says that the plan has a certificate. The number is not needed.
     let _ = plan.busiest();
     match Blank::new(alloc, Plans::single(plan), clients, passes) {
         Ok(blank) => run_blank::<Brand, _, _>(rt, alloc, blank, passes, turns, gate),

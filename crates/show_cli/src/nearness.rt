@@ -1,5 +1,6 @@
 //! Weights that are near the best: how near they are, whom to ask how often, and tickets dealt by them.
 ghost use Rattle.std.specs.Prelude.{◌≤◌, IfErr, IfOk, IfSome};
+ghost use Rattle.numbers.specs.Bounds.{max_dealt};
 ghost use Rattle.commands.specs.Commands.{Refuses, coterie_part};
 ghost use Rattle.commands.specs.Devices.{IsOwn};
 ghost use Rattle.show_cli.specs.Failures.{HasCoterie};
@@ -9,28 +10,32 @@ use coterie_file::Named;
 use near::{NearPlan, near};
 use quorum_set::are_unit;
 use show_command_line::{Form, NearPage};
-use show_figures::parts_above;
+use show_figures::Loads;
 use show_json::near_json;
-use show_words::{push_percent, push_quorum_members, push_quotient};
+use show_words::{push_excess, push_percent, push_quorum_members, push_quotient};
 use std::alloc::{AllocError, Global};
 
-/// Appends how far the load is above the bound at most, in percent, rounded up to thousandths.
-fn push_excess(text: &mut String, load: (u64, u64), bound: (u64, u64)) -> Result<(), AllocError> {
-    let thousandths = parts_above(load, bound, 100_000);
-    write!(text, "{}.{:03} %", thousandths / 1000, thousandths % 1000)
+/// Appends the load as a fraction, and in percent if all capacities are 1.
+fn push_fraction(text: &mut String, weights: &NearPlan) -> Result<(), AllocError> {
+    let (part, whole) = weights.load();
+    write!(text, "near load {part}/{whole}")?;
+    if are_unit(weights.capacities()) {
+        text.push_str(", ")?;
+        push_percent(text, part, whole)?;
+    }
+    Ok(())
 }
 
 /// Appends the load, and how near it is to that of the best weights.
 fn push_load(text: &mut String, weights: &NearPlan) -> Result<(), AllocError> {
     let load = weights.load();
     let bound = weights.bound();
-    write!(text, "near load {}/{}, ", load.0, load.1)?;
-    push_percent(text, load.0, load.1)?;
+    push_fraction(text, weights)?;
     if load == bound {
         return text.push_str(": no weights of these quorums have a smaller load\n");
     }
     text.push_str(": at most ")?;
-    push_excess(text, load, bound)?;
+    push_excess(text, Loads { load, bound })?;
     write!(
         text,
         " above the best possible, as no weights of these quorums have a load below {}/{}\n",
@@ -129,7 +134,7 @@ pub(crate) fn near_weights_page(
     page: &NearPage,
     input: &[u8],
 ) -> Result<String, Fault>
-    requires { IfSome page.now.tickets (λ n. n ≤ 100000) }
+    requires { IfSome page.now.tickets (λ n. n ≤ max_dealt) }
     ensures parts { IfOk result (λ _. HasCoterie input.now) }
     ensures refused { IfErr result (λ fault. Refuses fault (coterie_part input.now)) }
     ensures own { IfErr result IsOwn }

@@ -1,5 +1,6 @@
 //! What each command writes for its input.
 ghost use Rattle.std.specs.Prelude.{◌≡◌, ◌≤◌, IfErr, IfOk, string_bytes};
+ghost use Rattle.numbers.specs.Bounds.{max_dealt};
 ghost use Rattle.show_faults.specs.Pages.{IsFaultsList, IsFaultsPage};
 ghost use Rattle.show_faults.specs.Texts.{text_of};
 ghost use Rattle.commands.specs.Commands.{IsInRange, Refuses, planned_in};
@@ -29,7 +30,7 @@ use std::alloc::{AllocError, Global};
 
 /// Returns dealt tickets.
 fn tickets_of(alloc: Global, dealing: &Dealing, planned: Planned) -> Result<String, AllocError>
-    requires { dealing.now.count ≤ 100000 }
+    requires { dealing.now.count ≤ max_dealt }
 {
     let count = u64::from(dealing.count);
     match dealing.form {

@@ -3,6 +3,7 @@ use Rattle.std.proofs.Common.{◌≡◌, ℕ, ◌<◌, Bool, true, false, refl, 
 use Rattle.std.specs.declared.alloc.Global.{Global}
 use Rattle.std.proofs.lemmas.List.{length-map}
 use Rattle.std.proofs.lemmas.Option.{same_Some}
+use Rattle.numbers.specs.Bounds.{max_dealt}
 use Rattle.clap.specs.Words.{Row, Text, all_of, fault_of, first_of, subcommand_of}
 use Rattle.show_faults.specs.Codes.{IsNoneOf, code_in, fault_codes}
 use Rattle.command_line.specs.Words.{HasNumber, RefusesByClap}
@@ -28,12 +29,12 @@ pub HasFlag-none : (name : Text) (rows : List Row) → None ≡ first_of name ro
 HasFlag-none name rows absent = λ e. let bad : None ≡ Some (codes "true") = absent ∙ e in cc
 
 -- where `deal` was used with no number in range, it names nothing
-pub NamesNone-deal : (rows : List Row) → ((n : ℕ) → HasNumber (codes "N") 0 100000 rows n → ⊥) → NamesNone (Some (codes "deal", rows))
+pub NamesNone-deal : (rows : List Row) → ((n : ℕ) → HasNumber (codes "N") 0 max_dealt rows n → ⊥) → NamesNone (Some (codes "deal", rows))
 NamesNone-deal rows none (Deal dealing) named = none dealing.count named.1
 NamesNone-deal rows none command named = search rules
 
 -- nor does `near` with a number out of range
-pub NamesNone-near : (rows : List Row) → ((number : Option ℕ) → MayHaveNumber (codes "deal") 0 100000 rows number → ⊥) → NamesNone (Some (codes "near", rows))
+pub NamesNone-near : (rows : List Row) → ((number : Option ℕ) → MayHaveNumber (codes "deal") 0 max_dealt rows number → ⊥) → NamesNone (Some (codes "near", rows))
 NamesNone-near rows none (Near page) named = none page.tickets named.1
 NamesNone-near rows none command named = search rules
 

@@ -1,5 +1,6 @@
 -- The commands that are served.
 use Rattle.std.specs.Prelude.{◌≤◌, IfSome, length, ⊤}
+use Rattle.numbers.specs.Bounds.{max_dealt}
 use Rattle.commands.specs.Commands.{IsInRange}
 use Rattle.show_waiting.specs.Waiting as waiting
 use Rattle.show_command_line.specs.declared.command.ShowCommand.{ShowCommand}
@@ -7,9 +8,9 @@ use Rattle.show_command_line.specs.declared.command.ShowCommand.TheVariants.{Com
 
 -- the numbers of a command are in range
 abbrev pub IsShown : ShowCommand → Type 0
-IsShown (Deal dealing) = dealing.count ≤ 100000
+IsShown (Deal dealing) = dealing.count ≤ max_dealt
 IsShown (Compare files form) = length files.items ≤ 64
-IsShown (Near page) = IfSome page.tickets (λ n. n ≤ 100000)
+IsShown (Near page) = IfSome page.tickets (λ n. n ≤ max_dealt)
 IsShown (Fault command) = IsInRange command
 IsShown (Waiting w) = waiting.IsInRange w
 IsShown command = ⊤

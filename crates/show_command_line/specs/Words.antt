@@ -6,7 +6,7 @@ use Rattle.clap.specs.Words.{App, IsAmong, Row, Rule, Text, all_of, fault_of, fi
 use Rattle.clap.specs.declared.builder.action.ArgAction.TheVariants.{SetTrue}
 use Rattle.clap.specs.declared.builder.range.ValueRange.{ValueRange}
 use Rattle.clap.specs.declared.builder.value_parser.ValueParser.TheVariants.{Unsigned}
-use Rattle.numbers.specs.Bounds.{max_clients}
+use Rattle.numbers.specs.Bounds.{max_clients, max_dealt}
 use Rattle.show_faults.specs.Codes.{IsFaultCode, code_in}
 use Rattle.show_faults.specs.declared.explanation.Explanation.{Explanation}
 use Rattle.command_line.specs.Words as qlock
@@ -92,7 +92,7 @@ waiting_app =
 
 -- --deal N, for `near`
 abbrev pub near_deal_rule : Rule
-near_deal_rule = record (optional_rule (codes "deal") 0 100000) { long = Some (codes "deal"); value_names = 1 }
+near_deal_rule = record (optional_rule (codes "deal") 0 max_dealt) { long = Some (codes "deal"); value_names = 1 }
 
 -- qlock-show near, with --deal and --json
 abbrev pub near_app : App
@@ -190,11 +190,11 @@ IsNamedBy None command = ⊥
 IsNamedBy (Some used) (Plan form) = (used.0 ≡ codes "plan") × IsForm used.1 form
 IsNamedBy (Some used) (Deal dealing) =
     (used.0 ≡ codes "deal")
-    × HasNumber (codes "N") 0 100000 used.1 dealing.count
+    × HasNumber (codes "N") 0 max_dealt used.1 dealing.count
     × HasFlag (codes "even") used.1 dealing.is_even
     × IsTicketForm used.1 dealing.form
 IsNamedBy (Some used) (Near page) =
-    (used.0 ≡ codes "near") × MayHaveNumber (codes "deal") 0 100000 used.1 page.tickets × IsForm used.1 page.form
+    (used.0 ≡ codes "near") × MayHaveNumber (codes "deal") 0 max_dealt used.1 page.tickets × IsForm used.1 page.form
 IsNamedBy (Some used) (Coterie shape capacities) =
     (used.0 ≡ codes "coterie") × HasShape used.1 shape × MayHaveCapacities used.1 capacities
 IsNamedBy (Some used) (Compare files form) =

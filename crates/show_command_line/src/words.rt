@@ -17,14 +17,11 @@ use command_line::{
     without_commands, word_argument,
 };
 use commands::{Command, Usage, read_words};
-use numbers::MAX_CLIENTS;
+use numbers::{MAX_CLIENTS, MAX_DEALT};
 use show_coteries::{shape_of, widened};
 use show_faults::explanation_of;
 use show_waiting::Waiting;
 use std::alloc::{AllocError, Global};
-
-/// The most tickets that `near` deals.
-const MOST_TICKETS: u64 = 100_000;
 
 /// The most files of `compare`.
 const MOST_FILES: usize = 64;
@@ -184,7 +181,7 @@ fn near_deal_argument<'a>(alloc: Global) -> Arg<'a>
         "deal",
         "Deal this many tickets by these weights, 0 to 100000",
         0,
-        MOST_TICKETS,
+        MAX_DEALT,
     )
     .long("deal")
     .value_name("N")
@@ -475,7 +472,7 @@ fn near_of(used: &ArgMatches) -> Result<ShowCommand, Usage>
     ensures memory { IfErr result (λ usage. usage ≡ Arguments) }
     ensures shown { IfOk result IsShown }
 {
-    match number_if_given(used, "deal", 0, MOST_TICKETS) {
+    match number_if_given(used, "deal", 0, MAX_DEALT) {
         Ok(tickets) => Ok(ShowCommand::Near(NearPage {
             form: form_of(used),
             tickets,

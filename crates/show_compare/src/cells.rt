@@ -1,8 +1,8 @@
 //! The texts of figures in a table.
 
 use show_failures::Resilience;
-use show_figures::{Comparison, Loads, parts_above};
-use show_words::{push_percent, push_tenths};
+use show_figures::{Comparison, Loads};
+use show_words::{push_excess, push_gap, push_percent, push_tenths};
 use std::alloc::{AllocError, Global};
 
 /// Returns how many members the quorums have: a number, or the least and the greatest.
@@ -42,6 +42,17 @@ pub(crate) fn load_text(
     Ok(text)
 }
 
+/// Returns the same, and how far it is from the best one at most, if it is not the best.
+pub(crate) fn marked_text(
+    alloc: Global,
+    loads: Loads,
+    is_throughput: bool,
+) -> Result<String, AllocError> {
+    let mut text = load_text(alloc, loads, is_throughput)?;
+    push_gap(&mut text, loads, is_throughput)?;
+    Ok(text)
+}
+
 /// Returns a load as a fraction if it is the smallest possible one. Otherwise returns how far it is
 /// above, at most.
 pub(crate) fn exact_text(alloc: Global, loads: Loads) -> Result<String, AllocError> {
@@ -49,8 +60,8 @@ pub(crate) fn exact_text(alloc: Global, loads: Loads) -> Result<String, AllocErr
     if loads.load == loads.bound {
         return format!(in alloc; "{part}/{whole}");
     }
-    let hundredths = parts_above(loads.load, loads.bound, 10_000);
-    let ones = hundredths / 100;
-    let rest = hundredths % 100;
-    format!(in alloc; "at most {ones}.{rest:02} % above the smallest")
+    let mut text = String::from_str(alloc, "at most ")?;
+    push_excess(&mut text, loads)?;
+    text.push_str(" above the smallest")?;
+    Ok(text)
 }

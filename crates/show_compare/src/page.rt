@@ -1,6 +1,6 @@
 //! The page of coteries side by side.
 
-use crate::cells::{borne_text, exact_text, load_text, members_text};
+use crate::cells::{borne_text, exact_text, load_text, marked_text, members_text};
 use crate::table::{Cells, cells_of, push_table};
 use coterie_file::Named;
 use quorum_set::QSet;
@@ -67,10 +67,7 @@ fn entry_cells(alloc: Global, entry: &Entry, has_throughput: bool) -> Result<Cel
     cells.push(format!(in alloc; "{quorums}")?)?;
     cells.push(members_text(alloc, compared)?)?;
     cells.push(borne_text(alloc, &compared.borne)?)?;
-    if has_throughput {
-        cells.push(load_text(alloc, compared.loads, true)?)?;
-    }
-    cells.push(load_text(alloc, compared.loads, false)?)?;
+    cells.push(load_text(alloc, compared.loads, has_throughput)?)?;
     cells.push(exact_text(alloc, compared.loads)?)?;
     Ok(cells)
 }
@@ -83,34 +80,19 @@ fn push_figures(
     has_throughput: bool,
 ) -> Result<(), AllocError> {
     let mut rows = Vec::new(alloc);
-    let titles = if has_throughput {
-        cells_of(
-            alloc,
-            &[
-                "coterie",
-                "voters",
-                "quorums",
-                "members",
-                "may fail",
-                "throughput",
-                "load",
-                "smallest load",
-            ],
-        )?
-    } else {
-        cells_of(
-            alloc,
-            &[
-                "coterie",
-                "voters",
-                "quorums",
-                "members",
-                "may fail",
-                "load",
-                "smallest load",
-            ],
-        )?
-    };
+    let figure = if has_throughput { "throughput" } else { "load" };
+    let titles = cells_of(
+        alloc,
+        &[
+            "coterie",
+            "voters",
+            "quorums",
+            "members",
+            "may fail",
+            figure,
+            "smallest load",
+        ],
+    )?;
     let aligned = titles.len().saturating_sub(1);
     rows.push(titles)?;
     for entry in entries {
@@ -147,10 +129,11 @@ fn groups_of_entries(alloc: Global, entries: &[Entry]) -> Result<Vec<String>, Al
     Ok(groups)
 }
 
-/// Returns what is left when a group fails: a load or a throughput, or that no quorum is left.
+/// Returns what is left when a group fails: a load or a throughput, or that no quorum is left. One of
+/// weights near the best says how near they are.
 fn loss_text(alloc: Global, loss: &Loss, is_throughput: bool) -> Result<String, AllocError> {
     match loss.left {
-        Some(loads) => load_text(alloc, loads, is_throughput),
+        Some(loads) => marked_text(alloc, loads, is_throughput),
         None => String::from_str(alloc, "none left"),
     }
 }
@@ -230,7 +213,7 @@ fn push_legend(text: &mut String, entries: &[Entry]) -> Result<(), AllocError> {
 
 /// Returns a page with the figures of these coteries side by side: how many voters and quorums each
 /// has, how many members its quorums have, how many voters may fail, and its load. If some capacity
-/// is not 1, it also has the throughput: 1 divided by the load.
+/// is not 1, it has the throughput in its place: 1 divided by the load.
 ///
 /// A second table has the load, or the throughput, of what is left when a group of voters fails. It is
 /// there if some coterie has several groups, and not each voter is its own. Fails only if it runs out

@@ -1,16 +1,17 @@
 //! Tables of cells that are texts. Columns are as wide as their widest cell.
 
 use std::alloc::{AllocError, Global};
+use unicode_width::UnicodeWidthStr;
 
 /// The cells of a row.
 pub(crate) type Cells = Vec<String>;
 
-/// Returns how many bytes the longest cell of a column has.
+/// Returns how many columns of a terminal the widest cell of a column takes.
 fn width_of(rows: &[Cells], column: usize) -> usize {
     let mut width = 0;
     for row in rows {
         if column < row.len() {
-            width = width.max(row[column].len());
+            width = width.max(row[column].as_str().width());
         }
     }
     width
@@ -42,7 +43,7 @@ fn push_row(text: &mut String, cells: &[String], widths: &[usize]) -> Result<(),
         }
         let mut spaces = 0;
         if column < widths.len() {
-            spaces = widths[column].saturating_sub(cell.len());
+            spaces = widths[column].saturating_sub(cell.as_str().width());
         }
         if column > 0 {
             push_spaces(text, spaces)?;

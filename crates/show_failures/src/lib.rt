@@ -19,7 +19,11 @@
 //! voters that are fewer leave a quorum. That the search ends within a million steps is only tested.
 //! [`groups_of`] returns the groups of voters by name, and [`used_coterie`] the quorums of positive weight
 //! of a plan: they are a coterie.
-//! What the pages of [`resilience_page`] and [`bridge_page`] say is only tested too.
+//!
+//! The page of [`resilience_page`] says how many voters may fail, and names a set whose failure leaves no
+//! quorum. If it does not call the number an upper bound, the set is a smallest one. It says for each
+//! group whether a quorum is left, and its second part is about the quorums that the plan uses.
+//! What the page of [`bridge_page`] says is only tested.
 //!
 //! Depends on `failures`, which finds what is left, on `quorum_set`, on `coterie_file` for names and
 //! texts, and on `certificate` for plans.

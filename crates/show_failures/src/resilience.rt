@@ -1,7 +1,11 @@
 //! What a coterie bears: how many voters may fail, and which groups of them.
-ghost use Rattle.std.specs.Prelude.{◌≡◌, ◌<◌, ◌≤◌, ◌-◌, ℕ, All, IfSome, List, length, true};
+ghost use Rattle.std.specs.Prelude.{◌≡◌, ◌<◌, ◌≤◌, ◌-◌, ◌++◌, ℕ, All, IfOk, IfSome, List, MatchOption, None, OnOk, Some, length, string_bytes, true};
+ghost use Rattle.std.specs.List.{flat_map};
 ghost use Rattle.numbers.specs.Sets.{IsSet};
 ghost use Rattle.failures.specs.Failures.{Bears, IsSmallest, IsTransversal};
+ghost use Rattle.show_failures.specs.Resilience.{IsResiliencePage, SaysBorne, SaysPlan, answer_words, are_plain, blocking_words, borne_words, group_text, group_words, groups_text, most_words, resilience_text, search_words, set_words, used_text};
+ghost use Rattle.show_failures.specs.Used.{used_system};
+ghost use Rattle.show_failures.specs.Without.{is_borne};
 
 use crate::groups::groups_of;
 use crate::names::names_text;
@@ -47,30 +51,75 @@ pub fn resilience_of(coterie: &Coterie) -> Resilience
     }
 }
 
-/// What a page says of all quorums, or of a plan's own.
+/// Which quorums a part of a page is about.
 #[derive(Clone, Copy)]
-struct Words {
-    /// Which voters may fail.
-    borne: &'static str,
-    /// What the failure of a blocking set leaves.
-    blocking: &'static str,
-    /// What is said of each group.
-    groups: &'static str,
+pub(crate) enum Quorums {
+    /// All quorums of a coterie.
+    OfCoterie,
+    /// Those that a plan uses.
+    OfPlan,
 }
 
-/// The words for all quorums of a coterie.
-const OF_ALL: Words = Words {
-    borne: "voters that may fail, whichever they are",
-    blocking: "whose failure leaves no quorum",
-    groups: "groups by name, and whether all of a group may fail",
-};
+/// Returns the words for the voters that may fail.
+fn borne_words(quorums: Quorums) -> &'static str
+    ensures { result.now ≡ borne_words quorums }
+{
+    match quorums {
+        Quorums::OfCoterie => "voters that may fail, whichever they are",
+        Quorums::OfPlan => "voters that may fail before all of these are lost, whichever they are",
+    }
+}
 
-/// The words for the quorums that a plan uses.
-const OF_PLAN: Words = Words {
-    borne: "voters that may fail before all of these are lost, whichever they are",
-    blocking: "whose failure leaves none of these",
-    groups: "groups by name, and whether some of these are left when all of a group fails",
-};
+/// Returns the words for what the failure of a blocking set leaves.
+fn blocking_words(quorums: Quorums) -> &'static str
+    ensures { result.now ≡ blocking_words quorums }
+{
+    match quorums {
+        Quorums::OfCoterie => "whose failure leaves no quorum",
+        Quorums::OfPlan => "whose failure leaves none of these",
+    }
+}
+
+/// Returns the words for what is said of each group.
+fn group_words(quorums: Quorums) -> &'static str
+    ensures { result.now ≡ group_words quorums }
+{
+    match quorums {
+        Quorums::OfCoterie => "groups by name, and whether all of a group may fail",
+        Quorums::OfPlan => {
+            "groups by name, and whether some of these are left when all of a group fails"
+        }
+    }
+}
+
+/// Returns what is before a number that is exact, or an upper bound.
+fn most_words(is_smallest: bool) -> &'static str
+    ensures { result.now ≡ most_words is_smallest }
+{
+    if is_smallest { "" } else { "at most " }
+}
+
+/// Returns how a blocking set is called.
+fn set_words(is_smallest: bool) -> &'static str
+    ensures { result.now ≡ set_words is_smallest }
+{
+    if is_smallest {
+        "a smallest set"
+    } else {
+        "a set"
+    }
+}
+
+/// Returns what is said of the search for a smallest set.
+fn search_words(is_smallest: bool) -> &'static str
+    ensures { result.now ≡ search_words is_smallest }
+{
+    if is_smallest {
+        ""
+    } else {
+        " (the search for a smallest one did not end)"
+    }
+}
 
 /// Appends how many voters may fail, and the set whose failure leaves no quorum.
 fn push_resilience(
@@ -78,30 +127,72 @@ fn push_resilience(
     text: &mut String,
     named: &Named,
     found: &Resilience,
-    words: Words,
+    quorums: Quorums,
 ) -> Result<(), AllocError>
     requires { All (λ i. i < named.now.system.voters) found.now.blocking }
+    ensures { OnOk result (string_bytes text.new
+        ≡ string_bytes text.old ++ resilience_text quorums named.now.names found.now) }
 {
-    let Words {
-        borne,
-        blocking,
-        ..
-    } = words;
-    let (most, smallest, unfinished) = if found.is_smallest {
-        ("", "a smallest set", "")
-    } else {
-        (
-            "at most ",
-            "a set",
-            " (the search for a smallest one did not end)",
-        )
-    };
+    let borne = borne_words(quorums);
+    let blocking = blocking_words(quorums);
+    let most = most_words(found.is_smallest);
+    let set = set_words(found.is_smallest);
+    let search = search_words(found.is_smallest);
     let count = found.borne;
     let names = names_text(alloc, named, &found.blocking)?;
     write!(
         text,
-        "{borne}: {most}{count}\n{smallest} {blocking}{unfinished}: {names}\n"
+        "{borne}: {most}{count}\n{set} {blocking}{search}: {names}\n"
     )
+}
+
+/// Returns whether some quorum is left, as a word.
+fn answer_for(coterie: &Coterie, group: &QSet) -> &'static str
+    ensures { result.now ≡ answer_words (is_borne coterie.now.quorums group.now) }
+{
+    if bears(coterie, group) { "yes" } else { "no " }
+}
+
+/// Appends whether some quorum is left when all of a group fails, and its voters.
+fn push_group(
+    alloc: Global,
+    text: &mut String,
+    named: &Named,
+    coterie: &Coterie,
+    group: &QSet,
+) -> Result<(), AllocError>
+    requires { All (λ i. i < named.now.system.voters) group.now }
+    ensures { OnOk result (string_bytes text.new
+        ≡ string_bytes text.old ++ group_text named.now.names coterie.now.quorums group.now) }
+{
+    let names = names_text(alloc, named, group)?;
+    let answer = answer_for(coterie, group);
+    write!(text, "  {answer}  {names}\n")
+}
+
+/// Appends this for each of these groups.
+fn push_each(
+    alloc: Global,
+    text: &mut String,
+    named: &Named,
+    coterie: &Coterie,
+    groups: &[QSet],
+) -> Result<(), AllocError>
+    requires { All (λ g. All (λ i. i < named.now.system.voters) g) groups.now }
+    ensures { OnOk result (string_bytes text.new
+        ≡ string_bytes text.old ++ flat_map (group_text named.now.names coterie.now.quorums) groups.now) }
+{
+    for group in groups {
+        push_group(alloc, text, named, coterie, group)?;
+    }
+    Ok(())
+}
+
+/// Returns whether groups say nothing: there is but one, or each voter is its own.
+fn are_plain(groups: &[QSet], voters: usize) -> bool
+    ensures { result ≡ are_plain groups.now voters }
+{
+    groups.len() < 2 || voters <= groups.len()
 }
 
 /// Appends for each of these groups whether some quorum is left when all of it fails, and its voters,
@@ -112,51 +203,73 @@ fn push_groups(
     named: &Named,
     coterie: &Coterie,
     groups: &[QSet],
-    words: Words,
+    quorums: Quorums,
 ) -> Result<(), AllocError>
-    requires { All (λ g. All (λ i. i < named.now.system.voters) g) groups.now }
+    requires groups { All (λ g. All (λ i. i < named.now.system.voters) g) groups.now }
+    ensures { OnOk result (string_bytes text.new
+        ≡ string_bytes text.old ++ groups_text quorums named.now.names coterie.now groups.now) }
 {
-    if groups.len() < 2 || groups.len() >= named.coterie().voters() {
+    if are_plain(groups, coterie.voters()) {
         return Ok(());
     }
-    let title = words.groups;
+    let title = group_words(quorums);
     write!(text, "{title}:\n")?;
-    for group in groups {
-        let names = names_text(alloc, named, group)?;
-        let answer = if bears(coterie, group) { "yes" } else { "no " };
-        write!(text, "  {answer}  {names}\n")?;
-    }
-    Ok(())
+    push_each(alloc, text, named, coterie, groups)
 }
 
-/// Appends what the quorums of a coterie bear, by these words. The coterie has the named voters.
-fn push_borne(
+/// Returns what some quorums of a coterie bear. The coterie has the named voters.
+fn borne_text(
     alloc: Global,
-    text: &mut String,
     named: &Named,
     coterie: &Coterie,
-    words: Words,
-) -> Result<(), AllocError>
+    quorums: Quorums,
+) -> Result<String, AllocError>
     requires { coterie.now.voters ≡ named.now.system.voters }
+    ensures { IfOk result (λ text. SaysBorne quorums named.now.names coterie.now (string_bytes text)) }
 {
     let found = resilience_of(coterie);
     let groups = groups_of(alloc, named)?;
-    push_resilience(alloc, text, named, &found, words)?;
-    push_groups(alloc, text, named, coterie, &groups, words)
+    let mut text = String::new(alloc);
+    push_resilience(alloc, &mut text, named, &found, quorums)?;
+    push_groups(alloc, &mut text, named, coterie, &groups, quorums)?;
+    Ok(text)
 }
 
-/// Appends what the quorums bear that a plan uses.
-fn push_plan(alloc: Global, text: &mut String, named: &Named, plan: &Plan) -> Result<(), AllocError>
-    requires { plan.now.system ≡ named.now.system }
+/// Appends how many of all quorums a plan uses.
+fn push_used(text: &mut String, plan: &Plan, used: &Coterie) -> Result<(), AllocError>
+    requires { used.now ≡ used_system plan.now }
+    ensures { OnOk result (string_bytes text.new ≡ string_bytes text.old ++ used_text plan.now) }
 {
-    let used = used_coterie(alloc, plan)?;
     let count = used.count();
-    let all = named.coterie().count();
+    let all = plan.coterie().count();
     write!(
         text,
         "\nthe plan's own quorums: {count} of {all}, those of positive weight\n"
-    )?;
-    push_borne(alloc, text, named, &used, OF_PLAN)
+    )
+}
+
+/// Returns what the quorums bear that a plan uses.
+fn plan_text(alloc: Global, named: &Named, plan: &Plan) -> Result<String, AllocError>
+    requires { plan.now.system ≡ named.now.system }
+    ensures { IfOk result (λ text. SaysPlan named.now.names plan.now (string_bytes text)) }
+{
+    let used = used_coterie(alloc, plan)?;
+    let rest = borne_text(alloc, named, &used, Quorums::OfPlan)?;
+    let mut text = String::new(alloc);
+    push_used(&mut text, plan, &used)?;
+    text.push_str(rest.as_str())?;
+    Ok(text)
+}
+
+/// Returns what all quorums bear, and those that a plan uses.
+fn both_texts(alloc: Global, named: &Named, plan: &Plan) -> Result<String, AllocError>
+    requires { plan.now.system ≡ named.now.system }
+    ensures { IfOk result (λ page. IsResiliencePage named.now (Some plan.now) (string_bytes page)) }
+{
+    let mut text = borne_text(alloc, named, named.coterie(), Quorums::OfCoterie)?;
+    let second = plan_text(alloc, named, plan)?;
+    text.push_str(second.as_str())?;
+    Ok(text)
 }
 
 /// Returns how many voters may fail whichever they are, a set whose failure leaves no quorum, and
@@ -175,11 +288,13 @@ pub fn resilience_page(
     plan: Option<&Plan>,
 ) -> Result<String, AllocError>
     requires plan { IfSome plan (λ p. p.now.system ≡ named.now.system) }
+    // An upper bound is called one, and the second part is about the quorums that the plan uses.
+    ensures said { IfOk result (λ page.
+        MatchOption plan.entry (IsResiliencePage named.now None (string_bytes page))
+        (λ p. IsResiliencePage named.now (Some p.now) (string_bytes page))) }
 {
-    let mut text = String::new(alloc);
-    push_borne(alloc, &mut text, named, named.coterie(), OF_ALL)?;
-    if let Some(plan) = plan {
-        push_plan(alloc, &mut text, named, plan)?;
+    match plan {
+        None => borne_text(alloc, named, named.coterie(), Quorums::OfCoterie),
+        Some(plan) => both_texts(alloc, named, plan),
     }
-    Ok(text)
 }

@@ -144,13 +144,13 @@ const N1: Explanation = Explanation {
         That does not mean that there is none. The fault never comes for a coterie\n\
         whose quorums have one size and whose voters are alike: each in equally many\n\
         quorums, and of the same capacity.",
-    example: "planner::plan(alloc, &walks, &[1; 64]), for the 63 sets of\n\
-        crates/test_planning/src/plans.rt\n\
-        N1 NoPlan S1",
+    example: "$ ./qlock plan < examples/twenty-eight.toml\n\
+        N1 NoPlan P2",
     mistakes: "The coterie is large and irregular: some random ones fail from 24 voters\n\
         on. Take a regular shape, or fewer voters. Or use capacities that are\n\
-        small numbers. A plan that another program found can be checked by\n\
-        `./qlock check`.",
+        small numbers. Or take weights that are near the best: `qlock-show near`\n\
+        finds some for each coterie. A plan that another program found can be\n\
+        checked by `./qlock check`.",
 };
 
 /// Returns the explanations of the faults of plans.

@@ -1,6 +1,7 @@
 //! Tickets that are dealt, in one of the two orders, and their account.
 ghost use Rattle.std.specs.Prelude.{◌≡◌, ◌≤◌, false, true, length, map, IfOk};
 ghost use Rattle.std.specs.List.{range_with_len};
+ghost use Rattle.numbers.specs.Bounds.{max_dealt};
 ghost use Rattle.show_figures.specs.Deals.{IsEvenDeal, IsRoundsDeal, even_receipt};
 
 use crate::even_order::account_below;
@@ -61,7 +62,7 @@ fn evenly_dealt(alloc: Global, plan: Plan, count: u64) -> Result<Dealt, AllocErr
 
 /// Deals the tickets below `count` by rounds.
 fn dealt_by_rounds(alloc: Global, plan: Plan, count: u64) -> Result<Dealt, AllocError>
-    requires count { count ≤ 100000 }
+    requires count { count ≤ max_dealt }
     ensures dealt { IfOk result (IsRoundsDeal plan count) }
     ensures one_each { IfOk result (λ d. length d.account.voters ≡ plan.system.voters) }
 {
@@ -81,7 +82,7 @@ pub fn dealt_tickets(
     count: u64,
     is_even: bool,
 ) -> Result<Dealt, AllocError>
-    requires count { count ≤ 100000 }
+    requires count { count ≤ max_dealt }
     ensures even { IfOk result (λ d. is_even ≡ true → IsEvenDeal plan count d) }
     ensures rounds { IfOk result (λ d. is_even ≡ false → IsRoundsDeal plan count d) }
     ensures one_each { IfOk result (λ d. length d.account.voters ≡ plan.system.voters) }

@@ -1,5 +1,6 @@
 //! Dealt tickets as JSON.
 ghost use Rattle.std.specs.Prelude.{◌≤◌};
+ghost use Rattle.numbers.specs.Bounds.{max_dealt};
 
 use crate::parts::{Fraction, Ticket, fraction_of, line_of, ticket_of};
 use certificate::lowest_terms;
@@ -87,7 +88,7 @@ pub fn deal_json(
     count: u64,
     is_even: bool,
 ) -> Result<String, AllocError>
-    requires count { count ≤ 100000 }
+    requires count { count ≤ max_dealt }
 {
     let Planned { named, plan } = planned;
     let Dealt {

@@ -187,7 +187,7 @@ fn push_plan_fault(
 }
 
 /// Appends why no plan was found.
-fn push_planner_fault(text: &mut String, fault: PlannerFault) -> Result<(), AllocError> {
+fn push_cause(text: &mut String, fault: PlannerFault) -> Result<(), AllocError> {
     match fault {
         PlannerFault::NoPlan(Cause::Overflow) => {
             text.push_str("  a number of the simplex method did not fit into 128 bits\n")
@@ -196,9 +196,20 @@ fn push_planner_fault(text: &mut String, fault: PlannerFault) -> Result<(), Allo
             text.push_str("  the simplex method needs more than 10,000 pivots\n")
         }
         PlannerFault::NoPlan(Cause::TooLarge) => {
-            text.push_str("  the best weights add up to more than 1,000,000\n")
+            text.push_str("  the weights that were found add up to more than 1,000,000\n")
         }
         _ => Ok(()),
+    }
+}
+
+/// Appends why no plan was found, and what there is in place of one.
+fn push_planner_fault(text: &mut String, fault: PlannerFault) -> Result<(), AllocError> {
+    push_cause(text, fault)?;
+    match fault {
+        PlannerFault::NoPlan(_) => {
+            text.push_str("  qlock-show near finds weights that are near the best\n")
+        }
+        PlannerFault::OutOfMemory => Ok(()),
     }
 }
 

@@ -4,21 +4,23 @@ use coterie_file::Named;
 use failures::bears;
 use quorum_set::Coterie;
 use show_figures::Loss;
-use show_words::{push_members, push_percent, push_tenths};
+use show_words::{push_gap, push_members, push_percent, push_tenths};
 use std::alloc::AllocError;
 
 /// Appends the load of the best plan of what is left, if a quorum is. If some capacity is not 1, appends
-/// its throughput instead: 1 divided by the load.
+/// its throughput instead: 1 divided by the load. If no plan was found, it is that of weights near the
+/// best, and how near follows.
 fn push_left(text: &mut String, loss: &Loss, is_unit: bool) -> Result<(), AllocError> {
     let Some(loads) = loss.left else {
         return text.push_str("no quorum is left");
     };
     let (part, whole) = loads.load;
     if is_unit {
-        push_percent(text, part, whole)
+        push_percent(text, part, whole)?;
     } else {
-        push_tenths(text, whole, part)
+        push_tenths(text, whole, part)?;
     }
+    push_gap(text, loads, !is_unit)
 }
 
 /// Appends the table of these losses, if there are several groups and one has several voters. `used` are

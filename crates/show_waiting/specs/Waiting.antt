@@ -73,7 +73,13 @@ seconds_text w (Some s) =
 
 -- what a round is, and what the bound takes for granted
 abbrev pub premises_text : List ℕ
-premises_text = codes "In a round everybody is reminded, the messages of the reminders arrive, what is sent on their arrival arrives too, and whoever was inside at its beginning leaves. All else may be lost, late or repeated, but no REQUEST arrives later than in the round after that in which it was sent. Nobody crashes, whoever waits does not give up, and each voter has a grant left at the end. Timers and the network make the rounds: that they do is not proved.\n"
+premises_text =
+    codes "In a round everybody is reminded, the messages of the reminders arrive, what is sent "
+    ++ (codes "on their arrival arrives too, and whoever was inside at its beginning leaves. All "
+    ++ (codes "else may be lost, late or repeated, but no REQUEST arrives later than in the round "
+    ++ (codes "after that in which it was sent. Nobody crashes, whoever waits does not give up, and "
+    ++ (codes "each voter has a grant left at the end. Timers and the network make the rounds: that "
+    ++ codes "they do is not proved.\n"))))
 
 -- the whole page
 abbrev pub waiting_text : Waiting → List ℕ

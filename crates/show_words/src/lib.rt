@@ -11,7 +11,7 @@
 //!   in.
 //!
 //! - [`push_message_words`], [`push_names`], [`push_members`], [`push_quorum_members`], [`push_percent`],
-//!   [`push_tenths`] and [`push_quotient`] write parts of pages.
+//!   [`push_tenths`], [`push_quotient`], [`push_excess`] and [`push_gap`] write parts of pages.
 //!
 //! They are proved safe, and a private call plays each turn that it is given. A way in is what
 //! `Player::into_way` of `stories` returns. What all of them say is only tested.
@@ -37,7 +37,7 @@ mod worlds;
 
 pub use names::{push_members, push_names, push_quorum_members};
 pub use plans::plan_words;
-pub use share::{push_percent, push_quotient, push_tenths};
+pub use share::{push_excess, push_gap, push_percent, push_quotient, push_tenths};
 pub use ticket_names::names_page;
 pub use tickets::tickets_page;
 pub use worlds::{push_message_words, world_words};

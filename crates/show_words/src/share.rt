@@ -1,6 +1,6 @@
 //! Parts of a whole, in percent and as bars.
 
-use show_figures::{share, tenths};
+use show_figures::{Loads, parts_above, share, tenths};
 use std::alloc::AllocError;
 
 /// How many characters a bar of the whole has.
@@ -38,6 +38,29 @@ pub fn push_quotient(text: &mut String, part: u64, whole: u64) -> Result<(), All
     push_fraction(text, part, whole)?;
     text.push_str(", about ")?;
     push_tenths(text, part, whole)
+}
+
+/// Appends how far a load is above its bound at most, in percent, rounded up to thousandths.
+pub fn push_excess(text: &mut String, loads: Loads) -> Result<(), AllocError> {
+    let thousandths = parts_above(loads.load, loads.bound, 100_000);
+    let ones = thousandths / 1000;
+    let rest = thousandths % 1000;
+    write!(text, "{ones}.{rest:03} %")
+}
+
+/// Appends behind a load, or behind a throughput, how far it is from the best one at most. Appends
+/// nothing if the load is its bound: it is the smallest possible one.
+pub fn push_gap(text: &mut String, loads: Loads, is_throughput: bool) -> Result<(), AllocError> {
+    if loads.load == loads.bound {
+        return Ok(());
+    }
+    text.push_str(", at most ")?;
+    push_excess(text, loads)?;
+    text.push_str(if is_throughput {
+        " below the greatest"
+    } else {
+        " above the smallest"
+    })
 }
 
 /// Appends a bar for a part of a whole: of the whole it has 40 characters.

@@ -1,5 +1,6 @@
 //! The voters to ask for each ticket, and nothing else: for scripts.
 ghost use Rattle.std.specs.Prelude.{◌≤◌};
+ghost use Rattle.numbers.specs.Bounds.{max_dealt};
 
 use crate::names::push_quorum_members;
 use commands::Planned;
@@ -14,7 +15,7 @@ pub fn names_page(
     count: u64,
     is_even: bool,
 ) -> Result<String, AllocError>
-    requires count { count ≤ 100000 }
+    requires count { count ≤ max_dealt }
 {
     let Planned { named, plan } = planned;
     let dealt = dealt_tickets(alloc, plan, count, is_even)?;

@@ -1,5 +1,6 @@
 //! The page of dealt tickets: for each the names of the voters to ask.
 ghost use Rattle.std.specs.Prelude.{◌≡◌, ◌≤◌, length};
+ghost use Rattle.numbers.specs.Bounds.{max_dealt};
 
 use crate::names::push_quorum_members;
 use certificate::Plan;
@@ -98,7 +99,7 @@ pub fn tickets_page(
     count: u64,
     is_even: bool,
 ) -> Result<String, AllocError>
-    requires count { count ≤ 100000 }
+    requires count { count ≤ max_dealt }
 {
     let Planned { named, plan } = planned;
     let figures = figures_of(&plan);

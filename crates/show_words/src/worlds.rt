@@ -8,6 +8,7 @@ use coterie_file::Named;
 use dealer::Plans;
 use incidents::IncidentWorld;
 use message::{ClientBody, Message, ToClient, ToVoter, VoterBody};
+use numbers::MAX_VOTERS;
 use requester::{Phase, Requester, Seen};
 use show_figures::name_of;
 use std::alloc::{AllocError, Global};
@@ -552,7 +553,7 @@ fn ending_words(
             None => {}
         }
     }
-    for voter in 0..64u8 {
+    for voter in 0..MAX_VOTERS as u8 {
         push_stale_vote(&mut text, named, world, voter)?;
     }
     Ok(text)

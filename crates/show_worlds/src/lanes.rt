@@ -3,6 +3,7 @@ use crate::chart::{Node, maker_of};
 use coterie_file::Named;
 use incidents::IncidentWorld;
 use message::Message;
+use numbers::MAX_VOTERS;
 use quorum_set::QSet;
 use show_figures::name_of;
 use show_svg::{LETTER, Point, line, upright_words, words};
@@ -32,7 +33,7 @@ pub struct Lanes {
 
 /// Adds a number to a set, if the set can have it.
 fn mark(set: &mut QSet, number: u8) {
-    if number < 64 {
+    if usize::from(number) < MAX_VOTERS {
         let _ = set.insert(number);
     }
 }

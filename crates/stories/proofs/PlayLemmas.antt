@@ -21,7 +21,7 @@ use Rattle.world.specs.Restarts.{Node, OneClient, OneVoter, Nobody, Saved, come_
 use Rattle.world.specs.SavedWorlds.{PlannedSaved}
 use Rattle.world_state.specs.Steps.{Outcome, client_at, if_client, if_voter, vote, voter_at}
 use Rattle.leases.specs.Incidents.{Hears, hear, is_message}
-use Rattle.leases.proofs.Numbers.{both}
+use Rattle.passes.proofs.Requests.{both}
 use Rattle.incidents.specs.Calls.{KeepsGrant, RefusesClient, befalls_by, grant_at, letting_go}
 use Rattle.stories.specs.declared.happening.Happening.{Happening}
 use Rattle.stories.specs.declared.happening.Happening.TheVariants as happenings

@@ -18,6 +18,7 @@ use crate::turn::Turn;
 use dealer::Plans;
 use fence::{Fence, Pass, pass_of};
 use incidents::{IncidentFault, IncidentWorld};
+use numbers::{MAX_CLIENTS, MAX_VOTERS};
 use requester::Seen;
 use std::alloc::{AllocError, Global};
 use std::marker::Model;
@@ -159,8 +160,8 @@ impl Player {
     pub fn new(alloc: Global, plans: Plans, script: &StoryScript) -> Result<Player, AllocError>
         ensures { IfOk result (λ player. player ≡ first_scene plans script.now.clients script.now.limit) }
     {
-        let clients = vec![in alloc; 0; 64]?;
-        let voters = vec![in alloc; 0; 64]?;
+        let clients = vec![in alloc; 0; MAX_CLIENTS]?;
+        let voters = vec![in alloc; 0; MAX_VOTERS]?;
         let passes = no_passes(alloc)?;
         let world = IncidentWorld::new(alloc, plans, script.clients(), script.limit())?;
         Ok(Player {

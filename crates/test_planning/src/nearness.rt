@@ -1,67 +1,104 @@
 //! How near weights are to the best.
+ghost use Rattle.std.specs.Prelude.{◌<◌};
+
 use near::near;
 use quorum_set::{Coterie, QSet};
+use rand_core::{Rng, SeedableRng};
+use rand_pcg::Pcg64;
 use std::alloc::{AllocError, Global};
 use std::test::Fail;
 use test_plans::are_capacities;
 
-/// How many voters there are.
-const VOTERS: usize = 30;
+/// How many voters the coteries have, and how many quorums.
+const SIZES: [(u8, usize); 6] = [(20, 60), (25, 60), (30, 90), (40, 90), (52, 120), (64, 120)];
 
-/// How many quorums there are.
-const QUORUMS: usize = 60;
+/// The greatest capacities of the voters. They are drawn from 1 on.
+const CAPACITIES: [u64; 3] = [1, 8, 1000];
 
-/// The next state of a sequence that looks random.
-fn after(state: u64) -> u64 {
-    state
-        .wrapping_mul(6_364_136_223_846_793_005)
-        .wrapping_add(1_442_695_040_888_963_407)
+/// How many coteries there are of each size and greatest capacity.
+const SEEDS: u64 = 5;
+
+/// Returns a number below the bound.
+fn below(rng: &mut Pcg64, bound: u64) -> u64
+    requires { 0 < bound }
+    ensures { result < bound }
+{
+    rng.next_u64() % bound
 }
 
-/// Returns a set of more than half of the voters, and the state after it.
-fn majority_from(mut state: u64) -> (QSet, u64) {
+/// Draws a set of more than half of the voters.
+fn draw_majority(rng: &mut Pcg64, voters: u8) -> QSet {
     let mut set = QSet::empty();
-    for _ in 0..1000 {
-        if set.len() <= VOTERS / 2 {
-            state = after(state);
-            set.insert(((state >> 33) % 30) as u8);
+    for _ in 0..10_000 {
+        if set.len() <= usize::from(voters / 2) {
+            let voter = below(rng, 64) as u8;
+            if voter < voters {
+                set.insert(voter);
+            }
         }
     }
-    (set, state)
+    set
 }
 
-/// Returns sets of more than half of the voters.
-fn sets_from(alloc: Global, mut state: u64) -> Result<Vec<QSet>, AllocError> {
+/// Draws sets of more than half of the voters.
+fn draw_sets(rng: &mut Pcg64, alloc: Global, size: (u8, usize)) -> Result<Vec<QSet>, AllocError> {
     let mut sets = Vec::new(alloc);
-    for _ in 0..QUORUMS {
-        let (set, next) = majority_from(state);
-        state = next;
-        sets.push(set)?;
+    for _ in 0..size.1 {
+        sets.push(draw_majority(rng, size.0))?;
     }
     Ok(sets)
+}
+
+/// Draws capacities of the voters, from 1 to the greatest one.
+fn draw_capacities(
+    rng: &mut Pcg64,
+    alloc: Global,
+    voters: u8,
+    greatest: u64,
+) -> Result<Vec<u64>, AllocError> {
+    let mut capacities = Vec::new(alloc);
+    for _ in 0..voters {
+        capacities.push(below(rng, greatest.clamp(1, 1000)) + 1)?;
+    }
+    Ok(capacities)
 }
 
 /// Returns whether a load is less than 0.02 % above a bound.
 fn is_near(load: (u64, u64), bound: (u64, u64)) -> bool {
     let own = u128::from(load.0).saturating_mul(u128::from(bound.1));
     let least = u128::from(bound.0).saturating_mul(u128::from(load.1));
-    (own >= least) & (own.saturating_mul(10_000) <= least.saturating_mul(10_002))
+    (own >= least) & (own.saturating_mul(10_000) < least.saturating_mul(10_002))
 }
 
-/// Returns whether the weights for an irregular coterie are near the best.
-fn are_found(alloc: Global, seed: u64) -> Result<bool, Fail> {
-    let coterie = Coterie::of(VOTERS, sets_from(alloc, seed)?)?;
-    if !are_capacities(&[1; VOTERS], coterie.voters()) {
+/// Returns whether the weights for the coterie of a seed are near the best, and short.
+fn are_found(alloc: Global, size: (u8, usize), greatest: u64, seed: u64) -> Result<bool, Fail> {
+    let mut rng = Pcg64::seed_from_u64(seed);
+    let voters = usize::from(size.0);
+    let coterie = Coterie::of(voters, draw_sets(&mut rng, alloc, size)?)?;
+    let capacities = draw_capacities(&mut rng, alloc, size.0, greatest)?;
+    if !are_capacities(&capacities, coterie.voters()) {
         return Ok(false);
     }
-    let weights = near(alloc, &coterie, &[1; VOTERS])?;
-    Ok(is_near(weights.load(), weights.bound()))
+    let weights = near(alloc, &coterie, &capacities)?;
+    Ok(is_near(weights.load(), weights.bound()) & (weights.cycle_len() < 100_000))
+}
+
+/// Returns whether this holds for each seed.
+fn are_all_found(alloc: Global, size: (u8, usize), greatest: u64) -> Result<bool, Fail> {
+    for seed in 0..SEEDS {
+        if !are_found(alloc, size, greatest, seed)? {
+            return Ok(false);
+        }
+    }
+    Ok(true)
 }
 
 #[test]
-fn irregular_coteries_have_near_weights(rt: HostRuntime) -> Result<(), Fail> {
-    for seed in 1..=3 {
-        assert!(rt; are_found(rt.alloc(), seed)?);
+fn random_coteries_have_near_weights(rt: HostRuntime) -> Result<(), Fail> {
+    for size in &SIZES {
+        for greatest in &CAPACITIES {
+            assert!(rt; are_all_found(rt.alloc(), *size, *greatest)?);
+        }
     }
     Ok(())
 }

@@ -12,7 +12,8 @@ use Rattle.message.specs.declared.message.VoterBody.{VoterBody}
 use Rattle.message.specs.declared.message.VoterBody.TheVariants as asks
 use Rattle.voter.specs.declared.state.Grant.{Grant}
 use Rattle.voter.specs.declared.state.VoterState.{VoterState}
-use Rattle.voter.specs.Waiting.{Waiting, precedes, least, front}
+use Rattle.message.specs.Requests.{precedes}
+use Rattle.voter.specs.Waiting.{Waiting, least, front}
 use Rattle.voter.specs.Steps.{grant_to, grant_front, take_release, join_queue, join_queue_by, admit, queue, free_vote, finish, is_before, start, take_request}
 use Rattle.voter.specs.Steps.{see, outcome_of, Outcome, step}
 use Rattle.voter.specs.Entries.{AsksBack, request_of}

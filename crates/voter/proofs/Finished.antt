@@ -18,14 +18,14 @@ use Rattle.voter.proofs.Cases.{by_admit, by_release, by_relinquish, by_request}
 use Rattle.voter.proofs.Effects.{step-Some}
 
 -- the finished stamps stay
-abbrev Same : VoterState → VoterState → Type 0
+abbrev pub Same : VoterState → VoterState → Type 0
 Same v w = w.finished ≡ v.finished
 
 same-grant_to : (v : VoterState) (o : Option Request) → Same v (grant_to v o).state
 same-grant_to v None = refl
 same-grant_to v (Some r) = refl
 
-same-grant_front : (v : VoterState) → Same v (grant_front v).state
+pub same-grant_front : (v : VoterState) → Same v (grant_front v).state
 unfolding grant_front
 same-grant_front v = same-grant_to v (front v.waiting)
 
@@ -33,11 +33,11 @@ same-join_queue_by : (waits granted : Bool) (v : VoterState) (g : Grant) (c s : 
 same-join_queue_by false true v g c s = refl
 same-join_queue_by waits granted v g c s = refl
 
-same-admit : (v : VoterState) (c s : ℕ) → Same v (admit v c s).state
+pub same-admit : (v : VoterState) (c s : ℕ) → Same v (admit v c s).state
 unfolding join_queue
 same-admit v c s = by_admit (λ o. Same v o.state) v c s (λ _. same-grant_front (queue v c s)) (λ g _. same-join_queue_by _ _ v g c s)
 
-finished-take_release : (v : VoterState) (c s : ℕ) → (take_release v c s).state.finished ≡ (finish v c s).finished
+pub finished-take_release : (v : VoterState) (c s : ℕ) → (take_release v c s).state.finished ≡ (finish v c s).finished
 finished-take_release v c s = by_release (λ o. o.state.finished ≡ (finish v c s).finished) v c s (λ _. same-grant_front (free_vote (finish v c s))) (λ _ _. refl) (λ _ _. refl)
 
 places-take_release : (v : VoterState) (c s : ℕ) → length (take_release v c s).state.finished ≡ length v.finished

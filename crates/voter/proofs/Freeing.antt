@@ -8,7 +8,8 @@ use Rattle.message.specs.declared.request.Request.{Request}
 use Rattle.message.specs.declared.message.VoterBody.TheVariants as asks
 use Rattle.voter.specs.declared.state.Grant.{Grant}
 use Rattle.voter.specs.declared.state.VoterState.{VoterState}
-use Rattle.voter.specs.Waiting.{precedes, front}
+use Rattle.message.specs.Requests.{precedes}
+use Rattle.voter.specs.Waiting.{front}
 use Rattle.voter.specs.VoterContract.{IsEntry}
 use Rattle.voter.specs.Steps.{grant_to, grant_front, take_release, take_release_by, queue, free_vote, finish, held_stamp, is_up_to, is_grant, take_relinquish, take_relinquish_by, put_back, see, outcome_of}
 use Rattle.voter.specs.Entries.{request_of}

@@ -7,7 +7,8 @@ use Rattle.std.specs.FinMap.Entries.{find, is_sorted, below_all}
 use Rattle.std.proofs.lemmas.Bool.Decides.{nat_tests}
 use Rattle.std.proofs.lemmas.Option.{none-some, same_Some}
 use Rattle.message.specs.declared.request.Request.{Request}
-use Rattle.voter.specs.Waiting.{Waiting, precedes, request, first_of, least, front}
+use Rattle.message.specs.Requests.{precedes}
+use Rattle.voter.specs.Waiting.{Waiting, request, first_of, least, front}
 
 pub precedes-total : (a b : Request) → precedes a b ≡ false → precedes b a ≡ false → (a.stamp ≡ b.stamp) × (a.client ≡ b.client)
 precedes-total a b h k = grind (arith, nat_tests)

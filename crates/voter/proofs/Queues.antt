@@ -14,7 +14,8 @@ use Rattle.std.specs.FinMap.Entries.{find}
 use Rattle.std.proofs.lemmas.Bool.Decides.{nat_tests}
 use Rattle.std.proofs.lemmas.Option.{none-some}
 use Rattle.message.specs.declared.request.Request.{Request}
-use Rattle.voter.specs.Waiting.{Waiting, precedes, front, entry, waiting_of, Follows, IsQueue, without}
+use Rattle.message.specs.Requests.{precedes}
+use Rattle.voter.specs.Waiting.{Waiting, front, entry, waiting_of, Follows, IsQueue, without}
 use Rattle.voter.proofs.Front.{eq_by_cmp-nat, find-head, front-is, front-none, front-some, precedes-once, precedes-not_self, precedes-trans, cond_eqb-Some}
 
 -- the stamp of the first request of a client

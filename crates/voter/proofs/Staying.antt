@@ -12,7 +12,8 @@ use Rattle.message.specs.declared.message.VoterBody.TheVariants as asks
 use Rattle.voter.specs.declared.state.Grant.{Grant}
 use Rattle.voter.specs.declared.state.VoterState.{VoterState}
 use Rattle.voter.specs.Entries.{Finishes, KnowsUpTo, request_of}
-use Rattle.voter.specs.Waiting.{Waiting, precedes}
+use Rattle.message.specs.Requests.{precedes}
+use Rattle.voter.specs.Waiting.{Waiting}
 use Rattle.voter.specs.VoterContract.{IsEntry}
 use Rattle.voter.specs.Steps.{take_release, join_queue, join_queue_by, admit, queue, free_vote, finish, held_stamp, is_up_to, current_stamp, first_some, take_request}
 use Rattle.voter.specs.Steps.{see, outcome_of, is_refused, Outcome, step, IsSound, remind}

@@ -13,7 +13,8 @@ use Rattle.message.specs.declared.message.ClientBody.TheVariants as to_client
 use Rattle.voter.specs.declared.state.Grant.{Grant}
 use Rattle.voter.specs.declared.state.VoterState.{VoterState}
 use Rattle.voter.specs.declared.state.Effect.{Effect}
-use Rattle.voter.specs.Waiting.{precedes, front}
+use Rattle.message.specs.Requests.{precedes}
+use Rattle.voter.specs.Waiting.{front}
 
 -- the replies, in order, and the voter afterwards
 pub record Outcome : Type 0 where

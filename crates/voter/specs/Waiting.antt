@@ -1,18 +1,15 @@
 -- The waiting requests of a voter: a map from each waiting client to its stamp.
-use Rattle.std.specs.Prelude.{ℕ, ◌≡◌, ◌≢◌, ◌<◌, ◌==◌, nat_lt, Bool, true, not, ◌&&◌, ◌||◌, List, [], ◌∷◌, map, Option, Some, None, if◌then◌else◌, unwrap_or}
+use Rattle.std.specs.Prelude.{ℕ, ◌≡◌, ◌≢◌, ◌<◌, ◌==◌, Bool, true, not, List, [], ◌∷◌, map, Option, Some, None, if◌then◌else◌, unwrap_or}
 use Rattle.std.specs.Ordering.{nat_cmp}
 use Rattle.std.specs.List.{AllByRecursion, filter, range_with_len}
 use Rattle.std.specs.FinMap.{FinMap, entries, from_entries, get}
 use Rattle.numbers.specs.Bounds.{max_clients}
 use Rattle.message.specs.declared.request.Request.{Request}
+use Rattle.message.specs.Requests.{precedes}
 
 -- the waiting requests: a finite map from client to the stamp of its request
 abbrev pub Waiting : Type 0
 Waiting = FinMap nat_cmp ℕ
-
--- the request with the smaller stamp precedes; of equal stamps, that of the smaller client
-abbrev pub precedes : Request → Request → Bool
-precedes a b = nat_lt a.stamp b.stamp || (a.stamp == b.stamp && nat_lt a.client b.client)
 
 -- an entry of the map, as a request
 abbrev pub request : ℕ × ℕ → Request

@@ -13,7 +13,7 @@ ghost use Rattle.voter.specs.Saved.{IsKept, least_voter};
 ghost use Rattle.voter.specs.Steps.{IsSound, Outcome, effect_of, inquiry_again, remind, reply, start, step};
 ghost use Rattle.voter.specs.VoteMoves.{GrantIsNew, VoteMoves};
 ghost use Rattle.voter.specs.VoterContract.{AllReport, IsEntry, MeetsContract};
-ghost use Rattle.voter.specs.Waiting.{precedes};
+ghost use Rattle.message.specs.Requests.{precedes};
 
 /// A voter keeps its contract:
 ///

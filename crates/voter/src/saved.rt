@@ -46,7 +46,7 @@ impl VoterState {
         ensures waiting { words.new.items ≡ words.old.items ++ waiting_words self.now.waiting }
         ensures len { array_vec_len words.new ≡ array_vec_len words.old + max_clients }
     {
-        for client in 0..64u8 {
+        for client in 0..MAX_CLIENTS as u8 {
             words.push(self.waiting.stamp_of(client).unwrap_or(0));
         }
     }
@@ -94,7 +94,7 @@ impl VoterState {
     {
         match self.held {
             Some(g) => {
-                g.client < 64
+                usize::from(g.client) < MAX_CLIENTS
                     && g.stamp > 0
                     && g.grant > 0
                     && g.grant <= self.granted
@@ -134,7 +134,7 @@ fn queue_of(words: &[u64]) -> Queue
     ensures { (c : ℕ) → map.get result c ≡ stamp_of_word (slice_index words.now c) }
 {
     let mut queue = Queue::new();
-    for client in 0..64u8 {
+    for client in 0..MAX_CLIENTS as u8 {
         let stamp = stamp_at(words, client);
         add(&mut queue, client, stamp);
     }
@@ -162,10 +162,10 @@ fn add(queue: &mut Queue, client: u8, stamp: u64)
 
 /// Returns the number of a voter or a client that a word is.
 fn number_of(word: u64) -> u8
-    ensures below { result < 64 }
-    ensures read { word < 64 → result ≡ word }
+    ensures below { result < max_clients }
+    ensures read { word < max_clients → result ≡ word }
 {
-    (word % 64) as u8
+    (word % MAX_CLIENTS as u64) as u8
 }
 
 /// Returns the grant with these numbers, none if the first is 0.

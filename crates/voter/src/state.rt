@@ -4,7 +4,7 @@ ghost use Rattle.arrayvec.specs.ArrayVec.{array_vec_len};
 ghost use Rattle.numbers.specs.Bounds.{max_clients};
 ghost use Rattle.voter.specs.Steps.{admit, again, ends_grant, grant_front, held_stamp, inquiry, is_before, is_grant, is_later, is_older, is_refused, is_up_to, needs_grant, outcome_of, join_queue, take_release, take_relinquish, remind, reply, start, take_request, take_request_beside, current_stamp};
 
-use crate::queue::{Queue, precedes};
+use crate::queue::Queue;
 use arrayvec::ArrayVec;
 use message::{ClientBody, Request, ToClient, ToVoter, VoterBody};
 use numbers::MAX_CLIENTS;
@@ -186,7 +186,7 @@ impl VoterState {
             self.fail(request, replies);
             return;
         }
-        if precedes(holder, request) {
+        if holder.precedes(request) {
             self.fail(request, replies);
         } else {
             self.inquire(grant, replies);
@@ -416,7 +416,7 @@ fn is_before(first: Option<Request>, request: Request) -> bool
     ensures { result ≡ is_before first request }
 {
     match first {
-        Some(first) => precedes(first, request),
+        Some(first) => first.precedes(request),
         None => false,
     }
 }

@@ -115,6 +115,18 @@ impl Voter {
         Some(Voter { state })
     }
 
+    /// Returns a copy of the voter: what it saves is restored.
+    pub fn copy(&self) -> Voter
+        ensures { result ≡ self.now }
+    {
+        let mut words = ArrayVec::new();
+        self.save(&mut words);
+        match Voter::restore(words.as_slice()) {
+            Some(copy) => copy,
+            None => unreachable!(),
+        }
+    }
+
     /// Forgets all but the least that has to survive a crash: the grant that holds the vote, and the
     /// number of grants given.
     ///

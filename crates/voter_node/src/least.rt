@@ -1,4 +1,4 @@
-//! What of a voter has to survive, and copies of it.
+//! What of a voter has to survive.
 ghost use Rattle.std.specs.Prelude.{◌≡◌};
 ghost use Rattle.std.specs.Bool.{OnFalse, OnTrue};
 ghost use Rattle.voter_node.specs.LeftOut.{HaveSameLeast};
@@ -8,18 +8,6 @@ use voter::{SavedWords, Voter};
 
 /// The place of the number of grants among the numbers of a saved voter.
 const GRANTED: usize = 3;
-
-/// Returns a voter that is like this one.
-pub fn copy_of(voter: &Voter) -> Voter
-    ensures { result ≡ voter.now }
-{
-    let mut words: SavedWords = ArrayVec::new();
-    voter.save(&mut words);
-    match Voter::restore(words.as_slice()) {
-        Some(copy) => copy,
-        None => unreachable!(),
-    }
-}
 
 /// Returns how many grants the voter gave.
 #[tactic(auto, unfolding(voter::specs::Saved::words_of))]

@@ -6,7 +6,7 @@ ghost use Rattle.voter_node.specs.LeftOut.{HaveSameLeast};
 ghost use Rattle.voter_node.specs.Nodes.{Takes, Evicts, Reminds, IsSaved, has_room, node_of, node_step, silent};
 
 use crate::fault::NodeFault;
-use crate::least::{copy_of, must_save};
+use crate::least::must_save;
 use arrayvec::ArrayVec;
 use message::{ToClient, ToVoter};
 use std::marker::Model;
@@ -47,7 +47,7 @@ impl VoterNode {
     pub fn new(voter: Voter) -> Self
         ensures { result ≡ node_of voter }
     {
-        let saved = copy_of(&voter);
+        let saved = voter.copy();
         VoterNode {
             live: voter,
             saved,
@@ -162,7 +162,7 @@ impl VoterNode {
         ensures saved { node_step self.old IsSaved ≡ Ok (record { node = self.new; sends = result.items }) }
         ensures id { self.new.live.id ≡ self.old.live.id }
     {
-        self.saved = copy_of(&self.live);
+        self.saved = self.live.copy();
         self.outbox.take()
     }
 }

@@ -1,6 +1,6 @@
 -- Who asks, who is inside and who leads, client by client.
-use Rattle.std.proofs.Common.{ℕ, ◌≡◌, ◌+◌, ◌<◌, ◌≤◌, true, false, true≢false, List, length, Option, Some, None, MatchOption, sym, ap, subst, ◌∙◌, arith, inl, inr}
-use Rattle.std.specs.Prelude.{◌==◌, ◌&&◌, ◌||◌, nat_lt, slice_get, unwrap_or}
+use Rattle.std.proofs.Common.{ℕ, ◌≡◌, ◌≢◌, ◌+◌, ◌<◌, ◌≤◌, true, false, true≢false, List, length, Option, Some, None, MatchOption, sym, ap, subst, ◌∙◌, arith, inl, inr}
+use Rattle.std.specs.Prelude.{slice_get, unwrap_or}
 use Rattle.std.proofs.lemmas.Bool.{cases_eq, cases_lt}
 use Rattle.std.proofs.lemmas.Bool.Decides.{nat_tests}
 use Rattle.std.proofs.lemmas.Option.{get_or_from_slice_get, unwrap_or-slice_get}
@@ -9,7 +9,9 @@ use Rattle.requester.specs.declared.state.ClientState.{ClientState}
 use Rattle.requester.specs.Steps.{start}
 use Rattle.requester.specs.Words.{is_asking, is_inside}
 use Rattle.progress.specs.WayIn.{IsFree}
-use Rattle.voter.specs.Waiting.{precedes}
+use Rattle.message.specs.declared.request.Request.{Request}
+use Rattle.message.specs.Requests.{precedes}
+use Rattle.voter.proofs.Front.{precedes-trans}
 use Rattle.world_state.specs.Steps.{WorldState, client_at}
 use Rattle.ways.specs.Leaders.{IsLeader, LeadsBelow, NobodyAsks, is_earlier, request_of}
 
@@ -37,13 +39,9 @@ IsFree-from_each w n all each c = elim (cases_lt c n) as (λ _. is_inside (clien
 
 -- One client more
 
--- a smaller stamp precedes whatever a request with a greater one precedes
-earlier_precedes : (stamp other s n c d : ℕ) → nat_lt stamp other ≡ true → (nat_lt other s || (other == s && nat_lt c d)) ≡ true → (nat_lt stamp s || (stamp == s && nat_lt n d)) ≡ true
-earlier_precedes stamp other s n c d earlier before = grind (arith, nat_tests)
-
--- of two requests the one whose stamp is no greater precedes, if its client has the smaller number
-later_follows : (stamp other n c : ℕ) → nat_lt stamp other ≡ false → c < n → (nat_lt other stamp || (other == stamp && nat_lt c n)) ≡ true
-later_follows stamp other n c later lt = grind (arith, nat_tests)
+-- of two requests of different clients one precedes the other
+other_precedes : (a b : Request) → a.client ≢ b.client → precedes a b ≡ false → precedes b a ≡ true
+other_precedes a b apart later = grind (arith, nat_tests)
 
 -- one that does not ask changes nothing
 pub LeadsBelow-silent : (w : WorldState) (n : ℕ) (first : Option ℕ) → is_asking (client_at w.clients n).phase ≡ false → LeadsBelow w n first → LeadsBelow w (n + 1) first
@@ -62,7 +60,7 @@ LeadsBelow-silent w n (Some c) silent below = (
       ],
 )
 
--- one that asks with a smaller stamp leads
+-- one that asks and precedes the first one leads
 pub LeadsBelow-earlier : (w : WorldState) (n : ℕ) (first : Option ℕ) → is_asking (client_at w.clients n).phase ≡ true → is_earlier w n first ≡ true → LeadsBelow w n first
     → LeadsBelow w (n + 1) (Some n)
 LeadsBelow-earlier w n None asks earlier below = (omega arith, asks, λ d lt too other. absurd (true≢false (sym too ∙ below d (omega arith))))
@@ -71,12 +69,12 @@ LeadsBelow-earlier w n (Some c) asks earlier below = (
   asks,
   λ d lt too other.
       elim (cases_eq d c) as (λ _. precedes (request_of w n) (request_of w d) ≡ true) [
-        | inl same ↦ subst (λ k. precedes (request_of w n) (request_of w k) ≡ true) (sym same) (ap (λ b. b || ((client_at w.clients n).stamp == (client_at w.clients c).stamp && nat_lt n c)) earlier)
-        | inr apart ↦ earlier_precedes (client_at w.clients n).stamp (client_at w.clients c).stamp (client_at w.clients d).stamp n c d earlier (below.2 d (omega arith) too apart)
+        | inl same ↦ subst (λ k. precedes (request_of w n) (request_of w k) ≡ true) (sym same) earlier
+        | inr apart ↦ precedes-trans (request_of w n) (request_of w c) (request_of w d) earlier (below.2 d (omega arith) too apart)
       ],
 )
 
--- one that asks with another stamp does not
+-- one that does not precede it does not
 pub LeadsBelow-later : (w : WorldState) (n : ℕ) (first : Option ℕ) → is_earlier w n first ≡ false → LeadsBelow w n first → LeadsBelow w (n + 1) first
 LeadsBelow-later w n None later below = absurd (true≢false later)
 LeadsBelow-later w n (Some c) later below = (
@@ -85,7 +83,7 @@ LeadsBelow-later w n (Some c) later below = (
   λ d lt asks other.
       elim (cases_eq d n) as (λ _. precedes (request_of w c) (request_of w d) ≡ true) [
         | inl same ↦ subst (λ k. precedes (request_of w c) (request_of w k) ≡ true) (sym same)
-            (later_follows (client_at w.clients n).stamp (client_at w.clients c).stamp n c later below.0)
+            (other_precedes (request_of w n) (request_of w c) (λ e. (let lt = below.0 in omega (arith, e))) later)
         | inr apart ↦ below.2 d (omega arith) asks other
       ],
 )

@@ -1,7 +1,7 @@
 -- Who leads: the client whose request precedes those of all others that ask.
-use Rattle.std.specs.Prelude.{ℕ, ◌≡◌, ◌≢◌, ◌<◌, Bool, true, false, nat_lt, Option, Some, None}
+use Rattle.std.specs.Prelude.{ℕ, ◌≡◌, ◌≢◌, ◌<◌, Bool, true, false, Option, Some, None}
 use Rattle.message.specs.declared.request.Request.{Request}
-use Rattle.voter.specs.Waiting.{precedes}
+use Rattle.message.specs.Requests.{precedes}
 use Rattle.requester.specs.Words.{is_asking, is_inside}
 use Rattle.progress.specs.WayIn.{Asks}
 use Rattle.world_state.specs.Steps.{WorldState, client_at}
@@ -23,10 +23,10 @@ NobodyAsks w = (c : ℕ) → ¬ Asks w c
 abbrev pub IsBusy : WorldState → Type 0
 IsBusy w = (c : ℕ) × (is_inside (client_at w.clients c).phase ≡ true)
 
--- the client has a smaller stamp than the other one, or there is no other one
+-- the client's request precedes that of the other one, or there is no other one
 abbrev pub is_earlier : WorldState → ℕ → Option ℕ → Bool
 is_earlier w c None = true
-is_earlier w c (Some d) = nat_lt (client_at w.clients c).stamp (client_at w.clients d).stamp
+is_earlier w c (Some d) = precedes (request_of w c) (request_of w d)
 
 -- so far, of the clients below n: the one that leads, or none if none of them asks
 abbrev pub LeadsBelow : WorldState → ℕ → Option ℕ → Type 0

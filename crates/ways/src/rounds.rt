@@ -3,10 +3,12 @@ ghost use Rattle.std.specs.Prelude.{◌≡◌, ◌+◌, Ok, None, IfErr, IfNone,
 ghost use Rattle.requester.specs.Words.{is_asking, is_inside};
 ghost use Rattle.progress.specs.WayIn.{IsFree};
 ghost use Rattle.world_state.specs.Steps.{client_at};
-ghost use Rattle.ways.specs.Leaders.{IsBusy, IsLeader, LeadsBelow, NobodyAsks, is_earlier};
+ghost use Rattle.ways.specs.Leaders.{IsBusy, IsLeader, LeadsBelow, NobodyAsks, is_earlier, request_of};
 ghost use Rattle.ways.specs.Leads.{AreLedOn, LeadFurther, LeadsIn, went_of};
 
 use crate::make::{Went, remind};
+use message::Request;
+use numbers::{MAX_CLIENTS, MAX_VOTERS};
 use requester::{Phase, Requester};
 use std::alloc::{AllocError, Global};
 use world::{Step, World};
@@ -63,6 +65,16 @@ fn stamp_of(world: &World, client: u8) -> u64
     }
 }
 
+/// Returns the client's current or last request.
+fn request_of(world: &World, client: u8) -> Request
+    ensures { result ≡ request_of world.now.state client }
+{
+    Request {
+        stamp: stamp_of(world, client),
+        client,
+    }
+}
+
 /// Returns whether some client is inside.
 fn is_busy(world: &World) -> bool
     ensures { MatchBool result (IsBusy world.now.state) (IsFree world.now.state) }
@@ -75,12 +87,12 @@ fn is_busy(world: &World) -> bool
     false
 }
 
-/// Returns whether the client's stamp is smaller than that of the other one, if there is another one.
+/// Returns whether the client's request precedes that of the other one, if there is another one.
 fn has_earlier(world: &World, client: u8, other: Option<u8>) -> bool
     ensures { result ≡ is_earlier world.now.state client other }
 {
     match other {
-        Some(other) => stamp_of(world, client) < stamp_of(world, other),
+        Some(other) => request_of(world, client).precedes(request_of(world, other)),
         None => true,
     }
 }
@@ -123,7 +135,7 @@ fn remind_voters(
 ) -> Result<Went, AllocError>
     ensures { LeadFurther first world.old steps.old.items (went_of result) world.new steps.new.items }
 {
-    for voter in 0..64u8 {
+    for voter in 0..MAX_VOTERS as u8 {
         if lacks(world, client, voter) {
             match remind(world, steps, first, Step::RemindVoter(voter)) {
                 Ok(Went::On) => {}
@@ -143,7 +155,7 @@ fn remind_others(
 ) -> Result<Went, AllocError>
     ensures { LeadFurther first world.old steps.old.items (went_of result) world.new steps.new.items }
 {
-    for client in 0..64u8 {
+    for client in 0..MAX_CLIENTS as u8 {
         if client != leader && asks(world, client) {
             match remind(world, steps, first, Step::RemindClient(client)) {
                 Ok(Went::On) => {}

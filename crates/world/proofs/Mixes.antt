@@ -32,18 +32,12 @@ use Rattle.world.specs.Rules.{ClientLaws, VoterLaws}
 use Rattle.world.specs.Visible.{DealsFrom, DoMeet}
 use Rattle.world.proofs.Claims.{Bounds, put, put-same}
 use Rattle.world.proofs.EveryRun.{numbered_by, run_ok}
-use Rattle.world.proofs.Places.{client_at-set, voter_at-set}
+use Rattle.world.proofs.Places.{client_at-set, client_here, voter_at-set, voter_here}
 use Rattle.world.proofs.Plans.{run_then}
 use Rattle.world.proofs.Reached.{Given, RunOk, accepts_among}
 use Rattle.world.proofs.Restarts.{Mix, MixBut, Mix-back, Mix-restarted, Mix-saved, Mix-with, MixBut-put, MixBut-put_left, none_of, nothing_more, put-both, silent_parts, within_or}
 
 -- ---- lists
-
-client_here : (cs : List ClientState) (c : ℕ) (x : ClientState) → c < length cs → client_at (set cs c x) c ≡ x
-client_here cs c x within = ap (λ (f : ℕ → ClientState). f c) (client_at-set cs c x within) ∙ put-same (client_at cs) c x
-
-voter_here : (vs : List VoterState) (v : ℕ) (y : VoterState) → v < length vs → voter_at (set vs v y) v ≡ y
-voter_here vs v y within = ap (λ (f : ℕ → VoterState). f v) (voter_at-set vs v y within) ∙ put-same (voter_at vs) v y
 
 client_back : (cs : List ClientState) (c : ℕ) → set cs c (client_at cs c) ≡ cs
 unfolding client_at
@@ -701,11 +695,11 @@ all_led b given deal deals (h ∷ hs) nothing s ok = all_led b given deal deals 
 
 -- ---- the first world
 
-same_clients : (xs ys : List ClientState) → length xs ≡ length ys → Mix (client_at ys) (client_at ys) (client_at xs) → xs ≡ ys
+pub same_clients : (xs ys : List ClientState) → length xs ≡ length ys → Mix (client_at ys) (client_at ys) (client_at xs) → xs ≡ ys
 unfolding client_at
 same_clients xs ys long mix = ext_get_or (client.start 0 1) xs ys long (λ n within. elim (mix n) [ inl e ↦ e | inr e ↦ e ])
 
-same_voters : (xs ys : List VoterState) → length xs ≡ length ys → Mix (voter_at ys) (voter_at ys) (voter_at xs) → xs ≡ ys
+pub same_voters : (xs ys : List VoterState) → length xs ≡ length ys → Mix (voter_at ys) (voter_at ys) (voter_at xs) → xs ≡ ys
 unfolding voter_at
 same_voters xs ys long mix = ext_get_or (voter.start 0 1) xs ys long (λ n within. elim (mix n) [ inl e ↦ e | inr e ↦ e ])
 

@@ -27,3 +27,20 @@ unfolding client_at
 client_at-set cs c x within = λ i q. same_choice q c x (get_or (set cs c x) q (client.start 0 1)) (get_or cs q (client.start 0 1))
     (λ same. ap (λ n. get_or (set cs c x) n (client.start 0 1)) same ∙ get_or-set_same cs c x (client.start 0 1) within)
     (λ other. get_or-set_other cs c q x (client.start 0 1) other) i
+
+-- the client or the voter that is written, and the others
+pub client_here : (cs : List ClientState) (c : ℕ) (x : ClientState) → c < length cs → client_at (set cs c x) c ≡ x
+unfolding client_at
+client_here cs c x within = get_or-set_same cs c x (client.start 0 1) within
+
+pub client_others : (cs : List ClientState) (c : ℕ) (x : ClientState) (q : ℕ) → q ≢ c → client_at (set cs c x) q ≡ client_at cs q
+unfolding client_at
+client_others cs c x q other = get_or-set_other cs c q x (client.start 0 1) other
+
+pub voter_here : (vs : List VoterState) (v : ℕ) (y : VoterState) → v < length vs → voter_at (set vs v y) v ≡ y
+unfolding voter_at
+voter_here vs v y within = get_or-set_same vs v y (voter.start 0 1) within
+
+pub voter_others : (vs : List VoterState) (v : ℕ) (y : VoterState) (q : ℕ) → q ≢ v → voter_at (set vs v y) q ≡ voter_at vs q
+unfolding voter_at
+voter_others vs v y q other = get_or-set_other vs v q y (voter.start 0 1) other

@@ -7,7 +7,6 @@ ghost use Rattle.world.specs.States.{IsStored, node_of, saved_of};
 ghost use Rattle.world_state.specs.States.{HasRoom, contents_of, plans_of};
 ghost use Rattle.world_state.specs.Steps.{client_at, dealing_of, voter_at};
 
-use arrayvec::ArrayVec;
 use message::Message;
 use requester::Requester;
 use voter::Voter;
@@ -35,37 +34,13 @@ pub struct Stored {
     pub voters: Vec<Voter>,
 }
 
-/// Returns a client that is as this one: what it saves is restored.
-fn client_like(client: &Requester) -> Requester
-    ensures { result ≡ client.now }
-{
-    let mut words = ArrayVec::new();
-    client.save(&mut words);
-    match Requester::restore(words.as_slice()) {
-        Some(again) => again,
-        None => unreachable!(),
-    }
-}
-
-/// Returns a voter that is as this one, in the same way.
-fn voter_like(voter: &Voter) -> Voter
-    ensures { result ≡ voter.now }
-{
-    let mut words = ArrayVec::new();
-    voter.save(&mut words);
-    match Voter::restore(words.as_slice()) {
-        Some(again) => again,
-        None => unreachable!(),
-    }
-}
-
 /// Makes the client with this number as it is in the other list.
 pub fn copy_client(clients: &mut [Requester], others: &[Requester], number: u8)
     requires { length clients.old ≡ length others.now }
     ensures { clients.new ≡ slice_set clients.old number (client_at others.now number) }
 {
     if usize::from(number) < clients.len() {
-        clients[usize::from(number)] = client_like(client_of(others, number));
+        clients[usize::from(number)] = client_of(others, number).copy();
     }
 }
 
@@ -75,7 +50,7 @@ pub fn copy_voter(voters: &mut [Voter], others: &[Voter], number: u8)
     ensures { voters.new ≡ slice_set voters.old number (voter_at others.now number) }
 {
     if usize::from(number) < voters.len() {
-        voters[usize::from(number)] = voter_like(voter_of(others, number));
+        voters[usize::from(number)] = voter_of(others, number).copy();
     }
 }
 

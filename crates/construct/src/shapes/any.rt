@@ -7,6 +7,7 @@ ghost use Rattle.construct.specs.declared.fault.ConstructFault.TheVariants.{BadS
 use crate::fault::ConstructFault;
 use crate::lists::sets_of;
 use crate::set::coterie_of;
+use numbers::MAX_VOTERS;
 use quorum_set::Coterie;
 use std::alloc::Global;
 
@@ -23,7 +24,7 @@ pub fn any(alloc: Global, size: u32, voters: u32) -> Result<Coterie, ConstructFa
     if size > voters || 2 * u64::from(size) <= u64::from(voters) {
         return Err(ConstructFault::BadSize);
     }
-    if voters > 64 {
+    if voters > MAX_VOTERS as u32 {
         return Err(ConstructFault::TooLarge);
     }
     let quorums = sets_of(alloc, 0, voters as u8, size as u8)?;

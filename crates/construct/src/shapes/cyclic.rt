@@ -7,6 +7,7 @@ ghost use Rattle.construct.specs.declared.fault.ConstructFault.TheVariants.{BadS
 
 use crate::fault::ConstructFault;
 use crate::set::set_where;
+use numbers::MAX_VOTERS;
 use quorum_set::{Coterie, QSet};
 use std::alloc::{AllocError, Global};
 use std::collections::HashSet;
@@ -87,7 +88,7 @@ pub fn cyclic(alloc: Global, voters: u32, base: &[u32]) -> Result<Coterie, Const
     if is_off_ring(voters, base) || has_repeat(alloc, base)? {
         return Err(ConstructFault::BadSize);
     }
-    if voters > 64 {
+    if voters > MAX_VOTERS as u32 {
         return Err(ConstructFault::TooLarge);
     }
     let quorums = quorums_of(alloc, voters, base)?;

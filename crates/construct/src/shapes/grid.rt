@@ -7,6 +7,7 @@ ghost use Rattle.construct.specs.Grid.{row_with_column, grid_quorums, grid_at};
 
 use crate::fault::ConstructFault;
 use crate::set::{coterie_of, set_where};
+use numbers::MAX_VOTERS;
 use quorum_set::{Coterie, QSet};
 use std::alloc::{AllocError, Global};
 
@@ -64,7 +65,7 @@ pub fn grid(alloc: Global, rows: u32, columns: u32) -> Result<Coterie, Construct
     if rows < 2 || columns < 2 {
         return Err(ConstructFault::BadSize);
     }
-    if u64::from(rows) * u64::from(columns) > 64 {
+    if u64::from(rows) * u64::from(columns) > MAX_VOTERS as u64 {
         return Err(ConstructFault::TooLarge);
     }
     let quorums = quorums_of(alloc, rows, columns)?;

@@ -1,5 +1,11 @@
-use Rattle.progress.proofs.Making.{rounds_of}
+use Rattle.progress.proofs.Making.{grants_left, rounds_of}
+use Rattle.progress.proofs.Sure.{IsSure-reached, course_of}
 use Rattle.progress.proofs.laws.fair_rounds_can_be_made.Goals as goal
 
-pub returns : goal.returns
-returns c = rounds_of
+pub returns-clause-made : goal.returns-clause-made
+returns-clause-made c = rounds_of
+
+pub returns-clause-left : goal.returns-clause-left
+returns-clause-left c w steps n reached left =
+    let laws = c.worlds_keep_their_rules.ensures in
+    grants_left laws (course_of w) steps w.state (IsSure-reached laws w reached) n left

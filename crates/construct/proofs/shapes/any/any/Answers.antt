@@ -13,14 +13,14 @@ returns-in_err-quorums-clause-exact c =
     let more : n < 2 * size = omega (arith, c.if-from.false, c.from.ensures, c.from-else-size-voters.ensures) in
     let good : is_bad_size size n ≡ false = good_size size n c.if-size-voters.false more in
     gives-refused c.from_residual.result (any_at size n) fault c.from_residual.ensures.1
-    (refuses-by fault (coterie_at-large (is_bad_size size n) n (sets_from 0 n size) fault good c.if-voters-gt64.false) c.in_err-quorums.ensures)
+    (refuses-by fault (coterie_at-large (is_bad_size size n) n (sets_from 0 n size) fault good c.if-voters.false) c.in_err-quorums.ensures)
 
 pub coterie_of-requires : goal.coterie_of-requires
 coterie_of-requires c =
     let size = c.args.size in
     let n = c.args.voters in
     let more : n < 2 * size = omega (arith, c.if-from.false, c.from.ensures, c.from-else-size-voters.ensures) in
-    any_made size n c.in_ok-quorums.quorums.items c.if-size-voters.false more c.if-voters-gt64.false c.in_ok-quorums.ensures
+    any_made size n c.in_ok-quorums.quorums.items c.if-size-voters.false more c.if-voters.false c.in_ok-quorums.ensures
 
 pub returns-clause-exact : goal.returns-clause-exact
 returns-clause-exact c =
@@ -30,4 +30,4 @@ returns-clause-exact c =
     let more : n < 2 * size = omega (arith, c.if-from.false, c.from.ensures, c.from-else-size-voters.ensures) in
     let good : is_bad_size size n ≡ false = good_size size n c.if-size-voters.false more in
     gives-made c.coterie_of.result (any_at size n) (record { voters = n; quorums = list }) c.coterie_of.ensures
-    (coterie_at-small (is_bad_size size n) n (sets_from 0 n size) list good c.if-voters-gt64.false c.in_ok-quorums.ensures)
+    (coterie_at-small (is_bad_size size n) n (sets_from 0 n size) list good c.if-voters.false c.in_ok-quorums.ensures)

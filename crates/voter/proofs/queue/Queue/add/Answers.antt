@@ -3,7 +3,8 @@ use Rattle.std.specs.List.{insert, position_or_len}
 use Rattle.std.specs.Prelude.{not}
 use Rattle.std.specs.FinMap as fin
 use Rattle.std.specs.FinMap.{get}
-use Rattle.voter.specs.Waiting.{IsQueue, waiting_of, precedes}
+use Rattle.message.specs.Requests.{precedes}
+use Rattle.voter.specs.Waiting.{IsQueue, waiting_of}
 use Rattle.voter.proofs.Queues.{IsNew, IsNew-from_get, waiting_of-placed, IsQueue-placed, length-IsQueue, insert-placed, placed}
 use Rattle.voter.proofs.queue.Queue.add.Goals as goal
 
