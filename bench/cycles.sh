@@ -13,7 +13,7 @@ root=$(CDPATH= cd -- "$(dirname -- "$0")/.." && pwd)
 work=$(mktemp -d)
 trap 'rm -rf "$work"' EXIT
 
-"$root/tools/program.sh" bench cycles blocks 4 3 2 2 10 > /dev/null
+"$root/tools/run" bench cycles blocks 4 3 2 2 10 > /dev/null
 cp "$root/build/bench" "$work/program"
 
 least() { # the least nanoseconds of nine runs

@@ -13,7 +13,7 @@ root=$(CDPATH= cd -- "$(dirname -- "$0")/.." && pwd)
 work=$(mktemp -d)
 trap 'rm -rf "$work"' EXIT
 
-"$root/tools/program.sh" bench steps 3 > /dev/null
+"$root/tools/run" bench steps 3 > /dev/null
 cp "$root/build/bench" "$work/proved"
 if command -v rustc > /dev/null; then
     rustc --edition 2021 -O -o "$work/plain" "$root/bench/twin/main.rs"

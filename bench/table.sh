@@ -52,7 +52,7 @@ same() {
 part() {
     local label=$1
     shift
-    "$root/tools/program.sh" bench "$@" > "$work/proved"
+    "$root/tools/run" bench "$@" > "$work/proved"
     "$twin" "$@" > "$work/plain"
     cmp <(grep . "$work/proved" | tail -n 1) "$work/plain" || { echo "table.sh: $* differs" >&2; exit 1; }
     row "$label" /dev/null "$root/build/bench" "$twin" "$@"

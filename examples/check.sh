@@ -376,6 +376,7 @@ shown bridge-three-centres-to-two /dev/null bridge -f three-centres.toml -f "$wo
 if command -v python3 > /dev/null; then
     {
         "$here/terminal.py" refused-disjoint.toml "$qlock" plan
+        "$here/terminal.py" twenty-eight.toml "$qlock" plan
         "$here/terminal.py" wheel-3.toml "$show" resilience
         "$here/terminal.py" /dev/null "$qlock" make wheel 2
         "$here/terminal.py" /dev/null "$qlock" make wheel

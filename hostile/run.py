@@ -325,7 +325,7 @@ def build():
     """Builds the programs where they have to be."""
     subprocess.run([ROOT / "qlock", "make", "majority", "3"], stdout=subprocess.DEVNULL, check=True)
     subprocess.run([ROOT / "qlock-show", "explain", "E7"], stdout=subprocess.DEVNULL, check=True)
-    subprocess.run([ROOT / "tools" / "program.sh", "demo_members"], stdout=subprocess.DEVNULL, check=True)
+    subprocess.run([ROOT / "tools" / "run", "demo_members"], stdout=subprocess.DEVNULL, check=True)
 
 
 def compile_refuse(room):

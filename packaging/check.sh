@@ -148,6 +148,10 @@ if [ "$(id -u)" = 0 ] && command -v dpkg > /dev/null && [ -e "$packages/qlock_${
     if [ -e /usr/bin/qlockctl ]; then
         holds qlockctl --help
         holds test -s /usr/share/qlock/sql/sqlite.sql
+        holds test -s /usr/share/bash-completion/completions/qlockctl
+        holds test -s /usr/share/zsh/vendor-completions/_qlock-voter
+        holds test -d /etc/qlock
+        holds sh -c "dpkg-query -W -f '\${Depends}' qlock-service-dev | grep -q burntsushi-toml-dev.*golang-x-sys-dev"
         holds goes /usr/share/gocode ""
     fi
 else
