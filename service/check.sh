@@ -1,13 +1,20 @@
 #!/bin/sh
-# Tries the service where its packages are: vet, tests with the race detector, the guard in SQLite and PostgreSQL, and a trial
-# of two and a half minutes with kills, stops, frozen servers, lost states, lost messages, and an exchange of the plan and back. It
-# takes some five minutes.
+# Tries the service where its packages are: vet, tests with the race detector, the guard in SQLite
+# and PostgreSQL, and a trial of two and a half minutes with kills, stops, frozen servers, lost
+# states, lost messages, operators, and an exchange of the plan and back. Beside it each reader of
+# bytes is fuzzed for ten seconds. Then come attacks, which the service has to stand. It takes some
+# seven minutes.
 #
-#     service/check.sh [SECONDS]       (how long the trial is)
+#     service/check.sh [--fuzz SECONDS] [SECONDS]     (of each reader that is fuzzed; of the trial)
 #
 # Without the packages it says how to install them, and ends with status 0. Builds the libraries where it has to (./library).
 set -eu
 trap 'exit 143' TERM
+fuzz_seconds=10
+if [ "${1:-}" = --fuzz ]; then
+    fuzz_seconds=$2
+    shift 2
+fi
 here=$(CDPATH= cd -- "$(dirname -- "$(readlink -f -- "$0")")" && pwd)
 root=$here/..
 go=$here/go
@@ -25,8 +32,8 @@ build=${QLOCK_BUILD:-$root/build}
 [ -e "$build/libqlock.a" ] && [ -e "$build/libqlock_plan.a" ] || "$root/library"
 
 packages="./qlock ./locks ./guard ./transport ./internal/bus ./internal/config ./internal/event ./internal/exchange ./internal/local ./internal/measure \
-    ./internal/operator ./internal/remind ./internal/voter ./internal/wire ./internal/worlds ./cmd/qlock-voter ./cmd/qlockctl ./trial ./bench"
-laid=$(gofmt -l "$here/qlock" "$here/locks" "$here/guard" "$here/transport" "$here/internal" "$here/cmd" "$here/trial" "$here/bench")
+    ./internal/operator ./internal/remind ./internal/voter ./internal/wire ./internal/worlds ./cmd/qlock-voter ./cmd/qlockctl ./trial ./attacks/session ./bench"
+laid=$(gofmt -l "$here/qlock" "$here/locks" "$here/guard" "$here/transport" "$here/internal" "$here/cmd" "$here/trial" "$here/attacks" "$here/bench")
 [ -z "$laid" ] || { echo "service: gofmt would change $laid" >&2; exit 1; }
 # shellcheck disable=SC2086
 "$go" vet $packages
@@ -40,11 +47,19 @@ else
     echo "service: the guard was not tried in PostgreSQL; apt-get install postgresql"
 fi
 
-"$here/build" cmd/qlock-voter cmd/qlockctl trial
+"$here/build" cmd/qlock-voter cmd/qlockctl trial attacks/session
 folder=$(mktemp -d "${TMPDIR:-$here/out}/trial-XXXXXX")
-trap 'rm -rf "$folder"' EXIT
+setsid nice -n 10 "$here/fuzz" "$fuzz_seconds" > "$folder/fuzz" 2>&1 &
+fuzzing=$!
+trap '[ -z "$fuzzing" ] || kill -- "-$fuzzing" 2> /dev/null || true; rm -rf "$folder"' EXIT
 # a TTL that a machine with much else to do keeps, too
 "$here/out/bin/trial" --bin "$here/out/bin" --coterie "$here/wheel-4.toml" --folder "$folder/cluster" --ttl 5s --for "${1:-150}s" \
     --exchange "$here/wheel-4-grown.toml"
 "$here/out/bin/trial" --bin "$here/out/bin" --coterie "$here/wheel-4.toml" --folder "$folder/open" --for 60s --open-guard
+fuzzed=0
+wait "$fuzzing" || fuzzed=$?
+fuzzing=
+cat "$folder/fuzz"
+[ "$fuzzed" = 0 ] || exit 1
+python3 "$here/attacks/run.py"
 echo "service: passed"

@@ -15,15 +15,15 @@ import (
 var same = map[qlock.Refusal]error{qlock.OlderGrant: guard.ErrOlder, qlock.NoPass: guard.ErrNoPass,
 	qlock.BadArgument: guard.ErrNoPass, qlock.TurnsSpent: guard.ErrTurnsSpent}
 
-// randomPass returns grants of a few voters, near those that were seen.
-func randomPass(random *rand.Rand) []byte {
+// randomPass returns grants of a few of the first voters, near those that were seen.
+func randomPass(random *rand.Rand, voters int) []byte {
 	pass := make([]byte, guard.PassBytes)
 	for n := random.Intn(4); n > 0; n-- {
 		grant := uint64(random.Intn(40))
 		if random.Intn(50) == 0 {
 			grant = random.Uint64()
 		}
-		binary.LittleEndian.PutUint64(pass[8*random.Intn(5):], grant)
+		binary.LittleEndian.PutUint64(pass[8*(63-random.Intn(voters)):], grant)
 	}
 	if random.Intn(100) == 0 {
 		pass = pass[1:]
@@ -45,7 +45,7 @@ func TestLikeTheProvedGuard(t *testing.T) {
 			t.Fatal(err)
 		}
 		for n := 0; n < 20; n++ {
-			pass := randomPass(random)
+			pass := randomPass(random, 5+59*(run%2))
 			want, wanted := proved.Admit(pass)
 			next, turn, err := guard.Admit(state, pass)
 			var refusal qlock.Refusal
@@ -66,6 +66,22 @@ func TestLikeTheProvedGuard(t *testing.T) {
 	}
 	if len(outcomes) != 4 {
 		t.Errorf("only these outcomes occurred: %v", outcomes)
+	}
+}
+
+// Each voter counts, from the first to the last.
+func TestEachVoterCounts(t *testing.T) {
+	for voter := 0; voter < 64; voter++ {
+		newer, older := make([]byte, guard.PassBytes), make([]byte, guard.PassBytes)
+		binary.LittleEndian.PutUint64(newer[8*voter:], 5)
+		binary.LittleEndian.PutUint64(older[8*voter:], 4)
+		state, turn, err := guard.Admit(guard.New(), newer)
+		if err != nil || turn != 1 {
+			t.Fatalf("voter %d: turn %d, %v", voter, turn, err)
+		}
+		if _, _, err := guard.Admit(state, older); !errors.Is(err, guard.ErrOlder) {
+			t.Errorf("voter %d: a late write: %v", voter, err)
+		}
 	}
 }
 

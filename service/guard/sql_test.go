@@ -20,6 +20,16 @@ type dialect struct {
 	state   string // writes one line: the turn, and the sum of what was seen
 }
 
+// isGreat returns whether a pass has a grant above 2^40.
+func isGreat(pass []byte) bool {
+	for voter := 0; len(pass) == guard.PassBytes && voter < 64; voter++ {
+		if pass[8*voter+5] != 0 {
+			return true
+		}
+	}
+	return false
+}
+
 // judge lets a database and the guard of this package admit the same passes. The states have to be the same after each
 // one, and so has the number of refusals.
 func judge(t *testing.T, d dialect) {
@@ -27,8 +37,8 @@ func judge(t *testing.T, d dialect) {
 	random, state, refused := rand.New(rand.NewSource(2)), guard.New(), 0
 	var script, want strings.Builder
 	for n := 0; n < 400; n++ {
-		pass := randomPass(random)
-		if len(pass) == guard.PassBytes && pass[5]|pass[13]|pass[21]|pass[29]|pass[37] != 0 {
+		pass := randomPass(random, 5+59*(n%2))
+		if isGreat(pass) {
 			continue // a grant above 2^40, which no voter gives
 		}
 		next, _, err := guard.Admit(state, pass)
@@ -182,4 +192,84 @@ func TestPostgreSQL(t *testing.T) {
 	}
 	judge(t, dialect{program, "DO $$ BEGIN PERFORM qlock_admit('g', '\\x%x'); END $$;",
 		"SELECT turn, (SELECT sum(s) FROM unnest(seen) AS s) FROM qlock_guard WHERE name = 'g';"})
+}
+
+// Whoever may write may show passes, and neither read nor reset a guard, nor put another one in its
+// place.
+func TestPostgreSQLWriters(t *testing.T) {
+	host := os.Getenv("QLOCK_PGHOST")
+	if host == "" {
+		t.Skip("QLOCK_PGHOST is not set; guard/sql/check.sh starts a server and sets it")
+	}
+	text, err := os.ReadFile("sql/postgresql.sql")
+	if err != nil {
+		t.Fatal(err)
+	}
+	psql := func(user, database, script string) string {
+		command := exec.Command("psql", "-X", "-q", "-A", "-t", "-h", host, "-U", user, database)
+		command.Stdin = strings.NewReader(script)
+		out, err := command.CombinedOutput()
+		if err != nil {
+			t.Fatalf("%v: %s", err, out)
+		}
+		return strings.TrimSpace(string(out))
+	}
+	if said := psql("postgres", "postgres", "CREATE DATABASE writers; CREATE ROLE writer LOGIN;"); said != "" {
+		t.Fatal(said)
+	}
+	if said := psql("postgres", "writers",
+		string(text)+"INSERT INTO qlock_guard (name) VALUES ('orders');"); said != "" {
+		t.Fatal(said)
+	}
+	admit := func(grant byte) string { return fmt.Sprintf("SELECT qlock_admit('orders', '\\x%x');", shows(grant)) }
+	for _, one := range []struct{ what, script, want string }{
+		{"a stranger shows a pass", admit(5), "permission denied"},
+		{"granted", "", ""},
+		{"a writer shows a pass", admit(5), "1"},
+		{"a writer resets the guard", "UPDATE qlock_guard SET turn = 0;", "permission denied"},
+		{"a writer removes the guard", "DELETE FROM qlock_guard;", "permission denied"},
+		{"a writer shows an older pass", admit(4), "older grant"},
+		{"a writer has a guard of his own", "CREATE TEMP TABLE qlock_guard (name text, turn bigint, seen bigint[]); " +
+			"INSERT INTO qlock_guard VALUES ('orders', 0, array_fill(0::bigint, ARRAY[64])); " + admit(4),
+			"older grant"},
+		{"a writer shows a newer pass", admit(6), "2"},
+	} {
+		if one.what == "granted" {
+			psql("postgres", "writers", "GRANT EXECUTE ON FUNCTION qlock_admit(text, bytea) TO writer;")
+			continue
+		}
+		if said := psql("writer", "writers", one.script); !strings.Contains(said, one.want) {
+			t.Errorf("%s: %s", one.what, said)
+		}
+	}
+}
+
+// A guard is made only in a schema where nobody else makes functions: one with a better match would
+// run with the owner's rights.
+func TestPostgreSQLSharedSchema(t *testing.T) {
+	host := os.Getenv("QLOCK_PGHOST")
+	if host == "" {
+		t.Skip("QLOCK_PGHOST is not set; guard/sql/check.sh starts a server and sets it")
+	}
+	text, err := os.ReadFile("sql/postgresql.sql")
+	if err != nil {
+		t.Fatal(err)
+	}
+	make := func(grant string) string {
+		command := exec.Command("psql", "-X", "-q", "-A", "-t", "-h", host, "-U", "postgres", "postgres")
+		command.Stdin = strings.NewReader("CREATE SCHEMA shared; SET search_path = shared;\n" + grant + string(text) +
+			"SELECT qlock_admit('orders', '');\nDROP SCHEMA shared CASCADE;")
+		out, _ := command.CombinedOutput()
+		return string(out)
+	}
+	if said := make(""); !strings.Contains(said, "qlock: no pass") {
+		t.Error(said)
+	}
+	for _, grant := range []string{"GRANT CREATE ON SCHEMA shared TO PUBLIC;",
+		"CREATE ROLE another; GRANT CREATE ON SCHEMA shared TO another;"} {
+		if said := make(grant); !strings.Contains(said, "others may create functions") ||
+			!strings.Contains(said, "qlock_admit(unknown, unknown) does not exist") {
+			t.Errorf("%s: %s", grant, said)
+		}
+	}
 }

@@ -130,6 +130,11 @@ func TestNothingIsTakenAfterTheEnd(t *testing.T) {
 	}
 	c.header.Number, c.header.Epoch = 3, 5
 	h := wire.Header{Cluster: w.Cluster.ID, Coterie: c.plan.mark, Kind: wire.FromVoter, Number: 1, Name: "identity"}
+	c.message(append(h.Append(nil), ". taken 3 5\n"...))
+	if c.why != nil {
+		t.Fatalf("one voter's word ends a session: %v", c.why)
+	}
+	h.Number, h.Name = 2, "another"
 	c.message(append(h.Append(nil), ". taken 3 5\nx nonsense\n"...))
 	if !errors.Is(c.why, ErrLost) || c.stats.Refused != 0 {
 		t.Errorf("%v, %d lines are refused", c.why, c.stats.Refused)

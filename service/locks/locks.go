@@ -15,6 +15,8 @@ import (
 	"context"
 	"errors"
 	"fmt"
+	"sort"
+	"sync/atomic"
 	"time"
 
 	"calvundek.example/service/internal/config"
@@ -35,8 +37,16 @@ var (
 	ErrLapsed   = errors.New("locks: the lock may have been somebody else's before it was given back")
 	ErrNoQuorum = errors.New("locks: no quorum of voters replied")
 	ErrNumbers  = errors.New("locks: all client numbers are in use")
+	ErrFull     = errors.New("locks: no quorum of voters has room for another lock; raise max_locks of the voters")
 	ErrRetired  = errors.New("locks: the plan of the cluster's file is retired; take the newest file")
 )
+
+// because is an error, and why it came about. errors.Is finds both.
+type because struct{ what, why error }
+
+func (b because) Error() string        { return fmt.Sprintf("%v: %v", b.what, b.why) }
+func (b because) Is(target error) bool { return b.what == target }
+func (b because) Unwrap() error        { return b.why }
 
 // Config is how to reach a cluster.
 type Config struct {
@@ -46,6 +56,7 @@ type Config struct {
 	Secret    string              // the file of the user's password
 	Cert, Key string              // the files of a certificate and its key; none if empty
 	Heartbeat time.Duration       // a quarter of the TTL, at most 500 ms, if 0
+	DontWait  bool                // Open fails with ErrNumbers at once if all numbers are in use
 	FailOver  time.Duration       // for how long a voter is silent before it is passed over; 4 heartbeats if 0
 	Transport transport.Transport // NATS with the cluster's servers if nil; it is not closed with the client
 }
@@ -78,6 +89,9 @@ type Client struct {
 
 	session
 	plans
+	watch  *watch
+	last   time.Time // when the loop last went round
+	back   uint64    // how often the connection had come back by then
 	locks  map[string]*lock
 	busy   map[*lock]struct{} // locks that ask, are inside, or are wanted
 	ticket int
@@ -95,7 +109,17 @@ type Held struct {
 	stamp  uint64
 	token  []byte
 	lost   chan struct{}
-	over   bool
+	over   atomic.Bool // lost is closed
+	seen   bool        // the loop knows that it may be lost
+}
+
+// lapse closes Lost, and returns whether it was open.
+func (h *Held) lapse() bool {
+	first := h.over.CompareAndSwap(false, true)
+	if first {
+		close(h.lost)
+	}
+	return first
 }
 
 // Open connects, and gets a number from a quorum of voters.
@@ -120,6 +144,7 @@ func open(ctx context.Context, cluster *config.Cluster, c Config) (*Client, erro
 		return nil, err
 	}
 	client.firstTicket()
+	go client.watch.run(client.ended)
 	go client.run()
 	return client, nil
 }
@@ -141,7 +166,8 @@ func newClient(cluster *config.Cluster, c Config) (*Client, error) {
 	if !wire.IsName([]byte(name)) {
 		return nil, fmt.Errorf("%w: %q", ErrPrefix, c.Prefix)
 	}
-	client := &Client{cluster: cluster, plans: newPlans(cluster), waits: newWaits(), config: c, carrier: c.Transport, close: func() {},
+	client := &Client{cluster: cluster, watch: newWatch(cluster.TTL.Duration), plans: newPlans(cluster),
+		waits: newWaits(), config: c, carrier: c.Transport, close: func() {},
 		calls: make(chan func()), ended: make(chan struct{}), stopped: make(chan struct{}), locks: map[string]*lock{}, busy: map[*lock]struct{}{}}
 	client.session = newSession(cluster, name)
 	if client.carrier == nil {
@@ -178,7 +204,7 @@ func (c *Client) Lock(ctx context.Context, name string) (*Held, error) {
 	select {
 	case held, open := <-w.got:
 		if !open {
-			return nil, ErrClosed
+			return nil, w.why
 		}
 		return held, nil
 	case <-c.ended:
@@ -238,6 +264,18 @@ func isNested(ctx context.Context, c *Client, name string) bool {
 
 // Number returns the number of the client's session. Operators see it.
 func (c *Client) Number() int { return c.header.Number }
+
+// Silent returns the names of the voters of which nothing came for the fail-over time, none once
+// the client is closed.
+func (c *Client) Silent() (names []string) {
+	for name, silent := range c.silentVoters() {
+		if silent {
+			names = append(names, name)
+		}
+	}
+	sort.Strings(names)
+	return names
+}
 
 // Stats returns what the client did so far.
 func (c *Client) Stats() (s Stats) {
@@ -328,7 +366,8 @@ func (c *Client) flush() {
 		box := wire.VoterBox(c.cluster.ID, voter)
 		header := c.header
 		header.Coterie = c.speaks(voter)
-		header.Saves = c.peers[voter].saves // so an older copy of its state notices that it is one
+		header.Saves, header.Proof = c.peers[voter].saves,
+			c.peers[voter].proof // so an older copy of its state notices that it is one
 		header.Split(c.out[voter], func(message []byte) {
 			_ = c.carrier.Send(box, message) // a reminder repeats what is lost
 		})

@@ -14,6 +14,7 @@ import (
 	"calvundek.example/service/internal/bus"
 	"calvundek.example/service/internal/voter"
 	"calvundek.example/service/internal/worlds"
+	"calvundek.example/service/qlock"
 )
 
 // start opens a client on a port of its own.
@@ -75,7 +76,7 @@ func (c *counter) pass() {
 // Goroutines of several clients pass through a few locks while messages are lost, late and repeated, and one is inside.
 func TestManyGoroutines(t *testing.T) {
 	w := worlds.New(t, worlds.Majority, 2*time.Second)
-	w.Bus.Lost, w.Bus.Twice, w.Bus.Late = 2, 2, 5
+	w.Bus.Noise(2, 2, 5)
 	counters := map[string]*counter{"one": {}, "two": {}}
 	var clients []*Client
 	for i := 0; i < 3; i++ {
@@ -198,7 +199,7 @@ func TestGivesUpAndFailsOver(t *testing.T) {
 	if err := held.Unlock(); err != nil {
 		t.Error(err)
 	}
-	w.Stop(0)
+	w.Kill(0)
 	for i := 0; i < 6; i++ {
 		if err := take(t, b, fmt.Sprint("x", i)).Unlock(); err != nil {
 			t.Error(err)
@@ -208,6 +209,42 @@ func TestGivesUpAndFailsOver(t *testing.T) {
 	if err := b.Close(within(t, 20*time.Second)); err != nil {
 		t.Error(err)
 	}
+}
+
+// A voter that is ended by a signal says so, and requests that wait for it ask others at once.
+func TestVoterLeaves(t *testing.T) {
+	w := worlds.New(t, worlds.Majority, 20*time.Second)
+	c, _ := start(t, w)
+	other, _ := start(t, w)
+	held := take(t, other, "x")
+	waits := make(chan error, 1)
+	go func() {
+		next, err := c.Lock(within(t, 20*time.Second), "x")
+		if err == nil {
+			err = next.Unlock()
+		}
+		waits <- err
+	}()
+	time.Sleep(100 * time.Millisecond)
+	w.Stop(0)
+	began := time.Now()
+	soon(t, "a voter that left is not silent", func() bool { return len(c.Silent()) == 1 && len(other.Silent()) == 1 })
+	if err := held.Unlock(); err != nil {
+		t.Error(err)
+	}
+	if err := <-waits; err != nil {
+		t.Error(err)
+	}
+	for i := 0; i < 6; i++ {
+		if err := take(t, c, fmt.Sprint("y", i)).Unlock(); err != nil {
+			t.Error(err)
+		}
+	}
+	if took := time.Since(began); took > 1500*time.Millisecond { // a fail-over takes two seconds
+		t.Errorf("it took %v", took)
+	}
+	w.Start(0)
+	soon(t, "a voter that is back stays silent", func() bool { return len(c.Silent()) == 0 })
 }
 
 // A client that is cut off is let go after the TTL. It knows before another one enters, and the guard refuses it.
@@ -373,6 +410,7 @@ func TestOlderCopy(t *testing.T) {
 	w.Stop(0)
 	older := w.Copy(0)
 	w.Start(0)
+	soon(t, "the voter is not heard", func() bool { return len(a.Silent()) == 0 })
 	pass()
 	time.Sleep(1200 * time.Millisecond) // heartbeats have the last counts
 	w.Stop(0)
@@ -393,7 +431,7 @@ func TestOlderCopy(t *testing.T) {
 // Clients that start at once get numbers of their own, though they claim the same ones.
 func TestManyStartAtOnce(t *testing.T) {
 	w := worlds.New(t, worlds.Majority, 4*time.Second)
-	w.Bus.Lost, w.Bus.Late = 2, 10
+	w.Bus.Noise(2, 0, 10)
 	var group sync.WaitGroup
 	clients := make([]*Client, 40)
 	for i := range clients {
@@ -427,6 +465,68 @@ func TestManyStartAtOnce(t *testing.T) {
 	}
 }
 
+// Where voters have no room for another lock, calls for new ones fail with ErrFull, and those for
+// the ones that are there succeed.
+func TestFullIsSaid(t *testing.T) {
+	w := worlds.New(t, worlds.Majority, 2*time.Second)
+	c, _ := start(t, w)
+	var passed []string
+	full := 0
+	for i := 0; i < 200; i++ { // each voter has room for 100
+		name := fmt.Sprint("lock-", i)
+		held, err := c.Lock(within(t, 5*time.Second), name)
+		switch {
+		case err == nil:
+			passed = append(passed, name)
+			if err := held.Unlock(); err != nil {
+				t.Error(err)
+			}
+		case errors.Is(err, ErrFull):
+			full++
+		default:
+			t.Fatal(name, err)
+		}
+	}
+	if len(passed) < 100 || full == 0 {
+		t.Fatalf("%d passed, %d are refused", len(passed), full)
+	}
+	for round := 0; round < 3; round++ {
+		for _, name := range passed {
+			held, err := c.Lock(within(t, 5*time.Second), name)
+			if err != nil {
+				t.Fatalf("round %d, %s, which passed before: %v", round, name, err)
+			}
+			if err := held.Unlock(); err != nil {
+				t.Error(err)
+			}
+		}
+	}
+}
+
+// Who does not wait hears at once that all numbers are in use, and who waits hears why his time is
+// over.
+func TestNumbersInUse(t *testing.T) {
+	w := worlds.New(t, worlds.Majority, 20*time.Second)
+	for number := 0; number < qlock.MaxClients; number++ {
+		s := newStranger(t, w, fmt.Sprint("s.", number))
+		for voter := range w.Owns {
+			s.send(voter, fmt.Sprintf(". claim %d 1\n", number))
+		}
+		if !s.hears("claimed", 5*time.Second) {
+			t.Fatal("no session")
+		}
+	}
+	began := time.Now()
+	_, err := open(within(t, 20*time.Second), w.Cluster, Config{Transport: w.Bus.Port(), DontWait: true})
+	if !errors.Is(err, ErrNumbers) || time.Since(began) > time.Second {
+		t.Errorf("%v, after %v", err, time.Since(began))
+	}
+	_, err = open(within(t, 300*time.Millisecond), w.Cluster, Config{Transport: w.Bus.Port()})
+	if !errors.Is(err, ErrNumbers) || !errors.Is(err, context.DeadlineExceeded) {
+		t.Error(err)
+	}
+}
+
 // Only a reply to a claim counts for it: a late one to another question, or to another claim, is none.
 func TestWhatIsNoReplyToAClaim(t *testing.T) {
 	w := worlds.New(t, worlds.Majority, time.Second)
@@ -435,8 +535,9 @@ func TestWhatIsNoReplyToAClaim(t *testing.T) {
 		t.Fatal(err)
 	}
 	c.asked, c.claimed = 3, 5
-	for line, want := range map[string]uint64{"number 3 0 1": 0, "claimed 3 4 0": 0, "claimed 2 5 0": 0, "opened 3 5 9 1 0": 0,
-		"taken 3 5": 0, "claimed": 0, "claimed x 5 0": 0, "claimed 3 5 77": 1 << 1} {
+	for line, want := range map[string]uint64{"number 3 0 1": 0, "claimed 3 4 0 0": 0, "claimed 2 5 0 0": 0,
+		"opened 3 5 0 9 1 0": 0,
+		"taken 3 5":          0, "claimed": 0, "claimed x 5 0 0": 0, "claimed 3 5 70 77": 1 << 1} {
 		c.replied, c.used = 0, 0
 		c.control(1, bytes.Fields([]byte(line)))
 		if c.replied != want || c.refused || want > 0 && c.used != 77 {

@@ -50,7 +50,8 @@ func TestClientNumbers(t *testing.T) {
 			t.Fatal(err)
 		}
 	}
-	for name, want := range map[string]float64{"passes_total": 3, "wait_seconds": 3, "lost_total": 0, "voter_silent": 0} {
+	for name, want := range map[string]float64{"passes_total": 3, "wait_seconds": 3, "let_go_total": 0,
+		"refused_total": 0, "lost_total": 0, "voter_silent": 0} {
 		if got := gathered(t, registry, name); got != want {
 			t.Errorf("%s: %v, not %v", name, got, want)
 		}

@@ -21,6 +21,7 @@ package locks
 import (
 	"bytes"
 	"encoding/base64"
+	"time"
 
 	"calvundek.example/service/internal/config"
 	"calvundek.example/service/internal/wire"
@@ -126,20 +127,36 @@ func (c *Client) controlPlans(voter int, words [][]byte) bool {
 
 // noteGeneration notes the newest plan that a voter has, and the oldest one that is not retired there.
 func (c *Client) noteGeneration(voter int, newest uint64, mark string, oldest uint64) {
-	c.peers[voter].mark = mark
+	p := &c.peers[voter]
+	p.mark, p.oldest = mark, oldest
 	retired := oldest > c.generation
+	if c.older != nil && oldest == c.generation && newest > c.generation {
+		c.older = nil // it is retired, and the next exchange began
+	}
 	switch {
 	case c.next != nil && mark == c.next.mark:
 		if c.next.HasQuorum(c.having(mark)) && (retired || c.plan.HasQuorum(c.having(mark))) {
 			c.adopt(retired)
 		}
-	case retired:
+	case retired && !c.hasQuorum(^c.retirers()):
 		c.end(ErrRetired)
-	case newest == c.generation+1 && c.next == nil:
+	case newest == c.generation+1 && c.next == nil && time.Since(p.asked) > c.config.Heartbeat:
+		p.asked = time.Now()
 		c.out[voter] = append(c.out[voter], ". plan\n"...)
 	case newest == c.generation && oldest == newest && mark == c.plan.mark && c.older != nil:
 		c.older = nil
 	}
+}
+
+// retirers returns the voters that said that the plan by which this client asks is retired. One
+// voter alone ends no client.
+func (c *Client) retirers() (mask uint64) {
+	for v := range c.peers {
+		if c.peers[v].oldest > c.generation {
+			mask |= 1 << v
+		}
+	}
+	return mask
 }
 
 // having returns the voters that said that they have a plan.
@@ -169,8 +186,8 @@ func (c *Client) fetched(number uint64, coterie, plan string) {
 	if err != nil || config.CheckExchange(c.plan.Plan, next) != nil {
 		return
 	}
-	c.next = &known{next, config.Mark(number, string(first))}
-	c.meet(len(next.Names))
+	c.next = &known{next, c.cluster.Mark(config.Mark(number, string(first)))}
+	c.meetAll(len(next.Names))
 }
 
 // adopt asks by the next plan from now on.

@@ -108,7 +108,7 @@ func (w *walkers) end(t *testing.T) {
 // One is inside, the guard admits each pass once, and old settings are refused at the end.
 func TestExchangeWhileClientsPass(t *testing.T) {
 	w := worlds.New(t, worlds.Majority, 2*time.Second)
-	w.Bus.Lost, w.Bus.Twice, w.Bus.Late = 1, 1, 3
+	w.Bus.Noise(1, 1, 3)
 	before := w.Cluster
 	first, _ := start(t, w)
 	held := take(t, first, "long")

@@ -2,12 +2,14 @@ package locks
 
 import (
 	"bytes"
+	"fmt"
 	"math/bits"
 	"time"
 
 	"calvundek.example/service/internal/remind"
 	"calvundek.example/service/internal/wire"
 	"calvundek.example/service/qlock"
+	"calvundek.example/service/transport"
 )
 
 // mostIdle is how many locks that nobody wants are kept. A lock that comes back begins anew above all stamps that this
@@ -24,11 +26,15 @@ type lock struct {
 	asked time.Time
 	shown qlock.Shown
 	plan  uint64 // the number of the plan by which it asked last
+
+	noRoom uint64 // the voters that had no room for it, and when one said so last
+	saidAt time.Time
 }
 
 // waiter is a call of Lock that waits.
 type waiter struct {
-	got   chan *Held
+	got   chan *Held // closed if the call fails, and why says why
+	why   error
 	since time.Time
 }
 
@@ -102,14 +108,12 @@ func (c *Client) unlock(h *Held) error {
 	}
 	c.lapse()
 	var err error
-	if h.over {
+	if !h.lapse() {
+		c.lose(h)
 		err = ErrLapsed
 	}
 	h.lock.held = nil
-	if !h.over {
-		h.over = true
-		close(h.lost)
-	}
+	c.watch.end(h)
 	c.stats.Passes++
 	c.leave(h.lock)
 	c.pump(h.lock)
@@ -118,10 +122,10 @@ func (c *Client) unlock(h *Held) error {
 
 // lose closes Lost of a lock that is still held.
 func (c *Client) lose(h *Held) {
-	if !h.over {
-		h.over = true
+	h.lapse()
+	if !h.seen {
+		h.seen = true
 		c.stats.Lost++
-		close(h.lost)
 	}
 }
 
@@ -152,49 +156,106 @@ func (c *Client) pump(l *lock) {
 func (c *Client) hand(l *lock) {
 	pass, err := l.Pass()
 	if err != nil {
-		c.end(err)
+		c.refuse(l, fmt.Errorf("%s: %w", l.name, err))
+		c.leave(l)
 		return
 	}
 	w := l.queue[0]
 	l.queue = l.queue[1:]
 	l.held = &Held{client: c, lock: l, quorum: l.shown.Quorum, stamp: l.shown.Stamp, token: pass, lost: make(chan struct{})}
+	c.watch.begin(l.held)
 	c.waits.Observe(time.Since(w.since).Seconds())
 	w.got <- l.held
 }
 
-// ask starts a request, if its stamp is reserved. If not, it reserves more, and pump comes again.
+// refuse lets all calls fail that wait for a lock.
+func (c *Client) refuse(l *lock, why error) {
+	for _, w := range l.queue {
+		w.why = why
+		close(w.got)
+	}
+	l.queue = nil
+}
+
+// ask starts a request, if a quorum may be asked under its stamp. If not, it reserves more, and
+// pump comes again. A lock that has no stamp left fails alone.
 func (c *Client) ask(l *lock) {
-	now := time.Now()
-	quorum := c.nextQuorum(now)
-	before := *l.Client
-	lines, err := l.Ask(quorum, c.room[:0])
-	if err != nil {
-		c.end(err)
+	now, before := time.Now(), *l.Client
+	full := c.without(l, now)
+	if !c.plan.HasQuorum(^full) {
+		c.refuse(l, fmt.Errorf("%s: %w", l.name, ErrFull))
 		return
+	}
+	quorum := c.nextQuorum(c.silent(now) | full)
+	stamp, lines, err := c.begins(l, quorum)
+	if err == nil && !c.mayAsk(quorum, stamp) {
+		*l.Client = before // these voters may lag behind others
+		quorum = c.nextQuorum(c.silent(now) | full | ^c.owners(stamp))
+		stamp, lines, err = c.begins(l, quorum)
+	}
+	switch {
+	case err != nil:
+		*l.Client = before
+		c.refuse(l, fmt.Errorf("%s: %w", l.name, err))
+	case !c.mayAsk(quorum, stamp):
+		*l.Client = before
+		c.reserve(stamp, now)
+	default:
+		c.ticket++
+		c.stats.Requests++
+		l.asked, l.plan = now, c.generation
+		c.send(l, lines, now)
+		c.use(stamp, now)
+	}
+}
+
+// without returns the voters that had no room for a lock, in the last TTL.
+func (c *Client) without(l *lock, now time.Time) uint64 {
+	if now.Sub(l.saidAt) > c.cluster.TTL.Duration {
+		l.noRoom = 0
+	}
+	return l.noRoom
+}
+
+// full notes that a voter has no room for a lock. It is asked for by another quorum, as long as
+// there is one.
+func (c *Client) full(voter int, name string, stamp uint64) {
+	if l := c.locks[name]; l != nil && l.shown.Stamp == stamp && l.shown.Phase == qlock.Asking {
+		l.noRoom, l.saidAt = l.noRoom|1<<voter, time.Now()
+		c.askAgain(l)
+	}
+}
+
+// begins begins a request of a lock, under a stamp above all bases, and returns the stamp and what
+// to send.
+func (c *Client) begins(l *lock, quorum uint64) (stamp uint64, lines []byte, err error) {
+	before := *l.Client
+	if stamp, lines, err = c.tries(l, quorum); err != nil || stamp > c.floor() {
+		return stamp, lines, err
+	}
+	*l.Client = before
+	if err := l.Raise(c.floor()); err != nil {
+		return 0, nil, err
+	}
+	return c.tries(l, quorum)
+}
+
+// tries begins a request of a lock under its next stamp.
+func (c *Client) tries(l *lock, quorum uint64) (stamp uint64, lines []byte, err error) {
+	if lines, err = l.Ask(quorum, c.room[:0]); err != nil {
+		return 0, nil, err
 	}
 	c.room = lines
 	shown, err := l.Shows()
-	if err != nil {
-		c.end(err)
-		return
-	}
-	if shown.Stamp > c.reserved {
-		*l.Client = before
-		c.reserve(shown.Stamp, now)
-		return
-	}
-	c.ticket++
-	c.stats.Requests++
-	l.asked, l.plan = now, c.generation
-	c.send(l, lines, now)
-	c.use(shown.Stamp, now)
+	return shown.Stamp, lines, err
 }
 
-// nextQuorum returns the quorum of the next ticket whose voters are all there, or of the next one if there is none.
-func (c *Client) nextQuorum(now time.Time) uint64 {
-	quorums, silent := c.plan.Quorums, c.silent(now)
+// nextQuorum returns the quorum of the next ticket that has none of these voters, or of the next
+// one if there is none.
+func (c *Client) nextQuorum(avoided uint64) uint64 {
+	quorums := c.plan.Quorums
 	for i := 0; i < len(quorums); i++ {
-		if quorum := quorums[(c.ticket+i)%len(quorums)]; quorum&silent == 0 {
+		if quorum := quorums[(c.ticket+i)%len(quorums)]; quorum&avoided == 0 {
 			c.ticket += i
 			return quorum
 		}
@@ -238,7 +299,7 @@ func (c *Client) send(l *lock, lines []byte, now time.Time) {
 func (c *Client) note(l *lock, now time.Time) {
 	shown, err := l.Shows()
 	if err != nil {
-		c.end(err)
+		c.drop(l, err)
 		return
 	}
 	if shown.Phase != l.shown.Phase {
@@ -255,6 +316,16 @@ func (c *Client) note(l *lock, now time.Time) {
 		return
 	}
 	l.timer.Of(shown.Stamp, now)
+}
+
+// drop forgets a lock whose automaton can't be read, and ends what waits for it or has it.
+func (c *Client) drop(l *lock, why error) {
+	c.refuse(l, fmt.Errorf("%s: %w", l.name, why))
+	if l.held != nil {
+		c.lose(l.held)
+	}
+	delete(c.locks, l.name)
+	delete(c.busy, l)
 }
 
 // take takes a line of a voter.
@@ -304,7 +375,7 @@ func (c *Client) lapse() {
 		return
 	}
 	for l := range c.busy {
-		if l.shown.Phase != qlock.Idle && c.mayBeLost(l, doubtful) && (l.held == nil || !l.held.over) {
+		if l.shown.Phase != qlock.Idle && c.mayBeLost(l, doubtful) && (l.held == nil || !l.held.seen) {
 			c.spoil(l)
 		}
 	}
@@ -328,7 +399,7 @@ func (c *Client) votes(l *lock) (mask uint64) {
 
 // round does what time asks for: heartbeats, reminders, and other quorums in place of those with a silent voter.
 func (c *Client) round(now time.Time) {
-	if now.Sub(c.beat) >= c.config.Heartbeat {
+	if c.hasGap(now) || now.Sub(c.beat) >= c.config.Heartbeat {
 		c.heartbeat(now)
 	} else {
 		c.lapse()
@@ -347,17 +418,34 @@ func (c *Client) round(now time.Time) {
 	}
 }
 
+// hasGap returns whether voters may have let votes go that this client's clock knows nothing of:
+// the machine was paused, so that only the time of day went on, or the connection came back. A
+// heartbeat at once shows it.
+func (c *Client) hasGap(now time.Time) bool {
+	last, back := c.last, c.back
+	c.last = now
+	if link, ok := c.carrier.(transport.Link); ok {
+		c.back = link.Returns()
+	}
+	ofDay, here := now.Round(0).Sub(last.Round(0)), now.Sub(last)
+	return !last.IsZero() && (c.back != back || ofDay-here > c.config.Heartbeat)
+}
+
 // isStuck returns whether a request waits for a silent voter, and others would do.
 func (c *Client) isStuck(l *lock, silent uint64, now time.Time) bool {
-	return l.shown.Phase == qlock.Asking && l.shown.Quorum&silent != 0 && now.Sub(l.asked) > c.config.FailOver &&
-		l.shown.Quorum&silent&^c.votes(l) != 0 && c.plan.HasQuorum(^silent)
+	return now.Sub(l.asked) > c.config.FailOver && c.waitsFor(l, silent)
+}
+
+// waitsFor returns whether a request waits for one of these voters, and others would do.
+func (c *Client) waitsFor(l *lock, silent uint64) bool {
+	return l.shown.Phase == qlock.Asking && l.shown.Quorum&silent&^c.votes(l) != 0 && c.plan.HasQuorum(^silent)
 }
 
 // remind repeats the requests that wait for a vote, or shows that the holder is there.
 func (c *Client) remind(l *lock, now time.Time) {
 	again := l.Remind
 	if l.shown.Phase == qlock.Inside {
-		if l.held != nil && l.held.over {
+		if l.held != nil && l.held.over.Load() {
 			return // a voter that forgot this request would grant it anew
 		}
 		again = l.Renew

@@ -6,16 +6,20 @@ package locks
 // its session, and the highest stamp that was reserved.
 //
 //  1. hello: the voters say which numbers are free, and their epochs.
-//  2. claim NUMBER EPOCH, one more than any epoch that was seen. A voter accepts an epoch once, and only if the number is
-//     free, or its session was silent for the TTL. It says what was reserved so far.
-//  3. A quorum accepted. Any two quorums share a voter, so an epoch has one session, and what an earlier session reserved
-//     at a quorum is known. The session begins above that.
-//  4. A stamp is used only once a quorum has acknowledged that it is reserved. Heartbeats carry what is to be reserved.
+//  2. claim NUMBER EPOCH, one more than any epoch that was seen. A voter accepts an epoch once, and
+//     only if the number is free, or its session was silent for the TTL. It says its base, which is
+//     what was reserved there so far.
+//  3. A quorum accepted. Any two quorums share a voter, so an epoch has one session. The number is
+//     claimed at the other voters, too, as soon as they say that they don't know the session.
+//  4. Heartbeats carry what is to be reserved. A quorum is asked under a stamp only if each of its
+//     voters said that the stamp is above the session's base there, and reserved there. Voters take
+//     no other one.
 //
 // While a plan is exchanged, a quorum is one of each plan (plans.go).
 //
-// So all stamps of a session are above those of the sessions before it, and no stamp is used twice. That is all that a
-// client made anew needs (qlock_client_anew).
+// Two quorums that are asked share a voter. There the base of the later session is at least what
+// the earlier one reserved, so no stamp is used twice. That is all that a client made anew needs
+// (qlock_client_anew).
 
 import (
 	"bytes"
@@ -44,11 +48,20 @@ type peer struct {
 	identity string
 	block    uint64                   // how often the voter lost its state
 	mark     string                   // of the newest plan that it has, once it said so
+	oldest   uint64                   // the number of the oldest plan that it said is not retired
+	asked    time.Time                // when it was asked for its plan
 	saves    uint64                   // the highest count of its saves that it told
+	proof    string                   // of that count, which only the voter can make
 	heard    time.Time                // when a message came
 	known    time.Duration            // when the newest heartbeat left that it acknowledged, by uptime
 	sent     map[uint64]time.Duration // when heartbeats left that it did not acknowledge
+	accepts  bool                     // it accepted this session's claim of its number
+	base     uint64                   // all stamps of this session are above it there
 	reserved uint64                   // what it acknowledged as reserved
+	claimed  uint64                   // with which heartbeat the number was claimed there again
+	taken    bool                     // it said that this session is over
+	lapses   uint64                   // how often it let a grant of this session go since it was silent
+	stale    bool                     // the message that is taken is from before the last time
 	requests uint64                   // how many of this session it said that it has
 	drained  bool                     // it has no request of this session any more
 	closed   bool                     // it ended this session
@@ -56,10 +69,9 @@ type peer struct {
 
 // session is a client's number, and what the voters say of it.
 type session struct {
-	header   wire.Header
+	header   wire.Header // also what is to be reserved
 	peers    []peer
 	beat     time.Time // when the last heartbeat left
-	reserved uint64    // what a quorum acknowledged as reserved; the header has what was asked for
 	used     uint64    // no stamp that this number used so far is above it
 	idle     uint64    // the first heartbeat since nothing is asked or held any more, 0 if something is
 	draining bool
@@ -86,6 +98,15 @@ func newSession(cluster *config.Cluster, name string) session {
 func (s *session) meet(voters int) {
 	for len(s.peers) < voters {
 		s.peers = append(s.peers, peer{sent: map[uint64]time.Duration{}, heard: time.Now(), known: uptime()})
+	}
+}
+
+// meetAll lets a session have the voters of a further plan.
+func (c *Client) meetAll(voters int) {
+	before := len(c.peers)
+	c.meet(voters)
+	for v := before; v < len(c.peers); v++ {
+		c.acknowledge(v, c.peers[v].known)
 	}
 }
 
@@ -119,10 +140,15 @@ func (c *Client) begin(ctx context.Context) error {
 func (c *Client) reserveFirst(ctx context.Context) error {
 	now, up := time.Now(), uptime()
 	for v := range c.peers {
-		c.peers[v].heard, c.peers[v].known = now, up
+		c.peers[v].heard = now
+		c.acknowledge(v, up)
 	}
 	c.header.Number, c.header.Epoch, c.header.Reserved = c.asked, c.claimed, c.used+block
-	err := c.rounds(ctx, func() { c.heartbeat(time.Now()) }, func() bool { return c.refused || c.reserved >= c.header.Reserved })
+	first := c.used + 1
+	err := c.rounds(ctx, func() { c.heartbeat(time.Now()) }, func() bool {
+		return c.refused ||
+			c.hasQuorum(c.owners(first))
+	})
 	if err == nil && c.refused {
 		err = errTaken
 	}
@@ -133,9 +159,10 @@ func (c *Client) reserveFirst(ctx context.Context) error {
 // gives it back may come late. Locks of this number are forgotten.
 func (c *Client) abandon(voters uint64) {
 	c.locks, c.busy = map[string]*lock{}, map[*lock]struct{}{}
-	c.header.Number, c.header.Epoch, c.header.Reserved, c.reserved = 0, 0, 0, 0
+	c.header.Number, c.header.Epoch, c.header.Reserved = 0, 0, 0
 	for v := range c.peers {
-		c.peers[v].reserved, c.peers[v].sent = 0, map[uint64]time.Duration{}
+		c.peers[v].sent = map[uint64]time.Duration{}
+		c.peers[v].forget()
 		if c.out[v] = c.out[v][:0]; voters>>v&1 == 1 {
 			c.out[v] = append(c.out[v], fmt.Sprintf(". drop %d %d\n", c.asked, c.claimed)...)
 		}
@@ -162,10 +189,13 @@ func (c *Client) choose(ctx context.Context) error {
 				}
 			}
 		}
+		if c.config.DontWait {
+			return ErrNumbers
+		}
 		select {
 		case <-time.After(c.cluster.TTL.Duration / 10):
 		case <-ctx.Done():
-			return fmt.Errorf("%w: %v", ErrNumbers, ctx.Err())
+			return because{ErrNumbers, ctx.Err()}
 		}
 	}
 }
@@ -174,6 +204,9 @@ func (c *Client) choose(ctx context.Context) error {
 func (c *Client) claim(ctx context.Context) error {
 	c.claimed = c.epochs[c.asked] + 1
 	c.replied, c.refused, c.used = 0, false, 0
+	for v := range c.peers {
+		c.peers[v].forget()
+	}
 	short, cancel := context.WithTimeout(ctx, brief)
 	defer cancel()
 	text := fmt.Sprintf("claim %d %d", c.asked, c.claimed)
@@ -211,7 +244,7 @@ func (c *Client) rounds(ctx context.Context, say func(), done func() bool) error
 				waits = false
 			case <-ctx.Done():
 				timer.Stop()
-				return fmt.Errorf("%w: %v", ErrNoQuorum, ctx.Err())
+				return because{ErrNoQuorum, ctx.Err()}
 			}
 		}
 		timer.Stop()
@@ -224,14 +257,17 @@ func (c *Client) rounds(ctx context.Context, say func(), done func() bool) error
 	}
 }
 
+// forget forgets what a voter said of a number.
+func (p *peer) forget() {
+	p.accepts, p.taken, p.base, p.reserved, p.claimed, p.lapses = false, false, 0, 0, 0, 0
+}
+
 // use notes that a stamp is used. It reserves more before the block is spent.
 func (c *Client) use(stamp uint64, now time.Time) {
 	if stamp > c.used {
 		c.used = stamp
 	}
-	if stamp+block/2 > c.reserved {
-		c.reserve(stamp, now)
-	}
+	c.reserve(stamp, now)
 }
 
 // reserve asks the voters to keep that stamps above this one may be used.
@@ -244,30 +280,56 @@ func (c *Client) reserve(stamp uint64, now time.Time) {
 	c.heartbeat(now)
 }
 
-// noteReserved notes what a quorum has acknowledged as reserved.
-func (c *Client) noteReserved() {
-	before := c.reserved
-	for v := range c.peers {
-		if stamp := c.peers[v].reserved; stamp > c.reserved && stamp <= c.header.Reserved && c.hasQuorum(c.reservers(stamp)) {
-			c.reserved = stamp
-		}
+// noteStamps notes which stamps are this session's at a voter: those above a base, up to what is
+// reserved.
+func (c *Client) noteStamps(voter int, base, reserved uint64) {
+	p := &c.peers[voter]
+	if reserved > qlock.MaxStamp || base > reserved {
+		c.stats.Refused++
+		return
 	}
-	if c.reserved == before {
+	before := *p
+	p.accepts, p.base, p.reserved = true, greatest(p.base, base), greatest(p.reserved, reserved)
+	if p.accepts == before.accepts && p.base == before.base && p.reserved == before.reserved {
 		return
 	}
 	for l := range c.busy {
-		c.pump(l)
+		if l.shown.Phase == qlock.Idle {
+			c.pump(l)
+		}
 	}
 }
 
-// reservers returns the voters that keep this stamp as reserved.
-func (c *Client) reservers(stamp uint64) (mask uint64) {
+func greatest(a, b uint64) uint64 {
+	if a > b {
+		return a
+	}
+	return b
+}
+
+// owners returns the voters that said that a stamp is this session's.
+func (c *Client) owners(stamp uint64) (mask uint64) {
 	for v := range c.peers {
-		if c.peers[v].reserved >= stamp {
+		if p := &c.peers[v]; p.accepts && p.base < stamp && stamp <= p.reserved {
 			mask |= 1 << v
 		}
 	}
 	return mask
+}
+
+// floor returns the highest base that a voter told this session.
+func (c *Client) floor() (base uint64) {
+	for v := range c.peers {
+		base = greatest(base, c.peers[v].base)
+	}
+	return base
+}
+
+// mayAsk returns whether a quorum may be asked under a stamp: it is this session's at each voter of
+// it, and at a quorum of each plan.
+func (c *Client) mayAsk(quorum, stamp uint64) bool {
+	owners := c.owners(stamp)
+	return quorum&^owners == 0 && c.hasQuorum(owners)
 }
 
 // heartbeat shows that the session is there. What may have been lost before is lost first: replies to this heartbeat say
@@ -334,7 +396,7 @@ func uptime() time.Duration {
 func (c *Client) doubtful() (mask uint64) {
 	up := uptime()
 	for v := range c.peers {
-		if up-c.peers[v].known > c.cluster.TTL.Duration*8/10 {
+		if up-c.peers[v].known > leaseOf(c.cluster.TTL.Duration) {
 			mask |= 1 << v
 		}
 	}
@@ -360,7 +422,9 @@ func (c *Client) message(data []byte) {
 	}
 	if !c.accepts(h.Coterie) {
 		c.stats.Refused++
-		c.findPlans(h.Number, lines)
+		if c.recognise(h) {
+			c.findPlans(h.Number, lines)
+		}
 		return
 	}
 	if !c.recognise(h) {
@@ -368,6 +432,7 @@ func (c *Client) message(data []byte) {
 		return
 	}
 	c.peers[h.Number].heard = time.Now()
+	c.noteLapses(h)
 	for c.why == nil {
 		lock, line, rest, found := wire.Next(lines)
 		if !found {
@@ -376,7 +441,8 @@ func (c *Client) message(data []byte) {
 		lines = rest
 		if string(lock) == "." {
 			c.control(h.Number, bytes.Fields(line))
-		} else if from, _ := wire.Ends(line); from == h.Number && c.header.Epoch > 0 && wire.IsName(lock) {
+		} else if from, _ := wire.Ends(line); from == h.Number && c.header.Epoch > 0 && wire.IsName(lock) &&
+			!c.peers[from].stale {
 			c.take(lock, line)
 		} else {
 			c.stats.Refused++
@@ -392,35 +458,70 @@ func (c *Client) recognise(h wire.Header) bool {
 		p.identity, p.block = h.Name, h.Block
 	}
 	if p.identity == h.Name {
-		if h.Saves > p.saves {
-			p.saves = h.Saves
+		if h.Saves > p.saves || p.proof == "" {
+			p.saves, p.proof = h.Saves, h.Proof
 		}
 		return true
 	}
 	if h.Block <= p.block {
 		return false
 	}
-	p.identity, p.block, p.saves, p.reserved = h.Name, h.Block, h.Saves, 0
+	p.identity, p.block, p.saves, p.proof = h.Name, h.Block, h.Saves, h.Proof
+	p.forget()
+	c.spoilAll(1 << h.Number)
+	return true
+}
+
+// noteLapses notes how often a voter let a grant of this session go since it was silent. It may be
+// that of any request: all that have its vote from before are over. What it said before counts no
+// more, so no late word of it revives a vote.
+func (c *Client) noteLapses(h wire.Header) {
+	p := &c.peers[h.Number]
+	p.stale = h.Lapses < p.lapses
+	if h.Lapses <= p.lapses {
+		return
+	}
+	p.lapses = h.Lapses
 	for l := range c.busy {
-		if l.shown.Phase != qlock.Idle && l.shown.Quorum>>h.Number&1 == 1 {
+		if l.shown.Phase != qlock.Idle && c.votes(l)>>h.Number&1 == 1 {
 			c.spoil(l)
 		}
 	}
-	return true
+}
+
+// acknowledge notes that a voter acknowledged a heartbeat that left at this time.
+func (c *Client) acknowledge(voter int, left time.Duration) {
+	c.peers[voter].known = left
+	c.watch.acknowledge(voter, left)
+}
+
+// spoilAll ends all requests to these voters.
+func (c *Client) spoilAll(voters uint64) {
+	for l := range c.busy {
+		if l.shown.Phase != qlock.Idle && l.shown.Quorum&voters != 0 {
+			c.spoil(l)
+		}
+	}
 }
 
 // control takes a control line of a voter.
 func (c *Client) control(voter int, words [][]byte) {
-	if len(words) == 3 && string(words[0]) == "gone" {
-		if stamp, ok := number(words[2]); ok {
+	if len(words) == 3 && (string(words[0]) == "gone" || string(words[0]) == "full") {
+		if stamp, ok := number(words[2]); ok && string(words[0]) == "gone" {
 			c.gone(string(words[1]), stamp)
+		} else if ok {
+			c.full(voter, string(words[1]), stamp)
 		}
+		return
+	}
+	if len(words) == 1 && string(words[0]) == "leaving" {
+		c.leaves(voter)
 		return
 	}
 	if c.controlPlans(voter, words) {
 		return
 	}
-	var n [5]uint64
+	var n [6]uint64
 	if len(words) < 3 || len(words) > 1+len(n) {
 		return
 	}
@@ -442,16 +543,33 @@ func (c *Client) control(voter int, words [][]byte) {
 		}
 		c.noteNumber(voter, int(n[0]), n[1], int(n[2]))
 	case "claimed", "refused":
-		if c.header.Epoch == 0 && int(n[0]) == c.asked && n[1] == c.claimed && c.claimed > 0 {
-			c.noteClaim(voter, string(words[0]) == "claimed", n[2])
+		if claims := c.header.Epoch == 0 && int(n[0]) == c.asked && n[1] == c.claimed && c.claimed > 0; claims || mine {
+			c.noteClaim(voter, string(words[0]) == "claimed", n[2], n[3])
 		}
 	case "opened":
+		if mine && !c.peers[voter].stale {
+			c.opened(voter, n[2], n[3], n[4], n[5])
+		}
+	case "unknown":
 		if mine {
-			c.opened(voter, n[2], n[3], n[4])
+			c.claimAgain(voter)
 		}
 	case "closed", "taken":
 		if mine {
 			c.over(voter)
+		}
+	}
+}
+
+// leaves notes that a voter ends. It is silent at once, and requests that wait for it ask others,
+// if they would do.
+func (c *Client) leaves(voter int) {
+	now := time.Now()
+	c.peers[voter].heard = time.Time{}
+	for l := range c.busy {
+		if c.waitsFor(l, c.silent(now)) {
+			c.stats.FailOvers++
+			c.askAgain(l)
 		}
 	}
 }
@@ -467,27 +585,34 @@ func (c *Client) noteNumber(voter, which int, epoch uint64, state int) {
 	c.replied |= 1 << voter
 }
 
-// noteClaim notes a voter's reply to a claim.
-func (c *Client) noteClaim(voter int, granted bool, reserved uint64) {
+// noteClaim notes a voter's reply to a claim. Once a quorum accepted the session, one that refuses
+// it is only not asked.
+func (c *Client) noteClaim(voter int, granted bool, base, reserved uint64) {
 	if !granted {
-		c.refused = true
+		c.refused = c.refused || c.header.Epoch == 0
 		return
 	}
 	c.replied |= 1 << voter
-	if reserved > c.used {
-		c.used = reserved
+	if c.header.Epoch == 0 && reserved <= qlock.MaxStamp {
+		c.used = greatest(c.used, reserved) // what any session of the number used at this quorum
+	}
+	c.noteStamps(voter, base, reserved)
+}
+
+// claimAgain claims the number at a voter that does not know this session, once for each heartbeat.
+func (c *Client) claimAgain(voter int) {
+	if p := &c.peers[voter]; p.claimed < c.header.Seq {
+		p.claimed = c.header.Seq
+		c.out[voter] = append(c.out[voter], fmt.Sprintf(". claim %d %d\n", c.header.Number, c.header.Epoch)...)
 	}
 }
 
-// opened takes the reply to a heartbeat: what the voter keeps as reserved, which heartbeat it heard, and how many requests
-// of this session it has.
-func (c *Client) opened(voter int, reserved, seq, requests uint64) {
+// opened takes the reply to a heartbeat: which stamps are this session's there, which heartbeat the
+// voter heard, and how many requests of this session it has.
+func (c *Client) opened(voter int, base, reserved, seq, requests uint64) {
 	p := &c.peers[voter]
-	if reserved > p.reserved {
-		p.reserved = reserved
-	}
 	if left, ok := p.sent[seq]; ok && left > p.known {
-		p.known = left
+		c.acknowledge(voter, left)
 	}
 	p.requests = requests
 	if c.draining && requests == 0 && c.idle > 0 && seq >= c.idle {
@@ -496,46 +621,61 @@ func (c *Client) opened(voter int, reserved, seq, requests uint64) {
 	if p.drained && !p.closed {
 		c.out[voter] = append(c.out[voter], ". close\n"...) // heartbeats repeat it
 	}
-	c.noteReserved()
+	c.noteStamps(voter, base, reserved)
 }
 
-// over notes that this session is over at a voter. That is an error, unless it is being closed.
+// over notes that this session is over at a voter. What it has of that voter is lost, unless it is
+// being closed. The session ends once the other voters contain no quorum: one voter alone ends no
+// session.
 func (c *Client) over(voter int) {
-	if c.opening {
+	p := &c.peers[voter]
+	switch {
+	case c.opening:
 		c.refused = true
-		return
+	case c.draining && p.drained:
+		p.closed = true
+		c.finish()
+	default:
+		p.accepts, p.taken = false, true
+		c.spoilAll(1 << voter)
+		if !c.hasQuorum(^c.takers()) {
+			c.end(ErrLost)
+		}
 	}
-	if !c.draining || !c.peers[voter].drained {
-		c.end(ErrLost)
-		return
+}
+
+// takers returns the voters that said that this session is over.
+func (c *Client) takers() (mask uint64) {
+	for v := range c.peers {
+		if c.peers[v].taken {
+			mask |= 1 << v
+		}
 	}
-	c.peers[voter].closed = true
-	c.finish()
+	return mask
 }
 
 // drain begins to close the session.
 func (c *Client) drain() {
 	c.draining, c.idle = true, 0
 	for l := range c.busy {
-		for _, w := range l.queue {
-			close(w.got)
-		}
-		l.queue = nil
+		c.refuse(l, ErrClosed)
 		c.pump(l)
 	}
 	c.heartbeat(time.Now())
 }
 
-// finish ends a drain once all voters that are there have closed the session, and they contain a quorum.
+// finish ends a drain once all voters that are there and accepted the session have closed it, and
+// they contain a quorum.
 func (c *Client) finish() {
-	var closed uint64
+	var closed, open uint64
 	for v := range c.peers {
-		if c.peers[v].closed {
+		if p := &c.peers[v]; p.closed {
 			closed |= 1 << v
+		} else if p.accepts {
+			open |= 1 << v
 		}
 	}
-	all := uint64(1)<<len(c.peers) - 1
-	if !c.done && (closed|c.silent(time.Now()))&all == all && c.hasQuorum(closed) {
+	if !c.done && open&^c.silent(time.Now()) == 0 && c.hasQuorum(closed) {
 		c.done = true
 		close(c.drained)
 	}

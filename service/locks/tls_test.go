@@ -15,6 +15,7 @@ import (
 	"os"
 	"os/exec"
 	"path/filepath"
+	"strings"
 	"testing"
 	"time"
 
@@ -34,11 +35,14 @@ const serverFile = `listen: "127.0.0.1:%d"
 tls { cert_file: "%s/server.pem", key_file: "%s/server.key", ca_file: "%s/ca.pem", verify: true }
 authorization { users: [
   { user: voter-a, password: secret-a, permissions: {
-      subscribe: ["qlock.test.v.0", "qlock.test.admin.0"], publish: ["qlock.test.c.>", "qlock.test.o.*"] } }
+      subscribe: ["qlock.test.v.0", "qlock.test.admin.0"],
+      publish: ["qlock.test.c.>", "qlock.test.o.*", "qlock.test.v.0"] } }
   { user: voter-b, password: secret-b, permissions: {
-      subscribe: ["qlock.test.v.1", "qlock.test.admin.1"], publish: ["qlock.test.c.>", "qlock.test.o.*"] } }
+      subscribe: ["qlock.test.v.1", "qlock.test.admin.1"],
+      publish: ["qlock.test.c.>", "qlock.test.o.*", "qlock.test.v.1"] } }
   { user: voter-c, password: secret-c, permissions: {
-      subscribe: ["qlock.test.v.2", "qlock.test.admin.2"], publish: ["qlock.test.c.>", "qlock.test.o.*"] } }
+      subscribe: ["qlock.test.v.2", "qlock.test.admin.2"],
+      publish: ["qlock.test.c.>", "qlock.test.o.*", "qlock.test.v.2"] } }
   { user: shop, password: secret-shop, permissions: { subscribe: ["qlock.test.c.shop.*"], publish: ["qlock.test.v.*"] } }
   { user: spy, password: secret-spy, permissions: { subscribe: ["qlock.test.c.spy.*"], publish: ["qlock.test.v.*"] } }
   { user: operator, password: secret-operator, permissions: { subscribe: ["qlock.test.o.*"], publish: ["qlock.test.admin.*"] } }
@@ -170,7 +174,7 @@ func TestCertificatesAndUsers(t *testing.T) {
 		}
 		heard = append(heard, messages)
 	}
-	operators := wire.Header{Cluster: "test", Coterie: config.Hash(cluster.Coterie), Kind: wire.FromOperator, Name: "spy"}
+	operators := wire.Header{Cluster: "test", Coterie: cluster.Marks()[0], Kind: wire.FromOperator, Name: "spy"}
 	_ = spy.Send(wire.AdminBox("test", 0), append(operators.Append(nil), fmt.Sprintf("evict %d\n", client.Number())...))
 	_ = spy.Send(wire.SessionBox("test", client.header.Name), []byte("anything"))
 	held := take(t, client, "x")
@@ -236,5 +240,129 @@ func TestWrongCertificatesAndUsers(t *testing.T) {
 		if connected != (what == "everything is right") {
 			t.Errorf("%s: connected is %v", what, connected)
 		}
+	}
+}
+
+// A process that runs shows the certificate and the password that are in its files when it
+// connects, not those of its start.
+func TestRenewedFiles(t *testing.T) {
+	cluster, folder := secured(t)
+	other, mine := t.TempDir(), t.TempDir()
+	authority(t, other, "process")
+	right := cluster.CA
+	cluster.CA = mine + "/ca.pem"
+	copyFile := func(from, to string) {
+		text, err := os.ReadFile(from)
+		if err != nil {
+			t.Fatal(err)
+		}
+		write(t, to, string(text))
+	}
+	a := config.Access{User: "shop", Secret: mine + "/secret", Cert: mine + "/process.pem", Key: mine + "/process.key"}
+	put := func(from, secret string) {
+		copyFile(from+"/process.pem", a.Cert)
+		copyFile(from+"/process.key", a.Key)
+		copyFile(folder+"/"+secret+".secret", a.Secret)
+	}
+	connects := func(link *transport.NATS, most time.Duration) bool {
+		for end := time.Now().Add(most); time.Now().Before(end) && !link.Connected(); {
+			time.Sleep(20 * time.Millisecond)
+		}
+		return link.Connected()
+	}
+	copyFile(right, cluster.CA)
+	put(other, "shop") // as one that has ended
+	link := connect(t, cluster, a)
+	if connects(link, 500*time.Millisecond) {
+		t.Fatal("a certificate of another authority")
+	}
+	if left := time.Until(link.CertificateEnd()); left < 50*time.Minute || left > time.Hour {
+		t.Errorf("the certificate ends in %v", left)
+	}
+	copyFile(other+"/ca.pem", cluster.CA)
+	put(folder, "spy")
+	if connects(link, 1500*time.Millisecond) {
+		t.Fatal("a wrong password")
+	}
+	if why := link.Why(); why == nil {
+		t.Error("nothing says why there is no connection")
+	}
+	put(folder, "shop")
+	if connects(link, 1500*time.Millisecond) {
+		t.Fatal("a server of another authority")
+	}
+	copyFile(right, cluster.CA)
+	if !connects(link, 10*time.Second) {
+		t.Error("new files are not read:", link.Why())
+	}
+}
+
+// routed returns the file of a server as docs/service.md has it, without its users, with these
+// ports and folders of certificates.
+func routed(t *testing.T, port, own, first int, machines, routes string) string {
+	t.Helper()
+	text, err := os.ReadFile("../../docs/service.md")
+	if err != nil {
+		t.Fatal(err)
+	}
+	_, file, found := strings.Cut(string(text), "listen: \"0.0.0.0:4222\"")
+	if file, _, _ = strings.Cut(file, "authorization {"); !found {
+		t.Fatal("the page has no file of a server")
+	}
+	return fmt.Sprintf("listen: \"127.0.0.1:%d\"", port) + strings.NewReplacer("server_name: m0", "",
+		"0.0.0.0:6222", fmt.Sprintf("127.0.0.1:%d", own),
+		`"tls://m0:6222", "tls://m1:6222", "tls://m2:6222"`, fmt.Sprintf(`"tls://127.0.0.1:%d"`, first),
+		"/etc/qlock/routes.", routes+"/process.", "/etc/qlock/routes-ca.", routes+"/ca.",
+		"/etc/qlock/machine.", machines+"/server.", "/etc/qlock/ca.", machines+"/ca.").Replace(file)
+}
+
+// A server whose routes are by the certificate of a machine, which clients may read, gets no route.
+// One with a certificate of the routes' authority does.
+func TestRogueRoute(t *testing.T) {
+	server, err := local.NATSServer()
+	if err != nil {
+		t.Skip("apt-get install nats-server")
+	}
+	machines, routes := t.TempDir(), t.TempDir()
+	authority(t, machines, "server", "process")
+	authority(t, routes, "process")
+	ports, err := local.FreePorts(6)
+	if err != nil {
+		t.Fatal(err)
+	}
+	begin := func(i int, folder string) *transport.NATS {
+		file := filepath.Join(t.TempDir(), "nats.conf")
+		write(t, file, routed(t, ports[i], ports[i+3], ports[3], machines, folder))
+		run := exec.Command(server, "-c", file)
+		if err := run.Start(); err != nil {
+			t.Fatal(err)
+		}
+		t.Cleanup(func() { _ = run.Process.Kill(); _ = run.Wait() })
+		c := &config.Cluster{Servers: []string{fmt.Sprintf("tls://127.0.0.1:%d", ports[i])},
+			CA: filepath.Join(machines, "ca.pem")}
+		link := connect(t, c, config.Access{Cert: machines + "/process.pem", Key: machines + "/process.key"})
+		soon(t, "there is a server", link.Connected)
+		return link
+	}
+	first, rogue, second := begin(0, routes), begin(1, machines), begin(2, routes)
+	stolen, err := rogue.Listen("qlock.>")
+	if err != nil {
+		t.Fatal(err)
+	}
+	passed, err := second.Listen("qlock.>")
+	if err != nil {
+		t.Fatal(err)
+	}
+	soon(t, "servers with a route pass nothing on", func() bool {
+		_ = first.Send("qlock.test.v.0",
+			[]byte("x"))
+		return len(passed) > 0
+	})
+	for i := 0; i < 20; i++ {
+		_ = first.Send("qlock.test.v.0", []byte("x"))
+		time.Sleep(50 * time.Millisecond)
+	}
+	if len(stolen) > 0 {
+		t.Error("a server with the certificate of a machine hears all")
 	}
 }

@@ -1,9 +1,15 @@
 package transport
 
 import (
+	"crypto/tls"
+	"crypto/x509"
+	"errors"
 	"fmt"
+	"net"
+	"net/url"
 	"os"
 	"strings"
+	"sync"
 	"sync/atomic"
 	"time"
 
@@ -11,22 +17,44 @@ import (
 	"github.com/nats-io/nats.go"
 )
 
-// Room is how many messages wait in a mailbox.
-const Room = 1 << 16
+// The room of a mailbox. Behind a few messages that are handed out next wait so many, of so many
+// bytes together.
+const (
+	next      = 64
+	Room      = 1 << 16
+	RoomBytes = 16 << 20
+)
 
 // NATS is a connection to one of the servers of NATS. If it fails, it goes on to the next one, for ever.
 type NATS struct {
 	connection *nats.Conn
+	current    atomic.Pointer[nats.Conn] // the connection, once Connect returned it
 	returns    atomic.Uint64
+	closed     chan struct{}
+
+	certificate func() (*tls.Certificate, error) // reads this process's certificate, nil if it has none
+
+	mutex     sync.Mutex
+	mailboxes []mailbox
+}
+
+// mailbox is what comes to one subject.
+type mailbox struct {
+	subscription *nats.Subscription
+	messages     chan []byte
+	left         chan struct{} // closed once nobody reads it any more
 }
 
 // Connect begins to connect to a cluster's servers, to the first in their order that is there. It returns before a
 // connection is there. A server that stands still is left after three seconds. Where all processes have one order, their
 // messages take one server.
 func Connect(cluster *config.Cluster, access config.Access, name string) (*NATS, error) {
-	n := new(NATS)
+	n := &NATS{closed: make(chan struct{})}
+	if err := hidden(cluster, access); err != nil {
+		return nil, err
+	}
 	options := []nats.Option{
-		nats.Name(name), nats.NoEcho(), nats.DontRandomize(), nats.IgnoreAuthErrorAbort(), nats.Timeout(time.Second),
+		nats.Name(name), nats.DontRandomize(), nats.IgnoreAuthErrorAbort(), nats.Timeout(time.Second),
 		nats.MaxReconnects(-1), nats.RetryOnFailedConnect(true),
 		nats.ReconnectWait(100 * time.Millisecond), nats.ReconnectJitter(100*time.Millisecond, 200*time.Millisecond),
 		nats.ReconnectBufSize(-1), // what can't leave is lost, and not sent late
@@ -34,7 +62,7 @@ func Connect(cluster *config.Cluster, access config.Access, name string) (*NATS,
 		nats.FlusherTimeout(time.Second), // else a server that reads nothing holds whoever sends, and no ping leaves
 		nats.ReconnectHandler(func(*nats.Conn) { n.returns.Add(1) }),
 	}
-	more, err := identity(cluster, access)
+	more, err := n.identity(cluster, access)
 	if err != nil {
 		return nil, err
 	}
@@ -42,42 +70,186 @@ func Connect(cluster *config.Cluster, access config.Access, name string) (*NATS,
 	if err != nil {
 		return nil, fmt.Errorf("nats: %w", err)
 	}
+	n.current.Store(n.connection)
 	return n, nil
 }
 
+// ErrClear is returned where a password would leave in clear.
+var ErrClear = fmt.Errorf("%w: a password needs TLS: servers as tls://HOST:PORT, or ca in the cluster's file",
+	config.ErrConfig)
+
+// hidden returns ErrClear if a password would leave this machine without TLS. With an authority or
+// a certificate all is by TLS.
+func hidden(cluster *config.Cluster, access config.Access) error {
+	if cluster.CA != "" || access.Cert != "" {
+		return nil
+	}
+	for _, server := range cluster.Servers {
+		text := server
+		if !strings.Contains(text, "://") {
+			text = "nats://" + text
+		}
+		place, err := url.Parse(text)
+		if err != nil {
+			return fmt.Errorf("%w: a server is no URL: %v", config.ErrConfig, errors.Unwrap(err))
+		}
+		if access.User == "" && place.User == nil {
+			continue
+		}
+		host := net.ParseIP(place.Hostname())
+		if isHere := place.Hostname() == "localhost" || host != nil && host.IsLoopback(); place.Scheme != "tls" &&
+			!isHere {
+			return fmt.Errorf("%w: %s", ErrClear, place.Host)
+		}
+	}
+	return nil
+}
+
 // identity returns the options that say who this process is, and which servers it believes.
-func identity(cluster *config.Cluster, access config.Access) (options []nats.Option, err error) {
+// Certificate, authority and password are read again for each connection, so new files need no
+// restart.
+func (n *NATS) identity(cluster *config.Cluster, access config.Access) (options []nats.Option, err error) {
+	if access.Cert != "" {
+		read := func() (*tls.Certificate, error) {
+			certificate, err := tls.LoadX509KeyPair(access.Cert, access.Key)
+			return &certificate, err
+		}
+		if _, err := read(); err != nil {
+			return nil, err
+		}
+		n.certificate = read
+		options = append(options, nats.Secure(&tls.Config{MinVersion: tls.VersionTLS12,
+			GetClientCertificate: func(*tls.CertificateRequestInfo) (*tls.Certificate, error) { return read() }}))
+	}
 	if cluster.CA != "" {
 		options = append(options, nats.RootCAs(cluster.CA))
 	}
-	if access.Cert != "" {
-		options = append(options, nats.ClientCert(access.Cert, access.Key))
-	}
 	if access.User != "" {
-		secret, err := os.ReadFile(access.Secret)
+		password, err := secret(access)
 		if err != nil {
 			return nil, err
 		}
-		options = append(options, nats.UserInfo(access.User, strings.TrimSpace(string(secret))))
+		options = append(options, nats.UserInfo(access.User, password))
 	}
-	return options, nil
+	return append(options, nats.SetCustomDialer(&dialer{n, cluster, access})), nil
 }
+
+// secret reads a user's password.
+func secret(access config.Access) (string, error) {
+	text, err := os.ReadFile(access.Secret)
+	return strings.TrimSpace(string(text)), err
+}
+
+// dialer reads the password and the authority before each connection.
+type dialer struct {
+	*NATS
+	cluster *config.Cluster
+	access  config.Access
+}
+
+// Dial connects to a server. The library calls it while it has the connection to itself. What can't
+// be read, as it is being renewed, stays as it was.
+func (d *dialer) Dial(network, address string) (net.Conn, error) {
+	if connection := d.current.Load(); connection != nil {
+		if password, err := secret(d.access); err == nil && d.access.User != "" {
+			connection.Opts.Password = password
+		}
+		pool := x509.NewCertPool()
+		if text, err := os.ReadFile(d.cluster.CA); err == nil && pool.AppendCertsFromPEM(text) {
+			connection.Opts.TLSConfig = connection.Opts.TLSConfig.Clone()
+			connection.Opts.TLSConfig.RootCAs = pool
+		}
+	}
+	return net.DialTimeout(network, address, time.Second)
+}
+
+// CertificateEnd returns when the certificate in this process's files ends, and 0 if there is none
+// that can be read.
+func (n *NATS) CertificateEnd() time.Time {
+	if n.certificate == nil {
+		return time.Time{}
+	}
+	shown, err := n.certificate()
+	if err != nil {
+		return time.Time{}
+	}
+	first, err := x509.ParseCertificate(shown.Certificate[0])
+	if err != nil {
+		return time.Time{}
+	}
+	return first.NotAfter
+}
+
+// Why returns why there is no connection, as far as it is known.
+func (n *NATS) Why() error { return n.connection.LastError() }
 
 // Send sends a message.
 func (n *NATS) Send(mailbox string, message []byte) error {
 	return n.connection.Publish(mailbox, message)
 }
 
-// Listen returns the messages that come to a mailbox.
-func (n *NATS) Listen(mailbox string) (<-chan []byte, error) {
-	messages := make(chan []byte, Room)
-	_, err := n.connection.Subscribe(mailbox, func(m *nats.Msg) {
+// Listen returns the messages that come to a mailbox. What finds no room is dropped, and counted: a
+// reminder repeats it.
+func (n *NATS) Listen(subject string) (<-chan []byte, error) {
+	messages, left := make(chan []byte, next), make(chan struct{})
+	subscription, err := n.connection.Subscribe(subject, func(m *nats.Msg) {
 		select {
-		case messages <- m.Data:
-		default: // no room: a reminder repeats it
+		case messages <- m.Data: // until then the others wait in the subscription
+		case <-left:
+		case <-n.closed:
 		}
 	})
-	return messages, err
+	if err != nil {
+		return nil, err
+	}
+	if err := subscription.SetPendingLimits(Room, RoomBytes); err != nil {
+		return nil, err
+	}
+	n.mutex.Lock()
+	defer n.mutex.Unlock()
+	n.mailboxes = append(n.mailboxes, mailbox{subscription, messages, left})
+	return messages, nil
+}
+
+// Leave ends what Listen began.
+func (n *NATS) Leave(subject string) {
+	n.mutex.Lock()
+	defer n.mutex.Unlock()
+	kept := n.mailboxes[:0]
+	for _, box := range n.mailboxes {
+		if box.subscription.Subject != subject {
+			kept = append(kept, box)
+			continue
+		}
+		_ = box.subscription.Unsubscribe()
+		close(box.left)
+	}
+	n.mailboxes = kept
+}
+
+// Waiting returns how many messages wait.
+func (n *NATS) Waiting() (count int) {
+	n.mutex.Lock()
+	defer n.mutex.Unlock()
+	for _, box := range n.mailboxes {
+		count += len(box.messages)
+		if pending, _, err := box.subscription.Pending(); err == nil {
+			count += pending
+		}
+	}
+	return count
+}
+
+// Dropped returns how many messages found no room.
+func (n *NATS) Dropped() (count uint64) {
+	n.mutex.Lock()
+	defer n.mutex.Unlock()
+	for _, box := range n.mailboxes {
+		if dropped, err := box.subscription.Dropped(); err == nil {
+			count += uint64(dropped)
+		}
+	}
+	return count
 }
 
 // Connected returns whether there is a connection.
@@ -90,5 +262,6 @@ func (n *NATS) Returns() uint64 { return n.returns.Load() }
 // Close sends what was given to Send, if that takes less than a second, and ends the connection.
 func (n *NATS) Close() {
 	_ = n.connection.FlushTimeout(time.Second)
+	close(n.closed)
 	n.connection.Close()
 }

@@ -7,8 +7,14 @@ type Transport interface {
 	// Send sends a message to a mailbox. It does not wait until it arrives. What it can't send is lost: a reminder
 	// repeats it.
 	Send(mailbox string, message []byte) error
-	// Listen returns the messages that come to a mailbox from now on. Those that find no room are lost.
+	// Listen returns the messages that come to a mailbox from now on. Those that find no room are
+	// lost. Room is bounded in bytes.
 	Listen(mailbox string) (<-chan []byte, error)
+}
+
+// Leaver is what a transport may have besides: it forgets a mailbox that nobody reads any more.
+type Leaver interface {
+	Leave(mailbox string)
 }
 
 // Link is what a transport may have besides: whether it is connected. A voter shows it, and begins all leases anew when
@@ -18,4 +24,8 @@ type Link interface {
 	Connected() bool
 	// Returns returns how often the connection came back.
 	Returns() uint64
+	// Waiting returns how many messages wait in all mailboxes, and Dropped how many were lost, as
+	// they found no room.
+	Waiting() int
+	Dropped() uint64
 }

@@ -11,8 +11,8 @@ var errExchange = errors.New("a plan is not exchanged")
 // exchanged is what the plan's exchanges are counted as.
 const exchanged = "plans exchanged and retired"
 
-// mover exchanges the plan of a trial and back, one step for each burst of incidents. Voters that only the new coterie has
-// come and go.
+// mover exchanges the plan of a trial and back, one step for each burst of incidents; if everything
+// is to happen at once, again and again. Voters that only the new coterie has come and go.
 type mover struct {
 	*player
 	coteries []string // of the exchanges that are still to be made
@@ -21,14 +21,22 @@ type mover struct {
 
 func newMover(p *player) *mover {
 	m := &mover{player: p}
-	if p.options.exchange != "" {
-		m.coteries = []string{p.options.exchange, p.options.Coterie}
-	}
+	m.plan()
 	return m
+}
+
+// plan notes that the plan is to be exchanged and back.
+func (m *mover) plan() {
+	if m.options.exchange != "" {
+		m.coteries = []string{m.options.exchange, m.options.Coterie}
+	}
 }
 
 // begin begins the next step while all is calm, and leaves the rest to a goroutine that goes on during the burst.
 func (m *mover) begin() error {
+	if m.options.everything && len(m.coteries) == 0 && !m.retires {
+		m.plan() // and once more
+	}
 	switch {
 	case m.retires:
 		m.retires = false
@@ -49,10 +57,15 @@ func (m *mover) begin() error {
 		}
 		m.coteries, m.retires = m.coteries[1:], true
 		m.insist(func() error { return m.cluster.Install(coterie) })
-	case m.options.exchange != "":
-		m.cluster.Dismiss()
 	}
 	return nil
+}
+
+// dismiss ends the voters that no plan has any more, once all exchanges are made.
+func (m *mover) dismiss() {
+	if m.options.exchange != "" && len(m.coteries) == 0 && !m.retires {
+		m.cluster.Dismiss()
+	}
 }
 
 // insist does something again until it succeeds: voters are killed meanwhile.

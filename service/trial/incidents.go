@@ -55,6 +55,8 @@ var kinds = []struct {
 	{"servers frozen", 1, func(p *player) { p.stop(p.cluster.Servers, 4*time.Second) }, nil},
 	{"voters that lost their state", 1, (*player).lose, nil},
 	{"older copies put back", 1, (*player).putBack, nil},
+	{"sessions that operators ended", 2, (*player).evict, nil},
+	{"locks that operators unlocked", 2, (*player).unlock, nil},
 	{"voters cut off", 3, func(p *player) { p.cut(p.cluster.Voters, (*local.Island).Cut) }, hasIslands},
 	{"voters that are not heard", 3, func(p *player) { p.cut(p.cluster.Voters, (*local.Island).Mute) }, hasIslands},
 	{"clients cut off", 3, func(p *player) { p.cut(p.workers, (*local.Island).Cut) }, hasIslands},
@@ -209,6 +211,39 @@ func (p *player) fill() {
 	})
 }
 
+// letGo is what the grants are counted as that voters let go at an operator's word.
+const letGo = "grants let go for operators"
+
+// evict lets an operator end a client's session.
+func (p *player) evict() {
+	one := p.workers[p.random.Intn(len(p.workers))]
+	if number := p.witness.session(one.Name); number >= 0 {
+		p.order(p.witness.excuseSession(number), "evict", fmt.Sprint(number))
+	}
+}
+
+// unlock lets an operator unlock a lock in which somebody is, if there is one.
+func (p *player) unlock() {
+	if place := p.witness.busy(); place != "" {
+		p.order(p.witness.excusePlace(place), "unlock", place)
+	}
+}
+
+// order orders something as an operator, while other incidents go on. Those who lose something by
+// it are excused for a TTL longer: what tells them so may be lost.
+func (p *player) order(end func(), words ...string) {
+	p.back.Add(1)
+	go func() {
+		defer p.back.Done()
+		gone := p.cluster.LetGo(words...)
+		p.witness.incident()
+		time.AfterFunc(p.ttl, end)
+		p.mutex.Lock()
+		defer p.mutex.Unlock()
+		p.counts[letGo] += gone
+	}()
+}
+
 // fail notes why the trial can't go on.
 func (p *player) fail(err error) {
 	p.mutex.Lock()
@@ -225,11 +260,18 @@ func (p *player) failed() error {
 	return p.failure
 }
 
+// one returns a voter and its number, once all the others are there. Those that no plan has any more
+// end before: they can't start again.
+func (p *player) one() (int, *local.Process) {
+	p.back.Wait()
+	p.cluster.Dismiss()
+	i := p.random.Intn(len(p.cluster.Voters))
+	return i, p.cluster.Voters[i]
+}
+
 // lose takes a voter's state away. It must not start then. It is made again by what the others know.
 func (p *player) lose() {
-	p.back.Wait() // all the others have to be there
-	i := p.random.Intn(len(p.cluster.Voters))
-	one := p.cluster.Voters[i]
+	i, one := p.one()
 	one.Kill()
 	p.witness.excuseInside()
 	if err := p.loseState(i, one); err != nil {
@@ -261,9 +303,8 @@ func (p *player) loseState(i int, one *local.Process) error {
 
 // putBack puts an older copy of a voter's state back. It has to end by itself, and goes on from the newest one.
 func (p *player) putBack() {
-	p.back.Wait()
-	i := p.random.Intn(len(p.cluster.Voters))
-	if err := p.putOlder(p.cluster.Voters[i], filepath.Join(p.cluster.Data(i), "voter.db")); err != nil {
+	i, one := p.one()
+	if err := p.putOlder(one, filepath.Join(p.cluster.Data(i), "voter.db")); err != nil {
 		p.fail(err)
 	}
 	p.witness.incident()

@@ -1,12 +1,16 @@
-// Command trial tries the service on this machine: it kills, stops and freezes voters, clients and servers of NATS, takes
-// the states of voters away, and loses and repeats messages, while a witness outside of the clients judges.
+// Command trial tries the service on this machine: it kills, stops and freezes voters, clients and
+// servers of NATS, takes the states of voters away, lets operators end sessions and unlock locks,
+// and loses and repeats messages, while a witness outside of the clients judges. Some clients stay
+// inside for longer than a lease lasts: else a loss that is told too late is hardly seen.
 //
 // The witness has to find nothing of these:
 //
-//   - two inside, of which none was let go: neither stood still, nor was told so by Held.Lost;
+//   - two inside, of which none was let go: neither stood still, nor did an operator let it go,
+//     nor was it told so by Held.Lost;
 //   - a write of a pass after one of a later pass;
 //   - a lost update;
-//   - a wait longer than 3 TTL after the last incident. Incidents come in bursts, after which all is there again.
+//   - a wait longer than 3 TTL after the last incident, and after the last one that stayed inside
+//     that lock. Incidents come in bursts, after which all is there again.
 package main
 
 import (
@@ -39,8 +43,26 @@ type options struct {
 	workers, places int
 	each            int
 	percent         int
+	stays           int
 	seed            int64
 	exchange        string
+	everything      bool
+}
+
+// complete returns the options with what they imply, or an error if something is missing.
+func (o options) complete() (options, error) {
+	switch {
+	case o.everything && o.exchange == "":
+		return o, errors.New("--everything needs the coterie of --exchange")
+	case o.everything:
+		o.Islands, o.SmallDisk = true, true
+		if o.Loss == 0 {
+			o.Loss = 2
+		}
+	case o.Loss > 0 && !o.Islands:
+		return o, errors.New("--loss needs --partitions")
+	}
+	return o, nil
 }
 
 func main() {
@@ -53,7 +75,13 @@ func main() {
 func command() *cobra.Command {
 	var o options
 	root := &cobra.Command{Use: "trial", Args: cobra.NoArgs, SilenceUsage: true, SilenceErrors: true,
-		RunE: func(*cobra.Command, []string) error { return run(o) }}
+		RunE: func(*cobra.Command, []string) error {
+			o, err := o.complete()
+			if err != nil {
+				return err
+			}
+			return run(o)
+		}}
 	flags := root.Flags()
 	flags.StringVar(&o.Folder, "folder", "", "a new folder for the cluster, on a disk that syncs")
 	flags.StringVar(&o.Bin, "bin", "", "the folder of qlock-voter and qlockctl")
@@ -65,21 +93,28 @@ func command() *cobra.Command {
 	flags.IntVar(&o.places, "places", 6, "how many locks")
 	flags.IntVar(&o.each, "each", 4, "how many goroutines of each client pass through the locks")
 	flags.IntVar(&o.percent, "noise", 1, "how many of 100 messages are lost, and how many repeated, in each direction of each client")
+	flags.IntVar(&o.stays, "stays", 3,
+		"how many of 1000 passes stay inside until the lock is lost, or for one and a half TTL")
 	flags.Int64Var(&o.seed, "seed", 1, "the seed of the incidents")
 	flags.BoolVar(&o.Islands, "partitions", false, "also cut voters and clients off, by network namespaces; needs root")
+	flags.IntVar(&o.Loss, "loss", 0,
+		"how many of 100 packets are lost on the way to each process and from it; needs --partitions")
 	flags.BoolVar(&o.SmallDisk, "full-disk", false, "also fill a voter's disk; needs root")
 	flags.StringVar(&o.exchange, "exchange", "", "the file of a coterie for which the plan is exchanged meanwhile, and back")
+	flags.BoolVar(&o.everything, "everything", false,
+		"--partitions, --full-disk, --loss 2 if it is not given, and the plan of --exchange and back, again and again")
 	flags.BoolVar(&o.open, "open-guard", false, "let the guard admit everything, and stop clients: the witness has to find that")
-	root.AddCommand(&cobra.Command{Use: "worker CLUSTER WITNESS NAME PLACES EACH PERCENT", Args: cobra.ExactArgs(6), Hidden: true,
+	root.AddCommand(&cobra.Command{Use: "worker CLUSTER WITNESS NAME PLACES EACH PERCENT STAYS",
+		Args: cobra.ExactArgs(7), Hidden: true,
 		RunE: func(_ *cobra.Command, words []string) error {
-			var numbers [3]int
+			var numbers [4]int
 			for i := range numbers {
 				var err error
 				if numbers[i], err = strconv.Atoi(words[3+i]); err != nil {
 					return err
 				}
 			}
-			return work(words[0], words[1], words[2], numbers[0], numbers[1], numbers[2])
+			return work(words[0], words[1], words[2], habits{numbers[0], numbers[1], numbers[2], numbers[3]})
 		}})
 	return root
 }
@@ -105,7 +140,8 @@ func run(o options) error {
 	}
 	for i := 0; i < o.workers; i++ {
 		name := fmt.Sprintf("client-%d", i)
-		worker, err := cluster.Process(name, self, "worker", cluster.File, path, name, fmt.Sprint(o.places), fmt.Sprint(o.each), fmt.Sprint(o.percent))
+		worker, err := cluster.Process(name, self, "worker", cluster.File, path, name,
+			fmt.Sprint(o.places), fmt.Sprint(o.each), fmt.Sprint(o.percent), fmt.Sprint(o.stays))
 		if err != nil {
 			return err
 		}
@@ -124,6 +160,7 @@ func run(o options) error {
 	}
 	for err == nil && (time.Since(began) < o.length || lacks(w.look())) && !(o.open && w.look().faults() > 0) {
 		if err = p.calm(); err == nil {
+			mover.dismiss() // else one that was killed, and is not of the plan any more, can't start
 			err = p.check()
 		}
 		if err == nil {
@@ -156,8 +193,8 @@ func show(f findings, counts map[string]int, took time.Duration) {
 	for _, name := range names {
 		fmt.Printf("  %d %s\n", counts[name], name)
 	}
-	fmt.Printf("locks that were lost while held: %d; entries while one that was let go was inside: %d; shows that the guard refused: %d\n",
-		f.Lost, f.Met, f.Refused)
+	fmt.Printf("locks that were lost while held: %d; entries while one that was let go was inside: %d; "+
+		"shows that the guard refused: %d; passes that stayed inside: %d\n", f.Lost, f.Met, f.Refused, f.Stays)
 	fmt.Printf("two inside that were not let go: %d; writes of a pass after one of a later pass: %d; lost updates: %d; waits longer than 3 TTL: %d\n",
 		f.TwoInside, f.Torn, f.LostUpdates, f.LongWaits)
 }
@@ -176,6 +213,9 @@ func verdict(f findings, counts map[string]int, o options) error {
 	}
 	if f.Passes == 0 || f.losses() == 0 {
 		return fmt.Errorf("%w: too little happened", errFaults)
+	}
+	if o.length >= 2*time.Minute && (counts[letGo] == 0 || o.stays > 0 && f.Stays == 0) {
+		return fmt.Errorf("%w: operators let nothing go, or nobody stayed inside", errFaults)
 	}
 	for _, kind := range kinds {
 		if counts[kind.name] == 0 && o.length >= 2*time.Minute && (kind.has == nil || kind.has(o)) {

@@ -15,28 +15,33 @@ import (
 
 // place is what one lock protects: a count with its guard. The witness knows who says to be inside.
 type place struct {
-	fence  *qlock.Fence
-	count  int
-	last   string          // the pass that was admitted last
-	over   map[string]bool // passes after which another one was admitted
-	inside map[string]bool // workers
+	fence   *qlock.Fence
+	count   int
+	last    string          // the pass that was admitted last
+	over    map[string]bool // passes after which another one was admitted
+	inside  map[string]bool // workers
+	stays   map[string]bool // those of them that stay for long
+	stayed  time.Time       // when the last one of these left
+	ordered int             // how many orders of operators may let its grants go now
 }
 
 // worker is what the witness knows of a worker.
 type worker struct {
-	excused bool      // it stood still, or a voter lost its state while it was inside: it may have been let go
+	excused bool      // it stood still, a voter lost its state, or an operator let it go while it was inside
+	session int       // the number of its session, -1 before it has one
 	waits   time.Time // since when it waits, zero if it does not
+	at      string    // the place for which it waits, "" for a session
 }
 
 // findings are what the witness counts.
 type findings struct {
-	Passes, Writes               int
-	TwoInside                    int // two inside, and none of them was let go
-	Torn                         int // writes of a pass after one of a later pass
-	LostUpdates                  int // writes that were admitted and did not follow the last one
-	LongWaits                    int // waits longer than 3 TTL after the last incident, with a quorum there
-	Met, Refused, Lost, LostLate int
-	LongestWait                  time.Duration
+	Passes, Writes            int
+	TwoInside                 int // two inside, and none of them was let go
+	Torn                      int // writes of a pass after one of a later pass
+	LostUpdates               int // writes that were admitted and did not follow the last one
+	LongWaits                 int // waits longer than 3 TTL after the last incident, with a quorum there
+	Met, Refused, Lost, Stays int
+	LongestWait               time.Duration
 }
 
 // faults returns how many faults were found.
@@ -51,6 +56,7 @@ type witness struct {
 	listener net.Listener
 	places   map[string]*place
 	workers  map[string]*worker
+	ended    map[int]int // how many orders of operators may end the session of a number now
 	found    findings
 	said     int
 	calm     time.Time // of the last incident
@@ -63,7 +69,8 @@ func newWitness(path string, ttl time.Duration) (*witness, error) {
 	if err != nil {
 		return nil, err
 	}
-	w := &witness{listener: l, places: map[string]*place{}, workers: map[string]*worker{}, ttl: ttl, calm: time.Now()}
+	w := &witness{listener: l, places: map[string]*place{}, workers: map[string]*worker{}, ended: map[int]int{},
+		ttl: ttl, calm: time.Now()}
 	go func() {
 		for {
 			c, err := l.Accept()
@@ -92,7 +99,7 @@ func (w *witness) serve(c net.Conn) {
 		w.mutex.Lock()
 		if words[0] == "name" {
 			name = words[1]
-			w.workers[name] = &worker{}
+			w.workers[name] = &worker{session: -1}
 		}
 		reply := w.judge(name, words)
 		w.mutex.Unlock()
@@ -103,17 +110,35 @@ func (w *witness) serve(c net.Conn) {
 	w.mutex.Lock()
 	defer w.mutex.Unlock()
 	for _, p := range w.places {
-		delete(p.inside, name)
+		p.remove(name)
 	}
 	delete(w.workers, name)
+}
+
+// remove notes that a worker is not inside any more.
+func (p *place) remove(name string) {
+	delete(p.inside, name)
+	if p.stays[name] {
+		delete(p.stays, name)
+		p.stayed = time.Now()
+	}
 }
 
 // judge takes a line of a worker, and returns the reply.
 func (w *witness) judge(name string, words []string) string {
 	one := w.workers[name]
 	switch words[0] {
-	case "wait":
-		one.waits = time.Now()
+	case "wait": // for a session, or for a place
+		one.waits, one.at = time.Now(), strings.Join(words[1:], " ")
+		if one.at == "" {
+			one.session = -1
+		}
+	case "session":
+		one.session, _ = strconv.Atoi(words[1])
+		one.waits = time.Time{}
+	case "stay":
+		w.place(words[1]).stays[name] = true
+		w.found.Stays++
 	case "nowait":
 		one.waits = time.Time{}
 	case "enter":
@@ -128,7 +153,7 @@ func (w *witness) judge(name string, words []string) string {
 	case "lapsed": // who left heard only from Unlock that it was lost
 		w.found.Lost++
 	case "leave":
-		delete(w.place(words[1]).inside, name)
+		w.place(words[1]).remove(name)
 		one.excused = false
 		w.found.Passes++
 	}
@@ -141,7 +166,8 @@ func (w *witness) place(name string) *place {
 		if err != nil {
 			panic(err)
 		}
-		w.places[name] = &place{fence: fence, over: map[string]bool{}, inside: map[string]bool{}}
+		w.places[name] = &place{fence: fence, over: map[string]bool{}, inside: map[string]bool{},
+			stays: map[string]bool{}}
 	}
 	return w.places[name]
 }
@@ -149,6 +175,9 @@ func (w *witness) place(name string) *place {
 // enter notes that a worker is inside, and who was there already.
 func (w *witness) enter(name string, p *place) {
 	w.endWait(name)
+	if p.ordered > 0 || w.ended[w.workers[name].session] > 0 {
+		w.workers[name].excused = true
+	}
 	for other := range p.inside {
 		if w.workers[other].excused || w.workers[name].excused {
 			w.found.Met++
@@ -167,7 +196,8 @@ func (w *witness) endWait(name string) {
 	one.waits = time.Time{}
 }
 
-// judgeWait judges how long a worker has waited since the last incident. Each wait counts once.
+// judgeWait judges how long a worker has waited since the last incident, and since the last one
+// that stayed in its place. Each wait counts once.
 func (w *witness) judgeWait(name string, one *worker) {
 	if one.waits.IsZero() {
 		return
@@ -175,6 +205,14 @@ func (w *witness) judgeWait(name string, one *worker) {
 	since := one.waits
 	if w.calm.After(since) {
 		since = w.calm
+	}
+	if p := w.places[one.at]; p != nil {
+		if len(p.stays) > 0 {
+			return
+		}
+		if p.stayed.After(since) {
+			since = p.stayed
+		}
 	}
 	waited := time.Since(since)
 	if waited > w.found.LongestWait {
@@ -271,6 +309,66 @@ func (w *witness) isInside(process string) bool {
 		}
 	}
 	return false
+}
+
+// session returns the number of the session that a process has, -1 if there is none.
+func (w *witness) session(process string) int {
+	w.mutex.Lock()
+	defer w.mutex.Unlock()
+	for name, one := range w.workers {
+		if strings.HasPrefix(name, process+"-") && one.session >= 0 {
+			return one.session
+		}
+	}
+	return -1
+}
+
+// busy returns a place in which somebody is, "" if there is none.
+func (w *witness) busy() string {
+	w.mutex.Lock()
+	defer w.mutex.Unlock()
+	for name, p := range w.places {
+		if len(p.inside) > 0 {
+			return name
+		}
+	}
+	return ""
+}
+
+// excuseSession notes that an operator ends the session of a number: its workers that are inside,
+// or enter until the end of this, may have been let go. It returns what ends this.
+func (w *witness) excuseSession(number int) (end func()) {
+	w.mutex.Lock()
+	defer w.mutex.Unlock()
+	w.ended[number]++
+	for _, p := range w.places {
+		for name := range p.inside {
+			if one := w.workers[name]; one.session == number {
+				one.excused = true
+			}
+		}
+	}
+	return func() {
+		w.mutex.Lock()
+		defer w.mutex.Unlock()
+		w.ended[number]--
+	}
+}
+
+// excusePlace notes that an operator unlocks a lock, as excuseSession does.
+func (w *witness) excusePlace(name string) (end func()) {
+	w.mutex.Lock()
+	defer w.mutex.Unlock()
+	p := w.place(name)
+	p.ordered++
+	for worker := range p.inside {
+		w.workers[worker].excused = true
+	}
+	return func() {
+		w.mutex.Lock()
+		defer w.mutex.Unlock()
+		p.ordered--
+	}
 }
 
 // excuseInside notes that a voter lost its state: whoever is inside may have lost its vote before it knows.

@@ -75,11 +75,15 @@ func (m *mouth) say(format string, words ...interface{}) string {
 	return strings.TrimSpace(reply)
 }
 
+// habits are how a worker passes through the locks: how many locks there are, how many goroutines
+// do so, how many of 100 messages are lost or repeated, and how many of 1000 passes stay inside.
+type habits struct{ places, each, percent, stays int }
+
 // work passes through the locks again and again, in several goroutines, until it is killed.
-func work(file, path, name string, places, each, percent int) error {
+func work(file, path, name string, h habits) error {
 	rand.Seed(time.Now().UnixNano() + int64(os.Getpid()))
 	var mouths []*mouth
-	for i := 0; i < each; i++ {
+	for i := 0; i < h.each; i++ {
 		c, err := net.Dial("unix", path)
 		if err != nil {
 			return err
@@ -89,14 +93,14 @@ func work(file, path, name string, places, each, percent int) error {
 		mouths = append(mouths, m)
 	}
 	for {
-		if err := live(mouths, file, places, percent); err != nil {
+		if err := live(mouths, file, h); err != nil {
 			fmt.Fprintln(os.Stderr, name, err)
 		}
 	}
 }
 
 // live is one session. It ends when one of its goroutines fails.
-func live(mouths []*mouth, file string, places, percent int) error {
+func live(mouths []*mouth, file string, h habits) error {
 	cluster, err := config.ReadCluster(file)
 	if err != nil {
 		return err
@@ -111,9 +115,12 @@ func live(mouths []*mouth, file string, places, percent int) error {
 	for _, m := range mouths {
 		m.say("wait")
 	}
-	client, err := locks.Open(ctx, locks.Config{Cluster: file, Transport: noise{link, percent}})
+	client, err := locks.Open(ctx, locks.Config{Cluster: file, Transport: noise{link, h.percent}})
 	if err != nil {
 		return err
+	}
+	for _, m := range mouths {
+		m.say("session %d", client.Number())
 	}
 	defer func() {
 		brief, cancel := context.WithTimeout(context.Background(), time.Second)
@@ -124,7 +131,11 @@ func live(mouths []*mouth, file string, places, percent int) error {
 	for _, m := range mouths {
 		go func(m *mouth) {
 			for {
-				if err := pass(m, client, choosePlace(places)); err != nil {
+				stay := time.Duration(0)
+				if rand.Intn(1000) < h.stays {
+					stay = cluster.TTL.Duration * 3 / 2
+				}
+				if err := pass(m, client, choosePlace(h.places), stay); err != nil {
 					ended <- err
 					return
 				}
@@ -145,10 +156,10 @@ func choosePlace(places int) string {
 	return fmt.Sprintf("place-%d", rand.Intn(places))
 }
 
-// pass takes a lock, adds one to the count twice, and gives the lock back. It pays no heed to Lost, so only the guard keeps
-// late writes out.
-func pass(m *mouth, client *locks.Client, place string) error {
-	m.say("wait")
+// pass takes a lock, stays inside until it is lost or for some time, adds one to the count twice,
+// and gives the lock back. It writes also after Lost, so only the guard keeps late writes out.
+func pass(m *mouth, client *locks.Client, place string, stay time.Duration) error {
+	m.say("wait %s", place)
 	ctx, cancel := context.WithTimeout(context.Background(), 30*time.Second)
 	defer cancel()
 	if rand.Intn(20) == 0 { // it gives up soon
@@ -174,6 +185,13 @@ func pass(m *mouth, client *locks.Client, place string) error {
 			told <- false
 		}
 	}()
+	if stay > 0 {
+		m.say("stay %s", place)
+		select {
+		case <-held.Lost():
+		case <-time.After(stay):
+		}
+	}
 	token := hex.EncodeToString(held.Token())
 	for i := 0; i < 2; i++ {
 		if !addOne(m, place, token) {

@@ -28,9 +28,33 @@ func main() {
 	ctx, stop := signal.NotifyContext(context.Background(), syscall.SIGINT, syscall.SIGTERM)
 	defer stop()
 	if err := command(ctx).Execute(); err != nil {
-		fmt.Fprintln(os.Stderr, "qlock-voter:", err)
-		os.Exit(1)
+		fmt.Fprintf(os.Stderr, "%s%v\n", prefix, err)
+		os.Exit(exitStatus(err))
 	}
+}
+
+// prefix begins the line that says why the program ended.
+const prefix = "qlock-voter: "
+
+// exitHopeless is the exit status if no restart helps: the unit does not start the voter again.
+const exitHopeless = 78
+
+// hopeless are the errors that no restart mends.
+var hopeless = []error{config.ErrConfig, voter.ErrMissing, voter.ErrOther, voter.ErrOlder, voter.ErrDamaged,
+	voter.ErrFormat}
+
+// exitStatus returns the exit status of a command that failed.
+func exitStatus(err error) int {
+	var said hopelessly
+	if errors.As(err, &said) {
+		return exitHopeless
+	}
+	for _, one := range hopeless {
+		if errors.Is(err, one) {
+			return exitHopeless
+		}
+	}
+	return 1
 }
 
 func command(ctx context.Context) *cobra.Command {
@@ -41,8 +65,26 @@ func command(ctx context.Context) *cobra.Command {
 		&cobra.Command{Use: "init", Args: cobra.NoArgs, Short: "Make the state of this voter, once",
 			RunE: func(*cobra.Command, []string) error { return initialise(ctx, path) }},
 		&cobra.Command{Use: "start", Args: cobra.NoArgs, Short: "Run this voter; its state has to be there",
-			RunE: func(*cobra.Command, []string) error { return start(ctx, path) }})
+			RunE: func(*cobra.Command, []string) error { return start(ctx, path) }},
+		&cobra.Command{Use: "pardon", Args: cobra.NoArgs,
+			Short: "Take the mark of an older copy off a state that is the newest one",
+			Long: "Takes the mark of an older copy off the state of this voter, so that it starts again. It is for a " +
+				"state of which you know that it is the newest one, as after a copy of it served somebody else. On an " +
+				"older copy it breaks the lock: docs/service.md says when it may be used.",
+			RunE: func(*cobra.Command, []string) error { return pardon(path) }},
+		&cobra.Command{Use: "check", Args: cobra.NoArgs,
+			Short: "Read the whole state of this voter, which does not run",
+			RunE:  func(*cobra.Command, []string) error { return check(path) }})
 	return root
+}
+
+// pardon takes the mark of an older copy off the state.
+func pardon(path string) error {
+	own, cluster, err := config.ReadVoter(path)
+	if err != nil {
+		return err
+	}
+	return voter.Pardon(own, cluster)
 }
 
 // initialise makes the state. With `lost` above 0 it asks the other voters what this one forgot.
@@ -81,6 +123,11 @@ func start(ctx context.Context, path string) error {
 	if err != nil {
 		return err
 	}
+	if err := checkApart(ctx, path, own.Data); ctx.Err() != nil {
+		return nil
+	} else if err != nil {
+		return err
+	}
 	link, err := transport.Connect(cluster, own.Access, "qlock-voter "+own.Voter)
 	if err != nil {
 		return err
@@ -102,6 +149,11 @@ func start(ctx context.Context, path string) error {
 			}
 		}()
 		defer server.Close()
+	}
+	ended := make(chan struct{})
+	defer close(ended)
+	if err := notify(daemon.IsLively, ended); err != nil {
+		return err
 	}
 	return daemon.Run(ctx)
 }

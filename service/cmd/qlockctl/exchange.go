@@ -6,7 +6,6 @@ import (
 	"fmt"
 	"os"
 	"path/filepath"
-	"time"
 
 	"calvundek.example/service/internal/config"
 	"calvundek.example/service/internal/exchange"
@@ -18,8 +17,9 @@ import (
 
 func exchangeCommand(ctx context.Context, s *settings) *cobra.Command {
 	return &cobra.Command{Use: "exchange COTERIE", Args: cobra.ExactArgs(1), Short: "Exchange the plan for one of another coterie",
-		Long: "Plans a coterie, writes the plan into the cluster's file beside that in use, and gives it to the voters. Each quorum " +
-			"of one coterie has to meet each quorum of the other, and each voter keeps its number. Clients use the new plan once the " +
+		Long: "Plans a coterie, gives the plan to the voters, and writes it into the cluster's file beside that in use, " +
+			"once a voter has it. Each quorum of one coterie has to meet each quorum of the other, and each voter keeps " +
+			"its number. Clients use the new plan once the " +
 			"voters that have it contain a quorum of each. If too few voters replied, start those that only the new coterie has, and " +
 			"call it again. Copy the cluster's file to all machines before `qlockctl retire`.",
 		RunE: func(_ *cobra.Command, args []string) error {
@@ -35,10 +35,10 @@ func exchangeCommand(ctx context.Context, s *settings) *cobra.Command {
 			if err != nil {
 				return fmt.Errorf("%s: %w", args[0], err)
 			}
-			if err := rewrite(s.cluster, next); err != nil {
-				return err
-			}
-			return s.lead(ctx, next, exchange.Install)
+			return s.lead(ctx, next, func(console *operator.Console) ([]operator.Reply, error) {
+				return exchange.Begin(ctx, cluster, next, console, s.timeout,
+					func(c *config.Cluster) error { return rewrite(s.cluster, c) })
+			})
 		}}
 }
 
@@ -52,22 +52,25 @@ func retireCommand(ctx context.Context, s *settings) *cobra.Command {
 			if err != nil {
 				return err
 			}
-			if err := s.lead(ctx, cluster, exchange.Retire); err != nil {
-				return err
-			}
-			return rewrite(s.cluster, exchange.Retired(cluster))
+			return s.lead(ctx, cluster, func(console *operator.Console) ([]operator.Reply, error) {
+				replies, err := exchange.Retire(ctx, cluster, console, s.timeout)
+				if err == nil {
+					err = rewrite(s.cluster, exchange.Retired(cluster))
+				}
+				return replies, err
+			})
 		}}
 }
 
 // lead makes one step of an exchange, and prints what the voters replied.
-func (s *settings) lead(ctx context.Context, cluster *config.Cluster,
-	step func(context.Context, *config.Cluster, *operator.Console, time.Duration) ([]operator.Reply, error)) error {
+func (s *settings) lead(ctx context.Context, cluster *config.Cluster, step func(*operator.Console) ([]operator.Reply,
+	error)) error {
 	link, err := transport.Connect(cluster, s.access, "qlockctl")
 	if err != nil {
 		return err
 	}
 	defer link.Close()
-	replies, err := step(ctx, cluster, operator.New(cluster, link), s.timeout)
+	replies, err := step(operator.New(cluster, link))
 	if s.json && replies != nil {
 		if printed := printJSON(replies); err == nil {
 			err = printed
@@ -75,13 +78,19 @@ func (s *settings) lead(ctx context.Context, cluster *config.Cluster,
 	} else if printed := printLines(replies, planned); err == nil {
 		err = printed
 	}
+	if err == nil {
+		err = verdict(replies, cluster.HasQuorums)
+	}
 	return err
 }
 
 // planned returns the line of a reply to a step of an exchange.
 func planned(r operator.Reply) (string, error) {
+	if len(r.Body) > 0 && r.Body[0] == '[' { // the sessions of a voter
+		return "", nil
+	}
 	var one voter.Planned
-	if err := json.Unmarshal(r.Body, &one); err != nil || r.Body[0] != '{' {
+	if err := json.Unmarshal(r.Body, &one); err != nil {
 		return "", err
 	}
 	return plans(one)[1:], nil

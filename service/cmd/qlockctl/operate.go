@@ -124,6 +124,24 @@ func complete(replies []operator.Reply) (err error) {
 	return fmt.Errorf("%w; %v", err, why)
 }
 
+// exitPartly is the exit status if a quorum of the voters did what they were asked, and not all.
+const exitPartly = 3
+
+// verdict returns nil if all voters did what they were asked. If those that did are enough, the exit
+// status says so.
+func verdict(replies []operator.Reply, isEnough func(voters uint64) bool) error {
+	err, did := complete(replies), uint64(0)
+	for _, r := range replies {
+		if r.Err == nil {
+			did |= 1 << r.Voter
+		}
+	}
+	if err != nil && isEnough(did) {
+		return status{exitPartly, err}
+	}
+	return err
+}
+
 // simple makes a command that asks all voters the same, and prints a line for each.
 func simple(ctx context.Context, s *settings, command *cobra.Command, words func(args []string) (string, error), line func(r operator.Reply) (string, error)) *cobra.Command {
 	command.RunE = func(_ *cobra.Command, args []string) error {
@@ -131,7 +149,7 @@ func simple(ctx context.Context, s *settings, command *cobra.Command, words func
 		if err != nil {
 			return err
 		}
-		return s.ask(ctx, func(ctx context.Context, _ *config.Cluster, console *operator.Console) error {
+		return s.ask(ctx, func(ctx context.Context, cluster *config.Cluster, console *operator.Console) error {
 			replies, err := console.Ask(ctx, text, console.All()...)
 			if err != nil {
 				return err
@@ -144,7 +162,7 @@ func simple(ctx context.Context, s *settings, command *cobra.Command, words func
 			if err != nil {
 				return err
 			}
-			return complete(replies)
+			return verdict(replies, cluster.HasQuorums)
 		})
 	}
 	return command
@@ -232,7 +250,7 @@ func unlock(ctx context.Context, s *settings, cluster *config.Cluster, console *
 	}
 	for _, mask := range votes {
 		if cluster.HasAny(mask) {
-			return letGoAll(ctx, s, console, lock, mask, grants)
+			return letGoAll(ctx, s, cluster, console, lock, mask, grants)
 		}
 	}
 	if err := complete(replies); err != nil {
@@ -241,7 +259,9 @@ func unlock(ctx context.Context, s *settings, cluster *config.Cluster, console *
 	return fmt.Errorf("%s: %w", lock, errFree)
 }
 
-func letGoAll(ctx context.Context, s *settings, console *operator.Console, lock string, mask uint64, grants map[int]uint64) error {
+// letGoAll lets the grants of these voters go. It is enough if a quorum of any plan did.
+func letGoAll(ctx context.Context, s *settings, cluster *config.Cluster, console *operator.Console, lock string,
+	mask uint64, grants map[int]uint64) error {
 	var all []operator.Reply
 	for ; mask != 0; mask &= mask - 1 {
 		one := bits.TrailingZeros64(mask)
@@ -258,7 +278,7 @@ func letGoAll(ctx context.Context, s *settings, console *operator.Console, lock 
 	} else if err := printLines(all, letGo); err != nil {
 		return err
 	}
-	return complete(all)
+	return verdict(all, cluster.HasAny)
 }
 
 // use is how often a voter is asked: its share by the plan, and its share of the grants.
@@ -301,7 +321,7 @@ func reportCommand(ctx context.Context, s *settings) *cobra.Command {
 				if err != nil {
 					return err
 				}
-				return complete(replies)
+				return verdict(replies, cluster.HasQuorums)
 			})
 		}}
 }

@@ -35,6 +35,35 @@ func TestComplete(t *testing.T) {
 	}
 }
 
+// The exit status tells whether all voters did it, a quorum, or fewer.
+func TestVerdict(t *testing.T) {
+	c := worlds.NewCluster(t, worlds.Majority, time.Second)
+	good, silent := func(v int) operator.Reply { return operator.Reply{Voter: v} }, operator.Reply{Voter: 2,
+		Name: "c", Err: operator.ErrSilent}
+	if err := verdict([]operator.Reply{good(0), good(1), good(2)}, c.HasQuorums); err != nil {
+		t.Error(err)
+	}
+	var got status
+	if err := verdict([]operator.Reply{good(0), good(1), silent}, c.HasQuorums); !errors.As(err, &got) ||
+		got.code != exitPartly || !errors.Is(err, errSilent) {
+		t.Error(err)
+	}
+	if err := verdict([]operator.Reply{good(0), silent, silent}, c.HasQuorums); errors.As(err, &got) && got.code == exitPartly &&
+		err == error(got) || err == nil {
+		t.Error(err)
+	}
+}
+
+// The line of a reply to a step of an exchange says which plans there are. One with sessions says
+// nothing.
+func TestPlanned(t *testing.T) {
+	for body, want := range map[string]string{`{"generation":2,"oldest":1}`: "plan=2 old=1", `[{"name":"x"}]`: ""} {
+		if got, err := planned(operator.Reply{Body: []byte(body)}); got != want || err != nil {
+			t.Errorf("%s: %q, %v", body, got, err)
+		}
+	}
+}
+
 // A lock is let go whoever has it. That nobody has it is said only if all voters say so.
 func TestUnlock(t *testing.T) {
 	w := worlds.New(t, worlds.Majority, 5*time.Second)
@@ -65,8 +94,16 @@ func TestUnlock(t *testing.T) {
 	case <-time.After(5 * time.Second):
 		t.Error("a lock that was let go is held")
 	}
-	w.Stop(1)
 	w.Stop(2)
+	var got status
+	brief, end := context.WithTimeout(ctx, time.Second)
+	defer end()
+	votes := map[int]uint64{0: 1, 1: 1, 2: 1}
+	if err := letGoAll(brief, s, w.Cluster, w.Console(), "x", 0b111, votes); !errors.As(err, &got) ||
+		got.code != exitPartly {
+		t.Errorf("two of three let it go: %v", err)
+	}
+	w.Stop(1)
 	if err := ask(); !errors.Is(err, errSilent) || errors.Is(err, errFree) || !strings.HasSuffix(err.Error(), "did not reply: b, c") {
 		t.Error(err)
 	}

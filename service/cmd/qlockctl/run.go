@@ -8,9 +8,11 @@ import (
 	"os"
 	"os/exec"
 	"runtime"
+	"strings"
 	"syscall"
 	"time"
 
+	"calvundek.example/service/internal/config"
 	"calvundek.example/service/locks"
 	"github.com/spf13/cobra"
 )
@@ -29,6 +31,7 @@ var errLost = errors.New("the lock may be somebody else's, and the program was e
 func runCommand(ctx context.Context, s *settings) *cobra.Command {
 	var wait, grace time.Duration
 	var prefix string
+	var err error
 	command := &cobra.Command{Use: "run LOCK PROGRAM [ARGUMENT..]", Args: cobra.MinimumNArgs(2), Short: "Run a program that needs a lock",
 		Long: "Takes a lock, runs a program, and gives the lock back. The program finds its pass in QLOCK_PASS, in hexadecimal: " +
 			"what it shows to the guard. If the lock may be lost, the program and all processes of its group get SIGTERM, and " +
@@ -37,20 +40,46 @@ func runCommand(ctx context.Context, s *settings) *cobra.Command {
 			"lock may have been lost, 78 if the settings or the lock's name can't be used, 126 if the program can't be " +
 			"started, or 127 if there is none.",
 		RunE: func(_ *cobra.Command, args []string) error {
+			if grace, err = graceWithin(s.cluster, grace); err != nil {
+				return status{exitSettings, err}
+			}
 			return run(ctx, s.client(prefix), wait, grace, args[0], args[1:])
 		}}
 	command.Flags().DurationVar(&wait, "wait", time.Minute, "how long to wait for the lock")
-	command.Flags().DurationVar(&grace, "grace", time.Second, "how long after SIGTERM SIGKILL is sent")
+	command.Flags().DurationVar(&grace, "grace", 0,
+		"how long after SIGTERM SIGKILL is sent; a tenth of the TTL, and at most 1s, if it is 0")
 	command.Flags().StringVar(&prefix, "prefix", "", "the first part of the session's name, as the user's permissions need it")
 	command.Flags().SetInterspersed(false)
 	return command
 }
 
+// graceWithin returns for how long a program may go on after SIGTERM: a tenth of the TTL at most,
+// which is half of what is left of the TTL when the lock may be lost.
+func graceWithin(path string, grace time.Duration) (time.Duration, error) {
+	cluster, err := config.ReadCluster(path)
+	if err != nil {
+		return 0, err
+	}
+	most := cluster.TTL.Duration / 10
+	switch {
+	case grace > most:
+		return 0,
+			fmt.Errorf("--grace is %v, and may be %v at most, a tenth of the cluster's ttl: "+
+				"the next one enters a ttl after the last heartbeat", grace, most)
+	case grace > 0:
+		return grace, nil
+	case most > time.Second:
+		return time.Second, nil
+	}
+	return most, nil
+}
+
 // run runs a program under a lock.
-func run(ctx context.Context, config locks.Config, wait, grace time.Duration, lock string, words []string) (err error) {
+func run(ctx context.Context, settings locks.Config, wait, grace time.Duration, lock string,
+	words []string) (err error) {
 	limit, cancel := context.WithTimeout(ctx, wait)
 	defer cancel()
-	client, err := locks.Open(limit, config)
+	client, err := locks.Open(limit, settings)
 	if err != nil {
 		return withoutLock(limit, err)
 	}
@@ -63,7 +92,9 @@ func run(ctx context.Context, config locks.Config, wait, grace time.Duration, lo
 	}()
 	held, err := client.Lock(limit, lock)
 	if errors.Is(err, context.DeadlineExceeded) {
-		return status{exitNoLock, fmt.Errorf("%s: somebody else had the lock for %v", lock, wait)}
+		return status{exitNoLock, notToBeHad(client, lock, wait)}
+	} else if errors.Is(err, locks.ErrFull) {
+		return status{exitNoLock, err}
 	} else if err != nil {
 		return withoutLock(limit, fmt.Errorf("%s: %w", lock, err))
 	}
@@ -82,6 +113,16 @@ func run(ctx context.Context, config locks.Config, wait, grace time.Duration, lo
 		return status{code: code}
 	}
 	return nil
+}
+
+// notToBeHad says why a lock was not to be had in time, as far as this client knows: voters that
+// are silent may be why.
+func notToBeHad(client *locks.Client, lock string, wait time.Duration) error {
+	if silent := client.Silent(); len(silent) > 0 {
+		return fmt.Errorf("%s: the lock was not to be had for %v; these voters are silent: %s", lock, wait,
+			strings.Join(silent, ", "))
+	}
+	return fmt.Errorf("%s: somebody else had the lock for %v", lock, wait)
 }
 
 // withoutLock returns the status of a command that has no lock: 75 if its time or its session is over, and 78 if another

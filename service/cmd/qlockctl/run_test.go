@@ -157,3 +157,34 @@ func TestStatusOfRun(t *testing.T) {
 		}
 	}
 }
+
+// A program ends before the next one enters: its grace is within what is left of the TTL.
+func TestGraceIsWithinTheTTL(t *testing.T) {
+	for _, one := range []struct{ ttl, grace, want time.Duration }{
+		{10 * time.Second, 0, time.Second},
+		{2 * time.Second, 0, 200 * time.Millisecond},
+		{2 * time.Second, 100 * time.Millisecond, 100 * time.Millisecond},
+		{time.Minute, 6 * time.Second, 6 * time.Second},
+		{2 * time.Second, time.Second, 0},
+	} {
+		text, err := worlds.NewCluster(t, worlds.Majority, one.ttl).Text()
+		if err != nil {
+			t.Fatal(err)
+		}
+		path := filepath.Join(t.TempDir(), "cluster.toml")
+		if err := os.WriteFile(path, text, 0o600); err != nil {
+			t.Fatal(err)
+		}
+		if got, err := graceWithin(path, one.grace); got != one.want || (err != nil) != (one.want == 0) {
+			t.Errorf("ttl %v, grace %v: %v, %v", one.ttl, one.grace, got, err)
+		}
+		if one.want == 0 {
+			root := command(context.Background())
+			root.SetArgs([]string{"run", "--cluster", path, "--grace", one.grace.String(), "x", "true"})
+			var got status
+			if err := root.Execute(); !errors.As(err, &got) || got.code != exitSettings {
+				t.Errorf("%v", err)
+			}
+		}
+	}
+}

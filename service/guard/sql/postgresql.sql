@@ -6,7 +6,16 @@
 --     COMMIT;
 --
 -- A pass has 512 bytes: for each of 64 voters the number of a grant, 8 bytes, the lowest first (locks.Held.Token).
+--
+-- Run this as the owner of the guards, in a schema where nobody else may create anything. Who writes the data needs no right but
+-- to call qlock_admit, which runs with the owner's rights:
+--
+--     INSERT INTO qlock_guard (name) VALUES ('orders');        -- once, by the owner
+--     GRANT EXECUTE ON FUNCTION qlock_admit(text, bytea) TO writer;
+--
+-- So whoever may write can't reset a guard.
 
+BEGIN;
 CREATE TABLE qlock_guard (
     name text PRIMARY KEY,
     turn bigint NOT NULL DEFAULT 0,              -- the turn of the last pass that was admitted
@@ -22,7 +31,7 @@ $$;
 -- Admits a pass, and returns its turn: the same for all shows of one pass, and greater for each later one, as long as only
 -- passes are shown that clients had. The row is locked until the transaction ends, so two writers come one after the other.
 CREATE FUNCTION qlock_admit(guard text, pass bytea) RETURNS bigint
-LANGUAGE plpgsql AS $$
+LANGUAGE plpgsql SECURITY DEFINER AS $$
 DECLARE
     last qlock_guard;
     shown bigint[];
@@ -48,3 +57,19 @@ BEGIN
     RETURN last.turn + 1;
 END
 $$;
+
+-- The function looks for what it names here, whatever its caller's path, and never among the caller's temporary tables. Who may
+-- create functions here could make one that is called in place of one of PostgreSQL's, with the owner's rights.
+DO $$
+BEGIN
+    IF EXISTS (SELECT 1 FROM pg_namespace, aclexplode(nspacl) AS a WHERE nspname = current_schema() AND a.privilege_type = 'CREATE'
+            AND a.grantee NOT IN (nspowner, current_user::regrole)) THEN
+        RAISE EXCEPTION 'qlock: others may create functions in schema %', current_schema()
+            USING HINT = 'Make a schema for the guards: CREATE SCHEMA qlock; SET search_path = qlock;';
+    END IF;
+    EXECUTE format('ALTER FUNCTION qlock_admit(text, bytea) SET search_path = pg_catalog, %I, pg_temp', current_schema());
+END
+$$;
+REVOKE ALL ON qlock_guard FROM PUBLIC;
+REVOKE ALL ON FUNCTION qlock_admit(text, bytea) FROM PUBLIC;
+COMMIT;

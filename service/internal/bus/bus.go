@@ -9,17 +9,25 @@ import (
 
 // Bus connects ports.
 type Bus struct {
-	Lost, Twice, Late int // of 100 messages
-	Latest            time.Duration
+	Latest time.Duration
 
-	mutex  sync.Mutex
-	boxes  map[string]chan []byte
-	random *rand.Rand
+	mutex             sync.Mutex
+	lost, twice, late int // of 100 messages
+	boxes             map[string]chan []byte
+	random            *rand.Rand
+	dropped           uint64
 }
 
 // New returns a bus that loses nothing.
 func New(seed int64) *Bus {
 	return &Bus{boxes: map[string]chan []byte{}, random: rand.New(rand.NewSource(seed)), Latest: 50 * time.Millisecond}
+}
+
+// Noise lets so many of 100 messages be lost, repeated, and delayed from now on.
+func (b *Bus) Noise(lost, twice, late int) {
+	b.mutex.Lock()
+	defer b.mutex.Unlock()
+	b.lost, b.twice, b.late = lost, twice, late
 }
 
 // Port is the end of a bus that one process has. It is a transport.Transport and a transport.Link.
@@ -61,18 +69,38 @@ func (p *Port) Listen(mailbox string) (<-chan []byte, error) {
 	return box, nil
 }
 
+// Leave ends a mailbox.
+func (p *Port) Leave(mailbox string) {
+	p.bus.mutex.Lock()
+	defer p.bus.mutex.Unlock()
+	delete(p.bus.boxes, mailbox)
+	for i, mine := range p.mine {
+		if mine == mailbox {
+			p.mine = append(p.mine[:i], p.mine[i+1:]...)
+			return
+		}
+	}
+}
+
+// Boxes returns how many mailboxes there are.
+func (b *Bus) Boxes() int {
+	b.mutex.Lock()
+	defer b.mutex.Unlock()
+	return len(b.boxes)
+}
+
 // Send sends a message.
 func (p *Port) Send(mailbox string, message []byte) error {
 	p.bus.mutex.Lock()
 	defer p.bus.mutex.Unlock()
-	if p.cut || p.bus.occurs(p.bus.Lost) {
+	if p.cut || p.bus.occurs(p.bus.lost) {
 		return nil
 	}
 	message = append([]byte(nil), message...)
-	if p.bus.occurs(p.bus.Twice) {
+	if p.bus.occurs(p.bus.twice) {
 		p.bus.later(mailbox, message)
 	}
-	if p.bus.occurs(p.bus.Late) {
+	if p.bus.occurs(p.bus.late) {
 		p.bus.later(mailbox, message)
 	} else {
 		p.bus.post(mailbox, message)
@@ -94,6 +122,23 @@ func (p *Port) Returns() uint64 {
 	return p.returns
 }
 
+// Waiting returns how many messages wait in the port's mailboxes.
+func (p *Port) Waiting() (count int) {
+	p.bus.mutex.Lock()
+	defer p.bus.mutex.Unlock()
+	for _, mailbox := range p.mine {
+		count += len(p.bus.boxes[mailbox])
+	}
+	return count
+}
+
+// Dropped returns how many messages found no room on the bus.
+func (p *Port) Dropped() uint64 {
+	p.bus.mutex.Lock()
+	defer p.bus.mutex.Unlock()
+	return p.bus.dropped
+}
+
 func (b *Bus) occurs(percent int) bool { return b.random.Intn(100) < percent }
 
 // post puts a message into a mailbox. It is lost if nobody listens, or there is no room.
@@ -101,6 +146,7 @@ func (b *Bus) post(mailbox string, message []byte) {
 	select {
 	case b.boxes[mailbox] <- message:
 	default:
+		b.dropped++
 	}
 }
 

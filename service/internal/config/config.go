@@ -24,6 +24,10 @@ var (
 	ErrBridge = errors.New("some quorum of the old plan has no common voter with some quorum of the new one")
 )
 
+// shortestTTL is the shortest TTL: what delays a client's word beside a busy machine is to be small
+// beside the margin of a lease.
+const shortestTTL = time.Second
+
 // Duration is a time that is written as "250ms".
 type Duration struct{ time.Duration }
 
@@ -93,8 +97,8 @@ func (c *Cluster) Check() (err error) {
 		return fmt.Errorf("%w: id is %q, and has to be 1 to 32 letters, digits, - and _", ErrConfig, c.ID)
 	case len(c.Servers) == 0:
 		return fmt.Errorf("%w: there are no servers", ErrConfig)
-	case c.TTL.Duration < 200*time.Millisecond:
-		return fmt.Errorf("%w: ttl is %v, and has to be 200ms or longer", ErrConfig, c.TTL)
+	case c.TTL.Duration < shortestTTL:
+		return fmt.Errorf("%w: ttl is %v, and has to be %v or longer", ErrConfig, c.TTL, shortestTTL)
 	}
 	if c.Planned, err = qlock.ReadPlan(c.Coterie, c.Plan); err != nil {
 		return fmt.Errorf("%w: %v", ErrConfig, err)
@@ -156,9 +160,18 @@ func (c *Cluster) HasAny(voters uint64) bool {
 // Marks returns what messages say of the plan, and of the one before it while it is exchanged.
 func (c *Cluster) Marks() []string {
 	if c.OldPlanned == nil {
-		return []string{Mark(c.Generation, c.Coterie)}
+		return []string{c.Mark(Mark(c.Generation, c.Coterie))}
 	}
-	return []string{Mark(c.Generation, c.Coterie), Mark(c.Generation-1, c.OldCoterie)}
+	return []string{c.Mark(Mark(c.Generation, c.Coterie)), c.Mark(Mark(c.Generation-1, c.OldCoterie))}
+}
+
+// Mark returns what messages say of the plan with this mark, "" for none: it has the TTL, too. Who
+// has another one drops the message.
+func (c *Cluster) Mark(plan string) string {
+	if plan == "" {
+		return ""
+	}
+	return Hash(c.TTL.String() + " " + plan)
 }
 
 // Text returns the text of a cluster's file.
@@ -205,8 +218,8 @@ func Hash(text string) string {
 	return hex.EncodeToString(sum[:6])
 }
 
-// Mark returns what a message says of a coterie, and of how often the plan was exchanged before it. Who has another one
-// drops the message.
+// Mark returns the mark of a plan: of its coterie, and of how often the plan was exchanged before
+// it.
 func Mark(generation uint64, coterie string) string {
 	if generation == 0 {
 		return Hash(coterie)

@@ -21,6 +21,7 @@ var (
 	ErrSame     = errors.New("this is the coterie of the plan in use")
 	ErrUnderWay = errors.New("another plan is being exchanged: retire the old one first")
 	ErrFew      = errors.New("those that did are not enough; do it again")
+	ErrWould    = errors.New("would take the plan, and was not given it")
 )
 
 // Next returns the settings of a cluster with a plan of another coterie beside that in use. The coterie of an exchange that is
@@ -46,19 +47,77 @@ func Next(c *config.Cluster, coterie string) (*config.Cluster, error) {
 	return &next, next.Check()
 }
 
-// Install gives the voters the new plan, and waits so long for them. It is done once those that have it contain a quorum of each plan: clients then ask by
-// it.
+// Begin begins an exchange from one plan to the next, and waits so long for voters each time. First
+// it settles the plan in use: a voter that was made anew since the last exchange refuses the next
+// one until then. Once a voter has the next plan the settings are written, so that new voters can
+// be started, and it can be done again. If none has it, nothing is written.
+func Begin(ctx context.Context, c, next *config.Cluster, console *operator.Console, patience time.Duration,
+	write func(*config.Cluster) error) ([]operator.Reply, error) {
+	if c.OldPlanned == nil && c.Generation > 0 {
+		if replies, err := Settle(ctx, c, console, patience); err != nil {
+			return replies, fmt.Errorf("the plan in use is not settled: %w", err)
+		}
+	}
+	replies, err := Install(ctx, next, console, patience)
+	if done(replies) != 0 {
+		if written := write(next); written != nil {
+			return replies, written
+		}
+	}
+	return replies, err
+}
+
+// Install gives the voters the new plan, and waits so long for them. It is done once those that
+// have it contain a quorum of each plan: clients then ask by it. Unless those that would take it
+// contain a quorum of the old plan, it gives the plan to nobody: one voter that takes the plan of
+// somebody else's exchange is lost to the cluster.
 func Install(ctx context.Context, c *config.Cluster, console *operator.Console, patience time.Duration) ([]operator.Reply, error) {
 	encode := base64.StdEncoding.EncodeToString
-	words := fmt.Sprintf("exchange %d %s %s", c.Generation, encode([]byte(c.Coterie)), encode([]byte(c.Plan)))
-	replies, err := ask(ctx, console, patience, words, console.All()...)
+	words := fmt.Sprintf("%d %s %s", c.Generation, encode([]byte(c.Coterie)), encode([]byte(c.Plan)))
+	would, err := ask(ctx, console, patience, "would "+words, console.All()...)
 	if err != nil {
 		return nil, err
+	}
+	if c.OldPlanned != nil && !c.OldPlanned.HasQuorum(done(would)) {
+		err := fewer(would)
+		for i := range would {
+			if would[i].Err == nil {
+				would[i].Err = ErrWould
+			}
+		}
+		return would, err
+	}
+	replies, err := ask(ctx, console, patience, "exchange "+words, console.All()...)
+	if err != nil {
+		return nil, err
+	}
+	if err := inform(ctx, c, console, patience, members(done(replies))); err != nil {
+		return replies, err
 	}
 	if !c.HasQuorums(done(replies)) {
 		return replies, fewer(replies)
 	}
 	return replies, nil
+}
+
+// inform lets voters know what others of them keep of sessions. A new voter knows no stamp, and takes
+// great ones only bit by bit: so it lags behind nobody.
+func inform(ctx context.Context, c *config.Cluster, console *operator.Console, patience time.Duration,
+	voters []int) error {
+	replies, err := ask(ctx, console, patience, "sessions", voters...)
+	if err != nil {
+		return err
+	}
+	sessions, _, err := voter.Merge(replies)
+	if err != nil {
+		return err
+	}
+	text, err := json.Marshal(sessions)
+	if err != nil {
+		return err
+	}
+	_, err = ask(ctx, console, patience, fmt.Sprintf("inform %d %s %s", c.Generation, mark(c), text), voters...)
+	return err
 }
 
 // ask asks voters, and waits for so long.
@@ -75,22 +134,51 @@ func Retired(c *config.Cluster) *config.Cluster {
 	return &next
 }
 
-// Retire takes the old plan out of use. Voters that contain a quorum of each plan refuse it, and then a quorum of the new one
-// takes what these know of sessions. Each quorum of the old plan meets those that refuse it. So what was reserved by the
-// old plan alone is known to a quorum of the new one, before the next exchange.
+// Retire takes the old plan out of use. Voters that contain a quorum of each plan refuse it, and
+// then a quorum of the new one takes what these know of sessions. Each quorum of the old plan meets
+// those that refuse it. So what was reserved by the old plan alone is known to a quorum of the new
+// one, before the next exchange. Unless quorums of both plans can, nothing changes.
 func Retire(ctx context.Context, c *config.Cluster, console *operator.Console, patience time.Duration) ([]operator.Reply, error) {
-	ask := func(words string, voters ...int) ([]operator.Reply, error) {
-		return ask(ctx, console, patience, words, voters...)
-	}
-	replies, err := ask(fmt.Sprintf("retire %d", c.Generation), console.All()...)
+	ready, err := each(ctx, c, console, patience, "ready", console.All())
 	if err != nil {
-		return nil, err
+		return ready, err
 	}
-	retired := done(replies)
-	if !c.HasQuorums(retired) {
-		return replies, fewer(replies)
+	replies, err := each(ctx, c, console, patience, "retire", console.All())
+	if err != nil {
+		return replies, err
 	}
-	replies, err = ask("sessions", members(retired)...)
+	settled, err := settle(ctx, c, console, patience, members(done(replies)))
+	return merged(replies, settled), err
+}
+
+// each asks voters to do something with a plan that has this number and mark, and returns an error
+// unless quorums of both plans did.
+func each(ctx context.Context, c *config.Cluster, console *operator.Console, patience time.Duration, word string,
+	voters []int) ([]operator.Reply, error) {
+	replies, err := ask(ctx, console, patience, fmt.Sprintf("%s %d %s", word, c.Generation, mark(c)), voters...)
+	if err == nil && !c.HasQuorums(done(replies)) {
+		err = fewer(replies)
+	}
+	return replies, err
+}
+
+// mark returns the mark of a cluster's plan.
+func mark(c *config.Cluster) string { return config.Mark(c.Generation, c.Coterie) }
+
+// Settle lets a quorum of the plan in use know what was reserved by the plans before it.
+func Settle(ctx context.Context, c *config.Cluster, console *operator.Console,
+	patience time.Duration) ([]operator.Reply, error) {
+	var all []int
+	for voter := range c.Names() {
+		all = append(all, voter)
+	}
+	return settle(ctx, c, console, patience, all)
+}
+
+// settle reads what voters know of sessions, and lets them know all of it.
+func settle(ctx context.Context, c *config.Cluster, console *operator.Console, patience time.Duration,
+	voters []int) ([]operator.Reply, error) {
+	replies, err := ask(ctx, console, patience, "sessions", voters...)
 	if err != nil {
 		return nil, err
 	}
@@ -105,14 +193,24 @@ func Retire(ctx context.Context, c *config.Cluster, console *operator.Console, p
 	if err != nil {
 		return nil, err
 	}
-	replies, err = ask(fmt.Sprintf("settle %d %s", c.Generation, text), members(retired)...)
-	if err != nil {
-		return nil, err
+	replies, err = ask(ctx, console, patience, fmt.Sprintf("settle %d %s %s", c.Generation, mark(c), text), voters...)
+	if err == nil && !c.Planned.HasQuorum(done(replies)) {
+		err = fewer(replies)
 	}
-	if !c.Planned.HasQuorum(done(replies)) {
-		return replies, fewer(replies)
+	return replies, err
+}
+
+// merged returns replies, with later ones in the place of those of the same voters.
+func merged(replies, later []operator.Reply) []operator.Reply {
+	all := append([]operator.Reply(nil), replies...)
+	for _, reply := range later {
+		for i := range all {
+			if all[i].Voter == reply.Voter {
+				all[i] = reply
+			}
+		}
 	}
-	return replies, nil
+	return all
 }
 
 // done returns the voters that did what they were asked.

@@ -13,7 +13,7 @@ import (
 const serverAddress = "10.77.255.1"
 
 // Island is the network namespace of one process, with one cable to the servers. It needs root and iproute2, and nftables
-// for one direction.
+// for one direction and for losses.
 type Island struct {
 	name, cable string
 	number      int
@@ -29,10 +29,10 @@ func ip(lines string) error {
 	return nil
 }
 
-// newIsland makes a namespace, from which the servers can be reached.
-func newIsland(number int) (*Island, error) {
+// newIsland makes a namespace, from which the servers can be reached. It loses some of 100 packets.
+func newIsland(number, loss int) (*Island, error) {
 	i := &Island{fmt.Sprintf("qlock-%d-%d", os.Getpid(), number), fmt.Sprintf("ql%d-%d", os.Getpid(), number), number}
-	return i, ip(fmt.Sprintf(`netns add %[1]s
+	err := ip(fmt.Sprintf(`netns add %[1]s
 		link add %[2]s type veth peer name eth0 netns %[1]s
 		addr add 10.77.%[3]d.1/30 dev %[2]s
 		link set %[2]s up
@@ -40,6 +40,23 @@ func newIsland(number int) (*Island, error) {
 		-n %[1]s addr add 10.77.%[3]d.2/30 dev eth0
 		-n %[1]s link set eth0 up
 		-n %[1]s route add default via 10.77.%[3]d.1`, i.name, i.cable, number))
+	if err != nil || loss == 0 {
+		return i, err
+	}
+	return i, i.filter(fmt.Sprintf(`add table inet loss
+		add chain inet loss out { type filter hook output priority 1; policy accept; }
+		add chain inet loss in { type filter hook input priority 1; policy accept; }
+		add rule inet loss out numgen random mod 100 < %[1]d drop
+		add rule inet loss in numgen random mod 100 < %[1]d drop`, loss))
+}
+
+// filter gives commands to the packet filter of the island.
+func (i *Island) filter(rules string) error {
+	words := i.within([]string{"nft", rules})
+	if out, err := exec.Command(words[0], words[1:]...).CombinedOutput(); err != nil {
+		return fmt.Errorf("nft: %s", bytes.TrimSpace(out))
+	}
+	return nil
 }
 
 // remove removes the namespace, and with it its cable.
@@ -55,14 +72,10 @@ func (i *Island) Cut(cut bool) error {
 
 // Mute drops all that leaves the island, while what comes to it arrives, or ends that.
 func (i *Island) Mute(mute bool) error {
-	rules := "add table inet qlock; add chain inet qlock out { type filter hook output priority 0; policy drop; }"
 	if !mute {
-		rules = "delete table inet qlock"
+		return i.filter("delete table inet qlock")
 	}
-	if out, err := exec.Command("ip", "netns", "exec", i.name, "nft", rules).CombinedOutput(); err != nil {
-		return fmt.Errorf("nft: %s", bytes.TrimSpace(out))
-	}
-	return nil
+	return i.filter("add table inet qlock; add chain inet qlock out { type filter hook output priority 0; policy drop; }")
 }
 
 // within returns the words that run a program on the island.

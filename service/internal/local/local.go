@@ -5,6 +5,7 @@ package local
 import (
 	"bytes"
 	"context"
+	"encoding/json"
 	"errors"
 	"fmt"
 	"net"
@@ -30,23 +31,24 @@ type Process struct {
 	ended   chan struct{} // closed when it has ended
 }
 
-// Start starts the process, which is not running.
+// Start starts the process, which is not running. If that fails, the process is as before: never
+// started, or ended.
 func (p *Process) Start() error {
 	words := p.words
 	if p.Island != nil {
 		words = p.within(words)
 	}
-	p.run = exec.Command(words[0], words[1:]...)
+	run := exec.Command(words[0], words[1:]...)
 	out, err := os.OpenFile(p.log, os.O_WRONLY|os.O_CREATE|os.O_APPEND, 0o644)
 	if err != nil {
 		return err
 	}
 	defer out.Close()
-	p.run.Stdout, p.run.Stderr = out, out
-	if err := p.run.Start(); err != nil {
-		return err
+	run.Stdout, run.Stderr = out, out
+	if err := run.Start(); err != nil {
+		return err // the run before, if there was one, stays the last one
 	}
-	p.ended = make(chan struct{})
+	p.run, p.ended = run, make(chan struct{})
 	go func(run *exec.Cmd, ended chan struct{}) {
 		_ = run.Wait()
 		close(ended)
@@ -56,6 +58,9 @@ func (p *Process) Start() error {
 
 // Kill ends the process at once, and waits until it is gone.
 func (p *Process) Kill() {
+	if p.run == nil || p.ended == nil {
+		return // it was never started
+	}
 	_ = p.run.Process.Kill()
 	<-p.ended
 }
@@ -91,9 +96,11 @@ type Cluster struct {
 	Settings          *config.Cluster
 	names             []string // of all voters that were ever there
 	Servers, Voters   []*Process
-	Listen            []string // where the voters' numbers are
+	Listen            []string   // where the voters' numbers are
+	made              []*Process // all voters that were ever there: those of Voters, then those that were dismissed
 	all               []*Process
 	islands           bool
+	loss              int
 	cleanUp           []func()
 }
 
@@ -103,6 +110,7 @@ type Options struct {
 	TTL                  time.Duration
 	Islands              bool // voters and clients have network namespaces of their own, which needs root
 	SmallDisk            bool // the first voter has a disk that is soon full, which needs root
+	Loss                 int  // how many of 100 packets are lost on each island, in each direction
 }
 
 // Start makes a cluster in a new folder, and starts it.
@@ -125,7 +133,7 @@ func (c *Cluster) start(o Options) error {
 		if err != nil {
 			return err
 		}
-		c.islands, c.cleanUp, address = true, append(c.cleanUp, remove), serverAddress
+		c.islands, c.loss, c.cleanUp, address = true, o.Loss, append(c.cleanUp, remove), serverAddress
 	}
 	urls, err := c.startServers(address)
 	if err != nil {
@@ -159,12 +167,18 @@ func (c *Cluster) read() (err error) {
 	return err
 }
 
-// grow makes and starts the voters that are not there yet.
+// grow starts the voters that are not there. One that comes back has its state, and the others get
+// one.
 func (c *Cluster) grow() error {
 	for i := len(c.Voters); i < len(c.names); i++ {
-		if err := c.startVoter(i); err != nil {
+		start := func() error { return c.makeVoter(i) }
+		if i < len(c.made) {
+			start = c.made[i].Start
+		}
+		if err := start(); err != nil {
 			return err
 		}
+		c.Voters = c.made[:i+1]
 	}
 	return nil
 }
@@ -184,12 +198,12 @@ func (c *Cluster) Exchange(coterie string) error {
 
 // Install gives the voters the new plan. It may be called again.
 func (c *Cluster) Install(coterie string) error {
-	return c.command("qlockctl", "exchange", "-c", c.File, "--timeout", "1s", coterie)
+	return c.operate("exchange", "-c", c.File, "--timeout", "1s", coterie)
 }
 
 // Retire takes the old plan out of use.
 func (c *Cluster) Retire() error {
-	return c.command("qlockctl", "retire", "-c", c.File, "--timeout", "1s")
+	return c.operate("retire", "-c", c.File, "--timeout", "1s")
 }
 
 // Dismiss ends the voters that the plan does not have any more.
@@ -202,6 +216,23 @@ func (c *Cluster) Dismiss() {
 		c.Voters[last].Kill()
 		c.Voters = c.Voters[:last]
 	}
+}
+
+// LetGo orders `evict NUMBER` or `unlock LOCK` as an operator does, and returns how many grants the
+// voters let go. Those that are away do not hear of it.
+func (c *Cluster) LetGo(words ...string) (total int) {
+	words = append(words, "-c", c.File, "--json", "--timeout", "1s")
+	out, _ := exec.Command(filepath.Join(c.Bin, "qlockctl"), words...).Output() // it fails if a voter is away
+	var answers []struct {
+		Reply struct {
+			LetGo int `json:"let_go"`
+		} `json:"reply"`
+	}
+	_ = json.Unmarshal(out, &answers) // nobody has the lock, or nobody replied
+	for _, one := range answers {
+		total += one.Reply.LetGo
+	}
+	return total
 }
 
 func (c *Cluster) startServers(address string) (urls []string, err error) {
@@ -237,7 +268,8 @@ func NATSServer() (string, error) {
 	return exec.LookPath("/usr/sbin/nats-server")
 }
 
-func (c *Cluster) startVoter(i int) error {
+// makeVoter makes a voter's state, and starts the voter.
+func (c *Cluster) makeVoter(i int) error {
 	ports, err := FreePorts(1)
 	if err != nil {
 		return err
@@ -250,7 +282,9 @@ func (c *Cluster) startVoter(i int) error {
 		return err
 	}
 	voter, err := c.Process(c.names[i], filepath.Join(c.Bin, "qlock-voter"), "start", "-c", c.VoterFile(i))
-	c.Voters = append(c.Voters, voter)
+	if err == nil {
+		c.made = append(c.made, voter)
+	}
 	return err
 }
 
@@ -273,11 +307,22 @@ func (c *Cluster) InitVoter(i int) error {
 	return c.command("qlock-voter", "init", "-c", c.VoterFile(i))
 }
 
+// operate runs an operator's command. That a quorum of the voters did it and not all is no error.
+func (c *Cluster) operate(words ...string) error {
+	const partly = 3
+	err := c.command("qlockctl", words...)
+	var exit *exec.ExitError
+	if errors.As(err, &exit) && exit.ExitCode() == partly {
+		return nil
+	}
+	return err
+}
+
 // command runs a program of the service.
 func (c *Cluster) command(name string, words ...string) error {
 	out, err := exec.Command(filepath.Join(c.Bin, name), words...).CombinedOutput()
 	if err != nil {
-		return fmt.Errorf("%s: %v: %s", name, err, bytes.TrimSpace(out))
+		return fmt.Errorf("%s: %w: %s", name, err, bytes.TrimSpace(out))
 	}
 	return nil
 }
@@ -298,7 +343,7 @@ func (c *Cluster) Process(name string, words ...string) (*Process, error) {
 	if !c.islands {
 		return c.process(name, nil, words...)
 	}
-	island, err := newIsland(len(c.all))
+	island, err := newIsland(len(c.all), c.loss)
 	c.cleanUp = append(c.cleanUp, island.remove)
 	if err != nil {
 		return nil, err

@@ -49,6 +49,7 @@ func (c *Console) Ask(ctx context.Context, words string, voters ...int) ([]Reply
 	if err := c.listen(); err != nil {
 		return nil, err
 	}
+	defer c.leave()
 	replies := map[int][]byte{}
 	for wait := 100 * time.Millisecond; len(replies) < len(voters) && ctx.Err() == nil; wait *= 2 {
 		c.send(words, voters, replies)
@@ -76,6 +77,13 @@ func (c *Console) listen() (err error) {
 	}
 	c.replies, err = c.carrier.Listen(wire.OperatorBox(c.cluster.ID, c.header.Name))
 	return err
+}
+
+// leave forgets the mailbox of a question.
+func (c *Console) leave() {
+	if leaver, ok := c.carrier.(transport.Leaver); ok {
+		leaver.Leave(wire.OperatorBox(c.cluster.ID, c.header.Name))
+	}
 }
 
 // send asks those that did not reply, by each plan.

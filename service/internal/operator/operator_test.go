@@ -47,3 +47,19 @@ func TestFirstReplyCounts(t *testing.T) {
 		}
 	}
 }
+
+// A console leaves the mailbox of each question.
+func TestMailboxesAreLeft(t *testing.T) {
+	w := worlds.New(t, worlds.Majority, time.Second)
+	console, before := w.Console(), w.Bus.Boxes()
+	for i := 0; i < 3; i++ {
+		ctx, cancel := context.WithTimeout(context.Background(), 5*time.Second)
+		if replies, err := console.Ask(ctx, "status", console.All()...); err != nil || replies[0].Err != nil {
+			t.Fatal(replies, err)
+		}
+		cancel()
+	}
+	if after := w.Bus.Boxes(); after != before {
+		t.Errorf("%d mailboxes after %d", after, before)
+	}
+}

@@ -8,7 +8,6 @@ import (
 	"errors"
 	"fmt"
 	"strconv"
-	"strings"
 	"sync/atomic"
 	"time"
 
@@ -23,11 +22,11 @@ import (
 var ErrSave = errors.New("the state can't be saved")
 
 const (
-	tick      = 50 * time.Millisecond
-	mostTaken = 4096            // messages of one batch
-	mostTold  = 4096            // sessions of which it knows what it told them
-	longest   = time.Second     // for which a step that sends nothing waits for the next save
-	blockSize = uint64(1) << 35 // how many grants of a lock a voter may give until it loses its state once more
+	tick        = 50 * time.Millisecond
+	mostSpoke   = 4096             // sessions of which it knows that they spoke in this run
+	longestAway = 10 * time.Second // of the broker, before it is logged
+	longest     = time.Second      // for which a step that sends nothing waits for the next save
+	blockSize   = uint64(1) << 35  // how many grants of a lock a voter may give until it loses its state once more
 )
 
 // Daemon is a voter.
@@ -54,19 +53,28 @@ type Daemon struct {
 	dirty      map[*vote]struct{} // changed since the last save
 	dirtySince time.Time
 	out        map[string][]byte // lines that leave after the save, by session
+	outBytes   int
 	replies    map[string]answer // what operators get after the save, by mailbox
 	room       []byte
 	before     qlock.Voter // of the step that is made
 
-	older           bool              // a session heard of a later save than this state has
-	begun           uint64            // how often the state was saved before this run, or before told was emptied
-	told            map[string]uint64 // the last count of saves that a session heard of this run, once it spoke in it
-	done            map[string][]byte // replies to what operators let go, by their questions
+	isFull          bool                // it was logged that there is no room for another lock
+	older           bool                // a session heard of a later save than this state has
+	prover          *prover             // of counts of saves
+	begun           uint64              // how often the state was saved before this run
+	begunProof      string              // of that
+	spoke           map[string]struct{} // sessions that spoke in this run
+	done            map[string][]byte   // replies to what operators let go, by their questions
 	messages, admin <-chan []byte
+	inbox           inbox
 	started         time.Time
 	granted         uint64       // grants given since then
-	returns         uint64       // of the link, when leases began
+	returns         uint64       // of the link, as they were logged
+	away            time.Time    // when there was a connection last, or it was logged that there is none
 	lively          atomic.Int64 // when the loop last went round
+	marked          atomic.Int64 // when the last marker left that came back
+	waits           atomic.Int64 // messages in the inbox
+	noRoom          atomic.Uint64
 }
 
 // Owner returns whose state a voter has to have.
@@ -84,16 +92,16 @@ func Open(own *config.Voter, cluster *config.Cluster, carrier transport.Transpor
 	d := &Daemon{cluster: cluster, own: own, store: state, carrier: carrier, log: log, m: newMetrics(),
 		votes: map[string]*vote{}, busy: map[*vote]struct{}{}, dirty: map[*vote]struct{}{},
 		table: table{ttl: cluster.TTL.Duration, changed: map[int]Session{}},
-		out:   map[string][]byte{}, replies: map[string]answer{}, started: time.Now(), begun: state.saves, told: map[string]uint64{}, done: map[string][]byte{}}
-	d.plans, d.newPlans, err = state.plans.follow(NewGenerations(cluster))
-	if err != nil {
+		out:   map[string][]byte{}, replies: map[string]answer{}, started: time.Now(), away: time.Now(),
+		done: map[string][]byte{}}
+	if err := d.begin(); err != nil {
 		state.db.Close()
-		return nil, fmt.Errorf("%s: %w: of another plan than that of the cluster's file", file(own.Data), err)
+		return nil, err
 	}
 	d.markPlans()
-	if d.link, _ = carrier.(transport.Link); d.link != nil {
-		d.m.watch(d.link)
-	}
+	d.link, _ = carrier.(transport.Link)
+	d.watch()
+	d.marked.Store(d.started.UnixNano())
 	if err := d.load(time.Now()); err != nil {
 		d.store.db.Close()
 		return nil, err
@@ -105,9 +113,24 @@ func Open(own *config.Voter, cluster *config.Cluster, carrier transport.Transpor
 	return d, nil
 }
 
+// begin begins a run of the state: it takes the plans of the cluster's file, and proves counts of
+// saves from now on.
+func (d *Daemon) begin() (err error) {
+	d.plans, d.newPlans, err = d.store.plans.follow(NewGenerations(d.cluster))
+	if err != nil {
+		return fmt.Errorf("%s: %w: of another plan than that of the cluster's file", file(d.own.Data), err)
+	}
+	if d.prover, err = newProver(d.store.key, d.store.meta.Identity); err != nil {
+		return err
+	}
+	d.begun, d.spoke = d.store.saves, map[string]struct{}{}
+	d.begunProof = d.prover.of(d.begun)
+	return nil
+}
+
 // load reads the sessions and the votes. All leases begin anew.
 func (d *Daemon) load(now time.Time) error {
-	d.table.hear(now)
+	d.table.begin(now)
 	type saved struct {
 		name  string
 		state []byte
@@ -141,12 +164,12 @@ func (d *Daemon) Run(ctx context.Context) error {
 	defer d.store.db.Close()
 	d.log.Write("start", "voter", d.own.Voter, "number", d.store.meta.Voter, "cluster", d.cluster.ID,
 		"block", d.store.meta.Block, "identity", d.store.meta.Identity, "locks", len(d.votes))
-	next, last := time.Now(), time.Now()
+	next := time.Now()
 	for {
 		now := time.Now()
-		d.leases(now, now.Sub(last))
-		last = now
+		d.look(now)
 		if !now.Before(next) {
+			d.sendMarker(now)
 			d.round(now)
 			next = now.Add(tick)
 		}
@@ -170,92 +193,77 @@ func (d *Daemon) Run(ctx context.Context) error {
 
 // wait waits for messages until a time, and takes all that are there. It returns false when the context has ended.
 func (d *Daemon) wait(ctx context.Context, until time.Time) bool {
+	if d.inbox.count > 0 {
+		until = time.Now() // the rest of the last turn waits
+	}
 	timer := time.NewTimer(time.Until(until))
 	defer timer.Stop()
 	select {
 	case <-ctx.Done():
 		return false
 	case m := <-d.messages:
-		now := time.Now()
-		d.take(m, now)
-		for i := 1; i < mostTaken && len(d.messages) > 0; i++ {
-			d.take(<-d.messages, now)
-		}
+		d.sort(m)
 	case m := <-d.admin:
 		d.operate(m, time.Now())
 	case <-timer.C:
 	}
+	d.receive()
+	d.work()
+	d.waits.Store(int64(d.inbox.count))
 	return true
 }
 
-// end saves what nothing waited for.
+// end saves what nothing waited for, and tells all sessions that this voter leaves, so that they
+// ask others at once.
 func (d *Daemon) end() error {
 	d.dirtySince = time.Time{}
+	for _, row := range d.table.rows {
+		if row.Open {
+			d.tell(row.Name, "leaving")
+		}
+	}
 	err := d.commit(time.Now())
 	d.log.Write("end", "voter", d.own.Voter)
 	return err
 }
 
-// leases begins all leases anew if the broker was away, so that nobody could be heard. Time in which this process stood still
-// doesn't count: messages wait in its queue.
-func (d *Daemon) leases(now time.Time, silent time.Duration) {
-	back := d.link != nil && d.link.Returns() != d.returns
-	if back {
+// look logs that the broker is back, or has been away for long. No lease ends meanwhile: no marker
+// comes back.
+func (d *Daemon) look(now time.Time) {
+	if d.link != nil && d.link.Returns() != d.returns {
 		d.returns = d.link.Returns()
 		d.log.Write("broker-back", "returns", d.returns)
 	}
-	switch {
-	case back:
-		d.table.hear(now)
-	case silent > 2*tick && silent > d.table.ttl/8: // less is a part of each turn where saves are slow
-		d.table.skip(silent)
+	if d.link == nil || d.link.Connected() {
+		d.away = now
+	} else if now.Sub(d.away) > longestAway {
+		d.away = now
+		var why error
+		if link, ok := d.link.(interface{ Why() error }); ok {
+			why = link.Why()
+		}
+		d.log.Write("broker-away", "why", why)
 	}
 }
 
-// take takes one message of a client.
-func (d *Daemon) take(message []byte, now time.Time) {
-	d.m.received.Inc()
-	h, lines, err := wire.Read(message)
-	if err != nil || !d.isOurs(h) || h.Kind != wire.FromClient {
-		d.m.foreign.Inc()
-		if err == nil && h.Kind == wire.FromClient && h.Cluster == d.cluster.ID && wire.IsName([]byte(h.Name)) {
-			d.announce(h.Name) // its plan is retired, or not yet here
-		}
-		return
-	}
-	d.hears(h)
-	if d.isBehind(h) {
-		d.older = true // nothing leaves any more
-		return
-	}
-	if _, spoke := d.told[h.Name]; !spoke {
-		d.told[h.Name] = d.begun
-	}
-	if h.Epoch > 0 {
-		switch d.table.admit(h.Number, h.Name, h.Epoch, h.Reserved, now) {
-		case taken:
-			d.tell(h.Name, "taken %d %d", h.Number, h.Epoch)
-			return
-		case begun:
-			d.asksBy[h.Number] = 0
-			d.recount(h.Number)
-		}
-	}
-	for {
-		lock, line, rest, found := wire.Next(lines)
-		if !found {
-			return
-		}
-		lines = rest
-		d.line(h, lock, line, now)
-	}
+// IsLively returns whether the loop went round within some time.
+func (d *Daemon) IsLively(within time.Duration) bool {
+	return time.Since(time.Unix(0, d.lively.Load())) < within
 }
 
-// isBehind returns whether the sender heard of a save that this state does not have: one of an earlier run, as this run did not
-// tell it. How often this run saved doesn't matter. Until a session spoke in this run it is told the count from before it: else
-// a greater one would hide what it heard.
+// isBehind returns whether the sender proves that another run of this voter had a save that this
+// state does not have. How often this run saved doesn't matter. Until a session spoke in this run
+// it is told the count from before it: else a greater one would hide what it heard. A count that
+// nobody proved is dropped.
 func (d *Daemon) isBehind(h wire.Header) bool {
-	return h.Saves > d.begun && h.Saves > d.told[h.Name]
+	if h.Saves <= d.begun {
+		return false
+	}
+	from := d.prover.origin(h.Saves, h.Proof)
+	if from == unproved {
+		d.m.unproved.Inc()
+	}
+	return from == anotherRun
 }
 
 // isOurs returns whether a message is of this cluster, and of a plan that is not retired.
@@ -264,32 +272,69 @@ func (d *Daemon) isOurs(h wire.Header) bool {
 		(h.Coterie == d.mark || h.Coterie == d.oldMark && d.oldMark != "")
 }
 
-// line takes one line of a message.
-func (d *Daemon) line(h wire.Header, lock, line []byte, now time.Time) {
+// line takes one line of a message. It returns false if the line can't be right: then the rest of
+// the message doesn't count.
+func (d *Daemon) line(l *letter, speaker verdict, lock, line []byte, now time.Time) bool {
+	if len(line) > mostLine {
+		return false
+	}
 	if string(lock) == "." {
-		d.control(h, string(line), now)
-		return
+		return d.control(l, speaker, line, now)
 	}
-	from, _ := wire.Ends(line)
-	if h.Epoch == 0 || from != h.Number || !wire.IsName(lock) {
+	from, to := wire.Ends(line)
+	if speaker != known || from != l.Number || to != d.store.meta.Voter || !wire.IsName(lock) || !isToVoter(line) {
+		return false
+	}
+	if !d.isHis(from, line) {
 		d.m.refused.Inc()
-		return
+		return true
 	}
-	v := d.find(lock, line)
+	v := d.votes[string(lock)]
+	if v == nil {
+		v = d.first(l, lock, line)
+	}
 	if v == nil {
 		d.m.refused.Inc()
-		return
+		return true
 	}
 	d.step(v, from, now, func(out []byte) ([]byte, error) { return v.Take(line, out) })
-	d.deny(v, h, line)
+	d.deny(v, l.Header, line)
+	return true
 }
 
-// find returns the vote for a lock, and makes it for its first REQUEST.
-func (d *Daemon) find(lock, line []byte) *vote {
-	if v := d.votes[string(lock)]; v != nil {
-		return v
+// isToVoter returns whether a line has a word that voters take.
+func isToVoter(line []byte) bool {
+	word, _, _ := bytes.Cut(line, []byte(" "))
+	return string(word) == "request" || string(word) == "release" || string(word) == "relinquish"
+}
+
+// isHis returns whether a number's session may say a line: the stamp of its REQUEST is above its
+// base, and no stamp is above what it reserved. A RELINQUISH names a grant, and the automaton takes
+// the current one only.
+func (d *Daemon) isHis(number int, line []byte) bool {
+	row, stamp := d.table.rows[number], wire.Stamp(line)
+	switch {
+	case bytes.HasPrefix(line, []byte("request ")):
+		return row.Base < stamp && stamp <= row.Reserved
+	case bytes.HasPrefix(line, []byte("release ")):
+		return stamp <= row.Reserved
 	}
-	if !bytes.HasPrefix(line, []byte("request ")) || len(d.votes) >= d.own.MaxLocks {
+	return true
+}
+
+// first makes the vote for a lock, if a line is its first REQUEST and there is room. If there is
+// none, it says so.
+func (d *Daemon) first(l *letter, lock, line []byte) *vote {
+	if !bytes.HasPrefix(line, []byte("request ")) {
+		return nil
+	}
+	if len(d.votes) >= d.own.MaxLocks {
+		d.tell(l.Name, "full %s %d", lock, wire.Stamp(line))
+		d.m.full.Inc()
+		if !d.isFull {
+			d.isFull = true
+			d.log.Write("full", "locks", len(d.votes), "lock", string(lock))
+		}
 		return nil
 	}
 	voter, err := d.newVoter()
@@ -355,82 +400,124 @@ func (d *Daemon) deny(v *vote, h wire.Header, line []byte) {
 func (d *Daemon) send(v *vote, lines []byte) {
 	for len(lines) > 0 {
 		end := bytes.IndexByte(lines, '\n') + 1
-		if _, to := wire.Ends(lines[:end]); to >= 0 && to < qlock.MaxClients && d.table.rows[to].Open {
+		if _, to := wire.Ends(lines[:end]); to >= 0 && to < qlock.MaxClients && d.mayHear(to, v, lines[:end]) {
 			name := d.table.rows[to].Name
 			out := append(append(d.out[name], v.name...), ' ')
 			d.out[name] = append(out, lines[:end]...)
+			d.outBytes += len(v.name) + 1 + end
 		}
 		lines = lines[end:]
 	}
 }
 
-// tell puts a control line with those that leave after the save.
-func (d *Daemon) tell(name, text string, words ...interface{}) {
-	d.out[name] = append(d.out[name], fmt.Sprintf(". "+text+"\n", words...)...)
+// mayHear returns whether a line of a vote is for the session that a number has now: its stamp is
+// above that session's base. Only whoever has the vote gets an INQUIRE, which names the grant.
+func (d *Daemon) mayHear(number int, v *vote, line []byte) bool {
+	stamp := wire.Stamp(line)
+	if bytes.HasPrefix(line, []byte("inquire ")) {
+		stamp = v.held.Stamp
+	}
+	return d.table.rows[number].Open && !d.table.isEarlier(number, stamp)
 }
 
-// control takes a control line of a client.
-func (d *Daemon) control(h wire.Header, line string, now time.Time) {
-	switch {
-	case line == "hello":
-		for number, row := range d.table.rows {
-			d.tell(h.Name, "number %d %d %d", number, row.Epoch, d.table.state(number, now))
-		}
-		d.announce(h.Name)
-	case line == "plan":
-		d.tellPlan(h.Name)
-	case strings.HasPrefix(line, "open ") && h.Epoch > 0:
-		d.open(h, line[len("open "):])
-	case line == "close" && h.Epoch > 0:
-		d.table.end(h.Number)
-		d.tell(h.Name, "closed %d %d", h.Number, h.Epoch)
-	default:
-		d.claim(h, line, now)
+// tell puts a control line with those that leave after the save.
+func (d *Daemon) tell(name, text string, words ...interface{}) {
+	line := fmt.Sprintf(". "+text+"\n", words...)
+	d.out[name] = append(d.out[name], line...)
+	d.outBytes += len(line)
+}
+
+// control takes a control line of a client, and returns whether it is one. Who has no number here
+// may ask, and claim.
+func (d *Daemon) control(l *letter, speaker verdict, line []byte, now time.Time) bool {
+	words := bytes.Fields(line)
+	if l.controls++; l.controls > mostControls || len(words) == 0 {
+		return false
 	}
+	switch word := string(words[0]); {
+	case word == "hello" && len(words) == 1:
+		return l.once(word) && d.hello(l.Name)
+	case word == "plan" && len(words) == 1:
+		return l.once(word) && d.tellPlan(l.Name)
+	case word == "open" && len(words) == 2:
+		return d.open(l, speaker, words[1])
+	case word == "close" && len(words) == 1 && l.Epoch > 0:
+		d.shut(l, speaker)
+		return true
+	case (word == "claim" || word == "drop") && len(words) == 3:
+		return d.claim(l.Name, word, words[1], words[2], now)
+	}
+	return false
+}
+
+// hello says which numbers are free.
+func (d *Daemon) hello(name string) bool {
+	for number, row := range d.table.rows {
+		d.tell(name, "number %d %d %d", number, row.Epoch, d.table.state(number))
+	}
+	d.announce(name)
+	return true
 }
 
 // open takes a heartbeat, which says the oldest plan of which the session has a request.
-func (d *Daemon) open(h wire.Header, oldest string) {
-	number, err := strconv.ParseUint(oldest, 10, 64)
-	if err != nil {
-		d.m.refused.Inc()
-		return
+func (d *Daemon) open(l *letter, speaker verdict, oldest []byte) bool {
+	number, err := strconv.ParseUint(string(oldest), 10, 64)
+	if err != nil || l.Epoch == 0 {
+		return false
 	}
-	d.asksBy[h.Number] = number
-	d.tell(h.Name, "opened %d %d %d %d %d", h.Number, h.Epoch, d.table.rows[h.Number].Reserved, h.Seq, d.requests[h.Number])
-	d.announce(h.Name)
+	if speaker == known {
+		row := d.table.rows[l.Number]
+		d.asksBy[l.Number] = number
+		d.tell(l.Name, "opened %d %d %d %d %d %d", l.Number, l.Epoch, row.Base, row.Reserved, l.Seq,
+			d.requests[l.Number])
+	}
+	d.announce(l.Name)
+	return true
+}
+
+// shut ends a session that says that it is over.
+func (d *Daemon) shut(l *letter, speaker verdict) {
+	if speaker == known {
+		d.table.end(l.Number)
+		d.tell(l.Name, "closed %d %d", l.Number, l.Epoch)
+	}
 }
 
 // claim takes `claim NUMBER EPOCH`, and `drop NUMBER EPOCH` of one who claimed it and had no quorum.
-func (d *Daemon) claim(h wire.Header, line string, now time.Time) {
-	var word string
-	var number int
-	var epoch uint64
-	n, _ := fmt.Sscanf(line, "%s %d %d", &word, &number, &epoch)
-	if n != 3 || number < 0 || number >= qlock.MaxClients || epoch == 0 || word != "claim" && word != "drop" {
-		d.m.refused.Inc()
-		return
+func (d *Daemon) claim(name, word string, first, second []byte, now time.Time) bool {
+	number := wire.Number(first)
+	epoch, err := strconv.ParseUint(string(second), 10, 64)
+	if err != nil || number < 0 || number >= qlock.MaxClients || epoch == 0 {
+		return false
 	}
 	if word == "drop" {
-		d.table.drop(number, h.Name, epoch)
-		return
+		d.table.drop(number, name, epoch)
+		return true
 	}
-	if !d.table.claim(number, h.Name, epoch, now) {
-		d.tell(h.Name, "refused %d %d", number, epoch)
-		return
+	before := d.table.rows[number]
+	if !d.table.claim(number, name, epoch, now) {
+		d.tell(name, "refused %d %d", number, epoch)
+		return true
 	}
-	d.asksBy[number] = 0
-	d.recount(number)
-	d.tell(h.Name, "claimed %d %d %d", number, epoch, d.table.rows[number].Reserved)
+	row := d.table.rows[number]
+	if before.Name != name || before.Epoch != epoch {
+		d.asksBy[number] = 0
+		d.recount(number)
+	}
+	d.tell(name, "claimed %d %d %d %d", number, epoch, row.Base, row.Reserved)
+	return true
 }
 
 // round does what time asks for: it lets grants of dead clients go that others wait for, and reminds.
 func (d *Daemon) round(now time.Time) {
 	for v := range d.busy {
-		for v.held.Number > 0 && v.isWanted() && d.table.isDead(int(v.held.Client), now) {
+		for v.held.Number > 0 && v.isWanted() && d.isOver(v.held) {
 			held := v.held
 			if !d.letGo(v, now) {
 				break
+			}
+			if row := d.table.rows[held.Client]; row.Open && held.Stamp > row.Base {
+				d.table.lapse(int(held.Client))
 			}
 			d.m.expired.Inc()
 			d.log.Write("lease-expired", "lock", v.name, "client", held.Client, "stamp", held.Stamp, "grant", held.Number)
@@ -445,6 +532,11 @@ func (d *Daemon) round(now time.Time) {
 	d.measure(now)
 }
 
+// isOver returns whether a grant may be let go: its session is dead, or its number has a later one.
+func (d *Daemon) isOver(held qlock.Grant) bool {
+	return d.table.isDead(int(held.Client)) || d.table.isEarlier(int(held.Client), held.Stamp)
+}
+
 // letGo lets the current grant of a vote go, and tells its client. It returns false if that did not succeed.
 func (d *Daemon) letGo(v *vote, now time.Time) bool {
 	held := v.held
@@ -452,7 +544,7 @@ func (d *Daemon) letGo(v *vote, now time.Time) bool {
 	if v.held.Number == held.Number {
 		return false
 	}
-	if row := d.table.rows[held.Client]; row.Open {
+	if row := d.table.rows[held.Client]; row.Open && held.Stamp > row.Base {
 		d.tell(row.Name, "gone %s %d", v.name, held.Stamp)
 	}
 	return true
@@ -485,26 +577,36 @@ func (d *Daemon) commit(now time.Time) error {
 // deliver sends what may leave.
 func (d *Daemon) deliver() {
 	meta := d.store.meta
-	header := wire.Header{Cluster: meta.Cluster, Kind: wire.FromVoter, Number: meta.Voter, Block: meta.Block, Name: meta.Identity, Saves: d.store.saves}
-	if len(d.told) >= mostTold {
-		d.begun, d.told = d.store.saves, map[string]uint64{}
-	}
+	header := wire.Header{Cluster: meta.Cluster, Kind: wire.FromVoter, Number: meta.Voter, Block: meta.Block,
+		Name: meta.Identity}
+	d.outBytes = 0
+	saved := d.prover.of(d.store.saves)
 	for session, lines := range d.out {
-		header.Saves = d.begun
-		if _, spoke := d.told[session]; spoke {
-			header.Saves = d.store.saves
-			d.told[session] = header.Saves
+		if header.Saves, header.Proof = d.begun, d.begunProof; d.hasSpoken(session) {
+			header.Saves, header.Proof = d.store.saves, saved
 		}
 		box := wire.SessionBox(meta.Cluster, session)
-		header.Coterie = d.speaks(session)
+		header.Coterie, header.Lapses = d.speaks(session), d.table.lapses(session)
 		header.Split(lines, func(message []byte) { d.post(box, message) })
 		delete(d.out, session)
 	}
+	if len(d.spoke) >= mostSpoke { // those of the rest are told the count from before this run until they speak again
+		d.spoke = map[string]struct{}{}
+	}
 	for box, reply := range d.replies {
-		header.Coterie = reply.mark
-		d.post(box, append(header.Append(nil), reply.body...))
+		header.Coterie, header.Lapses = reply.mark, 0
+		if begin := header.Append(nil); reply.status != nil {
+			go func(box string, reply answer) { d.post(box, append(begin, reply.text()...)) }(box, reply)
+		} else {
+			d.post(box, append(begin, reply.text()...))
+		}
 		delete(d.replies, box)
 	}
+}
+
+func (d *Daemon) hasSpoken(session string) bool {
+	_, spoke := d.spoke[session]
+	return spoke
 }
 
 // post sends one message. What can't be sent is lost: a reminder repeats it.

@@ -20,6 +20,7 @@ var (
 	ErrNumber   = errors.New("the plan is not the next one of this voter's")
 	ErrLong     = errors.New("the plan is too long to be sent")
 	ErrLag      = errors.New("clients still have requests of the old plan")
+	ErrAnother  = errors.New("the voter has another plan of this number: another exchange was begun")
 )
 
 // mostPlan is how many bytes the two texts of a plan may have, to be sent in one message.
@@ -137,7 +138,7 @@ func (d *Daemon) setPlans(g Generations) {
 }
 
 func (d *Daemon) markPlans() {
-	d.mark, d.oldMark, d.marks = d.plans.mark(), d.plans.oldMark(), map[string]string{}
+	d.mark, d.oldMark, d.marks = d.cluster.Mark(d.plans.mark()), d.cluster.Mark(d.plans.oldMark()), map[string]string{}
 }
 
 // hears notes by which plan a session speaks, while there are two.
@@ -171,9 +172,10 @@ func (d *Daemon) announce(name string) {
 }
 
 // tellPlan sends the plan to a session.
-func (d *Daemon) tellPlan(name string) {
+func (d *Daemon) tellPlan(name string) bool {
 	encode := base64.StdEncoding.EncodeToString
 	d.tell(name, "plan %d %s %s", d.plans.Number, encode([]byte(d.plans.Now.Coterie)), encode([]byte(d.plans.Now.Plan)))
+	return true
 }
 
 // Planned is the reply to `exchange`, `retire` and `settle`: which plans a voter has.
@@ -190,22 +192,29 @@ func (d *Daemon) planned(err error) interface{} {
 	return Planned{d.plans.Number, d.plans.oldest(), d.plans.Settled}
 }
 
-// exchange obeys `exchange NUMBER COTERIE PLAN`, `retire NUMBER` or `settle NUMBER SESSIONS`.
+// exchange obeys `exchange NUMBER COTERIE PLAN`, answers `would` with the same words if it would,
+// and obeys of the plan with a number and a mark `ready NUMBER MARK`, `retire NUMBER MARK` or
+// `settle NUMBER MARK SESSIONS`.
 func (d *Daemon) exchange(words []string, now time.Time) interface{} {
 	number, err := strconv.ParseUint(words[1], 10, 64)
 	switch {
-	case err == nil && words[0] == "exchange" && len(words) == 4:
-		return d.planned(d.takePlan(number, words[2], words[3]))
-	case err == nil && words[0] == "retire" && len(words) == 2:
-		return d.planned(d.retire(number, now))
-	case err == nil && words[0] == "settle" && len(words) == 3:
-		return d.planned(d.settle(number, words[2], now))
+	case err == nil && (words[0] == "exchange" || words[0] == "would") && len(words) == 4:
+		return d.planned(d.takePlan(number, words[2], words[3], words[0] == "exchange"))
+	case err == nil && words[0] == "ready" && len(words) == 3:
+		_, err := d.isReady(number, words[2])
+		return d.planned(err)
+	case err == nil && words[0] == "retire" && len(words) == 3:
+		return d.planned(d.retire(number, words[2]))
+	case err == nil && words[0] == "settle" && len(words) == 4:
+		return d.planned(d.settle(number, words[2], words[3], now))
+	case err == nil && words[0] == "inform" && len(words) == 4:
+		return d.planned(d.inform(number, words[2], words[3], now))
 	}
 	return Refused{"unknown command"}
 }
 
-// takePlan takes a plan beside the one in use.
-func (d *Daemon) takePlan(number uint64, coterie, plan string) error {
+// takePlan takes a plan beside the one in use, or only says whether it would.
+func (d *Daemon) takePlan(number uint64, coterie, plan string, takes bool) error {
 	first, err := base64.StdEncoding.DecodeString(coterie)
 	if err != nil {
 		return err
@@ -215,34 +224,44 @@ func (d *Daemon) takePlan(number uint64, coterie, plan string) error {
 		return err
 	}
 	g, err := d.plans.next(number, Texts{string(first), string(second)})
-	if err == nil && g.Number != d.plans.Number {
+	if err == nil && takes && g.Number != d.plans.Number {
 		d.setPlans(g)
 		d.log.Write("exchange", "generation", number)
 	}
 	return err
 }
 
-// retire refuses the old plan from now on. No session that was heard within the TTL may have a request of it. A session that is
-// silent is ended: it may have one.
-func (d *Daemon) retire(number uint64, now time.Time) error {
+// isReady returns an error unless the old plan may be retired: this voter has the plan with this
+// number and mark, and no session that was heard within the TTL may have a request of the old one.
+// It returns the sessions that are silent: each may have one.
+func (d *Daemon) isReady(number uint64, mark string) (silent []int, err error) {
 	if number != d.plans.Number {
-		return ErrNumber
+		return nil, ErrNumber
 	}
-	if d.plans.Old == nil {
-		return nil
+	if mark != d.plans.mark() {
+		return nil, ErrAnother
 	}
-	var lag, silent []int
+	var lag []int
 	for client, row := range d.table.rows {
 		switch {
-		case !row.Open || d.asksBy[client] >= number:
-		case d.table.isDead(client, now):
+		case d.plans.Old == nil || !row.Open || d.asksBy[client] >= number:
+		case d.table.isDead(client):
 			silent = append(silent, client)
 		default:
 			lag = append(lag, client)
 		}
 	}
 	if len(lag) > 0 {
-		return fmt.Errorf("%w: %v", ErrLag, lag)
+		return nil, fmt.Errorf("%w: %v", ErrLag, lag)
+	}
+	return silent, nil
+}
+
+// retire refuses the old plan from now on. Sessions that are silent are ended.
+func (d *Daemon) retire(number uint64, mark string) error {
+	silent, err := d.isReady(number, mark)
+	if err != nil || d.plans.Old == nil {
+		return err
 	}
 	for _, client := range silent {
 		d.table.expel(client)
@@ -253,11 +272,42 @@ func (d *Daemon) retire(number uint64, now time.Time) error {
 	return nil
 }
 
-// settle takes what a quorum of the old plan knew of sessions, after it refused that plan.
-func (d *Daemon) settle(number uint64, text string, now time.Time) error {
-	if number != d.plans.Number || d.plans.Old != nil {
+// settle takes what a quorum of the old plan knew of sessions, after it refused that plan. Who
+// takes the next plan already was settled.
+func (d *Daemon) settle(number uint64, mark, text string, now time.Time) error {
+	switch {
+	case d.plans.Old != nil && number+1 == d.plans.Number && mark == d.plans.oldMark():
+		return nil
+	case number != d.plans.Number || d.plans.Old != nil:
 		return ErrNumber
+	case mark != d.plans.mark():
+		return ErrAnother
 	}
+	if err := d.learn(text, now); err != nil {
+		return err
+	}
+	if !d.plans.Settled {
+		g := d.plans
+		g.Settled = true
+		d.setPlans(g)
+		d.log.Write("settled", "generation", number)
+	}
+	return nil
+}
+
+// inform takes what other voters with this plan know of sessions, while the old one is there, too.
+func (d *Daemon) inform(number uint64, mark, text string, now time.Time) error {
+	switch {
+	case number != d.plans.Number:
+		return ErrNumber
+	case mark != d.plans.mark():
+		return ErrAnother
+	}
+	return d.learn(text, now)
+}
+
+// learn takes what other voters know of sessions.
+func (d *Daemon) learn(text string, now time.Time) error {
 	rows := map[int]Session{}
 	if err := json.Unmarshal([]byte(text), &rows); err != nil {
 		return err
@@ -266,12 +316,6 @@ func (d *Daemon) settle(number uint64, text string, now time.Time) error {
 		if client >= 0 && client < qlock.MaxClients && d.table.learn(client, row, now) {
 			d.recount(client)
 		}
-	}
-	if !d.plans.Settled {
-		g := d.plans
-		g.Settled = true
-		d.setPlans(g)
-		d.log.Write("settled", "generation", number)
 	}
 	return nil
 }

@@ -100,19 +100,47 @@ func TestWhichFilesAreFollowed(t *testing.T) {
 	}
 }
 
+// of returns a session in use.
+func of(name string, epoch, base, reserved uint64) Session {
+	return Session{Name: name, Epoch: epoch, Base: base, Reserved: reserved, Open: true, Used: true}
+}
+
+// A voter that lost its state takes of two sessions the one in use, and begins it above what the
+// other one reserved.
+func TestNewer(t *testing.T) {
+	claim := Session{Name: "c", Epoch: 6, Base: 50, Reserved: 50, Open: true}
+	for _, one := range []struct {
+		what       string
+		a, b, want Session
+	}{
+		{"a claim does not end a session in use", of("a", 5, 10, 20), claim, of("a", 5, 50, 50)},
+		{"a newer session", of("a", 5, 10, 80), of("b", 6, 30, 40), of("b", 6, 80, 80)},
+		{"one session", of("a", 5, 10, 20), of("a", 5, 15, 18), of("a", 5, 15, 20)},
+		{"two of one epoch", of("a", 5, 10, 20), of("b", 5, 15, 18), Session{Epoch: 5, Base: 20, Reserved: 20}},
+	} {
+		if got, back := newer(one.a, one.b), newer(one.b, one.a); got != one.want || back != one.want {
+			t.Errorf("%s: %v and %v", one.what, got, back)
+		}
+	}
+}
+
 // What a voter learns of sessions raises what is reserved, and ends no session but for a newer one.
 func TestLearn(t *testing.T) {
 	now := time.Unix(1000, 0)
 	table := newTable(now)
-	table.admit(3, "a", 5, 100, now)
+	table.claim(3, "a", 5, now)
+	admits(table, 3, "a", 5, 100, now)
 	for _, one := range []struct {
 		what string
 		row  Session
 		want Session
 	}{
-		{"an older session that reserved more", Session{Name: "b", Epoch: 4, Reserved: 300}, Session{"a", 5, 0, 300, true, true}},
-		{"one that is over elsewhere", Session{Name: "x", Epoch: 5, Reserved: 200}, Session{"a", 5, 0, 300, true, true}},
-		{"a newer one", Session{"c", 6, 250, 260, true, true}, Session{"c", 6, 250, 300, true, true}},
+		{"an older session that reserved more", Session{Name: "b", Epoch: 4, Reserved: 300}, of("a", 5, 0, 300)},
+		{"one that is over elsewhere", Session{Name: "x", Epoch: 5, Reserved: 200}, of("a", 5, 0, 300)},
+		{"a newer one that only claimed", Session{Name: "c", Epoch: 6, Base: 250, Reserved: 310, Open: true}, of("a",
+			5, 0, 310)},
+		{"a newer one", of("c", 6, 250, 260), of("c", 6, 310, 310)},
+		{"one that is newer still", of("d", 7, 400, 410), of("d", 7, 400, 410)},
 	} {
 		table.learn(3, one.row, now)
 		if table.rows[3] != one.want {
@@ -124,8 +152,10 @@ func TestLearn(t *testing.T) {
 // A plan is retired once no session that is heard has a request of the old one, and sessions that are silent are ended.
 func TestRetire(t *testing.T) {
 	now := time.Unix(1000, 0)
-	d := &Daemon{plans: Generations{Now: texts(t, two), Settled: true}, table: *newTable(now), busy: map[*vote]struct{}{}, log: event.To(io.Discard)}
+	d := &Daemon{cluster: &config.Cluster{}, plans: Generations{Now: texts(t, two), Settled: true},
+		table: *newTable(now), busy: map[*vote]struct{}{}, log: event.To(io.Discard)}
 	d.markPlans()
+	first := d.plans.mark()
 	encode := base64.StdEncoding.EncodeToString
 	next := texts(t, all)
 	obey := func(words ...string) error {
@@ -136,31 +166,51 @@ func TestRetire(t *testing.T) {
 			return nil
 		}
 	}
+	if err := obey("would", "1", encode([]byte(next.Coterie)), encode([]byte(next.Plan))); err != nil || d.newPlans ||
+		d.plans.Number != 0 {
+		t.Fatal("a question changes something:", err)
+	}
 	if err := obey("exchange", "1", encode([]byte(next.Coterie)), encode([]byte(next.Plan))); err != nil || !d.newPlans {
 		t.Fatal(err)
 	}
-	d.table.admit(3, "a", 1, 10, now)
-	d.table.admit(4, "b", 1, 10, now)
+	d.table.claim(3, "a", 1, now)
+	d.table.claim(4, "b", 1, now)
 	now = now.Add(2 * time.Second)
-	d.table.admit(4, "b", 1, 10, now)
-	if err := obey("retire", "1"); err == nil || err.Error() != fmt.Sprintf("%v: [4]", ErrLag) {
+	passes(&d.table, now)
+	d.table.admit(4, "b", 1, now)
+	mark := d.plans.mark()
+	for _, word := range []string{"ready", "retire"} {
+		if err := obey(word, "1", first); err == nil || err.Error() != ErrAnother.Error() {
+			t.Errorf("%s by the mark of another plan: %v", word, err)
+		}
+	}
+	if err := obey("retire", "1", mark); err == nil || err.Error() != fmt.Sprintf("%v: [4]", ErrLag) {
 		t.Error("client 4 may have a request of the old plan:", err)
 	}
 	d.asksBy[4] = 1
-	if err := obey("retire", "1"); err != nil || d.oldMark != "" || d.table.rows[3].Open || !d.table.rows[4].Open {
+	if err := obey("ready", "1", mark); err != nil || d.oldMark == "" || !d.table.rows[3].Open {
+		t.Error("a question changes something:", err)
+	}
+	if err := obey("retire", "1", mark); err != nil || d.oldMark != "" || d.table.rows[3].Open ||
+		!d.table.rows[4].Open {
 		t.Error("client 3 is silent:", err)
 	}
-	if d.table.admit(3, "a", 1, 10, now) != taken {
+	if d.table.admit(3, "a", 1, now) != taken {
 		t.Error("a session that was ended goes on")
 	}
 	rows, err := json.Marshal(map[int]Session{7: {Name: "c", Epoch: 2, Reserved: 50}})
 	if err != nil {
 		t.Fatal(err)
 	}
-	if err := obey("settle", "1", string(rows)); err != nil || !d.plans.Settled || d.table.rows[7].Reserved != 50 {
+	if err := obey("settle", "1", first, string(rows)); err == nil || d.plans.Settled {
+		t.Error("settled by the mark of another plan:", err)
+	}
+	if err := obey("settle", "1", mark, string(rows)); err != nil || !d.plans.Settled ||
+		d.table.rows[7].Reserved != 50 {
 		t.Error(err)
 	}
-	for _, words := range [][]string{{"retire", "2"}, {"settle", "0", "{}"}, {"exchange", "x"}, {"exchange", "2", "!", "!"}, {"other", "1"}} {
+	for _, words := range [][]string{{"retire", "2", mark}, {"retire", "1"}, {"settle", "0", mark, "{}"}, {"exchange",
+		"x"}, {"exchange", "2", "!", "!"}, {"other", "1"}} {
 		if obey(words...) == nil {
 			t.Error(words)
 		}

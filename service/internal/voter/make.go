@@ -77,7 +77,7 @@ func Merge(replies []operator.Reply) (sessions map[int]Session, heard uint64, er
 		}
 		heard |= 1 << r.Voter
 		for number, row := range rows {
-			if row.Epoch > 0 {
+			if row.Lapses = 0; row.Epoch > 0 { // those are another voter's
 				sessions[number] = newer(sessions[number], row)
 			}
 		}
@@ -85,17 +85,23 @@ func Merge(replies []operator.Reply) (sessions map[int]Session, heard uint64, er
 	return sessions, heard, nil
 }
 
-// newer returns the session with the higher epoch, with the higher of what both reserved.
+// newer returns the session of two that counts, with the higher of what both reserved: one in use
+// before a claim alone, then the one with the higher epoch. Its stamps are above what the other one
+// reserved. An epoch that two sessions use has none.
 func newer(a, b Session) Session {
-	if a.Epoch > b.Epoch || a.Epoch == b.Epoch && a.Used && !b.Used { // who did not use it had no quorum
+	if a.Used && !b.Used || a.Used == b.Used && a.Epoch > b.Epoch {
 		a, b = b, a
 	}
-	if a.Reserved > b.Reserved {
-		b.Reserved = a.Reserved
+	switch {
+	case a.Epoch == b.Epoch && a.Name == b.Name: // over for one is over
+		b.Open, b.Dropped = a.Open && b.Open, a.Dropped && b.Dropped
+		b.Base = greatest(a.Base, b.Base)
+	case a.Epoch == b.Epoch && a.Used == b.Used:
+		b = Session{Epoch: b.Epoch, Base: greatest(a.Reserved, b.Reserved), Reserved: b.Reserved}
+	default:
+		b.Base = greatest(b.Base, a.Reserved)
 	}
-	if a.Epoch == b.Epoch && a.Name == b.Name { // over for one is over
-		b.Open = a.Open && b.Open
-	}
+	b.Reserved = greatest(a.Reserved, b.Reserved)
 	return b
 }
 

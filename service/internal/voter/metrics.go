@@ -3,47 +3,105 @@ package voter
 import (
 	"encoding/json"
 	"net/http"
+	"os"
+	"runtime"
 	"time"
 
-	"calvundek.example/service/transport"
+	"calvundek.example/service/qlock"
 	"github.com/prometheus/client_golang/prometheus"
+	"github.com/prometheus/client_golang/prometheus/collectors"
 	"github.com/prometheus/client_golang/prometheus/promhttp"
 )
 
 // metrics are a voter's numbers for Prometheus.
 type metrics struct {
-	registry                                                              *prometheus.Registry
-	received, foreign, refused, unsent, reminders, expired, grants, spent prometheus.Counter
-	commit, batch                                                         prometheus.Histogram
-	queue, locks, busy, sessions, heldOldest, waitingOldest               prometheus.Gauge
+	registry                                                                              *prometheus.Registry
+	received, foreign, refused, unproved, unsent, reminders, expired, grants, spent, full prometheus.Counter
+	commit, batch                                                                         prometheus.Histogram
+	locks, busy, sessions, numbers, plan, heldOldest, waitingOldest                       prometheus.Gauge
 }
 
 func newMetrics() *metrics {
 	m := &metrics{registry: prometheus.NewRegistry()}
+	m.registry.MustRegister(collectors.NewGoCollector(),
+		collectors.NewProcessCollector(collectors.ProcessCollectorOpts{}))
 	m.received = m.counter("messages_received_total", "Messages received.")
 	m.foreign = m.counter("messages_foreign_total", "Messages of another cluster or coterie, or of no sender of this protocol.")
 	m.refused = m.counter("lines_refused_total", "Lines that were dropped.")
+	m.unproved = m.counter("counts_unproved_total",
+		"Counts of saves, repeated by sessions, that this voter never told.")
 	m.unsent = m.counter("messages_unsent_total", "Messages that could not be sent.")
 	m.reminders = m.counter("reminders_total", "Reminders sent.")
 	m.expired = m.counter("leases_expired_total", "Grants that were let go, since their client was silent for the TTL.")
 	m.grants = m.counter("grants_total", "Grants given.")
 	m.spent = m.counter("grants_spent_total", "Messages that needed a grant of a lock which has none left.")
+	m.full = m.counter("requests_full_total", "Requests for locks for which there was no room (max_locks).")
 	m.commit = m.histogram("commit_seconds", "Time of one save.", prometheus.ExponentialBuckets(0.0002, 2, 14))
 	m.batch = m.histogram("commit_votes", "Votes of one save.", prometheus.ExponentialBuckets(1, 2, 12))
-	m.queue = m.gauge("queue_messages", "Messages that wait.")
 	m.locks = m.gauge("locks", "Locks that this voter knows.")
 	m.busy = m.gauge("locks_held", "Locks whose vote somebody has.")
 	m.sessions = m.gauge("sessions", "Sessions that are open.")
+	m.numbers = m.gauge("numbers_free", "Client numbers that are free, or whose session was silent for the TTL.")
+	m.plan = m.gauge("plan", "How often the plan was exchanged.")
 	m.heldOldest = m.gauge("held_oldest_seconds", "How long the grant lasts that has lasted longest.")
 	m.waitingOldest = m.gauge("waiting_oldest_seconds", "How long the request waits that has waited longest.")
 	return m
 }
 
-// watch adds the number of a link.
-func (m *metrics) watch(link transport.Link) {
-	m.registry.MustRegister(prometheus.NewCounterFunc(prometheus.CounterOpts{Name: "qlock_voter_broker_reconnects_total",
-		Help: "How often the connection to the broker came back."}, func() float64 { return float64(link.Returns()) }))
+// watch adds the numbers of messages that wait and of those that found no room, and those of a
+// link. They are read when somebody asks for them, also while the loop has much to do.
+func (d *Daemon) watch() {
+	link := d.link
+	if link == nil {
+		link = noLink{}
+	}
+	counter := func(name, help string, read func() float64) {
+		d.m.registry.MustRegister(prometheus.NewCounterFunc(prometheus.CounterOpts{Name: "qlock_voter_" + name,
+			Help: help}, read))
+	}
+	counter("broker_reconnects_total", "How often the connection to the broker came back.",
+		func() float64 { return float64(link.Returns()) })
+	d.m.registry.MustRegister(prometheus.NewGaugeFunc(prometheus.GaugeOpts{Name: "qlock_voter_file_bytes",
+		Help: "How long the file of the state is."},
+		func() float64 { return length(file(d.own.Data)) }))
+	info := prometheus.NewGauge(prometheus.GaugeOpts{Name: "qlock_voter_build_info",
+		Help:        "The version, as a label of 1.",
+		ConstLabels: prometheus.Labels{"version": qlock.Version(), "go": runtime.Version()}})
+	info.Set(1)
+	d.m.registry.MustRegister(info)
+	most := float64(d.own.MaxLocks)
+	d.m.registry.MustRegister(prometheus.NewGaugeFunc(prometheus.GaugeOpts{Name: "qlock_voter_locks_most",
+		Help: "Locks that this voter may know (max_locks)."}, func() float64 { return most }))
+	if own, is := link.(interface{ CertificateEnd() time.Time }); is && !own.CertificateEnd().IsZero() {
+		d.m.registry.MustRegister(prometheus.NewGaugeFunc(prometheus.GaugeOpts{
+			Name: "qlock_voter_certificate_end_timestamp_seconds",
+			Help: "When the certificate in this voter's files ends, in seconds since 1970."},
+			func() float64 { return float64(own.CertificateEnd().Unix()) }))
+	}
+	counter("messages_dropped_total", "Messages for which there was no room.", func() float64 {
+		return float64(d.noRoom.Load() + link.Dropped())
+	})
+	d.m.registry.MustRegister(prometheus.NewGaugeFunc(prometheus.GaugeOpts{Name: "qlock_voter_queue_messages",
+		Help: "Messages that wait."},
+		func() float64 { return float64(int(d.waits.Load()) + link.Waiting()) }))
 }
+
+// length returns how many bytes a file has, 0 if it can't be told.
+func length(path string) float64 {
+	info, err := os.Stat(path)
+	if err != nil {
+		return 0
+	}
+	return float64(info.Size())
+}
+
+// noLink stands for the link of a transport that has none.
+type noLink struct{}
+
+func (noLink) Connected() bool { return true }
+func (noLink) Returns() uint64 { return 0 }
+func (noLink) Waiting() int    { return 0 }
+func (noLink) Dropped() uint64 { return 0 }
 
 func (m *metrics) counter(name, help string) prometheus.Counter {
 	c := prometheus.NewCounter(prometheus.CounterOpts{Name: "qlock_voter_" + name, Help: help})
@@ -65,7 +123,7 @@ func (m *metrics) histogram(name, help string, buckets []float64) prometheus.His
 
 // measure sets the numbers that are looked at from time to time.
 func (d *Daemon) measure(now time.Time) {
-	held, waits, busy, open := 0.0, 0.0, 0, 0
+	held, waits, busy, open, free := 0.0, 0.0, 0, 0, 0
 	for v := range d.busy {
 		if v.held.Number > 0 {
 			busy++
@@ -77,17 +135,21 @@ func (d *Daemon) measure(now time.Time) {
 			}
 		}
 	}
-	for _, row := range d.table.rows {
+	for number, row := range d.table.rows {
 		if row.Open {
 			open++
+		}
+		if d.table.state(number) != 0 {
+			free++
 		}
 	}
 	d.m.heldOldest.Set(held)
 	d.m.waitingOldest.Set(waits)
 	d.m.busy.Set(float64(busy))
 	d.m.sessions.Set(float64(open))
+	d.m.numbers.Set(float64(free))
+	d.m.plan.Set(float64(d.plans.Number))
 	d.m.locks.Set(float64(len(d.votes)))
-	d.m.queue.Set(float64(len(d.messages)))
 }
 
 func greater(a, b float64) float64 {
@@ -101,6 +163,7 @@ func greater(a, b float64) float64 {
 type Health struct {
 	Healthy    bool    `json:"healthy"`
 	LoopSilent float64 `json:"loop_silent_seconds"` // how long ago the loop last went round
+	Marker     float64 `json:"marker_seconds"`      // how long ago the last marker left that came back
 	Broker     bool    `json:"broker"`
 	Voter      int     `json:"voter"`
 	Identity   string  `json:"identity"`
@@ -110,11 +173,18 @@ type Health struct {
 func (d *Daemon) health() Health {
 	silent := time.Since(time.Unix(0, d.lively.Load()))
 	broker := d.link == nil || d.link.Connected()
-	return Health{Healthy: silent < 2*time.Second && broker, LoopSilent: silent.Seconds(), Broker: broker,
+	marker := time.Since(time.Unix(0, d.marked.Load()))
+	healthy := silent < 2*time.Second && marker < mostMarker && broker
+	return Health{Healthy: healthy, LoopSilent: silent.Seconds(), Marker: marker.Seconds(), Broker: broker,
 		Voter: d.store.meta.Voter, Identity: d.store.meta.Identity}
 }
 
-// Handler serves /metrics and /healthz. /healthz has status 503 if the loop stands still or there is no broker.
+// mostMarker is how long ago the last marker may have left that came back. Else leases don't end,
+// say since this voter's user may not publish to the voter's mailbox.
+const mostMarker = 5 * time.Second
+
+// Handler serves /metrics and /healthz. /healthz has status 503 if the loop stands still, there is
+// no broker, or no marker comes back.
 func (d *Daemon) Handler() http.Handler {
 	mux := http.NewServeMux()
 	mux.Handle("/metrics", promhttp.HandlerFor(d.m.registry, promhttp.HandlerOpts{}))

@@ -4,10 +4,10 @@ import (
 	"errors"
 	"fmt"
 	"io"
+	"strings"
 	"testing"
 	"time"
 
-	"calvundek.example/service/internal/config"
 	"calvundek.example/service/internal/event"
 	"calvundek.example/service/internal/voter"
 	"calvundek.example/service/internal/wire"
@@ -29,11 +29,18 @@ func speakerOf(t *testing.T, w *worlds.World, number int, name string, epoch uin
 	if err != nil {
 		t.Fatal(err)
 	}
-	header := wire.Header{Cluster: "test", Coterie: config.Hash(w.Cluster.Coterie), Kind: wire.FromClient, Number: number, Epoch: epoch,
+	header := wire.Header{Cluster: "test", Coterie: w.Cluster.Marks()[0], Kind: wire.FromClient, Number: number,
+		Epoch:    epoch,
 		Reserved: 100 * epoch, Name: name}
+	proofs := map[uint64]string{}
+	_ = port.Send(wire.VoterBox("test", 0), append(header.Append(nil), fmt.Sprintf(". claim %d %d\n", number,
+		epoch)...))
+	if reply := string(<-heard); !strings.Contains(reply, ". claimed ") {
+		t.Fatalf("no claim: %s", reply)
+	}
 	return func(line string, saves uint64) uint64 {
 		t.Helper()
-		header.Saves = saves
+		header.Saves, header.Proof = saves, proofs[saves]
 		_ = port.Send(wire.VoterBox("test", 0), append(header.Append(nil), line+"\n"...))
 		select {
 		case message := <-heard:
@@ -41,6 +48,7 @@ func speakerOf(t *testing.T, w *worlds.World, number int, name string, epoch uin
 			if err != nil {
 				t.Error(err)
 			}
+			proofs[h.Saves] = h.Proof
 			return h.Saves
 		case <-time.After(time.Second):
 			return 0
@@ -73,5 +81,28 @@ func TestOlderCopyIsSavedMeanwhile(t *testing.T) {
 	}
 	if _, err := voter.Open(w.Owns[0], w.Cluster, w.Bus.Port(), event.To(io.Discard)); !errors.Is(err, voter.ErrOlder) {
 		t.Errorf("an older copy is started again: %v", err)
+	}
+	if err := voter.Pardon(w.Owns[0], w.Cluster); err != nil {
+		t.Fatal(err)
+	}
+	if err := voter.Pardon(w.Owns[0], w.Cluster); !errors.Is(err, voter.ErrNoMark) {
+		t.Errorf("a second pardon: %v", err)
+	}
+	w.Start(0)
+	if one("lists request 0 0 2", saves) == 0 {
+		t.Error("a state that was pardoned does not serve who heard of another copy")
+	}
+}
+
+// No count that anybody makes up ends a voter, neither with a session nor without one.
+func TestMadeUpCountsEndNobody(t *testing.T) {
+	w := worlds.New(t, worlds.Majority, time.Second)
+	one := speaker(t, w, 0, "one")
+	saves := one("orders request 0 0 1", 0)
+	port := w.Bus.Port()
+	h := wire.Header{Cluster: "test", Coterie: w.Cluster.Marks()[0], Kind: wire.FromClient, Name: "x", Saves: 1<<64 - 1}
+	_ = port.Send(wire.VoterBox("test", 0), h.Append(nil))
+	if one("stock request 0 0 1", 1<<63) == 0 || one("lists request 0 0 1", saves) == 0 {
+		t.Error("a made-up count stops a voter")
 	}
 }

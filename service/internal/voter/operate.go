@@ -73,8 +73,17 @@ type Refused struct {
 
 // answer is a reply to an operator, and the mark of the plan by which he asked.
 type answer struct {
-	mark string
-	body []byte
+	mark   string
+	body   []byte
+	status *Status // in place of the body: it may be long, so it is written outside of the loop
+}
+
+// text returns the reply as JSON.
+func (a answer) text() []byte {
+	if a.status != nil {
+		return written(*a.status)
+	}
+	return a.body
 }
 
 // operate does what an operator asks, and replies after the save.
@@ -88,14 +97,17 @@ func (d *Daemon) operate(message []byte, now time.Time) {
 	reply, isDone := d.done[question]
 	if !isDone {
 		words := strings.Fields(string(lines))
-		if reply, err = written(d.obey(words, now)); err != nil {
-			reply = []byte(`{"error":"no reply can be written"}`)
+		made := d.obey(words, now)
+		if status, is := made.(Status); is {
+			d.replies[wire.OperatorBox(d.cluster.ID, h.Name)] = answer{mark: h.Coterie, status: &status}
+			return
 		}
+		reply = written(made)
 		if len(words) > 0 && (words[0] == "evict" || words[0] == "unlock") {
 			d.noteDone(question, reply)
 		}
 	}
-	d.replies[wire.OperatorBox(d.cluster.ID, h.Name)] = answer{h.Coterie, reply}
+	d.replies[wire.OperatorBox(d.cluster.ID, h.Name)] = answer{mark: h.Coterie, body: reply}
 }
 
 // noteDone keeps the reply to a question, which has a name of its own, so that one that comes again lets nothing else go.
@@ -107,12 +119,15 @@ func (d *Daemon) noteDone(question string, reply []byte) {
 }
 
 // written returns a reply as JSON. A status that is too long for one message shows fewer votes.
-func written(reply interface{}) ([]byte, error) {
+func written(reply interface{}) []byte {
 	for {
 		text, err := json.Marshal(reply)
+		if err != nil {
+			return []byte(`{"error":"no reply can be written"}`)
+		}
 		s, is := reply.(Status)
-		if err != nil || len(text) <= mostReply || !is || len(s.Votes) == 0 {
-			return text, err
+		if len(text) <= mostReply || !is || len(s.Votes) == 0 {
+			return text
 		}
 		fewer := len(s.Votes) / 2
 		s.Dropped, s.Votes = s.Dropped+len(s.Votes)-fewer, s.Votes[:fewer]
@@ -178,16 +193,20 @@ func (d *Daemon) status(now time.Time) Status {
 	for number, row := range d.table.rows {
 		if row.Open {
 			s.Sessions = append(s.Sessions, SessionView{number, row.Epoch, row.Reserved, config.Hash(row.Name),
-				now.Sub(d.table.heard[number]).Seconds(), d.requests[number]})
+				d.table.silent(number).Seconds(), d.requests[number]})
 		}
 	}
+	shown := make([]*vote, 0, len(d.busy))
 	for v := range d.busy {
-		s.Votes = append(s.Votes, view(v, now))
+		shown = append(shown, v)
 	}
-	sort.Slice(s.Votes, func(i, j int) bool { return s.Votes[i].Lock < s.Votes[j].Lock })
-	if len(s.Votes) > mostShown {
-		s.Dropped = len(s.Votes) - mostShown
-		s.Votes = s.Votes[:mostShown]
+	sort.Slice(shown, func(i, j int) bool { return shown[i].name < shown[j].name })
+	if len(shown) > mostShown {
+		s.Dropped = len(shown) - mostShown
+		shown = shown[:mostShown]
+	}
+	for _, v := range shown {
+		s.Votes = append(s.Votes, view(v, now))
 	}
 	return s
 }

@@ -5,7 +5,6 @@ import (
 	"testing"
 	"time"
 
-	"calvundek.example/service/internal/config"
 	"calvundek.example/service/internal/wire"
 	"calvundek.example/service/internal/worlds"
 )
@@ -21,7 +20,7 @@ func TestRepeatedEvict(t *testing.T) {
 	if err != nil {
 		t.Fatal(err)
 	}
-	header := wire.Header{Cluster: "test", Coterie: config.Hash(w.Cluster.Coterie), Kind: wire.FromOperator, Name: "op"}
+	header := wire.Header{Cluster: "test", Coterie: w.Cluster.Marks()[0], Kind: wire.FromOperator, Name: "op"}
 	ask := func(words string) string {
 		_ = port.Send(wire.AdminBox("test", 0), append(header.Append(nil), words+"\n"...))
 		_, body, _ := wire.Read(<-heard)

@@ -1,7 +1,7 @@
 package voter
 
 import (
-	"encoding/binary"
+	"crypto/rand"
 	"encoding/json"
 	"errors"
 	"fmt"
@@ -9,6 +9,8 @@ import (
 	"path/filepath"
 	"time"
 
+	"calvundek.example/service/internal/config"
+	"calvundek.example/service/qlock"
 	"go.etcd.io/bbolt"
 )
 
@@ -19,11 +21,16 @@ var (
 	ErrOther   = errors.New("the state is another voter's")
 	ErrInUse   = errors.New("the state is in use by another process")
 	ErrOlder   = errors.New("the state is an older copy: a session heard of a later save; put the newest one back, or make the voter again as one that lost its state")
+	ErrFormat  = errors.New("the state is of another version of this program")
+	ErrNoMark  = errors.New("the state has no mark of an older copy")
 	ErrDamaged = errors.New("the state is damaged; it forgot what it granted")
 )
 
-// format is the version of the file.
-const format = 1
+// format is the version of the file. Version 1 had no key, and checksums of votes alone.
+const format = 2
+
+// lockTimeout is how long a file may be in use by another process.
+const lockTimeout = time.Second
 
 // Meta says whose state a file is. It is written once.
 type Meta struct {
@@ -38,13 +45,14 @@ type Meta struct {
 
 // owner returns the parts that have to be those of whoever opens the file.
 func (m Meta) owner() string {
-	return fmt.Sprintf("voter %d of cluster %s, lost %d times, format %d", m.Voter, m.Cluster, m.Block, m.Format)
+	return fmt.Sprintf("voter %d of cluster %s, lost %d times", m.Voter, m.Cluster, m.Block)
 }
 
 var (
 	metaBucket    = []byte("meta")
 	savesKey      = []byte("saves")
 	plansKey      = []byte("plans")
+	proofKey      = []byte("key")   // with which the voter proves its counts of saves
 	olderKey      = []byte("older") // is there if this copy was found to be an older one
 	voteBucket    = []byte("votes")
 	sessionBucket = []byte("sessions")
@@ -55,7 +63,11 @@ type store struct {
 	db    *bbolt.DB
 	meta  Meta
 	plans Generations // as they were read
+	key   []byte      // with which counts of saves are proved
 	saves uint64      // how often it was saved; each loss begins far above
+	votes uint64      // how many votes it has
+
+	isOlder bool // it has the mark of an older copy
 }
 
 func file(folder string) string { return filepath.Join(folder, "voter.db") }
@@ -83,7 +95,7 @@ func Create(folder string, meta Meta, plans Generations, sessions map[int]Sessio
 }
 
 func write(path string, meta Meta, plans Generations, sessions map[int]Session) error {
-	db, err := bbolt.Open(path, 0o600, &bbolt.Options{Timeout: time.Second})
+	db, err := bbolt.Open(path, 0o600, &bbolt.Options{Timeout: lockTimeout})
 	if err != nil {
 		return err
 	}
@@ -97,16 +109,23 @@ func write(path string, meta Meta, plans Generations, sessions map[int]Session) 
 		if err != nil {
 			return err
 		}
-		if err := tx.Bucket(metaBucket).Put(metaBucket, value); err != nil {
+		if err := put(tx, metaBucket, metaBucket, value); err != nil {
 			return err
 		}
-		if err := putSaves(tx, meta.Block<<40); err != nil {
+		if err := putCounts(tx, meta.Block<<40, 0); err != nil {
+			return err
+		}
+		if err := putNewKey(tx); err != nil {
 			return err
 		}
 		if err := putPlans(tx, plans); err != nil {
 			return err
 		}
-		return putSessions(tx, sessions)
+		all := map[int]Session{} // a row for each number, so that none is missed if it is gone later
+		for number := 0; number < qlock.MaxClients; number++ {
+			all[number] = sessions[number]
+		}
+		return putSessions(tx, all)
 	})
 	if closed := db.Close(); err == nil {
 		err = closed
@@ -132,84 +151,137 @@ func syncFolders(folder string) error {
 
 // openStore opens the state of a voter, which has to be there, and this voter's. One process has it at a time.
 func openStore(folder string, want Meta) (*store, error) {
+	s, err := openFile(folder, want)
+	if err == nil && s.isOlder {
+		s.db.Close()
+		return nil, fmt.Errorf("%s: %w", file(folder), ErrOlder)
+	}
+	return s, err
+}
+
+// openFile opens the state of a voter, also one that has the mark of an older copy.
+func openFile(folder string, want Meta) (*store, error) {
 	if _, err := os.Stat(file(folder)); errors.Is(err, os.ErrNotExist) {
 		return nil, fmt.Errorf("%s: %w", file(folder), ErrMissing)
 	} else if err != nil {
 		return nil, err
 	}
-	db, err := bbolt.Open(file(folder), 0o600, &bbolt.Options{
-		Timeout: time.Second, NoFreelistSync: true, FreelistType: bbolt.FreelistMapType, InitialMmapSize: 64 << 20,
-	})
-	switch {
-	case errors.Is(err, bbolt.ErrTimeout):
-		return nil, fmt.Errorf("%s: %w", file(folder), ErrInUse)
-	case errors.Is(err, bbolt.ErrInvalid), errors.Is(err, bbolt.ErrChecksum), errors.Is(err, bbolt.ErrVersionMismatch):
-		return nil, fmt.Errorf("%s: %w: %v", file(folder), ErrDamaged, err)
-	case err != nil:
-		return nil, err
+	db, err := openDatabase(file(folder))
+	if err != nil {
+		return nil, named(file(folder), err)
 	}
 	s := &store{db: db}
 	if err := s.begin(folder, want); err != nil {
 		db.Close()
-		return nil, err
+		return nil, fmt.Errorf("%s: %w", file(folder), err)
 	}
 	return s, nil
 }
 
-// begin checks whose state it is. What a killed process wrote may not be durable yet, so it is synced before anything
-// depends on it.
-func (s *store) begin(folder string, want Meta) error {
-	err := s.db.View(func(tx *bbolt.Tx) error {
-		for _, name := range [][]byte{metaBucket, voteBucket, sessionBucket} {
-			if tx.Bucket(name) == nil {
-				return fmt.Errorf("%s: %w", file(folder), ErrDamaged)
-			}
-		}
-		if err := json.Unmarshal(tx.Bucket(metaBucket).Get(metaBucket), &s.meta); err != nil {
-			return fmt.Errorf("%s: %w: %v", file(folder), ErrDamaged, err)
-		}
-		saves := tx.Bucket(metaBucket).Get(savesKey)
-		if len(saves) != 8 || json.Unmarshal(tx.Bucket(metaBucket).Get(plansKey), &s.plans) != nil {
-			return fmt.Errorf("%s: %w", file(folder), ErrDamaged)
-		}
-		s.saves = binary.LittleEndian.Uint64(saves)
-		if tx.Bucket(metaBucket).Get(olderKey) != nil {
-			return fmt.Errorf("%s: %w", file(folder), ErrOlder)
-		}
+// named returns an error of opening a file by the names of this package, with the file's name.
+func named(path string, err error) error {
+	switch {
+	case err == nil:
 		return nil
+	case errors.Is(err, bbolt.ErrTimeout):
+		return fmt.Errorf("%s: %w", path, ErrInUse)
+	case errors.Is(err, bbolt.ErrInvalid), errors.Is(err, bbolt.ErrChecksum), errors.Is(err, bbolt.ErrVersionMismatch):
+		return fmt.Errorf("%s: %w: %v", path, ErrDamaged, err)
+	}
+	return fmt.Errorf("%s: %w", path, err)
+}
+
+// openDatabase opens a file all of whose rows are as they were saved.
+func openDatabase(path string) (*bbolt.DB, error) {
+	if err := verify(path); err != nil {
+		return nil, err
+	}
+	return bbolt.Open(path, 0o600, &bbolt.Options{
+		Timeout: lockTimeout, NoFreelistSync: true, FreelistType: bbolt.FreelistMapType, InitialMmapSize: 64 << 20,
 	})
-	if err != nil {
+}
+
+// begin checks whose state it is. What a killed process wrote may not be durable yet, also if a
+// sync after the one that failed says so. So a start writes a transaction before anything depends
+// on what was read, and another one, for the other root page.
+func (s *store) begin(folder string, want Meta) error {
+	if err := s.db.View(s.read); err != nil {
 		return err
 	}
-	want.Format = format
 	if s.meta.owner() != want.owner() {
-		return fmt.Errorf("%s: %w: of %s, not of %s", file(folder), ErrOther, s.meta.owner(), want.owner())
+		return fmt.Errorf("%w: of %s, not of %s", ErrOther, s.meta.owner(), want.owner())
 	}
-	if err := s.db.Sync(); err != nil {
+	if err := s.db.View(check); err != nil {
 		return err
+	}
+	for root := 0; root < 2; root++ {
+		if err := s.db.Update(func(tx *bbolt.Tx) error { return putCounts(tx, s.saves, s.votes) }); err != nil {
+			return err
+		}
 	}
 	return syncFolders(folder)
+}
+
+// check looks at all pages of the file.
+func check(tx *bbolt.Tx) (err error) {
+	for fault := range tx.Check() {
+		if err == nil {
+			err = fmt.Errorf("%w: %v", ErrDamaged, fault)
+		}
+	}
+	return err
+}
+
+// isOldFormat returns whether a file has the format of before there were checksums of all rows.
+func isOldFormat(tx *bbolt.Tx) bool {
+	var meta Meta
+	return json.Unmarshal(tx.Bucket(metaBucket).Get(metaBucket), &meta) == nil
+}
+
+// read reads whose state it is, and what there is but votes and sessions.
+func (s *store) read(tx *bbolt.Tx) (err error) {
+	if isOldFormat(tx) {
+		return fmt.Errorf("%w: it has format 1, and this one has format %d", ErrFormat, format)
+	}
+	var meta, plans, older []byte
+	for _, one := range []struct {
+		key  []byte
+		into *[]byte
+	}{{metaBucket, &meta}, {plansKey, &plans}, {proofKey, &s.key}, {olderKey, &older}} {
+		if *one.into, err = get(tx, metaBucket, one.key); err != nil {
+			return err
+		}
+	}
+	s.key, s.isOlder = append([]byte(nil), s.key...), older != nil
+	if len(s.key) != keyBytes || json.Unmarshal(meta, &s.meta) != nil || json.Unmarshal(plans, &s.plans) != nil {
+		return fmt.Errorf("%w: it does not say whose it is", ErrDamaged)
+	}
+	if s.meta.Format != format {
+		return fmt.Errorf("%w: it has format %d, and this one has format %d", ErrFormat, s.meta.Format, format)
+	}
+	s.saves, s.votes, err = counts(tx)
+	return err
 }
 
 // load hands each vote and each session to a function.
 func (s *store) load(vote func(name string, state []byte) error, session func(number int, row Session) error) error {
 	return s.db.View(func(tx *bbolt.Tx) error {
-		err := tx.Bucket(voteBucket).ForEach(func(k, v []byte) error {
-			state, ok := unpack(v)
+		err := each(tx, voteBucket, func(key, value []byte) error {
+			state, ok := unpack(value)
 			if !ok {
-				return fmt.Errorf("vote %q: %w", k, ErrDamaged)
+				return fmt.Errorf("vote %q: %w", key, ErrDamaged)
 			}
-			return vote(string(k), state)
+			return vote(string(key), state)
 		})
 		if err != nil {
 			return err
 		}
-		return tx.Bucket(sessionBucket).ForEach(func(k, v []byte) error {
+		return each(tx, sessionBucket, func(key, value []byte) error {
 			var row Session
-			if err := json.Unmarshal(v, &row); err != nil || len(k) != 1 || k[0] >= 64 {
-				return fmt.Errorf("session %x: %w", k, ErrDamaged)
+			if err := json.Unmarshal(value, &row); err != nil || len(key) != 1 || key[0] >= qlock.MaxClients {
+				return fmt.Errorf("session %x: %w", key, ErrDamaged)
 			}
-			return session(int(k[0]), row)
+			return session(int(key[0]), row)
 		})
 	})
 }
@@ -217,14 +289,18 @@ func (s *store) load(vote func(name string, state []byte) error, session func(nu
 // save saves votes, sessions and plans in one transaction, and counts it. Plans that did not change are nil. When it returns nil all
 // is on the disk.
 func (s *store) save(votes map[*vote]struct{}, sessions map[int]Session, plans *Generations) error {
+	count := s.votes
 	err := s.db.Update(func(tx *bbolt.Tx) error {
-		bucket := tx.Bucket(voteBucket)
+		count = s.votes
 		for v := range votes {
-			if err := bucket.Put([]byte(v.name), pack(v.State())); err != nil {
+			if !v.isSaved {
+				count++
+			}
+			if err := put(tx, voteBucket, []byte(v.name), pack(v.State())); err != nil {
 				return err
 			}
 		}
-		if err := putSaves(tx, s.saves+1); err != nil {
+		if err := putCounts(tx, s.saves+1, count); err != nil {
 			return err
 		}
 		if plans != nil {
@@ -234,19 +310,47 @@ func (s *store) save(votes map[*vote]struct{}, sessions map[int]Session, plans *
 		}
 		return putSessions(tx, sessions)
 	})
-	if err == nil {
-		s.saves++
+	if err != nil {
+		return err
 	}
-	return err
+	s.saves, s.votes = s.saves+1, count
+	for v := range votes {
+		v.isSaved = true
+	}
+	return nil
 }
 
 // condemn notes that this is an older copy, so that no start serves with it: its saves would hide what it forgot.
 func (s *store) condemn() error {
-	return s.db.Update(func(tx *bbolt.Tx) error { return tx.Bucket(metaBucket).Put(olderKey, []byte{1}) })
+	return s.db.Update(func(tx *bbolt.Tx) error { return put(tx, metaBucket, olderKey, []byte{1}) })
 }
 
-func putSaves(tx *bbolt.Tx, saves uint64) error {
-	return tx.Bucket(metaBucket).Put(savesKey, binary.LittleEndian.AppendUint64(nil, saves))
+// Pardon takes the mark of an older copy off a state, whose operator knows that it is the newest
+// one. The state gets a new key: what sessions heard of another copy says nothing of it any more.
+func Pardon(own *config.Voter, cluster *config.Cluster) error {
+	s, err := openFile(own.Data, Owner(own, cluster))
+	if err != nil {
+		return err
+	}
+	defer s.db.Close()
+	if !s.isOlder {
+		return fmt.Errorf("%s: %w", file(own.Data), ErrNoMark)
+	}
+	return s.db.Update(func(tx *bbolt.Tx) error {
+		if err := tx.Bucket(metaBucket).Delete(olderKey); err != nil {
+			return err
+		}
+		return putNewKey(tx)
+	})
+}
+
+// putNewKey saves a new key for proofs.
+func putNewKey(tx *bbolt.Tx) error {
+	key := make([]byte, keyBytes)
+	if _, err := rand.Read(key); err != nil {
+		return err
+	}
+	return put(tx, metaBucket, proofKey, key)
 }
 
 func putPlans(tx *bbolt.Tx, plans Generations) error {
@@ -254,17 +358,16 @@ func putPlans(tx *bbolt.Tx, plans Generations) error {
 	if err != nil {
 		return err
 	}
-	return tx.Bucket(metaBucket).Put(plansKey, value)
+	return put(tx, metaBucket, plansKey, value)
 }
 
 func putSessions(tx *bbolt.Tx, sessions map[int]Session) error {
-	bucket := tx.Bucket(sessionBucket)
 	for number, row := range sessions {
 		value, err := json.Marshal(row)
 		if err != nil {
 			return err
 		}
-		if err := bucket.Put([]byte{byte(number)}, value); err != nil {
+		if err := put(tx, sessionBucket, []byte{byte(number)}, value); err != nil {
 			return err
 		}
 	}

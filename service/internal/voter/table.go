@@ -8,48 +8,89 @@ import (
 
 // Session is what a voter keeps of a client's number.
 type Session struct {
-	Name     string `json:"name"`     // the session's mailbox, and its secret
-	Epoch    uint64 `json:"epoch"`    // grows with each session of the number
-	Base     uint64 `json:"base"`     // all stamps of the session are above it
-	Reserved uint64 `json:"reserved"` // no stamp of the number so far is above it
-	Open     bool   `json:"open"`
-	Used     bool   `json:"used"` // messages of it came, so a quorum accepted it
+	Name     string `json:"name"`              // the session's mailbox, and its secret
+	Epoch    uint64 `json:"epoch"`             // grows with each session of the number
+	Base     uint64 `json:"base"`              // all stamps of the session are above it
+	Reserved uint64 `json:"reserved"`          // no stamp of the number so far is above it
+	Open     bool   `json:"open"`              // it is neither over nor ended
+	Used     bool   `json:"used"`              // messages of it came, so a quorum accepted it
+	Dropped  bool   `json:"dropped,omitempty"` // it took its claim back, so another session may claim the epoch
+	Lapses   uint64 `json:"lapses,omitempty"`  // how often this voter let a grant of it go, as it was silent
 }
 
-// table has a row for each client number. Two quorums meet, and a voter accepts an epoch of a number once: so an epoch
-// has one session, and no stamp is used by two of them.
+// The bounds of what a claim or a header may name. A session of a number that was idle follows the
+// stamps that others used: what is bounded is how fast the highest stamp grows.
+const (
+	mostEpochs = 1 << 20 // above the row's, at once
+	epochRate  = 1 << 4  // a second, for a number
+	mostStamps = 1 << 20 // above the highest, at once
+	stampRate  = 1 << 16 // a second
+)
+
+// table has a row for each client number. A session claims its number, and is never learned from a
+// header. Stamps of a session are above its base and at most what it reserved, and the next
+// session's base is what was reserved. So a voter takes no stamp from two sessions. Two quorums
+// meet, so no two sessions use one stamp.
 type table struct {
 	ttl     time.Duration
 	rows    [qlock.MaxClients]Session
-	heard   [qlock.MaxClients]time.Time
+	heard   [qlock.MaxClients]time.Time // on the lease clock
+	clock   leaseClock
 	changed map[int]Session // to be saved before anything leaves
+	epochs  [qlock.MaxClients]allowance
+	stamps  allowance
 }
 
-// hear begins all leases anew: nobody could be heard before.
-func (t *table) hear(now time.Time) {
+// begin begins a run of a voter: all leases begin anew, and so does what numbers may grow.
+func (t *table) begin(now time.Time) {
+	t.clock = newLeaseClock(t.ttl, now)
 	for i := range t.heard {
 		t.heard[i] = now
 	}
-}
-
-// skip lets all leases last longer by some time, in which nobody could be heard.
-func (t *table) skip(silent time.Duration) {
-	for i := range t.heard {
-		t.heard[i] = t.heard[i].Add(silent)
+	t.stamps = newAllowance(mostStamps, now)
+	for i := range t.epochs {
+		t.epochs[i] = newAllowance(mostEpochs, now)
 	}
 }
 
+// hear notes that a number's session was heard.
+func (t *table) hear(number int, now time.Time) { t.heard[number] = t.clock.at(now) }
+
+// silent returns for how long nothing came of a number's session, up to when all that was sent was
+// heard.
+func (t *table) silent(number int) time.Duration { return t.clock.reading().Sub(t.heard[number]) }
+
 // isDead returns whether the votes of a number may be let go: its session was ended, or silent for a TTL.
-func (t *table) isDead(number int, now time.Time) bool {
-	return !t.rows[number].Open || now.Sub(t.heard[number]) > t.ttl
+func (t *table) isDead(number int) bool { return !t.rows[number].Open || t.silent(number) >= t.ttl }
+
+// lapse counts that a grant of a number's session is let go since it was silent. Whoever hears the
+// voter later hears the count.
+func (t *table) lapse(number int) {
+	row := t.rows[number]
+	row.Lapses++
+	t.put(number, row)
 }
 
+// lapses returns the count of a session, 0 if it has no number here.
+func (t *table) lapses(name string) uint64 {
+	for i := range t.rows {
+		if row := &t.rows[i]; row.Open && row.Name == name {
+			return row.Lapses
+		}
+	}
+	return 0
+}
+
+// isEarlier returns whether a stamp of a number is that of an earlier session than the one that it
+// has now.
+func (t *table) isEarlier(number int, stamp uint64) bool { return stamp <= t.rows[number].Base }
+
 // state returns what a claimer has to know of a number: 1 if it is free, 2 if its session was silent for a TTL, else 0.
-func (t *table) state(number int, now time.Time) int {
+func (t *table) state(number int) int {
 	switch {
 	case !t.rows[number].Open:
 		return 1
-	case t.isDead(number, now):
+	case t.isDead(number):
 		return 2
 	}
 	return 0
@@ -64,53 +105,87 @@ func (t *table) put(number int, row Session) {
 type verdict int
 
 const (
-	known verdict = iota // it is of the number's session
-	begun                // it is of a newer session, which a quorum accepted, and this voter hears of only now
-	taken                // the number has another session
+	known   verdict = iota // it is of the number's session
+	unknown                // its session may claim the number here
+	taken                  // the number has another session, or had a later one
 )
 
-// admit judges a message by the session that sent it, and notes what it reserves.
-func (t *table) admit(number int, name string, epoch, reserved uint64, now time.Time) verdict {
+// judge judges a message by the session that sent it.
+func (t *table) judge(number int, name string, epoch uint64) verdict {
 	row := t.rows[number]
-	another := name != row.Name
-	if epoch < row.Epoch || epoch == row.Epoch && (another && row.Used || !another && !row.Open) {
+	switch {
+	case epoch > row.Epoch || epoch == row.Epoch && row.Dropped:
+		return unknown
+	case epoch < row.Epoch || name != row.Name || !row.Open:
 		return taken
 	}
-	t.heard[number] = now
-	judged := known
-	if epoch > row.Epoch || another { // whoever claimed the same epoch here had no quorum
-		judged = begun
-		row = Session{Name: name, Epoch: epoch, Base: row.Reserved, Reserved: row.Reserved, Open: true}
-	}
-	row.Used = true
-	if reserved > row.Reserved {
-		row.Reserved = reserved
-	}
-	if row != t.rows[number] {
-		t.put(number, row)
-	}
-	return judged
+	return known
 }
 
-// claim gives a number to a session, and returns whether it did: the epoch is new, and the number free, or its session
-// was silent for a TTL. The same claim again is granted again.
+// admit judges a message, and notes that its session was heard.
+func (t *table) admit(number int, name string, epoch uint64, now time.Time) verdict {
+	judged := t.judge(number, name, epoch)
+	if judged != known {
+		return judged
+	}
+	t.hear(number, now)
+	if row := t.rows[number]; !row.Used {
+		row.Used = true
+		t.put(number, row)
+	}
+	return known
+}
+
+// reserve notes which stamps the session of a number reserves, as far as it may.
+func (t *table) reserve(number int, wanted uint64, now time.Time) {
+	row := t.rows[number]
+	if wanted <= row.Reserved {
+		return
+	}
+	highest := t.highest()
+	reserved := smallest(wanted, smallest(highest+t.stamps.refill(stampRate, mostStamps, now), qlock.MaxStamp))
+	if reserved <= row.Reserved {
+		return
+	}
+	if reserved > highest {
+		t.stamps.spend(reserved - highest)
+	}
+	row.Reserved = reserved
+	t.put(number, row)
+}
+
+// highest returns the highest stamp that any number reserved.
+func (t *table) highest() (stamp uint64) {
+	for _, row := range t.rows {
+		stamp = greatest(stamp, row.Reserved)
+	}
+	return stamp
+}
+
+// claim gives a number to a session, and returns whether it did: the epoch is new and not too far
+// above the last one, and the number is free, or its session was silent for a TTL. The same claim
+// again is granted again.
 func (t *table) claim(number int, name string, epoch uint64, now time.Time) bool {
 	row := t.rows[number]
-	if row.Epoch == epoch && row.Name == name && row.Open {
+	if t.judge(number, name, epoch) == known {
 		return true
 	}
-	if epoch <= row.Epoch || !t.isDead(number, now) {
+	growth, left := epoch-row.Epoch, t.epochs[number].refill(epochRate, mostEpochs, now)
+	if t.judge(number, name, epoch) == taken || !t.isDead(number) || growth > left {
 		return false
 	}
+	t.epochs[number].spend(growth)
 	t.put(number, Session{Name: name, Epoch: epoch, Base: row.Reserved, Reserved: row.Reserved, Open: true})
-	t.heard[number] = now
+	t.hear(number, now)
 	return true
 }
 
-// drop frees a number that was claimed here, and that the claimer did not get from a quorum.
+// drop frees a number that was claimed here, and that the claimer did not get from a quorum. It
+// claims this epoch never again.
 func (t *table) drop(number int, name string, epoch uint64) {
-	if row := t.rows[number]; row.Epoch == epoch && row.Name == name && !row.Used {
-		t.end(number)
+	if row := t.rows[number]; row.Epoch == epoch && row.Name == name && row.Open && !row.Used {
+		row.Open, row.Dropped = false, true
+		t.put(number, row)
 	}
 }
 
@@ -122,16 +197,20 @@ func (t *table) end(number int) {
 	}
 }
 
-// learn takes what other voters know of a number, and returns whether it has another session now.
+// learn takes what other voters know of a number, and returns whether it has another session now. A
+// session that is in use gives way to no claim alone. What was reserved here is below the stamps of
+// another session.
 func (t *table) learn(number int, row Session, now time.Time) bool {
 	own := t.rows[number]
-	newer := row.Epoch > own.Epoch
+	newer := row.Epoch > own.Epoch && (row.Used || !own.Used)
+	before := own
 	if newer {
-		own, row.Reserved = row, greatest(own.Reserved, row.Reserved)
-		t.heard[number] = now
+		own = row
+		own.Base, own.Lapses = greatest(before.Reserved, row.Base), 0
+		t.hear(number, now)
 	}
-	own.Reserved = greatest(own.Reserved, row.Reserved)
-	if own != t.rows[number] {
+	own.Reserved = greatest(before.Reserved, greatest(row.Reserved, own.Base))
+	if own != before {
 		t.put(number, own)
 	}
 	return newer
@@ -139,6 +218,13 @@ func (t *table) learn(number int, row Session, now time.Time) bool {
 
 func greatest(a, b uint64) uint64 {
 	if a > b {
+		return a
+	}
+	return b
+}
+
+func smallest(a, b uint64) uint64 {
+	if a < b {
 		return a
 	}
 	return b

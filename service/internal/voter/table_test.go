@@ -10,59 +10,122 @@ import (
 
 func newTable(now time.Time) *table {
 	t := &table{ttl: time.Second, changed: map[int]Session{}}
-	t.hear(now)
+	t.begin(now)
 	return t
+}
+
+// passes lets a table's lease clock go on to a time.
+func passes(t *table, now time.Time) { t.clock.back.left = now.Add(t.clock.skipped) }
+
+// claimAt claims at a time, up to which all that was sent was heard.
+func claimAt(t *table, number int, name string, epoch uint64, now time.Time) bool {
+	passes(t, now)
+	return t.claim(number, name, epoch, now)
+}
+
+// isDeadAt returns whether a number is dead at a time, up to which all that was sent was heard.
+func isDeadAt(t *table, number int, now time.Time) bool {
+	passes(t, now)
+	return t.isDead(number)
+}
+
+// admits returns what a table says of a message that reserves stamps, too.
+func admits(t *table, number int, name string, epoch, reserved uint64, now time.Time) verdict {
+	judged := t.admit(number, name, epoch, now)
+	if judged == known {
+		t.reserve(number, reserved, now)
+	}
+	return judged
 }
 
 func TestClaims(t *testing.T) {
 	now := time.Unix(1000, 0)
 	table := newTable(now)
 	later := now.Add(2 * time.Second)
+	row := func() Session { return table.rows[3] } // calls take place in their order
 	for _, one := range []struct {
 		what string
 		got  bool
 		want bool
 	}{
-		{"a free number", table.claim(3, "a", 1, now), true},
-		{"the same claim again", table.claim(3, "a", 1, now), true},
-		{"the epoch again", table.claim(3, "b", 1, now), false},
-		{"a number in use", table.claim(3, "b", 2, now), false},
-		{"a message of the session", table.admit(3, "a", 1, 100, now) == known, true},
-		{"a message of another one", table.admit(3, "b", 1, 0, now) == taken, true},
-		{"a silent session's number", table.claim(3, "b", 2, later), true},
-		{"the old session", table.admit(3, "a", 1, 0, later) == taken, true},
-		{"what it reserved is kept", table.rows[3].Base == 100 && table.rows[3].Reserved == 100, true},
-		{"a session that others accepted", table.admit(3, "c", 4, 500, later) == begun, true},
-		{"begins above the old one", table.rows[3].Base == 100 && table.rows[3].Reserved == 500, true},
+		{"a message of a session that claimed nothing", admits(table, 3, "a", 1, 100, now) == unknown, true},
+		{"it leaves nothing behind", row() == Session{}, true},
+		{"a free number", claimAt(table, 3, "a", 1, now), true},
+		{"the same claim again", claimAt(table, 3, "a", 1, now), true},
+		{"the epoch again", claimAt(table, 3, "b", 1, now), false},
+		{"a number in use", claimAt(table, 3, "b", 2, now), false},
+		{"a message of the session", admits(table, 3, "a", 1, 100, now) == known, true},
+		{"a message of another one", admits(table, 3, "b", 1, 0, now) == taken, true},
+		{"a number whose session was silent for less than a TTL", claimAt(table, 3, "b", 2,
+			now.Add(900*time.Millisecond)), false},
+		{"a silent session's number", claimAt(table, 3, "b", 2, later), true},
+		{"the old session", admits(table, 3, "a", 1, 0, later) == taken, true},
+		{"what it reserved is kept", row().Base == 100 && row().Reserved == 100, true},
+		{"a later session that did not claim here", admits(table, 3, "c", 4, 500, later) == unknown, true},
+		{"it takes nothing over", row().Name == "b" && row().Reserved == 100, true},
+		{"a claim far above the epoch", claimAt(table, 5, "x", 1<<20+1, now), false},
+		{"one that is not", claimAt(table, 5, "x", 1<<18, now), true},
 	} {
 		if one.got != one.want {
 			t.Error(one.what)
 		}
 	}
-	if !table.claim(5, "x", 1, now) || table.admit(5, "y", 1, 10, now) != begun || table.admit(5, "x", 1, 10, now) != taken {
-		t.Error("whoever has the quorum does not get an epoch that another one claimed")
-	}
-	if table.drop(5, "y", 1); !table.rows[5].Open {
-		t.Error("a session that a quorum accepted was dropped")
-	}
-	if table.claim(6, "x", 1, now); table.rows[6].Open {
+	if claimAt(table, 6, "x", 1, now); table.rows[6].Open {
 		if table.drop(6, "x", 1); table.rows[6].Open {
 			t.Error("a claim stays that was dropped")
 		}
 	}
-	table.skip(3 * time.Second)
-	if !table.claim(7, "x", 1, later) || table.isDead(7, later.Add(900*time.Millisecond)) || !table.isDead(7, later.Add(1100*time.Millisecond)) {
+	if !claimAt(table, 6, "y", 1, now) || table.admit(6, "y", 1, now) != known || table.admit(6, "x", 1, now) != taken {
+		t.Error("whoever has the quorum does not get an epoch that another one took back")
+	}
+	if table.drop(6, "y", 1); !table.rows[6].Open {
+		t.Error("a session that a quorum accepted was dropped")
+	}
+	if !claimAt(table, 7, "x", 1, later) || isDeadAt(table, 7, later.Add(900*time.Millisecond)) || !isDeadAt(table, 7,
+		later.Add(1100*time.Millisecond)) {
 		t.Error("a lease is not as long as the TTL")
 	}
-	if table.skip(time.Second); table.isDead(7, later.Add(1900*time.Millisecond)) || !table.isDead(7, later.Add(2100*time.Millisecond)) {
-		t.Error("time that is skipped counts")
-	}
 	table.expel(3)
-	if table.admit(3, "c", 4, 0, later) != taken || !table.isDead(3, later) {
+	if table.admit(3, "b", 2, later) != taken || !isDeadAt(table, 3, later) {
 		t.Error("a session that was expelled goes on")
 	}
-	if table.claim(3, "d", 5, later) || !table.claim(3, "d", 6, later) {
+	if claimAt(table, 3, "d", 3, later) || !claimAt(table, 3, "d", 4, later) {
 		t.Error("an epoch was given twice")
+	}
+}
+
+// However often somebody claims and reserves, the highest stamp grows at most by 2^16 a second, and
+// no epoch by more than 2^20 at once. Others may follow what one reserved.
+func TestGrowthIsBounded(t *testing.T) {
+	now := time.Unix(1000, 0)
+	table := newTable(now)
+	table.claim(3, "a", 1, now)
+	for i := 0; i < 100000; i++ {
+		now = now.Add(100 * time.Microsecond)
+		table.admit(3, "a", 1, now)
+		table.reserve(3, table.rows[3].Reserved+mostStamps, now)
+	}
+	if most := uint64(mostStamps + 10*stampRate); table.rows[3].Reserved > most || table.rows[3].Reserved < most/2 {
+		t.Errorf("after ten seconds %d stamps are reserved", table.rows[3].Reserved)
+	}
+	table.claim(4, "b", 1, now)
+	if table.reserve(4, table.rows[3].Reserved, now); table.rows[4].Reserved != table.rows[3].Reserved {
+		t.Error("a session can't follow the stamps of another one")
+	}
+	table.reserve(4, 1<<62, now.Add(1000000*time.Hour))
+	if table.reserve(4, 1<<63, now.Add(2000000*time.Hour)); table.rows[4].Reserved > qlock.MaxStamp {
+		t.Error("a stamp is reserved that there is not")
+	}
+	for i := 0; i < 1000; i++ {
+		table.claim(5, "x", table.rows[5].Epoch+mostEpochs, now)
+		table.claim(5, "x", table.rows[5].Epoch+mostEpochs/2, now)
+		table.end(5)
+	}
+	if table.rows[5].Epoch > mostEpochs {
+		t.Errorf("a number has the epoch %d", table.rows[5].Epoch)
+	}
+	if other := newTable(now); !other.claim(5, "y", table.rows[5].Epoch+1, now.Add(time.Second)) {
+		t.Error("a session that saw this epoch gets the number from no other voter")
 	}
 }
 
@@ -91,7 +154,7 @@ func stampsUsedTwice(meet int) (twice int) {
 			now = now.Add(2 * time.Second) // the one before is silent, and may come back
 			epoch, answers, base := uint64(session), 0, uint64(0)
 			for i := 0; i < 3; i++ {
-				if random.Intn(3) > 0 && tables[i].claim(0, string(rune('a'+session)), epoch, now) {
+				if random.Intn(3) > 0 && claimAt(tables[i], 0, string(rune('a'+session)), epoch, now) {
 					answers += weight(i, meet)
 					if tables[i].rows[0].Reserved > base {
 						base = tables[i].rows[0].Reserved
@@ -103,7 +166,9 @@ func stampsUsedTwice(meet int) (twice int) {
 			}
 			acknowledged := 0
 			for i := 0; i < 3; i++ {
-				if random.Intn(3) > 0 && tables[i].admit(0, string(rune('a'+session)), epoch, base+10, now) != taken {
+				name := string(rune('a' + session))
+				if random.Intn(3) > 0 && admits(tables[i], 0, name, epoch, base+10, now) == known &&
+					tables[i].rows[0].Reserved >= base+10 {
 					acknowledged += weight(i, meet)
 				}
 			}

@@ -23,6 +23,7 @@ type vote struct {
 	timer remind.Timer // for the reminder of whoever has it
 
 	isSpent bool // it was logged that all grants are given
+	isSaved bool // the file has it
 }
 
 // isHolder returns whether the client has the vote.
@@ -53,6 +54,7 @@ func (d *Daemon) restore(name string, state []byte, now time.Time) error {
 		return err
 	}
 	v := d.add(name, voter)
+	v.isSaved = true
 	held, err := v.Held()
 	if err != nil || held.Number == 0 {
 		return err

@@ -115,10 +115,16 @@ func session(t *testing.T, w *worlds.World, to int) (<-chan []byte, func(lines s
 	if err != nil {
 		t.Fatal(err)
 	}
-	header := wire.Header{Cluster: "test", Coterie: config.Hash(w.Cluster.Coterie), Kind: wire.FromClient, Epoch: 1, Reserved: 100, Name: "me"}
-	return heard, func(lines string) {
+	header := wire.Header{Cluster: "test", Coterie: w.Cluster.Marks()[0], Kind: wire.FromClient, Epoch: 1,
+		Reserved: 100, Name: "me"}
+	send := func(lines string) {
 		_ = port.Send(wire.VoterBox("test", to), append(header.Append(nil), lines...))
 	}
+	send(". claim 0 1\n")
+	if reply := <-heard; lastIndex(reply, ". claimed 0 1 0 0\n") < 0 {
+		t.Fatalf("no claim: %s", reply)
+	}
+	return heard, send
 }
 
 // A voter whose save fails sends nothing of it, and ends.
@@ -162,7 +168,10 @@ func TestForeignMessages(t *testing.T) {
 	if err != nil {
 		t.Fatal(err)
 	}
-	right := wire.Header{Cluster: "test", Coterie: config.Hash(w.Cluster.Coterie), Kind: wire.FromClient, Epoch: 1, Reserved: 100, Name: "me"}
+	right := wire.Header{Cluster: "test", Coterie: w.Cluster.Marks()[0], Kind: wire.FromClient, Epoch: 1,
+		Reserved: 100, Name: "me"}
+	_ = port.Send(wire.VoterBox("test", 0), append(right.Append(nil), ". claim 0 1\n"...))
+	<-heard
 	for what, how := range map[string]func(h *wire.Header) string{
 		"another cluster":     func(h *wire.Header) string { h.Cluster = "x"; return "orders request 0 0 1\n" },
 		"another coterie":     func(h *wire.Header) string { h.Coterie = "x"; return "orders request 0 0 1\n" },

@@ -1,22 +1,37 @@
 // Package wire has the messages between voters, clients and operators: a header line, and lines of locks, "LOCK LINE",
 // or of control, ". WORDS". One message may have the lines of many locks.
 //
-//	qlock1 CLUSTER COTERIE c NUMBER EPOCH RESERVED SESSION SEQ SAVES   from a client's session
-//	qlock1 CLUSTER COTERIE v NUMBER BLOCK IDENTITY SAVES               from a voter
-//	qlock1 CLUSTER COTERIE o NAME                                      from an operator
+//	qlock1 CLUSTER COTERIE c NUMBER EPOCH RESERVED SESSION SEQ SAVES PROOF   from a client's session
+//	qlock1 CLUSTER COTERIE v NUMBER BLOCK IDENTITY SAVES PROOF LAPSES        from a voter
+//	qlock1 CLUSTER COTERIE o NAME                                            from an operator
 //
-// COTERIE is a part of the SHA-256 of the coterie and of how often the plan was exchanged. A voter counts its saves, and a
-// session says the highest count that it heard of the receiver. Lines of control, and the replies:
+// COTERIE is a part of the SHA-256 of the TTL, the coterie, and how often the plan was exchanged. A
+// voter counts its saves. It proves the count by a word that only it can make, and a session
+// repeats the highest count that it heard of the receiver, with its PROOF; a session that heard of
+// none says 0 and "-". LAPSES counts how often the voter let a grant of the session go since it was
+// silent. Lines of control, and the replies:
 //
 //	hello         number N EPOCH FREE for each number
-//	claim N EPOCH claimed N EPOCH RESERVED, or refused N EPOCH
+//	claim N EPOCH claimed N EPOCH BASE RESERVED, or refused N EPOCH
 //	drop N EPOCH  none: a claim had no quorum
-//	open PLAN     opened N EPOCH RESERVED SEQ REQUESTS, and after an exchange generation PLAN COTERIE OLDEST. This is the
-//	              heartbeat; PLAN is the number of the oldest plan of which a request is left
+//	open PLAN     opened N EPOCH BASE RESERVED SEQ REQUESTS, and after an exchange generation PLAN
+//	              COTERIE OLDEST. This is the heartbeat; PLAN is the number of the oldest plan of
+//	              which a request is left
 //	plan          plan PLAN COTERIE-TEXT PLAN-TEXT
 //	close         closed N EPOCH
 //
-// A voter also sends "gone LOCK STAMP" when it let a request go, and "taken N EPOCH" to a session that is over.
+// A voter also sends "gone LOCK STAMP" when it let a request go, "full LOCK STAMP" if it has no
+// room for the lock of a REQUEST, "taken N EPOCH" to a session that is over, and "unknown N EPOCH"
+// to one that has to claim its number there. It takes no other line of these two. A REQUEST's stamp
+// is above BASE and at most RESERVED, and no line of a lock has one above RESERVED.
+//
+// A voter that ends by a signal says "leaving" to all sessions.
+//
+// A voter sends a marker to itself, from time to time: "marker NUMBER WORD". What was sent to it
+// before comes before the marker.
+//
+// A message has at most 256 KiB and a little more, one "hello", one "plan", and 16 lines of
+// control. It ends at its first line that can't be right.
 package wire
 
 import (
@@ -29,6 +44,9 @@ import (
 
 // MostBytes is how long a message may be: a quarter of what NATS takes.
 const MostBytes = 256 << 10
+
+// mostHeader is how many bytes a header's line may have.
+const mostHeader = 512
 
 // ErrForeign is returned for a message that is not of this protocol.
 var ErrForeign = errors.New("wire: no message of this protocol")
@@ -53,6 +71,8 @@ type Header struct {
 	Seq              uint64 // of a client: counts its heartbeats
 	Block            uint64 // of a voter: how often it lost its state
 	Saves            uint64 // of a voter: counts its saves; of a client: the highest count that it heard of the receiver
+	Proof            string // of the count, by the voter; none if it is empty
+	Lapses           uint64 // of a voter: how often it let a grant of the session go
 	Name             string // a session's, an operator's, or a voter's identity
 }
 
@@ -61,9 +81,11 @@ func (h Header) Append(out []byte) []byte {
 	out = append(out, fmt.Sprintf("qlock1 %s %s %c ", h.Cluster, h.Coterie, h.Kind)...)
 	switch h.Kind {
 	case FromClient:
-		out = append(out, fmt.Sprintf("%d %d %d %s %d %d\n", h.Number, h.Epoch, h.Reserved, h.Name, h.Seq, h.Saves)...)
+		out = append(out, fmt.Sprintf("%d %d %d %s %d %d %s\n", h.Number, h.Epoch, h.Reserved, h.Name, h.Seq, h.Saves,
+			word(h.Proof))...)
 	case FromVoter:
-		out = append(out, fmt.Sprintf("%d %d %s %d\n", h.Number, h.Block, h.Name, h.Saves)...)
+		out = append(out, fmt.Sprintf("%d %d %s %d %s %d\n", h.Number, h.Block, h.Name, h.Saves, word(h.Proof),
+			h.Lapses)...)
 	default:
 		out = append(out, h.Name+"\n"...)
 	}
@@ -73,8 +95,11 @@ func (h Header) Append(out []byte) []byte {
 // Read reads the header of a message, and returns the lines behind it.
 func Read(message []byte) (h Header, lines []byte, err error) {
 	first, lines, found := bytes.Cut(message, []byte("\n"))
+	if !found || len(first) > mostHeader {
+		return h, nil, ErrForeign
+	}
 	words := bytes.Fields(first)
-	if !found || len(words) < 5 || string(words[0]) != "qlock1" || len(words[3]) != 1 {
+	if len(words) < 5 || string(words[0]) != "qlock1" || len(words[3]) != 1 {
 		return h, nil, ErrForeign
 	}
 	h.Cluster, h.Coterie, h.Kind = string(words[1]), string(words[2]), Kind(words[3][0])
@@ -87,18 +112,41 @@ func Read(message []byte) (h Header, lines []byte, err error) {
 // read reads the words behind the kind of a sender, and returns whether they are right.
 func (h *Header) read(words [][]byte) bool {
 	switch {
-	case h.Kind == FromClient && len(words) == 6:
+	case h.Kind == FromClient && len(words) == 7:
 		h.Name = string(words[3])
 		return h.number(words[0]) && long(words[1], &h.Epoch) && long(words[2], &h.Reserved) && long(words[4], &h.Seq) &&
-			long(words[5], &h.Saves)
-	case h.Kind == FromVoter && len(words) == 4:
+			long(words[5], &h.Saves) && h.proof(words[6])
+	case h.Kind == FromVoter && len(words) == 6:
 		h.Name = string(words[2])
-		return h.number(words[0]) && long(words[1], &h.Block) && long(words[3], &h.Saves)
+		return h.number(words[0]) && long(words[1], &h.Block) && long(words[3], &h.Saves) && h.proof(words[4]) &&
+			long(words[5], &h.Lapses)
 	case h.Kind == FromOperator && len(words) == 1:
 		h.Name = string(words[0])
 		return true
 	}
 	return false
+}
+
+// none is the word for a proof that is not there.
+const none = "-"
+
+// mostProof is how many bytes a proof may have.
+const mostProof = 64
+
+// word returns the word of a proof.
+func word(proof string) string {
+	if proof == "" {
+		return none
+	}
+	return proof
+}
+
+// proof reads the proof of a count.
+func (h *Header) proof(word []byte) bool {
+	if h.Proof = ""; string(word) != none {
+		h.Proof = string(word)
+	}
+	return len(word) <= mostProof
 }
 
 // number reads the number of a client or a voter.

@@ -11,7 +11,10 @@ import (
 func TestHeaders(t *testing.T) {
 	for _, h := range []Header{
 		{Cluster: "prod", Coterie: "0a1b", Kind: FromClient, Number: 63, Epoch: 4, Reserved: 1 << 40, Seq: 9, Saves: 3, Name: "app.77"},
-		{Cluster: "prod", Coterie: "0a1b", Kind: FromVoter, Number: 5, Block: 2, Saves: 7, Name: "id"},
+		{Cluster: "prod", Coterie: "0a1b", Kind: FromClient, Number: 1, Epoch: 1, Seq: 1, Saves: 1 << 50,
+			Proof: "00ff", Name: "x"},
+		{Cluster: "prod", Coterie: "0a1b", Kind: FromVoter, Number: 5, Block: 2, Saves: 7, Proof: "ab", Lapses: 3,
+			Name: "id"},
 		{Cluster: "prod", Coterie: "0a1b", Kind: FromOperator, Name: "op"},
 	} {
 		got, lines, err := Read(append(h.Append(nil), "orders request 1 2 3\n"...))
@@ -24,7 +27,9 @@ func TestHeaders(t *testing.T) {
 // Anything else is foreign, and nothing panics.
 func TestForeign(t *testing.T) {
 	for _, text := range []string{"", "\n", "qlock1", "qlock2 a b o x\n", "qlock1 a b o x", "qlock1 a b c 1 2 3 n\n",
-		"qlock1 a b c 64 2 3 n 4 5\n", "qlock1 a b c 1 x 3 n 4 5\n", "qlock1 a b c 1 2 3 n 4 -5\n", "qlock1 a b v -1 0 n 1\n", "qlock1 a b v 1 0 n\n",
+		"qlock1 a b c 64 2 3 n 4 5 -\n", "qlock1 a b c 1 x 3 n 4 5 -\n", "qlock1 a b c 1 2 3 n 4 -5 -\n",
+		"qlock1 a b v -1 0 n 1 - 0\n", "qlock1 a b v 1 0 n 1 -\n",
+		"qlock1 a b v 1 0 n 1 " + strings.Repeat("a", 65) + " 0\n",
 		"qlock1 a b q n\n", "qlock1 a b vv 1 0 n 1\n"} {
 		if _, _, err := Read([]byte(text)); err != ErrForeign {
 			t.Errorf("%q: %v", text, err)

@@ -173,8 +173,14 @@ func (w *World) Put(i int, state []byte) {
 	}
 }
 
-// Stop ends a voter.
+// Stop ends a voter, which says so.
 func (w *World) Stop(i int) { w.stops[i]() }
+
+// Kill ends a voter, which has no time to say so.
+func (w *World) Kill(i int) {
+	w.Ports[i].Cut(true)
+	w.stops[i]()
+}
 
 // Lose removes a voter's state, which is stopped, and makes it again as one that lost it once more.
 func (w *World) Lose(i int) {

@@ -1,0 +1,135 @@
+"""A cluster with certificates and users, by the commands and the server's file of docs/service.md, on the loopback."""
+
+import re
+import subprocess
+import time
+from pathlib import Path
+
+from cluster import NAMES, NATS, SERVICE, Cluster, free_port, start
+
+PAGE = (SERVICE.parent / "docs" / "service.md").read_text()
+# the file of a server, as the page has it
+FILE = PAGE.split("`/etc/nats-server.conf` on `m0`:\n\n```\n")[1].split("```")[0]
+CURVE = "-pkeyopt ec_paramgen_curve:prime256v1"
+USES = "serverAuth,clientAuth"
+
+
+def openssl(words: str, folder: Path) -> None:
+    """Runs openssl in a folder."""
+    p = subprocess.run(["openssl", *words.split()], cwd=folder, stdout=subprocess.PIPE, stderr=subprocess.STDOUT)
+    if p.returncode:
+        raise RuntimeError(f"openssl {words}: {p.stdout.decode()}")
+
+
+def authority(folder: Path, name: str) -> None:
+    """Makes an authority."""
+    openssl(f"ecparam -genkey -name prime256v1 -noout -out {name}.key", folder)
+    openssl(f"req -x509 -new -key {name}.key -days 3650 -subj /CN=qlock-{name} -out {name}.pem", folder)
+
+
+def certificate(folder: Path, name: str, by: str, seconds: int | None = None) -> None:
+    """Makes a certificate by an authority, of a year, or of some seconds."""
+    openssl(f"req -new -newkey ec {CURVE} -nodes -subj /CN=localhost -keyout {name}.key.new -out {name}.csr", folder)
+    (folder / f"{name}.ext").write_text(f"subjectAltName=DNS:localhost,IP:127.0.0.1\nextendedKeyUsage={USES}\n")
+    files = f"-in {name}.csr -extfile {name}.ext -out {name}.pem.new"
+    if seconds is None:
+        openssl(f"x509 -req -CA {by}.pem -CAkey {by}.key -CAcreateserial -days 365 {files}", folder)
+    else:
+        short_certificate(folder, files, by, seconds)
+    for ending in ("key", "pem"):
+        (folder / f"{name}.{ending}.new").rename(folder / f"{name}.{ending}")
+
+
+def short_certificate(folder: Path, files: str, by: str, seconds: int) -> None:
+    """Makes a certificate that ends in some seconds: `openssl ca` takes the end as a date."""
+    (folder / "ca.cnf").write_text(
+        f"[ca]\ndefault_ca=d\n[d]\nnew_certs_dir={folder}\ndatabase={folder}/index\nserial={folder}/next\n"
+        f"default_md=sha256\npolicy=p\nunique_subject=no\nprivate_key={folder}/{by}.key\n"
+        f"certificate={folder}/{by}.pem\n[p]\ncommonName=supplied\n"
+    )
+    (folder / "index").touch()
+    if not (folder / "next").exists():
+        (folder / "next").write_text("1000\n")
+    first, last = (time.strftime("%Y%m%d%H%M%SZ", time.gmtime(time.time() + s)) for s in (-60, seconds))
+    openssl(f"ca -batch -notext -config ca.cnf -startdate {first} -enddate {last} {files}", folder)
+
+
+class Secure(Cluster):
+    """The cluster of the page: five voters, and one of its servers."""
+
+    def __init__(self, room: Path, name: str = "prod", ttl: str = "2s", seconds: int | None = None) -> None:
+        self.keys, self.route_port, self.seconds = room / "keys", free_port(), seconds
+        self.keys.mkdir()
+        # the certificates that the page names, with their authorities, and that of a job
+        path = r'"/etc/qlock/([\w-]+)\.'
+        self.pairs = dict(re.findall(rf"tls \{{ cert_file: {path}.*?ca_file: {path}", FILE))
+        self.job_pair = re.findall(r"qlockctl run --user jobs .*?--cert /etc/qlock/([\w-]+)\.pem", PAGE, re.S)[0]
+        self.pairs.setdefault(self.job_pair, "ca")
+        self.make_keys()
+        super().__init__(room, name, ttl)
+
+    def make_keys(self) -> None:
+        """Makes authorities, certificates and passwords."""
+        for name in sorted(set(self.pairs.values())):
+            authority(self.keys, name)
+        for pair, by in self.pairs.items():
+            certificate(self.keys, pair, by, seconds=self.seconds if by == "ca" else None)
+        for user in [f"voter-{i}" for i in range(len(NAMES))] + ["jobs", "operator"]:
+            (self.keys / f"{user}.secret").write_text(f"password-{user}\n")
+
+    def renew(self) -> None:
+        """Puts certificates of a year in place of those that there are."""
+        for pair, by in self.pairs.items():
+            certificate(self.keys, pair, by)
+
+    def start_server(self) -> None:
+        """Starts the server of NATS with the page's file, for one machine."""
+        text = self.page_file()
+        for there, here in (
+            ("/etc/qlock", str(self.keys)),
+            ('"0.0.0.0:4222"', f'"127.0.0.1:{self.port}"'),
+            ('"0.0.0.0:6222"', f'"127.0.0.1:{self.route_port}"'),
+            ("qlock.prod.", f"qlock.{self.id}."),
+        ):
+            text = text.replace(there, here)
+        text = re.sub(r"routes: \[.*\]", f'routes: ["tls://localhost:{self.route_port}"]', text)
+        (self.room / "nats.conf").write_text(text)
+        self.server = start([NATS, "-c", self.room / "nats.conf"], self.room / "nats.log")
+
+    def page_file(self) -> str:
+        """The file of a server as the page has it, with all voters and with passwords."""
+        first = re.search(r"  \{ user: voter-0,.*?\} \}\n", FILE, re.S)
+        if not first:
+            raise RuntimeError("the page has no user voter-0")
+        others = ""
+        for i in range(1, len(NAMES)):
+            others += re.sub(r"(voter-|\.v\.|\.admin\.)0", rf"\g<1>{i}", first.group())
+        block = re.sub(r"  \.\.\. .*\n", lambda _: others, FILE)
+        return re.sub(r'user: ([a-z0-9-]+), password: "\.\.\."', r'user: \1, password: "password-\1"', block)
+
+    def url(self) -> str:
+        """Where the server is."""
+        return f"tls://localhost:{self.port}"
+
+    def init_words(self) -> list[object]:
+        """Further words of `qlockctl init`."""
+        return ["--ca", self.keys / "ca.pem"]
+
+    def access(self, voter: str) -> str:
+        """The lines of a voter's file that say how it shows the server who it is."""
+        user, keys = f"voter-{NAMES.index(voter)}", self.keys
+        pair = f'cert = "{keys}/machine.pem"\nkey = "{keys}/machine.key"\n'
+        return f'user = "{user}"\nsecret = "{keys}/{user}.secret"\n{pair}'
+
+    def words(self, user: str, pair: str) -> list[object]:
+        """How a user shows the server who he is."""
+        secret, cert, key = (self.keys / name for name in (f"{user}.secret", f"{pair}.pem", f"{pair}.key"))
+        return ["--user", user, "--secret", secret, "--cert", cert, "--key", key]
+
+    def operator_words(self) -> list[object]:
+        """How an operator shows the server who he is."""
+        return self.words("operator", "machine")
+
+    def job_words(self) -> list[object]:
+        """How a job shows the server who it is."""
+        return [*self.words("jobs", self.job_pair), "--prefix", "jobs"]

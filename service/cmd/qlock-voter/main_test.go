@@ -1,0 +1,202 @@
+package main
+
+import (
+	"bytes"
+	"context"
+	"errors"
+	"fmt"
+	"math/rand"
+	"net"
+	"os"
+	"path/filepath"
+	"strings"
+	"sync/atomic"
+	"testing"
+	"time"
+
+	"calvundek.example/service/internal/config"
+	"calvundek.example/service/internal/voter"
+	"calvundek.example/service/internal/worlds"
+)
+
+// TestMain lets this program be qlock-voter where a test, or a start, runs it as that.
+func TestMain(m *testing.M) {
+	if os.Getenv("QLOCK_VOTER_MAIN") != "" {
+		main()
+		return
+	}
+	os.Exit(m.Run())
+}
+
+// files writes the files of a voter, whose state is in a folder beside them.
+func files(t *testing.T) (voterFile, data string) {
+	t.Helper()
+	folder := t.TempDir()
+	text, err := worlds.NewCluster(t, worlds.Majority, time.Second).Text()
+	if err != nil {
+		t.Fatal(err)
+	}
+	cluster := filepath.Join(folder, "cluster.toml")
+	voterFile, data = filepath.Join(folder, "a.toml"), filepath.Join(folder, "a")
+	own := fmt.Sprintf("cluster = %q\nvoter = \"a\"\ndata = %q\n", cluster, data)
+	for path, text := range map[string]string{cluster: string(text), voterFile: own} {
+		if err := os.WriteFile(path, []byte(text), 0o600); err != nil {
+			t.Fatal(err)
+		}
+	}
+	return voterFile, data
+}
+
+// execute runs a command, and returns why it failed.
+func execute(words ...string) error {
+	root := command(context.Background())
+	root.SetArgs(words)
+	return root.Execute()
+}
+
+// What no restart mends has the exit status for which the unit starts nothing again.
+func TestExitStatus(t *testing.T) {
+	t.Setenv("QLOCK_VOTER_MAIN", "1")
+	file, data := files(t)
+	want := func(what string, status int, err error, is error) {
+		t.Helper()
+		if err == nil || exitStatus(err) != status || !errors.Is(err, is) {
+			t.Errorf("%s: status %d, %v", what, exitStatus(err), err)
+		}
+	}
+	want("no state", exitHopeless, execute("start", "-c", file), voter.ErrMissing)
+	want("no file", exitHopeless, execute("start", "-c", file+".none"), config.ErrConfig)
+	if err := execute("init", "-c", file); err != nil {
+		t.Fatal(err)
+	}
+	want("no mark", 1, execute("pardon", "-c", file), voter.ErrNoMark)
+	path := filepath.Join(data, "voter.db")
+	state, err := os.ReadFile(path)
+	if err != nil {
+		t.Fatal(err)
+	}
+	state = bytes.ReplaceAll(state, []byte(`"voter":0`), []byte(`"voter":1`))
+	if err := os.WriteFile(path, state, 0o600); err != nil {
+		t.Fatal(err)
+	}
+	want("a damaged state", exitHopeless, voter.Check(data), voter.ErrDamaged)
+	if err := execute("start", "-c", file); exitStatus(err) != exitHopeless ||
+		!strings.Contains(err.Error(), voter.ErrDamaged.Error()) {
+		t.Errorf("a start with a damaged state: %v", err)
+	}
+	want("another error", 1, voter.ErrSave, voter.ErrSave)
+}
+
+// The unit starts no voter again that no restart helps. It waits until the voter has started, and
+// watches its loop.
+func TestUnit(t *testing.T) {
+	unit, err := os.ReadFile("../../systemd/qlock-voter@.service")
+	if err != nil {
+		t.Fatal(err)
+	}
+	for _, line := range []string{fmt.Sprintf("RestartPreventExitStatus=%d", exitHopeless), "Type=notify",
+		"WatchdogSec=60", "CapabilityBoundingSet=", "SystemCallFilter=@system-service"} {
+		if !strings.Contains(string(unit), "\n"+line+"\n") {
+			t.Errorf("there is no %s", line)
+		}
+	}
+}
+
+// Whatever is damaged or cut off: a start with it ends with one line and the status that no restart
+// helps, also where a read ends the process. Or it is nothing that a voter reads.
+func TestDamagedStarts(t *testing.T) {
+	t.Setenv("QLOCK_VOTER_MAIN", "1")
+	file, data := files(t)
+	if err := execute("init", "-c", file); err != nil {
+		t.Fatal(err)
+	}
+	path := filepath.Join(data, "voter.db")
+	state, err := os.ReadFile(path)
+	if err != nil {
+		t.Fatal(err)
+	}
+	page, used := os.Getpagesize(), int(state[56]) // how many pages the first root says there are
+	run := func(what string, wrong []byte, isFound bool) bool {
+		t.Helper()
+		if err := os.WriteFile(path, wrong, 0o600); err != nil {
+			t.Fatal(err)
+		}
+		err := checkApart(context.Background(), file, data)
+		if err == nil && !isFound {
+			return false
+		}
+		if err == nil || exitStatus(err) != exitHopeless || strings.Contains(err.Error(), "\n") {
+			t.Errorf("%s: status %d, %v", what, exitStatus(err), err)
+		}
+		return true
+	}
+	run("an empty file", nil, true)
+	for pages := 1; pages < used; pages++ {
+		run(fmt.Sprint("a file of which there are pages: ", pages), state[:pages*page], true)
+	}
+	// the list of free pages that the newer root names gets a count that is far too great
+	root := 0
+	if state[page+64] > state[64] {
+		root = page
+	}
+	endless := append([]byte(nil), state...)
+	free := page * int(state[root+48])
+	copy(endless[free+10:], []byte{0xff, 0xff, 0, 0, 0, 0, 0xff, 0xff, 0xff, 0xff, 0xff, 0xff})
+	run("a list of free pages without an end", endless, true)
+	found, random := 0, rand.New(rand.NewSource(1))
+	for n := 0; n < 60; {
+		at := random.Intn(len(state))
+		if state[at] == 0 {
+			continue
+		}
+		wrong := append([]byte(nil), state...)
+		wrong[at] ^= 1 << random.Intn(8)
+		if n++; run(fmt.Sprint("a bit of byte ", at), wrong, false) {
+			found++
+		}
+	}
+	if found < 10 {
+		t.Errorf("%d bits were found", found)
+	}
+}
+
+// A unit hears that the voter has started, and that its loop goes round as long as it does.
+func TestNotify(t *testing.T) {
+	path := filepath.Join(t.TempDir(), "notify")
+	listener, err := net.ListenUnixgram("unixgram", &net.UnixAddr{Name: path, Net: "unixgram"})
+	if err != nil {
+		t.Fatal(err)
+	}
+	defer listener.Close()
+	t.Setenv("NOTIFY_SOCKET", path)
+	t.Setenv("WATCHDOG_USEC", "90000")
+	hears := func(most time.Duration) string {
+		word := make([]byte, 100)
+		_ = listener.SetReadDeadline(time.Now().Add(most))
+		n, _ := listener.Read(word)
+		return string(word[:n])
+	}
+	var lively atomic.Bool
+	lively.Store(true)
+	ended := make(chan struct{})
+	defer close(ended)
+	if err := notify(func(time.Duration) bool { return lively.Load() }, ended); err != nil {
+		t.Fatal(err)
+	}
+	if word := hears(5 * time.Second); word != "READY=1" {
+		t.Error(word)
+	}
+	if word := hears(5 * time.Second); word != "WATCHDOG=1" {
+		t.Error(word)
+	}
+	lively.Store(false)
+	for hears(200*time.Millisecond) != "" { // what was said before
+	}
+	if word := hears(300 * time.Millisecond); word != "" {
+		t.Errorf("a loop that stands still says %s", word)
+	}
+	t.Setenv("NOTIFY_SOCKET", "")
+	if err := notify(nil, ended); err != nil {
+		t.Error(err)
+	}
+}

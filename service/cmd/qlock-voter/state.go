@@ -1,0 +1,57 @@
+package main
+
+import (
+	"bytes"
+	"context"
+	"errors"
+	"fmt"
+	"os"
+	"os/exec"
+	"strings"
+
+	"calvundek.example/service/internal/config"
+	"calvundek.example/service/internal/voter"
+)
+
+// exitPanic is the exit status of a program of Go that panics, or reads what is not there.
+const exitPanic = 2
+
+// hopelessly is what a check said of a state that no restart mends.
+type hopelessly string
+
+func (h hopelessly) Error() string { return string(h) }
+
+// check reads the whole state of a voter that does not run.
+func check(path string) error {
+	own, _, err := config.ReadVoter(path)
+	if err != nil {
+		return err
+	}
+	return voter.Check(own.Data)
+}
+
+// checkApart checks the state in a process of its own: some damage ends whoever reads it.
+func checkApart(ctx context.Context, path, data string) error {
+	self, err := os.Executable()
+	if err != nil {
+		return err
+	}
+	var said bytes.Buffer
+	apart := exec.CommandContext(ctx, self, "check", "-c", path)
+	apart.Stderr = &said
+	if err = apart.Run(); err == nil {
+		return nil
+	}
+	line, _, _ := strings.Cut(strings.TrimPrefix(said.String(), prefix), "\n")
+	var ended *exec.ExitError
+	if !errors.As(err, &ended) || !ended.Exited() {
+		return fmt.Errorf("the state was not checked: %w", err)
+	}
+	switch ended.ExitCode() {
+	case exitPanic:
+		return fmt.Errorf("%s: %w: %s", data, voter.ErrDamaged, line)
+	case exitHopeless:
+		return hopelessly(line)
+	}
+	return errors.New(line)
+}

@@ -1,0 +1,213 @@
+package voter
+
+import (
+	"fmt"
+	"time"
+
+	"calvundek.example/service/internal/wire"
+	"calvundek.example/service/qlock"
+)
+
+// What a turn of the loop takes at most: then it saves and sends, and looks for heartbeats.
+const (
+	mostLines    = 4096                  // lines of one turn
+	longestTurn  = 20 * time.Millisecond // for which one turn takes lines
+	mostOut      = 1 << 20               // bytes that one turn makes to be sent
+	share        = 64                    // lines of one sender before the next one's turn
+	mostWaiting  = 1 << 20               // bytes of one sender that wait
+	mostMessage  = wire.MostBytes + 4096 // bytes of one message
+	mostControls = 16                    // lines of control in one message
+	mostLine     = 256                   // bytes of one line
+)
+
+// letter is a message of a client that waits, or of which some lines are taken.
+type letter struct {
+	wire.Header
+	lines    []byte
+	size     int
+	begun    bool
+	controls int
+	said     map[string]bool // what may be said once in a message
+}
+
+// once returns whether a word is said for the first time in this message.
+func (l *letter) once(word string) bool {
+	if l.said[word] {
+		return false
+	}
+	if l.said == nil {
+		l.said = map[string]bool{}
+	}
+	l.said[word] = true
+	return true
+}
+
+// inbox has the messages of clients that wait: those of each number's session apart, and behind
+// them those of anybody else. Whoever sends much waits for himself alone, and delays no other one's
+// heartbeats.
+type inbox struct {
+	queues [qlock.MaxClients + 1][]*letter
+	sizes  [qlock.MaxClients + 1]int
+	count  int
+	turn   int // whose turn it is
+}
+
+// strangers is the queue of those that have no number here.
+const strangers = qlock.MaxClients
+
+// put puts a message behind those of its sender, and returns false if there is no room.
+func (b *inbox) put(queue int, l *letter) bool {
+	if b.sizes[queue]+l.size > mostWaiting && len(b.queues[queue]) > 0 {
+		return false
+	}
+	b.queues[queue] = append(b.queues[queue], l)
+	b.sizes[queue] += l.size
+	b.count++
+	return true
+}
+
+// next returns the first message of the next sender of which one waits, nil if none does.
+func (b *inbox) next() *letter {
+	for i := 0; b.count > 0 && i < len(b.queues); i++ {
+		if b.turn = (b.turn + 1) % len(b.queues); len(b.queues[b.turn]) > 0 {
+			return b.queues[b.turn][0]
+		}
+	}
+	return nil
+}
+
+// done takes the message out that next returned.
+func (b *inbox) done() {
+	queue := b.queues[b.turn]
+	b.sizes[b.turn] -= queue[0].size
+	queue[0] = nil
+	if b.queues[b.turn] = queue[1:]; len(queue) == 1 {
+		b.queues[b.turn] = nil
+	}
+	b.count--
+}
+
+// receive puts all messages that are there into the inbox, and drops what is not of this protocol.
+func (d *Daemon) receive() {
+	for began := time.Now(); len(d.messages) > 0 && time.Since(began) < longestTurn; {
+		d.sort(<-d.messages)
+	}
+}
+
+// sendMarker sends a marker to this voter itself, if it is time for one.
+func (d *Daemon) sendMarker(now time.Time) {
+	if number, due := d.table.clock.isDue(now); due {
+		meta := d.store.meta
+		h := wire.Header{Cluster: meta.Cluster, Coterie: d.mark, Kind: wire.FromVoter, Number: meta.Voter,
+			Block: meta.Block, Name: meta.Identity}
+		d.post(wire.VoterBox(meta.Cluster, meta.Voter), append(h.Append(nil), d.markerLine(number)...))
+	}
+}
+
+// markerLine returns the line of a marker. Nobody else can make one.
+func (d *Daemon) markerLine(number uint64) string {
+	return fmt.Sprintf(". marker %d %s\n", number, d.prover.sum("marker "+d.prover.run, number))
+}
+
+// isMarker takes the lines of a marker, and returns whether they are one of this run.
+func (d *Daemon) isMarker(lines string) bool {
+	var number uint64
+	if _, err := fmt.Sscanf(lines, ". marker %d ", &number); err != nil || lines != d.markerLine(number) {
+		return false
+	}
+	d.table.clock.returns(number)
+	d.marked.Store(d.table.clock.back.left.UnixNano())
+	return true
+}
+
+// sort puts a message into the inbox. Who is of another plan is told which there are.
+func (d *Daemon) sort(message []byte) {
+	d.m.received.Inc()
+	h, lines, err := wire.Read(message)
+	if err == nil && h.Kind == wire.FromVoter && h.Name == d.store.meta.Identity && d.isMarker(string(lines)) {
+		return
+	}
+	if err != nil || len(message) > mostMessage || !d.isOurs(h) || h.Kind != wire.FromClient {
+		d.m.foreign.Inc()
+		if err == nil && h.Kind == wire.FromClient && h.Cluster == d.cluster.ID && wire.IsName([]byte(h.Name)) &&
+			d.outBytes < mostOut {
+			d.announce(h.Name) // its plan is retired, or not yet here
+		}
+		return
+	}
+	queue := strangers
+	if h.Epoch > 0 && d.table.judge(h.Number, h.Name, h.Epoch) == known {
+		queue = h.Number
+		d.table.hear(h.Number, time.Now()) // it may wait for its turn
+	}
+	if !d.inbox.put(queue, &letter{Header: h, lines: lines, size: len(message)}) {
+		d.noRoom.Add(1)
+	}
+}
+
+// work takes lines of the messages that wait, of one sender after the other, until there is none or
+// this turn had enough.
+func (d *Daemon) work() {
+	began, taken := time.Now(), 0
+	for taken < mostLines && d.outBytes < mostOut && !d.older && time.Since(began) < longestTurn {
+		l := d.inbox.next()
+		if l == nil {
+			return
+		}
+		lines, ended := d.read(l, time.Now())
+		if taken += lines; ended {
+			d.inbox.done()
+		}
+	}
+}
+
+// read takes a share of a message's lines. It returns how many it took, and whether the message is
+// at its end: after the last line, or the first one that can't be right.
+func (d *Daemon) read(l *letter, now time.Time) (lines int, ended bool) {
+	speaker, ok := d.greet(l, now)
+	if !ok {
+		return 1, true
+	}
+	for lines < share {
+		lock, line, rest, found := wire.Next(l.lines)
+		if !found {
+			return lines + 1, true
+		}
+		l.lines, lines = rest, lines+1
+		if !d.line(l, speaker, lock, line, now) {
+			d.m.refused.Inc()
+			return lines, true
+		}
+	}
+	return lines, false
+}
+
+// greet judges who sent a message, before a share of its lines is taken: much may have changed
+// since the last one. It returns false if no line counts.
+func (d *Daemon) greet(l *letter, now time.Time) (speaker verdict, ok bool) {
+	if !d.isOurs(l.Header) {
+		d.m.foreign.Inc()
+		return taken, false
+	}
+	d.hears(l.Header)
+	if d.isBehind(l.Header) {
+		d.older = true // nothing leaves any more
+		return taken, false
+	}
+	d.spoke[l.Name] = struct{}{}
+	if l.Epoch == 0 {
+		return unknown, true
+	}
+	speaker = d.table.admit(l.Number, l.Name, l.Epoch, now)
+	first := !l.begun
+	l.begun = true
+	switch {
+	case speaker == known:
+		d.table.reserve(l.Number, l.Reserved, now)
+	case speaker == unknown && first:
+		d.tell(l.Name, "unknown %d %d", l.Number, l.Epoch)
+	case speaker == taken && first:
+		d.tell(l.Name, "taken %d %d", l.Number, l.Epoch)
+	}
+	return speaker, speaker != taken
+}

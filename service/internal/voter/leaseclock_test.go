@@ -1,0 +1,101 @@
+package voter
+
+import (
+	"testing"
+	"time"
+)
+
+// tide is a lease clock whose markers a test sends and returns.
+type tide struct {
+	*testing.T
+	now time.Time
+	*table
+}
+
+func newTide(t *testing.T, ttl time.Duration) *tide {
+	now := time.Unix(1000, 0)
+	one := &tide{t, now, &table{ttl: ttl, changed: map[int]Session{}}}
+	one.begin(now)
+	one.claim(3, "a", 1, now)
+	return one
+}
+
+// turn is a turn of a loop that takes some time. A marker that is due leaves, and comes back at its
+// end, if it does.
+func (c *tide) turn(takes time.Duration, comesBack bool) {
+	number, due := c.clock.isDue(c.now)
+	if c.now = c.now.Add(takes); due && comesBack {
+		c.clock.returns(number)
+	}
+}
+
+// A session that is silent is dead after a TTL and a little more, and one that is heard is not,
+// also where each turn takes long.
+func TestLeasesEndWithSlowTurns(t *testing.T) {
+	for _, takes := range []time.Duration{time.Millisecond, 50 * time.Millisecond, 300 * time.Millisecond,
+		900 * time.Millisecond} {
+		c := newTide(t, 2*time.Second)
+		c.claim(4, "b", 1, c.now)
+		begin := c.now
+		for !c.isDead(3) && c.now.Sub(begin) < time.Minute {
+			c.turn(takes, true)
+			if c.hear(4, c.now); c.isDead(4) {
+				t.Fatalf("turns of %v: a session is dead that was heard", takes)
+			}
+		}
+		if gone := c.now.Sub(begin); gone < c.ttl || gone > 2*c.ttl+2*takes {
+			t.Errorf("turns of %v: a silent session is dead after %v", takes, gone)
+		}
+	}
+}
+
+// While the link is away no lease ends, and a link that flaps only delays the end.
+func TestLeasesAndTheLink(t *testing.T) {
+	c := newTide(t, 2*time.Second)
+	for i := 0; i < 1000; i++ {
+		c.turn(50*time.Millisecond, false)
+	}
+	if c.isDead(3) {
+		t.Error("a lease ends while nobody can be heard")
+	}
+	c.turn(50*time.Millisecond, true)
+	if c.turn(300*time.Millisecond, true); c.isDead(3) {
+		t.Error("time counts in which nobody could be heard")
+	}
+	c = newTide(t, 2*time.Second)
+	begin := c.now
+	for i := 0; !c.isDead(3) && i < 2000; i++ { // half a second away, two there
+		c.turn(50*time.Millisecond, i%50 >= 10)
+	}
+	if gone := c.now.Sub(begin); gone > 3*c.ttl {
+		t.Errorf("where the link flaps a silent session is dead after %v", gone)
+	}
+}
+
+// Time in which the process stood still counts for nobody.
+func TestLeasesAndStandstill(t *testing.T) {
+	c := newTide(t, 2*time.Second)
+	c.turn(50*time.Millisecond, true)
+	c.turn(30*time.Second, true)
+	if c.turn(50*time.Millisecond, true); c.isDead(3) {
+		t.Error("a client is let go for a standstill of the voter")
+	}
+	if c.clock.reading().After(c.now) || c.clock.skipped > 31*time.Second {
+		t.Error("the clock is ahead")
+	}
+}
+
+// A marker that comes again, late, or from nowhere says nothing.
+func TestWhichMarkersCount(t *testing.T) {
+	c := newTide(t, 2*time.Second)
+	first, _ := c.clock.isDue(c.now)
+	c.now = c.now.Add(time.Second)
+	second, _ := c.clock.isDue(c.now)
+	c.clock.returns(second)
+	before := c.clock.back
+	for _, number := range []uint64{first, second, 77, 0} {
+		if c.clock.returns(number); c.clock.back != before {
+			t.Errorf("marker %d counts", number)
+		}
+	}
+}

@@ -1,0 +1,64 @@
+package voter
+
+import (
+	"io"
+	"net/http/httptest"
+	"path/filepath"
+	"strings"
+	"testing"
+	"time"
+
+	"calvundek.example/service/internal/bus"
+	"calvundek.example/service/internal/config"
+	"calvundek.example/service/internal/event"
+)
+
+// certified is a link with a certificate.
+type certified struct{ *bus.Port }
+
+func (certified) CertificateEnd() time.Time { return time.Unix(1900000000, 0) }
+
+// What alarms are made of is there, and read when it is asked for: the loop does not go round here.
+func TestNumbersOfAVoter(t *testing.T) {
+	plan := texts(t, two)
+	cluster := &config.Cluster{ID: "test", Servers: []string{"none"}, TTL: config.Duration{Duration: 2 * time.Second},
+		Coterie: plan.Coterie, Plan: plan.Plan}
+	if err := cluster.Check(); err != nil {
+		t.Fatal(err)
+	}
+	own := &config.Voter{Voter: "a", Data: filepath.Join(t.TempDir(), "a"), MaxLocks: 77}
+	if _, err := Init(own, cluster); err != nil {
+		t.Fatal(err)
+	}
+	port := certified{bus.New(1).Port()}
+	d, err := Open(own, cluster, port, event.To(io.Discard))
+	if err != nil {
+		t.Fatal(err)
+	}
+	defer d.store.db.Close()
+	d.measure(time.Now())
+	for i := 0; i < 3; i++ {
+		_ = port.Send("qlock.test.v.0", []byte("x"))
+	}
+	d.noRoom.Add(2)
+	page := httptest.NewRecorder()
+	d.Handler().ServeHTTP(page, httptest.NewRequest("GET", "/metrics", nil))
+	for _, line := range []string{"qlock_voter_queue_messages 3", "qlock_voter_messages_dropped_total 2",
+		"qlock_voter_locks_most 77", "qlock_voter_numbers_free 64",
+		"qlock_voter_plan 0", "qlock_voter_file_bytes ", "qlock_voter_build_info{", "go_goroutines ",
+		"process_open_fds ", "qlock_voter_certificate_end_timestamp_seconds 1.9e+09",
+		"qlock_voter_counts_unproved_total 0",
+		"qlock_voter_requests_full_total 0", "qlock_voter_broker_reconnects_total 0"} {
+		if !strings.Contains(page.Body.String(), "\n"+line) {
+			t.Errorf("there is no %q", line)
+		}
+	}
+	d.lively.Store(time.Now().UnixNano())
+	for marked, want := range map[time.Duration]int{0: 200, time.Minute: 503} {
+		d.marked.Store(time.Now().Add(-marked).UnixNano())
+		page := httptest.NewRecorder()
+		if d.Handler().ServeHTTP(page, httptest.NewRequest("GET", "/healthz", nil)); page.Code != want {
+			t.Errorf("a marker of %v ago: status %d", marked, page.Code)
+		}
+	}
+}

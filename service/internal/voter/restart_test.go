@@ -1,0 +1,46 @@
+package voter
+
+import (
+	"path/filepath"
+	"testing"
+	"time"
+
+	"calvundek.example/service/internal/bus"
+	"calvundek.example/service/internal/config"
+	"calvundek.example/service/internal/event"
+	"calvundek.example/service/qlock"
+)
+
+// A voter that starts takes no session for dead: it could hear nobody before.
+func TestStartEndsNoLease(t *testing.T) {
+	plan := texts(t, two)
+	cluster := &config.Cluster{ID: "test", Servers: []string{"none"}, TTL: config.Duration{Duration: 2 * time.Second},
+		Coterie: plan.Coterie, Plan: plan.Plan}
+	if err := cluster.Check(); err != nil {
+		t.Fatal(err)
+	}
+	own := &config.Voter{Voter: "a", Data: filepath.Join(t.TempDir(), "a"), MaxLocks: 10}
+	meta := Owner(own, cluster)
+	meta.Identity = "identity"
+	if err := Create(own.Data, meta, NewGenerations(cluster), map[int]Session{3: of("s", 1, 0, 100)}); err != nil {
+		t.Fatal(err)
+	}
+	d, err := Open(own, cluster, bus.New(1).Port(), event.To(testWriter{t}))
+	if err != nil {
+		t.Fatal(err)
+	}
+	defer d.store.db.Close()
+	now := time.Now()
+	if d.table.isDead(3) || claimAt(&d.table, 3, "another", 2, now) || d.isOver(qlock.Grant{Client: 3, Stamp: 1,
+		Number: 1}) {
+		t.Error("a session is dead at once")
+	}
+	if !isDeadAt(&d.table, 3, now.Add(3*time.Second)) {
+		t.Error("it lives for ever")
+	}
+}
+
+// testWriter writes to a test's log.
+type testWriter struct{ *testing.T }
+
+func (w testWriter) Write(text []byte) (int, error) { w.Logf("%s", text); return len(text), nil }

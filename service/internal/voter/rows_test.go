@@ -1,0 +1,201 @@
+package voter
+
+import (
+	"errors"
+	"fmt"
+	"math/rand"
+	"os"
+	"path/filepath"
+	"reflect"
+	"testing"
+
+	"calvundek.example/service/qlock"
+	"go.etcd.io/bbolt"
+)
+
+// content is what a state has.
+type content struct {
+	meta  Meta
+	saves uint64
+	votes map[string]string
+	rows  map[int]Session
+}
+
+// aState makes a state with votes and sessions, and returns its folder and its owner.
+func aState(t *testing.T, votes int) (folder string, meta Meta) {
+	t.Helper()
+	folder, meta = filepath.Join(t.TempDir(), "a"), Meta{Format: format, Cluster: "test", Identity: "identity"}
+	if err := Create(folder, meta, Generations{Now: texts(t, two)}, nil); err != nil {
+		t.Fatal(err)
+	}
+	s, err := openStore(folder, meta)
+	if err != nil {
+		t.Fatal(err)
+	}
+	defer s.db.Close()
+	for i := 0; i < votes; i++ {
+		one, err := qlock.NewVoter(0, 100)
+		if err != nil {
+			t.Fatal(err)
+		}
+		if _, err := one.Take([]byte(fmt.Sprintf("request %d 0 17", i%64)), nil); err != nil {
+			t.Fatal(err)
+		}
+		changed := map[*vote]struct{}{{Voter: one, name: fmt.Sprint("orders-", i)}: {}}
+		if err := s.save(changed, map[int]Session{i % 64: of(fmt.Sprint("session-", i), 5, 100, 9000)},
+			nil); err != nil {
+			t.Fatal(err)
+		}
+	}
+	return folder, meta
+}
+
+// read opens a state, and returns what it has.
+func read(folder string, meta Meta) (content, error) {
+	s, err := openStore(folder, meta)
+	if err != nil {
+		return content{}, err
+	}
+	defer s.db.Close()
+	return contentOf(s)
+}
+
+// contentOf returns what an open state has.
+func contentOf(s *store) (content, error) {
+	c := content{meta: s.meta, saves: s.saves, votes: map[string]string{}, rows: map[int]Session{}}
+	err := s.load(func(name string, state []byte) error { c.votes[name] = string(state); return nil },
+		func(number int, row Session) error { c.rows[number] = row; return nil })
+	return c, err
+}
+
+// look returns what a file has, by the pages that its rows are on alone. The database itself ends
+// the process if other pages are damaged.
+func look(folder string) (content, error) {
+	if err := verify(file(folder)); err != nil {
+		return content{}, err
+	}
+	db, err := bbolt.Open(file(folder), 0o600, &bbolt.Options{ReadOnly: true})
+	if err != nil {
+		return content{}, err
+	}
+	defer db.Close()
+	s := &store{db: db}
+	if err := db.View(s.read); err != nil {
+		return content{}, err
+	}
+	return contentOf(s)
+}
+
+// Whatever bit of a state is changed, what is read is what was saved, or it is damaged.
+func TestEachChangedBitIsFound(t *testing.T) {
+	folder, meta := aState(t, 40)
+	want, err := read(folder, meta)
+	if err != nil || len(want.votes) != 40 || len(want.rows) != qlock.MaxClients {
+		t.Fatal(len(want.votes), len(want.rows), err)
+	}
+	right, err := os.ReadFile(file(folder))
+	if err != nil {
+		t.Fatal(err)
+	}
+	random, found := rand.New(rand.NewSource(1)), 0
+	for run := 0; run < 500; run++ {
+		wrong := append([]byte(nil), right...)
+		for at := 0; ; { // a bit of what is there
+			if at = random.Intn(len(wrong)); right[at] != 0 {
+				wrong[at] ^= 1 << random.Intn(8)
+				break
+			}
+		}
+		if err := os.WriteFile(file(folder), wrong, 0o600); err != nil {
+			t.Fatal(err)
+		}
+		if got, err := look(folder); err != nil {
+			found++
+		} else if !reflect.DeepEqual(got, want) {
+			t.Fatalf("run %d: another state is served", run)
+		}
+	}
+	if found < 50 {
+		t.Errorf("%d are found", found)
+	}
+}
+
+// A state whose newest root is damaged is not served as it was one save before.
+func TestDamagedRoot(t *testing.T) {
+	folder, meta := aState(t, 3)
+	right, err := os.ReadFile(file(folder))
+	if err != nil {
+		t.Fatal(err)
+	}
+	for page := 0; page < 2; page++ {
+		wrong := append([]byte(nil), right...)
+		wrong[page*os.Getpagesize()+64] ^= 1 // of the number of its transaction
+		if err := os.WriteFile(file(folder), wrong, 0o600); err != nil {
+			t.Fatal(err)
+		}
+		if _, err := read(folder, meta); !errors.Is(err, ErrDamaged) {
+			t.Errorf("root %d: %v", page, err)
+		}
+	}
+}
+
+// A vote that is gone is missed, and so is what was reserved under a number.
+func TestMissingRow(t *testing.T) {
+	for row, bucket := range map[string][]byte{"orders-1": voteBucket, "\x01": sessionBucket} {
+		folder, meta := aState(t, 3)
+		db, err := bbolt.Open(file(folder), 0o600, nil)
+		if err != nil {
+			t.Fatal(err)
+		}
+		remove := func(tx *bbolt.Tx) error { return tx.Bucket(bucket).Delete([]byte(row)) }
+		if err := db.Update(remove); err != nil {
+			t.Fatal(err)
+		}
+		db.Close()
+		if _, err := read(folder, meta); !errors.Is(err, ErrDamaged) {
+			t.Errorf("%s, row %q: %v", bucket, row, err)
+		}
+	}
+}
+
+// transaction returns the number of a file's last transaction.
+func transaction(t *testing.T, folder string) (number int) {
+	t.Helper()
+	db, err := bbolt.Open(file(folder), 0o600, &bbolt.Options{ReadOnly: true})
+	if err != nil {
+		t.Fatal(err)
+	}
+	defer db.Close()
+	_ = db.View(func(tx *bbolt.Tx) error { number = tx.ID(); return nil })
+	return number
+}
+
+// A start writes both root pages: the last transaction that it reads may be one whose sync failed.
+func TestStartWrites(t *testing.T) {
+	folder, meta := aState(t, 1)
+	before := transaction(t, folder)
+	if _, err := read(folder, meta); err != nil {
+		t.Fatal(err)
+	}
+	if after := transaction(t, folder); after < before+2 {
+		t.Errorf("transaction %d after %d", after, before)
+	}
+}
+
+// A state of another version is refused by name.
+func TestOtherFormats(t *testing.T) {
+	folder, meta := aState(t, 1)
+	db, err := bbolt.Open(file(folder), 0o600, nil)
+	if err != nil {
+		t.Fatal(err)
+	}
+	if err := db.Update(func(tx *bbolt.Tx) error {
+		return tx.Bucket(metaBucket).Put(metaBucket, []byte(`{"format":1,"cluster":"test"}`))
+	}); err != nil {
+		t.Fatal(err)
+	}
+	db.Close()
+	if _, err := read(folder, meta); !errors.Is(err, ErrFormat) {
+		t.Error(err)
+	}
+}

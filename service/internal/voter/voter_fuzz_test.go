@@ -1,0 +1,498 @@
+package voter
+
+import (
+	"bytes"
+	"context"
+	"encoding/json"
+	"fmt"
+	"io"
+	"os"
+	"path/filepath"
+	"reflect"
+	"sort"
+	"strings"
+	"testing"
+	"time"
+
+	"calvundek.example/service/internal/config"
+	"calvundek.example/service/internal/event"
+	"calvundek.example/service/internal/operator"
+	"calvundek.example/service/internal/wire"
+	"calvundek.example/service/qlock"
+	"go.etcd.io/bbolt"
+)
+
+// What one message may ask for at most: the bytes of replies beside those that its own length pays
+// for, and how far it may bring a number's epoch and stamps.
+const (
+	mostReplies = 6 << 10
+	farthest    = 1 << 20
+)
+
+// stage is the state of a voter of which a fuzzed daemon is made again and again. Number 0 has the
+// session "me", which has the lock "orders", and number 1 has the session "other".
+type stage struct {
+	own     *config.Voter
+	cluster *config.Cluster
+	mark    string // what messages say of the plan
+	state   []byte
+}
+
+func newStage(f *testing.F) *stage {
+	f.Helper()
+	coterie := "voters = [\"a\", \"b\", \"c\"]\nquorums = [[\"a\", \"b\"], [\"a\", \"c\"], [\"b\", \"c\"]]\n"
+	plan, err := qlock.FindPlan(coterie)
+	if err != nil {
+		f.Fatal(err)
+	}
+	cluster := &config.Cluster{ID: "test", Servers: []string{"none"}, TTL: config.Duration{Duration: time.Hour},
+		Coterie: coterie, Plan: plan.Text}
+	if err := cluster.Check(); err != nil {
+		f.Fatal(err)
+	}
+	second := config.Duration{Duration: time.Second}
+	own := &config.Voter{Voter: "a", Data: memory(f), MaxLocks: 100, First: second, Most: second}
+	s := &stage{cluster: cluster, own: own}
+	if _, err := Init(s.own, cluster); err != nil {
+		f.Fatal(err)
+	}
+	d := s.open(f)
+	s.mark = markOf(f, d)
+	for number, name := range []string{"me", "other"} {
+		hand(d, s.said(0, 0, 0, name, fmt.Sprintf(". claim %d 1\n", number)))
+		hand(d, s.said(number, 1, 100, name, ". open 0\n"))
+	}
+	hand(d, s.said(0, 1, 100, "me", "orders request 0 0 1\n"))
+	if d.votes["orders"] == nil || d.votes["orders"].held.Number != 1 || d.table.rows[1].Reserved != 100 {
+		f.Fatalf("%+v", d.table.rows[:2])
+	}
+	if err := d.commit(time.Now()); err != nil {
+		f.Fatal(err)
+	}
+	d.store.db.Close()
+	s.state = s.read(f)
+	return s
+}
+
+// markOf returns the mark in what a voter sends.
+func markOf(f *testing.F, d *Daemon) string {
+	f.Helper()
+	link := d.carrier.(*post)
+	d.tell("anybody", "hello")
+	d.deliver()
+	h, _, err := wire.Read(link.sent[len(link.sent)-1])
+	if err != nil {
+		f.Fatal(err)
+	}
+	return h.Coterie
+}
+
+// memory returns a new folder, in memory where there is such a file system: a state is written for
+// each run.
+func memory(f *testing.F) string {
+	folder, err := os.MkdirTemp("/dev/shm", "qlock-fuzz-")
+	if err != nil {
+		return f.TempDir()
+	}
+	f.Cleanup(func() { os.RemoveAll(folder) })
+	return filepath.Join(folder, "state")
+}
+
+// header returns the header of a session's messages.
+func (s *stage) header(number int, epoch, reserved uint64, name string) wire.Header {
+	return wire.Header{Cluster: "test", Coterie: s.mark, Kind: wire.FromClient, Number: number, Epoch: epoch,
+		Reserved: reserved, Name: name}
+}
+
+// said returns a message of a session.
+func (s *stage) said(number int, epoch, reserved uint64, name, lines string) []byte {
+	return append(s.header(number, epoch, reserved, name).Append(nil), lines...)
+}
+
+// open opens the state that is there.
+func (s *stage) open(t testing.TB) *Daemon {
+	t.Helper()
+	d, err := Open(s.own, s.cluster, &post{}, event.To(io.Discard))
+	if err != nil {
+		t.Fatal(err)
+	}
+	return d
+}
+
+func (s *stage) read(t testing.TB) []byte {
+	t.Helper()
+	state, err := os.ReadFile(file(s.own.Data))
+	if err != nil {
+		t.Fatal(err)
+	}
+	return state
+}
+
+// put puts the state back with which the stage begins.
+func (s *stage) put(t testing.TB) {
+	t.Helper()
+	if err := os.WriteFile(file(s.own.Data), s.state, 0o600); err != nil {
+		t.Fatal(err)
+	}
+}
+
+// again opens the state with which the stage begins.
+func (s *stage) again(t testing.TB) *Daemon {
+	t.Helper()
+	s.put(t)
+	d := s.open(t)
+	t.Cleanup(func() { d.store.db.Close() })
+	return d
+}
+
+// hand hands a message of a client to the loop.
+func hand(d *Daemon, message []byte) {
+	box := make(chan []byte, 1)
+	box <- message
+	d.messages, d.admin = box, nil
+	for i := 0; i < 3; i++ { // a long message takes several turns
+		d.wait(context.Background(), time.Now().Add(time.Duration(len(box))*time.Second))
+	}
+}
+
+// order hands a message of an operator to the loop, and returns the replies.
+func order(d *Daemon, message []byte) map[string]answer {
+	box := make(chan []byte, 1)
+	box <- message
+	d.messages, d.admin = nil, box
+	d.wait(context.Background(), time.Now().Add(time.Second))
+	replies := d.replies
+	d.replies = map[string]answer{}
+	return replies
+}
+
+// sent returns how many bytes leave.
+func sent(d *Daemon) (total int) {
+	for _, lines := range d.out {
+		total += len(lines)
+	}
+	return total
+}
+
+// mustGrow fails if an epoch or a stamp goes back, or far ahead.
+func mustGrow(t *testing.T, before, after Session, number int) {
+	t.Helper()
+	if after.Epoch < before.Epoch || after.Base < before.Base || after.Reserved < before.Reserved ||
+		after.Base > after.Reserved {
+		t.Fatalf("number %d goes back from %+v to %+v", number, before, after)
+	}
+	if after.Epoch-before.Epoch > farthest || after.Reserved-before.Reserved > farthest {
+		t.Fatalf("number %d goes from %+v to %+v by one message", number, before, after)
+	}
+}
+
+// Whatever a message says: it changes nothing unless it is of this protocol, and of others'
+// sessions it changes nothing at all. What it costs is bounded, and nobody ends a voter by it.
+func FuzzMessage(f *testing.F) {
+	s := newStage(f)
+	saved := s.header(2, 1<<40, 1<<63, "evil")
+	saved.Saves = 1<<64 - 1
+	for _, lines := range []string{"", ". hello\n", strings.Repeat(". hello\n", 100), ". claim 5 1\n", ". claim 0 2\n",
+		". drop 1 1\n", ". open 0\n", ". close\n", ". plan\n", "orders request 1 0 2\n", "orders request 0 0 1\n",
+		"stock request 1 0 9\nstock release 1 0 9\n", "orders release 0 0 1\n", "orders relinquish 0 0 1 1\n",
+		"x y\n\n", "orders request 1 0 1099511627775\n", "no end"} {
+		f.Add(s.said(0, 0, 0, "nobody", lines))
+		f.Add(s.said(1, 1, 200, "other", lines))
+		f.Add(s.said(0, 1, 1<<40, "me", lines))
+		f.Add(s.said(0, 7, 1<<50, "evil", lines))
+		f.Add(s.said(0, 1, 150, "evil", lines)) // under another one's number and epoch
+		f.Add(append(saved.Append(nil), lines...))
+	}
+	f.Fuzz(func(t *testing.T, message []byte) {
+		d := s.again(t)
+		rows, held := d.table.rows, d.votes["orders"].held
+		hand(d, message)
+		if d.older {
+			t.Fatal("a message without a proof ends the voter")
+		}
+		if sent(d) > mostReplies+4*len(message) {
+			t.Fatalf("%d bytes leave for a message of %d", sent(d), len(message))
+		}
+		h, _, err := wire.Read(message)
+		ours := err == nil && h.Cluster == "test" && h.Coterie == s.mark && h.Kind == wire.FromClient
+		if !ours && (d.table.rows != rows || len(d.votes) != 1 || len(d.dirty)+len(d.table.changed) > 0) {
+			t.Fatalf("a foreign message changes %v", d.table.changed)
+		}
+		for number, row := range d.table.rows {
+			mustGrow(t, rows[number], row, number)
+			if rows[number].Open && row != rows[number] && (!ours || h.Name != rows[number].Name) {
+				t.Fatalf("%q changes the session of number %d from %+v to %+v", h.Name, number, rows[number], row)
+			}
+		}
+		if now := d.votes["orders"].held; now != held && h.Name != "me" {
+			t.Fatalf("%q takes a lock from its holder: %+v", h.Name, now)
+		}
+		if len(d.votes) > 1 && h.Name != "me" && h.Name != "other" {
+			t.Fatalf("%q, which has no number, makes %d votes", h.Name, len(d.votes)-1)
+		}
+	})
+}
+
+// player is a session of FuzzSessions.
+type player struct {
+	name            string
+	epoch, reserved uint64
+}
+
+// Whatever sessions say, one after the other: an epoch of a number has one session, no two of a
+// number get a grant for one stamp, and no grant has a stamp that was not reserved before.
+func FuzzSessions(f *testing.F) {
+	s := newStage(f)
+	for _, script := range []string{"", "claim", "\x00\x10\x20\x30\x40\x50",
+		"\x01\x11\x21\x31\x41\x51\x61\x02\x12\x22\x32", "\x00\x60\x01\x11\x21\x70\x02\x12\x22\x31"} {
+		f.Add([]byte(script))
+	}
+	f.Fuzz(func(t *testing.T, script []byte) {
+		if len(script) > 64 {
+			script = script[:64]
+		}
+		d, stamp := s.again(t), uint64(1)
+		players := []player{{name: "one"}, {name: "two"}, {name: "three"}}
+		owners, granted := map[string]string{}, map[string]string{}
+		for step, op := range script {
+			rows := d.table.rows
+			p := &players[int(op&15)%len(players)]
+			lines := ""
+			switch op >> 4 & 7 {
+			case 0:
+				p.epoch = d.table.rows[3].Epoch + 1 + uint64(op>>7)
+				lines = fmt.Sprintf(". claim 3 %d\n", p.epoch)
+			case 1:
+				p.reserved = d.table.rows[3].Reserved + uint64(op>>7)*100
+				lines = ". open 0\n"
+			case 2, 3:
+				stamp += uint64(op >> 7)
+				lines = fmt.Sprintf("orders%d request 3 0 %d\n", op&1, d.table.rows[3].Base+stamp)
+			case 4:
+				lines = fmt.Sprintf("orders%d release 3 0 %d\n", op&1, d.table.rows[3].Base+stamp)
+			case 5:
+				lines = fmt.Sprintf(". drop 3 %d\n", p.epoch)
+			case 6:
+				lines = ". close\n"
+			case 7:
+				d.table.heard[3] = time.Now().Add(-2 * time.Hour) // silent for two TTL
+			}
+			hand(d, s.said(3, p.epoch, p.reserved, p.name, lines))
+			mustGrow(t, rows[3], d.table.rows[3], 3)
+			for name, text := range d.out {
+				for _, line := range strings.Split(string(text), "\n") {
+					noteReply(t, step, name, strings.Fields(line), owners, granted)
+				}
+			}
+			for _, v := range d.votes {
+				if v.held.Number > 0 && v.held.Stamp > d.table.rows[v.held.Client].Reserved {
+					t.Fatalf("step %d: stamp %d is granted, and %d is reserved", step, v.held.Stamp,
+						d.table.rows[v.held.Client].Reserved)
+				}
+			}
+			d.out = map[string][]byte{}
+		}
+	})
+}
+
+// noteReply notes who is told to have an epoch of a number, and who gets a grant for a stamp of it.
+func noteReply(t *testing.T, step int, name string, words []string, owners, granted map[string]string) {
+	t.Helper()
+	switch {
+	case len(words) > 4 && words[0] == "." && words[1] == "opened":
+		mustBeOne(t, step, owners, "epoch "+words[3]+" of number "+words[2], name)
+	case len(words) > 4 && words[1] == "locked" && words[3] == "3":
+		mustBeOne(t, step, granted, "stamp "+words[4]+" of number 3", name)
+	}
+}
+
+// mustBeOne fails if a thing has another owner already.
+func mustBeOne(t *testing.T, step int, owners map[string]string, what, name string) {
+	t.Helper()
+	if owner := owners[what]; owner != "" && owner != name {
+		t.Fatalf("step %d: %s is of %q and of %q", step, what, owner, name)
+	}
+	owners[what] = name
+}
+
+// orders are the words that change something.
+var orders = map[string]bool{"evict": true, "unlock": true, "exchange": true, "retire": true, "settle": true,
+	"inform": true}
+
+// Whatever an operator says: the reply is one of JSON, no longer than a message may be. Words that
+// are none of his change nothing, and an order that comes twice is done once.
+func FuzzOperator(f *testing.F) {
+	s := newStage(f)
+	plan := "0 " + config.Mark(0, s.cluster.Coterie)
+	for _, words := range []string{"status", "sessions", "lock orders", "lock x y", "evict 0", "evict 64",
+		"unlock orders 1", "unlock orders 2", "ready " + plan, "retire " + plan, "retire 1 " + plan[2:],
+		"settle " + plan + " {\"3\":{\"name\":\"x\",\"epoch\":9,\"base\":1,\"reserved\":7,\"open\":true}}",
+		"inform " + plan + " {\"3\":{\"name\":\"x\",\"epoch\":9,\"base\":1,\"reserved\":7,\"open\":true}}",
+		"settle " + plan + " {\"99\":{}}", "would 1 dm90ZXJz cGxhbg==", "exchange 1 dm90ZXJz cGxhbg==", "", "evict"} {
+		f.Add(words + "\n")
+	}
+	f.Fuzz(func(t *testing.T, lines string) {
+		d := s.again(t)
+		rows, plans, held := d.table.rows, d.plans, d.votes["orders"].held
+		h := wire.Header{Cluster: "test", Coterie: s.mark, Kind: wire.FromOperator, Name: "0123"}
+		replies := order(d, append(h.Append(nil), lines...))
+		reply, one := replies[wire.OperatorBox("test", "0123")]
+		if text := reply.text(); len(replies) != 1 || !one || !json.Valid(text) || len(text) > mostReply {
+			t.Fatalf("%q: %d replies: %q", lines, len(replies), text)
+		}
+		words := append(strings.Fields(lines), "")
+		if !orders[words[0]] && (d.table.rows != rows || !reflect.DeepEqual(d.plans, plans) ||
+			d.votes["orders"].held != held || sent(d) > 0) {
+			t.Fatalf("%q changes something", lines)
+		}
+		for number, row := range d.table.rows {
+			mustGrow(t, rows[number], row, number)
+		}
+		if words[0] == "evict" || words[0] == "unlock" {
+			rows := d.table.rows
+			twice := order(d, append(h.Append(nil), lines...))[wire.OperatorBox("test", "0123")]
+			if !bytes.Equal(twice.text(), reply.text()) || d.table.rows != rows {
+				t.Fatalf("%q is done twice: %q, then %q", lines, reply.text(), twice.text())
+			}
+		}
+	})
+}
+
+// A state of which a row has other bytes than it was written with does not start, whichever row it
+// is.
+func FuzzRows(f *testing.F) {
+	s := newStage(f)
+	d := s.open(f)
+	rows, held := d.table.rows, d.votes["orders"].held
+	places := rowsOf(f, d.store.db)
+	d.store.db.Close()
+	for i, place := range places {
+		f.Add(uint8(i), uint16(0), []byte{})
+		f.Add(uint8(i), uint16(bytes.LastIndexByte(place[2], '0')), []byte{1})
+		f.Add(uint8(i), uint16(len(place[2])), []byte{0})
+	}
+	f.Add(uint8(255), uint16(0), []byte{})
+	f.Fuzz(func(t *testing.T, which uint8, at uint16, change []byte) {
+		s.put(t)
+		place := places[int(which)%len(places)]
+		value := changed(place[2], int(at), change)
+		same := bytes.Equal(place[2], value)
+		if int(which) >= 200 { // a row that was never there
+			place, same = [3][]byte{place[0], append([]byte{which}, place[1]...)}, false
+		}
+		db, err := bbolt.Open(file(s.own.Data), 0o600, nil)
+		if err != nil {
+			t.Fatal(err)
+		}
+		err = db.Update(func(tx *bbolt.Tx) error { return tx.Bucket(place[0]).Put(place[1], value) })
+		if closed := db.Close(); err != nil || closed != nil {
+			t.Fatal(err, closed)
+		}
+		d, err := Open(s.own, s.cluster, &post{}, event.To(io.Discard))
+		if err != nil {
+			if same {
+				t.Fatalf("the state as it was does not start: %v", err)
+			}
+			return
+		}
+		defer d.store.db.Close()
+		if !same || d.table.rows != rows || len(d.votes) != 1 || d.votes["orders"].held != held {
+			t.Fatalf("%q starts as row %q of %s", value, place[1], place[0])
+		}
+	})
+}
+
+// changed returns bytes of which some bits from a place on are others, and behind which there may
+// be more. Each process of a fuzzer has a state of its own, so a change says more than a value.
+func changed(value []byte, at int, change []byte) []byte {
+	value = append([]byte(nil), value...)
+	for i, bits := range change {
+		if at+i < len(value) {
+			value[at+i] ^= bits
+		} else {
+			value = append(value, bits)
+		}
+	}
+	return value
+}
+
+// rowsOf returns the bucket, the key and the value of each row, in their order.
+func rowsOf(f *testing.F, db *bbolt.DB) (places [][3][]byte) {
+	f.Helper()
+	copied := func(b []byte) []byte { return append([]byte(nil), b...) }
+	err := db.View(func(tx *bbolt.Tx) error {
+		return tx.ForEach(func(name []byte, bucket *bbolt.Bucket) error {
+			return bucket.ForEach(func(k, v []byte) error {
+				places = append(places, [3][]byte{copied(name), copied(k), copied(v)})
+				return nil
+			})
+		})
+	})
+	if err != nil || len(places) < 5 {
+		f.Fatal(len(places), err)
+	}
+	sort.Slice(places, func(i, j int) bool {
+		return string(places[i][0])+string(places[i][1]) < string(places[j][0])+string(places[j][1])
+	})
+	return places
+}
+
+// What voters reply about sessions brings no number back: of each it has the highest epoch, and a
+// stamp as high as any of them.
+func FuzzMerge(f *testing.F) {
+	rows := make([]Session, qlock.MaxClients)
+	rows[3], rows[63] = Session{Name: "x", Epoch: 4, Base: 9, Reserved: 100, Open: true, Used: true},
+		Session{Epoch: 1, Reserved: 7}
+	first, _ := json.Marshal(rows)
+	rows[3] = Session{Name: "y", Epoch: 4, Base: 9, Reserved: 50, Open: true}
+	second, _ := json.Marshal(rows)
+	f.Add(first, second)
+	f.Add(first, []byte("[]"))
+	f.Add([]byte("{\"error\":\"no\"}"), second)
+	f.Fuzz(func(t *testing.T, first, second []byte) {
+		replies := []operator.Reply{{Voter: 0, Name: "a", Body: first}, {Voter: 1, Name: "b", Body: second}}
+		sessions, heard, err := Merge(replies)
+		if err != nil {
+			return
+		}
+		if heard != 0b11 || len(sessions) > qlock.MaxClients {
+			t.Fatalf("%b, %d sessions", heard, len(sessions))
+		}
+		for _, body := range [][]byte{first, second} {
+			var rows []Session
+			if err := json.Unmarshal(body, &rows); err != nil {
+				t.Fatal(err)
+			}
+			for number, row := range rows {
+				if got := sessions[number]; row.Epoch > 0 && (got.Epoch < row.Epoch || got.Reserved < row.Reserved) {
+					t.Fatalf("number %d: %+v of %+v", number, got, row)
+				}
+			}
+		}
+	})
+}
+
+// A saved vote is read as what was saved, or not at all.
+func FuzzUnpack(f *testing.F) {
+	voter, err := qlock.NewVoter(3, qlock.MaxStamp)
+	if err != nil {
+		f.Fatal(err)
+	}
+	f.Add(pack(voter.State()))
+	if _, err := voter.Take([]byte("request 5 3 17"), nil); err != nil {
+		f.Fatal(err)
+	}
+	f.Add(pack(voter.State()))
+	f.Fuzz(func(t *testing.T, packed []byte) {
+		state, ok := unpack(packed)
+		if !ok {
+			return
+		}
+		if len(state) != qlock.VoterBytes {
+			t.Fatalf("a state of %d bytes", len(state))
+		}
+		if again, ok := unpack(pack(state)); !ok || !bytes.Equal(again, state) {
+			t.Fatalf("%x is saved as another one", state)
+		}
+	})
+}

@@ -1,0 +1,81 @@
+package locks
+
+import (
+	"sync"
+	"time"
+
+	"calvundek.example/service/qlock"
+)
+
+// watch closes Lost in time, whatever holds the client's loop up: it has a goroutine of its own,
+// which touches no socket. The loop tells it what is held, and which heartbeats voters
+// acknowledged.
+type watch struct {
+	lease time.Duration // for how long an acknowledged heartbeat counts
+
+	mutex sync.Mutex
+	known [qlock.MaxVoters]time.Duration
+	held  map[*Held]struct{}
+}
+
+// pause is how long the watch waits between two looks.
+const pause = 25 * time.Millisecond
+
+// leaseOf returns for how long a vote counts after its client's heartbeat left: a voter keeps it
+// for a TTL.
+func leaseOf(ttl time.Duration) time.Duration { return ttl * 8 / 10 }
+
+func newWatch(ttl time.Duration) *watch {
+	return &watch{lease: leaseOf(ttl), held: map[*Held]struct{}{}}
+}
+
+// acknowledge notes when the newest heartbeat left that a voter acknowledged.
+func (w *watch) acknowledge(voter int, left time.Duration) {
+	w.mutex.Lock()
+	defer w.mutex.Unlock()
+	w.known[voter] = left
+}
+
+// begin notes that a lock is held, and end that it is not any more.
+func (w *watch) begin(h *Held) {
+	w.mutex.Lock()
+	defer w.mutex.Unlock()
+	w.held[h] = struct{}{}
+}
+
+func (w *watch) end(h *Held) {
+	w.mutex.Lock()
+	defer w.mutex.Unlock()
+	delete(w.held, h)
+}
+
+// look ends what may be lost at a time.
+func (w *watch) look(up time.Duration) {
+	w.mutex.Lock()
+	defer w.mutex.Unlock()
+	var doubtful uint64
+	for voter, left := range w.known {
+		if up-left > w.lease {
+			doubtful |= 1 << voter
+		}
+	}
+	for h := range w.held {
+		if h.quorum&doubtful != 0 {
+			h.lapse()
+		}
+	}
+}
+
+// run looks again and again until the client ends.
+func (w *watch) run(ended <-chan struct{}) {
+	ticker := time.NewTicker(pause)
+	defer ticker.Stop()
+	for {
+		select {
+		case <-ended:
+			return
+		case <-ticker.C:
+			w.look(uptime())
+		}
+	}
+}

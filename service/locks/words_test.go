@@ -1,0 +1,258 @@
+package locks
+
+import (
+	"context"
+	"errors"
+	"fmt"
+	"math/rand"
+	"strings"
+	"testing"
+	"time"
+
+	"calvundek.example/service/internal/bus"
+	"calvundek.example/service/internal/wire"
+	"calvundek.example/service/internal/worlds"
+	"calvundek.example/service/qlock"
+)
+
+// table is a client whose voters' words a test says, and what the client sends.
+type table struct {
+	*Client
+	boxes []<-chan []byte
+}
+
+// alone returns a client that has a session of number 3 and epoch 5, of which the voters said
+// nothing yet. There are no voters.
+func alone(t *testing.T) *table {
+	t.Helper()
+	cluster, b := worlds.NewCluster(t, worlds.Majority, 20*time.Second), bus.New(1)
+	c, err := newClient(cluster, Config{Transport: b.Port()})
+	if err != nil {
+		t.Fatal(err)
+	}
+	c.header.Number, c.header.Epoch, c.asked, c.claimed, c.header.Reserved = 3, 5, 3, 5, block
+	one := &table{Client: c}
+	for voter := range c.peers {
+		box, err := b.Port().Listen(wire.VoterBox(cluster.ID, voter))
+		if err != nil {
+			t.Fatal(err)
+		}
+		one.boxes = append(one.boxes, box)
+	}
+	return one
+}
+
+// says lets the client take lines of a voter.
+func (c *table) says(voter int, lines string) {
+	h := wire.Header{Cluster: c.cluster.ID, Coterie: c.plan.mark, Kind: wire.FromVoter, Number: voter,
+		Name: fmt.Sprint("identity-", voter)}
+	c.message(append(h.Append(nil), lines...))
+}
+
+// sent returns the lines of locks that the client sends, by voter.
+func (c *table) sent() (lines [3][]string) {
+	c.flush()
+	for voter, box := range c.boxes {
+		for len(box) > 0 {
+			_, rest, _ := wire.Read(<-box)
+			for _, line := range strings.Split(strings.TrimSpace(string(rest)), "\n") {
+				if !strings.HasPrefix(line, ". ") {
+					lines[voter] = append(lines[voter], line)
+				}
+			}
+		}
+	}
+	return lines
+}
+
+// A voter is asked only under a stamp that it said to be this session's: above its base, and at
+// most what it has as reserved. Words come in any order, from some voters only, and about different
+// stamps.
+func TestOnlyOwnStampsAreAsked(t *testing.T) {
+	random, requests, raised := rand.New(rand.NewSource(1)), 0, 0
+	for run := 0; run < 60; run++ {
+		c := alone(t)
+		bases, reserved := [3]uint64{}, [3]uint64{}
+		for n := 0; n < 40; n++ {
+			voter := random.Intn(3)
+			bases[voter] = greatest(bases[voter], uint64(random.Intn(200)))
+			reserved[voter] = greatest(greatest(reserved[voter], bases[voter]), uint64(random.Intn(300)))
+			c.says(voter, fmt.Sprintf(". opened 3 5 %d %d 1 0\n", bases[voter], reserved[voter]))
+			call := &waiter{got: make(chan *Held, 1), since: time.Now()}
+			if err := c.enqueue(fmt.Sprint("lock-", random.Intn(4)), call); err != nil {
+				t.Fatal(err)
+			}
+			for asked, lines := range c.sent() {
+				for _, line := range lines {
+					_, line, _ := strings.Cut(line, " ")
+					stamp := wire.Stamp([]byte(line))
+					if !strings.HasPrefix(line, "request ") {
+						continue
+					}
+					if requests++; stamp <= bases[asked] || stamp > reserved[asked] {
+						t.Fatalf("run %d: voter %d is asked under %d, and its stamps are those above %d up to %d",
+							run, asked, stamp, bases[asked], reserved[asked])
+					}
+					if stamp > 100 {
+						raised++
+					}
+				}
+			}
+		}
+	}
+	if requests < 100 || raised < 20 {
+		t.Errorf("%d requests, %d of them under a raised stamp: these runs show little", requests, raised)
+	}
+}
+
+// A claim with the reply of one voter is not done.
+func TestOneVoterGivesNoNumber(t *testing.T) {
+	c := alone(t)
+	c.header.Number, c.header.Epoch, c.claimed = 0, 0, 0
+	ctx, cancel := context.WithTimeout(context.Background(), 300*time.Millisecond)
+	defer cancel()
+	voter := c.boxes[0]
+	go func() {
+		for m := range voter {
+			h, lines, _ := wire.Read(m)
+			if text := string(lines); strings.Contains(text, "claim 3 ") {
+				reply := wire.Header{Cluster: h.Cluster, Coterie: h.Coterie, Kind: wire.FromVoter, Name: "identity-0"}
+				epoch := strings.Fields(text[strings.Index(text, "claim 3 "):])[2]
+				_ = c.carrier.Send(wire.SessionBox(h.Cluster, h.Name), append(reply.Append(nil),
+					". claimed 3 "+epoch+" 0 0\n"...))
+			}
+		}
+	}()
+	messages, err := c.carrier.Listen(wire.SessionBox(c.cluster.ID, c.header.Name))
+	if err != nil {
+		t.Fatal(err)
+	}
+	c.messages, c.asked = messages, 3
+	if err := c.Client.claim(ctx); err == nil || c.replied != 1 {
+		t.Errorf("replies of %b, %v", c.replied, err)
+	}
+}
+
+// A voter that does not know a session is asked to accept its claim, once for each heartbeat, and
+// is not asked for its vote before.
+func TestNumberIsClaimedEverywhere(t *testing.T) {
+	c := alone(t)
+	for voter := 0; voter < 2; voter++ {
+		c.says(voter, ". claimed 3 5 0 4096\n")
+	}
+	claims := func() (count int) {
+		c.flush()
+		for len(c.boxes[2]) > 0 {
+			m := <-c.boxes[2]
+			count += strings.Count(string(m), ". claim 3 5\n")
+		}
+		return count
+	}
+	c.heartbeat(time.Now())
+	for i := 0; i < 3; i++ {
+		c.says(2, ". unknown 3 5\n")
+	}
+	if got := claims(); got != 1 {
+		t.Errorf("%d claims", got)
+	}
+	for i := 0; i < 6; i++ {
+		call := &waiter{got: make(chan *Held, 1), since: time.Now()}
+		if err := c.enqueue(fmt.Sprint("lock-", i), call); err != nil {
+			t.Fatal(err)
+		}
+	}
+	if lines := c.sent(); len(lines[2]) > 0 || len(lines[0]) == 0 {
+		t.Errorf("it is asked: %v", lines)
+	}
+	c.says(2, ". refused 3 5\n")
+	if c.why != nil || c.refused {
+		t.Error("a voter that refuses ends a session that a quorum accepted")
+	}
+}
+
+// held returns a lock that a client holds, by the votes of voters that reply, and its client, whose
+// loop stands still.
+func held(t *testing.T) (*Client, *Held) {
+	t.Helper()
+	w := worlds.New(t, worlds.Majority, 20*time.Second)
+	c := still(t, w)
+	turns(c, 200*time.Millisecond, func() bool { return false })
+	call := &waiter{got: make(chan *Held, 1), since: time.Now()}
+	if err := c.enqueue("x", call); err != nil {
+		t.Fatal(err)
+	}
+	c.flush()
+	if !turns(c, 5*time.Second, func() bool { return len(call.got) > 0 }) {
+		t.Fatal("the lock is not held")
+	}
+	return c, <-call.got
+}
+
+// Who stood still for a TTL hears that the lock may be lost before the next heartbeat's reply hides
+// it.
+func TestHeartbeatHidesNoLoss(t *testing.T) {
+	c, h := held(t)
+	for v := range c.peers {
+		c.peers[v].known -= c.cluster.TTL.Duration
+	}
+	c.beat = c.beat.Add(-c.cluster.TTL.Duration) // so a heartbeat is due
+	c.round(time.Now())
+	if turns(c, 300*time.Millisecond, h.over.Load); !h.over.Load() {
+		t.Error("a heartbeat hides that the lock may be lost")
+	}
+}
+
+// A reply says that a voter heard the heartbeat, not that it heard anything when the reply came.
+func TestReplyCountsFromItsHeartbeat(t *testing.T) {
+	c := alone(t)
+	ttl, up := c.cluster.TTL.Duration, uptime()
+	for v := range c.peers {
+		c.peers[v].known = up - 2*ttl
+		c.peers[v].sent[7] = up - 9*ttl/10
+		c.says(v, ". opened 3 5 0 4096 7 0\n")
+	}
+	if c.doubtful() != 0b111 {
+		t.Errorf("a late reply renews the leases of %b", ^c.doubtful()&0b111)
+	}
+	for v := range c.peers {
+		c.peers[v].sent[8] = up - ttl/2
+		c.says(v, ". opened 3 5 0 4096 8 0\n")
+	}
+	if c.doubtful() != 0 {
+		t.Errorf("a reply does not renew the leases of %b", c.doubtful())
+	}
+}
+
+// Who may have lost a lock asks for its votes no more: a voter that forgot the request would grant
+// it anew.
+func TestLostLockIsNotRenewed(t *testing.T) {
+	c, h := held(t)
+	renews := func() bool {
+		c.flush()
+		for v := range c.out {
+			c.out[v] = nil
+		}
+		c.round(time.Now().Add(c.cluster.TTL.Duration / 3))
+		for v := range c.out {
+			if strings.Contains(string(c.out[v]), "x request ") {
+				return true
+			}
+		}
+		return false
+	}
+	if !renews() {
+		t.Fatal("a holder does not show that it is there")
+	}
+	c.lose(h)
+	h.lock.timer.Of(0, time.Now())
+	h.lock.timer.Of(h.stamp, time.Now().Add(-c.cluster.TTL.Duration))
+	if renews() {
+		t.Error("a lost lock is renewed")
+	}
+	if err := c.unlock(h); !errors.Is(err, ErrLapsed) {
+		t.Error(err)
+	}
+	if c.locks["x"].shown.Phase != qlock.Idle {
+		t.Error("the votes are not given back")
+	}
+}
