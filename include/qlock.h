@@ -307,9 +307,9 @@ int32_t qlock_fence_new(uint8_t *state, size_t n);
    the write that it guards, and never put an older guard back. The guard can't see whether the client is still inside, only
    whether it admitted a newer pass before.
 
-   The turn is a fencing token: one number, which is the same for all passes of one request, and greater for each later request
-   that the guard admits, as long as it admits only passes that clients had. The first turn is 1. Note it in the place beside what
-   is written.
+   The turn is a fencing token: one number. It is greater for each later request that the guard admits, as long as it admits only
+   passes of grants that voters gave, and the same for all passes of one request, if that has one pass. The first turn is 1. Note
+   it in the place beside what is written.
 
    QLOCK_BAD_STATE     `n` is not QLOCK_FENCE_BYTES
    QLOCK_BAD_ARGUMENT  `len` is not QLOCK_PASS_BYTES

@@ -64,6 +64,13 @@ class Races(unittest.TestCase):
         late = self.voters[0].take(asked[0])
         self.assertEqual(self.clients[0].take(late[0]), ([b"release 0 0 1"], False))
 
+    def test_all_voters_of_a_great_quorum_are_asked(self):
+        for quorum in (range(12), range(64), [0, 63]):
+            client = qlock.Client(5)
+            lines = client.ask(quorum)
+            self.assertEqual([int(line.split()[2]) for line in lines], list(quorum))
+            self.assertEqual(client.shows().quorum, list(quorum))
+
     def test_message_may_be_a_text(self):
         asked = self.clients[0].ask([0])
         self.assertEqual(self.voters[0].take(asked[0].decode()), [b"locked 0 0 1 1 1"])
@@ -90,6 +97,13 @@ class Races(unittest.TestCase):
         for guard in (fence, again):
             with self.assertRaises(qlock.OlderGrant):
                 guard.admit(first)
+
+
+    def test_turns_have_64_bits(self):
+        play(self.voters, self.clients, self.clients[0].ask([0, 1]))
+        for turn in (1 << 32, (1 << 63) + 5):
+            guard = qlock.Fence.restore(turn.to_bytes(8, "little") + bytes(8 * 64))
+            self.assertEqual(guard.admit(self.clients[0].show_pass()), turn + 1)
 
 
 class Leases(unittest.TestCase):
@@ -151,6 +165,14 @@ class Saves(unittest.TestCase):
         self.assertTrue(voter.must_save(saved))
         with self.assertRaises(qlock.BadState):
             voter.must_save(b"")
+
+    def test_vote_that_became_free_has_to_be_saved(self):
+        voter = qlock.Voter(0)
+        voter.take(b"request 0 0 1")
+        saved = voter.state
+        voter.take(b"release 0 0 1")
+        self.assertIsNone(voter.held())
+        self.assertTrue(voter.must_save(saved))
 
     def test_voter_that_forgets_keeps_its_grant(self):
         voter = qlock.Voter(0)

@@ -91,6 +91,46 @@ class Stores(unittest.TestCase):
             store.save(b"one")  # the file has the two by now
             self.assertEqual(store.read(), b"one")
 
+    def test_failed_save_is_tried_again(self):
+        Store.create(self.path, b"one")
+        with Store(self.path) as store:
+            store.read()
+            with mock.patch("qlock.store.sync_folder", side_effect=OSError), self.assertRaises(OSError):
+                store.save(b"two")
+            with mock.patch("qlock.store.replace_file") as replaced:
+                store.save(b"two")
+            replaced.assert_called_once()
+
+    def test_save_is_synced_before_it_takes_the_place(self):
+        Store.create(self.path, b"one")
+        events, rename = [], os.rename
+
+        def synced(file):
+            events.append((os.fstat(file).st_ino, os.fstat(file).st_size))
+
+        def renamed(old, new):
+            events.append("renamed")
+            rename(old, new)
+
+        with Store(self.path) as store:
+            store.read()
+            with mock.patch("os.fsync", synced), mock.patch("os.rename", renamed):
+                store.save(b"a longer state")
+        saved, folder = os.stat(self.path), os.stat(self.folder.name)
+        self.assertEqual(events[:2], [(saved.st_ino, saved.st_size), "renamed"])
+        self.assertEqual([ino for ino, _ in events[2:]], [folder.st_ino])
+
+    def test_each_byte_that_changed_is_saved(self):
+        state = bytes(1104)
+        Store.create(self.path, state)
+        with Store(self.path) as store:
+            store.read()
+            for place in (0, 551, 552, 1103):
+                state = state[:place] + b"x" + state[place + 1 :]
+                store.save(state)
+                with open(self.path, "rb") as file:
+                    self.assertTrue(file.read().endswith(state), place)
+
     def test_half_of_a_save_does_no_harm(self):
         Store.create(self.path, b"one")
         with open(self.path + ".new", "wb") as file:
