@@ -116,7 +116,7 @@ func TestAbandonedNumberSpeaksNoMore(t *testing.T) {
 	if err != nil {
 		t.Fatal(err)
 	}
-	if from, _ := wire.Ends(lines); from != 4 {
+	if from := wire.ReadLine(lines).From; from != 4 {
 		t.Errorf("number %d asks", from)
 	}
 }

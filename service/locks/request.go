@@ -287,7 +287,7 @@ func (c *Client) askAgain(l *lock) {
 func (c *Client) send(l *lock, lines []byte, now time.Time) {
 	for len(lines) > 0 {
 		end := bytes.IndexByte(lines, '\n') + 1
-		if _, to := wire.Ends(lines[:end]); to >= 0 && to < len(c.peers) {
+		if to := wire.ReadLine(lines[:end]).To; to >= 0 && to < len(c.peers) {
 			c.out[to] = append(append(append(c.out[to], l.name...), ' '), lines[:end]...)
 		}
 		lines = lines[end:]

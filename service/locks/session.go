@@ -441,8 +441,8 @@ func (c *Client) message(data []byte) {
 		lines = rest
 		if string(lock) == "." {
 			c.control(h.Number, bytes.Fields(line))
-		} else if from, _ := wire.Ends(line); from == h.Number && c.header.Epoch > 0 && wire.IsName(lock) &&
-			!c.peers[from].stale {
+		} else if wire.ReadLine(line).From == h.Number && c.header.Epoch > 0 && wire.IsName(lock) &&
+			!c.peers[h.Number].stale {
 			c.take(lock, line)
 		} else {
 			c.stats.Refused++

@@ -85,7 +85,7 @@ func TestOnlyOwnStampsAreAsked(t *testing.T) {
 			for asked, lines := range c.sent() {
 				for _, line := range lines {
 					_, line, _ := strings.Cut(line, " ")
-					stamp := wire.Stamp([]byte(line))
+					stamp := wire.ReadLine([]byte(line)).Stamp
 					if !strings.HasPrefix(line, "request ") {
 						continue
 					}

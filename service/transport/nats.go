@@ -17,10 +17,11 @@ import (
 	"github.com/nats-io/nats.go"
 )
 
-// The room of a mailbox. Behind a few messages that are handed out next wait so many, of so many
-// bytes together.
+// The room of a mailbox: how many messages wait, of how many bytes together. Of these the first ones
+// are handed out, and not read yet.
 const (
-	next      = 64
+	next      = 1 << 12
+	nextBytes = 1 << 20
 	Room      = 1 << 16
 	RoomBytes = 16 << 20
 )
@@ -192,9 +193,20 @@ func (n *NATS) Send(mailbox string, message []byte) error {
 // reminder repeats it.
 func (n *NATS) Listen(subject string) (<-chan []byte, error) {
 	messages, left := make(chan []byte, next), make(chan struct{})
+	out := handed{to: messages}
 	subscription, err := n.connection.Subscribe(subject, func(m *nats.Msg) {
+		for !out.hasRoom(len(m.Data)) {
+			select {
+			case <-time.After(time.Millisecond): // the others wait in the subscription
+			case <-left:
+				return
+			case <-n.closed:
+				return
+			}
+		}
 		select {
-		case messages <- m.Data: // until then the others wait in the subscription
+		case out.to <- m.Data:
+			out.note(len(m.Data))
 		case <-left:
 		case <-n.closed:
 		}
@@ -209,6 +221,29 @@ func (n *NATS) Listen(subject string) (<-chan []byte, error) {
 	defer n.mutex.Unlock()
 	n.mailboxes = append(n.mailboxes, mailbox{subscription, messages, left})
 	return messages, nil
+}
+
+// handed counts the bytes of the messages that were handed out, and not read yet.
+type handed struct {
+	to          chan<- []byte
+	sizes       [next + 1]int // of the last ones
+	count, read int
+	bytes       int
+}
+
+// hasRoom returns whether a message of this size may be handed out. One alone may have any size.
+func (h *handed) hasRoom(size int) bool {
+	for ; h.count-h.read > len(h.to); h.read++ {
+		h.bytes -= h.sizes[h.read%len(h.sizes)]
+	}
+	return h.bytes == 0 || h.bytes+size <= nextBytes
+}
+
+// note notes that a message was handed out.
+func (h *handed) note(size int) {
+	h.sizes[h.count%len(h.sizes)] = size
+	h.bytes += size
+	h.count++
 }
 
 // Leave ends what Listen began.

@@ -8,6 +8,7 @@ import (
 	"os"
 	"os/exec"
 	"strings"
+	"syscall"
 
 	"calvundek.example/service/internal/config"
 	"calvundek.example/service/internal/voter"
@@ -21,13 +22,44 @@ type hopelessly string
 
 func (h hopelessly) Error() string { return string(h) }
 
+// mostMemory is how many bytes of memory a check may take, and checkFactor how many for each of the
+// file's. A state that is as it was saved takes a small part of them.
+const (
+	mostMemory  = 4 << 30
+	checkFactor = 8
+)
+
 // check reads the whole state of a voter that does not run.
 func check(path string) error {
 	own, _, err := config.ReadVoter(path)
 	if err != nil {
 		return err
 	}
+	if err := boundMemory(mostMemory + checkFactor*voter.Size(own.Data)); err != nil {
+		return err
+	}
 	return voter.Check(own.Data)
+}
+
+// boundMemory lets this process take no more memory than so many bytes from now on. Whoever reads
+// what is damaged may ask for any number.
+func boundMemory(more uint64) error {
+	text, err := os.ReadFile("/proc/self/statm")
+	if err != nil {
+		return err
+	}
+	var pages uint64
+	if _, err := fmt.Sscan(string(text), &pages); err != nil {
+		return err
+	}
+	var limit syscall.Rlimit
+	if err := syscall.Getrlimit(syscall.RLIMIT_AS, &limit); err != nil {
+		return err
+	}
+	if most := pages*uint64(os.Getpagesize()) + more; most < limit.Cur {
+		limit.Cur = most
+	}
+	return syscall.Setrlimit(syscall.RLIMIT_AS, &limit)
 }
 
 // checkApart checks the state in a process of its own: some damage ends whoever reads it.

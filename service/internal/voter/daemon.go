@@ -281,55 +281,56 @@ func (d *Daemon) line(l *letter, speaker verdict, lock, line []byte, now time.Ti
 	if string(lock) == "." {
 		return d.control(l, speaker, line, now)
 	}
-	from, to := wire.Ends(line)
-	if speaker != known || from != l.Number || to != d.store.meta.Voter || !wire.IsName(lock) || !isToVoter(line) {
+	said := wire.ReadLine(line)
+	if speaker != known || said.From != l.Number || said.To != d.store.meta.Voter || !wire.IsName(lock) ||
+		!isToVoter(said) {
 		return false
 	}
-	if !d.isHis(from, line) {
+	if !d.isHis(said) {
 		d.m.refused.Inc()
 		return true
 	}
 	v := d.votes[string(lock)]
 	if v == nil {
-		v = d.first(l, lock, line)
+		v = d.first(l, lock, said)
 	}
 	if v == nil {
 		d.m.refused.Inc()
 		return true
 	}
-	d.step(v, from, now, func(out []byte) ([]byte, error) { return v.Take(line, out) })
-	d.deny(v, l.Header, line)
+	d.step(v, said.From, now, func(out []byte) ([]byte, error) { return v.Take(line, out) })
+	d.deny(v, l.Header, said)
 	return true
 }
 
 // isToVoter returns whether a line has a word that voters take.
-func isToVoter(line []byte) bool {
-	word, _, _ := bytes.Cut(line, []byte(" "))
-	return string(word) == "request" || string(word) == "release" || string(word) == "relinquish"
+func isToVoter(said wire.Line) bool {
+	word := string(said.Word)
+	return word == "request" || word == "release" || word == "relinquish"
 }
 
 // isHis returns whether a number's session may say a line: the stamp of its REQUEST is above its
 // base, and no stamp is above what it reserved. A RELINQUISH names a grant, and the automaton takes
 // the current one only.
-func (d *Daemon) isHis(number int, line []byte) bool {
-	row, stamp := d.table.rows[number], wire.Stamp(line)
-	switch {
-	case bytes.HasPrefix(line, []byte("request ")):
-		return row.Base < stamp && stamp <= row.Reserved
-	case bytes.HasPrefix(line, []byte("release ")):
-		return stamp <= row.Reserved
+func (d *Daemon) isHis(said wire.Line) bool {
+	row := &d.table.rows[said.From]
+	switch string(said.Word) {
+	case "request":
+		return row.Base < said.Stamp && said.Stamp <= row.Reserved
+	case "release":
+		return said.Stamp <= row.Reserved
 	}
 	return true
 }
 
 // first makes the vote for a lock, if a line is its first REQUEST and there is room. If there is
 // none, it says so.
-func (d *Daemon) first(l *letter, lock, line []byte) *vote {
-	if !bytes.HasPrefix(line, []byte("request ")) {
+func (d *Daemon) first(l *letter, lock []byte, said wire.Line) *vote {
+	if string(said.Word) != "request" {
 		return nil
 	}
 	if len(d.votes) >= d.own.MaxLocks {
-		d.tell(l.Name, "full %s %d", lock, wire.Stamp(line))
+		d.tell(l.Name, "full %s %d", lock, said.Stamp)
 		d.m.full.Inc()
 		if !d.isFull {
 			d.isFull = true
@@ -348,10 +349,13 @@ func (d *Daemon) first(l *letter, lock, line []byte) *vote {
 func (d *Daemon) newVoter() (*qlock.Voter, error) {
 	id, block := uint8(d.store.meta.Voter), d.store.meta.Block
 	if block == 0 {
-		return qlock.NewVoter(id, blockSize)
+		return qlock.NewVoter(id, d.lastGrant())
 	}
-	return qlock.RebornVoter(id, block*blockSize, (block+1)*blockSize)
+	return qlock.RebornVoter(id, block*blockSize, d.lastGrant())
 }
+
+// lastGrant returns the number of the last grant that a vote may get.
+func (d *Daemon) lastGrant() uint64 { return (d.store.meta.Block + 1) * blockSize }
 
 // step makes a step that a client's line, or letting its grant go, leads to. Its lines leave after the next save.
 func (d *Daemon) step(v *vote, client int, now time.Time, take func(out []byte) ([]byte, error)) {
@@ -386,13 +390,12 @@ func (d *Daemon) refuse(v *vote, why error) {
 }
 
 // deny tells a client that its REQUEST is over here: it was let go. It would wait for a reply for ever.
-func (d *Daemon) deny(v *vote, h wire.Header, line []byte) {
-	stamp := wire.Stamp(line)
-	if !bytes.HasPrefix(line, []byte("request ")) || v.asks[h.Number].stamp == stamp {
+func (d *Daemon) deny(v *vote, h wire.Header, said wire.Line) {
+	if string(said.Word) != "request" || v.asks[h.Number].stamp == said.Stamp {
 		return
 	}
-	if known, err := v.Knows(uint8(h.Number)); err == nil && known.Finished >= stamp {
-		d.tell(h.Name, "gone %s %d", v.name, stamp)
+	if known, err := v.Knows(uint8(h.Number)); err == nil && known.Finished >= said.Stamp {
+		d.tell(h.Name, "gone %s %d", v.name, said.Stamp)
 	}
 }
 
@@ -400,8 +403,8 @@ func (d *Daemon) deny(v *vote, h wire.Header, line []byte) {
 func (d *Daemon) send(v *vote, lines []byte) {
 	for len(lines) > 0 {
 		end := bytes.IndexByte(lines, '\n') + 1
-		if _, to := wire.Ends(lines[:end]); to >= 0 && to < qlock.MaxClients && d.mayHear(to, v, lines[:end]) {
-			name := d.table.rows[to].Name
+		if said := wire.ReadLine(lines[:end]); said.To >= 0 && said.To < qlock.MaxClients && d.mayHear(v, said) {
+			name := d.table.rows[said.To].Name
 			out := append(append(d.out[name], v.name...), ' ')
 			d.out[name] = append(out, lines[:end]...)
 			d.outBytes += len(v.name) + 1 + end
@@ -412,12 +415,12 @@ func (d *Daemon) send(v *vote, lines []byte) {
 
 // mayHear returns whether a line of a vote is for the session that a number has now: its stamp is
 // above that session's base. Only whoever has the vote gets an INQUIRE, which names the grant.
-func (d *Daemon) mayHear(number int, v *vote, line []byte) bool {
-	stamp := wire.Stamp(line)
-	if bytes.HasPrefix(line, []byte("inquire ")) {
+func (d *Daemon) mayHear(v *vote, said wire.Line) bool {
+	stamp := said.Stamp
+	if string(said.Word) == "inquire" {
 		stamp = v.held.Stamp
 	}
-	return d.table.rows[number].Open && !d.table.isEarlier(number, stamp)
+	return d.table.rows[said.To].Open && !d.table.isEarlier(said.To, stamp)
 }
 
 // tell puts a control line with those that leave after the save.

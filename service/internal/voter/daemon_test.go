@@ -131,7 +131,7 @@ func TestWhichCountsAreBelieved(t *testing.T) {
 func TestSpentLock(t *testing.T) {
 	var log bytes.Buffer
 	now := time.Unix(1000, 0)
-	d := &Daemon{own: &config.Voter{}, m: newMetrics(), log: event.To(&log), votes: map[string]*vote{}, busy: map[*vote]struct{}{},
+	d := &Daemon{own: &config.Voter{}, store: &store{}, m: newMetrics(), log: event.To(&log), votes: map[string]*vote{}, busy: map[*vote]struct{}{},
 		dirty: map[*vote]struct{}{}, out: map[string][]byte{}, table: table{ttl: time.Second, changed: map[int]Session{}}}
 	voter, err := qlock.NewVoter(0, 1)
 	if err != nil {
@@ -147,5 +147,34 @@ func TestSpentLock(t *testing.T) {
 	}
 	if spent, expired := bytes.Count(log.Bytes(), []byte("grants-spent")), bytes.Count(log.Bytes(), []byte("lease-expired")); spent != 1 || expired != 0 {
 		t.Errorf("logged %d and %d times", spent, expired)
+	}
+}
+
+// Each line of a vote leaves: LOCKED, FAIL to whom waits behind another one, and INQUIRE.
+func TestEachLineLeaves(t *testing.T) {
+	now := time.Unix(1000, 0)
+	d := &Daemon{own: &config.Voter{}, store: &store{}, m: newMetrics(), votes: map[string]*vote{}, busy: map[*vote]struct{}{},
+		dirty: map[*vote]struct{}{}, out: map[string][]byte{}, table: *newTable(now)}
+	voter, err := qlock.NewVoter(0, 10)
+	if err != nil {
+		t.Fatal(err)
+	}
+	v := d.add("orders", voter)
+	for _, one := range []struct {
+		client      int
+		stamp       uint64
+		hears, line string
+	}{
+		{1, 105, "session-1", "orders locked 0 1 105 1 105\n"},
+		{2, 107, "session-2", "orders fail 0 2 107 107\n"},
+		{3, 103, "session-1", "orders inquire 0 1 1 107\n"},
+	} {
+		d.table.rows[one.client] = of(fmt.Sprint("session-", one.client), 1, 100, 200)
+		line := []byte(fmt.Sprintf("request %d 0 %d", one.client, one.stamp))
+		d.step(v, one.client, now, func(out []byte) ([]byte, error) { return v.Take(line, out) })
+		if got := string(d.out[one.hears]); got != one.line {
+			t.Errorf("%s hears %q, not %q", one.hears, got, one.line)
+		}
+		delete(d.out, one.hears)
 	}
 }

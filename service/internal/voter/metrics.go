@@ -5,6 +5,7 @@ import (
 	"net/http"
 	"os"
 	"runtime"
+	"sync/atomic"
 	"time"
 
 	"calvundek.example/service/qlock"
@@ -18,7 +19,40 @@ type metrics struct {
 	registry                                                                              *prometheus.Registry
 	received, foreign, refused, unproved, unsent, reminders, expired, grants, spent, full prometheus.Counter
 	commit, batch                                                                         prometheus.Histogram
-	locks, busy, sessions, numbers, plan, heldOldest, waitingOldest                       prometheus.Gauge
+	locks, busy, sessions, numbers, plan, left                                            prometheus.Gauge
+
+	held, waiting oldest // of the grants that last, and of the requests that wait
+	most          uint64 // the highest number of a grant that was noted
+}
+
+// highest notes the number of a grant, and returns the highest one that was noted.
+func (m *metrics) highest(number uint64) uint64 {
+	if number > m.most {
+		m.most = number
+	}
+	return m.most
+}
+
+// oldest is when the oldest of some began, in nanoseconds since 1970, and 0 if there is none. How
+// old it is is read when somebody asks for it.
+type oldest struct{ atomic.Int64 }
+
+// note notes when the oldest began; there is none if that is now.
+func (o *oldest) note(began, now time.Time) {
+	if !began.Before(now) {
+		o.Store(0)
+		return
+	}
+	o.Store(began.UnixNano())
+}
+
+// age returns for how many seconds there is one.
+func (o *oldest) age() float64 {
+	began := o.Load()
+	if began == 0 {
+		return 0
+	}
+	return time.Since(time.Unix(0, began)).Seconds()
 }
 
 func newMetrics() *metrics {
@@ -43,8 +77,9 @@ func newMetrics() *metrics {
 	m.sessions = m.gauge("sessions", "Sessions that are open.")
 	m.numbers = m.gauge("numbers_free", "Client numbers that are free, or whose session was silent for the TTL.")
 	m.plan = m.gauge("plan", "How often the plan was exchanged.")
-	m.heldOldest = m.gauge("held_oldest_seconds", "How long the grant lasts that has lasted longest.")
-	m.waitingOldest = m.gauge("waiting_oldest_seconds", "How long the request waits that has waited longest.")
+	m.left = m.gauge("grants_left", "How many grants may follow the highest one that this run saw.")
+	m.read("held_oldest_seconds", "How long the grant lasts that has lasted longest.", m.held.age)
+	m.read("waiting_oldest_seconds", "How long the request waits that has waited longest.", m.waiting.age)
 	return m
 }
 
@@ -59,31 +94,27 @@ func (d *Daemon) watch() {
 		d.m.registry.MustRegister(prometheus.NewCounterFunc(prometheus.CounterOpts{Name: "qlock_voter_" + name,
 			Help: help}, read))
 	}
+	d.m.left.Set(float64(d.lastGrant()))
 	counter("broker_reconnects_total", "How often the connection to the broker came back.",
 		func() float64 { return float64(link.Returns()) })
-	d.m.registry.MustRegister(prometheus.NewGaugeFunc(prometheus.GaugeOpts{Name: "qlock_voter_file_bytes",
-		Help: "How long the file of the state is."},
-		func() float64 { return length(file(d.own.Data)) }))
+	d.m.read("file_bytes", "How long the file of the state is.", func() float64 { return length(file(d.own.Data)) })
 	info := prometheus.NewGauge(prometheus.GaugeOpts{Name: "qlock_voter_build_info",
 		Help:        "The version, as a label of 1.",
 		ConstLabels: prometheus.Labels{"version": qlock.Version(), "go": runtime.Version()}})
 	info.Set(1)
 	d.m.registry.MustRegister(info)
 	most := float64(d.own.MaxLocks)
-	d.m.registry.MustRegister(prometheus.NewGaugeFunc(prometheus.GaugeOpts{Name: "qlock_voter_locks_most",
-		Help: "Locks that this voter may know (max_locks)."}, func() float64 { return most }))
+	d.m.read("locks_most", "Locks that this voter may know (max_locks).", func() float64 { return most })
 	if own, is := link.(interface{ CertificateEnd() time.Time }); is && !own.CertificateEnd().IsZero() {
-		d.m.registry.MustRegister(prometheus.NewGaugeFunc(prometheus.GaugeOpts{
-			Name: "qlock_voter_certificate_end_timestamp_seconds",
-			Help: "When the certificate in this voter's files ends, in seconds since 1970."},
-			func() float64 { return float64(own.CertificateEnd().Unix()) }))
+		d.m.read("certificate_end_timestamp_seconds",
+			"When the certificate in this voter's files ends, in seconds since 1970.",
+			func() float64 { return float64(own.CertificateEnd().Unix()) })
 	}
 	counter("messages_dropped_total", "Messages for which there was no room.", func() float64 {
 		return float64(d.noRoom.Load() + link.Dropped())
 	})
-	d.m.registry.MustRegister(prometheus.NewGaugeFunc(prometheus.GaugeOpts{Name: "qlock_voter_queue_messages",
-		Help: "Messages that wait."},
-		func() float64 { return float64(int(d.waits.Load()) + link.Waiting()) }))
+	d.m.read("queue_messages", "Messages that wait.",
+		func() float64 { return float64(int(d.waits.Load()) + link.Waiting()) })
 }
 
 // length returns how many bytes a file has, 0 if it can't be told.
@@ -115,6 +146,11 @@ func (m *metrics) gauge(name, help string) prometheus.Gauge {
 	return g
 }
 
+// read adds a gauge that is read when somebody asks for it.
+func (m *metrics) read(name, help string, value func() float64) {
+	m.registry.MustRegister(prometheus.NewGaugeFunc(prometheus.GaugeOpts{Name: "qlock_voter_" + name, Help: help}, value))
+}
+
 func (m *metrics) histogram(name, help string, buckets []float64) prometheus.Histogram {
 	h := prometheus.NewHistogram(prometheus.HistogramOpts{Name: "qlock_voter_" + name, Help: help, Buckets: buckets})
 	m.registry.MustRegister(h)
@@ -123,15 +159,15 @@ func (m *metrics) histogram(name, help string, buckets []float64) prometheus.His
 
 // measure sets the numbers that are looked at from time to time.
 func (d *Daemon) measure(now time.Time) {
-	held, waits, busy, open, free := 0.0, 0.0, 0, 0, 0
+	held, waiting, busy, open, free := now, now, 0, 0, 0
 	for v := range d.busy {
 		if v.held.Number > 0 {
 			busy++
-			held = greater(held, now.Sub(v.since).Seconds())
+			held = earlier(held, v.since)
 		}
 		for client, ask := range v.asks {
 			if !v.isHolder(client) {
-				waits = greater(waits, now.Sub(ask.since).Seconds())
+				waiting = earlier(waiting, ask.since)
 			}
 		}
 	}
@@ -143,8 +179,8 @@ func (d *Daemon) measure(now time.Time) {
 			free++
 		}
 	}
-	d.m.heldOldest.Set(held)
-	d.m.waitingOldest.Set(waits)
+	d.m.held.note(held, now)
+	d.m.waiting.note(waiting, now)
 	d.m.busy.Set(float64(busy))
 	d.m.sessions.Set(float64(open))
 	d.m.numbers.Set(float64(free))
@@ -152,11 +188,11 @@ func (d *Daemon) measure(now time.Time) {
 	d.m.locks.Set(float64(len(d.votes)))
 }
 
-func greater(a, b float64) float64 {
-	if a > b {
-		return a
+func earlier(a, b time.Time) time.Time {
+	if b.Before(a) {
+		return b
 	}
-	return b
+	return a
 }
 
 // Health is what /healthz shows.

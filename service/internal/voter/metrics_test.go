@@ -1,6 +1,7 @@
 package voter
 
 import (
+	"fmt"
 	"io"
 	"net/http/httptest"
 	"path/filepath"
@@ -37,6 +38,15 @@ func TestNumbersOfAVoter(t *testing.T) {
 	}
 	defer d.store.db.Close()
 	d.measure(time.Now())
+	voter, err := d.newVoter()
+	if err != nil {
+		t.Fatal(err)
+	}
+	v := d.add("orders", voter)
+	d.step(v, 1, time.Now().Add(-time.Hour), func(out []byte) ([]byte, error) {
+		return v.Take([]byte("request 1 0 5"), out)
+	})
+	d.measure(time.Now())
 	for i := 0; i < 3; i++ {
 		_ = port.Send("qlock.test.v.0", []byte("x"))
 	}
@@ -47,7 +57,8 @@ func TestNumbersOfAVoter(t *testing.T) {
 		"qlock_voter_locks_most 77", "qlock_voter_numbers_free 64",
 		"qlock_voter_plan 0", "qlock_voter_file_bytes ", "qlock_voter_build_info{", "go_goroutines ",
 		"process_open_fds ", "qlock_voter_certificate_end_timestamp_seconds 1.9e+09",
-		"qlock_voter_counts_unproved_total 0",
+		"qlock_voter_counts_unproved_total 0", fmt.Sprintf("qlock_voter_grants_left %v", float64(blockSize-1)),
+		"qlock_voter_held_oldest_seconds 3600.", "qlock_voter_waiting_oldest_seconds 0",
 		"qlock_voter_requests_full_total 0", "qlock_voter_broker_reconnects_total 0"} {
 		if !strings.Contains(page.Body.String(), "\n"+line) {
 			t.Errorf("there is no %q", line)

@@ -9,12 +9,14 @@ import (
 	"os"
 	"runtime/debug"
 
-	"calvundek.example/service/qlock"
 	"go.etcd.io/bbolt"
 )
 
-// sumBytes is how long the checksum is in front of a row's value.
-const sumBytes = 4
+const (
+	sumBytes  = 4       // how long the checksum is in front of a row's value
+	mostKey   = 64      // how long a key may be, as a lock's name is the longest one
+	mostValue = 1 << 26 // how long a value may be
+)
 
 var castagnoli = crc32.MakeTable(crc32.Castagnoli)
 
@@ -25,10 +27,38 @@ func sum(bucket, key, value []byte) uint32 {
 	return crc32.Update(crc32.Update(crc, castagnoli, key), castagnoli, value)
 }
 
+// batch writes rows in one transaction. It keeps their tally, the sum of the checksums of all rows
+// but that of the counts: so a row that is gone, or older than the others, is found.
+type batch struct {
+	tx    *bbolt.Tx
+	tally uint64
+}
+
 // put saves a row.
-func put(tx *bbolt.Tx, bucket, key, value []byte) error {
+func (b *batch) put(bucket, key, value []byte) error {
+	row := rowOf(bucket, key, value)
+	b.tally += sumIn(row) - sumIn(b.tx.Bucket(bucket).Get(key))
+	return b.tx.Bucket(bucket).Put(key, row)
+}
+
+// remove takes a row out.
+func (b *batch) remove(bucket, key []byte) error {
+	b.tally -= sumIn(b.tx.Bucket(bucket).Get(key))
+	return b.tx.Bucket(bucket).Delete(key)
+}
+
+// rowOf returns a row: its checksum, and its value.
+func rowOf(bucket, key, value []byte) []byte {
 	row := binary.LittleEndian.AppendUint32(make([]byte, 0, sumBytes+len(value)), sum(bucket, key, value))
-	return tx.Bucket(bucket).Put(key, append(row, value...))
+	return append(row, value...)
+}
+
+// sumIn returns the checksum that a row has, 0 if there is no row.
+func sumIn(row []byte) uint64 {
+	if len(row) < sumBytes {
+		return 0
+	}
+	return uint64(binary.LittleEndian.Uint32(row))
 }
 
 // get returns the value of a row, nil if there is none.
@@ -40,8 +70,12 @@ func get(tx *bbolt.Tx, bucket, key []byte) ([]byte, error) {
 	return value(bucket, key, row)
 }
 
-// value returns the value in a row that was read, or ErrDamaged if it is not as it was saved.
+// value returns the value in a row that was read, or ErrDamaged if it is not as it was saved. A length
+// that is damaged may be that of all memory.
 func value(bucket, key, row []byte) ([]byte, error) {
+	if len(key) > mostKey || len(row) > mostValue {
+		return nil, fmt.Errorf("%s: a row of %d and %d bytes: %w", bucket, len(key), len(row), ErrDamaged)
+	}
 	if len(row) < sumBytes || binary.LittleEndian.Uint32(row) != sum(bucket, key, row[sumBytes:]) {
 		return nil, fmt.Errorf("%s, row %q: %w", bucket, key, ErrDamaged)
 	}
@@ -59,8 +93,8 @@ func each(tx *bbolt.Tx, bucket []byte, use func(key, value []byte) error) error 
 	})
 }
 
-// verify reads all rows of a file, and returns ErrDamaged if one is not as it was saved, or votes
-// are missing. What is damaged may also lead the database out of the file.
+// verify reads all rows of a file, and returns ErrDamaged if one is not as it was saved, or missing.
+// What is damaged may also lead the database out of the file.
 func verify(path string) (err error) {
 	defer debug.SetPanicOnFault(debug.SetPanicOnFault(true))
 	defer func() {
@@ -80,7 +114,7 @@ func verify(path string) (err error) {
 		return err
 	}
 	return db.View(func(tx *bbolt.Tx) error {
-		count := uint64(0)
+		tally := uint64(0)
 		for _, bucket := range [][]byte{metaBucket, voteBucket, sessionBucket} {
 			if tx.Bucket(bucket) == nil {
 				return fmt.Errorf("%w: there is no bucket %q", ErrDamaged, bucket)
@@ -88,13 +122,19 @@ func verify(path string) (err error) {
 			if isOldFormat(tx) {
 				return nil // it is refused for that
 			}
-			count = 0
-			if err := each(tx, bucket, func(_, _ []byte) error { count++; return nil }); err != nil {
+			if err := each(tx, bucket, func(key, value []byte) error {
+				if string(bucket) != string(metaBucket) || string(key) != string(countsKey) {
+					tally += uint64(sum(bucket, key, value))
+				}
+				return nil
+			}); err != nil {
 				return err
 			}
-			if err := countIs(tx, bucket, count); err != nil {
-				return err
-			}
+		}
+		if _, saved, err := counts(tx); err != nil {
+			return err
+		} else if saved != tally {
+			return fmt.Errorf("%w: a row is missing, or older than the others", ErrDamaged)
 		}
 		return nil
 	})
@@ -127,6 +167,15 @@ const (
 	rootSum   = 72
 )
 
+// Size returns how many bytes a state has, 0 if there is none.
+func Size(folder string) uint64 {
+	info, err := os.Stat(file(folder))
+	if err != nil {
+		return 0
+	}
+	return uint64(info.Size())
+}
+
 // verifyRoots returns ErrDamaged unless both root pages are as they were written. If the newer one
 // is not, the database would go on from the transaction before it, an older copy of the state.
 func verifyRoots(path string) error {
@@ -151,24 +200,9 @@ func verifyRoots(path string) error {
 	return nil
 }
 
-// countIs returns ErrDamaged if there are not as many votes as there were, or not all numbers.
-func countIs(tx *bbolt.Tx, bucket []byte, count uint64) error {
-	switch {
-	case string(bucket) == string(sessionBucket) && count != qlock.MaxClients:
-		return fmt.Errorf("%w: %d of %d numbers are there", ErrDamaged, count, qlock.MaxClients)
-	case string(bucket) != string(voteBucket):
-		return nil
-	}
-	_, votes, err := counts(tx)
-	if err == nil && votes != count {
-		err = fmt.Errorf("%w: %d of %d votes are there", ErrDamaged, count, votes)
-	}
-	return err
-}
-
-// counts returns how often a state was saved, and how many votes it has.
-func counts(tx *bbolt.Tx) (saves, votes uint64, err error) {
-	row, err := get(tx, metaBucket, savesKey)
+// counts returns how often a state was saved, and the tally of its rows.
+func counts(tx *bbolt.Tx) (saves, tally uint64, err error) {
+	row, err := get(tx, metaBucket, countsKey)
 	if err == nil && len(row) != 16 {
 		err = fmt.Errorf("%w: there is no count of saves", ErrDamaged)
 	}
@@ -178,8 +212,8 @@ func counts(tx *bbolt.Tx) (saves, votes uint64, err error) {
 	return binary.LittleEndian.Uint64(row), binary.LittleEndian.Uint64(row[8:]), nil
 }
 
-// putCounts saves how often a state was saved, and how many votes it has.
-func putCounts(tx *bbolt.Tx, saves, votes uint64) error {
-	row := binary.LittleEndian.AppendUint64(binary.LittleEndian.AppendUint64(nil, saves), votes)
-	return put(tx, metaBucket, savesKey, row)
+// putCounts saves how often a state was saved, and the tally of its rows.
+func putCounts(tx *bbolt.Tx, saves, tally uint64) error {
+	value := binary.LittleEndian.AppendUint64(binary.LittleEndian.AppendUint64(nil, saves), tally)
+	return tx.Bucket(metaBucket).Put(countsKey, rowOf(metaBucket, countsKey, value))
 }

@@ -90,7 +90,7 @@ func look(folder string) (content, error) {
 func TestEachChangedBitIsFound(t *testing.T) {
 	folder, meta := aState(t, 40)
 	want, err := read(folder, meta)
-	if err != nil || len(want.votes) != 40 || len(want.rows) != qlock.MaxClients {
+	if err != nil || len(want.votes) != 40 || len(want.rows) != 40 {
 		t.Fatal(len(want.votes), len(want.rows), err)
 	}
 	right, err := os.ReadFile(file(folder))
@@ -139,21 +139,46 @@ func TestDamagedRoot(t *testing.T) {
 	}
 }
 
-// A vote that is gone is missed, and so is what was reserved under a number.
-func TestMissingRow(t *testing.T) {
-	for row, bucket := range map[string][]byte{"orders-1": voteBucket, "\x01": sessionBucket} {
+// A row that is gone is missed, and one that is older than the others is found: of a vote, of a
+// number, and of the plans.
+func TestRowsOfOneTransaction(t *testing.T) {
+	for row, bucket := range map[string][]byte{"orders-1": voteBucket, "\x01": sessionBucket, "plans": metaBucket} {
 		folder, meta := aState(t, 3)
-		db, err := bbolt.Open(file(folder), 0o600, nil)
+		s, err := openStore(folder, meta)
 		if err != nil {
 			t.Fatal(err)
 		}
-		remove := func(tx *bbolt.Tx) error { return tx.Bucket(bucket).Delete([]byte(row)) }
-		if err := db.Update(remove); err != nil {
+		var older []byte
+		_ = s.db.View(func(tx *bbolt.Tx) error {
+			older = append(older, tx.Bucket(bucket).Get([]byte(row))...)
+			return nil
+		})
+		changed, err := qlock.NewVoter(0, 100)
+		if err != nil {
 			t.Fatal(err)
 		}
-		db.Close()
-		if _, err := read(folder, meta); !errors.Is(err, ErrDamaged) {
-			t.Errorf("%s, row %q: %v", bucket, row, err)
+		if err := s.save(map[*vote]struct{}{{Voter: changed, name: "orders-1"}: {}},
+			map[int]Session{1: of("another", 7, 200, 9000)}, &Generations{Now: texts(t, all)}); err != nil {
+			t.Fatal(err)
+		}
+		s.db.Close()
+		for _, value := range [][]byte{older, nil} {
+			db, err := bbolt.Open(file(folder), 0o600, nil)
+			if err != nil {
+				t.Fatal(err)
+			}
+			if err := db.Update(func(tx *bbolt.Tx) error {
+				if value == nil {
+					return tx.Bucket(bucket).Delete([]byte(row))
+				}
+				return tx.Bucket(bucket).Put([]byte(row), value)
+			}); err != nil {
+				t.Fatal(err)
+			}
+			db.Close()
+			if _, err := read(folder, meta); !errors.Is(err, ErrDamaged) {
+				t.Errorf("%s, row %q, %d bytes: %v", bucket, row, len(value), err)
+			}
 		}
 	}
 }

@@ -50,7 +50,7 @@ func (m Meta) owner() string {
 
 var (
 	metaBucket    = []byte("meta")
-	savesKey      = []byte("saves")
+	countsKey     = []byte("counts")
 	plansKey      = []byte("plans")
 	proofKey      = []byte("key")   // with which the voter proves its counts of saves
 	olderKey      = []byte("older") // is there if this copy was found to be an older one
@@ -65,7 +65,7 @@ type store struct {
 	plans Generations // as they were read
 	key   []byte      // with which counts of saves are proved
 	saves uint64      // how often it was saved; each loss begins far above
-	votes uint64      // how many votes it has
+	tally uint64      // of its rows
 
 	isOlder bool // it has the mark of an older copy
 }
@@ -99,9 +99,9 @@ func write(path string, meta Meta, plans Generations, sessions map[int]Session) 
 	if err != nil {
 		return err
 	}
-	err = db.Update(func(tx *bbolt.Tx) error {
+	err = (&store{db: db}).update(meta.Block<<40, func(b *batch) error {
 		for _, name := range [][]byte{metaBucket, voteBucket, sessionBucket} {
-			if _, err := tx.CreateBucket(name); err != nil {
+			if _, err := b.tx.CreateBucket(name); err != nil {
 				return err
 			}
 		}
@@ -109,23 +109,16 @@ func write(path string, meta Meta, plans Generations, sessions map[int]Session) 
 		if err != nil {
 			return err
 		}
-		if err := put(tx, metaBucket, metaBucket, value); err != nil {
+		if err := b.put(metaBucket, metaBucket, value); err != nil {
 			return err
 		}
-		if err := putCounts(tx, meta.Block<<40, 0); err != nil {
+		if err := b.putNewKey(); err != nil {
 			return err
 		}
-		if err := putNewKey(tx); err != nil {
+		if err := b.putPlans(plans); err != nil {
 			return err
 		}
-		if err := putPlans(tx, plans); err != nil {
-			return err
-		}
-		all := map[int]Session{} // a row for each number, so that none is missed if it is gone later
-		for number := 0; number < qlock.MaxClients; number++ {
-			all[number] = sessions[number]
-		}
-		return putSessions(tx, all)
+		return b.putSessions(sessions)
 	})
 	if closed := db.Close(); err == nil {
 		err = closed
@@ -215,7 +208,7 @@ func (s *store) begin(folder string, want Meta) error {
 		return err
 	}
 	for root := 0; root < 2; root++ {
-		if err := s.db.Update(func(tx *bbolt.Tx) error { return putCounts(tx, s.saves, s.votes) }); err != nil {
+		if err := s.update(s.saves, func(*batch) error { return nil }); err != nil {
 			return err
 		}
 	}
@@ -259,7 +252,7 @@ func (s *store) read(tx *bbolt.Tx) (err error) {
 	if s.meta.Format != format {
 		return fmt.Errorf("%w: it has format %d, and this one has format %d", ErrFormat, s.meta.Format, format)
 	}
-	s.saves, s.votes, err = counts(tx)
+	s.saves, s.tally, err = counts(tx)
 	return err
 }
 
@@ -289,40 +282,41 @@ func (s *store) load(vote func(name string, state []byte) error, session func(nu
 // save saves votes, sessions and plans in one transaction, and counts it. Plans that did not change are nil. When it returns nil all
 // is on the disk.
 func (s *store) save(votes map[*vote]struct{}, sessions map[int]Session, plans *Generations) error {
-	count := s.votes
-	err := s.db.Update(func(tx *bbolt.Tx) error {
-		count = s.votes
+	return s.update(s.saves+1, func(b *batch) error {
 		for v := range votes {
-			if !v.isSaved {
-				count++
-			}
-			if err := put(tx, voteBucket, []byte(v.name), pack(v.State())); err != nil {
+			if err := b.put(voteBucket, []byte(v.name), pack(v.State())); err != nil {
 				return err
 			}
-		}
-		if err := putCounts(tx, s.saves+1, count); err != nil {
-			return err
 		}
 		if plans != nil {
-			if err := putPlans(tx, *plans); err != nil {
+			if err := b.putPlans(*plans); err != nil {
 				return err
 			}
 		}
-		return putSessions(tx, sessions)
+		return b.putSessions(sessions)
 	})
-	if err != nil {
-		return err
+}
+
+// update writes rows in one transaction, and with them how often the state was saved.
+func (s *store) update(saves uint64, write func(*batch) error) error {
+	tally := s.tally
+	err := s.db.Update(func(tx *bbolt.Tx) error {
+		b := batch{tx, s.tally}
+		err := write(&b)
+		if tally = b.tally; err != nil {
+			return err
+		}
+		return putCounts(tx, saves, tally)
+	})
+	if err == nil {
+		s.saves, s.tally = saves, tally
 	}
-	s.saves, s.votes = s.saves+1, count
-	for v := range votes {
-		v.isSaved = true
-	}
-	return nil
+	return err
 }
 
 // condemn notes that this is an older copy, so that no start serves with it: its saves would hide what it forgot.
 func (s *store) condemn() error {
-	return s.db.Update(func(tx *bbolt.Tx) error { return put(tx, metaBucket, olderKey, []byte{1}) })
+	return s.update(s.saves, func(b *batch) error { return b.put(metaBucket, olderKey, []byte{1}) })
 }
 
 // Pardon takes the mark of an older copy off a state, whose operator knows that it is the newest
@@ -336,38 +330,38 @@ func Pardon(own *config.Voter, cluster *config.Cluster) error {
 	if !s.isOlder {
 		return fmt.Errorf("%s: %w", file(own.Data), ErrNoMark)
 	}
-	return s.db.Update(func(tx *bbolt.Tx) error {
-		if err := tx.Bucket(metaBucket).Delete(olderKey); err != nil {
+	return s.update(s.saves, func(b *batch) error {
+		if err := b.remove(metaBucket, olderKey); err != nil {
 			return err
 		}
-		return putNewKey(tx)
+		return b.putNewKey()
 	})
 }
 
 // putNewKey saves a new key for proofs.
-func putNewKey(tx *bbolt.Tx) error {
+func (b *batch) putNewKey() error {
 	key := make([]byte, keyBytes)
 	if _, err := rand.Read(key); err != nil {
 		return err
 	}
-	return put(tx, metaBucket, proofKey, key)
+	return b.put(metaBucket, proofKey, key)
 }
 
-func putPlans(tx *bbolt.Tx, plans Generations) error {
+func (b *batch) putPlans(plans Generations) error {
 	value, err := json.Marshal(plans)
 	if err != nil {
 		return err
 	}
-	return put(tx, metaBucket, plansKey, value)
+	return b.put(metaBucket, plansKey, value)
 }
 
-func putSessions(tx *bbolt.Tx, sessions map[int]Session) error {
+func (b *batch) putSessions(sessions map[int]Session) error {
 	for number, row := range sessions {
 		value, err := json.Marshal(row)
 		if err != nil {
 			return err
 		}
-		if err := put(tx, sessionBucket, []byte{byte(number)}, value); err != nil {
+		if err := b.put(sessionBucket, []byte{byte(number)}, value); err != nil {
 			return err
 		}
 	}

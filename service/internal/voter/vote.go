@@ -23,7 +23,6 @@ type vote struct {
 	timer remind.Timer // for the reminder of whoever has it
 
 	isSpent bool // it was logged that all grants are given
-	isSaved bool // the file has it
 }
 
 // isHolder returns whether the client has the vote.
@@ -54,7 +53,6 @@ func (d *Daemon) restore(name string, state []byte, now time.Time) error {
 		return err
 	}
 	v := d.add(name, voter)
-	v.isSaved = true
 	held, err := v.Held()
 	if err != nil || held.Number == 0 {
 		return err
@@ -125,6 +123,7 @@ func (d *Daemon) noteGrant(v *vote, now time.Time) error {
 		if held.Number > 0 {
 			d.m.grants.Inc()
 			d.granted++
+			d.m.left.Set(float64(d.lastGrant() - d.m.highest(held.Number)))
 		}
 	}
 	v.timer.Of(held.Number, now)

@@ -38,7 +38,7 @@ import (
 	"bytes"
 	"errors"
 	"fmt"
-	"strconv"
+	"math"
 	"strings"
 )
 
@@ -157,9 +157,8 @@ func (h *Header) number(word []byte) bool {
 
 // long reads a number of 64 bits.
 func long(word []byte, n *uint64) (ok bool) {
-	var err error
-	*n, err = strconv.ParseUint(string(word), 10, 64)
-	return err == nil
+	*n, ok = decimal(word)
+	return ok
 }
 
 // Next returns the first of these lines, as the lock's name or "." and what is behind it, and the other lines.
@@ -193,34 +192,43 @@ func (h Header) Split(lines []byte, send func(message []byte)) {
 
 // Number returns the small number in a word, -1 if there is none.
 func Number(word []byte) int {
-	n, err := strconv.ParseUint(string(word), 10, 31)
-	if err != nil {
+	n, ok := decimal(word)
+	if !ok || n > math.MaxInt32 {
 		return -1
 	}
 	return int(n)
 }
 
-// Ends returns the second and the third word of a line of the automata: who sent it, and whom it is for. Both are -1 if
-// it is no such line.
-func Ends(line []byte) (from, to int) {
-	words := bytes.SplitN(line, []byte(" "), 4)
-	if len(words) < 4 {
-		return -1, -1
+// decimal reads a number of 64 bits. It is called for each word of each line, so it makes no string.
+func decimal(word []byte) (n uint64, ok bool) {
+	for _, digit := range word {
+		if digit -= '0'; digit > 9 || n > (math.MaxUint64-uint64(digit))/10 {
+			return 0, false
+		}
+		n = 10*n + uint64(digit)
 	}
-	return Number(words[1]), Number(words[2])
+	return n, len(word) > 0
 }
 
-// Stamp returns the fourth word of a line of the automata, the stamp of a REQUEST, 0 if there is none.
-func Stamp(line []byte) uint64 {
-	words := bytes.SplitN(line, []byte(" "), 5)
-	if len(words) < 4 {
-		return 0
+// Line is what a line of the automata says.
+type Line struct {
+	Word     []byte // what it is, as "request"
+	From, To int    // who sent it, and whom it is for; both are -1 if it is no such line
+	Stamp    uint64 // the stamp that comes first, the grant of INQUIRE and RELINQUISH; 0 if there is none
+}
+
+// ReadLine reads a line of the automata, with or without its end.
+func ReadLine(line []byte) Line {
+	word, rest, _ := bytes.Cut(bytes.TrimSuffix(line, []byte("\n")), []byte(" "))
+	from, rest, _ := bytes.Cut(rest, []byte(" "))
+	to, rest, found := bytes.Cut(rest, []byte(" "))
+	if !found {
+		return Line{Word: word, From: -1, To: -1}
 	}
-	stamp, err := strconv.ParseUint(string(words[3]), 10, 64)
-	if err != nil {
-		return 0
-	}
-	return stamp
+	stamp, _, _ := bytes.Cut(rest, []byte(" "))
+	l := Line{Word: word, From: Number(from), To: Number(to)}
+	l.Stamp, _ = decimal(stamp)
+	return l
 }
 
 // IsName returns whether a word may name a lock: 1 to 64 of A-Z a-z 0-9 _ - . : with no dot first.

@@ -122,22 +122,24 @@ func FuzzSplit(f *testing.F) {
 
 // What a line says of its sender, its receiver and its stamp is what it was made of, and nothing is
 // read of a shorter line.
-func FuzzEnds(f *testing.F) {
+func FuzzLines(f *testing.F) {
 	for _, line := range []string{"request 5 0 17", "locked 0 5 17 3 1", "relinquish 63 4 1099511627775 2", "gone",
 		"request 5 0", "request -1 0 1", "a  b c"} {
 		f.Add([]byte(line), uint32(5), uint32(0), uint64(17))
 	}
 	f.Fuzz(func(t *testing.T, line []byte, from, to uint32, stamp uint64) {
-		a, b := Ends(line)
-		if a < -1 || b < -1 || bytes.Count(line, []byte(" ")) < 3 && (a != -1 || b != -1 || Stamp(line) != 0) {
-			t.Fatalf("%q is of %d for %d, stamp %d", line, a, b, Stamp(line))
+		said := ReadLine(line)
+		if said.From < -1 || said.To < -1 ||
+			bytes.Count(line, []byte(" ")) < 3 && (said.From != -1 || said.To != -1 || said.Stamp != 0) {
+			t.Fatalf("%q says %v", line, said)
 		}
 		from, to = from>>1, to>>1
 		word, _, _ := bytes.Cut(line, []byte(" "))
 		for _, made := range []string{"%s %d %d %d", "%s %d %d %d 1"} {
 			made = fmt.Sprintf(made, word, from, to, stamp)
-			if a, b := Ends([]byte(made)); a != int(from) || b != int(to) || Stamp([]byte(made)) != stamp {
-				t.Fatalf("%q is of %d for %d, stamp %d", made, a, b, Stamp([]byte(made)))
+			said := ReadLine([]byte(made))
+			if said.From != int(from) || said.To != int(to) || said.Stamp != stamp {
+				t.Fatalf("%q says %v", made, said)
 			}
 		}
 	})
