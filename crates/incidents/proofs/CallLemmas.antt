@@ -21,7 +21,7 @@ use Rattle.world.specs.Restarts.{Goes, OneClient, OneVoter, Saved, come_back, ha
 use Rattle.world.specs.SavedWorlds.{PlannedSaved, SavesAndSends}
 use Rattle.world_state.specs.Steps.{Outcome, WorldState, after_voter, client_at, dealing_of, if_client, if_voter, vote, voter_at}
 use Rattle.world.proofs.Places.{client_here}
-use Rattle.leases.specs.Incidents.{Incident, Happens, Hears, anew, be_reborn, come_back_as, hear, is_above, is_ahead, reborn, start_anew, start_as}
+use Rattle.world.specs.Incidents.{Incident, Happens, Hears, anew, be_reborn, come_back_as, hear, is_above, is_ahead, reborn, start_anew, start_as}
 use Rattle.incidents.specs.declared.fault.IncidentFault.{IncidentFault}
 use Rattle.incidents.specs.declared.parts.Evicted.{Evicted}
 use Rattle.incidents.specs.Calls.{befalls_by, grant_at, letting_go}

@@ -2,7 +2,7 @@
 use Rattle.std.proofs.Common.{◌≡◌, ℕ, ◌<◌, ◌≤◌, ◌^◌, Bool, true, false, List, ◌++◌, map, length, Option, Some, None, Result, Ok, Err, refl, sym, subst, ◌∙◌, inl, inr, arith}
 use Rattle.std.specs.Prelude.{◌&&◌, is_some, nat_le, nat_lt, slice_get, slice_set}
 use Rattle.std.specs.List.{AllByRecursion}
-use Rattle.std.proofs.lemmas.Bool.{cases_lt, ltb-true}
+use Rattle.std.proofs.lemmas.Bool.{and_parts, cases_lt, ltb-true}
 use Rattle.std.proofs.lemmas.Bool.Decides.{nat_tests}
 use Rattle.std.proofs.lemmas.Option.{none-some}
 use Rattle.std.proofs.lemmas.List.{length-set}
@@ -40,13 +40,14 @@ use Rattle.world_state.specs.Steps.{Dealing, Outcome, WorldState, after_client, 
 use Rattle.world.specs.Visible.{DealsFrom}
 use Rattle.world.proofs.Claims.{Bounds}
 use Rattle.world.proofs.ClientMoves.{Draws, member_below}
+use Rattle.world.proofs.Exclusion.{under_grant}
+use Rattle.world.proofs.IncidentLemmas.{asks_by, may_have}
+use Rattle.world.proofs.Places.{set_client, set_voter}
 use Rattle.world.proofs.Plans.{plans_deal, plans_meet, quorums_of}
+use Rattle.world.proofs.Raises.{no_inquiry, raised_by_step}
 use Rattle.world.proofs.Reached.{Given, accepts_among, start_ok, start_unused}
 use Rattle.world.proofs.SavedWorlds.{SavedLaws}
-use Rattle.leases.specs.Incidents.{Incident, Happens, Hears, IsReborn, StartsAnew, HasLimit, IsRaised, anew, be_raised, be_reborn, befalls, have_limit, hear, is_above, is_ahead, is_limit, is_message, is_request_within, limited, reborn, start_anew}
-use Rattle.leases.proofs.Numbers.{AsksInRange, may_have, set_client, set_voter}
-use Rattle.passes.proofs.Requests.{both, under_grant}
-use Rattle.leases.proofs.Raises.{no_inquiry, raised_by_step}
+use Rattle.world.specs.Incidents.{Incident, Happens, Hears, IsReborn, StartsAnew, HasLimit, IsRaised, anew, be_raised, be_reborn, befalls, have_limit, hear, is_above, is_ahead, is_limit, is_message, is_request_within, limited, reborn, start_anew}
 use Rattle.incidents.specs.Calls.{befalls_by}
 use Rattle.incidents.specs.Fit.{IsFit, IsFitState, IsWritten}
 use Rattle.incidents.proofs.Pieces.{Comes, FitClient, FitMessage, FitVoter, MayHear, anew_fit, asks_fit, client_after, comes_by, comes_in_range, least_client_fit, least_voter_fit, limited_fit, may_hear, reborn_fit, reminders_fit, replies_fit, seen_carried, voter_after}
@@ -349,19 +350,10 @@ happens_fit b given deal deals s fit (Restarts who) = restart_fit b s fit who
 
 -- ---- what befalls
 
-asks_by : (b : Bounds) (limit : ℕ) (body : VoterBody) → limit ≤ b.limit → is_request_within limit body ≡ true → AsksInRange b.limit body
-asks_by b limit (asks.Request t) below e =
-    let parts = both (nat_le 1 t) (nat_le t limit) e in
-    let low : 1 ≤ t = (let h = parts.0 in grind (arith, nat_tests)) in
-    let high : t ≤ limit = (let h = parts.1 in grind (arith, nat_tests)) in
-    (low, omega arith)
-asks_by b limit (asks.Relinquish g) below e = tt
-asks_by b limit (asks.Release t) below e = tt
-
 hear_fit : (b : Bounds) → Given b → (s : Saved) → Fit b s → (m : ToVoter) → HasLine (kinds.ToVoter m) → Fit b (hear s m)
 hear_fit b given s fit m line = voter_of b s fit (OneVoter m.voter) (nat_lt m.voter (length s.live.voters)) m.voter _ (λ t.
     one_of b s fit (OneVoter m.voter) (is_message s m) m.client _ (λ u.
-    let parts = both (nat_lt m.client (length s.live.clients)) (is_request_within (voter_at s.live.voters m.voter).limit m.body) u in
+    let parts = and_parts (nat_lt m.client (length s.live.clients)) (is_request_within (voter_at s.live.voters m.voter).limit m.body) u in
     let here : m.voter < b.voters = subst (λ n. m.voter < n) fit.many_voters (ltb-true _ _ t) in
     voter_tried b given s fit m (record {
       client = subst (λ n. m.client < n) fit.many_clients (ltb-true _ _ parts.0);
@@ -374,8 +366,8 @@ reborn_on : (b : Bounds) (s : Saved) → Fit b s → (v above : ℕ) (t : Bool) 
 reborn_on b s fit v above false is = fit
 reborn_on b s fit v above true is =
     let y = voter_at s.live.voters v in
-    let parts = both (nat_lt v (length s.live.voters)) (is_above y above) is in
-    let ends = both (nat_le y.granted above) (nat_le above y.limit) parts.1 in
+    let parts = and_parts (nat_lt v (length s.live.voters)) (is_above y above) is in
+    let ends = and_parts (nat_le y.granted above) (nat_le above y.limit) parts.1 in
     let most : above ≤ y.limit = (let h = ends.1 in grind (arith, nat_tests)) in
     let here : (v < b.voters → FitVoter b v (reborn y above)) = λ within. reborn_fit b v y above (fit.voters_are v within) most in
     let first = live_voter b s fit v (reborn y above) here in
@@ -385,8 +377,8 @@ anew_on : (b : Bounds) → Given b → (s : Saved) → Fit b s → (c clock : �
 anew_on b given s fit c clock false is = fit
 anew_on b given s fit c clock true is =
     let x = client_at s.live.clients c in
-    let parts = both (nat_lt c (length s.live.clients)) (is_ahead x clock) is in
-    let ends = both (nat_le x.stamp clock) (nat_le clock x.limit) parts.1 in
+    let parts = and_parts (nat_lt c (length s.live.clients)) (is_ahead x clock) is in
+    let ends = and_parts (nat_le x.stamp clock) (nat_le clock x.limit) parts.1 in
     let most : clock ≤ x.limit = (let h = ends.1 in grind (arith, nat_tests)) in
     let here : (c < b.clients → FitClient b c (anew x clock)) = λ within. anew_fit b given c x clock (fit.clients_are c within) most in
     let first = saved_client b s fit c (anew x clock) here in

@@ -27,6 +27,7 @@ use Rattle.voter.specs.VoterContract.{AllReport, ReportsVote}
 use Rattle.requester.specs.declared.state.ClientState.{ClientState}
 use Rattle.requester.specs.RequesterContract.{Accepts, AllInRange, AllRepeat, AllSay, ComesInRange, IsLocked, IsReached, KeepsQuorum, Locks, RemindersInRange, Repeats, Says, SaysInRange}
 use Rattle.requester.specs.Saved.{least_client}
+use Rattle.voter.proofs.KeptLemmas as kept
 use Rattle.requester.proofs.SavedLemmas.{least_is_sound}
 use Rattle.requester.specs.Soundness as sound
 use Rattle.requester.specs.Steps as client
@@ -36,10 +37,10 @@ use Rattle.world.specs.Rules.{ClientLaws, VoterLaws}
 use Rattle.world.specs.Visible.{DoMeet, IsAmong}
 use Rattle.world.proofs.Claims.{Bounds}
 use Rattle.world.proofs.ClientMoves.{Draws, member_below}
+use Rattle.world.proofs.Exclusion.{under_grant}
+use Rattle.world.proofs.IncidentLemmas.{AsksInRange, anew_sound, brought, limited_sound, reborn_sound}
 use Rattle.world.proofs.Reached.{Given}
-use Rattle.leases.specs.Incidents.{anew, limited, reborn}
-use Rattle.leases.proofs.Numbers.{AsksInRange, anew_sound, brought}
-use Rattle.passes.proofs.Requests.{under_grant}
+use Rattle.world.specs.Incidents.{anew, limited, reborn}
 use Rattle.incidents.specs.Fit.{IsFitClient, IsFitMessage, IsFitVoter}
 
 abbrev pub FitClient : Bounds → ℕ → ClientState → Type 0
@@ -262,13 +263,7 @@ pub least_voter_fit : (b : Bounds) (v : ℕ) (y : VoterState) → FitVoter b v y
 least_voter_fit b v y fit = record {
   id = fit.id;
   limit = fit.limit;
-  sound = record {
-    limit = fit.sound.limit;
-    granted = fit.sound.granted;
-    numbered = fit.sound.numbered;
-    apart = λ g held. fin.get-empty nat_cmp g.client;
-    free = λ held c. fin.get-empty nat_cmp c;
-  };
+  sound = kept.least_is_sound y fit.sound;
   requests = λ c s is. elim is [ inl held ↦ fit.requests c s (inl held) | inr waits ↦ absurd (none-some s (sym (fin.get-empty nat_cmp c) ∙ waits)) ];
   grant = fit.grant;
   seen = omega arith;
@@ -278,13 +273,7 @@ pub reborn_fit : (b : Bounds) (v : ℕ) (y : VoterState) (above : ℕ) → FitVo
 reborn_fit b v y above fit most = record {
   id = fit.id;
   limit = fit.limit;
-  sound = record {
-    limit = fit.sound.limit;
-    granted = most;
-    numbered = λ g held. absurd (none-some g held);
-    apart = λ g held. fin.get-empty nat_cmp g.client;
-    free = λ held c. fin.get-empty nat_cmp c;
-  };
+  sound = reborn_sound y above fit.sound most;
   requests = λ c s is. elim is [ inl held ↦ absurd (none-some held.0 held.1) | inr waits ↦ absurd (none-some s (sym (fin.get-empty nat_cmp c) ∙ waits)) ];
   grant = λ g held. absurd (none-some g held);
   seen = omega arith;
@@ -294,13 +283,7 @@ pub limited_fit : (b : Bounds) → Given b → (v : ℕ) (y : VoterState) (limit
 limited_fit b given v y limit fit least most = record {
   id = fit.id;
   limit = most;
-  sound = record {
-    limit = (let few = given.limits.few_stamps in omega arith);
-    granted = least;
-    numbered = fit.sound.numbered;
-    apart = fit.sound.apart;
-    free = fit.sound.free;
-  };
+  sound = limited_sound y limit fit.sound least (let few = given.limits.few_stamps in omega arith);
   requests = fit.requests;
   grant = fit.grant;
   seen = fit.seen;

@@ -10,7 +10,7 @@ use Rattle.world_state.specs.declared.step.Stepped.{Stepped}
 use Rattle.world.specs.Restarts.{OneVoter, Saved, save_and_send}
 use Rattle.world.specs.SavedWorlds.{IsSavedWorld, PlannedSaved}
 use Rattle.world_state.specs.Steps.{Refuses, client_at, dealing_of, outcome_of, vote, voter_at}
-use Rattle.leases.specs.Incidents.{Incident, befalls, is_above, is_ahead}
+use Rattle.world.specs.Incidents.{Incident, befalls, is_above, is_ahead}
 use Rattle.incidents.specs.declared.fault.IncidentFault.{IncidentFault}
 use Rattle.incidents.specs.declared.fault.IncidentFault.TheVariants.{NoGrant, GrantsForgotten, StampsForgotten, World}
 

@@ -17,7 +17,7 @@ use Rattle.world.specs.Restarts.{Saved}
 use Rattle.world.specs.Runs.{AreLimits}
 use Rattle.world.specs.SavedWorlds.{PlannedSaved}
 use Rattle.world_state.specs.Steps.{client_at, voter_at}
-use Rattle.leases.specs.Incidents.{Incident, Happens, Hears, IsReborn, StartsAnew, HasLimit, IsRaised}
+use Rattle.world.specs.Incidents.{Incident, Happens, Hears, IsReborn, StartsAnew, HasLimit, IsRaised}
 
 -- The client knows its number and the limit of stamps. It asks voters of this world, and each grant that
 -- it holds or gave back is at most the limit.

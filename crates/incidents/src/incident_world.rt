@@ -3,7 +3,7 @@ ghost use Rattle.std.specs.Prelude.{◌≡◌, ◌<◌, ◌≤◌, IfErr, IfNone
 ghost use Rattle.numbers.specs.Bounds.{max_clients, max_stamp};
 ghost use Rattle.incidents.specs.Calls.{IsCalm, RefusesAnew, RefusesClient, RefusesEviction, RefusesRebirth, RefusesVoter, befalls_by, grant_at, letting_go};
 ghost use Rattle.incidents.specs.Fit.{IsFit};
-ghost use Rattle.leases.specs.Incidents.{Happens, Hears, IsReborn, StartsAnew, is_above, is_ahead};
+ghost use Rattle.world.specs.Incidents.{Happens, Hears, IsReborn, StartsAnew, is_above, is_ahead};
 ghost use Rattle.message.specs.Lines.{HasLine};
 ghost use Rattle.requester.specs.declared.state.Seen.TheVariants.{Nothing};
 ghost use Rattle.world.specs.Restarts.{Goes, OneClient, OneVoter, Restarts, maker};

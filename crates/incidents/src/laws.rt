@@ -4,7 +4,7 @@ ghost use Rattle.std.specs.List.{AllByRecursion};
 ghost use Rattle.dealer.specs.Plans.{ArePlans, PlanPair};
 ghost use Rattle.incidents.specs.Calls.{IsCalm, befalls_by};
 ghost use Rattle.incidents.specs.Fit.{IsFit, IsWritten};
-ghost use Rattle.leases.specs.Incidents.{Incident};
+ghost use Rattle.world.specs.Incidents.{Incident};
 ghost use Rattle.message.specs.Lines.{HasLine};
 ghost use Rattle.world_state.specs.Numbered.{IsNumbered};
 ghost use Rattle.world.specs.Restarts.{Happening};

@@ -2,8 +2,8 @@
 ghost use Rattle.std.specs.Prelude.{◌≡◌, ◌<◌, ◌≤◌, IfErr, IfOk, Ok, OnErr, OnOk, Some, length, slice_set, true};
 ghost use Rattle.numbers.specs.Bounds.{max_clients, max_stamp, max_voters};
 ghost use Rattle.incidents.specs.Calls.{RefusesAnew, RefusesClient, RefusesEviction, RefusesRebirth, RefusesVoter, Takes, grant_at, letting_go};
-ghost use Rattle.leases.specs.Incidents as incidents;
-ghost use Rattle.leases.specs.Incidents.{is_above, is_ahead};
+ghost use Rattle.world.specs.Incidents as incidents;
+ghost use Rattle.world.specs.Incidents.{is_above, is_ahead};
 ghost use Rattle.requester.specs.Leases.{anew};
 ghost use Rattle.requester.specs.Soundness.{IsSound};
 ghost use Rattle.requester.specs.Words.{is_inside};

@@ -4,7 +4,7 @@ use Rattle.std.specs.Prelude.{◌&&◌, is_some, nat_le, nat_lt, slice_get, slic
 use Rattle.std.specs.FinMap as fin
 use Rattle.std.specs.Ordering.{nat_cmp}
 use Rattle.std.specs.List.{AllByRecursion}
-use Rattle.std.proofs.lemmas.Bool.{cases_lt, false≢true, ltb-true}
+use Rattle.std.proofs.lemmas.Bool.{and_parts, cases_lt, false≢true, ltb-true}
 use Rattle.std.proofs.lemmas.Bool.Decides.{nat_tests}
 use Rattle.std.proofs.lemmas.Option.{none-some, same_Some}
 use Rattle.numbers.proofs.Lists.{AllByRecursion-append, AllByRecursion-get, AllByRecursion-weaker, slice_index-replicate_zero}
@@ -49,24 +49,24 @@ use Rattle.world.specs.Restarts.{all_happen, come_back, if_there, receiver}
 use Rattle.world.specs.Runs.{AreLimits}
 use Rattle.world_state.specs.Steps.{Outcome, come, exchange, if_client, if_voter, next_ticket, quorum_dealt, step}
 use Rattle.world.specs.Visible.{DealsFrom, DoMeet, IsAmong, IsExclusive}
-use Rattle.leases.specs.Incidents.{Incident, Happens, Hears, IsReborn, StartsAnew, HasLimit, IsRaised, all_befall, anew, be_raised, be_reborn, befalls, have_limit, hear, is_above, is_ahead, is_message, is_request_within, limited, reborn, start_anew}
-use Rattle.leases.proofs.Raises.{no_inquiry, raised_by_step}
+use Rattle.world.specs.Incidents.{Incident, Happens, Hears, IsReborn, StartsAnew, HasLimit, IsRaised, all_befall, anew, be_raised, be_reborn, befalls, have_limit, hear, is_above, is_ahead, is_message, is_request_within, limited, reborn, start_anew}
+use Rattle.world.proofs.Raises.{no_inquiry, raised_by_step}
 use Rattle.leases.specs.Orderly.{EndsOld}
 use Rattle.leases.proofs.Rebirths.{ends_within}
 use Rattle.leases.specs.Comeback.{AllIdle, AreLawful, IsEviction, IsLawful, unseen}
-use Rattle.passes.proofs.Requests.{both}
-use Rattle.leases.proofs.Numbers.{AsksInRange, befalls_on, begin_on, length_map, nobody}
+use Rattle.leases.proofs.Numbers.{befalls_on, begin_on, length_map, nobody}
 use Rattle.world.proofs.Restarts.{SavedOk, all_ok}
 use Rattle.world.proofs.Reached.{accepts_among}
 use Rattle.world.proofs.VoterMoves.{more_granted}
 use Rattle.world.proofs.Claims.{AskOk, IsClient, MessageOk, ReportOk, WorldOk, Bounds}
-use Rattle.world.proofs.Places.{client_here}
+use Rattle.world.proofs.IncidentLemmas.{AsksInRange, brought}
+use Rattle.world.proofs.Places.{client_here, set_client, set_voter}
 use Rattle.world.proofs.Reached.{Given, new_voters, start_ok, start_unused, voter_new, voter_past}
 use Rattle.quorum_set.specs.declared.bridge.Side.{Side}
 use Rattle.quorum_set.specs.declared.bridge.Side.TheVariants.{First, Second}
 use Rattle.world.specs.Restarts.{save_and_send}
 use Rattle.world_state.specs.Steps.{after_client, after_voter, draw_of, say}
-use Rattle.leases.proofs.Numbers.{Told, Votes, brought, none_told, with_draw, Naming, Numbered, count, set_client, set_voter}
+use Rattle.leases.proofs.Numbers.{Told, Votes, none_told, with_draw, Naming, Numbered, count}
 
 -- what `voter` says of the requests that a message finishes, and of votes that are asked back
 pub record EndLaws : Type 0 where
@@ -601,7 +601,7 @@ settled_reborn b G s num st v above false is = st
 settled_reborn b G s num st v above true is =
     let y = voter_at s.live.voters v in
     let z = reborn y above in
-    let ends = both (nat_le y.granted above) (nat_le above y.limit) (both (nat_lt v (length s.live.voters)) (is_above y above) is).1 in
+    let ends = and_parts (nat_le y.granted above) (nat_le above y.limit) (and_parts (nat_lt v (length s.live.voters)) (is_above y above) is).1 in
     let least : y.granted ≤ above = (let h = ends.0 in grind (arith, nat_tests)) in
     let u = live_voter_settled b s st v z (reborn_fits b s.clients y above) in
     saved_voter_settled b (record s { live = record s.live { voters = slice_set s.live.voters v z } }) u v z (reborn_fits b s.clients y above) (let behind = num.behind v in omega arith)
@@ -613,8 +613,8 @@ settled_anew b s st c clock false is = st
 settled_anew b s st c clock true is =
     let x = client_at s.live.clients c in
     let z = anew x clock in
-    let parts = both (nat_lt c (length s.live.clients)) (is_ahead x clock) is in
-    let ends = both (nat_le x.stamp clock) (nat_le clock x.limit) parts.1 in
+    let parts = and_parts (nat_lt c (length s.live.clients)) (is_ahead x clock) is in
+    let ends = and_parts (nat_le x.stamp clock) (nat_le clock x.limit) parts.1 in
     let least : x.stamp ≤ clock = (let h = ends.0 in grind (arith, nat_tests)) in
     let none : IsCounted (count s.voters) z = λ v. (let zero = slice_index-replicate_zero 64 v in omega arith) in
     let behind = st.behind c in
@@ -664,7 +664,7 @@ settled_hears : (b : Bounds) → Given b → EndLaws → (G : Naming) (s : Saved
     → Settled b (hear s m)
 settled_hears b given end G s num st m is = settled_if_voter b s st (OneVoter m.voter) (nat_lt m.voter (length s.live.voters)) m.voter _ (λ t.
     settled_if b s st (OneVoter m.voter) (is_message s m) m.client _ (λ u.
-    let parts = both (nat_lt m.client (length s.live.clients)) (is_request_within (voter_at s.live.voters m.voter).limit m.body) u in
+    let parts = and_parts (nat_lt m.client (length s.live.clients)) (is_request_within (voter_at s.live.voters m.voter).limit m.body) u in
     let within : m.client < b.clients = subst (λ n. m.client < n) num.sizes.0 (ltb-true _ _ parts.0) in
     let here : m.voter < b.voters = subst (λ n. m.voter < n) num.sizes.1 (ltb-true _ _ t) in
     let fits = lawful_fits b G s num st m within is in

@@ -11,20 +11,20 @@ use Rattle.world_state.specs.Steps.{Dealing, client_at}
 use Rattle.world.specs.Visible.{DealsFrom, DoMeet}
 use Rattle.world.specs.Rules.{ClientLaws, VoterLaws}
 use Rattle.world.proofs.Claims.{Bounds}
+use Rattle.world.proofs.Exclusion.{list_all-holds, under_grant}
 use Rattle.world.proofs.Reached.{Given}
-use Rattle.leases.specs.Incidents.{Incident, all_befall, befalls}
+use Rattle.world.specs.Incidents.{Incident, all_befall, befalls}
 use Rattle.fence.specs.Passes.{Admits, is_not_older}
 use Rattle.leases.specs.Shows.{HasSeenOnly, IsCurrent, IsShown, Show, Story, WasIn, pass_in, world_at}
 use Rattle.passes.specs.Grants.{AreApart, AreOfOne, Giving, IsCoterie, IsPass, Pass, ShareQuorum}
 use Rattle.passes.specs.Guarded.{AreAdmitted, AreEntered, AreInOrder, DoNotInterleave, Entry, HaveOnePassEach, RequestsHaveOneTurn, ShowTheSame, TurnsTellRequests}
-use Rattle.passes.proofs.Guards.{NamesRequests, in_order, no_interleaving, own_quorum, requests_apart}
-use Rattle.passes.proofs.Guards.{two_passes}
+use Rattle.passes.proofs.Guards.{NamesRequests, in_order, no_interleaving, own_quorum, requests_apart, two_passes}
 use Rattle.passes.proofs.Turns.{one_turn, turns}
 use Rattle.numbers.proofs.Lists.{AllByRecursion-weaker}
 use Rattle.requester.specs.declared.state.ClientState.{ClientState}
 use Rattle.requester.specs.Words.{held_of, is_inside, members}
 use Rattle.leases.proofs.Passes.{one_pass}
-use Rattle.passes.proofs.Requests.{has_grant, list_all-holds, under_grant}
+use Rattle.passes.proofs.Requests.{Begins, has_grant, one_begins}
 use Rattle.leases.proofs.Numbers.{all_on, among_of, grant_of, Further, IsGrant, Knows, Naming, Numbered, begin_on, befalls_on, count, knows_on, nobody, same_number}
 
 -- ---- every client at every moment
@@ -69,19 +69,6 @@ whole b given deal deals G s ok (i ∷ is) =
 pub befall-append : (deal : Dealing) (is js : List Incident) (s : Saved) → all_befall deal (is ++ js) s ≡ all_befall deal js (all_befall deal is s)
 befall-append deal [] js s = refl
 befall-append deal (i ∷ is) js s = befall-append deal is js (befalls deal s i)
-
--- the first incidents of one are those of the other, and more
-abbrev Begins : List Incident → List Incident → Type 0
-Begins is js = (more : List Incident) × (js ≡ is ++ more)
-
-one_begins : (l : List Incident) (m n : ℕ) → Begins (take m l) (take n l) ⊎ Begins (take n l) (take m l)
-one_begins l zero n = inl (take n l, refl)
-one_begins l (suc m) zero = inr (take (suc m) l, refl)
-one_begins [] (suc m) (suc n) = inl ([], refl)
-one_begins (x ∷ xs) (suc m) (suc n) = elim (one_begins xs m n) [
-  | inl b ↦ inl (b.0, ap (λ (l : List Incident). x ∷ l) b.1)
-  | inr b ↦ inr (b.0, ap (λ (l : List Incident). x ∷ l) b.1)
-]
 
 -- one client is inside at two moments, under one stamp
 same_later : ClientLaws → VoterLaws → (voters clients limit : ℕ) (quorums : List (List ℕ)) (deal : Dealing) (is js : List Incident) (c : ℕ)

@@ -5,7 +5,6 @@ pub mod NodeRunLemmas
 pub mod Numbers
 pub mod PassLemmas
 pub mod Passes
-pub mod Raises
 pub mod Rebirths
 pub mod Resumed
 pub mod ServiceLemmas

@@ -27,7 +27,7 @@ use Rattle.world.specs.Restarts.{Saved, OneVoter, Goes, Saves, Forgets, Restarts
 use Rattle.world_state.specs.Steps.{is_silent}
 use Rattle.world.specs.Rules.{VoterLaws}
 use Rattle.world_state.specs.Steps.{Dealing, after_voter, come, if_client, if_voter, say, step, vote, voter_at, voter_did}
-use Rattle.leases.specs.Incidents.{Incident, Happens, Hears, IsReborn, StartsAnew, HasLimit, IsRaised, all_befall, befalls, hear, is_message, is_request_within}
+use Rattle.world.specs.Incidents.{Incident, Happens, Hears, IsReborn, StartsAnew, HasLimit, IsRaised, all_befall, befalls, hear, is_message, is_request_within}
 use Rattle.leases.specs.Comeback.{AreLawful, IsEviction}
 use Rattle.leases.specs.Orderly.{AreOrderly}
 use Rattle.leases.specs.NodeRuns.{ArePlaces, EvictsNone, HasVoter, MayCome, MayRun, Places, WasSent, arrival_by, eviction_of, incidents_from, incidents_of, unless_refused, with_voter}

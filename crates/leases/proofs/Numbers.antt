@@ -5,9 +5,9 @@ use Rattle.std.specs.FinMap as fin
 use Rattle.std.specs.Ordering.{nat_cmp}
 use Rattle.std.specs.List.{AllByRecursion}
 use Rattle.std.proofs.lemmas.Option.{none-some, same_Some}
-use Rattle.std.proofs.lemmas.Bool.{false≢true, ltb-true}
+use Rattle.std.proofs.lemmas.Bool.{and_parts, ltb-true}
 use Rattle.std.proofs.lemmas.Bool.Decides.{nat_tests}
-use Rattle.std.proofs.lemmas.List.{length-set, set_past}
+use Rattle.std.proofs.lemmas.List.{length-set}
 use Rattle.numbers.proofs.Lists.{AllByRecursion-append, AllByRecursion-get, AllByRecursion-weaker, slice_index-replicate_zero}
 use Rattle.message.specs.declared.message.ToVoter.{ToVoter}
 use Rattle.message.specs.declared.message.ToClient.{ToClient}
@@ -23,15 +23,14 @@ use Rattle.voter.specs.Replies.{AllCarry, AllReportPlace, ReportsPlace, seen_aft
 use Rattle.voter.specs.Saved.{least_voter}
 use Rattle.voter.specs.Steps as voter
 use Rattle.voter.specs.VoteMoves.{VoteMoves, GrantIsNew}
-use Rattle.voter.specs.VoterContract.{AllReport, Brings, IsEntry, ReportsVote}
+use Rattle.voter.specs.VoterContract.{AllReport, IsEntry, ReportsVote}
 use Rattle.requester.specs.declared.fault.ClientFault.{ClientFault}
 use Rattle.requester.specs.declared.state.ClientState.{ClientState}
-use Rattle.requester.specs.declared.state.Phase.TheVariants.{Idle}
 use Rattle.requester.specs.declared.state.Seen.TheVariants.{Nothing}
 use Rattle.requester.specs.RequesterContract.{Accepts, AllInRange, AllRepeat, AllSay, ComesInRange, IsLocked, IsReached, KeepsQuorum, Locks, RemindersInRange, SaysInRange}
 use Rattle.requester.specs.Saved.{least_client}
+use Rattle.voter.proofs.KeptLemmas as kept
 use Rattle.requester.proofs.SavedLemmas.{least_is_sound}
-use Rattle.requester.proofs.SoundSteps.{IsSound-clear_votes}
 use Rattle.requester.specs.Soundness as sound
 use Rattle.requester.specs.Steps as client
 use Rattle.requester.specs.Words.{holds_under, is_inside, members}
@@ -46,15 +45,16 @@ use Rattle.world.specs.Runs.{start}
 use Rattle.world_state.specs.Steps.{Dealing, Outcome, after_client, after_voter, client_at, client_did, come, draw_of, exchange, if_client, if_voter, next_ticket, quorum_dealt, say, step, voter_at, voter_did}
 use Rattle.world.specs.Visible.{DealsFrom, DoMeet, IsAmong}
 use Rattle.world.specs.Rules.{ClientLaws, VoterLaws}
-use Rattle.world.proofs.Claims.{Bounds, put-each}
+use Rattle.world.proofs.Claims.{Bounds}
 use Rattle.world.specs.Ranges.{IsWithin}
 use Rattle.world.proofs.ClientMoves.{Draws, member_below}
-use Rattle.world.proofs.Places.{client_at-set, voter_at-set, voter_here}
+use Rattle.world.proofs.Exclusion.{inside_busy}
+use Rattle.world.proofs.IncidentLemmas.{AsksInRange, anew_sound, asks_by, brought, limited_sound, may_have, reborn_sound}
+use Rattle.world.proofs.Places.{set_client, set_voter, voter_here}
+use Rattle.world.proofs.Raises.{no_inquiry, raised_by_step}
 use Rattle.world.proofs.Reached.{Given, accepts_among, start_ok, start_unused}
-use Rattle.world.proofs.Restarts.{AreAll, within_or}
-use Rattle.leases.specs.Incidents.{Incident, Happens, Hears, IsReborn, StartsAnew, HasLimit, IsRaised, all_befall, anew, be_raised, be_reborn, befalls, come_back_as, have_limit, hear, is_above, is_ahead, is_limit, is_message, is_request_within, limited, reborn, start_anew, start_as}
-use Rattle.passes.proofs.Requests.{both, inside_busy}
-use Rattle.leases.proofs.Raises.{no_inquiry, raised_by_step}
+use Rattle.world.proofs.Restarts.{AreAll}
+use Rattle.world.specs.Incidents.{Incident, Happens, Hears, IsReborn, StartsAnew, HasLimit, IsRaised, all_befall, anew, be_raised, be_reborn, befalls, come_back_as, have_limit, hear, is_above, is_ahead, is_limit, is_message, is_request_within, limited, reborn, start_anew, start_as}
 
 -- ---- what is named
 
@@ -77,12 +77,6 @@ abbrev pub IsNamed : Bounds → Naming → (ℕ → ℕ) → ℕ → ℕ → Cli
 IsNamed b G N v c (to_client.Locked s g) = IsGrant G N v c s g × IsWithin b.limit s
 IsNamed b G N v c (to_client.Fail s) = Unit {0}
 IsNamed b G N v c (to_client.Inquire g) = Unit {0}
-
--- a REQUEST has a stamp from 1 to the limit
-abbrev pub AsksInRange : ℕ → VoterBody → Type 0
-AsksInRange limit (asks.Request s) = IsWithin limit s
-AsksInRange limit (asks.Relinquish g) = Unit {0}
-AsksInRange limit (asks.Release s) = Unit {0}
 
 -- a LOCKED that was ever sent names a saved grant
 abbrev pub Told : Bounds → Naming → (ℕ → ℕ) → Message → Type 0
@@ -272,26 +266,6 @@ reminders_told b meet G N c within x knows (m ∷ ms) say range = (
 pub none_told : {A : Type 0} (P : Message → Type 0) (f : A → Message) (xs : List A) → length xs ≡ 0 → AllByRecursion P (map f xs)
 none_told P f [] e = tt
 none_told P f (x ∷ xs) e = absurd (omega arith)
-
--- ---- lists
-
-abbrev pub EachClient : (ℕ → ClientState → Type 0) → List ClientState → Type 0
-EachClient P clients = (c : ℕ) → P c (client_at clients c)
-
-abbrev pub EachVoter : (ℕ → VoterState → Type 0) → List VoterState → Type 0
-EachVoter P voters = (v : ℕ) → P v (voter_at voters v)
-
-pub set_client : (P : ℕ → ClientState → Type 0) (cs : List ClientState) (c : ℕ) (x : ClientState) → P c x → EachClient P cs → EachClient P (slice_set cs c x)
-set_client P cs c x here all = elim (within_or cs c) [
-  | inl within ↦ λ q. subst (λ (f : ℕ → ClientState). P q (f q)) (sym (client_at-set cs c x within)) (put-each P (client_at cs) c x here all q)
-  | inr past ↦ subst (λ (l : List ClientState). EachClient P l) (sym (set_past cs c x past)) all
-]
-
-pub set_voter : (P : ℕ → VoterState → Type 0) (vs : List VoterState) (v : ℕ) (y : VoterState) → P v y → EachVoter P vs → EachVoter P (slice_set vs v y)
-set_voter P vs v y here all = elim (within_or vs v) [
-  | inl within ↦ λ q. subst (λ (f : ℕ → VoterState). P q (f q)) (sym (voter_at-set vs v y within)) (put-each P (voter_at vs) v y here all q)
-  | inr past ↦ subst (λ (l : List VoterState). EachVoter P l) (sym (set_past vs v y past)) all
-]
 
 -- ---- the world
 
@@ -536,11 +510,6 @@ voter_says b G s ok v seen within rs report place carry n many false is =
       further = on.further;
     }
 
-pub brought : (b : Bounds) (c : ℕ) (body : VoterBody) → c < b.clients → AsksInRange b.limit body → (d s : ℕ) → Brings c body d s → (d < b.clients) × IsWithin b.limit s
-brought b c (asks.Request t) within range d s brings = (subst (λ n. n < b.clients) (sym brings.0) within, subst (λ n. IsWithin b.limit n) (sym brings.1) range)
-brought b c (asks.Relinquish g) within range d s brings = absurd brings
-brought b c (asks.Release t) within range d s brings = absurd brings
-
 -- a voter takes a message
 voter_tried : VoterLaws → (b : Bounds) (G : Naming) (s : Saved) → Numbered b G s → (m : ToVoter) → Told b G (count s.voters) (kinds.ToVoter m)
     → (r : Option voter.Outcome) → voter.step (voter_at s.live.voters m.voter) m ≡ r → Goes_on b G s (save_and_send s (OneVoter m.voter) (after_voter s.live m.voter r))
@@ -592,13 +561,7 @@ least_client_on b G N c x k = record { sound = least_is_sound x k.sound; quorum 
 
 least_voter_on : (b : Bounds) (G : Naming) (v : ℕ) (y : VoterState) → Votes b G v y → Votes b G v (least_voter y)
 least_voter_on b G v y k = record {
-  sound = record {
-    limit = k.sound.limit;
-    granted = k.sound.granted;
-    numbered = k.sound.numbered;
-    apart = λ g held. fin.get-empty nat_cmp g.client;
-    free = λ held c. fin.get-empty nat_cmp c;
-  };
+  sound = kept.least_is_sound y k.sound;
   id = k.id;
   limit = k.limit;
   entries = λ c s is. elim is [ inl held ↦ k.entries c s (inl held) | inr waits ↦ absurd (none-some s (sym (fin.get-empty nat_cmp c) ∙ waits)) ];
@@ -729,19 +692,10 @@ happens_on b given deal deals G s ok (Restarts who) = restart_on b G s ok who
 
 -- ---- what befalls
 
-asks_by : (b : Bounds) (limit : ℕ) (body : VoterBody) → limit ≤ b.limit → is_request_within limit body ≡ true → AsksInRange b.limit body
-asks_by b limit (asks.Request t) below e =
-    let parts = both (nat_le 1 t) (nat_le t limit) e in
-    let low : 1 ≤ t = (let h = parts.0 in grind (arith, nat_tests)) in
-    let high : t ≤ limit = (let h = parts.1 in grind (arith, nat_tests)) in
-    (low, omega arith)
-asks_by b limit (asks.Relinquish g) below e = tt
-asks_by b limit (asks.Release t) below e = tt
-
 hear_on : (b : Bounds) → Given b → (G : Naming) (s : Saved) → Numbered b G s → (m : ToVoter) → Goes_on b G s (hear s m)
 hear_on b given G s ok m = voter_of b G s ok (OneVoter m.voter) (nat_lt m.voter (length s.live.voters)) m.voter _ (λ t.
     one_of b G s ok (OneVoter m.voter) (is_message s m) m.client _ (λ u.
-    let parts = both (nat_lt m.client (length s.live.clients)) (is_request_within (voter_at s.live.voters m.voter).limit m.body) u in
+    let parts = and_parts (nat_lt m.client (length s.live.clients)) (is_request_within (voter_at s.live.voters m.voter).limit m.body) u in
     let within : m.client < b.clients = subst (λ n. m.client < n) ok.sizes.0 (ltb-true _ _ parts.0) in
     let here : m.voter < b.voters = subst (λ n. m.voter < n) ok.sizes.1 (ltb-true _ _ t) in
     voter_tried given.voter b G s ok m
@@ -749,13 +703,7 @@ hear_on b given G s ok m = voter_of b G s ok (OneVoter m.voter) (nat_lt m.voter 
 
 reborn_votes : (b : Bounds) (G H : Naming) (v : ℕ) (y : VoterState) (above : ℕ) → Votes b G v y → above ≤ y.limit → Votes b H v (reborn y above)
 reborn_votes b G H v y above was most = record {
-  sound = record {
-    limit = was.sound.limit;
-    granted = most;
-    numbered = λ g held. absurd (none-some g held);
-    apart = λ g held. fin.get-empty nat_cmp g.client;
-    free = λ held c. fin.get-empty nat_cmp c;
-  };
+  sound = reborn_sound y above was.sound most;
   id = was.id;
   limit = was.limit;
   entries = λ c s is. elim is [ inl held ↦ absurd (none-some held.0 held.1) | inr waits ↦ absurd (none-some s (sym (fin.get-empty nat_cmp c) ∙ waits)) ];
@@ -769,8 +717,8 @@ reborn_on b G s ok v above false is = stays b G s ok
 reborn_on b G s ok v above true is =
     let y = voter_at s.live.voters v in
     let z = reborn y above in
-    let parts = both (nat_lt v (length s.live.voters)) (is_above y above) is in
-    let ends = both (nat_le y.granted above) (nat_le above y.limit) parts.1 in
+    let parts = and_parts (nat_lt v (length s.live.voters)) (is_above y above) is in
+    let ends = and_parts (nat_le y.granted above) (nat_le above y.limit) parts.1 in
     let least : y.granted ≤ above = (let h = ends.0 in grind (arith, nat_tests)) in
     let most : above ≤ y.limit = (let h = ends.1 in grind (arith, nat_tests)) in
     let first = live_voter b G s ok v z (reborn_votes b G G v y above (ok.live_voters v) most) (let behind = ok.behind v in omega arith) in
@@ -779,10 +727,6 @@ reborn_on b G s ok v above true is =
     let count_there : count t.live.voters v ≡ above = ap (λ (w : VoterState). w.granted) there in
     let second = saved_voter b first.named t first.ok v z (reborn_votes b G first.named v y above (ok.live_voters v) most) (let behind = ok.behind v in omega arith) (omega arith) in
     then_on b G s t (come_back_as s v z) first second
-
-pub anew_sound : (b : Bounds) → Given b → (x : ClientState) (clock : ℕ) → sound.IsSound x → clock ≤ x.limit → sound.IsSound (anew x clock)
-anew_sound b given x clock was most = IsSound-clear_votes (anew x clock) Idle refl was.id was.some was.limit
-    (given.client.first x.id x.limit was.id was.some was.limit).places.last most (same_number clock) tt (λ busy. absurd (false≢true (sym busy)))
 
 anew_knows : (b : Bounds) → Given b → (G H : Naming) (N M : ℕ → ℕ) (c : ℕ) (x : ClientState) (clock : ℕ) → Knows b G N c x → clock ≤ x.limit → Knows b H M c (anew x clock)
 anew_knows b given G H N M c x clock was most = record {
@@ -799,8 +743,8 @@ anew_on b given G s ok c clock false is = stays b G s ok
 anew_on b given G s ok c clock true is =
     let x = client_at s.live.clients c in
     let y = anew x clock in
-    let parts = both (nat_lt c (length s.live.clients)) (is_ahead x clock) is in
-    let ends = both (nat_le x.stamp clock) (nat_le clock x.limit) parts.1 in
+    let parts = and_parts (nat_lt c (length s.live.clients)) (is_ahead x clock) is in
+    let ends = and_parts (nat_le x.stamp clock) (nat_le clock x.limit) parts.1 in
     let most : clock ≤ x.limit = (let h = ends.1 in grind (arith, nat_tests)) in
     let first = saved_client b G s ok c y (anew_knows b given G G (count s.voters) (count s.voters) c x clock (ok.live_clients c) most) in
     let t : Saved = record s { clients = slice_set s.clients c y } in
@@ -809,42 +753,13 @@ anew_on b given G s ok c clock true is =
 
 limited_votes : (b : Bounds) → Given b → (G : Naming) (v : ℕ) (y : VoterState) (limit : ℕ) → Votes b G v y → y.granted ≤ limit → limit ≤ b.limit → Votes b G v (limited y limit)
 limited_votes b given G v y limit was least most = record {
-  sound = record {
-    limit = (let few = given.limits.few_stamps in omega arith);
-    granted = least;
-    numbered = was.sound.numbered;
-    apart = was.sound.apart;
-    free = was.sound.free;
-  };
+  sound = limited_sound y limit was.sound least (let few = given.limits.few_stamps in omega arith);
   id = was.id;
   limit = most;
   entries = was.entries;
   held = was.held;
   latest = was.latest;
 }
-
--- what the condition on a limit says
-pub record MayHave (b : Bounds) (s : Saved) (v limit : ℕ) : Type 0 where
-  pub within : v < length s.live.voters
-  pub least : (voter_at s.live.voters v).granted ≤ limit
-  pub most : limit ≤ b.limit
-
-pub may_have : (b : Bounds) (s : Saved) → length s.live.clients ≡ b.clients → (0 < b.clients → (client_at s.live.clients 0).limit ≡ b.limit) → (v limit : ℕ)
-    → (nat_lt v (length s.live.voters) && is_limit s v limit) ≡ true → MayHave b s v limit
-may_have b s size highest v limit is =
-    let y = voter_at s.live.voters v in
-    let x = client_at s.live.clients 0 in
-    let parts = both (nat_lt v (length s.live.voters)) (is_limit s v limit) is in
-    let rest = both (nat_lt 0 (length s.live.clients)) (nat_le y.granted limit && nat_le limit x.limit) parts.1 in
-    let ends = both (nat_le y.granted limit) (nat_le limit x.limit) rest.1 in
-    let some : 0 < length s.live.clients = ltb-true _ _ rest.0 in
-    let same = highest (subst (λ n. 0 < n) size some) in
-    let up : limit ≤ x.limit = (let h = ends.1 in grind (arith, nat_tests)) in
-    record {
-      within = ltb-true _ _ parts.0;
-      least = (let h = ends.0 in grind (arith, nat_tests));
-      most = omega arith;
-    }
 
 limited_on : (b : Bounds) → Given b → (G : Naming) (s : Saved) → Numbered b G s → (v limit : ℕ) (t : Bool) → (nat_lt v (length s.live.voters) && is_limit s v limit) ≡ t
     → Goes_on b G s (have_limit t s v limit)

@@ -1,7 +1,7 @@
 -- a request has one pass: a client that is inside keeps its votes until it leaves
 use Rattle.std.proofs.Common.{◌≡◌, ℕ, ◌<◌, ◌≤◌, Bool, true, false, cond, List, [], ◌∷◌, map, length, Option, Some, None, Result, Ok, Err, refl, sym, ap, subst, ◌∙◌, inl, inr, arith, eqb}
 use Rattle.std.specs.Prelude.{◌&&◌, is_some, nat_le, nat_lt, slice_get, slice_set}
-use Rattle.std.proofs.lemmas.Bool.{false≢true, ltb-true}
+use Rattle.std.proofs.lemmas.Bool.{and_parts, false≢true, ltb-true}
 use Rattle.std.proofs.lemmas.Bool.Decides.{nat_tests}
 use Rattle.std.proofs.lemmas.List.{set_past}
 use Rattle.numbers.proofs.Lists.{AllByRecursion-get}
@@ -32,10 +32,11 @@ use Rattle.world.proofs.Claims.{Bounds, put}
 use Rattle.world.proofs.Places.{client_at-set, client_here}
 use Rattle.world.proofs.Reached.{Given, accepts_among}
 use Rattle.world.proofs.Restarts.{within_or}
-use Rattle.leases.specs.Incidents.{Incident, Happens, Hears, IsReborn, StartsAnew, HasLimit, IsRaised, all_befall, anew, be_raised, be_reborn, befalls, have_limit, is_ahead, is_message, start_anew}
-use Rattle.leases.proofs.Raises.{no_inquiry, raised_by_step}
+use Rattle.world.specs.Incidents.{Incident, Happens, Hears, IsReborn, StartsAnew, HasLimit, IsRaised, all_befall, anew, be_raised, be_reborn, befalls, have_limit, is_ahead, is_message, start_anew}
+use Rattle.world.proofs.Exclusion.{inside_busy}
+use Rattle.world.proofs.Raises.{no_inquiry, raised_by_step}
 use Rattle.leases.proofs.Numbers.{Naming, Numbered, Told, all_on, befalls_on, begin_on, count, nobody}
-use Rattle.passes.proofs.Requests.{HasOnly, both, ended, inside_busy, only_after, only_least, only_self, quiet_stays, silent_sees}
+use Rattle.passes.proofs.Requests.{HasOnly, ended, only_after, only_least, only_self, quiet_stays, silent_sees}
 
 -- ---- a client that is inside
 
@@ -265,8 +266,8 @@ pair_anew : (R : ℕ → ClientState → ClientState → Type 0) → Lasts R →
 pair_anew R lasts b G s ok all c clock false is = all
 pair_anew R lasts b G s ok all c clock true is =
     let x = client_at s.live.clients c in
-    let parts = both (nat_lt c (length s.live.clients)) (is_ahead x clock) is in
-    let ends = both (nat_le x.stamp clock) (nat_le clock x.limit) parts.1 in
+    let parts = and_parts (nat_lt c (length s.live.clients)) (is_ahead x clock) is in
+    let ends = and_parts (nat_le x.stamp clock) (nat_le clock x.limit) parts.1 in
     let ahead : x.stamp ≤ clock = (let h = ends.0 in grind (arith, nat_tests)) in
     let within : c < length s.live.clients = ltb-true _ _ parts.0 in
     set_both R s.live.clients s.clients c (anew x clock) (anew x clock) within (subst (λ n. c < n) (ok.sizes.0 ∙ sym ok.sizes.2) within) (lasts.anew c x (client_at s.clients c) clock ahead (all c)) all

@@ -5,7 +5,7 @@ use Rattle.std.specs.FinMap as fin
 use Rattle.std.specs.Ordering.{nat_cmp}
 use Rattle.std.specs.List.{AllByRecursion}
 use Rattle.std.proofs.lemmas.Option.{none-some}
-use Rattle.std.proofs.lemmas.Bool.{false≢true, ltb-true}
+use Rattle.std.proofs.lemmas.Bool.{and_parts, false≢true, ltb-true}
 use Rattle.std.proofs.lemmas.Bool.Decides.{nat_tests}
 use Rattle.std.proofs.lemmas.List.{length-set}
 use Rattle.numbers.proofs.Lists.{AllByRecursion-weaker, slice_index-replicate_zero}
@@ -34,14 +34,13 @@ use Rattle.world.specs.Visible.{DealsFrom, DoMeet, IsExclusive}
 use Rattle.world.specs.Rules.{ClientLaws, VoterLaws}
 use Rattle.world.proofs.Claims.{AskOk, Bounds, ReportOk, MessageOk, VoterOk, WorldOk, put, put-same}
 use Rattle.world.proofs.Exclusion.{Walked, Walked-step}
+use Rattle.world.proofs.IncidentLemmas.{anew_sound, limited_sound, may_have, reborn_sound}
 use Rattle.world.proofs.Places.{client_at-set, voter_at-set, voter_here}
 use Rattle.world.proofs.Reached.{Given}
 use Rattle.world.proofs.Restarts.{ComesBack, Mix, SavedOk, begin_ok, client_less, client_tried, happens_ok, if_one, if_voter_one, live_ok, voter_tried}
-use Rattle.leases.specs.Incidents.{Incident, Happens, Hears, IsReborn, StartsAnew, HasLimit, IsRaised, all_befall, anew, be_raised, be_reborn, befalls, have_limit, hear, is_above, is_ahead, is_limit, is_message, is_request_within, limited, reborn, start_anew}
+use Rattle.world.specs.Incidents.{Incident, Happens, Hears, IsReborn, StartsAnew, HasLimit, IsRaised, all_befall, anew, be_raised, be_reborn, befalls, have_limit, hear, is_above, is_ahead, is_limit, is_message, is_request_within, limited, reborn, start_anew}
 use Rattle.leases.specs.Orderly.{AreOrderly, CountsNoMore, EndsOld, IsOver, IsPast}
-use Rattle.passes.proofs.Requests.{both}
-use Rattle.leases.proofs.Numbers.{anew_sound, may_have}
-use Rattle.leases.proofs.Raises.{no_inquiry, raised_by_step}
+use Rattle.world.proofs.Raises.{no_inquiry, raised_by_step}
 
 put_at : {A : Type 0} (P : A → Type 0) (Y : ℕ → A) (v : ℕ) (z : A) (q : ℕ) → (q ≡ v → P z) → (q ≢ v → P (Y q)) → P (put Y v z q)
 put_at P Y v z q here there = elim (eqb q v) as (λ b. eqb q v ≡ b → P (cond b z (Y q))) [
@@ -85,13 +84,7 @@ past_messages X Y v z free few (m ∷ ms) ok past = (past_message X Y v z free f
 
 reborn_ok : (b : Bounds) (X : ℕ → ClientState) (y : VoterState) (above : ℕ) → VoterOk b X y → above ≤ y.limit → VoterOk b X (reborn y above)
 reborn_ok b X y above ok most = record {
-  sound = record {
-    limit = ok.sound.limit;
-    granted = most;
-    numbered = λ g held. absurd (none-some g held);
-    apart = λ g held. fin.get-empty nat_cmp g.client;
-    free = λ held c. fin.get-empty nat_cmp c;
-  };
+  sound = reborn_sound y above ok.sound most;
   entries = λ c s is. elim is [ inl held ↦ absurd (none-some held.0 held.1) | inr waits ↦ absurd (none-some s (sym (fin.get-empty nat_cmp c) ∙ waits)) ];
   numbered = λ g held. absurd (none-some g held);
   limit = ok.limit;
@@ -143,8 +136,8 @@ rebirth_ok b given s ok v above over true is =
     let K = client_at s.clients in
     let y = M v in
     let z = reborn y above in
-    let parts = both (nat_lt v (length s.live.voters)) (is_above y above) is in
-    let ends = both (nat_le y.granted above) (nat_le above y.limit) parts.1 in
+    let parts = and_parts (nat_lt v (length s.live.voters)) (is_above y above) is in
+    let ends = and_parts (nat_le y.granted above) (nat_le above y.limit) parts.1 in
     let most : above ≤ y.limit = (let h = ends.1 in grind (arith, nat_tests)) in
     let least : y.granted ≤ above = (let h = ends.0 in grind (arith, nat_tests)) in
     let within : v < length s.live.voters = ltb-true _ _ parts.0 in
@@ -209,8 +202,8 @@ anew_ok b given s ok c clock true is =
     let M = voter_at s.live.voters in
     let x = L c in
     let z = anew x clock in
-    let parts = both (nat_lt c (length s.live.clients)) (is_ahead x clock) is in
-    let ends = both (nat_le x.stamp clock) (nat_le clock x.limit) parts.1 in
+    let parts = and_parts (nat_lt c (length s.live.clients)) (is_ahead x clock) is in
+    let ends = and_parts (nat_le x.stamp clock) (nat_le clock x.limit) parts.1 in
     let least : x.stamp ≤ clock = (let h = ends.0 in grind (arith, nat_tests)) in
     let most : clock ≤ x.limit = (let h = ends.1 in grind (arith, nat_tests)) in
     let within : c < length s.live.clients = ltb-true _ _ parts.0 in
@@ -257,13 +250,7 @@ limited_message X Y v limit (kinds.ToClient m) ok = put_at (λ (y : VoterState).
 
 limited_ok : (b : Bounds) → Given b → (X : ℕ → ClientState) (y : VoterState) (limit : ℕ) → VoterOk b X y → y.granted ≤ limit → limit ≤ b.limit → VoterOk b X (limited y limit)
 limited_ok b given X y limit ok least most = record {
-  sound = record {
-    limit = (let few = given.limits.few_stamps in omega arith);
-    granted = least;
-    numbered = ok.sound.numbered;
-    apart = ok.sound.apart;
-    free = ok.sound.free;
-  };
+  sound = limited_sound y limit ok.sound least (let few = given.limits.few_stamps in omega arith);
   entries = ok.entries;
   numbered = ok.numbered;
   limit = most;
@@ -348,7 +335,7 @@ ends_within limit x (asks.Release t) ends most = (let low = ends.1 in (ends.0, o
 hear_ok : (b : Bounds) → Given b → (s : Saved) → SavedOk b s → (m : ToVoter) → EndsOld (client_at s.live.clients m.client) m.body × EndsOld (client_at s.clients m.client) m.body → SavedOk b (hear s m)
 hear_ok b given s ok m ends = if_voter_one b s ok (OneVoter m.voter) (nat_lt m.voter (length s.live.voters)) m.voter _ (λ t.
     if_one b s ok (OneVoter m.voter) (is_message s m) m.client _ (λ u.
-    let parts = both (nat_lt m.client (length s.live.clients)) (is_request_within (voter_at s.live.voters m.voter).limit m.body) u in
+    let parts = and_parts (nat_lt m.client (length s.live.clients)) (is_request_within (voter_at s.live.voters m.voter).limit m.body) u in
     let within : m.client < b.clients = subst (λ n. m.client < n) ok.sizes.0 (ltb-true _ _ parts.0) in
     let here : m.voter < b.voters = subst (λ n. m.voter < n) ok.sizes.1 (ltb-true _ _ t) in
     let x = client_at s.live.clients m.client in

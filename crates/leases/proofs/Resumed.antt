@@ -24,7 +24,7 @@ use Rattle.progress.proofs.Moves.{StaysCoherent}
 use Rattle.progress.proofs.Placed.{AskedAt, idle_ask}
 use Rattle.leases.specs.Again.{IsReachedAgain}
 use Rattle.leases.specs.Comeback.{unseen}
-use Rattle.leases.specs.Incidents.{all_befall}
+use Rattle.world.specs.Incidents.{all_befall}
 use Rattle.leases.proofs.Comeback.{EndLaws, Settled, idle_live, idle_out, reaches_all}
 use Rattle.leases.proofs.Numbers.{IsNamed, Naming, Numbered, Told, count}
 

@@ -17,7 +17,7 @@ use Rattle.world.specs.Restarts.{Saved, begin}
 use Rattle.world.specs.Rules.{VoterLaws}
 use Rattle.world_state.specs.Steps.{Dealing, voter_at}
 use Rattle.leases.specs.Comeback.{AreLawful}
-use Rattle.leases.specs.Incidents.{Incident, all_befall, befalls}
+use Rattle.world.specs.Incidents.{Incident, all_befall, befalls}
 use Rattle.leases.specs.NodeRuns.{HasVoter, Places, WasSent, given_out, incidents_of, saved_after, with_voter}
 use Rattle.leases.specs.Orderly.{AreOrderly}
 use Rattle.leases.specs.Services.{Along, Befalls, IsLawfulEpisode, IsOrderlyEpisode, IsServed, LeavesVoters, MayRunIn, MayFollow, Runs, Episode, all_serve, incidents_in, incidents_served, saved_voter, serve}

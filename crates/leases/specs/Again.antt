@@ -7,7 +7,7 @@ use Rattle.world.specs.Runs.{AreLimits, run_of}
 use Rattle.world_state.specs.Steps.{Dealing, WorldState, client_at}
 use Rattle.world.specs.Visible.{DealsFrom, DoMeet}
 use Rattle.leases.specs.Comeback.{AreLawful, unseen}
-use Rattle.leases.specs.Incidents.{Incident, all_befall}
+use Rattle.world.specs.Incidents.{Incident, all_befall}
 
 -- Incidents befell a new world, and no message was made up but evictions and those that end a request
 -- which is over. Then all clients were idle, and these steps led to this world. What was seen before is

@@ -1,7 +1,6 @@
 pub mod Again
 pub mod Comeback
 pub mod Drained
-pub mod Incidents
 pub mod NodeRuns
 pub mod Orderly
 pub mod Services

@@ -14,7 +14,7 @@ use Rattle.voter_node.specs.Nodes as nodes
 use Rattle.world_state.specs.declared.step.Step.TheVariants.{Deliver, RemindVoter}
 use Rattle.world.specs.Restarts.{Saved, OneVoter, Goes, Saves, Forgets, Restarts}
 use Rattle.world_state.specs.Steps.{voter_at}
-use Rattle.leases.specs.Incidents.{Incident, Happens, Hears, is_request_within}
+use Rattle.world.specs.Incidents.{Incident, Happens, Hears, is_request_within}
 
 -- The voter with this number has this state in the world, live and saved. Each client of which it has a
 -- request is one of the world's.

@@ -6,7 +6,7 @@ use Rattle.voter_node.specs.Nodes as nodes
 use Rattle.world.specs.Restarts.{Saved}
 use Rattle.world_state.specs.Steps.{Dealing, voter_at}
 use Rattle.leases.specs.Comeback.{IsLawful}
-use Rattle.leases.specs.Incidents.{Incident, befalls}
+use Rattle.world.specs.Incidents.{Incident, befalls}
 use Rattle.leases.specs.NodeRuns.{ArePlaces, EvictsNone, HasVoter, MayCome, Places, WasSent, given_out, incidents_of, saved_after, with_voter}
 use Rattle.leases.specs.Orderly.{IsOrderly}
 

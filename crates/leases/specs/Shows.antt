@@ -5,7 +5,7 @@ use Rattle.passes.specs.Grants.{Pass}
 use Rattle.voter.specs.declared.state.Grant.{Grant}
 use Rattle.world.specs.Restarts.{IsIn, Saved, begin, pass_of, stamp_of}
 use Rattle.world_state.specs.Steps.{Dealing, voter_at}
-use Rattle.leases.specs.Incidents.{Incident, all_befall}
+use Rattle.world.specs.Incidents.{Incident, all_befall}
 
 -- A client that shows the pass that it had at a moment: after this number of the incidents. It may show
 -- it at any time, and again.

@@ -2,8 +2,9 @@
 ghost use Rattle.std.specs.Prelude.{◌≡◌, ◌≢◌, ◌≤◌, ◌+◌, ◌*◌, ◌++◌, ℕ, List, length};
 ghost use Rattle.leases.specs.Again.{IsReachedAgain};
 ghost use Rattle.progress.specs.LostVotes.{ComesBack, GoesOn, HasLostVote, HasReturnedVote};
-ghost use Rattle.progress.specs.Overtaking.{IsKnownEverywhere, StillRuns, entries_of};
-ghost use Rattle.progress.specs.WayIn.{Asks, AsksAlone, GetsIn, HasGrants, IsFree, IsWayIn};
+ghost use Rattle.progress.specs.Overtaking.{IsKnownEverywhere, StillRuns};
+ghost use Rattle.world.specs.Visible.{entries_of};
+ghost use Rattle.world.specs.WayIn.{Asks, AsksAlone, GetsIn, HasGrants, IsFree, IsWayIn};
 ghost use Rattle.voter.specs.declared.state.Grant.{Grant};
 ghost use Rattle.world_state.specs.declared.step.Event.{Event};
 ghost use Rattle.world_state.specs.declared.step.Step.{Step};

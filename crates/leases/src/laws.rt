@@ -3,7 +3,7 @@ ghost use Rattle.std.specs.Prelude.{◌≡◌, ◌⊎◌, ℕ, List, Some};
 ghost use Rattle.std.specs.List.{AllByRecursion};
 ghost use Rattle.leases.specs.Comeback.{AllIdle, AreLawful, unseen};
 ghost use Rattle.leases.specs.Drained.{AsksNoMore, IsOut};
-ghost use Rattle.leases.specs.Incidents.{Incident, all_befall};
+ghost use Rattle.world.specs.Incidents.{Incident, all_befall};
 ghost use Rattle.leases.specs.Orderly.{AreOrderly};
 ghost use Rattle.fence.specs.Passes.{Admits};
 ghost use Rattle.leases.specs.Shows.{HasSeenOnly, IsCurrent, IsShown, story_of};

@@ -5,7 +5,7 @@
 //! time that nobody has to trust: a *lease*. Then two clients may believe that they are inside. What
 //! the lock protects keeps a guard ([`Fence`](fence::Fence)), and only what the guard admits counts.
 //!
-//! The laws are over every list of *incidents* (`specs/Incidents.antt`):
+//! The laws are over every list of *incidents* (`specs/Incidents.antt` of `world`):
 //!
 //! - the steps, losses, repeats, saves, crashes and restarts of `world`;
 //! - a voter takes a message that nobody sent. An *eviction* is one: the RELEASE of its current grant,

@@ -2,7 +2,7 @@
 ghost use Rattle.std.specs.Prelude.{◌≡◌, ℕ, List};
 ghost use Rattle.std.specs.List.{AllByRecursion};
 ghost use Rattle.leases.specs.Comeback.{AreLawful};
-ghost use Rattle.leases.specs.Incidents.{Incident, all_befall, befalls};
+ghost use Rattle.world.specs.Incidents.{Incident, all_befall, befalls};
 ghost use Rattle.leases.specs.NodeRuns.{EvictsNone, HasVoter, MayRun, Places, WasSent, given_out, incidents_of, saved_after, with_voter};
 ghost use Rattle.leases.specs.Orderly.{AreOrderly};
 ghost use Rattle.leases.specs.Services.{Along, Episode, IsLawfulEpisode, IsOrderlyEpisode, IsServed, LeavesVoters, MayFollow, all_serve, incidents_served};

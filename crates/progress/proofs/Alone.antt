@@ -13,7 +13,7 @@ use Rattle.requester.specs.declared.state.Phase.TheVariants.{Idle, Asking, Insid
 use Rattle.requester.specs.Words.{holds, is_asking, is_idle, is_inside, is_member, last_of, members}
 use Rattle.world_state.specs.declared.step.Step.{Step}
 use Rattle.world_state.specs.Steps.{Dealing, WorldState, client_at, voter_at}
-use Rattle.progress.specs.WayIn.{AsksAlone, HasGrants, IsWayIn}
+use Rattle.world.specs.WayIn.{AsksAlone, HasGrants, IsWayIn}
 use Rattle.progress.specs.Rules.{Laws}
 use Rattle.progress.proofs.Kept.{IsKept}
 use Rattle.progress.proofs.Ways.{Enters, Enters-after, Got, Here, Here-went, Leads, IsKnown, Went, Went-self, asks_again, enters_by, frees_up, gave_back, got_or, has_range}

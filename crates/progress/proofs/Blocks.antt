@@ -25,9 +25,10 @@ use Rattle.world_state.specs.declared.step.Step.TheVariants.{Deliver, RemindClie
 use Rattle.world.specs.Runs.{IsReached, run_of}
 use Rattle.world_state.specs.Steps.{Planned, WorldState, client_at, dealing_of, voter_at}
 use Rattle.world.proofs.Plans.{run_then}
-use Rattle.progress.specs.Rounds.{AreFairRounds, IsReminded, IsStill, block, late_body, late_in, late_message, late_step, late_steps, steps_of}
+use Rattle.progress.specs.Rounds.{AreFairRounds, IsReminded, IsStill, late_body, late_in, late_message, late_step, late_steps, steps_of}
 use Rattle.progress.specs.Rules.{Laws}
-use Rattle.progress.specs.WayIn.{Asks, HasGrants}
+use Rattle.world.specs.WayIn.{Asks, HasGrants}
+use Rattle.world.specs.Waiting.{block}
 use Rattle.progress.proofs.Steady.{GivenBack, GivenBack-lasting, HasMarked, HasVote, Marked, Marked-lasting, Never, Never-lasting, Told, Told-lasting}
 use Rattle.progress.proofs.Along.{Along, along-first, along-kept, along-last, along-or, along-split, along-weaker, next, reminded_at}
 use Rattle.progress.proofs.Arrivals.{get_after}

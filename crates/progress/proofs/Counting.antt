@@ -25,7 +25,8 @@ use Rattle.world_state.specs.declared.step.Step.{Step}
 use Rattle.world.specs.Coherence.{IsCoherent}
 use Rattle.world.specs.Runs.{after, run_of}
 use Rattle.world_state.specs.Steps.{Dealing, WorldState, client_at, events, step, voter_at}
-use Rattle.progress.specs.Overtaking.{IsKnownEverywhere, StillRuns, entries_of}
+use Rattle.progress.specs.Overtaking.{IsKnownEverywhere, StillRuns}
+use Rattle.world.specs.Visible.{entries_of}
 use Rattle.progress.proofs.Always.{Heeds, heeds}
 use Rattle.progress.proofs.Kept.{IsKept}
 use Rattle.progress.proofs.Behind.{Behind, Behind-first, Behind-moved, IsLater-moved, IsLater-self, IsLater-then, ask-Ok, meets, stamp_of, the_request}

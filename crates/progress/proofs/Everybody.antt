@@ -15,8 +15,8 @@ use Rattle.world_state.specs.declared.step.Step.{Step}
 use Rattle.world_state.specs.declared.step.Step.TheVariants.{Ask, Deliver, Leave, GiveUp, RemindClient, RemindVoter, Exchange}
 use Rattle.world.specs.Runs.{after, run_of}
 use Rattle.world_state.specs.Steps.{Dealing, WorldState, after_client, client_at, client_did, events, if_client, step, voter_at}
-use Rattle.progress.specs.Overtaking.{entries_of}
-use Rattle.progress.specs.WayIn.{Asks, GetsIn, HasGrants, Helps, IsFree, Serves}
+use Rattle.world.specs.Visible.{entries_of}
+use Rattle.world.specs.WayIn.{Asks, GetsIn, HasGrants, Helps, IsFree, Serves}
 use Rattle.progress.proofs.Counting.{entries_of-append, one_entered}
 use Rattle.progress.proofs.Led.{EntersBy}
 use Rattle.progress.specs.Rules.{Laws}

@@ -24,7 +24,7 @@ use Rattle.world_state.specs.Steps.{WorldState, client_at, voter_at}
 use Rattle.world.proofs.Exclusion.{held_under}
 use Rattle.progress.specs.Overtaking.{IsKnownEverywhere, StillRuns}
 use Rattle.progress.specs.Rules.{ClientLaws, Laws}
-use Rattle.progress.specs.WayIn.{HasGrants}
+use Rattle.world.specs.WayIn.{HasGrants}
 use Rattle.progress.proofs.Along.{Along, Reminded, next, spot_after, spot_before, spot_end, spot_through}
 use Rattle.progress.proofs.Always.{Heeds}
 use Rattle.progress.proofs.Arrivals.{client_takes, message_stays, replied, voter_takes}

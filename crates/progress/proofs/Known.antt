@@ -22,7 +22,7 @@ use Rattle.world_state.specs.declared.step.Step.{Step}
 use Rattle.world_state.specs.declared.step.Step.TheVariants.{Deliver, Leave, RemindClient}
 use Rattle.world.specs.Runs.{after, run_of}
 use Rattle.world_state.specs.Steps.{Dealing, WorldState, after_client, client_at, client_did, if_client, step, voter_at}
-use Rattle.world.proofs.Exclusion.{held_under}
+use Rattle.world.proofs.Exclusion.{held_under, inside_busy}
 use Rattle.progress.specs.Rounds.{IsReminded}
 use Rattle.progress.specs.Rules.{Laws}
 use Rattle.progress.proofs.Along.{Along, next, reminded_at, spot_before, spot_end, spot_in, spot_through, along-kept}
@@ -164,11 +164,6 @@ pub idle_by : (q : Phase) → is_asking q ≡ false → is_inside q ≡ false �
 idle_by Idle not outside = refl
 idle_by Asking not outside = absurd (false≢true (sym not))
 idle_by Inside not outside = absurd (false≢true (sym outside))
-
-pub inside_busy : (q : Phase) → is_inside q ≡ true → is_idle q ≡ false
-inside_busy Idle inside = absurd (false≢true inside)
-inside_busy Asking inside = refl
-inside_busy Inside inside = refl
 
 -- who does not ask is idle after the round
 pub idle_after : (laws : Laws) (p : Course) (w : WorldState) (round : List Step) (d : ℕ) → Along (Early p w) MovedBy p.deal round w

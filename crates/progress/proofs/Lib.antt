@@ -5,6 +5,7 @@ pub mod Always
 pub mod Arrivals
 pub mod Behind
 pub mod Blocks
+pub mod Bounds
 pub mod Counted
 pub mod Counting
 pub mod Counts

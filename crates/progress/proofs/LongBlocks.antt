@@ -20,9 +20,9 @@ use Rattle.world.specs.Runs.{run_of}
 use Rattle.world_state.specs.Steps.{Dealing, WorldState, client_at, voter_at}
 use Rattle.world.proofs.Plans.{run_then}
 use Rattle.progress.specs.Rounds.{AreFairRounds, late_in, late_step, late_steps, steps_of}
-use Rattle.progress.specs.Patience.{long_block}
 use Rattle.progress.specs.Rules.{Laws}
-use Rattle.progress.specs.WayIn.{Asks, HasGrants}
+use Rattle.world.specs.WayIn.{Asks, HasGrants}
+use Rattle.world.specs.Waiting.{long_block}
 use Rattle.progress.proofs.Ahead.{NotBehind}
 use Rattle.progress.proofs.Along.{Along, along-first, along-kept, along-last, along-split, along-weaker, next}
 use Rattle.progress.proofs.Arrivals.{get_after}

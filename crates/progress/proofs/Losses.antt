@@ -22,7 +22,7 @@ use Rattle.world.specs.Rules.{ClientLaws, VoterLaws}
 use Rattle.world.specs.Runs.{run_of}
 use Rattle.world.specs.SavedWorlds.{AreMixed, with_nodes}
 use Rattle.world_state.specs.Steps.{Adds, Dealing, Outcome, WorldState, client_at, events, step, voter_at}
-use Rattle.world.specs.Visible.{DealsFrom}
+use Rattle.world.specs.Visible.{DealsFrom, entries_of}
 use Rattle.world.proofs.Added.{Adds-step}
 use Rattle.world.proofs.Claims.{Bounds}
 use Rattle.world.proofs.EveryRun.{coherent_by, run_from}
@@ -32,10 +32,10 @@ use Rattle.world.proofs.Plans.{run_then}
 use Rattle.world.proofs.Reached.{Given, RunOk}
 use Rattle.world.proofs.Restarts.{Mix, MixBut, Mix-back, Mix-restarted, Mix-saved, Mix-with, SavedOk, begin_ok, happens_ok, live_ok, nothing_more, silent_parts, within_or}
 use Rattle.progress.specs.AfterLosses.{AskedSince, IsHeard, IsReachedAfterLosses}
-use Rattle.progress.specs.Overtaking.{entries_of}
-use Rattle.progress.specs.Rounds.{AreFairRounds, DoesNotGiveUp, block, give_ups_in, late_in, steps_of}
+use Rattle.progress.specs.Rounds.{AreFairRounds, DoesNotGiveUp, give_ups_in, late_in, steps_of}
 use Rattle.progress.specs.Rules.{Laws}
-use Rattle.progress.specs.WayIn.{Asks, HasGrants}
+use Rattle.world.specs.WayIn.{Asks, HasGrants}
+use Rattle.world.specs.Waiting.{block}
 use Rattle.progress.proofs.Always.{HasSeen, Heeds, Seen-voter}
 use Rattle.progress.proofs.Behind.{IsLater-moved, is_current_of}
 use Rattle.progress.proofs.Fitting.{current_stamp}

@@ -22,7 +22,7 @@ use Rattle.world.proofs.Added.{Adds-step}
 use Rattle.world.proofs.Plans.{run_then}
 use Rattle.progress.specs.Rounds.{IsAnswered, IsFairRound, IsReminded, IsTimely, give_up, give_ups_in, late_body, late_message, late_step, late_steps, steps_of}
 use Rattle.progress.specs.Rules.{Laws, VoterLaws}
-use Rattle.progress.specs.WayIn.{HasGrants, Serves}
+use Rattle.world.specs.WayIn.{HasGrants, Serves}
 use Rattle.progress.proofs.Along.{next}
 use Rattle.progress.proofs.Known.{within_by}
 use Rattle.progress.proofs.Longer.{IsAnswered-more, IsReminded-more, contains_here, contains_next}

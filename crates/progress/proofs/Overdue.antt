@@ -33,7 +33,8 @@ use Rattle.progress.proofs.Arrivals.{answered, client_takes, message_stays, remi
 use Rattle.progress.proofs.Behind.{the_request}
 use Rattle.progress.proofs.Hindering.{held_grant}
 use Rattle.progress.proofs.Inquiries.{ends_up_to}
-use Rattle.progress.proofs.Known.{entry_kept, idle_by, inside_busy, known_after, left_idle, within_by}
+use Rattle.world.proofs.Exclusion.{inside_busy}
+use Rattle.progress.proofs.Known.{entry_kept, idle_by, known_after, left_idle, within_by}
 use Rattle.progress.proofs.Leftover.{release_to}
 use Rattle.progress.proofs.Moves.{Moved-by, MovedBy}
 use Rattle.progress.proofs.Steady.{AskedFor, GivenBack, GivenBack-lasting, HasMarked, HasVote, IsOf, Seeks, Steady, With, asked, fate_goes, held_exists, locked_to, mark_goes, not_given_back, not_marked, steady_ok, told, voter_below, voter_within}

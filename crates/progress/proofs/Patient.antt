@@ -14,11 +14,12 @@ use Rattle.world_state.specs.declared.step.Step.{Step}
 use Rattle.world.specs.Runs.{IsReached, run_of}
 use Rattle.world_state.specs.Steps.{Dealing, Planned, WorldState, client_at, dealing_of}
 use Rattle.world.proofs.Plans.{run_then}
-use Rattle.progress.specs.Overtaking.{entries_of}
-use Rattle.progress.specs.Patience.{ArePatient, long_block}
+use Rattle.world.specs.Visible.{entries_of}
+use Rattle.progress.specs.Patience.{ArePatient}
 use Rattle.progress.specs.Rounds.{AreFairRounds, DoesNotGiveUp, late_in, steps_of}
 use Rattle.progress.specs.Rules.{Laws}
-use Rattle.progress.specs.WayIn.{Asks, HasGrants}
+use Rattle.world.specs.WayIn.{Asks, HasGrants}
+use Rattle.world.specs.Waiting.{long_block}
 use Rattle.progress.proofs.Along.{next}
 use Rattle.progress.proofs.Always.{Heeds, heeds}
 use Rattle.progress.proofs.Behind.{stamp_of}

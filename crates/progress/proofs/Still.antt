@@ -26,7 +26,7 @@ use Rattle.world.specs.Runs.{run_of}
 use Rattle.world_state.specs.Steps.{WorldState, client_at, voter_at}
 use Rattle.progress.specs.Rounds.{IsStill}
 use Rattle.progress.specs.Rules.{Laws}
-use Rattle.progress.specs.WayIn.{HasGrants}
+use Rattle.world.specs.WayIn.{HasGrants}
 use Rattle.progress.proofs.Along.{Along, next}
 use Rattle.progress.proofs.Always.{granted_rises}
 use Rattle.progress.proofs.Behind.{ask-Ok, meets}

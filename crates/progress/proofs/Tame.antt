@@ -22,11 +22,12 @@ use Rattle.world_state.specs.declared.step.Step.TheVariants.{Leave}
 use Rattle.world.specs.Runs.{run_of}
 use Rattle.world_state.specs.Steps.{Dealing, WorldState, client_at, voter_at}
 use Rattle.progress.specs.Rules.{Laws}
-use Rattle.progress.specs.WayIn.{HasGrants}
+use Rattle.world.specs.WayIn.{HasGrants}
 use Rattle.progress.proofs.Along.{Along, along-first, along-kept, next, spot_end, spot_in, spot_through}
 use Rattle.progress.proofs.Behind.{ask-Ok}
 use Rattle.progress.proofs.Fitting.{take-Ok}
-use Rattle.progress.proofs.Known.{idle_by, inside_busy, left_idle, within_by}
+use Rattle.world.proofs.Exclusion.{inside_busy}
+use Rattle.progress.proofs.Known.{idle_by, left_idle, within_by}
 use Rattle.progress.proofs.Longer.{Grows, Grows-moved}
 use Rattle.progress.proofs.Moves.{ClientMoved, IsReminder, Moved, Moved-by, MovedBy, MovedBy-step, all_sent}
 use Rattle.progress.proofs.Outstanding.{step-GivesUp, step-Leaves}

@@ -17,7 +17,7 @@ use Rattle.requester.specs.Steps as requester
 use Rattle.requester.specs.Words.{holds, is_asking, is_current, is_member, last_of, members}
 use Rattle.world_state.specs.declared.step.Step.{Step}
 use Rattle.world_state.specs.Steps.{Dealing, WorldState, client_at, voter_at}
-use Rattle.progress.specs.WayIn.{Asks, HasGrants, IsFree, IsWayIn}
+use Rattle.world.specs.WayIn.{Asks, HasGrants, IsFree, IsWayIn}
 use Rattle.progress.proofs.Fitting.{current_stamp}
 use Rattle.progress.proofs.Counts.{CanGive, none, one_each, only, only_else, only_here, only_sum, only_zero}
 use Rattle.progress.proofs.Hindering.{all_hold, has_rest, returns}

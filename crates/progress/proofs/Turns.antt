@@ -23,7 +23,7 @@ use Rattle.world_state.specs.declared.step.Step.TheVariants.{Ask, Deliver, Leave
 use Rattle.world.specs.Coherence.{IsCoherent}
 use Rattle.world.specs.Runs.{run_of}
 use Rattle.world_state.specs.Steps.{Dealing, WorldState, client_at, events}
-use Rattle.progress.specs.Overtaking.{entries_of}
+use Rattle.world.specs.Visible.{entries_of}
 use Rattle.progress.specs.Rounds.{DoesNotGiveUp, give_up, give_ups_in}
 use Rattle.progress.specs.Rules.{Laws}
 use Rattle.progress.proofs.Along.{next}

@@ -23,10 +23,12 @@ use Rattle.world_state.specs.declared.step.Step.TheVariants.{Ask, Deliver, Leave
 use Rattle.world.specs.Runs.{IsReached, run_of}
 use Rattle.world_state.specs.Steps.{Dealing, Planned, WorldState, client_at, dealing_of, voter_at}
 use Rattle.world.proofs.Plans.{run_then}
-use Rattle.progress.specs.Overtaking.{IsKnownEverywhere, StillRuns, entries_of}
-use Rattle.progress.specs.Rounds.{AreFairRounds, DoesNotGiveUp, IsFairRound, IsStill, block, give_ups_in, late_body, late_in, late_message, late_step, late_steps, steps_of}
+use Rattle.progress.specs.Overtaking.{IsKnownEverywhere, StillRuns}
+use Rattle.world.specs.Visible.{entries_of}
+use Rattle.progress.specs.Rounds.{AreFairRounds, DoesNotGiveUp, IsFairRound, IsStill, give_ups_in, late_body, late_in, late_message, late_step, late_steps, steps_of}
 use Rattle.progress.specs.Rules.{Laws}
-use Rattle.progress.specs.WayIn.{Asks, HasGrants}
+use Rattle.world.specs.WayIn.{Asks, HasGrants}
+use Rattle.world.specs.Waiting.{block}
 use Rattle.progress.proofs.Along.{Along, along-last, next}
 use Rattle.progress.proofs.Always.{Heeds, heeds}
 use Rattle.progress.proofs.Blocks.{block_moves}

@@ -33,7 +33,7 @@ use Rattle.world_state.specs.declared.step.Step.TheVariants.{Ask, Deliver, Leave
 use Rattle.world.specs.Runs.{after, run_of}
 use Rattle.world_state.specs.Steps.{Dealing, WorldState, client_at, client_did, events, step, voter_at, voter_did}
 use Rattle.progress.specs.LostVotes.{ComesBack, HasLostVote, reminder_and_two}
-use Rattle.progress.specs.WayIn.{Helps, IsWayIn}
+use Rattle.world.specs.WayIn.{Helps, IsWayIn}
 use Rattle.progress.proofs.Exchanges.{after-answer, after-deliver_client, after-release, after-remind_voter, after-said, answer, answered, get_next, reminded, not_held, spoken}
 use Rattle.progress.proofs.Behind.{grant_moves, the_request}
 use Rattle.progress.proofs.Fitting.{current_busy, current_stamp}

@@ -4,4 +4,3 @@ pub mod Overtaking
 pub mod Patience
 pub mod Rounds
 pub mod Rules
-pub mod WayIn

@@ -1,10 +1,7 @@
--- Who overtakes whom: requests that every voter of their quorum knows, and how often other clients
--- enter while they run.
-use Rattle.std.specs.Prelude.{ℕ, ◌≡◌, ◌==◌, ◌&&◌, true, false, List}
-use Rattle.std.specs.List.{count_by}
+-- Who overtakes whom: requests that every voter of their quorum knows.
+use Rattle.std.specs.Prelude.{ℕ, ◌≡◌, true, false}
 use Rattle.voter.specs.VoterContract.{IsEntry}
 use Rattle.requester.specs.Words.{is_idle, is_member}
-use Rattle.world_state.specs.declared.step.Event.{Event}
 use Rattle.world_state.specs.Steps.{WorldState, client_at, voter_at}
 
 -- The client's request runs, and every voter of its quorum knows it: there it has the vote or waits.
@@ -18,7 +15,3 @@ pub record IsKnownEverywhere (w : WorldState) (c : ℕ) : Type 0 where
 pub record StillRuns (w u : WorldState) (c : ℕ) : Type 0 where
   pub runs : is_idle (client_at u.clients c).phase ≡ false
   pub same : (client_at u.clients c).stamp ≡ (client_at w.clients c).stamp
-
--- how often this client enters
-abbrev pub entries_of : ℕ → List Event → ℕ
-entries_of c es = count_by (λ e. (e.client == c) && e.entered) es

@@ -1,5 +1,5 @@
 -- Patience: whoever gives up has waited for two whole rounds before.
-use Rattle.std.specs.Prelude.{◌≡◌, ℕ, ◌+◌, true, List, [], ◌∷◌}
+use Rattle.std.specs.Prelude.{◌≡◌, ℕ, true, List, [], ◌∷◌}
 use Rattle.requester.specs.Words.{is_asking}
 use Rattle.world_state.specs.declared.step.Step.{Step}
 use Rattle.world_state.specs.declared.step.Step.TheVariants.{Ask, Deliver, Leave, GiveUp, RemindClient, RemindVoter, Exchange}
@@ -33,8 +33,3 @@ ArePatientFrom deal u v w (r ∷ rs) = HaveWaited deal u w r × ArePatientFrom d
 -- be given up at any time.
 abbrev pub ArePatient : Dealing → WorldState → List (List Step) → Type 0
 ArePatient deal w rounds = ArePatientFrom deal w w w rounds
-
--- The rounds of one block, for n clients. In as many, without a late REQUEST, some request begins or ends that
--- is not later than a given one which runs.
-abbrev pub long_block : ℕ → ℕ
-long_block n = n + 8

@@ -83,10 +83,6 @@ pub record IsStill (w u : WorldState) : Type 0 where
   pub stamps : (c : ℕ) → (client_at u.clients c).stamp ≡ (client_at w.clients c).stamp
   pub asks : (c : ℕ) → is_asking (client_at w.clients c).phase ≡ true → is_asking (client_at u.clients c).phase ≡ true
 
--- the rounds of one block, for n clients: nothing stands still for as long
-abbrev pub block : ℕ → ℕ
-block n = n + 5
-
 -- 1 if the step is a withdrawal, else 0
 abbrev pub give_up : Step → ℕ
 give_up (Ask c) = 0

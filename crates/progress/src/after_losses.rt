@@ -1,12 +1,13 @@
 //! Laws on fair rounds after losses of saved states.
 ghost use Rattle.std.specs.Prelude.{◌≡◌, ◌≤◌, ◌+◌, ◌*◌, ◌++◌, ℕ, List, length};
 ghost use Rattle.progress.specs.AfterLosses.{AskedSince, IsHeard, IsReachedAfterLosses};
-ghost use Rattle.progress.specs.Overtaking.{entries_of};
-ghost use Rattle.progress.specs.Rounds.{AreFairRounds, DoesNotGiveUp, block, give_ups_in, late_in, steps_of};
-ghost use Rattle.progress.specs.WayIn.{Asks, HasGrants};
+ghost use Rattle.world.specs.Visible.{entries_of};
+ghost use Rattle.progress.specs.Rounds.{AreFairRounds, DoesNotGiveUp, give_ups_in, late_in, steps_of};
+ghost use Rattle.world.specs.WayIn.{Asks, HasGrants};
 ghost use Rattle.world_state.specs.declared.step.Event.{Event};
 ghost use Rattle.world_state.specs.declared.step.Step.{Step};
 ghost use Rattle.world.specs.Runs.{run_of};
+ghost use Rattle.world.specs.Waiting.{block};
 ghost use Rattle.world_state.specs.Steps.{Dealing, WorldState};
 
 use crate::laws::worlds_keep_their_rules;

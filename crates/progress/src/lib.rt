@@ -25,6 +25,8 @@
 //! - **Patience** ([`patient_rounds_let_everybody_in`]): a client that asks, and does not give up, enters
 //!   within (n + 8) * (3 n + l) fair rounds, however many others give up, if each request that is made in
 //!   these rounds runs for two whole rounds before it is given up.
+//! - **The numbers that `qlock-show waiting` shows are enough** ([`rounds_are_enough`],
+//!   [`patient_rounds_are_enough`]): these are the two bounds without late REQUESTs.
 //! - **Fair rounds need not be neighbours** ([`rounds_may_be_longer`]): steps before a fair round and after
 //!   it may be counted to it. Any number can be made in every world, in which no REQUEST is late and
 //!   nobody gives up ([`fair_rounds_can_be_made`]).
@@ -63,6 +65,7 @@ pub use after_losses::{
 pub use laws::{
     everybody_can_enter, fair_rounds_can_be_made, fair_rounds_let_everybody_in,
     fair_rounds_let_somebody_in, fair_rounds_move_somebody, lost_votes_come_back,
-    nobody_overtakes_often, patient_rounds_let_everybody_in, returned_votes_go_on,
-    rounds_may_be_longer, somebody_can_enter, who_asks_alone_gets_in, worlds_keep_their_rules,
+    nobody_overtakes_often, patient_rounds_are_enough, patient_rounds_let_everybody_in,
+    returned_votes_go_on, rounds_are_enough, rounds_may_be_longer, somebody_can_enter,
+    who_asks_alone_gets_in, worlds_keep_their_rules,
 };

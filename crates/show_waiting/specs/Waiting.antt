@@ -1,18 +1,8 @@
 -- How long a client waits at most, in fair rounds, and the page about it.
-use Rattle.std.specs.Prelude.{ℕ, ◌≤◌, ◌+◌, ◌*◌, ◌-◌, min, List, [], ◌∷◌, ◌++◌, Option, None, Some, IfSome, codes, decimal, slice_index_or, unwrap_or}
+use Rattle.std.specs.Prelude.{ℕ, ◌≤◌, ◌*◌, ◌-◌, min, List, [], ◌∷◌, ◌++◌, Option, None, Some, IfSome, codes, decimal, slice_index_or, unwrap_or}
 use Rattle.numbers.specs.Bounds.{max_clients}
-use Rattle.progress.specs.Patience.{long_block}
-use Rattle.progress.specs.Rounds.{block}
+use Rattle.world.specs.Waiting.{bound, patient_bound}
 use Rattle.show_waiting.specs.declared.waiting.Waiting.{Waiting}
-
--- After so many fair rounds a client that asks has entered: n clients, g withdrawals of others, and no
--- REQUEST comes late.
-abbrev pub bound : ℕ → ℕ → ℕ
-bound n g = block n * (5 * n + 2 * g)
-
--- The same if each request runs for two whole rounds before it is given up, however many are.
-abbrev pub patient_bound : ℕ → ℕ
-patient_bound n = long_block n * (3 * n)
 
 -- the longest waits in tests without withdrawals and late REQUESTs, in fair rounds, of 1 client, of 2,
 -- and so on

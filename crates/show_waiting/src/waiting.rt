@@ -1,7 +1,8 @@
 //! The page of how long a client waits at most.
 ghost use Rattle.std.specs.Prelude.{◌≡◌, ◌≤◌, ◌++◌, ◌*◌, IfOk, OnOk, string_bytes, unwrap_or};
 ghost use Rattle.numbers.specs.Bounds.{max_clients};
-ghost use Rattle.show_waiting.specs.Waiting.{IsInRange, bound, head_text, longest_wait, patience_text, patient_bound, rounds_of, rounds_text, seconds_text, tested, waiting_text, withdrawals_of};
+ghost use Rattle.show_waiting.specs.Waiting.{IsInRange, head_text, longest_wait, patience_text, rounds_of, rounds_text, seconds_text, tested, waiting_text, withdrawals_of};
+ghost use Rattle.world.specs.Waiting.{bound, patient_bound};
 
 use std::alloc::{AllocError, Global};
 

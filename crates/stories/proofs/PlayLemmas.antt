@@ -2,7 +2,7 @@
 use Rattle.std.proofs.Common.{◌≡◌, ℕ, suc, ◌+◌, ◌<◌, ◌≤◌, Bool, true, false, List, [], ◌∷◌, ◌++◌, length, drop, get_or, take, Option, Some, None, Result, Err, refl, sym, ap, ap₂, ◌∙◌, inl, inr, arith}
 use Rattle.std.specs.Prelude.{◌&&◌, nat_lt, slice_get, slice_set}
 use Rattle.std.specs.List.{list_all}
-use Rattle.std.proofs.lemmas.Bool.{cases_lt}
+use Rattle.std.proofs.lemmas.Bool.{and_parts, cases_lt}
 use Rattle.std.proofs.lemmas.Bool.Decides.{nat_tests}
 use Rattle.std.proofs.lemmas.List.{append_assoc, get_or_past}
 use Rattle.std.proofs.Math.Seq.{drop-cons}
@@ -20,8 +20,7 @@ use Rattle.world_state.specs.declared.fault.WorldFault.TheVariants.{NoSuchClient
 use Rattle.world.specs.Restarts.{Node, OneClient, OneVoter, Nobody, Saved, come_back, if_there, pass_of, save_and_send}
 use Rattle.world.specs.SavedWorlds.{PlannedSaved}
 use Rattle.world_state.specs.Steps.{Outcome, client_at, if_client, if_voter, vote, voter_at}
-use Rattle.leases.specs.Incidents.{Hears, hear, is_message}
-use Rattle.passes.proofs.Requests.{both}
+use Rattle.world.specs.Incidents.{Hears, hear, is_message}
 use Rattle.incidents.specs.Calls.{KeepsGrant, RefusesClient, befalls_by, grant_at, letting_go}
 use Rattle.stories.specs.declared.happening.Happening.{Happening}
 use Rattle.stories.specs.declared.happening.Happening.TheVariants as happenings
@@ -148,7 +147,7 @@ play_calm s t = note_calm (noted s t) (record (count_turn s t) { world = turned 
 pub calm_on : (turns : List Turn) (i : ℕ) (d t : Turn) (s : Scene) → i < length turns → get_or turns i d ≡ t → (list_all is_calm (take i turns) ≡ true → s.calm ≡ true)
     → list_all is_calm (take (i + 1) turns) ≡ true → (play s t).calm ≡ true
 calm_on turns i d t s within here before all =
-    let parts = both (list_all is_calm (take i turns)) (is_calm (get_or turns i d)) (sym (list_all_more is_calm turns i d within) ∙ all) in
+    let parts = and_parts (list_all is_calm (take i turns)) (is_calm (get_or turns i d)) (sym (list_all_more is_calm turns i d within) ∙ all) in
     play_calm s t ∙ ap₂ (λ (p q : Bool). p && q) (ap (λ (u : Turn). is_calm u) (sym here) ∙ parts.1) (before parts.0)
 
 -- ---- a client that is not there crashes

@@ -13,7 +13,7 @@ use Rattle.world.specs.Restarts.{Goes, Node, OneClient, OneVoter, Nobody, Restar
 use Rattle.world_state.specs.Steps.{is_silent}
 use Rattle.world.specs.SavedWorlds.{PlannedSaved, begin_by, live_step_of}
 use Rattle.world_state.specs.Steps.{Outcome, WorldState, client_at, vote, voter_at}
-use Rattle.leases.specs.Incidents.{Incident, Happens, Hears, IsReborn, StartsAnew}
+use Rattle.world.specs.Incidents.{Incident, Happens, Hears, IsReborn, StartsAnew}
 use Rattle.incidents.specs.Calls.{befalls_by, grant_at, letting_go}
 use Rattle.stories.specs.declared.happening.Happening.{Happening}
 use Rattle.stories.specs.declared.happening.Happening.TheVariants.{Refused, Done, Crashed, Evicted, NoGrant, Reborn, Anew, NoPass}

@@ -8,7 +8,7 @@ use Rattle.std.proofs.lemmas.List.{get_or_past}
 use Rattle.requester.specs.declared.state.ClientState.{ClientState}
 use Rattle.requester.specs.Steps.{start}
 use Rattle.requester.specs.Words.{is_asking, is_inside}
-use Rattle.progress.specs.WayIn.{IsFree}
+use Rattle.world.specs.WayIn.{IsFree}
 use Rattle.message.specs.declared.request.Request.{Request}
 use Rattle.message.specs.Requests.{precedes}
 use Rattle.voter.proofs.Front.{precedes-trans}

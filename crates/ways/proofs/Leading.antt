@@ -3,7 +3,7 @@ use Rattle.std.proofs.Common.{ℕ, ◌≡◌, List, [], ◌∷◌, ◌++◌, len
 use Rattle.std.proofs.lemmas.List.{append-nil}
 use Rattle.numbers.proofs.Lists.{AllByRecursion-append}
 use Rattle.requester.specs.declared.state.Seen.TheVariants.{Nothing, Entered, Left}
-use Rattle.progress.specs.WayIn.{Helps}
+use Rattle.world.specs.WayIn.{Helps}
 use Rattle.world_state.specs.declared.step.Event.{Event}
 use Rattle.world_state.specs.declared.step.Step.{Step}
 use Rattle.world_state.specs.declared.step.Stepped.{Stepped}

@@ -11,7 +11,7 @@ use Rattle.requester.specs.declared.state.ClientState.{ClientState}
 use Rattle.requester.specs.declared.state.Seen.TheVariants.{Nothing, Entered, Left}
 use Rattle.requester.specs.Steps as client
 use Rattle.requester.specs.Steps.{enter_if, relinquish, relinquish_each, relinquish_if, take, take_body, take_fail, take_fail_by, take_inquire, take_inquire_by, take_locked, take_locked_by}
-use Rattle.progress.specs.WayIn.{Helps}
+use Rattle.world.specs.WayIn.{Helps}
 use Rattle.world_state.specs.declared.step.Event.{Event}
 use Rattle.world_state.specs.declared.step.Step.{Step}
 use Rattle.world_state.specs.declared.step.Step.TheVariants.{Ask, Deliver, Leave, GiveUp, RemindClient, RemindVoter, Exchange}

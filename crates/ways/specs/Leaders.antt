@@ -3,7 +3,7 @@ use Rattle.std.specs.Prelude.{ℕ, ◌≡◌, ◌≢◌, ◌<◌, Bool, true, fa
 use Rattle.message.specs.declared.request.Request.{Request}
 use Rattle.message.specs.Requests.{precedes}
 use Rattle.requester.specs.Words.{is_asking, is_inside}
-use Rattle.progress.specs.WayIn.{Asks}
+use Rattle.world.specs.WayIn.{Asks}
 use Rattle.world_state.specs.Steps.{WorldState, client_at}
 
 -- the request that a client of the world runs, or ran last

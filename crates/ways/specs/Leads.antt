@@ -1,7 +1,7 @@
 -- Steps that lead from a world to a later one, and help its clients.
 use Rattle.std.specs.Prelude.{ℕ, ◌≡◌, List, Result, Ok, Err, length}
 use Rattle.std.specs.List.{AllByRecursion}
-use Rattle.progress.specs.WayIn.{Helps, IsWayIn}
+use Rattle.world.specs.WayIn.{Helps, IsWayIn}
 use Rattle.world_state.specs.declared.step.Step.{Step}
 use Rattle.world.specs.Runs.{run_of}
 use Rattle.world_state.specs.Steps.{Planned, dealing_of}

@@ -15,7 +15,7 @@
 //! If it returns none, or memory runs out, such steps led to the new world too, and nobody entered or
 //! left. If somebody is inside, or nobody asks, it makes no step. That a way is found is only tested.
 //!
-//! Depends on `world`, `world_state`, `progress`, `voter`, `requester` and `message`.
+//! Depends on `world`, `world_state`, `voter`, `requester` and `message`.
 #![tactic(auto)]
 
 mod make;

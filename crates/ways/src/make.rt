@@ -1,7 +1,7 @@
 //! Steps that help, one after the other.
 ghost use Rattle.std.specs.Prelude.{◌≡◌, ◌≢◌, ◌<◌, ◌≤◌, ◌++◌, ℕ, List, length};
 ghost use Rattle.requester.specs.declared.state.Seen.TheVariants.{Nothing, Entered, Left};
-ghost use Rattle.progress.specs.WayIn.{Helps};
+ghost use Rattle.world.specs.WayIn.{Helps};
 ghost use Rattle.world_state.specs.declared.step.Event.{Event};
 ghost use Rattle.world_state.specs.Steps.{events};
 ghost use Rattle.ways.specs.declared.make.Went.TheVariants.{On, In};

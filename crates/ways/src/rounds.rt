@@ -1,7 +1,7 @@
 //! Rounds of reminders.
 ghost use Rattle.std.specs.Prelude.{◌≡◌, ◌+◌, Ok, None, IfErr, IfNone, IfOk, IfSome, MatchBool, MatchOption};
 ghost use Rattle.requester.specs.Words.{is_asking, is_inside};
-ghost use Rattle.progress.specs.WayIn.{IsFree};
+ghost use Rattle.world.specs.WayIn.{IsFree};
 ghost use Rattle.world_state.specs.Steps.{client_at};
 ghost use Rattle.ways.specs.Leaders.{IsBusy, IsLeader, LeadsBelow, NobodyAsks, is_earlier, request_of};
 ghost use Rattle.ways.specs.Leads.{AreLedOn, LeadFurther, LeadsIn, went_of};

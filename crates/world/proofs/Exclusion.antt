@@ -1,5 +1,5 @@
 -- what is seen of clients that step one at a time
-use Rattle.std.proofs.Common.{◌≡◌, ℕ, ◌<◌, Bool, true, false, cond, List, [], ◌∷◌, ◌++◌, length, Option, Some, None, refl, sym, ap, subst, ◌∙◌, inl, inr, arith, eqb}
+use Rattle.std.proofs.Common.{◌≡◌, ℕ, ◌<◌, ◌≤◌, Bool, true, false, cond, List, [], ◌∷◌, ◌++◌, length, Option, Some, None, refl, sym, ap, subst, ◌∙◌, inl, inr, arith, eqb}
 use Rattle.std.specs.Prelude.{◌||◌}
 use Rattle.std.specs.List.{list_all}
 use Rattle.std.proofs.lemmas.Bool.{false≢true}
@@ -24,7 +24,7 @@ use Rattle.world.proofs.Claims.{Bounds, ClientOk, Names, WorldOk, put, put-each,
 
 -- ---- nobody is inside together with another
 
-list_all-holds : (x : ClientState) (q : List ℕ) (v : ℕ) → list_all (holds x) q ≡ true → has q v ≡ true → holds x v ≡ true
+pub list_all-holds : (x : ClientState) (q : List ℕ) (v : ℕ) → list_all (holds x) q ≡ true → has q v ≡ true → holds x v ≡ true
 list_all-holds x [] v all is = absurd (false≢true is)
 list_all-holds x (u ∷ us) v all is = elim (eqb u v) as (λ b. eqb u v ≡ b → (b || has us v) ≡ true → holds x v ≡ true) [
   | true ↦ λ e _. let same : u ≡ v = grind (arith, nat_tests) in subst (λ n. holds x n ≡ true) same (grind (arith, nat_tests))
@@ -34,10 +34,13 @@ list_all-holds x (u ∷ us) v all is = elim (eqb u v) as (λ b. eqb u v ≡ b �
 pub held_under : (x : ClientState) (v : ℕ) → holds x v ≡ true → holds_under x v (held_of x v) ≡ true
 held_under x v is = grind (arith, nat_tests)
 
-is_idle-inside : (p : Phase) → is_inside p ≡ true → is_idle p ≡ false
-is_idle-inside Idle e = absurd (false≢true e)
-is_idle-inside Asking e = refl
-is_idle-inside Inside e = refl
+pub under_grant : (x : ClientState) (v : ℕ) → 1 ≤ held_of x v → holds_under x v (held_of x v) ≡ true
+under_grant x v some = grind (arith, nat_tests)
+
+pub inside_busy : (p : Phase) → is_inside p ≡ true → is_idle p ≡ false
+inside_busy Idle e = absurd (false≢true e)
+inside_busy Asking e = refl
+inside_busy Inside e = refl
 
 pub quorum_busy : (b : Bounds) (x : ClientState) → ClientOk b x → is_idle x.phase ≡ false → IsAmong b.quorums (members x)
 quorum_busy b x ok busy = elim ok.quorum [
@@ -49,8 +52,8 @@ quorum_busy b x ok busy = elim ok.quorum [
 pub common_vote : (b : Bounds) → DoMeet b.voters b.quorums → (x y : ClientState) → ClientOk b x → ClientOk b y → is_inside x.phase ≡ true → is_inside y.phase ≡ true
     → (v : ℕ) × (v < b.voters) × (holds x v ≡ true) × (holds y v ≡ true)
 common_vote b meet x y ok_x ok_y in_x in_y =
-    let j = quorum_busy b x ok_x (is_idle-inside x.phase in_x) in
-    let k = quorum_busy b y ok_y (is_idle-inside y.phase in_y) in
+    let j = quorum_busy b x ok_x (inside_busy x.phase in_x) in
+    let k = quorum_busy b y ok_y (inside_busy y.phase in_y) in
     let both = meet.meets j.0 k.0 j.1 k.1 in
     let v = both.0 in (
       v,

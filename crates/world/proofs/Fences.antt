@@ -4,7 +4,6 @@ use Rattle.std.proofs.Common.{◌≡◌, ℕ, ◌<◌, ◌≤◌, Bool, true, fa
 use Rattle.std.specs.Prelude.{is_some, length, nat_lt, slice_get, slice_set}
 use Rattle.std.proofs.lemmas.Bool.Decides.{nat_tests}
 use Rattle.std.proofs.lemmas.Option.{none-some, same_Some}
-use Rattle.std.proofs.lemmas.List.{set_past}
 use Rattle.message.specs.declared.message.ToVoter.{ToVoter}
 use Rattle.message.specs.declared.message.Message.{Message}
 use Rattle.message.specs.declared.message.Message.TheVariants as kinds
@@ -30,16 +29,13 @@ use Rattle.world_state.specs.Steps.{Dealing, Outcome, WorldState, act, after_cli
 use Rattle.world_state.specs.Steps.{if_voter, step, voter_at}
 use Rattle.world.specs.Visible.{DealsFrom, DoMeet}
 use Rattle.world.specs.Rules.{ClientLaws, VoterLaws}
-use Rattle.world.proofs.Claims.{Bounds, Names, put-each}
+use Rattle.world.proofs.Claims.{Bounds, Names}
 use Rattle.world.proofs.Exclusion.{common_vote, held_under}
-use Rattle.world.proofs.Places.{voter_at-set}
+use Rattle.world.proofs.Places.{EachVoter, set_voter}
 use Rattle.world.proofs.Reached.{Given, start_unused}
-use Rattle.world.proofs.Restarts.{SavedOk, all_ok, begin_ok, happens_ok, live_ok, within_or}
+use Rattle.world.proofs.Restarts.{SavedOk, all_ok, begin_ok, happens_ok, live_ok}
 
 -- ---- a property of each voter, by its number
-
-abbrev EachVoter : (ℕ → VoterState → Type 0) → List VoterState → Type 0
-EachVoter P voters = (v : ℕ) → P v (voter_at voters v)
 
 -- of each voter as it is, and as it is saved
 abbrev EachSaved : (ℕ → VoterState → Type 0) → Saved → Type 0
@@ -49,12 +45,6 @@ EachSaved P s = EachVoter P s.live.voters × EachVoter P s.voters
 record Lasts (P : ℕ → VoterState → Type 0) : Type 0 where
   steps : (v : ℕ) (y : VoterState) (m : ToVoter) (o : voter.Outcome) → voter.IsSound y → voter.step y m ≡ Some o → P v y → P v o.state
   least : (v : ℕ) (y : VoterState) → P v y → P v (least_voter y)
-
-set_at : (P : ℕ → VoterState → Type 0) (voters : List VoterState) (v : ℕ) (y : VoterState) → P v y → EachVoter P voters → EachVoter P (slice_set voters v y)
-set_at P voters v y here all = elim (within_or voters v) [
-  | inl within ↦ λ q. subst (λ (f : ℕ → VoterState). P q (f q)) (sym (voter_at-set voters v y within)) (put-each P (voter_at voters) v y here all q)
-  | inr past ↦ subst (λ (l : List VoterState). EachVoter P l) (sym (set_past voters v y past)) all
-]
 
 -- ---- steps of the world
 
@@ -72,7 +62,7 @@ client_drew P Second w c r all = client_moved P (draw_of Second w c) c r all
 
 voter_moved : (P : ℕ → VoterState → Type 0) → Lasts P → (w : WorldState) (m : ToVoter) (r : Option voter.Outcome) → voter.step (voter_at w.voters m.voter) m ≡ r
     → voter.IsSound (voter_at w.voters m.voter) → EachVoter P w.voters → Moved P (after_voter w m.voter r)
-voter_moved P lasts w m (Some o) is sound all = set_at P w.voters m.voter o.state (lasts.steps m.voter (voter_at w.voters m.voter) m o sound is (all m.voter)) all
+voter_moved P lasts w m (Some o) is sound all = set_voter P w.voters m.voter o.state (lasts.steps m.voter (voter_at w.voters m.voter) m o sound is (all m.voter)) all
 voter_moved P lasts w m None is sound all = tt
 
 moved_if : (P : ℕ → VoterState → Type 0) (t : Bool) (c : ℕ) (next : Result Outcome WorldFault) → Moved P next → Moved P (if_client t c next)
@@ -109,12 +99,12 @@ moved P lasts deal w sound Exchange all = exchanged P w (is_some deal.second) w.
 saves : (P : ℕ → VoterState → Type 0) (who : Node) (s : Saved) → EachSaved P s → EachSaved P (save who s)
 saves P Nobody s each = each
 saves P (OneClient c) s each = each
-saves P (OneVoter v) s each = (each.0, set_at P s.voters v (voter_at s.live.voters v) (each.0 v) each.1)
+saves P (OneVoter v) s each = (each.0, set_voter P s.voters v (voter_at s.live.voters v) (each.0 v) each.1)
 
 forgets : (P : ℕ → VoterState → Type 0) → Lasts P → (who : Node) (s : Saved) → EachSaved P s → EachSaved P (forget who s)
 forgets P lasts Nobody s each = each
 forgets P lasts (OneClient c) s each = each
-forgets P lasts (OneVoter v) s each = (each.0, set_at P s.voters v (least_voter (voter_at s.voters v)) (lasts.least v (voter_at s.voters v) (each.1 v)) each.1)
+forgets P lasts (OneVoter v) s each = (each.0, set_voter P s.voters v (least_voter (voter_at s.voters v)) (lasts.least v (voter_at s.voters v) (each.1 v)) each.1)
 
 came_back : (P : ℕ → VoterState → Type 0) (t : Bool) (u s : Saved) → EachSaved P u → EachSaved P s → EachSaved P (if_there t u s)
 came_back P true u s then each = then
@@ -123,7 +113,7 @@ came_back P false u s then each = each
 restarts : (P : ℕ → VoterState → Type 0) (who : Node) (s : Saved) → EachSaved P s → EachSaved P (restart who s)
 restarts P Nobody s each = each
 restarts P (OneClient c) s each = came_back P (nat_lt c (length s.live.clients)) (come_back s c (client_at s.clients c)) s each each
-restarts P (OneVoter v) s each = (set_at P s.live.voters v (voter_at s.voters v) (each.1 v) each.0, each.1)
+restarts P (OneVoter v) s each = (set_voter P s.live.voters v (voter_at s.voters v) (each.1 v) each.0, each.1)
 
 saves_unless : (P : ℕ → VoterState → Type 0) (silent : Bool) (who : Node) (s : Saved) → EachSaved P s → EachSaved P (save_unless silent who s)
 saves_unless P true who s each = each

@@ -4,9 +4,11 @@ pub mod ClientMoves
 pub mod EveryRun
 pub mod Exclusion
 pub mod Fences
+pub mod IncidentLemmas
 pub mod Mixes
 pub mod Places
 pub mod Plans
+pub mod Raises
 pub mod Reached
 pub mod Restarts
 pub mod SavedWorlds

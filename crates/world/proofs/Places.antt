@@ -1,13 +1,15 @@
 -- clients and voters by their numbers
-use Rattle.std.proofs.Common.{◌≡◌, ◌≢◌, ℕ, ◌<◌, true, false, cond, List, length, get_or, set, refl, ap, ◌∙◌, arith, eqb}
+use Rattle.std.proofs.Common.{◌≡◌, ◌≢◌, ℕ, ◌<◌, true, false, cond, List, length, get_or, set, refl, sym, ap, subst, ◌∙◌, inl, inr, arith, eqb}
+use Rattle.std.specs.Prelude.{slice_set}
+use Rattle.std.proofs.lemmas.Bool.{cases_lt}
 use Rattle.std.proofs.lemmas.Bool.Decides.{nat_tests}
-use Rattle.std.proofs.lemmas.List.{get_or-set_same, get_or-set_other}
+use Rattle.std.proofs.lemmas.List.{get_or-set_same, get_or-set_other, set_past}
 use Rattle.voter.specs.declared.state.VoterState.{VoterState}
 use Rattle.voter.specs.Steps as voter
 use Rattle.requester.specs.declared.state.ClientState.{ClientState}
 use Rattle.requester.specs.Steps as client
 use Rattle.world_state.specs.Steps.{voter_at, client_at}
-use Rattle.world.proofs.Claims.{put}
+use Rattle.world.proofs.Claims.{put, put-each}
 
 same_choice : {A : Type 0} (q c : ℕ) (x y z : A) → (q ≡ c → y ≡ x) → (q ≢ c → y ≡ z) → y ≡ cond (eqb q c) x z
 same_choice q c x y z here there = elim (eqb q c) as (λ b. eqb q c ≡ b → y ≡ cond b x z) [
@@ -44,3 +46,23 @@ voter_here vs v y within = get_or-set_same vs v y (voter.start 0 1) within
 pub voter_others : (vs : List VoterState) (v : ℕ) (y : VoterState) (q : ℕ) → q ≢ v → voter_at (set vs v y) q ≡ voter_at vs q
 unfolding voter_at
 voter_others vs v y q other = get_or-set_other vs v q y (voter.start 0 1) other
+
+-- a property of each client or voter, by its number
+abbrev pub EachClient : (ℕ → ClientState → Type 0) → List ClientState → Type 0
+EachClient P clients = (c : ℕ) → P c (client_at clients c)
+
+abbrev pub EachVoter : (ℕ → VoterState → Type 0) → List VoterState → Type 0
+EachVoter P voters = (v : ℕ) → P v (voter_at voters v)
+
+-- it holds of all after a write, if it holds of what is written
+pub set_client : (P : ℕ → ClientState → Type 0) (cs : List ClientState) (c : ℕ) (x : ClientState) → P c x → EachClient P cs → EachClient P (slice_set cs c x)
+set_client P cs c x here all = elim (cases_lt c (length cs)) [
+  | inl within ↦ λ q. subst (λ (f : ℕ → ClientState). P q (f q)) (sym (client_at-set cs c x within)) (put-each P (client_at cs) c x here all q)
+  | inr past ↦ subst (λ (l : List ClientState). EachClient P l) (sym (set_past cs c x past)) all
+]
+
+pub set_voter : (P : ℕ → VoterState → Type 0) (vs : List VoterState) (v : ℕ) (y : VoterState) → P v y → EachVoter P vs → EachVoter P (slice_set vs v y)
+set_voter P vs v y here all = elim (cases_lt v (length vs)) [
+  | inl within ↦ λ q. subst (λ (f : ℕ → VoterState). P q (f q)) (sym (voter_at-set vs v y within)) (put-each P (voter_at vs) v y here all q)
+  | inr past ↦ subst (λ (l : List VoterState). EachVoter P l) (sym (set_past vs v y past)) all
+]

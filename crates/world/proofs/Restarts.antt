@@ -58,6 +58,7 @@ use Rattle.requester.specs.RequesterContract.{Accepts, Sees}
 use Rattle.requester.specs.Soundness as sound
 use Rattle.requester.specs.Steps as client
 use Rattle.requester.specs.Saved.{least_client}
+use Rattle.voter.proofs.KeptLemmas as kept
 use Rattle.requester.proofs.SavedLemmas.{least_is_sound}
 use Rattle.voter.specs.Saved.{least_voter}
 use Rattle.requester.specs.Words.{is_idle, is_inside, holds_under, last_of, members}
@@ -493,13 +494,7 @@ reported_same X Y Z same (kinds.ToClient m) ok = subst (λ held. ReportOk (X m.c
 
 least_voter_ok : (b : Bounds) (X : ℕ → ClientState) (y : VoterState) → VoterOk b X y → VoterOk b X (least_voter y)
 least_voter_ok b X y ok = record {
-  sound = record {
-    limit = ok.sound.limit;
-    granted = ok.sound.granted;
-    numbered = ok.sound.numbered;
-    apart = λ g held. fin.get-empty nat_cmp g.client;
-    free = λ held c. fin.get-empty nat_cmp c;
-  };
+  sound = kept.least_is_sound y ok.sound;
   entries = λ c s is. elim is [
     | inl held ↦ ok.entries c s (inl held)
     | inr waits ↦ absurd (none-some s (sym (fin.get-empty nat_cmp c) ∙ waits))

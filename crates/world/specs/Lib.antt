@@ -1,4 +1,5 @@
 pub mod Coherence
+pub mod Incidents
 pub mod Ranges
 pub mod Restarts
 pub mod Rules
@@ -6,3 +7,5 @@ pub mod Runs
 pub mod SavedWorlds
 pub mod States
 pub mod Visible
+pub mod Waiting
+pub mod WayIn

@@ -1,6 +1,6 @@
 -- What can be seen of a run: who enters and who leaves.
-use Rattle.std.specs.Prelude.{ℕ, ◌≡◌, ◌<◌, true, false, List, [], ◌∷◌, length, Option, Some, None, slice_index_or}
-use Rattle.std.specs.List.{All}
+use Rattle.std.specs.Prelude.{ℕ, ◌≡◌, ◌==◌, ◌<◌, ◌&&◌, true, false, List, [], ◌∷◌, length, Option, Some, None, slice_index_or}
+use Rattle.std.specs.List.{All, count_by}
 use Rattle.numbers.specs.Sets.{IsSet}
 use Rattle.quorum_set.specs.Meetings.{AllMeet}
 use Rattle.quorum_set.specs.declared.bridge.Side.{Side}
@@ -16,6 +16,10 @@ GoesOn (Some c) (e ∷ es) = (e.entered ≡ false) × (e.client ≡ c) × GoesOn
 -- one client at a time: enter c, leave c, enter d, leave d, .., perhaps without the last leave
 abbrev pub IsExclusive : List Event → Type 0
 IsExclusive events = GoesOn None events
+
+-- how often this client enters
+abbrev pub entries_of : ℕ → List Event → ℕ
+entries_of c es = count_by (λ e. (e.client == c) && e.entered) es
 
 -- Quorums over these voters. Any two of them have a common member, and each has one with itself.
 -- One quorum may lie within another.

@@ -1,5 +1,5 @@
 use Rattle.std.proofs.Common.{List, sym, ap, subst, ◌∙◌, ◌++◌, ◌∷◌, []}
-use Rattle.progress.specs.WayIn.{Helps}
+use Rattle.world.specs.WayIn.{Helps}
 use Rattle.world_state.specs.declared.step.Step.{Step}
 use Rattle.world_state.specs.Steps.{dealing_of}
 use Rattle.ways.specs.Leads.{Leads}

@@ -2,7 +2,7 @@ use Rattle.std.specs.Prelude.{OnOk}
 use Rattle.std.proofs.Common.{◌≡◌}
 use Rattle.incidents.specs.Calls.{befalls_by}
 use Rattle.incidents.specs.Fit.{IsFit}
-use Rattle.leases.specs.Incidents.{IsReborn}
+use Rattle.world.specs.Incidents.{IsReborn}
 use Rattle.world.specs.States.{saved_of}
 use Rattle.world_state.specs.States.{plans_of}
 use Rattle.incidents.proofs.CallLemmas.{befell, kept_by, reborn_on}

@@ -1,7 +1,7 @@
 use Rattle.std.proofs.Common.{sym, subst}
 use Rattle.incidents.specs.Calls.{IsCalm, befalls_by}
 use Rattle.incidents.specs.Fit.{IsFit}
-use Rattle.leases.specs.Incidents.{Happens, Incident}
+use Rattle.world.specs.Incidents.{Happens, Incident}
 use Rattle.world.specs.Restarts.{OneVoter, Restarts}
 use Rattle.world.specs.SavedWorlds.{PlannedSaved}
 use Rattle.world.specs.States.{saved_of}

@@ -1,7 +1,7 @@
 use Rattle.std.proofs.Common.{sym, subst}
 use Rattle.incidents.specs.Calls.{IsCalm, befalls_by}
 use Rattle.incidents.specs.Fit.{IsFit}
-use Rattle.leases.specs.Incidents.{Happens}
+use Rattle.world.specs.Incidents.{Happens}
 use Rattle.world_state.specs.declared.step.Step.{Step}
 use Rattle.world.specs.Restarts.{Goes}
 use Rattle.world.specs.SavedWorlds.{PlannedSaved}

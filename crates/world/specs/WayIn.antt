@@ -8,7 +8,7 @@ use Rattle.world_state.specs.declared.step.Step.{Step}
 use Rattle.world_state.specs.declared.step.Step.TheVariants.{Ask, Deliver, Leave, GiveUp, RemindClient, RemindVoter, Exchange}
 use Rattle.world.specs.Runs.{run_of}
 use Rattle.world_state.specs.Steps.{WorldState, Dealing, client_at, events, voter_at}
-use Rattle.progress.specs.Overtaking.{entries_of}
+use Rattle.world.specs.Visible.{entries_of}
 
 -- a reminder, or the arrival of a message that is not among the first `sent` ones
 abbrev pub Helps : ℕ → Step → Type 0

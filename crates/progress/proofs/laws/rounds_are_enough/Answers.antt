@@ -1,8 +1,8 @@
 use Rattle.std.proofs.Common.{length}
 use Rattle.progress.specs.Rounds.{give_ups_in, late_in, steps_of}
 use Rattle.world_state.specs.Steps.{dealing_of}
-use Rattle.show_waiting.proofs.WaitingLemmas.{bound-of_law}
-use Rattle.show_waiting.proofs.laws.rounds_are_enough.Goals as goal
+use Rattle.progress.proofs.Bounds.{bound-of_law}
+use Rattle.progress.proofs.laws.rounds_are_enough.Goals as goal
 
 pub returns : goal.returns
 returns c = λ w k rounds more reached asks fair goes_on grants none enough seen.

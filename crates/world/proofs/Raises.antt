@@ -11,7 +11,7 @@ use Rattle.requester.specs.Steps as client
 use Rattle.requester.specs.Words.{held_of, holds_under, is_asking, is_hindered}
 use Rattle.world.specs.Restarts.{OneClient, Saved, save_and_send}
 use Rattle.world_state.specs.Steps.{after_client, client_at}
-use Rattle.leases.specs.Incidents.{be_raised}
+use Rattle.world.specs.Incidents.{be_raised}
 
 -- an INQUIRE of the grant 0, which nobody has
 abbrev pub no_inquiry : ClientState → ℕ → ToClient

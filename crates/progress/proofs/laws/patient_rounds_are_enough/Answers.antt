@@ -1,8 +1,8 @@
 use Rattle.std.proofs.Common.{length}
 use Rattle.progress.specs.Rounds.{late_in}
 use Rattle.world_state.specs.Steps.{dealing_of}
-use Rattle.show_waiting.proofs.WaitingLemmas.{patient_bound-of_law}
-use Rattle.show_waiting.proofs.laws.patient_rounds_are_enough.Goals as goal
+use Rattle.progress.proofs.Bounds.{patient_bound-of_law}
+use Rattle.progress.proofs.laws.patient_rounds_are_enough.Goals as goal
 
 pub returns : goal.returns
 returns c = λ w k rounds more reached asks fair patient goes_on grants none enough seen.

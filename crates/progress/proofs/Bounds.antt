@@ -1,10 +1,7 @@
--- Lemmas on how long a client waits.
+-- the bounds without late REQUESTs
 use Rattle.std.proofs.Common.{◌≡◌, ℕ, ◌+◌, ◌*◌, ◌≤◌, arith, subst}
-use Rattle.progress.specs.Patience.{long_block}
-use Rattle.progress.specs.Rounds.{block}
-use Rattle.show_waiting.specs.Waiting.{bound, patient_bound}
+use Rattle.world.specs.Waiting.{block, bound, long_block, patient_bound}
 
--- without late REQUESTs the bound is that of the law
 pub bound-of_law : (n g late rounds : ℕ) → late ≡ 0 → bound n g ≤ rounds → block n * (5 * n + 2 * g + late) ≤ rounds
 bound-of_law n g late rounds none enough =
     let same : 5 * n + 2 * g ≡ 5 * n + 2 * g + late = omega arith in
