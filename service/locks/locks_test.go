@@ -3,6 +3,7 @@ package locks
 import (
 	"bytes"
 	"context"
+	"encoding/json"
 	"errors"
 	"fmt"
 	"strings"
@@ -540,9 +541,46 @@ func TestWhatIsNoReplyToAClaim(t *testing.T) {
 		"taken 3 5":          0, "claimed": 0, "claimed x 5 0 0": 0, "claimed 3 5 70 77": 1 << 1} {
 		c.replied, c.used = 0, 0
 		c.control(1, bytes.Fields([]byte(line)))
-		if c.replied != want || c.refused || want > 0 && c.used != 77 {
+		if c.replied != want || c.refused || want > 0 && c.used != 70 {
 			t.Errorf("%s: %b", line, c.replied)
 		}
+	}
+}
+
+// A process that takes one lock and ends costs a save at each voter, and one more where it asked:
+// stamps are reserved with the claim, and what ends is saved with what comes next.
+func TestSavesOfOneLock(t *testing.T) {
+	w := worlds.New(t, worlds.Majority, 10*time.Second)
+	saves := func() (sum uint64) {
+		console := w.Console()
+		replies, err := console.Ask(within(t, 5*time.Second), "status", console.All()...)
+		if err != nil {
+			t.Fatal(err)
+		}
+		for _, r := range replies {
+			var status voter.Status
+			if r.Err != nil || json.Unmarshal(r.Body, &status) != nil {
+				t.Fatal(r.Err)
+			}
+			sum += status.Saves
+		}
+		return sum
+	}
+	before := saves()
+	c, _ := start(t, w)
+	if err := take(t, c, "x").Unlock(); err != nil {
+		t.Fatal(err)
+	}
+	if err := c.Close(within(t, 5*time.Second)); err != nil {
+		t.Fatal(err)
+	}
+	if count := saves() - before; count != 5 {
+		t.Errorf("%d saves of three voters, of which two were asked", count)
+	}
+	// the number is free again, and what it used is known
+	again, _ := start(t, w)
+	if err := take(t, again, "x").Unlock(); err != nil {
+		t.Error(err)
 	}
 }
 

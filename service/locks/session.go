@@ -6,12 +6,12 @@ package locks
 // its session, and the highest stamp that was reserved.
 //
 //  1. hello: the voters say which numbers are free, and their epochs.
-//  2. claim NUMBER EPOCH, one more than any epoch that was seen. A voter accepts an epoch once, and
-//     only if the number is free, or its session was silent for the TTL. It says its base, which is
-//     what was reserved there so far.
+//  2. claim NUMBER EPOCH STAMPS, one more than any epoch that was seen. A voter accepts an epoch once,
+//     and only if the number is free, or its session was silent for the TTL. It says its base, which
+//     is what was reserved there so far, and reserves so many stamps above it.
 //  3. A quorum accepted. Any two quorums share a voter, so an epoch has one session. The number is
 //     claimed at the other voters, too, as soon as they say that they don't know the session.
-//  4. Heartbeats carry what is to be reserved. A quorum is asked under a stamp only if each of its
+//  4. Heartbeats carry what is to be reserved besides. A quorum is asked under a stamp only if each of its
 //     voters said that the stamp is above the session's base there, and reserved there. Voters take
 //     no other one.
 //
@@ -36,8 +36,9 @@ import (
 )
 
 const (
-	block = 4096            // stamps that are reserved at once
-	brief = 2 * time.Second // for which a claim waits for a quorum
+	firstBlock = 64              // stamps that are reserved with a claim
+	mostBlock  = 4096            // stamps that are reserved at once; until then each block is twice the one before
+	brief      = 2 * time.Second // for which a claim waits for a quorum
 )
 
 // errTaken is why a claim failed: another session was faster.
@@ -73,6 +74,7 @@ type session struct {
 	peers    []peer
 	beat     time.Time // when the last heartbeat left
 	used     uint64    // no stamp that this number used so far is above it
+	block    uint64    // how many stamps were reserved last
 	idle     uint64    // the first heartbeat since nothing is asked or held any more, 0 if something is
 	draining bool
 	drained  chan struct{} // closed once all is given back
@@ -117,10 +119,11 @@ func (c *Client) begin(ctx context.Context) error {
 		if err := c.choose(ctx); err != nil {
 			return err
 		}
+		up := uptime()
 		err := c.claim(ctx)
 		claimed := c.replied
 		if err == nil {
-			err = c.reserveFirst(ctx)
+			err = c.reserveFirst(ctx, up)
 		}
 		if err == nil {
 			c.opening = false
@@ -136,19 +139,22 @@ func (c *Client) begin(ctx context.Context) error {
 	}
 }
 
-// reserveFirst reserves the first stamps of a number that a quorum gave to this session.
-func (c *Client) reserveFirst(ctx context.Context) error {
-	now, up := time.Now(), uptime()
+// reserveFirst reserves the first stamps of a number that a quorum gave to this session, by a claim
+// that left after this time. Where voters know of other stamps, what came with the claim is not
+// enough.
+func (c *Client) reserveFirst(ctx context.Context, left time.Duration) error {
+	now := time.Now()
 	for v := range c.peers {
 		c.peers[v].heard = now
-		c.acknowledge(v, up)
+		c.acknowledge(v, left)
 	}
-	c.header.Number, c.header.Epoch, c.header.Reserved = c.asked, c.claimed, c.used+block
+	c.header.Number, c.header.Epoch, c.header.Reserved = c.asked, c.claimed, c.used+firstBlock
 	first := c.used + 1
-	err := c.rounds(ctx, func() { c.heartbeat(time.Now()) }, func() bool {
-		return c.refused ||
-			c.hasQuorum(c.owners(first))
-	})
+	isReserved := func() bool { return c.refused || c.hasQuorum(c.owners(first)) }
+	if isReserved() {
+		return nil
+	}
+	err := c.rounds(ctx, func() { c.heartbeat(time.Now()) }, isReserved)
 	if err == nil && c.refused {
 		err = errTaken
 	}
@@ -203,13 +209,13 @@ func (c *Client) choose(ctx context.Context) error {
 // claim claims the number that was chosen, under a new epoch.
 func (c *Client) claim(ctx context.Context) error {
 	c.claimed = c.epochs[c.asked] + 1
-	c.replied, c.refused, c.used = 0, false, 0
+	c.replied, c.refused, c.used, c.block = 0, false, 0, firstBlock
 	for v := range c.peers {
 		c.peers[v].forget()
 	}
 	short, cancel := context.WithTimeout(ctx, brief)
 	defer cancel()
-	text := fmt.Sprintf("claim %d %d", c.asked, c.claimed)
+	text := fmt.Sprintf("claim %d %d %d", c.asked, c.claimed, firstBlock)
 	if err := c.rounds(short, func() { c.say(text) }, func() bool { return c.refused || c.isAnswered() }); err != nil {
 		return err
 	}
@@ -272,11 +278,14 @@ func (c *Client) use(stamp uint64, now time.Time) {
 
 // reserve asks the voters to keep that stamps above this one may be used.
 func (c *Client) reserve(stamp uint64, now time.Time) {
-	if c.header.Reserved >= stamp+block/2 {
+	if c.header.Reserved >= stamp+c.block/2 {
 		return // asked already; heartbeats repeat it
 	}
 	c.stats.Reservations++
-	c.header.Reserved = stamp + block
+	if c.block < mostBlock {
+		c.block *= 2
+	}
+	c.header.Reserved = stamp + c.block
 	c.heartbeat(now)
 }
 
@@ -593,8 +602,8 @@ func (c *Client) noteClaim(voter int, granted bool, base, reserved uint64) {
 		return
 	}
 	c.replied |= 1 << voter
-	if c.header.Epoch == 0 && reserved <= qlock.MaxStamp {
-		c.used = greatest(c.used, reserved) // what any session of the number used at this quorum
+	if c.header.Epoch == 0 && base <= qlock.MaxStamp {
+		c.used = greatest(c.used, base) // what any session of the number used at this quorum
 	}
 	c.noteStamps(voter, base, reserved)
 }
@@ -603,7 +612,8 @@ func (c *Client) noteClaim(voter int, granted bool, base, reserved uint64) {
 func (c *Client) claimAgain(voter int) {
 	if p := &c.peers[voter]; p.claimed < c.header.Seq {
 		p.claimed = c.header.Seq
-		c.out[voter] = append(c.out[voter], fmt.Sprintf(". claim %d %d\n", c.header.Number, c.header.Epoch)...)
+		c.out[voter] = append(c.out[voter], fmt.Sprintf(". claim %d %d %d\n", c.header.Number, c.header.Epoch,
+			firstBlock)...)
 	}
 }
 

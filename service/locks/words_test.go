@@ -30,7 +30,7 @@ func alone(t *testing.T) *table {
 	if err != nil {
 		t.Fatal(err)
 	}
-	c.header.Number, c.header.Epoch, c.asked, c.claimed, c.header.Reserved = 3, 5, 3, 5, block
+	c.header.Number, c.header.Epoch, c.asked, c.claimed, c.header.Reserved = 3, 5, 3, 5, mostBlock
 	one := &table{Client: c}
 	for voter := range c.peers {
 		box, err := b.Port().Listen(wire.VoterBox(cluster.ID, voter))
@@ -144,7 +144,7 @@ func TestNumberIsClaimedEverywhere(t *testing.T) {
 		c.flush()
 		for len(c.boxes[2]) > 0 {
 			m := <-c.boxes[2]
-			count += strings.Count(string(m), ". claim 3 5\n")
+			count += strings.Count(string(m), ". claim 3 5 ")
 		}
 		return count
 	}

@@ -25,7 +25,7 @@ const (
 	tick        = 50 * time.Millisecond
 	mostSpoke   = 4096             // sessions of which it knows that they spoke in this run
 	longestAway = 10 * time.Second // of the broker, before it is logged
-	longest     = time.Second      // for which a step that sends nothing waits for the next save
+	longest     = 10 * time.Second // for which a step that sends nothing waits for the next save
 	blockSize   = uint64(1) << 35  // how many grants of a lock a voter may give until it loses its state once more
 )
 
@@ -50,13 +50,14 @@ type Daemon struct {
 	mark, oldMark string
 	marks         map[string]string // by which plan a session speaks, while there are two
 
-	dirty      map[*vote]struct{} // changed since the last save
-	dirtySince time.Time
-	out        map[string][]byte // lines that leave after the save, by session
-	outBytes   int
-	replies    map[string]answer // what operators get after the save, by mailbox
-	room       []byte
-	before     qlock.Voter // of the step that is made
+	dirty    map[*vote]struct{} // changed since the last save, and something leaves that depends on it
+	silent   map[*vote]struct{} // changed since the last save, and nothing does
+	savedAll time.Time          // when nothing was left to save
+	out      map[string][]byte  // lines that leave after the save, by session
+	outBytes int
+	replies  map[string]answer // what operators get after the save, by mailbox
+	room     []byte
+	before   qlock.Voter // of the step that is made
 
 	isFull          bool                // it was logged that there is no room for another lock
 	older           bool                // a session heard of a later save than this state has
@@ -90,8 +91,8 @@ func Open(own *config.Voter, cluster *config.Cluster, carrier transport.Transpor
 		return nil, err
 	}
 	d := &Daemon{cluster: cluster, own: own, store: state, carrier: carrier, log: log, m: newMetrics(),
-		votes: map[string]*vote{}, busy: map[*vote]struct{}{}, dirty: map[*vote]struct{}{},
-		table: table{ttl: cluster.TTL.Duration, changed: map[int]Session{}},
+		votes: map[string]*vote{}, busy: map[*vote]struct{}{}, dirty: map[*vote]struct{}{}, silent: map[*vote]struct{}{},
+		table: table{ttl: cluster.TTL.Duration, changed: map[int]Session{}, later: map[int]Session{}},
 		out:   map[string][]byte{}, replies: map[string]answer{}, started: time.Now(), away: time.Now(),
 		done: map[string][]byte{}}
 	if err := d.begin(); err != nil {
@@ -216,7 +217,7 @@ func (d *Daemon) wait(ctx context.Context, until time.Time) bool {
 // end saves what nothing waited for, and tells all sessions that this voter leaves, so that they
 // ask others at once.
 func (d *Daemon) end() error {
-	d.dirtySince = time.Time{}
+	d.savedAll = time.Time{}
 	for _, row := range d.table.rows {
 		if row.Open {
 			d.tell(row.Name, "leaving")
@@ -367,10 +368,7 @@ func (d *Daemon) step(v *vote, client int, now time.Time, take func(out []byte) 
 	}
 	d.room = lines
 	if v.MustSave(&d.before) { // what was saved last differs in nothing else from the state before a step
-		if len(d.dirty) == 0 {
-			d.dirtySince = now
-		}
-		d.dirty[v] = struct{}{}
+		d.silent[v] = struct{}{}
 	}
 	if err := d.noteAsk(v, client, now); err == nil {
 		_ = d.noteGrant(v, now) // neither fails: the state is the one that a call wrote
@@ -395,12 +393,24 @@ func (d *Daemon) deny(v *vote, h wire.Header, said wire.Line) {
 		return
 	}
 	if known, err := v.Knows(uint8(h.Number)); err == nil && known.Finished >= said.Stamp {
+		d.mustSave(v)
 		d.tell(h.Name, "gone %s %d", v.name, said.Stamp)
+	}
+}
+
+// mustSave notes that something leaves which depends on how a vote is now.
+func (d *Daemon) mustSave(v *vote) {
+	if _, is := d.silent[v]; is {
+		delete(d.silent, v)
+		d.dirty[v] = struct{}{}
 	}
 }
 
 // send puts the lines of a vote with those that leave after the save.
 func (d *Daemon) send(v *vote, lines []byte) {
+	if len(lines) > 0 {
+		d.mustSave(v)
+	}
 	for len(lines) > 0 {
 		end := bytes.IndexByte(lines, '\n') + 1
 		if said := wire.ReadLine(lines[:end]); said.To >= 0 && said.To < qlock.MaxClients && d.mayHear(v, said) {
@@ -447,8 +457,10 @@ func (d *Daemon) control(l *letter, speaker verdict, line []byte, now time.Time)
 	case word == "close" && len(words) == 1 && l.Epoch > 0:
 		d.shut(l, speaker)
 		return true
-	case (word == "claim" || word == "drop") && len(words) == 3:
-		return d.claim(l.Name, word, words[1], words[2], now)
+	case word == "claim" && (len(words) == 3 || len(words) == 4):
+		return d.claim(l.Name, words[1:], now)
+	case word == "drop" && len(words) == 3:
+		return d.drop(l.Name, words[1:])
 	}
 	return false
 }
@@ -486,19 +498,34 @@ func (d *Daemon) shut(l *letter, speaker verdict) {
 	}
 }
 
-// claim takes `claim NUMBER EPOCH`, and `drop NUMBER EPOCH` of one who claimed it and had no quorum.
-func (d *Daemon) claim(name, word string, first, second []byte, now time.Time) bool {
-	number := wire.Number(first)
-	epoch, err := strconv.ParseUint(string(second), 10, 64)
-	if err != nil || number < 0 || number >= qlock.MaxClients || epoch == 0 {
+// numberAndEpoch reads the number and the epoch of a session.
+func numberAndEpoch(words [][]byte) (number int, epoch uint64, ok bool) {
+	number = wire.Number(words[0])
+	epoch, err := strconv.ParseUint(string(words[1]), 10, 64)
+	return number, epoch, err == nil && number >= 0 && number < qlock.MaxClients && epoch > 0
+}
+
+// drop takes `drop NUMBER EPOCH` of one who claimed it and had no quorum.
+func (d *Daemon) drop(name string, words [][]byte) bool {
+	number, epoch, ok := numberAndEpoch(words)
+	if ok {
+		d.table.drop(number, name, epoch)
+	}
+	return ok
+}
+
+// claim takes `claim NUMBER EPOCH STAMPS`. Without the last word it reserves none.
+func (d *Daemon) claim(name string, words [][]byte, now time.Time) bool {
+	number, epoch, ok := numberAndEpoch(words)
+	stamps, err := uint64(0), error(nil)
+	if len(words) == 3 {
+		stamps, err = strconv.ParseUint(string(words[2]), 10, 64)
+	}
+	if !ok || err != nil {
 		return false
 	}
-	if word == "drop" {
-		d.table.drop(number, name, epoch)
-		return true
-	}
 	before := d.table.rows[number]
-	if !d.table.claim(number, name, epoch, now) {
+	if !d.table.claim(number, name, epoch, stamps, now) {
 		d.tell(name, "refused %d %d", number, epoch)
 		return true
 	}
@@ -547,33 +574,50 @@ func (d *Daemon) letGo(v *vote, now time.Time) bool {
 	if v.held.Number == held.Number {
 		return false
 	}
+	d.mustSave(v) // its client hears so, or an operator
 	if row := d.table.rows[held.Client]; row.Open && held.Stamp > row.Base {
 		d.tell(row.Name, "gone %s %d", v.name, held.Stamp)
 	}
 	return true
 }
 
-// commit saves all that changed, in one transaction, and then sends. Steps that send nothing may be lost in a crash, so
-// they wait for the next ones, at most a second.
+// commit saves all that changed, in one transaction, and then sends. What may be lost in a crash
+// waits for the next save, at most ten seconds: steps that send nothing, and rows of which a TTL
+// makes up for the loss.
 func (d *Daemon) commit(now time.Time) error {
-	changed := len(d.dirty)+len(d.table.changed) > 0
+	must := len(d.dirty)+len(d.table.changed) > 0 || d.newPlans
 	leaves := len(d.out)+len(d.replies) > 0
-	if (changed || d.newPlans) && leaves || changed && now.Sub(d.dirtySince) > longest {
-		began := time.Now()
-		var plans *Generations
-		if d.newPlans {
-			plans = &d.plans
+	switch {
+	case !must && len(d.table.later)+len(d.silent) == 0:
+		d.savedAll = now
+	case must && leaves || now.Sub(d.savedAll) > longest:
+		if err := d.save(now); err != nil {
+			return err
 		}
-		if err := d.store.save(d.dirty, d.table.changed, plans); err != nil {
-			return fmt.Errorf("%w: %v", ErrSave, err)
-		}
-		d.m.commit.Observe(time.Since(began).Seconds())
-		d.m.batch.Observe(float64(len(d.dirty)))
-		d.dirty, d.table.changed, d.newPlans = map[*vote]struct{}{}, map[int]Session{}, false
 	}
 	if leaves {
 		d.deliver()
 	}
+	return nil
+}
+
+// save saves all that is not saved.
+func (d *Daemon) save(now time.Time) error {
+	began := time.Now()
+	var plans *Generations
+	if d.newPlans {
+		plans = &d.plans
+	}
+	for v := range d.silent {
+		d.dirty[v] = struct{}{}
+	}
+	if err := d.store.save(d.dirty, d.table.unsaved(), plans); err != nil {
+		return fmt.Errorf("%w: %v", ErrSave, err)
+	}
+	d.m.commit.Observe(time.Since(began).Seconds())
+	d.m.batch.Observe(float64(len(d.dirty)))
+	d.table.saved()
+	d.dirty, d.silent, d.newPlans, d.savedAll = map[*vote]struct{}{}, map[*vote]struct{}{}, false, now
 	return nil
 }
 

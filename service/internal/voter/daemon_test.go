@@ -132,7 +132,7 @@ func TestSpentLock(t *testing.T) {
 	var log bytes.Buffer
 	now := time.Unix(1000, 0)
 	d := &Daemon{own: &config.Voter{}, store: &store{}, m: newMetrics(), log: event.To(&log), votes: map[string]*vote{}, busy: map[*vote]struct{}{},
-		dirty: map[*vote]struct{}{}, out: map[string][]byte{}, table: table{ttl: time.Second, changed: map[int]Session{}}}
+		dirty: map[*vote]struct{}{}, silent: map[*vote]struct{}{}, out: map[string][]byte{}, table: table{ttl: time.Second, changed: map[int]Session{}, later: map[int]Session{}}}
 	voter, err := qlock.NewVoter(0, 1)
 	if err != nil {
 		t.Fatal(err)
@@ -154,7 +154,7 @@ func TestSpentLock(t *testing.T) {
 func TestEachLineLeaves(t *testing.T) {
 	now := time.Unix(1000, 0)
 	d := &Daemon{own: &config.Voter{}, store: &store{}, m: newMetrics(), votes: map[string]*vote{}, busy: map[*vote]struct{}{},
-		dirty: map[*vote]struct{}{}, out: map[string][]byte{}, table: *newTable(now)}
+		dirty: map[*vote]struct{}{}, silent: map[*vote]struct{}{}, out: map[string][]byte{}, table: *newTable(now)}
 	voter, err := qlock.NewVoter(0, 10)
 	if err != nil {
 		t.Fatal(err)

@@ -128,7 +128,7 @@ func TestNewer(t *testing.T) {
 func TestLearn(t *testing.T) {
 	now := time.Unix(1000, 0)
 	table := newTable(now)
-	table.claim(3, "a", 5, now)
+	table.claim(3, "a", 5, 0, now)
 	admits(table, 3, "a", 5, 100, now)
 	for _, one := range []struct {
 		what string
@@ -173,8 +173,8 @@ func TestRetire(t *testing.T) {
 	if err := obey("exchange", "1", encode([]byte(next.Coterie)), encode([]byte(next.Plan))); err != nil || !d.newPlans {
 		t.Fatal(err)
 	}
-	d.table.claim(3, "a", 1, now)
-	d.table.claim(4, "b", 1, now)
+	d.table.claim(3, "a", 1, 0, now)
+	d.table.claim(4, "b", 1, 0, now)
 	now = now.Add(2 * time.Second)
 	passes(&d.table, now)
 	d.table.admit(4, "b", 1, now)

@@ -16,7 +16,7 @@ func reader() *Daemon {
 	now := time.Unix(1000, 0)
 	d := &Daemon{cluster: &config.Cluster{ID: "test"}, store: &store{meta: Meta{Cluster: "test"}}, mark: "mark",
 		m: newMetrics(), busy: map[*vote]struct{}{},
-		table: table{ttl: time.Second, changed: map[int]Session{}}, out: map[string][]byte{},
+		table: table{ttl: time.Second, changed: map[int]Session{}, later: map[int]Session{}}, out: map[string][]byte{},
 		spoke: map[string]struct{}{}}
 	d.table.begin(now)
 	return d
@@ -33,7 +33,7 @@ func message(number int, epoch uint64, name, lines string) []byte {
 func TestEachSenderHasItsTurn(t *testing.T) {
 	d := reader()
 	for number := 1; number < 4; number++ {
-		d.table.claim(number, fmt.Sprint("s.", number), 1, time.Now())
+		d.table.claim(number, fmt.Sprint("s.", number), 1, 0, time.Now())
 	}
 	for i := 0; i < 100; i++ {
 		d.sort(message(1, 1, "s.1", strings.Repeat("x release 1 0 0\n", 50)))
@@ -59,7 +59,7 @@ func TestRoomOfASender(t *testing.T) {
 	for i := 0; i < 100; i++ {
 		d.sort(message(0, 0, "stranger", long))
 	}
-	d.table.claim(2, "s.2", 1, time.Now())
+	d.table.claim(2, "s.2", 1, 0, time.Now())
 	d.sort(message(2, 1, "s.2", ". open 0\n"))
 	if d.noRoom.Load() < 90 || d.inbox.sizes[strangers] > mostWaiting || len(d.inbox.queues[2]) != 1 {
 		t.Errorf("%d are dropped, %d bytes wait", d.noRoom.Load(), d.inbox.sizes[strangers])

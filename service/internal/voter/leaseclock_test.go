@@ -14,9 +14,9 @@ type tide struct {
 
 func newTide(t *testing.T, ttl time.Duration) *tide {
 	now := time.Unix(1000, 0)
-	one := &tide{t, now, &table{ttl: ttl, changed: map[int]Session{}}}
+	one := &tide{t, now, &table{ttl: ttl, changed: map[int]Session{}, later: map[int]Session{}}}
 	one.begin(now)
-	one.claim(3, "a", 1, now)
+	one.claim(3, "a", 1, 0, now)
 	return one
 }
 
@@ -35,7 +35,7 @@ func TestLeasesEndWithSlowTurns(t *testing.T) {
 	for _, takes := range []time.Duration{time.Millisecond, 50 * time.Millisecond, 300 * time.Millisecond,
 		900 * time.Millisecond} {
 		c := newTide(t, 2*time.Second)
-		c.claim(4, "b", 1, c.now)
+		c.claim(4, "b", 1, 0, c.now)
 		begin := c.now
 		for !c.isDead(3) && c.now.Sub(begin) < time.Minute {
 			c.turn(takes, true)

@@ -27,6 +27,7 @@ type Status struct {
 	Locks   int     `json:"locks"`
 	Busy    int     `json:"busy"`    // votes that somebody has or waits for
 	Granted uint64  `json:"granted"` // grants given since the start
+	Saves   uint64  `json:"saves"`   // how often the state was saved; each loss begins far above
 	Runs    float64 `json:"runs_seconds"`
 	Planned
 	Sessions []SessionView `json:"sessions"`
@@ -188,7 +189,7 @@ func (d *Daemon) unlock(lock string, grant uint64, now time.Time) LetGo {
 }
 
 func (d *Daemon) status(now time.Time) Status {
-	s := Status{Meta: d.store.meta, Locks: len(d.votes), Busy: len(d.busy), Granted: d.granted, Runs: now.Sub(d.started).Seconds(),
+	s := Status{Meta: d.store.meta, Locks: len(d.votes), Busy: len(d.busy), Granted: d.granted, Saves: d.store.saves, Runs: now.Sub(d.started).Seconds(),
 		Planned: Planned{d.plans.Number, d.plans.oldest(), d.plans.Settled}, Sessions: []SessionView{}, Votes: []VoteView{}}
 	for number, row := range d.table.rows {
 		if row.Open {

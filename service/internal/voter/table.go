@@ -21,10 +21,11 @@ type Session struct {
 // The bounds of what a claim or a header may name. A session of a number that was idle follows the
 // stamps that others used: what is bounded is how fast the highest stamp grows.
 const (
-	mostEpochs = 1 << 20 // above the row's, at once
-	epochRate  = 1 << 4  // a second, for a number
-	mostStamps = 1 << 20 // above the highest, at once
-	stampRate  = 1 << 16 // a second
+	mostEpochs  = 1 << 20 // above the row's, at once
+	epochRate   = 1 << 4  // a second, for a number
+	mostStamps  = 1 << 20 // above the highest, at once
+	mostClaimed = 1 << 12 // with a claim
+	stampRate   = 1 << 16 // a second
 )
 
 // table has a row for each client number. A session claims its number, and is never learned from a
@@ -37,6 +38,7 @@ type table struct {
 	heard   [qlock.MaxClients]time.Time // on the lease clock
 	clock   leaseClock
 	changed map[int]Session // to be saved before anything leaves
+	later   map[int]Session // to be saved with the next save: after a crash a TTL makes up for it
 	epochs  [qlock.MaxClients]allowance
 	stamps  allowance
 }
@@ -96,10 +98,33 @@ func (t *table) state(number int) int {
 	return 0
 }
 
+// put changes a row. It is saved before anything leaves.
 func (t *table) put(number int, row Session) {
 	t.rows[number] = row
 	t.changed[number] = row
+	delete(t.later, number)
 }
+
+// note changes a row of which nothing that leaves says anything that a crash may not undo.
+func (t *table) note(number int, row Session) {
+	if _, changed := t.changed[number]; changed {
+		t.put(number, row)
+		return
+	}
+	t.rows[number] = row
+	t.later[number] = row
+}
+
+// unsaved returns the rows that are not saved as they are.
+func (t *table) unsaved() map[int]Session {
+	for number, row := range t.later {
+		t.changed[number] = row
+	}
+	return t.changed
+}
+
+// saved notes that all rows are saved.
+func (t *table) saved() { t.changed, t.later = map[int]Session{}, map[int]Session{} }
 
 // verdict is what a table says of a message.
 type verdict int
@@ -131,7 +156,7 @@ func (t *table) admit(number int, name string, epoch uint64, now time.Time) verd
 	t.hear(number, now)
 	if row := t.rows[number]; !row.Used {
 		row.Used = true
-		t.put(number, row)
+		t.note(number, row)
 	}
 	return known
 }
@@ -162,10 +187,10 @@ func (t *table) highest() (stamp uint64) {
 	return stamp
 }
 
-// claim gives a number to a session, and returns whether it did: the epoch is new and not too far
-// above the last one, and the number is free, or its session was silent for a TTL. The same claim
-// again is granted again.
-func (t *table) claim(number int, name string, epoch uint64, now time.Time) bool {
+// claim gives a number to a session, with so many stamps, and returns whether it did: the epoch is
+// new and not too far above the last one, and the number is free, or its session was silent for a
+// TTL. The same claim again is granted again.
+func (t *table) claim(number int, name string, epoch, stamps uint64, now time.Time) bool {
 	row := t.rows[number]
 	if t.judge(number, name, epoch) == known {
 		return true
@@ -177,6 +202,7 @@ func (t *table) claim(number int, name string, epoch uint64, now time.Time) bool
 	t.epochs[number].spend(growth)
 	t.put(number, Session{Name: name, Epoch: epoch, Base: row.Reserved, Reserved: row.Reserved, Open: true})
 	t.hear(number, now)
+	t.reserve(number, row.Reserved+smallest(stamps, mostClaimed), now)
 	return true
 }
 
@@ -189,11 +215,11 @@ func (t *table) drop(number int, name string, epoch uint64) {
 	}
 }
 
-// end frees a number whose session says that it is over.
+// end frees a number whose session says that it is over. After a crash it is silent.
 func (t *table) end(number int) {
 	if row := t.rows[number]; row.Open {
 		row.Open = false
-		t.put(number, row)
+		t.note(number, row)
 	}
 }
 

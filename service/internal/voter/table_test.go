@@ -9,7 +9,7 @@ import (
 )
 
 func newTable(now time.Time) *table {
-	t := &table{ttl: time.Second, changed: map[int]Session{}}
+	t := &table{ttl: time.Second, changed: map[int]Session{}, later: map[int]Session{}}
 	t.begin(now)
 	return t
 }
@@ -20,7 +20,7 @@ func passes(t *table, now time.Time) { t.clock.back.left = now.Add(t.clock.skipp
 // claimAt claims at a time, up to which all that was sent was heard.
 func claimAt(t *table, number int, name string, epoch uint64, now time.Time) bool {
 	passes(t, now)
-	return t.claim(number, name, epoch, now)
+	return t.claim(number, name, epoch, 0, now)
 }
 
 // isDeadAt returns whether a number is dead at a time, up to which all that was sent was heard.
@@ -99,7 +99,7 @@ func TestClaims(t *testing.T) {
 func TestGrowthIsBounded(t *testing.T) {
 	now := time.Unix(1000, 0)
 	table := newTable(now)
-	table.claim(3, "a", 1, now)
+	table.claim(3, "a", 1, 0, now)
 	for i := 0; i < 100000; i++ {
 		now = now.Add(100 * time.Microsecond)
 		table.admit(3, "a", 1, now)
@@ -108,7 +108,7 @@ func TestGrowthIsBounded(t *testing.T) {
 	if most := uint64(mostStamps + 10*stampRate); table.rows[3].Reserved > most || table.rows[3].Reserved < most/2 {
 		t.Errorf("after ten seconds %d stamps are reserved", table.rows[3].Reserved)
 	}
-	table.claim(4, "b", 1, now)
+	table.claim(4, "b", 1, 0, now)
 	if table.reserve(4, table.rows[3].Reserved, now); table.rows[4].Reserved != table.rows[3].Reserved {
 		t.Error("a session can't follow the stamps of another one")
 	}
@@ -117,14 +117,14 @@ func TestGrowthIsBounded(t *testing.T) {
 		t.Error("a stamp is reserved that there is not")
 	}
 	for i := 0; i < 1000; i++ {
-		table.claim(5, "x", table.rows[5].Epoch+mostEpochs, now)
-		table.claim(5, "x", table.rows[5].Epoch+mostEpochs/2, now)
+		table.claim(5, "x", table.rows[5].Epoch+mostEpochs, 0, now)
+		table.claim(5, "x", table.rows[5].Epoch+mostEpochs/2, 0, now)
 		table.end(5)
 	}
 	if table.rows[5].Epoch > mostEpochs {
 		t.Errorf("a number has the epoch %d", table.rows[5].Epoch)
 	}
-	if other := newTable(now); !other.claim(5, "y", table.rows[5].Epoch+1, now.Add(time.Second)) {
+	if other := newTable(now); !other.claim(5, "y", table.rows[5].Epoch+1, 0, now.Add(time.Second)) {
 		t.Error("a session that saw this epoch gets the number from no other voter")
 	}
 }

@@ -12,7 +12,8 @@
 // silent. Lines of control, and the replies:
 //
 //	hello         number N EPOCH FREE for each number
-//	claim N EPOCH claimed N EPOCH BASE RESERVED, or refused N EPOCH
+//	claim N EPOCH STAMPS   claimed N EPOCH BASE RESERVED, or refused N EPOCH; it reserves so many
+//	              stamps above BASE
 //	drop N EPOCH  none: a claim had no quorum
 //	open PLAN     opened N EPOCH BASE RESERVED SEQ REQUESTS, and after an exchange generation PLAN
 //	              COTERIE OLDEST. This is the heartbeat; PLAN is the number of the oldest plan of
