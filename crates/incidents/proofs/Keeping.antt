@@ -11,8 +11,6 @@ use Rattle.message.specs.Lines.{AreCounts, HasLine, IsCount}
 use Rattle.message.specs.declared.message.ToVoter.{ToVoter}
 use Rattle.message.specs.declared.message.Message.{Message}
 use Rattle.message.specs.declared.message.Message.TheVariants as kinds
-use Rattle.message.specs.declared.message.VoterBody.{VoterBody}
-use Rattle.message.specs.declared.message.VoterBody.TheVariants as asks
 use Rattle.message.specs.declared.message.ClientBody.{ClientBody}
 use Rattle.message.specs.declared.message.ClientBody.TheVariants as to_client
 use Rattle.voter.specs.declared.state.VoterState.{VoterState}

@@ -2,7 +2,8 @@
 //! a client starts anew.
 //!
 //! An [`IncidentWorld`] does all that a [`SavedWorld`](world::SavedWorld) of `world` does: it makes steps,
-//! saves, and restarts clients and voters. Three more calls make *incidents* (`specs/Incidents.antt` of `world`):
+//! saves, and restarts clients and voters. Three more calls make *incidents* (`specs/Incidents.antt` of
+//! `world`):
 //!
 //! - [`IncidentWorld::evict`]: a voter takes a RELEASE of its own grant, in the client's name. The client
 //!   is not asked, and may be inside;
@@ -13,15 +14,15 @@
 //!
 //! # What is proved
 //!
-//! - Each call is exactly its incident, or fails, says why, and changes nothing. So the laws of `leases`,
-//!   which are over every list of incidents, hold of what these calls make.
+//! - Each call is exactly its incident, or fails, says why, and changes nothing. So the laws of
+//!   `leases`, which are over every list of incidents, hold of what these calls make.
 //! - Whatever befalls, clients, voters and messages stay numbered and in range. Each message has a line of
 //!   text, if those have one that nobody sent ([`worlds_stay_fit`]).
 //! - As long as nothing but steps and restarts happened, at most one client is inside at a time, and the
 //!   world can be turned into a [`World`](world::World) ([`worlds_stay_calm`]).
 //!
-//! Depends on `world` and `world_state`, and on `voter`, `requester`, `message`, `dealer`, `certificate`,
-//! `quorum_set` and `numbers`.
+//! Depends on `world` and `world_state`, and on `voter`, `requester`, `message`, `dealer`,
+//! `certificate`, `quorum_set` and `numbers`.
 //!
 //! ```
 //! let mut world = IncidentWorld::new(alloc, Plans::single(plan), 2, 1000)?;

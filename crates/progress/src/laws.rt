@@ -231,9 +231,9 @@ pub fn patient_rounds_let_everybody_in()
     worlds_keep_their_rules();
 }
 
-/// The number of rounds that `qlock-show waiting` shows is enough: a client that asks, and does not give up,
-/// has entered after them, for the world's number of clients and the withdrawals in these rounds. No REQUEST
-/// comes late, and each voter has a grant left at the end.
+/// The number of rounds that `qlock-show waiting` shows is enough: a client that asks, and does not
+/// give up, has entered after them, for the world's number of clients and the withdrawals in these
+/// rounds. No REQUEST comes late, and each voter has a grant left at the end.
 pub fn rounds_are_enough()
     ensures { (w : Planned) (c : ℕ) (rounds : List (List Step)) (more : List Event) → IsReached w → Asks w.state c
         → AreFairRounds (dealing_of w.plans) w.state rounds → DoesNotGiveUp c (steps_of rounds)
@@ -246,8 +246,8 @@ pub fn rounds_are_enough()
     fair_rounds_let_everybody_in();
 }
 
-/// The same with the number of rounds for patient clients: a request that is made in these rounds runs for
-/// two whole rounds before it is given up.
+/// The same with the number of rounds for patient clients: a request that is made in these rounds
+/// runs for two whole rounds before it is given up.
 pub fn patient_rounds_are_enough()
     ensures { (w : Planned) (c : ℕ) (rounds : List (List Step)) (more : List Event) → IsReached w → Asks w.state c
         → AreFairRounds (dealing_of w.plans) w.state rounds → ArePatient (dealing_of w.plans) w.state rounds

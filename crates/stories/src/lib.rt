@@ -37,17 +37,17 @@
 //!
 //! - A text is read if and only if, without notes, it is the text of a script. Otherwise the fault names
 //!   its first bad line (`specs/Scripts.antt`).
-//! - A story's world is the one that the definitions of `world` give for its turns: each step is saved and
-//!   then sent, each crash is a restart, and each other turn but a show is an incident. If there are only
-//!   steps, crashes and shows, at most one client is inside at a time.
+//! - A story's world is the one that the definitions of `world` give for its turns: each step is saved
+//!   and then sent, each crash is a restart, and each other turn but a show is an incident. If there are
+//!   only steps, crashes and shows, at most one client is inside at a time.
 //! - A story has a moment for each turn of its script, in order. It says what the turn did: how many
 //!   messages were sent, from which number on, and whether a client entered or left; or the step's fault;
 //!   or how many messages were forgotten; which grant was let go; what the guard did with a pass, and which
 //!   grant in it is older (`specs/Plays.antt`, `specs/Guards.antt`).
 //! - A way in from the end of a story ([`Player::into_way`]) is one of `ways`.
 //!
-//! Depends on `incidents`, `world`, `world_state` and `ways`, on `fence` for the guard, on `replay` for the
-//! lines of steps, and on `dealer` for plans.
+//! Depends on `incidents`, `world`, `world_state` and `ways`, on `fence` for the guard, on `replay` for
+//! the lines of steps, and on `dealer` for plans.
 //!
 //! ```
 //! let script = read_story(alloc, b"world 1 9\n# a note\nask 0\ncrash-client 0\n")?;

@@ -1,7 +1,7 @@
 -- The numbers of a voter's grants rise, also over restarts. So whoever has a vote later has it by a
 -- greater number, unless it is the same request of the same client.
 use Rattle.std.proofs.Common.{◌≡◌, ℕ, ◌<◌, ◌≤◌, Bool, true, false, List, [], ◌∷◌, map, Option, Some, None, Result, Ok, Err, refl, sym, ap, subst, ◌∙◌, ◌⊎◌, inl, inr, arith}
-use Rattle.std.specs.Prelude.{is_some, length, nat_lt, slice_get, slice_set}
+use Rattle.std.specs.Prelude.{is_some, length, nat_lt, slice_get}
 use Rattle.std.proofs.lemmas.Bool.Decides.{nat_tests}
 use Rattle.std.proofs.lemmas.Option.{none-some, same_Some}
 use Rattle.message.specs.declared.message.ToVoter.{ToVoter}

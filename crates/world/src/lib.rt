@@ -36,8 +36,9 @@
 //! It is not promised that anybody enters.
 //!
 //! A [`SavedWorld`] can be taken apart into its [`Cycles`] and its [`Stored`] state, for worlds in which more
-//! happens than steps and crashes. What happens there is defined here (`specs/Incidents.antt`), as are ways in
-//! (`specs/WayIn.antt`) and how long a client waits (`specs/Waiting.antt`), since laws and programs share them.
+//! happens than steps and crashes. What happens there is defined here (`specs/Incidents.antt`). So are
+//! ways in (`specs/WayIn.antt`) and how long a client waits (`specs/Waiting.antt`): laws and programs
+//! share them.
 //!
 //! Depends on `world_state`, which has the state and its steps, on `dealer`, whose cycles give the quorums,
 //! and on `voter` and `requester`. It also depends on `message`, `certificate`, `quorum_set` and `numbers`.
