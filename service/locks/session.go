@@ -284,7 +284,7 @@ func (c *Client) reserve(stamp uint64, now time.Time) {
 // reserved.
 func (c *Client) noteStamps(voter int, base, reserved uint64) {
 	p := &c.peers[voter]
-	if reserved > qlock.MaxStamp || base > reserved {
+	if reserved > wire.MaxStamp || base > reserved {
 		c.stats.Refused++
 		return
 	}
@@ -593,7 +593,7 @@ func (c *Client) noteClaim(voter int, granted bool, base, reserved uint64) {
 		return
 	}
 	c.replied |= 1 << voter
-	if c.header.Epoch == 0 && reserved <= qlock.MaxStamp {
+	if c.header.Epoch == 0 && reserved <= wire.MaxStamp {
 		c.used = greatest(c.used, reserved) // what any session of the number used at this quorum
 	}
 	c.noteStamps(voter, base, reserved)

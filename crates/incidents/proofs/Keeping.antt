@@ -480,10 +480,10 @@ numbered_fit b limits s fit =
       messages = AllByRecursion-weaker (FitMessage b) (IsAddressed s.live) (addressed b s.live clients voters) s.live.sent fit.messages;
     }
 
-count_within : (limit n : ℕ) → limit ≤ 2 ^ 40 → IsWithin limit n → IsCount n
+count_within : (limit n : ℕ) → limit ≤ 2 ^ 62 → IsWithin limit n → IsCount n
 count_within limit n most within = let least = within.0 in let far = within.1 in (least, omega arith)
 
-counts_within : (limit : ℕ) (body : ClientBody) → limit ≤ 2 ^ 40 → ReportsWithin limit body → AreCounts body
+counts_within : (limit : ℕ) (body : ClientBody) → limit ≤ 2 ^ 62 → ReportsWithin limit body → AreCounts body
 counts_within limit (to_client.Locked stamp grant) most within = (count_within limit stamp most within.0, count_within limit grant most within.1)
 counts_within limit (to_client.Fail stamp) most within = count_within limit stamp most within
 counts_within limit (to_client.Inquire grant) most within = count_within limit grant most within

@@ -69,7 +69,7 @@ pub record IsFitState (voters clients limit : ℕ) (s : Saved) : Type 0 where
   pub saved_voters_are : AreFitVoters voters clients limit s.voters
   pub messages : AllByRecursion (IsFitMessage voters clients limit) s.live.sent
 
--- a world of these plans, with at most 64 voters and 64 clients, and a limit of at most 2^40
+-- a world of these plans, with at most 64 voters and 64 clients, and a limit of at most 2^62
 pub record IsFit (w : PlannedSaved) : Type 0 where
   pub plans : ArePlans w.plans
   pub clients : ℕ
