@@ -58,8 +58,8 @@ uint32_t qlock_version(void);
 #define QLOCK_MAX_VOTERS 64
 #define QLOCK_MAX_CLIENTS 64
 
-/* The greatest limit of stamps and of grants: 2 to the power of 40. */
-#define QLOCK_MAX_STAMP 1099511627776
+/* The greatest limit of stamps and of grants: 2 to the power of 62. */
+#define QLOCK_MAX_STAMP 4611686018427387904
 
 /* What a call returns. */
 enum {
@@ -133,6 +133,13 @@ int32_t qlock_voter_reborn(uint8_t id, uint64_t above, uint64_t limit, uint8_t *
    QLOCK_BAD_ARGUMENT  `limit` is below the voter's limit, or above QLOCK_MAX_STAMP
    QLOCK_BAD_STATE     the bytes are no voter */
 int32_t qlock_voter_extend(uint8_t *state, size_t n, uint64_t limit);
+
+/* Skips the numbers up to `above`: each later grant has a greater one. A grant that is held stays, and so does the limit. This is
+   for a voter that goes on above a number that others know, and keeps its grant. One that is reborn loses its grant.
+
+   QLOCK_BAD_ARGUMENT  `above` is below the number of grants, or above the voter's limit
+   QLOCK_BAD_STATE     the bytes are no voter */
+int32_t qlock_voter_raise(uint8_t *state, size_t n, uint64_t above);
 
 /* Lets the current grant go if it has the number `grant`, as a RELEASE of its client would; any other number does nothing.
    Writes the replies, as qlock_voter_take does. This is a lease: for a client that died or stands still. The client may still

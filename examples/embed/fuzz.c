@@ -107,7 +107,7 @@ static void one_lease(void) {
     size_t written = 7777;
     uint64_t a = 7777, b = 7777, c = 7777;
     int32_t yes = 7777;
-    size_t which = below(10);
+    size_t which = below(11);
     struct block state = which < 6 ? state_of(voter, sizeof voter) : state_of(client, sizeof client), out = block_of(room());
     struct block saved = state_of(voter, sizeof voter);
     int32_t result = -1;
@@ -140,6 +140,13 @@ static void one_lease(void) {
     case 1:
         call = "qlock_voter_extend";
         result = qlock_voter_extend(state.bytes, state.n, below(2) ? QLOCK_MAX_STAMP : number());
+        is_named(result, "012");
+        writes_state = result == QLOCK_DONE;
+        check_voter(&state, result);
+        break;
+    case 9:
+        call = "qlock_voter_raise";
+        result = qlock_voter_raise(state.bytes, state.n, number());
         is_named(result, "012");
         writes_state = result == QLOCK_DONE;
         check_voter(&state, result);

@@ -5,7 +5,7 @@
 import ctypes
 import sys
 
-STATE, GRANTS, GUARD, OUT, MAX_STAMP = 1104, 512, 520, 4864, 1 << 40
+STATE, GRANTS, GUARD, OUT, MAX_STAMP = 1104, 512, 520, 4864, 1 << 62
 DONE = 0
 
 library = ctypes.CDLL(sys.argv[1])

@@ -8,7 +8,7 @@ const STATE: usize = 1104;
 const GRANTS: usize = 512;
 const GUARD: usize = 520;
 const OUT: usize = 4864;
-const MAX_STAMP: u64 = 1 << 40;
+const MAX_STAMP: u64 = 1 << 62;
 const DONE: i32 = 0;
 
 extern "C" {

@@ -10,7 +10,7 @@ VOTER_BYTES = 1104
 CLIENT_BYTES = 1104
 FENCE_BYTES = 520
 PASS_BYTES = 512
-MAX_STAMP = 1 << 40
+MAX_STAMP = 1 << 62
 _VOTER_OUT = 240
 _CLIENT_OUT = 4864
 
@@ -177,6 +177,10 @@ class Voter(_State):
     def extend(self, limit: int) -> None:
         """Raises the number of grants that the voter may give in all."""
         call("voter_extend", *self._given(), _number(limit, 1, MAX_STAMP, "the limit"))
+
+    def raise_above(self, above: int) -> None:
+        """Skips the numbers up to this one: each later grant has a greater one. A grant that is held stays."""
+        call("voter_raise", *self._given(), _number(above, 0, MAX_STAMP, "the grants"))
 
     def evict(self, grant: int) -> List[bytes]:
         """Lets the current grant go if it has this number, and returns the replies. Its client may believe that it is still

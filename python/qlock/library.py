@@ -27,6 +27,7 @@ _CALLS: Dict[str, List[Any]] = {
     "voter_held": [*_STATE, _U64_OUT, _U64_OUT, _U64_OUT],
     "voter_reborn": [_U8, _U64, _U64, *_STATE],
     "voter_extend": [*_STATE, _U64],
+    "voter_raise": [*_STATE, _U64],
     "voter_evict": [*_STATE, _U64, *_OUT],
     "voter_knows": [*_STATE, _U8, _U64_OUT, _U64_OUT, _U64_OUT],
     "voter_forget": _STATE,

@@ -136,6 +136,17 @@ class Leases(unittest.TestCase):
         with self.assertRaises(qlock.BadArgument):
             voter.extend(200)
 
+    def test_voter_goes_on_above_a_number_and_keeps_its_grant(self):
+        play(self.voters, self.clients, self.clients[0].ask([0]))
+        self.voters[0].raise_above(50)
+        self.assertEqual(self.voters[0].held(), (0, 1, 1))
+        play(self.voters, self.clients, self.clients[0].leave())
+        play(self.voters, self.clients, self.clients[1].ask([0]))
+        self.assertEqual(self.clients[1].grant(0), 51)
+        for above in (50, 101, qlock.MAX_STAMP + 1):
+            with self.assertRaises(qlock.BadArgument):
+                self.voters[0].raise_above(above)
+
     def test_client_anew_ends_its_requests(self):
         play(self.voters, self.clients, self.clients[0].ask([0]))
         again = qlock.Client.anew(0, 5)

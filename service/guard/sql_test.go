@@ -20,10 +20,10 @@ type dialect struct {
 	state   string // writes one line: the turn, and the sum of what was seen
 }
 
-// isGreat returns whether a pass has a grant above 2^40.
+// isGreat returns whether a pass has a grant of 2^62 or more.
 func isGreat(pass []byte) bool {
 	for voter := 0; len(pass) == guard.PassBytes && voter < 64; voter++ {
-		if pass[8*voter+5] != 0 {
+		if pass[8*voter+7] >= 1<<6 {
 			return true
 		}
 	}
@@ -39,7 +39,7 @@ func judge(t *testing.T, d dialect) {
 	for n := 0; n < 400; n++ {
 		pass := randomPass(random, 5+59*(n%2))
 		if isGreat(pass) {
-			continue // a grant above 2^40, which no voter gives
+			continue // a grant that no voter gives
 		}
 		next, _, err := guard.Admit(state, pass)
 		if err == nil {

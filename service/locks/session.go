@@ -293,7 +293,7 @@ func (c *Client) reserve(stamp uint64, now time.Time) {
 // reserved.
 func (c *Client) noteStamps(voter int, base, reserved uint64) {
 	p := &c.peers[voter]
-	if reserved > qlock.MaxStamp || base > reserved {
+	if reserved > wire.MaxStamp || base > reserved {
 		c.stats.Refused++
 		return
 	}
@@ -602,7 +602,7 @@ func (c *Client) noteClaim(voter int, granted bool, base, reserved uint64) {
 		return
 	}
 	c.replied |= 1 << voter
-	if c.header.Epoch == 0 && base <= qlock.MaxStamp {
+	if c.header.Epoch == 0 && base <= wire.MaxStamp {
 		c.used = greatest(c.used, base) // what any session of the number used at this quorum
 	}
 	c.noteStamps(voter, base, reserved)

@@ -72,6 +72,11 @@ func (v *Voter) Extend(limit uint64) error {
 	return refusal(C.qlock_voter_extend(at(v.state[:]), VoterBytes, C.uint64_t(limit)))
 }
 
+// Raise skips the numbers up to `above`: each later grant has a greater one. A grant that is held stays.
+func (v *Voter) Raise(above uint64) error {
+	return refusal(C.qlock_voter_raise(at(v.state[:]), VoterBytes, C.uint64_t(above)))
+}
+
 // Forget forgets all but the grant that holds the vote and the number of grants. A daemon that calls it at each start saves
 // less (MustSave).
 func (v *Voter) Forget() error {

@@ -39,16 +39,16 @@ use Rattle.world.specs.Visible.{DealsFrom}
 use Rattle.world.proofs.Claims.{Bounds}
 use Rattle.world.proofs.ClientMoves.{Draws, member_below}
 use Rattle.world.proofs.Exclusion.{under_grant}
-use Rattle.world.proofs.IncidentLemmas.{asks_by, may_have}
+use Rattle.world.proofs.IncidentLemmas.{asks_by, may_count, may_have}
 use Rattle.world.proofs.Places.{set_client, set_voter}
 use Rattle.world.proofs.Plans.{plans_deal, plans_meet, quorums_of}
 use Rattle.world.proofs.Raises.{no_inquiry, raised_by_step}
 use Rattle.world.proofs.Reached.{Given, accepts_among, start_ok, start_unused}
 use Rattle.world.proofs.SavedWorlds.{SavedLaws}
-use Rattle.world.specs.Incidents.{Incident, Happens, Hears, IsReborn, StartsAnew, HasLimit, IsRaised, anew, be_raised, be_reborn, befalls, have_limit, hear, is_above, is_ahead, is_limit, is_message, is_request_within, limited, reborn, start_anew}
+use Rattle.world.specs.Incidents.{Incident, Happens, Hears, IsReborn, StartsAnew, HasLimit, IsRaised, IsSkipped, anew, be_raised, be_reborn, be_skipped, befalls, have_limit, hear, is_above, is_ahead, is_limit, is_message, is_request_within, limited, reborn, skipped, start_anew}
 use Rattle.incidents.specs.Calls.{befalls_by}
 use Rattle.incidents.specs.Fit.{IsFit, IsFitState, IsWritten}
-use Rattle.incidents.proofs.Pieces.{Comes, FitClient, FitMessage, FitVoter, MayHear, anew_fit, asks_fit, client_after, comes_by, comes_in_range, least_client_fit, least_voter_fit, limited_fit, may_hear, reborn_fit, reminders_fit, replies_fit, seen_carried, voter_after}
+use Rattle.incidents.proofs.Pieces.{Comes, FitClient, FitMessage, FitVoter, MayHear, anew_fit, asks_fit, client_after, comes_by, comes_in_range, counted_fit, least_client_fit, least_voter_fit, may_hear, reborn_fit, reminders_fit, replies_fit, seen_carried, voter_after}
 
 abbrev pub Fit : Bounds → Saved → Type 0
 Fit b s = IsFitState b.voters b.clients b.limit s
@@ -364,9 +364,7 @@ reborn_on : (b : Bounds) (s : Saved) → Fit b s → (v above : ℕ) (t : Bool) 
 reborn_on b s fit v above false is = fit
 reborn_on b s fit v above true is =
     let y = voter_at s.live.voters v in
-    let parts = and_parts (nat_lt v (length s.live.voters)) (is_above y above) is in
-    let ends = and_parts (nat_le y.granted above) (nat_le above y.limit) parts.1 in
-    let most : above ≤ y.limit = (let h = ends.1 in grind (arith, nat_tests)) in
+    let most = (may_count s v above is).most in
     let here : (v < b.voters → FitVoter b v (reborn y above)) = λ within. reborn_fit b v y above (fit.voters_are v within) most in
     let first = live_voter b s fit v (reborn y above) here in
     saved_voter b (record s { live = record s.live { voters = slice_set s.live.voters v (reborn y above) } }) first v (reborn y above) here
@@ -386,7 +384,15 @@ limited_on : (b : Bounds) → Given b → (s : Saved) → Fit b s → (v limit :
 limited_on b given s fit v limit false is = fit
 limited_on b given s fit v limit true is =
     let may = may_have b s fit.many_clients (λ some. (fit.clients_are 0 some).limit) v limit is in
-    live_voter b s fit v (limited (voter_at s.live.voters v) limit) (λ within. limited_fit b given v (voter_at s.live.voters v) limit (fit.voters_are v within) may.least may.most)
+    live_voter b s fit v (limited (voter_at s.live.voters v) limit) (λ within.
+    counted_fit b given v (voter_at s.live.voters v) (voter_at s.live.voters v).granted limit (fit.voters_are v within) (omega arith) may.least may.most)
+
+skipped_on : (b : Bounds) → Given b → (s : Saved) → Fit b s → (v above : ℕ) (t : Bool) → (nat_lt v (length s.live.voters) && is_above (voter_at s.live.voters v) above) ≡ t → Fit b (be_skipped t s v above)
+skipped_on b given s fit v above false is = fit
+skipped_on b given s fit v above true is =
+    let may = may_count s v above is in
+    let y = voter_at s.live.voters v in
+    live_voter b s fit v (skipped y above) (λ within. let was = fit.voters_are v within in counted_fit b given v y above y.limit was may.least may.most was.limit)
 
 raised_on : (b : Bounds) → Given b → (s : Saved) → Fit b s → (c clock : ℕ) (t : Bool) → nat_lt c (length s.live.clients) ≡ t → Fit b (be_raised t s c clock)
 unfolding client.step
@@ -407,6 +413,7 @@ befalls_fit b given deal deals s fit (IsReborn v above) written = reborn_on b s 
 befalls_fit b given deal deals s fit (StartsAnew c clock) written = anew_on b given s fit c clock _ refl
 befalls_fit b given deal deals s fit (HasLimit v limit) written = limited_on b given s fit v limit _ refl
 befalls_fit b given deal deals s fit (IsRaised c clock) written = raised_on b given s fit c clock _ refl
+befalls_fit b given deal deals s fit (IsSkipped v above) written = skipped_on b given s fit v above _ refl
 
 -- ---- the first world
 
@@ -478,10 +485,10 @@ numbered_fit b limits s fit =
       messages = AllByRecursion-weaker (FitMessage b) (IsAddressed s.live) (addressed b s.live clients voters) s.live.sent fit.messages;
     }
 
-count_within : (limit n : ℕ) → limit ≤ 2 ^ 40 → IsWithin limit n → IsCount n
+count_within : (limit n : ℕ) → limit ≤ 2 ^ 62 → IsWithin limit n → IsCount n
 count_within limit n most within = let least = within.0 in let far = within.1 in (least, omega arith)
 
-counts_within : (limit : ℕ) (body : ClientBody) → limit ≤ 2 ^ 40 → ReportsWithin limit body → AreCounts body
+counts_within : (limit : ℕ) (body : ClientBody) → limit ≤ 2 ^ 62 → ReportsWithin limit body → AreCounts body
 counts_within limit (to_client.Locked stamp grant) most within = (count_within limit stamp most within.0, count_within limit grant most within.1)
 counts_within limit (to_client.Fail stamp) most within = count_within limit stamp most within
 counts_within limit (to_client.Inquire grant) most within = count_within limit grant most within

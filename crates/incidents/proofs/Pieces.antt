@@ -28,6 +28,7 @@ use Rattle.requester.specs.declared.state.ClientState.{ClientState}
 use Rattle.requester.specs.RequesterContract.{Accepts, AllInRange, AllRepeat, AllSay, ComesInRange, IsLocked, IsReached, KeepsQuorum, Locks, RemindersInRange, Repeats, Says, SaysInRange}
 use Rattle.requester.specs.Saved.{least_client}
 use Rattle.voter.proofs.KeptLemmas as kept
+use Rattle.voter.proofs.Soundness.{IsSound-counted}
 use Rattle.requester.proofs.SavedLemmas.{least_is_sound}
 use Rattle.requester.specs.Soundness as sound
 use Rattle.requester.specs.Steps as client
@@ -38,9 +39,9 @@ use Rattle.world.specs.Visible.{DoMeet, IsAmong}
 use Rattle.world.proofs.Claims.{Bounds}
 use Rattle.world.proofs.ClientMoves.{Draws, member_below}
 use Rattle.world.proofs.Exclusion.{under_grant}
-use Rattle.world.proofs.IncidentLemmas.{AsksInRange, anew_sound, brought, limited_sound, reborn_sound}
+use Rattle.world.proofs.IncidentLemmas.{AsksInRange, anew_sound, brought, counted, reborn_sound}
 use Rattle.world.proofs.Reached.{Given}
-use Rattle.world.specs.Incidents.{anew, limited, reborn}
+use Rattle.world.specs.Incidents.{anew, reborn}
 use Rattle.incidents.specs.Fit.{IsFitClient, IsFitMessage, IsFitVoter}
 
 abbrev pub FitClient : Bounds → ℕ → ClientState → Type 0
@@ -279,11 +280,12 @@ reborn_fit b v y above fit most = record {
   seen = omega arith;
 }
 
-pub limited_fit : (b : Bounds) → Given b → (v : ℕ) (y : VoterState) (limit : ℕ) → FitVoter b v y → y.granted ≤ limit → limit ≤ b.limit → FitVoter b v (limited y limit)
-limited_fit b given v y limit fit least most = record {
+pub counted_fit : (b : Bounds) → Given b → (v : ℕ) (y : VoterState) (granted limit : ℕ) → FitVoter b v y → y.granted ≤ granted → granted ≤ limit → limit ≤ b.limit
+    → FitVoter b v (counted y granted limit)
+counted_fit b given v y granted limit fit more within most = record {
   id = fit.id;
   limit = most;
-  sound = limited_sound y limit fit.sound least (let few = given.limits.few_stamps in omega arith);
+  sound = IsSound-counted y granted limit fit.sound more within (let few = given.limits.few_stamps in omega arith);
   requests = fit.requests;
   grant = fit.grant;
   seen = fit.seen;

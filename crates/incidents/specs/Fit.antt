@@ -17,7 +17,7 @@ use Rattle.world.specs.Restarts.{Saved}
 use Rattle.world.specs.Runs.{AreLimits}
 use Rattle.world.specs.SavedWorlds.{PlannedSaved}
 use Rattle.world_state.specs.Steps.{client_at, voter_at}
-use Rattle.world.specs.Incidents.{Incident, Happens, Hears, IsReborn, StartsAnew, HasLimit, IsRaised}
+use Rattle.world.specs.Incidents.{Incident, Happens, Hears, IsReborn, StartsAnew, HasLimit, IsRaised, IsSkipped}
 
 -- The client knows its number and the limit of stamps. It asks voters of this world, and each grant that
 -- it holds or gave back is at most the limit.
@@ -69,7 +69,7 @@ pub record IsFitState (voters clients limit : ℕ) (s : Saved) : Type 0 where
   pub saved_voters_are : AreFitVoters voters clients limit s.voters
   pub messages : AllByRecursion (IsFitMessage voters clients limit) s.live.sent
 
--- a world of these plans, with at most 64 voters and 64 clients, and a limit of at most 2^40
+-- a world of these plans, with at most 64 voters and 64 clients, and a limit of at most 2^62
 pub record IsFit (w : PlannedSaved) : Type 0 where
   pub plans : ArePlans w.plans
   pub clients : ℕ
@@ -85,3 +85,4 @@ IsWritten (IsReborn v above) = Unit {0}
 IsWritten (StartsAnew c clock) = Unit {0}
 IsWritten (HasLimit v limit) = Unit {0}
 IsWritten (IsRaised c clock) = Unit {0}
+IsWritten (IsSkipped v above) = Unit {0}

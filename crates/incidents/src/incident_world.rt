@@ -1,6 +1,6 @@
 //! Worlds with incidents.
 ghost use Rattle.std.specs.Prelude.{◌≡◌, ◌<◌, ◌≤◌, IfErr, IfNone, IfOk, IfSome, Ok, OnErr, OnOk, Some, length, option_map, slice_get, true};
-ghost use Rattle.numbers.specs.Bounds.{max_clients, max_stamp};
+ghost use Rattle.numbers.specs.Bounds.{max_clients, max_limit};
 ghost use Rattle.incidents.specs.Calls.{IsCalm, RefusesAnew, RefusesClient, RefusesEviction, RefusesRebirth, RefusesVoter, befalls_by, grant_at, letting_go};
 ghost use Rattle.incidents.specs.Fit.{IsFit};
 ghost use Rattle.world.specs.Incidents.{Happens, Hears, IsReborn, StartsAnew, is_above, is_ahead};
@@ -65,7 +65,7 @@ impl IncidentWorld {
         requires some { 1 ≤ clients }
         requires few { clients ≤ max_clients }
         requires least { 1 ≤ limit }
-        requires most { limit ≤ max_stamp }
+        requires most { limit ≤ max_limit }
         ensures world { IfOk result (λ world. world ≡ record { plans = plans; saved = begin_by plans clients limit }) }
         ensures calm { IfOk result IsCalm }
     {

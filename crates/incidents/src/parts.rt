@@ -1,6 +1,6 @@
 //! What befalls the clients and the voters of a world.
 ghost use Rattle.std.specs.Prelude.{◌≡◌, ◌<◌, ◌≤◌, IfErr, IfOk, Ok, OnErr, OnOk, Some, length, slice_set, true};
-ghost use Rattle.numbers.specs.Bounds.{max_clients, max_stamp, max_voters};
+ghost use Rattle.numbers.specs.Bounds.{max_clients, max_limit, max_voters};
 ghost use Rattle.incidents.specs.Calls.{RefusesAnew, RefusesClient, RefusesEviction, RefusesRebirth, RefusesVoter, Takes, grant_at, letting_go};
 ghost use Rattle.world.specs.Incidents as incidents;
 ghost use Rattle.world.specs.Incidents.{is_above, is_ahead};
@@ -127,7 +127,7 @@ fn make_reborn(voters: &mut Vec<Voter>, voter: u8, above: u64, limit: u64)
     requires there { voter < length voters.old.items }
     requires id { voter < max_voters }
     requires above { above ≤ limit }
-    requires limit { limit ≤ max_stamp }
+    requires limit { limit ≤ max_limit }
     ensures { voters.new.items ≡ slice_set voters.old.items voter (reborn voter above limit) }
 {
     voters[usize::from(voter)] = Voter::reborn(voter, above, limit);
@@ -138,7 +138,7 @@ fn make_anew(clients: &mut Vec<Requester>, client: u8, limit: u64, clock: u64)
     requires there { client < length clients.old.items }
     requires id { client < max_clients }
     requires least { 1 ≤ limit }
-    requires most { limit ≤ max_stamp }
+    requires most { limit ≤ max_limit }
     requires clock { clock ≤ limit }
     ensures { clients.new.items ≡ slice_set clients.old.items client (anew client limit clock) }
 {

@@ -49,7 +49,7 @@ use Rattle.world.specs.Restarts.{all_happen, come_back, if_there, receiver}
 use Rattle.world.specs.Runs.{AreLimits}
 use Rattle.world_state.specs.Steps.{Outcome, come, exchange, if_client, if_voter, next_ticket, quorum_dealt, step}
 use Rattle.world.specs.Visible.{DealsFrom, DoMeet, IsAmong, IsExclusive}
-use Rattle.world.specs.Incidents.{Incident, Happens, Hears, IsReborn, StartsAnew, HasLimit, IsRaised, all_befall, anew, be_raised, be_reborn, befalls, have_limit, hear, is_above, is_ahead, is_message, is_request_within, limited, reborn, start_anew}
+use Rattle.world.specs.Incidents.{Incident, Happens, Hears, IsReborn, StartsAnew, HasLimit, IsRaised, IsSkipped, all_befall, anew, be_raised, be_reborn, be_skipped, befalls, have_limit, hear, is_above, is_ahead, is_message, is_request_within, reborn, start_anew}
 use Rattle.world.proofs.Raises.{no_inquiry, raised_by_step}
 use Rattle.leases.specs.Orderly.{EndsOld}
 use Rattle.leases.proofs.Rebirths.{ends_within}
@@ -59,7 +59,7 @@ use Rattle.world.proofs.Restarts.{SavedOk, all_ok}
 use Rattle.world.proofs.Reached.{accepts_among}
 use Rattle.world.proofs.VoterMoves.{more_granted}
 use Rattle.world.proofs.Claims.{AskOk, IsClient, MessageOk, ReportOk, WorldOk, Bounds}
-use Rattle.world.proofs.IncidentLemmas.{AsksInRange, brought}
+use Rattle.world.proofs.IncidentLemmas.{AsksInRange, brought, counted, may_count}
 use Rattle.world.proofs.Places.{client_here, set_client, set_voter}
 use Rattle.world.proofs.Reached.{Given, new_voters, start_ok, start_unused, voter_new, voter_past}
 use Rattle.quorum_set.specs.declared.bridge.Side.{Side}
@@ -601,8 +601,7 @@ settled_reborn b G s num st v above false is = st
 settled_reborn b G s num st v above true is =
     let y = voter_at s.live.voters v in
     let z = reborn y above in
-    let ends = and_parts (nat_le y.granted above) (nat_le above y.limit) (and_parts (nat_lt v (length s.live.voters)) (is_above y above) is).1 in
-    let least : y.granted ≤ above = (let h = ends.0 in grind (arith, nat_tests)) in
+    let least = (may_count s v above is).least in
     let u = live_voter_settled b s st v z (reborn_fits b s.clients y above) in
     saved_voter_settled b (record s { live = record s.live { voters = slice_set s.live.voters v z } }) u v z (reborn_fits b s.clients y above) (let behind = num.behind v in omega arith)
 
@@ -670,17 +669,25 @@ settled_hears b given end G s num st m is = settled_if_voter b s st (OneVoter m.
     let fits = lawful_fits b G s num st m within is in
     voter_tries b given end G s num st m (within, here, fits.1) fits.0 (voter.step (voter_at s.live.voters m.voter) m) refl))
 
-settled_limited : (b : Bounds) (s : Saved) → Settled b s → (v limit : ℕ) (t : Bool) → Settled b (have_limit t s v limit)
-settled_limited b s st v limit false = st
-settled_limited b s st v limit true =
+settled_counted : (b : Bounds) (s : Saved) → Settled b s → (v granted limit : ℕ)
+    → Settled b (record s { live = record s.live { voters = slice_set s.live.voters v (counted (voter_at s.live.voters v) granted limit) } })
+settled_counted b s st v granted limit =
     let was = st.live_voters v in
-    live_voter_settled b s st v (limited (voter_at s.live.voters v) limit) (record {
+    live_voter_settled b s st v (counted (voter_at s.live.voters v) granted limit) (record {
       entries = was.entries;
       numbered = was.numbered;
       seen = was.seen;
       finished = was.finished;
       back = was.back;
     })
+
+settled_limited : (b : Bounds) (s : Saved) → Settled b s → (v limit : ℕ) (t : Bool) → Settled b (have_limit t s v limit)
+settled_limited b s st v limit false = st
+settled_limited b s st v limit true = settled_counted b s st v (voter_at s.live.voters v).granted limit
+
+settled_skipped : (b : Bounds) (s : Saved) → Settled b s → (v above : ℕ) (t : Bool) → Settled b (be_skipped t s v above)
+settled_skipped b s st v above false = st
+settled_skipped b s st v above true = settled_counted b s st v above (voter_at s.live.voters v).limit
 
 settled_raised : (b : Bounds) → Given b → (G : Naming) (s : Saved) → Numbered b G s → Settled b s → (c clock : ℕ) (t : Bool) → nat_lt c (length s.live.clients) ≡ t → Settled b (be_raised t s c clock)
 unfolding client.step
@@ -700,6 +707,7 @@ settled_befalls b given end deal deals G s num st (IsReborn v above) lawful = se
 settled_befalls b given end deal deals G s num st (StartsAnew c clock) lawful = settled_anew b s st c clock _ refl
 settled_befalls b given end deal deals G s num st (HasLimit v limit) lawful = settled_limited b s st v limit _
 settled_befalls b given end deal deals G s num st (IsRaised c clock) lawful = settled_raised b given G s num st c clock _ refl
+settled_befalls b given end deal deals G s num st (IsSkipped v above) lawful = settled_skipped b s st v above _
 
 pub record Reaches (b : Bounds) (s : Saved) : Type 0 where
   pub named : Naming

@@ -2,6 +2,7 @@
 use Rattle.std.proofs.Common.{◌≡◌, ℕ, zero, suc, ◌≤◌, true, List, [], ◌∷◌, ◌++◌, take, refl, sym, ap, subst, ◌∙◌, ◌⊎◌, inl, inr, arith}
 use Rattle.std.specs.Prelude.{slice_index}
 use Rattle.std.specs.List.{AllByRecursion}
+use Rattle.std.proofs.lemmas.Bool.{cases_lt}
 use Rattle.std.proofs.lemmas.Bool.Decides.{nat_tests}
 use Rattle.std.proofs.lemmas.Option.{same_Some}
 use Rattle.voter.specs.declared.state.Grant.{Grant}
@@ -32,6 +33,7 @@ use Rattle.leases.proofs.Numbers.{all_on, among_of, grant_of, Further, IsGrant, 
 -- what holds of a whole story: each client, at each moment, had votes by grants that have one name
 pub record Whole (b : Bounds) (deal : Dealing) (G : Naming) (s : Saved) (incidents : List Incident) : Type 0 where
   pub named : Naming
+  pub ok : Numbered b named (all_befall deal incidents s)
   pub further : Further G named (count s.voters) (count (all_befall deal incidents s).voters)
   pub every : (moment c : ℕ) → Knows b named (count (all_befall deal incidents s).voters) c (client_at (all_befall deal (take moment incidents) s).live.clients c)
 
@@ -55,6 +57,7 @@ next_moments b deal G H s i is ok f rest (suc n) c = rest n c
 whole : (b : Bounds) → Given b → (deal : Dealing) → DealsFrom b.quorums deal → (G : Naming) (s : Saved) → Numbered b G s → (incidents : List Incident) → Whole b deal G s incidents
 whole b given deal deals G s ok [] = record {
   named = G;
+  ok = ok;
   further = record { same = λ v n few. refl; more = λ v. same_number (count s.voters v) };
   every = first_moments b deal G s ok;
 }
@@ -62,7 +65,7 @@ whole b given deal deals G s ok (i ∷ is) =
     let one = befalls_on b given deal deals G s ok i in
     let rest = whole b given deal deals one.named (befalls deal s i) one.ok is in
     let f = join G one.named rest.named (count s.voters) (count (befalls deal s i).voters) (count (all_befall deal (i ∷ is) s).voters) one.further rest.further in
-    record { named = rest.named; further = f; every = next_moments b deal G rest.named s i is ok f rest.every }
+    record { named = rest.named; ok = rest.ok; further = f; every = next_moments b deal G rest.named s i is ok f rest.every }
 
 -- ---- two moments
 
@@ -247,7 +250,6 @@ current_admitted cs vs voters clients limit quorums deal incidents seen pass lim
     let given : Given b = record { client = cs; voter = vs; limits = limits; meet = meets } in
     let first = begin voters clients limit in
     let all = whole b given deal deals nobody first (begin_on b given) incidents in
-    let end = all_on b given deal deals nobody first (begin_on b given) incidents in
     let story : Story = record { deal = deal; first = first; incidents = incidents } in
     elim (none_or_some (slice_index pass v)) [
       | inl none ↦ shows_none seen pass v none
@@ -257,13 +259,20 @@ current_admitted cs vs voters clients limit quorums deal incidents seen pass lim
           | inl nothing ↦ (let same = was.1 in omega arith)
           | inr had ↦
               let w = was.0 in
-              let known = ((all.every w.moment w.client).votes v (slice_index (pass_in story w) v) (under_grant (client_at (world_at story w.moment).live.clients w.client) v had)).1 in
-              let behind = end.ok.behind v in
+              let k = slice_index (pass_in story w) v in
+              let known = (all.every w.moment w.client).votes v k (under_grant (client_at (world_at story w.moment).live.clients w.client) v had) in
               let g = current v some in
-              let latest = (end.ok.live_voters v).latest g.0 g.1 in
               let number = g.2 in
               let same = was.1 in
-              omega arith
+              elim (cases_lt g.0.grant k) [
+                | inl later ↦
+                    let behind = all.ok.behind v in
+                    let few = known.1 in
+                    let unused = (all.ok.live_voters v).latest g.0 g.1 k later (omega arith) in
+                    let named = ap (λ (h : Grant). h.grant) known.0 in
+                    absurd (omega arith)
+                | inr older ↦ omega arith
+              ]
         ]
       ])
     ]

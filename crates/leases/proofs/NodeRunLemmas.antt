@@ -27,7 +27,7 @@ use Rattle.world.specs.Restarts.{Saved, OneVoter, Goes, Saves, Forgets, Restarts
 use Rattle.world_state.specs.Steps.{is_silent}
 use Rattle.world.specs.Rules.{VoterLaws}
 use Rattle.world_state.specs.Steps.{Dealing, after_voter, come, if_client, if_voter, say, step, vote, voter_at, voter_did}
-use Rattle.world.specs.Incidents.{Incident, Happens, Hears, IsReborn, StartsAnew, HasLimit, IsRaised, all_befall, befalls, hear, is_message, is_request_within}
+use Rattle.world.specs.Incidents.{Incident, Happens, Hears, IsReborn, StartsAnew, HasLimit, IsRaised, IsSkipped, all_befall, befalls, hear, is_message, is_request_within}
 use Rattle.leases.specs.Comeback.{AreLawful, IsEviction}
 use Rattle.leases.specs.Orderly.{AreOrderly}
 use Rattle.leases.specs.NodeRuns.{ArePlaces, EvictsNone, HasVoter, MayCome, MayRun, Places, WasSent, arrival_by, eviction_of, incidents_from, incidents_of, unless_refused, with_voter}
@@ -421,6 +421,7 @@ happen-append (IsReborn v above ∷ is) js first then_ = absurd first
 happen-append (StartsAnew c clock ∷ is) js first then_ = absurd first
 happen-append (HasLimit v limit ∷ is) js first then_ = absurd first
 happen-append (IsRaised c clock ∷ is) js first then_ = absurd first
+happen-append (IsSkipped v above ∷ is) js first then_ = absurd first
 
 happen_orderly : (deal : Dealing) (is : List Incident) (s : Saved) → AllHappen is → AreOrderly deal s is
 happen_orderly deal [] s all = tt
@@ -430,6 +431,7 @@ happen_orderly deal (IsReborn v above ∷ is) s all = absurd all
 happen_orderly deal (StartsAnew c clock ∷ is) s all = absurd all
 happen_orderly deal (HasLimit v limit ∷ is) s all = absurd all
 happen_orderly deal (IsRaised c clock ∷ is) s all = absurd all
+happen_orderly deal (IsSkipped v above ∷ is) s all = absurd all
 
 happen_unless : (r : Result nodes.Turn NodeFault) (is : List Incident) → AllHappen is → AllHappen (unless_refused r is)
 happen_unless (Ok t) is all = all

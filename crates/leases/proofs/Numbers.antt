@@ -5,7 +5,7 @@ use Rattle.std.specs.FinMap as fin
 use Rattle.std.specs.Ordering.{nat_cmp}
 use Rattle.std.specs.List.{AllByRecursion}
 use Rattle.std.proofs.lemmas.Option.{none-some, same_Some}
-use Rattle.std.proofs.lemmas.Bool.{and_parts, ltb-true}
+use Rattle.std.proofs.lemmas.Bool.{and_parts, cases_lt, ltb-true}
 use Rattle.std.proofs.lemmas.Bool.Decides.{nat_tests}
 use Rattle.std.proofs.lemmas.List.{length-set}
 use Rattle.numbers.proofs.Lists.{AllByRecursion-append, AllByRecursion-get, AllByRecursion-weaker, slice_index-replicate_zero}
@@ -30,6 +30,7 @@ use Rattle.requester.specs.declared.state.Seen.TheVariants.{Nothing}
 use Rattle.requester.specs.RequesterContract.{Accepts, AllInRange, AllRepeat, AllSay, ComesInRange, IsLocked, IsReached, KeepsQuorum, Locks, RemindersInRange, SaysInRange}
 use Rattle.requester.specs.Saved.{least_client}
 use Rattle.voter.proofs.KeptLemmas as kept
+use Rattle.voter.proofs.Soundness.{IsSound-counted}
 use Rattle.requester.proofs.SavedLemmas.{least_is_sound}
 use Rattle.requester.specs.Soundness as sound
 use Rattle.requester.specs.Steps as client
@@ -49,12 +50,12 @@ use Rattle.world.proofs.Claims.{Bounds}
 use Rattle.world.specs.Ranges.{IsWithin}
 use Rattle.world.proofs.ClientMoves.{Draws, member_below}
 use Rattle.world.proofs.Exclusion.{inside_busy}
-use Rattle.world.proofs.IncidentLemmas.{AsksInRange, anew_sound, asks_by, brought, limited_sound, may_have, reborn_sound}
+use Rattle.world.proofs.IncidentLemmas.{AsksInRange, anew_sound, asks_by, brought, counted, may_count, may_have, reborn_sound}
 use Rattle.world.proofs.Places.{set_client, set_voter, voter_here}
 use Rattle.world.proofs.Raises.{no_inquiry, raised_by_step}
 use Rattle.world.proofs.Reached.{Given, accepts_among, start_ok, start_unused}
 use Rattle.world.proofs.Restarts.{AreAll}
-use Rattle.world.specs.Incidents.{Incident, Happens, Hears, IsReborn, StartsAnew, HasLimit, IsRaised, all_befall, anew, be_raised, be_reborn, befalls, come_back_as, have_limit, hear, is_above, is_ahead, is_limit, is_message, is_request_within, limited, reborn, start_anew, start_as}
+use Rattle.world.specs.Incidents.{Incident, Happens, Hears, IsReborn, StartsAnew, HasLimit, IsRaised, IsSkipped, all_befall, anew, be_raised, be_reborn, be_skipped, befalls, come_back_as, have_limit, hear, is_above, is_ahead, is_limit, is_message, is_request_within, limited, reborn, skipped, start_anew, start_as}
 
 -- ---- what is named
 
@@ -91,13 +92,18 @@ pub record Knows (b : Bounds) (G : Naming) (N : ℕ → ℕ) (c : ℕ) (x : Clie
   pub limit : c < b.clients → x.limit ≡ b.limit
   pub votes : (v g : ℕ) → holds_under x v g ≡ true → IsGrant G N v c x.stamp g
 
+-- no number above the first, up to the second, has a grant
+abbrev pub AreUnused : Naming → ℕ → ℕ → ℕ → Type 0
+AreUnused G v low top = (n : ℕ) → low < n → n ≤ top → (G v n).grant ≡ 0
+
 pub record Votes (b : Bounds) (G : Naming) (v : ℕ) (y : VoterState) : Type 0 where
   pub sound : voter.IsSound y
   pub id : v < b.voters → y.id ≡ v
   pub limit : y.limit ≤ b.limit
   pub entries : (c s : ℕ) → IsEntry y c s → (c < b.clients) × IsWithin b.limit s
   pub held : (g : Grant) → y.held ≡ Some g → G v g.grant ≡ g
-  pub latest : (g : Grant) → y.held ≡ Some g → g.grant ≡ y.granted
+  -- after the current grant numbers may be skipped, and none was given
+  pub latest : (g : Grant) → y.held ≡ Some g → AreUnused G v g.grant y.granted
 
 -- more grants are named, and none anew
 pub record Further (G H : Naming) (N M : ℕ → ℕ) : Type 0 where
@@ -162,7 +168,7 @@ record Names_on (G : Naming) (v : ℕ) (y z : VoterState) : Type 0 where
   after : Naming
   same : (w n : ℕ) → (w ≡ v → n ≤ y.granted) → after w n ≡ G w n
   held : (g : Grant) → z.held ≡ Some g → after v g.grant ≡ g
-  latest : ((g : Grant) → y.held ≡ Some g → g.grant ≡ y.granted) → (g : Grant) → z.held ≡ Some g → g.grant ≡ z.granted
+  latest : ((g : Grant) → y.held ≡ Some g → AreUnused G v g.grant y.granted) → (g : Grant) → z.held ≡ Some g → AreUnused after v g.grant z.granted
   more : y.granted ≤ z.granted
 
 abbrev named_also : Naming → ℕ → ℕ → Grant → Naming
@@ -189,7 +195,9 @@ new_names G v y z new = record {
       let same : new.grant ≡ g = same_Some new.grant g (sym new.held ∙ is) in
       subst (λ (h : Grant). named_also G v (y.granted + 1) new.grant v h.grant ≡ h) same
       (ap (λ n. named_also G v (y.granted + 1) new.grant v n) new.number ∙ also_new G v (y.granted + 1) new.grant);
-  latest = λ was g is. ap (λ (h : Grant). h.grant) (same_Some g new.grant (sym is ∙ new.held)) ∙ new.number ∙ sym new.granted;
+  latest = λ was g is n above most.
+      let last = ap (λ (h : Grant). h.grant) (same_Some g new.grant (sym is ∙ new.held)) ∙ new.number ∙ sym new.granted in
+      absurd (omega arith);
   more = let is = new.granted in omega arith;
 }
 
@@ -198,8 +206,38 @@ names_on G v true y z (inl ends) was =
     record { after = G; same = λ w n few. refl; held = λ g is. absurd (none-some g (sym ends.held ∙ is)); latest = λ before g is. absurd (none-some g (sym ends.held ∙ is)); more = (let is = ends.granted in omega arith) }
 names_on G v true y z (inr new) was = new_names G v y z new
 names_on G v false y z (inl stays) was =
-    record { after = G; same = λ w n few. refl; held = λ g is. was g (sym stays.held ∙ is); latest = λ before g is. before g (sym stays.held ∙ is) ∙ sym stays.granted; more = (let is = stays.granted in omega arith) }
+    record { after = G; same = λ w n few. refl; held = λ g is. was g (sym stays.held ∙ is); latest = λ before g is n above most. before g (sym stays.held ∙ is) n above (let same = stays.granted in omega arith); more = (let is = stays.granted in omega arith) }
 names_on G v false y z (inr new) was = new_names G v y z new.1
+
+-- the naming in which this voter gave no number above this one
+abbrev unnamed_after : Naming → ℕ → ℕ → Naming
+unnamed_after G v low w n = cond (eqb w v && nat_lt low n) (grant_of 0 0 0) (G w n)
+
+unnamed_same : (G : Naming) (v low w n : ℕ) → (w ≡ v → n ≤ low) → unnamed_after G v low w n ≡ G w n
+unnamed_same G v low w n few = elim (eqb w v && nat_lt low n) as (λ t. (eqb w v && nat_lt low n) ≡ t → cond t (grant_of 0 0 0) (G w n) ≡ G w n) [
+  | true ↦ λ e.
+      let same : w ≡ v = grind (arith, nat_tests) in
+      let here : low < n = grind (arith, nat_tests) in
+      let below = few same in
+      absurd (omega arith)
+  | false ↦ λ e. refl
+] refl
+
+unnamed_above : (G : Naming) (v low n : ℕ) → low < n → (unnamed_after G v low v n).grant ≡ 0
+unnamed_above G v low n above = ap (λ t. (cond t (grant_of 0 0 0) (G v n)).grant) (let e : (eqb v v && nat_lt low n) ≡ true = grind (arith, nat_tests) in e)
+
+-- a voter that skips numbers gives them to nobody
+skipped_names : (G : Naming) (v : ℕ) (y : VoterState) (above : ℕ) → voter.IsSound y → y.granted ≤ above → ((g : Grant) → y.held ≡ Some g → G v g.grant ≡ g) → Names_on G v y (skipped y above)
+skipped_names G v y above sound more was = record {
+  after = unnamed_after G v y.granted;
+  same = unnamed_same G v y.granted;
+  held = λ g is. unnamed_same G v y.granted v g.grant (λ at. sound.numbered g is) ∙ was g is;
+  latest = λ before g is n later most. elim (cases_lt y.granted n) [
+    | inl new ↦ unnamed_above G v y.granted n new
+    | inr old ↦ ap (λ (h : Grant). h.grant) (unnamed_same G v y.granted v n (λ at. old)) ∙ before g is n later old
+  ];
+  more = more;
+}
 
 named_by : (b : Bounds) (H : Naming) (M : ℕ → ℕ) (v : ℕ) (z : VoterState) → Votes b H v z → z.granted ≤ M v
     → (c : ℕ) (body : ClientBody) → ReportsVote z.held c body → IsNamed b H M v c body
@@ -452,12 +490,19 @@ voter_put_on b G s ok v z n votes =
       id = was.id;
       limit = was.limit;
       entries = was.entries;
-      latest = was.latest;
+      latest = λ g is k above most. ap (λ (h : Grant). h.grant) (n.same q k (λ at. subst (λ (w : ℕ). k ≤ (voter_at s.live.voters w).granted) at most)) ∙ was.latest g is k above most;
       held = λ g is. n.same q g.grant (λ at. subst (λ (k : ℕ). g.grant ≤ (voter_at s.live.voters k).granted) at (was.sound.numbered g is)) ∙ was.held g is;
     } in
     let saved : (q : ℕ) → Votes b H q (voter_at s.voters q) = λ q.
     let was = ok.voters q in
-    record { sound = was.sound; id = was.id; limit = was.limit; entries = was.entries; latest = was.latest; held = λ g is. f.same q g.grant (was.sound.numbered g is) ∙ was.held g is } in
+    record {
+      sound = was.sound;
+      id = was.id;
+      limit = was.limit;
+      entries = was.entries;
+      latest = λ g is k above most. ap (λ (h : Grant). h.grant) (f.same q k most) ∙ was.latest g is k above most;
+      held = λ g is. f.same q g.grant (was.sound.numbered g is) ∙ was.held g is;
+    } in
     record {
       named = H;
       ok = record {
@@ -717,15 +762,13 @@ reborn_on b G s ok v above false is = stays b G s ok
 reborn_on b G s ok v above true is =
     let y = voter_at s.live.voters v in
     let z = reborn y above in
-    let parts = and_parts (nat_lt v (length s.live.voters)) (is_above y above) is in
-    let ends = and_parts (nat_le y.granted above) (nat_le above y.limit) parts.1 in
-    let least : y.granted ≤ above = (let h = ends.0 in grind (arith, nat_tests)) in
-    let most : above ≤ y.limit = (let h = ends.1 in grind (arith, nat_tests)) in
-    let first = live_voter b G s ok v z (reborn_votes b G G v y above (ok.live_voters v) most) (let behind = ok.behind v in omega arith) in
+    let may = may_count s v above is in
+    let least = may.least in
+    let first = live_voter b G s ok v z (reborn_votes b G G v y above (ok.live_voters v) may.most) (let behind = ok.behind v in omega arith) in
     let t : Saved = record s { live = record s.live { voters = slice_set s.live.voters v z } } in
-    let there : voter_at t.live.voters v ≡ z = voter_here s.live.voters v z (ltb-true _ _ parts.0) in
+    let there : voter_at t.live.voters v ≡ z = voter_here s.live.voters v z may.within in
     let count_there : count t.live.voters v ≡ above = ap (λ (w : VoterState). w.granted) there in
-    let second = saved_voter b first.named t first.ok v z (reborn_votes b G first.named v y above (ok.live_voters v) most) (let behind = ok.behind v in omega arith) (omega arith) in
+    let second = saved_voter b first.named t first.ok v z (reborn_votes b G first.named v y above (ok.live_voters v) may.most) (let behind = ok.behind v in omega arith) (omega arith) in
     then_on b G s t (come_back_as s v z) first second
 
 anew_knows : (b : Bounds) → Given b → (G H : Naming) (N M : ℕ → ℕ) (c : ℕ) (x : ClientState) (clock : ℕ) → Knows b G N c x → clock ≤ x.limit → Knows b H M c (anew x clock)
@@ -751,14 +794,15 @@ anew_on b given G s ok c clock true is =
     let second = come_back_on b first.named t first.ok c y (anew_knows b given G first.named (count s.voters) (count s.voters) c x clock (ok.live_clients c) most) in
     then_on b G s t (start_as s c y) first second
 
-limited_votes : (b : Bounds) → Given b → (G : Naming) (v : ℕ) (y : VoterState) (limit : ℕ) → Votes b G v y → y.granted ≤ limit → limit ≤ b.limit → Votes b G v (limited y limit)
-limited_votes b given G v y limit was least most = record {
-  sound = limited_sound y limit was.sound least (let few = given.limits.few_stamps in omega arith);
+counted_votes : (b : Bounds) → Given b → (G H : Naming) (v : ℕ) (y : VoterState) (granted limit : ℕ) → Votes b G v y → y.granted ≤ granted → granted ≤ limit → limit ≤ b.limit
+    → ((g : Grant) → y.held ≡ Some g → H v g.grant ≡ g) → ((g : Grant) → y.held ≡ Some g → AreUnused H v g.grant granted) → Votes b H v (counted y granted limit)
+counted_votes b given G H v y granted limit was more within most held latest = record {
+  sound = IsSound-counted y granted limit was.sound more within (let few = given.limits.few_stamps in omega arith);
   id = was.id;
   limit = most;
   entries = was.entries;
-  held = was.held;
-  latest = was.latest;
+  held = held;
+  latest = latest;
 }
 
 limited_on : (b : Bounds) → Given b → (G : Naming) (s : Saved) → Numbered b G s → (v limit : ℕ) (t : Bool) → (nat_lt v (length s.live.voters) && is_limit s v limit) ≡ t
@@ -766,7 +810,19 @@ limited_on : (b : Bounds) → Given b → (G : Naming) (s : Saved) → Numbered 
 limited_on b given G s ok v limit false is = stays b G s ok
 limited_on b given G s ok v limit true is =
     let may = may_have b s ok.sizes.0 ((ok.live_clients 0).limit) v limit is in
-    live_voter b G s ok v (limited (voter_at s.live.voters v) limit) (limited_votes b given G v (voter_at s.live.voters v) limit (ok.live_voters v) may.least may.most) (ok.behind v)
+    let y = voter_at s.live.voters v in
+    let was = ok.live_voters v in
+    live_voter b G s ok v (limited y limit) (counted_votes b given G G v y y.granted limit was (same_number y.granted) may.least may.most was.held was.latest) (ok.behind v)
+
+skipped_on : (b : Bounds) → Given b → (G : Naming) (s : Saved) → Numbered b G s → (v above : ℕ) (t : Bool) → (nat_lt v (length s.live.voters) && is_above (voter_at s.live.voters v) above) ≡ t
+    → Goes_on b G s (be_skipped t s v above)
+skipped_on b given G s ok v above false is = stays b G s ok
+skipped_on b given G s ok v above true is =
+    let may = may_count s v above is in
+    let y = voter_at s.live.voters v in
+    let was = ok.live_voters v in
+    let n = skipped_names G v y above was.sound may.least was.held in
+    voter_put_on b G s ok v (skipped y above) n (counted_votes b given G n.after v y above y.limit was may.least may.most was.limit n.held (n.latest was.latest))
 
 raised_on : (b : Bounds) → Given b → (G : Naming) (s : Saved) → Numbered b G s → (c clock : ℕ) (t : Bool) → nat_lt c (length s.live.clients) ≡ t → Goes_on b G s (be_raised t s c clock)
 unfolding client.step
@@ -787,6 +843,7 @@ befalls_on b given deal deals G s ok (IsReborn v above) = reborn_on b G s ok v a
 befalls_on b given deal deals G s ok (StartsAnew c clock) = anew_on b given G s ok c clock _ refl
 befalls_on b given deal deals G s ok (HasLimit v limit) = limited_on b given G s ok v limit _ refl
 befalls_on b given deal deals G s ok (IsRaised c clock) = raised_on b given G s ok c clock _ refl
+befalls_on b given deal deals G s ok (IsSkipped v above) = skipped_on b given G s ok v above _ refl
 
 pub all_on : (b : Bounds) → Given b → (deal : Dealing) → DealsFrom b.quorums deal → (G : Naming) (s : Saved) → Numbered b G s → (is : List Incident) → Goes_on b G s (all_befall deal is s)
 all_on b given deal deals G s ok [] = stays b G s ok

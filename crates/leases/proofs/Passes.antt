@@ -32,7 +32,7 @@ use Rattle.world.proofs.Claims.{Bounds, put}
 use Rattle.world.proofs.Places.{client_at-set, client_here}
 use Rattle.world.proofs.Reached.{Given, accepts_among}
 use Rattle.world.proofs.Restarts.{within_or}
-use Rattle.world.specs.Incidents.{Incident, Happens, Hears, IsReborn, StartsAnew, HasLimit, IsRaised, all_befall, anew, be_raised, be_reborn, befalls, have_limit, is_ahead, is_message, start_anew}
+use Rattle.world.specs.Incidents.{Incident, Happens, Hears, IsReborn, StartsAnew, HasLimit, IsRaised, IsSkipped, all_befall, anew, be_raised, be_reborn, be_skipped, befalls, have_limit, is_ahead, is_message, start_anew}
 use Rattle.world.proofs.Exclusion.{inside_busy}
 use Rattle.world.proofs.Raises.{no_inquiry, raised_by_step}
 use Rattle.leases.proofs.Numbers.{Naming, Numbered, Told, all_on, befalls_on, begin_on, count, nobody}
@@ -276,6 +276,10 @@ pair_limited : (R : ℕ → ClientState → ClientState → Type 0) (s : Saved) 
 pair_limited R s v limit true all = all
 pair_limited R s v limit false all = all
 
+pair_skipped : (R : ℕ → ClientState → ClientState → Type 0) (s : Saved) (v above : ℕ) (t : Bool) → Pairs R s → Pairs R (be_skipped t s v above)
+pair_skipped R s v above true all = all
+pair_skipped R s v above false all = all
+
 pair_raised : (R : ℕ → ClientState → ClientState → Type 0) → Lasts R → (b : Bounds) → Given b → (G : Naming) (s : Saved) → Numbered b G s → Pairs R s → (c clock : ℕ) (t : Bool)
     → nat_lt c (length s.live.clients) ≡ t → Pairs R (be_raised t s c clock)
 unfolding client.step
@@ -294,6 +298,7 @@ pair_befalls R lasts b given deal deals G s ok all (IsReborn v above) = pair_reb
 pair_befalls R lasts b given deal deals G s ok all (StartsAnew c clock) = pair_anew R lasts b G s ok all c clock _ refl
 pair_befalls R lasts b given deal deals G s ok all (HasLimit v limit) = pair_limited R s v limit _ all
 pair_befalls R lasts b given deal deals G s ok all (IsRaised c clock) = pair_raised R lasts b given G s ok all c clock _ refl
+pair_befalls R lasts b given deal deals G s ok all (IsSkipped v above) = pair_skipped R s v above _ all
 
 pair_all : (R : ℕ → ClientState → ClientState → Type 0) → Lasts R → (b : Bounds) → Given b → (deal : Dealing) → DealsFrom b.quorums deal → (is : List Incident) (G : Naming) (s : Saved) → Numbered b G s → Pairs R s
     → Pairs R (all_befall deal is s)

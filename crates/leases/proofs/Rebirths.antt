@@ -26,6 +26,7 @@ use Rattle.requester.specs.Steps as client
 use Rattle.requester.specs.Soundness as sound
 use Rattle.requester.specs.Words.{holds_under, is_inside, last_of}
 use Rattle.voter.specs.Steps as voter
+use Rattle.voter.proofs.Soundness.{IsSound-counted}
 use Rattle.world.specs.Ranges.{IsWithin}
 use Rattle.world.specs.Restarts.{OneVoter, Saved, begin, crash_seen}
 use Rattle.world.specs.Runs.{AreLimits}
@@ -34,11 +35,11 @@ use Rattle.world.specs.Visible.{DealsFrom, DoMeet, IsExclusive}
 use Rattle.world.specs.Rules.{ClientLaws, VoterLaws}
 use Rattle.world.proofs.Claims.{AskOk, Bounds, ReportOk, MessageOk, VoterOk, WorldOk, put, put-same}
 use Rattle.world.proofs.Exclusion.{Walked, Walked-step}
-use Rattle.world.proofs.IncidentLemmas.{anew_sound, limited_sound, may_have, reborn_sound}
+use Rattle.world.proofs.IncidentLemmas.{anew_sound, counted, may_count, may_have, reborn_sound}
 use Rattle.world.proofs.Places.{client_at-set, voter_at-set, voter_here}
 use Rattle.world.proofs.Reached.{Given}
 use Rattle.world.proofs.Restarts.{ComesBack, Mix, SavedOk, begin_ok, client_less, client_tried, happens_ok, if_one, if_voter_one, live_ok, voter_tried}
-use Rattle.world.specs.Incidents.{Incident, Happens, Hears, IsReborn, StartsAnew, HasLimit, IsRaised, all_befall, anew, be_raised, be_reborn, befalls, have_limit, hear, is_above, is_ahead, is_limit, is_message, is_request_within, limited, reborn, start_anew}
+use Rattle.world.specs.Incidents.{Incident, Happens, Hears, IsReborn, StartsAnew, HasLimit, IsRaised, IsSkipped, all_befall, anew, be_raised, be_reborn, be_skipped, befalls, have_limit, hear, is_above, is_ahead, is_limit, is_message, is_request_within, reborn, start_anew}
 use Rattle.leases.specs.Orderly.{AreOrderly, CountsNoMore, EndsOld, IsOver, IsPast}
 use Rattle.world.proofs.Raises.{no_inquiry, raised_by_step}
 
@@ -136,11 +137,8 @@ rebirth_ok b given s ok v above over true is =
     let K = client_at s.clients in
     let y = M v in
     let z = reborn y above in
-    let parts = and_parts (nat_lt v (length s.live.voters)) (is_above y above) is in
-    let ends = and_parts (nat_le y.granted above) (nat_le above y.limit) parts.1 in
-    let most : above ≤ y.limit = (let h = ends.1 in grind (arith, nat_tests)) in
-    let least : y.granted ≤ above = (let h = ends.0 in grind (arith, nat_tests)) in
-    let within : v < length s.live.voters = ltb-true _ _ parts.0 in
+    let may = may_count s v above is in
+    let within = may.within in
     let within_b : v < b.voters = subst (λ n. v < n) ok.sizes.1 within in
     let within_saved : v < length s.voters = subst (λ n. v < n) (sym ok.sizes.3) within_b in
     let live = live_ok b s ok in
@@ -165,7 +163,7 @@ rebirth_ok b given s ok v above over true is =
           let past = all_past L K v X mix s.live.sent (all_counts s.live.clients v s.live.sent over.0.messages) (all_counts s.clients v s.live.sent over.1.messages) in
           let old : VoterOk b X y = subst (λ (a : VoterState). VoterOk b X a) (put-same Y v y) (world.voters v) in
           subst (λ (W : ℕ → VoterState). WorldOk b X W s.live.sent) (put_back Y v y z at)
-          (reborn_world b X Z s.live.sent v z world (reborn_ok b X y above old most) (λ w. live.voter_ids v w) refl (subst (λ (a : VoterState). a.granted ≤ above) (sym (put-same Y v y)) least) none past);
+          (reborn_world b X Z s.live.sent v z world (reborn_ok b X y above old may.most) (λ w. live.voter_ids v w) refl (subst (λ (a : VoterState). a.granted ≤ above) (sym (put-same Y v y)) may.least) none past);
       walked = ok.walked;
       insides = ok.insides;
     }
@@ -233,44 +231,46 @@ anew_ok b given s ok c clock true is =
           (subst (λ (W : ℕ → ClientState). (q : ℕ) → is_inside (W q).phase ≡ true → is_inside (put L c z q).phase ≡ true) saved (inside_both L K c z ok.insides));
     }
 
--- ---- a voter with another limit
+-- ---- a voter that skips numbers, or has another limit
 
-ask_limited : (x : ClientState) (y : VoterState) (limit v c : ℕ) (body : VoterBody) → AskOk x y v c body → AskOk x (limited y limit) v c body
-ask_limited x y limit v c (asks.Request t) ok = ok
-ask_limited x y limit v c (asks.Relinquish g) ok = ok
-ask_limited x y limit v c (asks.Release t) ok = ok
+ask_counted : (x : ClientState) (y : VoterState) (granted limit v c : ℕ) (body : VoterBody) → y.granted ≤ granted → AskOk x y v c body → AskOk x (counted y granted limit) v c body
+ask_counted x y granted limit v c (asks.Request t) more ok = ok
+ask_counted x y granted limit v c (asks.Relinquish g) more ok = ((let most = ok.0 in omega arith), ok.1)
+ask_counted x y granted limit v c (asks.Release t) more ok = ok
 
-limited_message : (X : ℕ → ClientState) (Y : ℕ → VoterState) (v limit : ℕ) (m : Message) → MessageOk X Y m → MessageOk X (put Y v (limited (Y v) limit)) m
-limited_message X Y v limit (kinds.ToVoter m) ok = put_at (λ (y : VoterState). AskOk (X m.client) y m.voter m.client m.body) Y v (limited (Y v) limit) m.voter
-    (λ same. ask_limited (X m.client) (Y v) limit m.voter m.client m.body (subst (λ (k : ℕ). AskOk (X m.client) (Y k) m.voter m.client m.body) same ok))
+counted_message : (X : ℕ → ClientState) (Y : ℕ → VoterState) (v granted limit : ℕ) → (Y v).granted ≤ granted → (m : Message) → MessageOk X Y m → MessageOk X (put Y v (counted (Y v) granted limit)) m
+counted_message X Y v granted limit more (kinds.ToVoter m) ok = put_at (λ (y : VoterState). AskOk (X m.client) y m.voter m.client m.body) Y v (counted (Y v) granted limit) m.voter
+    (λ same. ask_counted (X m.client) (Y v) granted limit m.voter m.client m.body more (subst (λ (k : ℕ). AskOk (X m.client) (Y k) m.voter m.client m.body) same ok))
     (λ other. ok)
-limited_message X Y v limit (kinds.ToClient m) ok = put_at (λ (y : VoterState). ReportOk (X m.client) y.held m.voter m.client m.body) Y v (limited (Y v) limit) m.voter
+counted_message X Y v granted limit more (kinds.ToClient m) ok = put_at (λ (y : VoterState). ReportOk (X m.client) y.held m.voter m.client m.body) Y v (counted (Y v) granted limit) m.voter
     (λ same. subst (λ (k : ℕ). ReportOk (X m.client) (Y k).held m.voter m.client m.body) same ok)
     (λ other. ok)
 
-limited_ok : (b : Bounds) → Given b → (X : ℕ → ClientState) (y : VoterState) (limit : ℕ) → VoterOk b X y → y.granted ≤ limit → limit ≤ b.limit → VoterOk b X (limited y limit)
-limited_ok b given X y limit ok least most = record {
-  sound = limited_sound y limit ok.sound least (let few = given.limits.few_stamps in omega arith);
+counted_ok : (b : Bounds) → Given b → (X : ℕ → ClientState) (y : VoterState) (granted limit : ℕ) → VoterOk b X y → y.granted ≤ granted → granted ≤ limit → limit ≤ b.limit
+    → VoterOk b X (counted y granted limit)
+counted_ok b given X y granted limit ok more within most = record {
+  sound = IsSound-counted y granted limit ok.sound more within (let few = given.limits.few_stamps in omega arith);
   entries = ok.entries;
   numbered = ok.numbered;
   limit = most;
   seen = ok.seen;
 }
 
-limited_world : (b : Bounds) → Given b → (X : ℕ → ClientState) (Y : ℕ → VoterState) (sent : List Message) (v limit : ℕ) → WorldOk b X Y sent → (Y v).granted ≤ limit → limit ≤ b.limit
-    → WorldOk b X (put Y v (limited (Y v) limit)) sent
-limited_world b given X Y sent v limit ok least most =
-    let z = limited (Y v) limit in
+counted_world : (b : Bounds) → Given b → (X : ℕ → ClientState) (Y : ℕ → VoterState) (sent : List Message) (v granted limit : ℕ) → WorldOk b X Y sent → (Y v).granted ≤ granted → granted ≤ limit
+    → limit ≤ b.limit → WorldOk b X (put Y v (counted (Y v) granted limit)) sent
+counted_world b given X Y sent v granted limit ok more within most =
+    let z = counted (Y v) granted limit in
     record {
-      messages = AllByRecursion-weaker (MessageOk X Y) (MessageOk X (put Y v z)) (limited_message X Y v limit) sent ok.messages;
+      messages = AllByRecursion-weaker (MessageOk X Y) (MessageOk X (put Y v z)) (counted_message X Y v granted limit more) sent ok.messages;
       ranges = ok.ranges;
       held = λ c q g is. put_at (λ (y : VoterState). y.held ≡ Some (record { client = c; stamp = (X c).stamp; grant = g })) Y v z q
           (λ same. subst (λ (k : ℕ). (Y k).held ≡ Some (record { client = c; stamp = (X c).stamp; grant = g })) same (ok.held c q g is)) (λ other. ok.held c q g is);
-      last = λ c q. put_at (λ (y : VoterState). last_of (X c) q ≤ y.granted) Y v z q (λ same. subst (λ (k : ℕ). last_of (X c) q ≤ (Y k).granted) same (ok.last c q)) (λ other. ok.last c q);
+      last = λ c q. put_at (λ (y : VoterState). last_of (X c) q ≤ y.granted) Y v z q
+          (λ same. let few = subst (λ (k : ℕ). last_of (X c) q ≤ (Y k).granted) same (ok.last c q) in let up : last_of (X c) q ≤ granted = omega arith in up) (λ other. ok.last c q);
       clients = ok.clients;
-      voters = λ q. put_at (λ (y : VoterState). VoterOk b X y) Y v z q (λ same. limited_ok b given X (Y v) limit (ok.voters v) least most) (λ other. ok.voters q);
+      voters = λ q. put_at (λ (y : VoterState). VoterOk b X y) Y v z q (λ same. counted_ok b given X (Y v) granted limit (ok.voters v) more within most) (λ other. ok.voters q);
       client_ids = ok.client_ids;
-      voter_ids = λ q within. put_at (λ (y : VoterState). y.id ≡ q) Y v z q (λ same. subst (λ (k : ℕ). (Y k).id ≡ q) same (ok.voter_ids q within)) (λ other. ok.voter_ids q within);
+      voter_ids = λ q within_q. put_at (λ (y : VoterState). y.id ≡ q) Y v z q (λ same. subst (λ (k : ℕ). (Y k).id ≡ q) same (ok.voter_ids q within_q)) (λ other. ok.voter_ids q within_q);
     }
 
 mix_beside : (lives : List VoterState) (v : ℕ) (z : VoterState) → v < length lives → (N Y : ℕ → VoterState) → Mix (voter_at (slice_set lives v z)) N Y → (q : ℕ) → q ≢ v
@@ -286,31 +286,42 @@ mix_saved lives v z within N Y other is q = elim (eqb q v) as (λ t. eqb q v ≡
   | false ↦ λ t. mix_beside lives v z within N Y other q (λ same. grind (arith, nat_tests))
 ] refl
 
-limit_ok : (b : Bounds) → Given b → (s : Saved) → SavedOk b s → (v limit : ℕ) (t : Bool) → (nat_lt v (length s.live.voters) && is_limit s v limit) ≡ t → SavedOk b (have_limit t s v limit)
-limit_ok b given s ok v limit false is = ok
-limit_ok b given s ok v limit true is =
+-- a live voter skips numbers, or has another limit
+recount_ok : (b : Bounds) → Given b → (s : Saved) → SavedOk b s → (v granted limit : ℕ) → v < length s.live.voters → (voter_at s.live.voters v).granted ≤ granted → granted ≤ limit → limit ≤ b.limit
+    → SavedOk b (record s { live = record s.live { voters = slice_set s.live.voters v (counted (voter_at s.live.voters v) granted limit) } })
+recount_ok b given s ok v granted limit there more within most =
     let M = voter_at s.live.voters in
     let N = voter_at s.voters in
-    let z = limited (M v) limit in
-    let live = live_ok b s ok in
-    let may = may_have b s ok.sizes.0 (λ some. (live.client_ids 0 some).limit) v limit is in
+    let z = counted (M v) granted limit in
     record {
       sizes = (ok.sizes.0, length-set s.live.voters v z ∙ ok.sizes.1, ok.sizes.2, ok.sizes.3);
       mixes = λ X Y mix other. elim (other v) [
         | inl e ↦
-            let at : Y v ≡ z = e ∙ voter_here s.live.voters v z may.within in
+            let at : Y v ≡ z = e ∙ voter_here s.live.voters v z there in
             let Z = put Y v (M v) in
             let here : Z v ≡ M v = put-same Y v (M v) in
             let before : Mix M N Z = λ q. put_at (λ (a : VoterState). (a ≡ M q) ⊎ (a ≡ N q)) Y v (M v) q (λ same. inl (ap M (sym same)))
-            (λ apart. mix_beside s.live.voters v z may.within N Y other q apart) in
-            let world = limited_world b given X Z s.live.sent v limit (ok.mixes X Z mix before) (subst (λ (a : VoterState). a.granted ≤ limit) (sym here) may.least) may.most in
+            (λ apart. mix_beside s.live.voters v z there N Y other q apart) in
+            let world = counted_world b given X Z s.live.sent v granted limit (ok.mixes X Z mix before) (subst (λ (a : VoterState). a.granted ≤ granted) (sym here) more) within most in
             subst (λ (W : ℕ → VoterState). WorldOk b X W s.live.sent) (put_back Y v (M v) z at)
-            (subst (λ (a : VoterState). WorldOk b X (put Z v (limited a limit)) s.live.sent) here world)
-        | inr e ↦ ok.mixes X Y mix (mix_saved s.live.voters v z may.within N Y other e)
+            (subst (λ (a : VoterState). WorldOk b X (put Z v (counted a granted limit)) s.live.sent) here world)
+        | inr e ↦ ok.mixes X Y mix (mix_saved s.live.voters v z there N Y other e)
       ];
       walked = ok.walked;
       insides = ok.insides;
     }
+
+limit_ok : (b : Bounds) → Given b → (s : Saved) → SavedOk b s → (v limit : ℕ) (t : Bool) → (nat_lt v (length s.live.voters) && is_limit s v limit) ≡ t → SavedOk b (have_limit t s v limit)
+limit_ok b given s ok v limit false is = ok
+limit_ok b given s ok v limit true is =
+    let may = may_have b s ok.sizes.0 (λ some. ((live_ok b s ok).client_ids 0 some).limit) v limit is in
+    recount_ok b given s ok v (voter_at s.live.voters v).granted limit may.within (omega arith) may.least may.most
+
+skip_ok : (b : Bounds) → Given b → (s : Saved) → SavedOk b s → (v above : ℕ) (t : Bool) → (nat_lt v (length s.live.voters) && is_above (voter_at s.live.voters v) above) ≡ t → SavedOk b (be_skipped t s v above)
+skip_ok b given s ok v above false is = ok
+skip_ok b given s ok v above true is =
+    let may = may_count s v above is in
+    recount_ok b given s ok v above (voter_at s.live.voters v).limit may.within may.least may.most ((live_ok b s ok).voters v).limit
 
 raise_ok : (b : Bounds) → Given b → (s : Saved) → SavedOk b s → (c clock : ℕ) (t : Bool) → nat_lt c (length s.live.clients) ≡ t → SavedOk b (be_raised t s c clock)
 unfolding client.step
@@ -359,6 +370,7 @@ orderly_ok b given deal deals (IsReborn v above ∷ is) s ok orderly = orderly_o
 orderly_ok b given deal deals (StartsAnew c clock ∷ is) s ok orderly = orderly_ok b given deal deals is (befalls deal s (StartsAnew c clock)) (anew_ok b given s ok c clock _ refl) orderly.1
 orderly_ok b given deal deals (HasLimit v limit ∷ is) s ok orderly = orderly_ok b given deal deals is (befalls deal s (HasLimit v limit)) (limit_ok b given s ok v limit _ refl) orderly.1
 orderly_ok b given deal deals (IsRaised c clock ∷ is) s ok orderly = orderly_ok b given deal deals is (befalls deal s (IsRaised c clock)) (raise_ok b given s ok c clock _ refl) orderly.1
+orderly_ok b given deal deals (IsSkipped v above ∷ is) s ok orderly = orderly_ok b given deal deals is (befalls deal s (IsSkipped v above)) (skip_ok b given s ok v above _ refl) orderly.1
 
 pub every_rebirth : ClientLaws → VoterLaws → (voters clients limit : ℕ) (quorums : List (List ℕ)) (deal : Dealing) (is : List Incident)
     → AreLimits voters clients limit → DoMeet voters quorums → DealsFrom quorums deal → AreOrderly deal (begin voters clients limit) is

@@ -13,8 +13,8 @@
 //! - a voter that lost its state is *reborn*, with at least as many grants as it ever gave;
 //! - a client that lost its state *starts anew*, with a clock that is at least every stamp that it
 //!   used;
-//! - a voter may give grants up to another number, such as its next block (`Voter::extend`), and a client
-//!   raises its clock (`Requester::raise`).
+//! - a voter may give grants up to another number, such as its next block (`Voter::extend`), or skips
+//!   numbers and keeps its grant (`Voter::raise`), and a client raises its clock (`Requester::raise`).
 //!
 //! # What is proved
 //!

@@ -1,6 +1,6 @@
 -- What is proved of every voter and of every client, as nodes and votes rely on it.
 use Rattle.std.specs.Prelude.{◌≡◌, ℕ, ◌≤◌, Some, true, false}
-use Rattle.numbers.specs.Bounds.{max_stamp}
+use Rattle.numbers.specs.Bounds.{max_limit}
 use Rattle.message.specs.declared.message.ToClient.{ToClient}
 use Rattle.message.specs.declared.message.ToVoter.{ToVoter}
 use Rattle.voter.specs.declared.state.VoterState.{VoterState}
@@ -23,7 +23,7 @@ pub record StepsSoundly (v : VoterState) (m : ToVoter) (o : Outcome) : Type 0 wh
 
 -- a new voter is sound, each step of a sound voter is as above, and each reminder names its voter
 pub record AreVoterLaws : Type 0 where
-  pub first : (id limit : ℕ) → limit ≤ max_stamp → IsSound (start id limit)
+  pub first : (id limit : ℕ) → limit ≤ max_limit → IsSound (start id limit)
   pub steps : (v : VoterState) (m : ToVoter) (o : Outcome) → IsSound v → step v m ≡ Some o → StepsSoundly v m o
   pub reminders : (v : VoterState) → AllCarry v.id v.seen (remind v)
 

@@ -17,7 +17,11 @@ max_quorums = 4096
 abbrev pub max_cycle : ℕ
 max_cycle = 1000000
 
--- the highest stamp, and the highest number of a grant
+-- the highest limit that a voter or a client may have: of its grants, or of its stamps
+abbrev pub max_limit : ℕ
+max_limit = 2 ^ 62
+
+-- the highest limit in scripts, on boards and in clusters
 abbrev pub max_stamp : ℕ
 max_stamp = 2 ^ 40
 

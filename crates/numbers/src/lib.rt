@@ -23,7 +23,10 @@ pub const MAX_QUORUMS: usize = 4096;
 /// The most entries of a cycle, and the largest sum of the voters' weights.
 pub const MAX_CYCLE: u64 = 1_000_000;
 
-/// The highest stamp, and the highest number of a grant.
+/// The highest limit that a voter or a client may have: of its grants, or of its stamps.
+pub const MAX_LIMIT: u64 = 1 << 62;
+
+/// The highest limit in scripts, on boards and in clusters.
 pub const MAX_STAMP: u64 = 1 << 40;
 
 /// The most tickets. As each pass has a ticket, it is also the highest number of a register.

@@ -6,7 +6,7 @@ use Rattle.std.specs.List.{AllByRecursion}
 use Rattle.std.specs.Ordering.{nat_cmp}
 use Rattle.std.proofs.lemmas.Bool.{cases_eq, false≢true}
 use Rattle.std.proofs.lemmas.Option.{none-some}
-use Rattle.numbers.specs.Bounds.{max_stamp}
+use Rattle.numbers.specs.Bounds.{max_limit}
 use Rattle.numbers.proofs.Lists.{AllByRecursion-weaker, slice_index-replicate_zero}
 use Rattle.message.specs.declared.message.Message.{Message}
 use Rattle.message.specs.declared.message.Message.TheVariants as kinds
@@ -33,7 +33,7 @@ use Rattle.progress.proofs.Taking.{IsClear}
 
 -- all grants are old: no voter gives as many
 abbrev pub beyond : ℕ → ℕ
-beyond v = suc max_stamp
+beyond v = suc max_limit
 
 pub record Endures (u : WorldState) : Type 0 where
   pub fits : Fits u.clients u.voters

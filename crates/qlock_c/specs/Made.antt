@@ -1,6 +1,6 @@
 -- What a call returns and writes that makes a voter or a client.
 use Rattle.std.specs.Prelude.{ℕ, ℤ, ◌≡◌, ◌≢◌, ◌<◌, ◌≤◌, List, length}
-use Rattle.numbers.specs.Bounds.{max_stamp, max_voters}
+use Rattle.numbers.specs.Bounds.{max_limit, max_voters}
 use Rattle.qlock_c.specs.Numbers.{done, refused}
 use Rattle.qlock_c.specs.declared.refusal.Refusal.TheVariants.{BadArgument, BadState}
 
@@ -8,17 +8,17 @@ use Rattle.qlock_c.specs.declared.refusal.Refusal.TheVariants.{BadArgument, BadS
 abbrev pub state_bytes : ℕ
 state_bytes = 1104
 
--- the number is below 64, and the limit is from 1 to 2^40
+-- the number is below 64, and the limit is from 1 to 2^62
 pub record AreInRange (id limit : ℕ) : Type 0 where
   pub few : id < max_voters
   pub some : 1 ≤ limit
-  pub most : limit ≤ max_stamp
+  pub most : limit ≤ max_limit
 
 -- the same, and the number of grants, or the clock, is at most the limit
 pub record AreWithin (id limit number : ℕ) : Type 0 where
   pub few : id < max_voters
   pub some : 1 ≤ limit
-  pub most : limit ≤ max_stamp
+  pub most : limit ≤ max_limit
   pub within : number ≤ limit
 
 -- A voter or a client is made in place of these bytes, if its numbers are in range. `Changes` says of

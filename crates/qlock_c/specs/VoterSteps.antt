@@ -1,7 +1,7 @@
 -- What the calls of a voter return and write. Each is said for the one voter that the bytes are, and
 -- for the one message that the line is. That a refused call writes nothing is a clause of each call.
 use Rattle.std.specs.Prelude.{ℕ, ℤ, pos, ◌≡◌, ◌≤◌, List, Option, None, Some, slice_index, unwrap_or}
-use Rattle.numbers.specs.Bounds.{max_stamp}
+use Rattle.numbers.specs.Bounds.{max_limit}
 use Rattle.message.specs.declared.message.ToVoter.{ToVoter}
 use Rattle.voter.specs.declared.state.Grant.{Grant}
 use Rattle.voter.specs.declared.state.VoterState.{VoterState}
@@ -52,10 +52,18 @@ pub record VoterEvicts (before : List ℕ) (grant : ℕ) (after out out_after : 
 -- a voter may give more grants
 pub record VoterExtends (before : List ℕ) (limit : ℕ) (after : List ℕ) (result : ℤ) : Type 0 where
   pub no_voter : IsNoVoter before → result ≡ refused BadState
-  pub bad_argument : (voter : VoterState) → IsVoter before voter → (voter.limit ≤ limit → limit ≤ max_stamp → ⊥)
+  pub bad_argument : (voter : VoterState) → IsVoter before voter → (voter.limit ≤ limit → limit ≤ max_limit → ⊥)
       → result ≡ refused BadArgument
-  pub extends : (voter : VoterState) → IsVoter before voter → voter.limit ≤ limit → limit ≤ max_stamp
+  pub extends : (voter : VoterState) → IsVoter before voter → voter.limit ≤ limit → limit ≤ max_limit
       → (result ≡ done) × IsVoter after (record voter { limit = limit })
+
+-- a voter skips the numbers up to this one, and keeps its grant
+pub record VoterRaises (before : List ℕ) (above : ℕ) (after : List ℕ) (result : ℤ) : Type 0 where
+  pub no_voter : IsNoVoter before → result ≡ refused BadState
+  pub bad_argument : (voter : VoterState) → IsVoter before voter → (voter.granted ≤ above → above ≤ voter.limit → ⊥)
+      → result ≡ refused BadArgument
+  pub raises : (voter : VoterState) → IsVoter before voter → voter.granted ≤ above → above ≤ voter.limit
+      → (result ≡ done) × IsVoter after (record voter { granted = above })
 
 -- a voter shows what it knows of a client: the stamp that has the vote or waits, 0 for none, the highest
 -- stamp that is finished, and the highest stamp that it saw of anybody

@@ -19,7 +19,7 @@ use crate::saved_bytes::{GRANTS_BYTES, STATE_BYTES, load_client, store_client, s
 use arrayvec::ArrayVec;
 use fence::pass_of;
 use message::{Message, ToClient, read_message};
-use numbers::{MAX_CLIENTS, MAX_STAMP, MAX_VOTERS};
+use numbers::{MAX_CLIENTS, MAX_LIMIT, MAX_VOTERS};
 use quorum_set::QSet;
 use requester::{Phase, Requester, Seen};
 
@@ -50,7 +50,7 @@ fn new(id: u8, limit: u64, state: &mut [u8]) -> Result<(), Refusal>
     ensures made { IsMade (AreInRange id limit) state.old (IsClient state.new (steps.start id limit)) (returned result) }
     ensures refused { OnErr result (state.new ≡ state.old) }
 {
-    if usize::from(id) >= MAX_CLIENTS || limit < 1 || limit > MAX_STAMP {
+    if usize::from(id) >= MAX_CLIENTS || limit < 1 || limit > MAX_LIMIT {
         return Err(Refusal::BadArgument);
     }
     if state.len() != STATE_BYTES {
@@ -210,7 +210,7 @@ fn anew(id: u8, limit: u64, clock: u64, state: &mut [u8]) -> Result<(), Refusal>
     ensures made { IsMade (AreWithin id limit clock) state.old (IsClient state.new (anew id limit clock)) (returned result) }
     ensures refused { OnErr result (state.new ≡ state.old) }
 {
-    if usize::from(id) >= MAX_CLIENTS || limit < 1 || limit > MAX_STAMP || clock > limit {
+    if usize::from(id) >= MAX_CLIENTS || limit < 1 || limit > MAX_LIMIT || clock > limit {
         return Err(Refusal::BadArgument);
     }
     if state.len() != STATE_BYTES {
@@ -248,7 +248,7 @@ fn renew(state: &[u8], out: &mut [u8], written: &mut usize) -> Result<(), Refusa
 }
 
 /// Makes a new client with this number, 0 to 63. Its stamps go from 1 to the limit, which is 1 to
-/// 2^40.
+/// 2^62.
 #[unsafe(no_mangle)]
 pub extern "C" fn qlock_client_new(id: u8, limit: u64, state: &mut [u8]) -> i32
     // A call that is refused writes nothing. So it is with each call.

@@ -8,14 +8,14 @@ ghost use Rattle.qlock_c.specs.Bytes.{IsVoter};
 ghost use Rattle.qlock_c.specs.Lines.{IsToVoter};
 ghost use Rattle.qlock_c.specs.Made.{AreInRange, AreWithin, IsMade};
 ghost use Rattle.qlock_c.specs.Numbers.{done, refused, returned};
-ghost use Rattle.qlock_c.specs.VoterSteps.{IsHeldBy, VoterEvicts, VoterExtends, VoterForgets, VoterMustSave, VoterReminds, VoterShowsClient, VoterShowsHolder, VoterTakes};
+ghost use Rattle.qlock_c.specs.VoterSteps.{IsHeldBy, VoterEvicts, VoterExtends, VoterForgets, VoterMustSave, VoterRaises, VoterReminds, VoterShowsClient, VoterShowsHolder, VoterTakes};
 
 use crate::lines::put_to_clients;
 use crate::refusal::{Refusal, number_of};
 use crate::saved_bytes::{STATE_BYTES, load_voter, store_voter};
 use arrayvec::ArrayVec;
 use message::{Message, ToVoter, read_message};
-use numbers::{MAX_CLIENTS, MAX_STAMP, MAX_VOTERS};
+use numbers::{MAX_CLIENTS, MAX_LIMIT, MAX_VOTERS};
 use voter::{Grant, Voter};
 
 /// Reads the line of a message to the voter with this number.
@@ -35,7 +35,7 @@ fn new(id: u8, limit: u64, state: &mut [u8]) -> Result<(), Refusal>
     ensures made { IsMade (AreInRange id limit) state.old (IsVoter state.new (start id limit)) (returned result) }
     ensures refused { OnErr result (state.new ≡ state.old) }
 {
-    if usize::from(id) >= MAX_VOTERS || limit < 1 || limit > MAX_STAMP {
+    if usize::from(id) >= MAX_VOTERS || limit < 1 || limit > MAX_LIMIT {
         return Err(Refusal::BadArgument);
     }
     if state.len() != STATE_BYTES {
@@ -98,7 +98,7 @@ fn reborn(id: u8, above: u64, limit: u64, state: &mut [u8]) -> Result<(), Refusa
     ensures made { IsMade (AreWithin id limit above) state.old (IsVoter state.new (reborn id above limit)) (returned result) }
     ensures refused { OnErr result (state.new ≡ state.old) }
 {
-    if usize::from(id) >= MAX_VOTERS || limit < 1 || limit > MAX_STAMP || above > limit {
+    if usize::from(id) >= MAX_VOTERS || limit < 1 || limit > MAX_LIMIT || above > limit {
         return Err(Refusal::BadArgument);
     }
     if state.len() != STATE_BYTES {
@@ -113,10 +113,23 @@ fn extend(state: &mut [u8], limit: u64) -> Result<(), Refusal>
     ensures refused { OnErr result (state.new ≡ state.old) }
 {
     let mut voter = load_voter(state)?;
-    if limit < voter.limit() || limit > MAX_STAMP {
+    if limit < voter.limit() || limit > MAX_LIMIT {
         return Err(Refusal::BadArgument);
     }
     voter.extend(limit);
+    store_voter(&voter, state);
+    Ok(())
+}
+
+fn raise(state: &mut [u8], above: u64) -> Result<(), Refusal>
+    ensures raises { VoterRaises state.old above state.new (returned result) }
+    ensures refused { OnErr result (state.new ≡ state.old) }
+{
+    let mut voter = load_voter(state)?;
+    if above < voter.granted() || above > voter.limit() {
+        return Err(Refusal::BadArgument);
+    }
+    voter.raise(above);
     store_voter(&voter, state);
     Ok(())
 }
@@ -175,7 +188,7 @@ fn must_save(saved: &[u8], live: &[u8], yes: &mut i32) -> Result<(), Refusal>
     Ok(())
 }
 
-/// Makes a new voter with this number, 0 to 63, that may give `limit` grants, 1 to 2^40.
+/// Makes a new voter with this number, 0 to 63, that may give `limit` grants, 1 to 2^62.
 #[unsafe(no_mangle)]
 pub extern "C" fn qlock_voter_new(id: u8, limit: u64, state: &mut [u8]) -> i32
     // A call that is refused writes nothing. So it is with each call.
@@ -227,7 +240,7 @@ pub extern "C" fn qlock_voter_held(
 }
 
 /// Makes a voter that lost its state. It gave at most `above` grants before, and may give `limit`
-/// grants in all, 1 to 2^40.
+/// grants in all, 1 to 2^62.
 #[unsafe(no_mangle)]
 pub extern "C" fn qlock_voter_reborn(id: u8, above: u64, limit: u64, state: &mut [u8]) -> i32
     ensures refused { result ≢ done → state.new ≡ state.old }
@@ -236,13 +249,23 @@ pub extern "C" fn qlock_voter_reborn(id: u8, above: u64, limit: u64, state: &mut
     number_of(reborn(id, above, limit, state))
 }
 
-/// Raises the number of grants that the voter may give, up to 2^40.
+/// Raises the number of grants that the voter may give, up to 2^62.
 #[unsafe(no_mangle)]
 pub extern "C" fn qlock_voter_extend(state: &mut [u8], limit: u64) -> i32
     ensures refused { result ≢ done → state.new ≡ state.old }
     ensures extends { VoterExtends state.old limit state.new result }
 {
     number_of(extend(state, limit))
+}
+
+/// Skips the numbers up to `above`, from the number of grants to the limit: each later grant has a
+/// greater one. A grant that is held stays.
+#[unsafe(no_mangle)]
+pub extern "C" fn qlock_voter_raise(state: &mut [u8], above: u64) -> i32
+    ensures refused { result ≢ done → state.new ≡ state.old }
+    ensures raises { VoterRaises state.old above state.new result }
+{
+    number_of(raise(state, above))
 }
 
 /// Lets the current grant go if it has this number, and writes the lines of the replies.

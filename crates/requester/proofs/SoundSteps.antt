@@ -277,7 +277,7 @@ clear_votes-holds_nothing : {A : Type 0} (x : ClientState) (v : ℕ) → holds (
 clear_votes-holds_nothing x v h = absurd-true_false (holds (clear_votes x) v) h (ap (ltb 0) (slice_index-replicate_zero 64 v))
 
 -- a client that is not inside, and holds and marks no vote
-pub IsSound-clear_votes : (x : ClientState) (p : Phase) → is_inside p ≡ false → x.id < 64 → 1 ≤ x.limit → x.limit ≤ 2 ^ 40 → length x.last ≡ 64 → x.stamp ≤ x.limit → x.stamp ≤ x.clock
+pub IsSound-clear_votes : (x : ClientState) (p : Phase) → is_inside p ≡ false → x.id < 64 → 1 ≤ x.limit → x.limit ≤ 2 ^ 62 → length x.last ≡ 64 → x.stamp ≤ x.limit → x.stamp ≤ x.clock
     → IsSet (members x) → (is_idle p ≡ false → (1 ≤ x.stamp) × (1 ≤ length (members x))) → IsSound (record (clear_votes x) { phase = p })
 IsSound-clear_votes x p outside id some limit last stamp clock set busy = record {
   id = id;
@@ -349,9 +349,9 @@ IsSound-step x (Takes m) o s accepts e = subst (λ (p : Outcome). IsSound p.stat
 IsSound-step x Leaves o s accepts e = IsSound-leave x o s e
 IsSound-step x GivesUp o s accepts e = IsSound-give_up x o s e
 
-pub IsSound-start : (id limit : ℕ) → id < 64 → 1 ≤ limit → limit ≤ 2 ^ 40 → IsSound (start id limit)
+pub IsSound-start : (id limit : ℕ) → id < 64 → 1 ≤ limit → limit ≤ 2 ^ 62 → IsSound (start id limit)
 IsSound-start id limit small some most = IsSound-clear_votes (start id limit) Idle refl small some most refl (omega arith) (omega arith) tt (λ busy. absurd-true_false true refl busy)
 
-pub IsSound-anew : (id limit clock : ℕ) → id < 64 → 1 ≤ limit → limit ≤ 2 ^ 40 → clock ≤ limit → IsSound (anew id limit clock)
+pub IsSound-anew : (id limit clock : ℕ) → id < 64 → 1 ≤ limit → limit ≤ 2 ^ 62 → clock ≤ limit → IsSound (anew id limit clock)
 IsSound-anew id limit clock small some most within =
     IsSound-clear_votes (anew id limit clock) Idle refl small some most refl within (omega arith) tt (λ busy. absurd-true_false true refl busy)

@@ -1,7 +1,7 @@
 -- A client as 138 numbers of 64 bits, to be saved and restored, and the least of it that has to
 -- survive a crash.
 use Rattle.std.specs.Prelude.{ℕ, nat_le, nat_lt, Bool, ◌&&◌, ◌||◌, not, List, [], ◌∷◌, ◌++◌, length}
-use Rattle.numbers.specs.Bounds.{max_stamp}
+use Rattle.numbers.specs.Bounds.{max_limit}
 use Rattle.numbers.specs.Sets.{IsSet}
 use Rattle.quorum_set.specs.Words.{word_of}
 use Rattle.requester.specs.declared.state.ClientState.{ClientState}
@@ -53,7 +53,7 @@ least_client x = record (start x.id x.limit) { clock = x.clock; stamp = x.stamp 
 
 -- limit, stamp and clock are in order, and a request has a stamp and a quorum
 abbrev pub has_sound_numbers : ClientState → Bool
-has_sound_numbers x = nat_le 1 x.limit && (nat_le x.limit max_stamp && (nat_le x.stamp x.limit && (nat_le x.stamp x.clock
+has_sound_numbers x = nat_le 1 x.limit && (nat_le x.limit max_limit && (nat_le x.stamp x.limit && (nat_le x.stamp x.clock
     && (is_idle x.phase || (nat_lt 0 x.stamp && nat_lt 0 (length (members x)))))))
 
 -- a held vote is that of a member while a request runs, and newer than the last one given back

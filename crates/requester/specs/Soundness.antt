@@ -1,7 +1,7 @@
 -- What holds of every client.
 use Rattle.std.specs.Prelude.{ℕ, List, ◌≡◌, ◌<◌, ◌≤◌, true, false, eqb, length}
 use Rattle.std.specs.List.{AllByRecursion, IsDistinct}
-use Rattle.numbers.specs.Bounds.{max_clients, max_voters, max_stamp}
+use Rattle.numbers.specs.Bounds.{max_clients, max_voters, max_limit}
 use Rattle.numbers.specs.Sets.{IsSet}
 use Rattle.requester.specs.declared.state.ClientState.{ClientState}
 use Rattle.requester.specs.Words.{is_idle, is_inside, members, is_member, held_of, holds, is_covered, last_of, is_relinquished, is_inquired}
@@ -32,7 +32,7 @@ HoldsOfMembers x = (v : ℕ) → is_member x v ≡ false → held_of x v ≡ 0
 pub record IsSound (x : ClientState) : Type 0 where
   pub id : x.id < max_clients
   pub some : 1 ≤ x.limit
-  pub limit : x.limit ≤ max_stamp
+  pub limit : x.limit ≤ max_limit
   pub places : HasPlaces x
   -- a request has a stamp from 1 to the limit, and the clock is not behind it
   pub stamp : x.stamp ≤ x.limit

@@ -1,7 +1,7 @@
 //! Laws: what is proved about the definitions.
 ghost use Rattle.std.specs.List.{Contains};
 ghost use Rattle.std.specs.Prelude.{◌≡◌, ◌<◌, ◌≤◌, ◌∷◌, ℕ, Err, Ok, List, [], true, false};
-ghost use Rattle.numbers.specs.Bounds.{max_clients, max_stamp, max_voters};
+ghost use Rattle.numbers.specs.Bounds.{max_clients, max_limit, max_voters};
 ghost use Rattle.message.specs.declared.message.ClientBody.TheVariants as to_client;
 ghost use Rattle.message.specs.declared.message.ToClient.{ToClient};
 ghost use Rattle.message.specs.declared.message.VoterBody.TheVariants as asks;
@@ -34,7 +34,7 @@ pub fn requesters_meet_the_contract()
 /// - a client that is inside holds the vote of each member;
 /// - stamps are from 1 to the limit.
 pub fn requesters_stay_sound()
-    ensures first { (id limit : ℕ) → id < max_clients → 1 ≤ limit → limit ≤ max_stamp → IsSound (start id limit) }
+    ensures first { (id limit : ℕ) → id < max_clients → 1 ≤ limit → limit ≤ max_limit → IsSound (start id limit) }
     ensures steps { (x : ClientState) (cause : Cause) (o : Outcome) → IsSound x → Accepts x cause
         → step x cause ≡ Ok o → IsSound o.state }
 {}

@@ -1,5 +1,5 @@
 ghost use Rattle.std.specs.Prelude.{◌≡◌, ◌<◌, ◌≤◌, ℕ, List, [], IfErr, IfOk, IfSome, Err, Ok, Some, length};
-ghost use Rattle.numbers.specs.Bounds.{max_clients, max_voters, max_stamp};
+ghost use Rattle.numbers.specs.Bounds.{max_clients, max_voters, max_limit};
 ghost use Rattle.arrayvec.specs.ArrayVec.{array_vec_len};
 ghost use Rattle.requester.specs.declared.state.ClientState.{ClientState};
 ghost use Rattle.requester.specs.Saved.{IsKept, least_client, words_of};
@@ -41,11 +41,11 @@ impl Model for Requester {
 
 impl Requester {
     /// Returns a new client with this number, 0 to 63. Its stamps go from 1 to the limit, which is
-    /// 1 to 2^40.
+    /// 1 to 2^62.
     pub fn new(id: u8, limit: u64) -> Self
         requires id { id < max_clients }
         requires least { 1 ≤ limit }
-        requires most { limit ≤ max_stamp }
+        requires most { limit ≤ max_limit }
         ensures { result ≡ start id limit }
     {
         Requester {
@@ -62,7 +62,7 @@ impl Requester {
     pub fn anew(id: u8, limit: u64, clock: u64) -> Self
         requires id { id < max_clients }
         requires least { 1 ≤ limit }
-        requires most { limit ≤ max_stamp }
+        requires most { limit ≤ max_limit }
         requires clock { clock ≤ limit }
         ensures { result ≡ anew id limit clock }
     {

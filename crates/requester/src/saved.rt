@@ -12,7 +12,7 @@ ghost use Rattle.requester.specs.Words.{is_covered, is_inside};
 
 use crate::state::{ClientState, Members, Phase};
 use arrayvec::ArrayVec;
-use numbers::{MAX_CLIENTS, MAX_STAMP, MAX_VOTERS};
+use numbers::{MAX_CLIENTS, MAX_LIMIT, MAX_VOTERS};
 use quorum_set::QSet;
 
 /// How many numbers a saved client has.
@@ -86,7 +86,7 @@ impl ClientState {
         ensures { result ≡ has_sound_numbers self.now }
     {
         1 <= self.limit
-            && self.limit <= MAX_STAMP
+            && self.limit <= MAX_LIMIT
             && self.stamp <= self.limit
             && self.stamp <= self.clock
             && (self.phase == Phase::Idle || 0 < self.stamp && 0 < self.quorum.len())

@@ -20,7 +20,7 @@ use Rattle.voter.proofs.Contract.{MeetsContract-step}
 use Rattle.voter.proofs.Effects.{IsSound-step, VoteMoves-step, step-Some}
 use Rattle.voter.proofs.Finished.{places-outcome_of}
 use Rattle.voter.proofs.ReplyLemmas.{CarrySeen-step}
-use Rattle.voter.proofs.Soundness.{IsSound-start}
+use Rattle.voter.proofs.Soundness.{IsSound-counted, IsSound-start}
 
 is_nothing : (b : VoterBody) → (b ≡ asks.Request 0) ⊎ (b ≡ asks.Request 0 → ⊥)
 is_nothing (asks.Request zero) = inl refl
@@ -109,7 +109,7 @@ IsKept-step v m o kept few is =
       few = λ c past. none_from (get o.state.waiting c) (λ s waits. let below = (known_now c s (inr waits)).0 in omega arith);
     }
 
-pub IsKept-start : (id limit : ℕ) → id < 64 → limit ≤ 2 ^ 40 → IsKept (start id limit)
+pub IsKept-start : (id limit : ℕ) → id < 64 → limit ≤ 2 ^ 62 → IsKept (start id limit)
 IsKept-start id limit few most = record {
   sound = IsSound-start id limit most;
   id = few;
@@ -119,7 +119,7 @@ IsKept-start id limit few most = record {
   few = λ c past. get-empty nat_cmp c;
 }
 
-pub IsKept-reborn : (id above limit : ℕ) → id < 64 → above ≤ limit → limit ≤ 2 ^ 40 → IsKept (reborn id above limit)
+pub IsKept-reborn : (id above limit : ℕ) → id < 64 → above ≤ limit → limit ≤ 2 ^ 62 → IsKept (reborn id above limit)
 IsKept-reborn id above limit few less most =
     let new = IsKept-start id limit few most in
     record {
@@ -131,17 +131,16 @@ IsKept-reborn id above limit few less most =
       few = new.few;
     }
 
-pub IsKept-extend : (v : VoterState) (limit : ℕ) → IsKept v → v.limit ≤ limit → limit ≤ 2 ^ 40 → IsKept (record v { limit = limit })
-IsKept-extend v limit kept more most =
-    let granted = kept.sound.granted in
-    record {
-      sound = record { limit = most; granted = omega arith; numbered = kept.sound.numbered; apart = kept.sound.apart; free = kept.sound.free };
-      id = kept.id;
-      holder = kept.holder;
-      stamped = kept.stamped;
-      places = kept.places;
-      few = kept.few;
-    }
+pub IsKept-counted : (v : VoterState) (granted limit : ℕ) → IsKept v → v.granted ≤ granted → granted ≤ limit → limit ≤ 2 ^ 62
+    → IsKept (record v { granted = granted; limit = limit })
+IsKept-counted v granted limit kept more within most = record {
+  sound = IsSound-counted v granted limit kept.sound more within most;
+  id = kept.id;
+  holder = kept.holder;
+  stamped = kept.stamped;
+  places = kept.places;
+  few = kept.few;
+}
 
 -- what the least of a voter keeps
 

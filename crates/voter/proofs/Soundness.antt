@@ -151,11 +151,22 @@ IsSound-outcome_of v m sound enough =
     let o = IsOrderly-outcome_of v m.client m.body (record { numbered = sound.numbered; apart = sound.apart; free = sound.free }) in
     record { limit = rw k.limit l; granted = (let same = k.limit in grind (arith, nat_tests)); numbered = o.numbered; apart = o.apart; free = o.free }
 
-pub IsSound-start : (id limit : ℕ) → limit ≤ 2 ^ 40 → IsSound (start id limit)
+pub IsSound-start : (id limit : ℕ) → limit ≤ 2 ^ 62 → IsSound (start id limit)
 IsSound-start id limit most = record {
   limit = most;
   granted = omega arith;
   numbered = λ g held. absurd (none-some g held);
   apart = λ g held. absurd (none-some g held);
   free = λ _ c. get-empty nat_cmp c;
+}
+
+-- a voter that skips numbers, and has another limit
+pub IsSound-counted : (v : VoterState) (granted limit : ℕ) → IsSound v → v.granted ≤ granted → granted ≤ limit → limit ≤ 2 ^ 62
+    → IsSound (record v { granted = granted; limit = limit })
+IsSound-counted v granted limit sound more within most = record {
+  limit = most;
+  granted = within;
+  numbered = λ g held. (let below = sound.numbered g held in omega arith);
+  apart = sound.apart;
+  free = sound.free;
 }

@@ -2,7 +2,7 @@
 -- 1985, with rules for repeated messages).
 use Rattle.std.specs.Prelude.{ℕ, ◌≡◌, ◌≤◌, ◌+◌, ◌==◌, nat_lt, nat_le, Bool, true, false, ◌&&◌, ◌||◌, not, List, [], ◌∷◌, ◌++◌, Option, Some, None, if◌then◌else◌, slice_index, slice_set, replicate, max, is_none, is_some}
 use Rattle.std.specs.FinMap.{get, insert, remove, empty}
-use Rattle.numbers.specs.Bounds.{max_clients, max_stamp}
+use Rattle.numbers.specs.Bounds.{max_clients, max_limit}
 use Rattle.message.specs.declared.request.Request.{Request}
 use Rattle.message.specs.declared.message.ToVoter.{ToVoter}
 use Rattle.message.specs.declared.message.ToClient.{ToClient}
@@ -319,7 +319,7 @@ ends_grant v client (asks.Release stamp) = is_up_to (held_stamp v.held client) s
 
 -- what holds of every voter
 pub record IsSound (v : VoterState) : Type 0 where
-  pub limit : v.limit ≤ max_stamp
+  pub limit : v.limit ≤ max_limit
   pub granted : v.granted ≤ v.limit
   -- the number of the current grant is at most the number of grants given
   pub numbered : (g : Grant) → v.held ≡ Some g → g.grant ≤ v.granted

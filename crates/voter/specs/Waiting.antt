@@ -1,5 +1,5 @@
 -- The waiting requests of a voter: a map from each waiting client to its stamp.
-use Rattle.std.specs.Prelude.{ℕ, ◌≡◌, ◌≢◌, ◌<◌, ◌==◌, Bool, true, not, List, [], ◌∷◌, map, Option, Some, None, if◌then◌else◌, unwrap_or}
+use Rattle.std.specs.Prelude.{ℕ, ◌≡◌, ◌≢◌, ◌<◌, ◌==◌, true, not, List, [], ◌∷◌, map, Option, Some, None, if◌then◌else◌, unwrap_or}
 use Rattle.std.specs.Ordering.{nat_cmp}
 use Rattle.std.specs.List.{AllByRecursion, filter, range_with_len}
 use Rattle.std.specs.FinMap.{FinMap, entries, from_entries, get}

@@ -1,7 +1,7 @@
 //! Laws: what is proved about the definitions.
 ghost use Rattle.std.specs.FinMap.{get};
 ghost use Rattle.std.specs.Prelude.{◌≡◌, ◌<◌, ◌≤◌, ◌⊎◌, ◌∷◌, ℕ, Some, false, slice_index};
-ghost use Rattle.numbers.specs.Bounds.{max_clients, max_stamp, max_voters};
+ghost use Rattle.numbers.specs.Bounds.{max_clients, max_limit, max_voters};
 ghost use Rattle.message.specs.declared.message.ClientBody.TheVariants as to_client;
 ghost use Rattle.message.specs.declared.message.ToVoter.{ToVoter};
 ghost use Rattle.message.specs.declared.message.VoterBody.TheVariants as asks;
@@ -39,14 +39,14 @@ pub fn grants_are_numbered()
 /// - nobody waits for a free vote;
 /// - a grant's number is at most the number of grants, and that is at most the limit.
 pub fn voters_stay_sound()
-    ensures first { (id limit : ℕ) → limit ≤ max_stamp → IsSound (start id limit) }
+    ensures first { (id limit : ℕ) → limit ≤ max_limit → IsSound (start id limit) }
     ensures steps { (v : VoterState) (m : ToVoter) (o : Outcome) → IsSound v → step v m ≡ Some o → IsSound o.state }
 {}
 
 /// A new voter can be saved and restored. It still can after any message of a client below 64, and
 /// after all but the least of it is lost.
 pub fn voters_stay_kept()
-    ensures first { (id limit : ℕ) → id < max_voters → limit ≤ max_stamp → IsKept (start id limit) }
+    ensures first { (id limit : ℕ) → id < max_voters → limit ≤ max_limit → IsKept (start id limit) }
     ensures steps { (v : VoterState) (m : ToVoter) (o : Outcome) → IsKept v → m.client < max_clients
         → step v m ≡ Some o → IsKept o.state }
     ensures least { (v : VoterState) → IsKept v → IsKept (least_voter v) }

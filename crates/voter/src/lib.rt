@@ -26,6 +26,8 @@
 //! - [`Voter::effect`] returns beforehand whether a message would end the current grant. A board of
 //!   votes has to settle the grant first.
 //! - [`Voter::remind`] may be sent at any time.
+//! - [`Voter::raise`] skips numbers of grants, and keeps the grant. So a voter goes on above a number that
+//!   others know.
 //! - [`Voter::take_into`] is `take` with the replies in a buffer of the caller's. It is for callers
 //!   that make many steps.
 //!

@@ -12,7 +12,7 @@ use crate::queue::Queue;
 use crate::state::{Grant, VoterState};
 use arrayvec::ArrayVec;
 use message::Request;
-use numbers::{MAX_CLIENTS, MAX_STAMP};
+use numbers::{MAX_CLIENTS, MAX_LIMIT};
 
 /// How many numbers a saved voter has.
 pub const SAVED_WORDS: usize = 138;
@@ -214,7 +214,7 @@ fn if_saved(voter: VoterState, words: &[u64]) -> Option<VoterState>
     ensures text { IfSome result (λ v. words.now ≡ words_of v) }
     ensures read { IsKept voter → words.now ≡ words_of voter → result ≡ Some voter }
 {
-    if voter.limit <= MAX_STAMP
+    if voter.limit <= MAX_LIMIT
         && voter.granted <= voter.limit
         && voter.has_sound_vote()
         && voter.is_saved_as(words)

@@ -1,6 +1,6 @@
 ghost use Rattle.std.specs.Prelude.{◌≡◌, ◌<◌, ◌≤◌, [], slice_index, IfErr, IfOk, IfSome, OnErr, OnOk, None, Some};
 ghost use Rattle.arrayvec.specs.ArrayVec.{array_vec_len};
-ghost use Rattle.numbers.specs.Bounds.{max_voters, max_clients, max_stamp};
+ghost use Rattle.numbers.specs.Bounds.{max_voters, max_clients, max_limit};
 ghost use Rattle.voter.specs.Leases.{evict, reborn, release_of};
 ghost use Rattle.voter.specs.Steps.{current_stamp, effect_of, remind, start, step};
 ghost use Rattle.voter.specs.declared.state.VoterState.{VoterState};
@@ -36,11 +36,11 @@ impl Model for Voter {
 }
 
 impl Voter {
-    /// Returns a new voter with this number, 0 to 63. It may give `limit` grants, 1 to 2^40.
+    /// Returns a new voter with this number, 0 to 63. It may give `limit` grants, 1 to 2^62.
     pub fn new(id: u8, limit: u64) -> Self
         requires id { id < max_voters }
         requires least { 1 ≤ limit }
-        requires most { limit ≤ max_stamp }
+        requires most { limit ≤ max_limit }
         ensures { result ≡ start id limit }
     {
         Voter {
@@ -49,14 +49,14 @@ impl Voter {
     }
 
     /// Returns a voter that lost its state. It gave at most `above` grants before, and may give `limit`
-    /// grants in all, also 1 to 2^40.
+    /// grants in all, also 1 to 2^62.
     ///
-    /// If it gave more, two clients may have one grant number. So make a voter with a limit below 2^40,
+    /// If it gave more, two clients may have one grant number. So make a voter with a limit below 2^62,
     /// a *block* of grants; if it is lost, `above` is the end of its block.
     pub fn reborn(id: u8, above: u64, limit: u64) -> Self
         requires id { id < max_voters }
         requires above { above ≤ limit }
-        requires most { limit ≤ max_stamp }
+        requires most { limit ≤ max_limit }
         ensures { result ≡ reborn id above limit }
     {
         Voter {
@@ -74,13 +74,33 @@ impl Voter {
         self.state.limit
     }
 
-    /// Raises the number of grants that the voter may give, up to 2^40.
+    /// Returns how many grants the voter gave, with those whose numbers it skipped. The next grant has
+    /// the number after this one.
+    pub fn granted(&self) -> u64
+        ensures { result ≡ self.now.granted }
+    {
+        self.state.granted
+    }
+
+    /// Raises the number of grants that the voter may give, up to 2^62.
     pub fn extend(&mut self, limit: u64)
         requires least { self.old.limit ≤ limit }
-        requires most { limit ≤ max_stamp }
+        requires most { limit ≤ max_limit }
         ensures { self.new ≡ record self.old { limit = limit } }
     {
         self.state.limit = limit;
+    }
+
+    /// Skips the numbers up to `above`: each later grant has a greater one. A grant that is held stays.
+    ///
+    /// It is for a voter that goes on above a number that others know, and keeps its grant. A voter that
+    /// is reborn loses its grant.
+    pub fn raise(&mut self, above: u64)
+        requires least { self.old.granted ≤ above }
+        requires most { above ≤ self.old.limit }
+        ensures { self.new ≡ record self.old { granted = above } }
+    {
+        self.state.granted = above;
     }
 
     /// Returns the voter's number.

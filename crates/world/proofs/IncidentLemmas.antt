@@ -6,7 +6,6 @@ use Rattle.std.specs.Ordering.{nat_cmp}
 use Rattle.std.proofs.lemmas.Bool.{and_parts, false≢true, ltb-true}
 use Rattle.std.proofs.lemmas.Bool.Decides.{nat_tests}
 use Rattle.std.proofs.lemmas.Option.{none-some}
-use Rattle.numbers.specs.Bounds.{max_stamp}
 use Rattle.message.specs.declared.message.VoterBody.{VoterBody}
 use Rattle.message.specs.declared.message.VoterBody.TheVariants as asks
 use Rattle.voter.specs.declared.state.VoterState.{VoterState}
@@ -17,7 +16,7 @@ use Rattle.requester.specs.declared.state.Phase.TheVariants.{Idle}
 use Rattle.requester.specs.Soundness as sound
 use Rattle.requester.proofs.SoundSteps.{IsSound-clear_votes}
 use Rattle.world_state.specs.Steps.{client_at, voter_at}
-use Rattle.world.specs.Incidents.{anew, is_limit, is_request_within, limited, reborn}
+use Rattle.world.specs.Incidents.{anew, is_above, is_limit, is_request_within, reborn}
 use Rattle.world.specs.Ranges.{IsWithin}
 use Rattle.world.specs.Restarts.{Saved}
 use Rattle.world.proofs.Claims.{Bounds}
@@ -55,15 +54,9 @@ reborn_sound y above was most = record {
   free = λ held c. fin.get-empty nat_cmp c;
 }
 
--- a voter with another limit
-pub limited_sound : (y : VoterState) (limit : ℕ) → voter.IsSound y → y.granted ≤ limit → limit ≤ max_stamp → voter.IsSound (limited y limit)
-limited_sound y limit was least most = record {
-  limit = most;
-  granted = least;
-  numbered = was.numbered;
-  apart = was.apart;
-  free = was.free;
-}
+-- a voter with these counts: how many grants it gave, and may give
+abbrev pub counted : VoterState → ℕ → ℕ → VoterState
+counted y granted limit = record y { granted = granted; limit = limit }
 
 -- a client that starts anew
 pub anew_sound : (b : Bounds) → Given b → (x : ClientState) (clock : ℕ) → sound.IsSound x → clock ≤ x.limit → sound.IsSound (anew x clock)
@@ -91,4 +84,21 @@ may_have b s size highest v limit is =
       within = ltb-true _ _ parts.0;
       least = (let h = ends.0 in grind (arith, nat_tests));
       most = omega arith;
+    }
+
+-- what the condition on a count of grants says
+pub record MayCount (s : Saved) (v above : ℕ) : Type 0 where
+  pub within : v < length s.live.voters
+  pub least : (voter_at s.live.voters v).granted ≤ above
+  pub most : above ≤ (voter_at s.live.voters v).limit
+
+pub may_count : (s : Saved) (v above : ℕ) → (nat_lt v (length s.live.voters) && is_above (voter_at s.live.voters v) above) ≡ true → MayCount s v above
+may_count s v above is =
+    let y = voter_at s.live.voters v in
+    let parts = and_parts (nat_lt v (length s.live.voters)) (is_above y above) is in
+    let ends = and_parts (nat_le y.granted above) (nat_le above y.limit) parts.1 in
+    record {
+      within = ltb-true _ _ parts.0;
+      least = (let h = ends.0 in grind (arith, nat_tests));
+      most = (let h = ends.1 in grind (arith, nat_tests));
     }

@@ -84,10 +84,10 @@ plans_deal all_name w is (Some v) follows Second ticket = IsAmong-right w.system
 
 -- ---- a world that is reached
 
-IsCount-within : (limit n : ℕ) → limit ≤ 2 ^ 40 → IsWithin limit n → IsCount n
+IsCount-within : (limit n : ℕ) → limit ≤ 2 ^ 62 → IsWithin limit n → IsCount n
 IsCount-within limit n most within = let least = within.0 in let far = within.1 in (least, omega arith)
 
-AreCounts-within : (limit : ℕ) (body : ClientBody) → limit ≤ 2 ^ 40 → ReportsWithin limit body → AreCounts body
+AreCounts-within : (limit : ℕ) (body : ClientBody) → limit ≤ 2 ^ 62 → ReportsWithin limit body → AreCounts body
 AreCounts-within limit (to_client.Locked stamp grant) most within = (IsCount-within limit stamp most within.0, IsCount-within limit grant most within.1)
 AreCounts-within limit (to_client.Fail stamp) most within = IsCount-within limit stamp most within
 AreCounts-within limit (to_client.Inquire grant) most within = IsCount-within limit grant most within

@@ -73,7 +73,7 @@ record Fresh (b : Bounds) (x : ClientState) : Type 0 where
   held : (v : ℕ) → held_of x v ≡ 0
   last : (v : ℕ) → last_of x v ≡ 0
 
-Fresh-start : (b : Bounds) → Given b → (id limit : ℕ) → id < 64 → 1 ≤ limit → limit ≤ 2 ^ 40 → Fresh b (client.start id limit)
+Fresh-start : (b : Bounds) → Given b → (id limit : ℕ) → id < 64 → 1 ≤ limit → limit ≤ 2 ^ 62 → Fresh b (client.start id limit)
 Fresh-start b given id limit few least most = record {
   ok = record { sound = given.client.first id limit few least most; quorum = inl refl };
   idle = refl;
@@ -89,7 +89,7 @@ pub record Unused (b : Bounds) (y : VoterState) : Type 0 where
   pub limit : y.limit ≤ b.limit
   pub seen : y.seen ≤ b.limit
 
-Unused-start : (b : Bounds) → Given b → (id limit : ℕ) → limit ≤ 2 ^ 40 → limit ≤ b.limit → Unused b (voter.start id limit)
+Unused-start : (b : Bounds) → Given b → (id limit : ℕ) → limit ≤ 2 ^ 62 → limit ≤ b.limit → Unused b (voter.start id limit)
 Unused-start b given id limit most below = record {
   sound = given.voter.first id limit most;
   held = refl;

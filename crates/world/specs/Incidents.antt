@@ -28,6 +28,8 @@ pub data Incident : Type 0 where
   HasLimit : ℕ → ℕ → Incident
   -- a client raises its clock to a stamp: client, stamp
   IsRaised : ℕ → ℕ → Incident
+  -- A voter skips the numbers up to this one, which is within its limit, and keeps its grant: voter, number.
+  IsSkipped : ℕ → ℕ → Incident
 
 -- the stamp of a REQUEST is from 1 to the limit
 abbrev pub is_request_within : ℕ → VoterBody → Bool
@@ -95,6 +97,15 @@ abbrev pub have_limit : Bool → Saved → ℕ → ℕ → Saved
 have_limit true s v limit = record s { live = record s.live { voters = slice_set s.live.voters v (limited (voter_at s.live.voters v) limit) } }
 have_limit false s v limit = s
 
+-- a voter that skips the numbers up to this one
+abbrev pub skipped : VoterState → ℕ → VoterState
+skipped y above = record y { granted = above }
+
+-- the voter skips numbers, if it gave none above
+abbrev pub be_skipped : Bool → Saved → ℕ → ℕ → Saved
+be_skipped true s v above = record s { live = record s.live { voters = slice_set s.live.voters v (skipped (voter_at s.live.voters v) above) } }
+be_skipped false s v above = s
+
 -- the client's clock is raised, if it is behind
 abbrev pub be_raised : Bool → Saved → ℕ → ℕ → Saved
 be_raised true s c clock = record s { live = record s.live { clients = slice_set s.live.clients c (client.see (client_at s.live.clients c) clock) } }
@@ -108,6 +119,7 @@ befalls deal s (IsReborn v above) = be_reborn (nat_lt v (length s.live.voters) &
 befalls deal s (StartsAnew c clock) = start_anew (nat_lt c (length s.live.clients) && is_ahead (client_at s.live.clients c) clock) s c clock
 befalls deal s (HasLimit v limit) = have_limit (nat_lt v (length s.live.voters) && is_limit s v limit) s v limit
 befalls deal s (IsRaised c clock) = be_raised (nat_lt c (length s.live.clients)) s c clock
+befalls deal s (IsSkipped v above) = be_skipped (nat_lt v (length s.live.voters) && is_above (voter_at s.live.voters v) above) s v above
 
 -- the world after all of these, in order
 abbrev pub all_befall : Dealing → List Incident → Saved → Saved

@@ -17,7 +17,7 @@ pub record ClientLaws : Type 0 where
   pub meets : (x : ClientState) (cause : client.Cause) (o : client.Outcome)
       → sound.IsSound x → Accepts x cause → client.step x cause ≡ Ok o → MeetsContract x cause o
   pub repeats : (x : ClientState) → AllRepeat x (client.remind x)
-  pub first : (id limit : ℕ) → id < 64 → 1 ≤ limit → limit ≤ 2 ^ 40 → sound.IsSound (client.start id limit)
+  pub first : (id limit : ℕ) → id < 64 → 1 ≤ limit → limit ≤ 2 ^ 62 → sound.IsSound (client.start id limit)
   pub stays : (x : ClientState) (cause : client.Cause) (o : client.Outcome)
       → sound.IsSound x → Accepts x cause → client.step x cause ≡ Ok o → sound.IsSound o.state
   pub ranges : (x : ClientState) (cause : client.Cause) (o : client.Outcome)
@@ -33,7 +33,7 @@ pub record VoterLaws : Type 0 where
   pub reminds : (v : VoterState) → votes.AllReport v.held (voter.remind v)
   pub numbers : (v : VoterState) (m : ToVoter) (o : voter.Outcome)
       → voter.IsSound v → voter.step v m ≡ Some o → VoteMoves (voter.effect_of v m).frees v o.state
-  pub first : (id limit : ℕ) → limit ≤ 2 ^ 40 → voter.IsSound (voter.start id limit)
+  pub first : (id limit : ℕ) → limit ≤ 2 ^ 62 → voter.IsSound (voter.start id limit)
   pub stays : (v : VoterState) (m : ToVoter) (o : voter.Outcome)
       → voter.IsSound v → voter.step v m ≡ Some o → voter.IsSound o.state
   pub answers : (v : VoterState) (m : ToVoter) (o : voter.Outcome)

@@ -1,7 +1,7 @@
 -- Runs: what a list of steps makes of a new world. A refused step changes nothing.
 use Rattle.std.specs.Prelude.{ℕ, ◌≡◌, ◌+◌, ◌≤◌, List, [], ◌∷◌, ◌++◌, length, map, Result, Ok, Err}
 use Rattle.std.specs.List.{range_with_len}
-use Rattle.numbers.specs.Bounds.{max_voters, max_clients, max_stamp}
+use Rattle.numbers.specs.Bounds.{max_voters, max_clients, max_limit}
 use Rattle.quorum_set.specs.declared.bridge.Side.TheVariants.{First}
 use Rattle.dealer.specs.Plans.{PlanPair, ArePlans}
 use Rattle.voter.specs.Steps as voter
@@ -51,12 +51,12 @@ start_by plans clients limit = start plans.first.system.voters clients limit
 abbrev pub run_by : PlanPair → ℕ → ℕ → List Step → WorldState
 run_by plans clients limit steps = run_of (dealing_of plans) steps (start_by plans clients limit)
 
--- at most 64 voters and 64 clients, and a limit of stamps and grants from 1 to 2^40
+-- at most 64 voters and 64 clients, and a limit of stamps and grants from 1 to 2^62
 pub record AreLimits (voters clients limit : ℕ) : Type 0 where
   pub few_voters : voters ≤ max_voters
   pub few_clients : clients ≤ max_clients
   pub some_stamp : 1 ≤ limit
-  pub few_stamps : limit ≤ max_stamp
+  pub few_stamps : limit ≤ max_limit
 
 -- some list of steps made this world from a new one
 pub record IsReached (w : Planned) : Type 0 where

@@ -1,6 +1,6 @@
 //! Worlds whose clients and voters crash and restart.
 ghost use Rattle.std.specs.Prelude.{◌≡◌, ◌<◌, ◌≤◌, IfErr, IfOk, Ok, OnErr, OnOk, Some, length, option_map, slice_get};
-ghost use Rattle.numbers.specs.Bounds.{max_clients, max_stamp};
+ghost use Rattle.numbers.specs.Bounds.{max_clients, max_limit};
 ghost use Rattle.message.specs.Lines.{HasLine};
 ghost use Rattle.world.specs.Restarts.{Goes, OneClient, OneVoter, Restarts, maker};
 ghost use Rattle.world.specs.States.{node_of, saved_of};
@@ -62,7 +62,7 @@ impl SavedWorld {
         requires some { 1 ≤ clients }
         requires few { clients ≤ max_clients }
         requires least { 1 ≤ limit }
-        requires most { limit ≤ max_stamp }
+        requires most { limit ≤ max_limit }
         ensures { IfOk result (λ world. world ≡ record { plans = plans; saved = begin_by plans clients limit }) }
     {
         saved_worlds_stay_sound();

@@ -1,6 +1,6 @@
 //! Runs of a world.
 ghost use Rattle.std.specs.Prelude.{◌≡◌, ◌≢◌, ◌≤◌, ◌++◌, ◌∷◌, [], IfOk, OnOk};
-ghost use Rattle.numbers.specs.Bounds.{max_clients, max_stamp};
+ghost use Rattle.numbers.specs.Bounds.{max_clients, max_limit};
 ghost use Rattle.world_state.specs.declared.fault.WorldFault.TheVariants.{OutOfMemory};
 ghost use Rattle.std.specs.List.{AllByRecursion};
 ghost use Rattle.message.specs.Lines.{HasLine};
@@ -31,7 +31,7 @@ pub struct Trace {
 
 /// Runs a list of steps in a new world of these plans, and returns what they did.
 ///
-/// The world has 1 to 64 clients. Stamps and grants go from 1 to the limit, which is 1 to 2^40. A
+/// The world has 1 to 64 clients. Stamps and grants go from 1 to the limit, which is 1 to 2^62. A
 /// step that is refused changes nothing, and the run goes on. At most one client is inside at a
 /// time.
 ///
@@ -46,7 +46,7 @@ pub fn run(
     requires some { 1 ≤ clients }
     requires few { clients ≤ max_clients }
     requires least { 1 ≤ limit }
-    requires most { limit ≤ max_stamp }
+    requires most { limit ≤ max_limit }
     ensures visible { IfOk result (λ trace. trace.visible.items ≡ (run_by plans clients limit steps.now).visible) }
     ensures draws { IfOk result (λ trace. trace.draws.items ≡ (run_by plans clients limit steps.now).draws) }
     ensures draws2 { IfOk result (λ trace. trace.draws2.items ≡ (run_by plans clients limit steps.now).draws2) }

@@ -1,7 +1,7 @@
 //! Worlds, which make steps one by one.
 ghost use Rattle.std.specs.Prelude.{◌≡◌, ◌<◌, ◌≤◌, IfErr, IfOk, Ok, OnErr, Some, length, map, option_map, slice_get};
 ghost use Rattle.std.specs.List.{AllByRecursion, range_with_len};
-ghost use Rattle.numbers.specs.Bounds.{max_voters, max_clients, max_stamp};
+ghost use Rattle.numbers.specs.Bounds.{max_voters, max_clients, max_limit};
 ghost use Rattle.requester.specs.Steps as requesters;
 ghost use Rattle.voter.specs.Steps as polls;
 ghost use Rattle.message.specs.Lines.{HasLine};
@@ -50,13 +50,13 @@ impl Model for World {
 
 impl World {
     /// Returns a new world, with a new voter for each voter of the plans and 1 to 64 new clients.
-    /// Stamps and grants go from 1 to the limit, which is 1 to 2^40. Fails only if it runs out of
+    /// Stamps and grants go from 1 to the limit, which is 1 to 2^62. Fails only if it runs out of
     /// memory.
     pub fn new(alloc: Global, plans: Plans, clients: u8, limit: u64) -> Result<World, AllocError>
         requires some { 1 ≤ clients }
         requires few { clients ≤ max_clients }
         requires least { 1 ≤ limit }
-        requires most { limit ≤ max_stamp }
+        requires most { limit ≤ max_limit }
         ensures { IfOk result (λ world. world ≡ record { plans = plans; state = start_by plans clients limit }) }
     {
         worlds_stay_sound();
@@ -200,7 +200,7 @@ impl World {
 pub(crate) fn new_voters(alloc: Global, count: usize, limit: u64) -> Result<Vec<Voter>, AllocError>
     requires few { count ≤ max_voters }
     requires least { 1 ≤ limit }
-    requires most { limit ≤ max_stamp }
+    requires most { limit ≤ max_limit }
     ensures { IfOk result (λ voters. voters.items ≡ map (λ v. polls.start v limit) (range_with_len 0 count)) }
 {
     let mut voters = Vec::with_capacity(alloc, count)?;
@@ -218,7 +218,7 @@ pub(crate) fn new_clients(
 ) -> Result<Vec<Requester>, AllocError>
     requires few { count ≤ max_clients }
     requires least { 1 ≤ limit }
-    requires most { limit ≤ max_stamp }
+    requires most { limit ≤ max_limit }
     ensures { IfOk result (λ clients. clients.items ≡ map (λ c. requesters.start c limit) (range_with_len 0 count)) }
 {
     let mut clients = Vec::with_capacity(alloc, usize::from(count))?;

@@ -22,7 +22,7 @@ CREATE TABLE qlock_guard (
     seen bigint[] NOT NULL DEFAULT array_fill(0::bigint, ARRAY[64])    -- the newest grant of each voter
 );
 
--- Returns the number at a place of a pass, 0 to 63. Grants are at most 2^40, so they fit.
+-- Returns the number at a place of a pass, 0 to 63. Grants are at most 2^62, so they fit.
 CREATE FUNCTION qlock_grant(pass bytea, voter integer) RETURNS bigint
 LANGUAGE sql IMMUTABLE STRICT AS $$
     SELECT sum(get_byte(pass, 8 * voter + i)::bigint << (8 * i))::bigint FROM generate_series(0, 7) AS i

@@ -9,6 +9,7 @@ import (
 
 	"calvundek.example/service/internal/config"
 	"calvundek.example/service/internal/operator"
+	"calvundek.example/service/internal/wire"
 	"calvundek.example/service/qlock"
 )
 
@@ -52,7 +53,7 @@ func Rejoin(ctx context.Context, own *config.Voter, cluster *config.Cluster, con
 // create makes a state with a new identity.
 func create(own *config.Voter, cluster *config.Cluster, sessions map[int]Session) (Meta, error) {
 	meta := Owner(own, cluster)
-	if (meta.Block+1)*blockSize > qlock.MaxStamp {
+	if (meta.Block+1)*blockSize > wire.MaxStamp {
 		return meta, ErrBlocks
 	}
 	var err error

@@ -3,6 +3,7 @@ package voter
 import (
 	"time"
 
+	"calvundek.example/service/internal/wire"
 	"calvundek.example/service/qlock"
 )
 
@@ -168,7 +169,7 @@ func (t *table) reserve(number int, wanted uint64, now time.Time) {
 		return
 	}
 	highest := t.highest()
-	reserved := smallest(wanted, smallest(highest+t.stamps.refill(stampRate, mostStamps, now), qlock.MaxStamp))
+	reserved := smallest(wanted, smallest(highest+t.stamps.refill(stampRate, mostStamps, now), wire.MaxStamp))
 	if reserved <= row.Reserved {
 		return
 	}

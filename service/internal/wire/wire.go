@@ -49,6 +49,9 @@ const MostBytes = 256 << 10
 // mostHeader is how many bytes a header's line may have.
 const mostHeader = 512
 
+// MaxStamp is the highest stamp of a session, and the highest number of a grant. The library allows more.
+const MaxStamp = 1 << 40
+
 // ErrForeign is returned for a message that is not of this protocol.
 var ErrForeign = errors.New("wire: no message of this protocol")
 
