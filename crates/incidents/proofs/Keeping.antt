@@ -351,12 +351,13 @@ happens_fit b given deal deals s fit (Restarts who) = restart_fit b s fit who
 hear_fit : (b : Bounds) → Given b → (s : Saved) → Fit b s → (m : ToVoter) → HasLine (kinds.ToVoter m) → Fit b (hear s m)
 hear_fit b given s fit m line = voter_of b s fit (OneVoter m.voter) (nat_lt m.voter (length s.live.voters)) m.voter _ (λ t.
     one_of b s fit (OneVoter m.voter) (is_message s m) m.client _ (λ u.
-    let parts = and_parts (nat_lt m.client (length s.live.clients)) (is_request_within (voter_at s.live.voters m.voter).limit m.body) u in
+    let parts = and_parts (nat_lt m.client (length s.live.clients)) (is_request_within (client_at s.live.clients m.client).limit m.body) u in
+    let named : m.client < b.clients = subst (λ n. m.client < n) fit.many_clients (ltb-true _ _ parts.0) in
     let here : m.voter < b.voters = subst (λ n. m.voter < n) fit.many_voters (ltb-true _ _ t) in
     voter_tried b given s fit m (record {
-      client = subst (λ n. m.client < n) fit.many_clients (ltb-true _ _ parts.0);
+      client = named;
       voter = here;
-      asks = asks_by b (voter_at s.live.voters m.voter).limit m.body (fit.voters_are m.voter here).limit parts.1;
+      asks = asks_by b (client_at s.live.clients m.client).limit m.body (let same = (fit.clients_are m.client named).limit in omega arith) parts.1;
       number = line.2.1;
     }) (voter.step (voter_at s.live.voters m.voter) m) refl))
 

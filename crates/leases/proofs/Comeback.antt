@@ -663,7 +663,7 @@ settled_hears : (b : Bounds) → Given b → EndLaws → (G : Naming) (s : Saved
     → Settled b (hear s m)
 settled_hears b given end G s num st m is = settled_if_voter b s st (OneVoter m.voter) (nat_lt m.voter (length s.live.voters)) m.voter _ (λ t.
     settled_if b s st (OneVoter m.voter) (is_message s m) m.client _ (λ u.
-    let parts = and_parts (nat_lt m.client (length s.live.clients)) (is_request_within (voter_at s.live.voters m.voter).limit m.body) u in
+    let parts = and_parts (nat_lt m.client (length s.live.clients)) (is_request_within (client_at s.live.clients m.client).limit m.body) u in
     let within : m.client < b.clients = subst (λ n. m.client < n) num.sizes.0 (ltb-true _ _ parts.0) in
     let here : m.voter < b.voters = subst (λ n. m.voter < n) num.sizes.1 (ltb-true _ _ t) in
     let fits = lawful_fits b G s num st m within is in

@@ -26,11 +26,11 @@ use Rattle.world_state.specs.declared.step.Step.TheVariants.{Deliver, RemindVote
 use Rattle.world.specs.Restarts.{Saved, OneVoter, Goes, Saves, Forgets, Restarts, forget, happens, receiver, restart, save, save_and_send, save_unless}
 use Rattle.world_state.specs.Steps.{is_silent}
 use Rattle.world.specs.Rules.{VoterLaws}
-use Rattle.world_state.specs.Steps.{Dealing, after_voter, come, if_client, if_voter, say, step, vote, voter_at, voter_did}
+use Rattle.world_state.specs.Steps.{Dealing, after_voter, client_at, come, if_client, if_voter, say, step, vote, voter_at, voter_did}
 use Rattle.world.specs.Incidents.{Incident, Happens, Hears, IsReborn, StartsAnew, HasLimit, IsRaised, IsSkipped, all_befall, befalls, hear, is_message, is_request_within}
 use Rattle.leases.specs.Comeback.{AreLawful, IsEviction}
 use Rattle.leases.specs.Orderly.{AreOrderly}
-use Rattle.leases.specs.NodeRuns.{ArePlaces, EvictsNone, HasVoter, MayCome, MayRun, Places, WasSent, arrival_by, eviction_of, incidents_from, incidents_of, unless_refused, with_voter}
+use Rattle.leases.specs.NodeRuns.{ArePlaces, EvictsNone, HasVoter, IsInRange, MayCome, MayRun, Places, WasSent, arrival_by, eviction_of, incidents_from, incidents_of, unless_refused, with_voter}
 use Rattle.leases.proofs.Guards.{befall-append}
 use Rattle.world.proofs.Places.{voter_here}
 
@@ -43,7 +43,7 @@ mid s v y z more = record s {
   voters = slice_set s.voters v z;
 }
 
-set_own : (vs : List VoterState) (v : ℕ) (y : VoterState) → voter_at vs v ≡ y → slice_set vs v y ≡ vs
+pub set_own : (vs : List VoterState) (v : ℕ) (y : VoterState) → voter_at vs v ≡ y → slice_set vs v y ≡ vs
 unfolding voter_at
 set_own vs v y is = ap (λ z. slice_set vs v z) (sym is) ∙ set-get_or vs v (voter.start 0 1)
 
@@ -89,12 +89,11 @@ spoken s v y z more o within =
     (end.0, ap (λ (t : Saved). save_unless (is_silent (length o.replies) Nothing) (OneVoter v) t) e ∙ end.1)
 
 heard : (s : Saved) (y z : VoterState) (more : List ToClient) (m : ToVoter) (o : voter.Outcome) → m.voter < length s.live.voters → m.client < length s.live.clients
-    → is_request_within y.limit m.body ≡ true → voter.step y m ≡ Some o → IsMid s m.voter o.state (more ++ o.replies) (hear (mid s m.voter y z more) m)
+    → is_request_within (client_at s.live.clients m.client).limit m.body ≡ true → voter.step y m ≡ Some o → IsMid s m.voter o.state (more ++ o.replies) (hear (mid s m.voter y z more) m)
 heard s y z more m o within client stamp is =
     let t = mid s m.voter y z more in
     let here = voter_here s.live.voters m.voter y within in
-    let known : is_message t m ≡ true = ap (λ (w : VoterState). nat_lt m.client (length s.live.clients) && is_request_within w.limit m.body) here
-    ∙ (λ i. lt_true m.client (length s.live.clients) client i && stamp i) in
+    let known : is_message t m ≡ true = (λ i. lt_true m.client (length s.live.clients) client i && stamp i) in
     let comes = ap (λ b. if_voter b m.voter (if_client (is_message t m) m.client (vote t.live m))) (still_within s m.voter y within)
     ∙ ap (λ b. if_client b m.client (vote t.live m)) known
     ∙ ap (λ (x : Option voter.Outcome). after_voter t.live m.voter x) (ap (λ (w : VoterState). voter.step w m) here ∙ is) in
@@ -141,19 +140,15 @@ lawful-append deal (i ∷ is) js s first then_ = (first.0, lawful-append deal is
 -- waits. If all messages were sent, they are lawful.
 record Underway (sure : Type 0) (deal : Dealing) (s : Saved) (y : VoterState) (n : nodes.Node) (waiting : List Incident) : Type 0 where
   has : HasVoter s y.id n.saved
-  saved_limit : n.saved.limit ≡ y.limit
   id : n.live.id ≡ y.id
-  limit : n.live.limit ≡ y.limit
   clients : (c stamp : ℕ) → IsEntry n.live c stamp → c < length s.live.clients
   there : IsMid s y.id n.live n.outbox (all_befall deal waiting s)
   lawful : sure → AreLawful deal s waiting
 
-begins : (sure : Type 0) (deal : Dealing) (s : Saved) (y z : VoterState) → HasVoter s y.id z → z.limit ≡ y.limit → Underway sure deal s y (nodes.node_of z) []
-begins sure deal s y z has limit = record {
+begins : (sure : Type 0) (deal : Dealing) (s : Saved) (y z : VoterState) → HasVoter s y.id z → Underway sure deal s y (nodes.node_of z) []
+begins sure deal s y z has = record {
   has = has;
-  saved_limit = limit;
   id = has.id;
-  limit = limit;
   clients = has.clients;
   there = (z, own s y.id z has);
   lawful = λ _. tt;
@@ -163,7 +158,6 @@ begins sure deal s y z has limit = record {
 record Leads (sure : Type 0) (deal : Dealing) (s : Saved) (y : VoterState) (n : nodes.Node) (is : List Incident) (o : voter.Outcome) : Type 0 where
   to : (z : VoterState) → IsMid s y.id o.state (n.outbox ++ o.replies) (all_befall deal is (mid s y.id n.live z n.outbox))
   id : o.state.id ≡ y.id
-  limit : o.state.limit ≡ y.limit
   clients : (c stamp : ℕ) → IsEntry o.state c stamp → c < length s.live.clients
   lawful : sure → (z : VoterState) → AreLawful deal (mid s y.id n.live z n.outbox) is
 
@@ -180,9 +174,7 @@ stepped sure deal s y n waiting is true (Some p) under leads =
     let end = l.to under.there.0 in
     record {
       has = under.has;
-      saved_limit = under.saved_limit;
       id = l.id;
-      limit = l.limit;
       clients = l.clients;
       there = (end.0, befall-append deal waiting is s ∙ ap (all_befall deal is) under.there.1 ∙ end.1);
       lawful = λ all. lawful-append deal waiting is s (under.lawful all)
@@ -194,7 +186,6 @@ nothing : (sure : Type 0) (deal : Dealing) (s : Saved) (y : VoterState) (n : nod
 nothing sure deal s y n waiting under = record {
   to = λ z. (z, ap (mid s y.id n.live z) (sym (append-nil n.outbox)));
   id = under.id;
-  limit = under.limit;
   clients = under.clients;
   lawful = λ _ z. tt;
 }
@@ -214,7 +205,6 @@ takes laws sure deal s y n waiting m is under client p step_is to lawful =
     record {
       to = to;
       id = carries.id ∙ under.id;
-      limit = carries.limit ∙ under.limit;
       clients = λ c t e. elim ((laws.meets n.live m p step_is).entries c t e) [
         | inl was ↦ under.clients c t was
         | inr brings ↦ subst (λ k. k < length s.live.clients) (sym (brings_own m.client m.body c t brings)) client
@@ -223,13 +213,12 @@ takes laws sure deal s y n waiting m is under client p step_is to lawful =
     }
 
 -- a message that nobody sent
-hears_to : (deal : Dealing) (s : Saved) (y : VoterState) (n : nodes.Node) (m : ToVoter) → y.id < length s.live.voters → n.live.limit ≡ y.limit → m.voter ≡ y.id
-    → m.client < length s.live.clients → is_request_within y.limit m.body ≡ true → (p : voter.Outcome) → voter.step n.live m ≡ Some p → (z : VoterState)
+hears_to : (deal : Dealing) (s : Saved) (y : VoterState) (n : nodes.Node) (m : ToVoter) → y.id < length s.live.voters → m.voter ≡ y.id
+    → m.client < length s.live.clients → is_request_within (client_at s.live.clients m.client).limit m.body ≡ true → (p : voter.Outcome) → voter.step n.live m ≡ Some p → (z : VoterState)
     → IsMid s y.id p.state (n.outbox ++ p.replies) (hear (mid s y.id n.live z n.outbox) m)
-hears_to deal s y n m within limit own_message client stamp p is z =
-    let stamped = ap (λ k. is_request_within k m.body) limit ∙ stamp in
+hears_to deal s y n m within own_message client stamp p is z =
     subst (λ v. IsMid s v p.state (n.outbox ++ p.replies) (hear (mid s v n.live z n.outbox) m)) own_message
-    (heard s n.live z n.outbox m p (subst (λ v. v < length s.live.voters) (sym own_message) within) client stamped is)
+    (heard s n.live z n.outbox m p (subst (λ v. v < length s.live.voters) (sym own_message) within) client stamp is)
 
 comes_to : (deal : Dealing) (s : Saved) (y : VoterState) (n : nodes.Node) (m : ToVoter) (k : ℕ) → y.id < length s.live.voters → m.voter ≡ y.id
     → slice_get s.live.sent k ≡ Some (kinds.ToVoter m) → (p : voter.Outcome) → voter.step n.live m ≡ Some p → (z : VoterState)
@@ -239,10 +228,11 @@ comes_to deal s y n m k within own_message at p is z =
     (delivered deal s n.live z n.outbox m p k (subst (λ v. v < length s.live.voters) (sym own_message) within) at is)
 
 arrives : VoterLaws → (sure : Type 0) (deal : Dealing) (s : Saved) (y : VoterState) (n : nodes.Node) (waiting : List Incident) (m : ToVoter) (place : Option ℕ) → Underway sure deal s y n waiting
-    → MayCome (length s.live.clients) y (nodes.Takes m) → ((k : ℕ) → place ≡ Some k → slice_get s.live.sent k ≡ Some (kinds.ToVoter m)) → (sure → (k : ℕ) × (place ≡ Some k))
+    → (m.voter ≡ y.id) × (m.client < length s.live.clients) × IsInRange (client_at s.live.clients m.client) place m
+    → ((k : ℕ) → place ≡ Some k → slice_get s.live.sent k ≡ Some (kinds.ToVoter m)) → (sure → (k : ℕ) × (place ≡ Some k))
     → (p : voter.Outcome) → voter.step n.live m ≡ Some p → Leads sure deal s y n (arrival_by place m ∷ []) p
 arrives laws sure deal s y n waiting m None under may at was p is =
-    takes laws sure deal s y n waiting m (Hears m ∷ []) under may.1 p is (hears_to deal s y n m under.has.lives under.limit may.0 may.1 may.2 p is)
+    takes laws sure deal s y n waiting m (Hears m ∷ []) under may.1 p is (hears_to deal s y n m under.has.lives may.0 may.1 may.2 p is)
     (λ all. absurd (none-some (was all).0 (was all).1))
 arrives laws sure deal s y n waiting m (Some k) under may at was p is =
     takes laws sure deal s y n waiting m (Happens (Goes (Deliver k)) ∷ []) under may.1 p is (comes_to deal s y n m k under.has.lives may.0 (at k refl) p is) (λ _ z. (tt, tt))
@@ -265,7 +255,7 @@ evicts_by laws sure deal s y n waiting r true g under held =
     let m = release_of n.live g in
     let client = under.clients g.client g.stamp (inl (g, held, refl, refl)) in
     stepped sure deal s y n waiting (Hears m ∷ []) r (voter.step n.live m) under
-    (λ p is. takes laws sure deal s y n waiting m (Hears m ∷ []) under client p is (hears_to deal s y n m under.has.lives under.limit under.id client refl p is)
+    (λ p is. takes laws sure deal s y n waiting m (Hears m ∷ []) under client p is (hears_to deal s y n m under.has.lives under.id client refl p is)
     (λ _ z. (inl (is_eviction s y.id n z g under.has.lives under.id held), tt)))
 evicts_by laws sure deal s y n waiting r false g under held =
     stepped sure deal s y n waiting [] r (Some (voter.no_reply n.live)) under
@@ -286,14 +276,13 @@ reminds sure deal s y n waiting under = record {
   to = λ z. subst (λ v. IsMid s y.id n.live (n.outbox ++ voter.remind n.live) (happens deal (mid s y.id n.live z n.outbox) (Goes (RemindVoter v)))) (sym under.id)
       (reminded deal s y.id n.live z n.outbox under.has.lives);
   id = under.id;
-  limit = under.limit;
   clients = under.clients;
   lawful = λ _ z. (tt, tt);
 }
 
 -- ---- the end of a batch
 
-put_has : (s : Saved) (v : ℕ) (y : VoterState) (more : List ToClient) → v < length s.live.voters → v < length s.voters → y.id ≡ v
+pub put_has : (s : Saved) (v : ℕ) (y : VoterState) (more : List ToClient) → v < length s.live.voters → v < length s.voters → y.id ≡ v
     → ((c stamp : ℕ) → IsEntry y c stamp → c < length s.live.clients) → HasVoter (mid s v y y more) v y
 put_has s v y more lives is_saved id clients = record {
   lives = (let e = length-set s.live.voters v y in omega arith);
@@ -358,7 +347,7 @@ ended sure deal s v y z first more is js there lawful ends =
     }
 
 leads_on : VoterLaws → (sure : Type 0) (deal : Dealing) (places : Places) (y : VoterState) (es : List nodes.Event) (s : Saved) (n : nodes.Node) (waiting : List Incident)
-    → Underway sure deal s y n waiting → ArePlaces places s.live.sent → AllByRecursion (MayCome (length s.live.clients) y) es → (sure → AllByRecursion (WasSent places) es)
+    → Underway sure deal s y n waiting → ArePlaces places s.live.sent → AllByRecursion (MayCome s.live.clients places y) es → (sure → AllByRecursion (WasSent places) es)
     → Ends sure deal s y.id (incidents_from places n waiting es) (nodes.run n es).saved (nodes.gives n es)
 unfolding nodes.node_step
 leads_on laws sure deal places y [] s n waiting under are may was =
@@ -386,10 +375,10 @@ leads_on laws sure deal places y (nodes.IsSaved ∷ es) s n waiting under are ma
     let has = put_has s v n.live n.outbox under.has.lives under.has.is_saved under.id under.clients in
     ended sure deal s v n.live _ n.outbox _ (waiting ++ Happens (Saves (OneVoter n.live.id)) ∷ []) _ there
     (λ all. lawful-append deal waiting (Happens (Saves (OneVoter n.live.id)) ∷ []) s (under.lawful all) (tt, tt))
-    (leads_on laws sure deal places y es t (nodes.node_of n.live) [] (begins sure deal t y n.live has under.limit)
+    (leads_on laws sure deal places y es t (nodes.node_of n.live) [] (begins sure deal t y n.live has)
     (places_more places s.live.sent (map kinds.ToClient n.outbox) are) may.1 (λ all. (was all).1))
 leads_on laws sure deal places y (nodes.Restarts ∷ es) s n waiting under are may was =
-    leads_on laws sure deal places y es s (nodes.node_of n.saved) [] (begins sure deal s y n.saved under.has under.saved_limit) are may.1 (λ all. (was all).1)
+    leads_on laws sure deal places y es s (nodes.node_of n.saved) [] (begins sure deal s y n.saved under.has) are may.1 (λ all. (was all).1)
 leads_on laws sure deal places y (nodes.Forgets ∷ es) s n waiting under are may was =
     let v = y.id in
     let least = least_voter n.saved in
@@ -397,13 +386,13 @@ leads_on laws sure deal places y (nodes.Forgets ∷ es) s n waiting under are ma
     let there = ap (λ k. restart (OneVoter k) (forget (OneVoter k) s)) under.id ∙ forgets s v n.saved under.has in
     let has = put_has s v least [] under.has.lives under.has.is_saved under.has.id (least_clients n.saved (length s.live.clients) under.has.clients) in
     ended sure deal s v least _ [] _ (Happens (Forgets (OneVoter n.live.id)) ∷ Happens (Restarts (OneVoter n.live.id)) ∷ []) _ there (λ _. (tt, (tt, tt)))
-    (leads_on laws sure deal places y es t (nodes.node_of least) [] (begins sure deal t y least has under.saved_limit)
+    (leads_on laws sure deal places y es t (nodes.node_of least) [] (begins sure deal t y least has)
     (places_more places s.live.sent [] are) may.1 (λ all. (was all).1))
 
 pub node_leads : VoterLaws → (sure : Type 0) (deal : Dealing) (s : Saved) (places : Places) (y : VoterState) (es : List nodes.Event) → MayRun s places y es → (sure → AllByRecursion (WasSent places) es)
     → Ends sure deal s y.id (incidents_of places y es) (nodes.run (nodes.node_of y) es).saved (nodes.gives (nodes.node_of y) es)
 node_leads laws sure deal s places y es may was =
-    leads_on laws sure deal places y es s (nodes.node_of y) [] (begins sure deal s y y may.voter refl) may.places_are may.events_may was
+    leads_on laws sure deal places y es s (nodes.node_of y) [] (begins sure deal s y y may.voter) may.places_are may.events_may was
 
 -- ---- without evictions
 

@@ -740,11 +740,11 @@ happens_on b given deal deals G s ok (Restarts who) = restart_on b G s ok who
 hear_on : (b : Bounds) → Given b → (G : Naming) (s : Saved) → Numbered b G s → (m : ToVoter) → Goes_on b G s (hear s m)
 hear_on b given G s ok m = voter_of b G s ok (OneVoter m.voter) (nat_lt m.voter (length s.live.voters)) m.voter _ (λ t.
     one_of b G s ok (OneVoter m.voter) (is_message s m) m.client _ (λ u.
-    let parts = and_parts (nat_lt m.client (length s.live.clients)) (is_request_within (voter_at s.live.voters m.voter).limit m.body) u in
+    let parts = and_parts (nat_lt m.client (length s.live.clients)) (is_request_within (client_at s.live.clients m.client).limit m.body) u in
     let within : m.client < b.clients = subst (λ n. m.client < n) ok.sizes.0 (ltb-true _ _ parts.0) in
     let here : m.voter < b.voters = subst (λ n. m.voter < n) ok.sizes.1 (ltb-true _ _ t) in
     voter_tried given.voter b G s ok m
-    (within, here, asks_by b (voter_at s.live.voters m.voter).limit m.body (ok.live_voters m.voter).limit parts.1) (voter.step (voter_at s.live.voters m.voter) m) refl))
+    (within, here, asks_by b (client_at s.live.clients m.client).limit m.body (let same = (ok.live_clients m.client).limit within in omega arith) parts.1) (voter.step (voter_at s.live.voters m.voter) m) refl))
 
 reborn_votes : (b : Bounds) (G H : Naming) (v : ℕ) (y : VoterState) (above : ℕ) → Votes b G v y → above ≤ y.limit → Votes b H v (reborn y above)
 reborn_votes b G H v y above was most = record {

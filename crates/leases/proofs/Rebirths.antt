@@ -346,7 +346,7 @@ ends_within limit x (asks.Release t) ends most = (let low = ends.1 in (ends.0, o
 hear_ok : (b : Bounds) → Given b → (s : Saved) → SavedOk b s → (m : ToVoter) → EndsOld (client_at s.live.clients m.client) m.body × EndsOld (client_at s.clients m.client) m.body → SavedOk b (hear s m)
 hear_ok b given s ok m ends = if_voter_one b s ok (OneVoter m.voter) (nat_lt m.voter (length s.live.voters)) m.voter _ (λ t.
     if_one b s ok (OneVoter m.voter) (is_message s m) m.client _ (λ u.
-    let parts = and_parts (nat_lt m.client (length s.live.clients)) (is_request_within (voter_at s.live.voters m.voter).limit m.body) u in
+    let parts = and_parts (nat_lt m.client (length s.live.clients)) (is_request_within (client_at s.live.clients m.client).limit m.body) u in
     let within : m.client < b.clients = subst (λ n. m.client < n) ok.sizes.0 (ltb-true _ _ parts.0) in
     let here : m.voter < b.voters = subst (λ n. m.voter < n) ok.sizes.1 (ltb-true _ _ t) in
     let x = client_at s.live.clients m.client in

@@ -1,11 +1,11 @@
 -- services run as incidents
-use Rattle.std.proofs.Common.{◌≡◌, ◌≢◌, ℕ, ◌<◌, List, [], ◌∷◌, ◌++◌, length, refl, sym, ap, subst, ◌∙◌, inl, inr, arith}
-use Rattle.std.specs.Prelude.{map, slice_set}
+use Rattle.std.proofs.Common.{◌≡◌, ◌≢◌, ℕ, ◌<◌, Bool, true, false, List, [], ◌∷◌, ◌++◌, length, refl, sym, ap, subst, ◌∙◌, inl, inr, arith}
+use Rattle.std.specs.Prelude.{◌&&◌, map, nat_lt, slice_set}
 use Rattle.std.specs.FinMap as fin
 use Rattle.std.specs.Ordering.{nat_cmp}
 use Rattle.std.specs.List.{AllByRecursion, range_with_len}
-use Rattle.std.proofs.lemmas.Bool.{cases_eq}
-use Rattle.std.proofs.lemmas.List.{get_or-set_other, length-set}
+use Rattle.std.proofs.lemmas.Bool.{and_parts, cases_eq, ltb-true}
+use Rattle.std.proofs.lemmas.List.{append-nil, length-set, set_past}
 use Rattle.std.proofs.lemmas.List.FromFn.{get_or-map-range_with_len, length-map-range_with_len}
 use Rattle.std.proofs.lemmas.Option.{none-some}
 use Rattle.message.specs.declared.message.ToClient.{ToClient}
@@ -13,16 +13,19 @@ use Rattle.voter.specs.declared.state.VoterState.{VoterState}
 use Rattle.voter.specs.Steps as voter
 use Rattle.voter.specs.VoterContract.{IsEntry}
 use Rattle.voter_node.specs.Nodes as nodes
-use Rattle.world.specs.Restarts.{Saved, begin}
+use Rattle.world.specs.Restarts.{OneVoter, Saved, begin, save}
 use Rattle.world.specs.Rules.{VoterLaws}
 use Rattle.world_state.specs.Steps.{Dealing, voter_at}
 use Rattle.leases.specs.Comeback.{AreLawful}
-use Rattle.world.specs.Incidents.{Incident, all_befall, befalls}
+use Rattle.world.specs.Incidents.{Incident, Happens, Hears, IsReborn, StartsAnew, HasLimit, IsRaised, IsSkipped, all_befall, be_reborn, be_skipped, befalls, have_limit, is_above, is_limit, reborn}
+use Rattle.world.proofs.IncidentLemmas.{counted, may_count}
 use Rattle.leases.specs.NodeRuns.{HasVoter, Places, WasSent, given_out, incidents_of, saved_after, with_voter}
 use Rattle.leases.specs.Orderly.{AreOrderly}
-use Rattle.leases.specs.Services.{Along, Befalls, IsLawfulEpisode, IsOrderlyEpisode, IsServed, LeavesVoters, MayRunIn, MayFollow, Runs, Episode, all_serve, incidents_in, incidents_served, saved_voter, serve}
+use Rattle.leases.specs.Services.{Along, Befalls, IsLawfulEpisode, IsOrderlyEpisode, IsServed, LeavesVoters, MayRunIn, MayFollow, Runs, Episode, all_serve, incidents_in, incidents_served, save_after, saved_voter, serve}
+use Rattle.world.proofs.Places.{voter_here, voter_others}
+use Rattle.world.proofs.Restarts.{within_or}
 use Rattle.leases.proofs.Guards.{befall-append}
-use Rattle.leases.proofs.NodeRunLemmas.{Ends, lawful-append, node_leads, node_orderly}
+use Rattle.leases.proofs.NodeRunLemmas.{Ends, lawful-append, node_leads, node_orderly, put_has, set_own}
 
 -- ---- a new service
 
@@ -50,9 +53,9 @@ begin_served voters clients limit v there =
 -- ---- one episode
 
 -- what leaves the voters leaves the service in order
-pub left_served : (deal : Dealing) (s : Saved) (i : Incident) → IsServed s → LeavesVoters deal s i → IsServed (befalls deal s i)
+pub left_served : (deal : Dealing) (s : Saved) (i : Incident) → IsServed s → LeavesVoters deal s i → IsServed (serve deal s (Befalls i))
 left_served deal s i served leaves v there =
-    let t = befalls deal s i in
+    let t = serve deal s (Befalls i) in
     let has = served v (subst (λ (l : List VoterState). v < length l) leaves.saved there) in
     let same : saved_voter t v ≡ saved_voter s v = ap (λ (l : List VoterState). voter_at l v) leaves.saved in
     record {
@@ -64,19 +67,15 @@ left_served deal s i served leaves v there =
       clients = λ c stamp e. subst (λ n. c < n) (sym leaves.clients) (has.clients c stamp (subst (λ (y : VoterState). IsEntry y c stamp) same e));
     }
 
-voter_other : (vs : List VoterState) (v w : ℕ) (y : VoterState) → w ≢ v → voter_at (slice_set vs v y) w ≡ voter_at vs w
-unfolding voter_at
-voter_other vs v w y other = get_or-set_other vs v w y (voter.start 0 1) other
-
 -- another voter is as it was
 others_have : (s : Saved) (v w : ℕ) (y : VoterState) (more : List ToClient) → HasVoter s w (saved_voter s w) → w ≢ v → HasVoter (with_voter s v y more) w (saved_voter (with_voter s v y more) w)
 others_have s v w y more has other =
-    let same : saved_voter (with_voter s v y more) w ≡ saved_voter s w = voter_other s.voters v w y other in
+    let same : saved_voter (with_voter s v y more) w ≡ saved_voter s w = voter_others s.voters v y w other in
     record {
       lives = (let e = length-set s.live.voters v y in let within = has.lives in omega arith);
       is_saved = (let e = length-set s.voters v y in let within = has.is_saved in omega arith);
       id = ap (λ (z : VoterState). z.id) same ∙ has.id;
-      live = voter_other s.live.voters v w y other ∙ has.live ∙ sym same;
+      live = voter_others s.live.voters v y w other ∙ has.live ∙ sym same;
       saved = refl;
       clients = λ c stamp e. has.clients c stamp (subst (λ (z : VoterState). IsEntry z c stamp) same e);
     }
@@ -84,11 +83,54 @@ others_have s v w y more has other =
 has_saved : (s : Saved) (v : ℕ) (y : VoterState) → HasVoter s v y → HasVoter s v (saved_voter s v)
 has_saved s v y has = subst (λ (z : VoterState). HasVoter s v z) (sym has.saved) has
 
-run_served : (s : Saved) (v : ℕ) (y : VoterState) (more : List ToClient) → IsServed s → HasVoter (with_voter s v y more) v y → IsServed (with_voter s v y more)
+-- a voter of the service has another state, live and saved
+run_served : (s : Saved) (v : ℕ) (y : VoterState) (more : List ToClient) → IsServed s → (v < length s.voters → HasVoter (with_voter s v y more) v y) → IsServed (with_voter s v y more)
 run_served s v y more served has w there = elim (cases_eq w v) [
-  | inl same ↦ subst (λ k. HasVoter (with_voter s v y more) k (saved_voter (with_voter s v y more) k)) (sym same) (has_saved (with_voter s v y more) v y has)
+  | inl same ↦
+      let within : v < length s.voters = (let e = length-set s.voters v y in omega arith) in
+      subst (λ k. HasVoter (with_voter s v y more) k (saved_voter (with_voter s v y more) k)) (sym same) (has_saved (with_voter s v y more) v y (has within))
   | inr other ↦ others_have s v w y more (served w (let e = length-set s.voters v y in omega arith)) other
 ]
+
+pub reborn_served : (s : Saved) (v above : ℕ) (t : Bool) → IsServed s → IsServed (be_reborn t s v above)
+reborn_served s v above false served = served
+reborn_served s v above true served =
+    let z = reborn (voter_at s.live.voters v) above in
+    let sent = append-nil s.live.sent in
+    let path : with_voter s v z [] ≡ be_reborn true s v above =
+    λ i. record s { live = record s.live { voters = slice_set s.live.voters v z; sent = sent i }; voters = slice_set s.voters v z } in
+    subst (λ (u : Saved). IsServed u) path (run_served s v z [] served (λ there.
+    let has = served v there in
+    put_has s v z [] has.lives there (ap (λ (y : VoterState). y.id) has.live ∙ has.id) (λ c stamp e. absurd (no_entry z.id z.limit c stamp e))))
+
+save_served : (s : Saved) (v : ℕ) → IsServed s → s ≡ save (OneVoter v) s
+save_served s v served = elim (within_or s.voters v) [
+  | inl there ↦ let e = set_own s.voters v (voter_at s.live.voters v) (sym (served v there).live) in λ i. record s { voters = sym e i }
+  | inr past ↦ let e = set_past s.voters v (voter_at s.live.voters v) past in λ i. record s { voters = sym e i }
+]
+
+-- a live voter with other counts is saved
+recount_served : (s : Saved) (v granted limit : ℕ) → v < length s.live.voters → IsServed s
+    → IsServed (save (OneVoter v) (record s { live = record s.live { voters = slice_set s.live.voters v (counted (voter_at s.live.voters v) granted limit) } }))
+recount_served s v granted limit within served =
+    let z = counted (voter_at s.live.voters v) granted limit in
+    let sent = append-nil s.live.sent in
+    let saved = ap (λ (y : VoterState). slice_set s.voters v y) (sym (voter_here s.live.voters v z within)) in
+    let path : with_voter s v z [] ≡ save (OneVoter v) (record s { live = record s.live { voters = slice_set s.live.voters v z } }) =
+    λ i. record s { live = record s.live { voters = slice_set s.live.voters v z; sent = sent i }; voters = saved i } in
+    subst (λ (u : Saved). IsServed u) path (run_served s v z [] served (λ there.
+    let has = served v there in
+    put_has s v z [] has.lives there (ap (λ (y : VoterState). y.id) has.live ∙ has.id)
+    (λ c stamp e. has.clients c stamp (subst (λ (y : VoterState). IsEntry y c stamp) has.live e))))
+
+pub limited_served : (s : Saved) (v limit : ℕ) (t : Bool) → (nat_lt v (length s.live.voters) && is_limit s v limit) ≡ t → IsServed s → IsServed (save (OneVoter v) (have_limit t s v limit))
+limited_served s v limit false is served = subst (λ (u : Saved). IsServed u) (save_served s v served) served
+limited_served s v limit true is served =
+    recount_served s v (voter_at s.live.voters v).granted limit (ltb-true _ _ (and_parts (nat_lt v (length s.live.voters)) (is_limit s v limit) is).0) served
+
+pub skipped_served : (s : Saved) (v above : ℕ) (t : Bool) → (nat_lt v (length s.live.voters) && is_above (voter_at s.live.voters v) above) ≡ t → IsServed s → IsServed (save (OneVoter v) (be_skipped t s v above))
+skipped_served s v above false is served = subst (λ (u : Saved). IsServed u) (save_served s v served) served
+skipped_served s v above true is served = recount_served s v above (voter_at s.live.voters v).limit (may_count s v above is).within served
 
 run_ends : VoterLaws → (sure : Type 0) (deal : Dealing) (s : Saved) (v : ℕ) (places : Places) (events : List nodes.Event) → IsServed s → MayRunIn s v places events
     → (sure → AllByRecursion (WasSent places) events)
@@ -112,7 +154,7 @@ episode_led laws deal s (Runs v places events) served may = (run_ends laws ⊥ d
 episode_served : VoterLaws → (deal : Dealing) (s : Saved) (t : Episode) → IsServed s → MayFollow deal s t → IsServed (serve deal s t)
 episode_served laws deal s (Befalls i) served may = may
 episode_served laws deal s (Runs v places events) served may =
-    run_served s v (saved_after (saved_voter s v) events) (given_out (saved_voter s v) events) served (run_ends laws ⊥ deal s v places events served may (λ no. absurd no)).has
+    run_served s v (saved_after (saved_voter s v) events) (given_out (saved_voter s v) events) served (λ _. (run_ends laws ⊥ deal s v places events served may (λ no. absurd no)).has)
 
 pub episodes_led : VoterLaws → (deal : Dealing) (ts : List Episode) (s : Saved) → IsServed s → Along deal (MayFollow deal) s ts → all_befall deal (incidents_served deal s ts) s ≡ all_serve deal s ts
 episodes_led laws deal [] s served may = refl
@@ -121,8 +163,18 @@ episodes_led laws deal (t ∷ ts) s served may =
     befall-append deal (incidents_in s t) rest s ∙ ap (all_befall deal rest) (episode_led laws deal s t served may.0)
     ∙ episodes_led laws deal ts (serve deal s t) (episode_served laws deal s t served may.0) may.1
 
+-- a save may follow at any time
+save_may : (deal : Dealing) (s : Saved) (i : Incident) → AreLawful deal s (save_after i) × AreOrderly deal s (save_after i)
+save_may deal s (HasLimit v limit) = ((tt, tt), (tt, tt))
+save_may deal s (IsSkipped v above) = ((tt, tt), (tt, tt))
+save_may deal s (Happens h) = (tt, tt)
+save_may deal s (Hears m) = (tt, tt)
+save_may deal s (IsReborn v above) = (tt, tt)
+save_may deal s (StartsAnew c clock) = (tt, tt)
+save_may deal s (IsRaised c clock) = (tt, tt)
+
 episode_lawful : VoterLaws → (deal : Dealing) (s : Saved) (t : Episode) → IsServed s → MayFollow deal s t → IsLawfulEpisode s t → AreLawful deal s (incidents_in s t)
-episode_lawful laws deal s (Befalls i) served may lawful = (lawful, tt)
+episode_lawful laws deal s (Befalls i) served may lawful = (lawful, (save_may deal (befalls deal s i) i).0)
 episode_lawful laws deal s (Runs v places events) served may lawful = (run_ends laws (Unit {0}) deal s v places events served may (λ _. lawful)).lawful tt
 
 pub episodes_lawful : VoterLaws → (deal : Dealing) (ts : List Episode) (s : Saved) → IsServed s → Along deal (MayFollow deal) s ts → Along deal IsLawfulEpisode s ts → AreLawful deal s (incidents_served deal s ts)
@@ -137,7 +189,7 @@ orderly-append deal [] js s first more = more
 orderly-append deal (i ∷ is) js s first more = (first.0, orderly-append deal is js (befalls deal s i) first.1 more)
 
 episode_orderly : (deal : Dealing) (s : Saved) (t : Episode) → IsOrderlyEpisode s t → AreOrderly deal s (incidents_in s t)
-episode_orderly deal s (Befalls i) orderly = (orderly, tt)
+episode_orderly deal s (Befalls i) orderly = (orderly, (save_may deal (befalls deal s i) i).1)
 episode_orderly deal s (Runs v places events) orderly = node_orderly deal s places (saved_voter s v) events orderly.0 orderly.1
 
 pub episodes_orderly : VoterLaws → (deal : Dealing) (ts : List Episode) (s : Saved) → IsServed s → Along deal (MayFollow deal) s ts → Along deal IsOrderlyEpisode s ts → AreOrderly deal s (incidents_served deal s ts)

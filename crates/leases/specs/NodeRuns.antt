@@ -5,6 +5,7 @@ use Rattle.message.specs.declared.message.Message.{Message}
 use Rattle.message.specs.declared.message.Message.TheVariants as kinds
 use Rattle.message.specs.declared.message.ToClient.{ToClient}
 use Rattle.message.specs.declared.message.ToVoter.{ToVoter}
+use Rattle.requester.specs.declared.state.ClientState.{ClientState}
 use Rattle.voter.specs.declared.state.Grant.{Grant}
 use Rattle.voter.specs.declared.state.VoterState.{VoterState}
 use Rattle.voter.specs.Leases.{release_of}
@@ -13,7 +14,7 @@ use Rattle.voter_node.specs.declared.fault.NodeFault.{NodeFault}
 use Rattle.voter_node.specs.Nodes as nodes
 use Rattle.world_state.specs.declared.step.Step.TheVariants.{Deliver, RemindVoter}
 use Rattle.world.specs.Restarts.{Saved, OneVoter, Goes, Saves, Forgets, Restarts}
-use Rattle.world_state.specs.Steps.{voter_at}
+use Rattle.world_state.specs.Steps.{client_at, voter_at}
 use Rattle.world.specs.Incidents.{Incident, Happens, Hears, is_request_within}
 
 -- The voter with this number has this state in the world, live and saved. Each client of which it has a
@@ -33,19 +34,25 @@ with_voter s v y more = record s {
   voters = slice_set s.voters v y;
 }
 
--- An event may come to this voter in a world with this number of clients: a message is for this voter and
--- names a client of the world, and the stamp of a REQUEST is from 1 to the voter's limit.
-abbrev pub MayCome : ℕ → VoterState → nodes.Event → Type 0
-MayCome clients y (nodes.Takes m) = (m.voter ≡ y.id) × (m.client < clients) × (is_request_within y.limit m.body ≡ true)
-MayCome clients y (nodes.Evicts grant) = Unit {0}
-MayCome clients y nodes.Reminds = Unit {0}
-MayCome clients y nodes.IsSaved = Unit {0}
-MayCome clients y nodes.Restarts = Unit {0}
-MayCome clients y nodes.Forgets = Unit {0}
-
 -- where a message was sent: its place among all that were; none if nobody sent it
 abbrev pub Places : Type 0
 Places = ToVoter → Option ℕ
+
+-- if nobody sent the message, the stamp of a REQUEST is from 1 to the client's limit
+abbrev pub IsInRange : ClientState → Option ℕ → ToVoter → Type 0
+IsInRange x None m = is_request_within x.limit m.body ≡ true
+IsInRange x (Some k) m = Unit {0}
+
+-- An event may come to this voter beside these clients: a message is for this voter and names one of the
+-- clients. If nobody sent it, its stamp is in range.
+abbrev pub MayCome : List ClientState → Places → VoterState → nodes.Event → Type 0
+MayCome clients places y (nodes.Takes m) =
+    (m.voter ≡ y.id) × (m.client < length clients) × IsInRange (client_at clients m.client) (places m) m
+MayCome clients places y (nodes.Evicts grant) = Unit {0}
+MayCome clients places y nodes.Reminds = Unit {0}
+MayCome clients places y nodes.IsSaved = Unit {0}
+MayCome clients places y nodes.Restarts = Unit {0}
+MayCome clients places y nodes.Forgets = Unit {0}
 
 -- the messages are at these places
 abbrev pub ArePlaces : Places → List Message → Type 0
@@ -55,7 +62,7 @@ ArePlaces places sent = (m : ToVoter) (k : ℕ) → places m ≡ Some k → slic
 pub record MayRun (s : Saved) (places : Places) (y : VoterState) (events : List nodes.Event) : Type 0 where
   pub voter : HasVoter s y.id y
   pub places_are : ArePlaces places s.live.sent
-  pub events_may : AllByRecursion (MayCome (length s.live.clients) y) events
+  pub events_may : AllByRecursion (MayCome s.live.clients places y) events
 
 -- a message arrives, or is heard though nobody sent it
 abbrev pub arrival_by : Option ℕ → ToVoter → Incident

@@ -52,8 +52,8 @@
 //!
 //! A voter's process may be a [`VoterNode`](voter_node::VoterNode), which takes many messages before it is
 //! saved, and sends after it. Its runs are incidents too ([`nodes_run_as_incidents`]), and so are those of a
-//! service with a node for each voter, while no voter's limit changes ([`services_run_as_incidents`]). So
-//! all of this holds for these; what is said of clients inside, if all messages to them were sent
+//! service with a node for each voter ([`services_run_as_incidents`]), also if voters have blocks of grants.
+//! So all of this holds for these; what is said of clients inside, if all messages to them were sent
 //! (`src/node_runs.rt`).
 //!
 //! Fencing tokens are from Gray and Cheriton's leases (SOSP 1989) and Burrows' sequencers (Chubby, OSDI

@@ -37,9 +37,9 @@ is_request_within limit (asks.Request stamp) = nat_le 1 stamp && nat_le stamp li
 is_request_within limit (asks.Relinquish grant) = true
 is_request_within limit (asks.Release stamp) = true
 
--- the message names a client of this world, and the stamp of a REQUEST is in range
+-- the message names a client of this world, and the stamp of a REQUEST is from 1 to this client's limit
 abbrev pub is_message : Saved → ToVoter → Bool
-is_message s m = nat_lt m.client (length s.live.clients) && is_request_within (voter_at s.live.voters m.voter).limit m.body
+is_message s m = nat_lt m.client (length s.live.clients) && is_request_within (client_at s.live.clients m.client).limit m.body
 
 -- A voter of this world takes a message, and saves before it sends. If it may not, nothing happens.
 abbrev pub hear : Saved → ToVoter → Saved
