@@ -40,7 +40,7 @@ use Rattle.world.proofs.Places.{client_at-set, voter_at-set, voter_here}
 use Rattle.world.proofs.Reached.{Given}
 use Rattle.world.proofs.Restarts.{ComesBack, Mix, SavedOk, begin_ok, client_less, client_tried, happens_ok, if_one, if_voter_one, live_ok, voter_tried}
 use Rattle.world.specs.Incidents.{Incident, Happens, Hears, IsReborn, StartsAnew, HasLimit, IsRaised, IsSkipped, all_befall, anew, be_raised, be_reborn, be_skipped, befalls, have_limit, hear, is_above, is_ahead, is_limit, is_message, is_request_within, reborn, start_anew}
-use Rattle.leases.specs.Orderly.{AreOrderly, CountsNoMore, EndsOld, IsOver, IsPast}
+use Rattle.leases.specs.Orderly.{AreDone, AreOrderly, CountsNoMore, EndsOld, IsOver, IsPast}
 use Rattle.world.proofs.Raises.{no_inquiry, raised_by_step}
 
 put_at : {A : Type 0} (P : A → Type 0) (Y : ℕ → A) (v : ℕ) (z : A) (q : ℕ) → (q ≡ v → P z) → (q ≢ v → P (Y q)) → P (put Y v z q)
@@ -126,6 +126,38 @@ counts_of clients v (kinds.ToClient m) is = is
 all_counts : (clients : List ClientState) (v : ℕ) (ms : List Message) → AllByRecursion (CountsNoMore clients v) ms → AllByRecursion (Counts (client_at clients) v) ms
 all_counts clients v [] is = tt
 all_counts clients v (m ∷ ms) is = (counts_of clients v m is.0, all_counts clients v ms is.1)
+
+-- ---- a vote that nobody has
+
+free_report : (x : ClientState) (held : _) (v c : ℕ) (body : ClientBody) → held ≡ None → ReportOk x held v c body → IsPast x v body
+free_report x held v c (to_client.Locked s g) free ok = λ live. none-some (record { client = c; stamp = s; grant = g }) (sym free ∙ ok.1 live)
+free_report x held v c (to_client.Fail s) free ok = tt
+free_report x held v c (to_client.Inquire g) free ok = tt
+
+free_message : (clients : List ClientState) (Y : ℕ → VoterState) (v : ℕ) → (Y v).held ≡ None → (m : Message) → MessageOk (client_at clients) Y m → CountsNoMore clients v m
+free_message clients Y v free (kinds.ToVoter m) ok = tt
+free_message clients Y v free (kinds.ToClient m) ok = λ same.
+    subst (λ (k : ℕ). IsPast (client_at clients m.client) k m.body) same
+    (free_report (client_at clients m.client) (Y m.voter).held m.voter m.client m.body (ap (λ (k : ℕ). (Y k).held) same ∙ free) ok)
+
+free_done : (b : Bounds) (clients : List ClientState) (Y : ℕ → VoterState) (sent : List Message) (v : ℕ) → WorldOk b (client_at clients) Y sent → (Y v).held ≡ None → AreDone clients v sent
+free_done b clients Y sent v ok free = record {
+  votes = λ c g has. none-some (record { client = c; stamp = (client_at clients c).stamp; grant = g }) (sym free ∙ ok.held c v g has);
+  messages = AllByRecursion-weaker (MessageOk (client_at clients) Y) (CountsNoMore clients v) (free_message clients Y v free) sent ok.messages;
+}
+
+-- the live voter beside the live clients, and beside the saved ones
+free_over : (b : Bounds) (s : Saved) → SavedOk b s → (v : ℕ) → (voter_at s.live.voters v).held ≡ None → IsOver s v
+free_over b s ok v free =
+    let M = voter_at s.live.voters in (
+      free_done b s.live.clients M s.live.sent v (live_ok b s ok) free,
+      free_done b s.clients M s.live.sent v (ok.mixes (client_at s.clients) M (λ q. inr refl) (λ q. inl refl)) free,
+    )
+
+over_or_free : (b : Bounds) (s : Saved) → SavedOk b s → (v : ℕ) → IsOver s v ⊎ ((voter_at s.live.voters v).held ≡ None) → IsOver s v
+over_or_free b s ok v is = elim is [ inl over ↦ over | inr free ↦ free_over b s ok v free ]
+
+-- ---- a voter that is reborn
 
 rebirth_ok : (b : Bounds) → Given b → (s : Saved) → SavedOk b s → (v above : ℕ) → IsOver s v → (t : Bool) → (nat_lt v (length s.live.voters) && is_above (voter_at s.live.voters v) above) ≡ t
     → SavedOk b (be_reborn t s v above)
@@ -366,16 +398,28 @@ orderly_ok : (b : Bounds) → Given b → (deal : Dealing) → DealsFrom b.quoru
 orderly_ok b given deal deals [] s ok orderly = ok
 orderly_ok b given deal deals (Happens h ∷ is) s ok orderly = orderly_ok b given deal deals is (befalls deal s (Happens h)) (happens_ok b given deal deals s ok h) orderly.1
 orderly_ok b given deal deals (Hears m ∷ is) s ok orderly = orderly_ok b given deal deals is (befalls deal s (Hears m)) (hear_ok b given s ok m orderly.0) orderly.1
-orderly_ok b given deal deals (IsReborn v above ∷ is) s ok orderly = orderly_ok b given deal deals is (befalls deal s (IsReborn v above)) (rebirth_ok b given s ok v above orderly.0 _ refl) orderly.1
+orderly_ok b given deal deals (IsReborn v above ∷ is) s ok orderly = orderly_ok b given deal deals is (befalls deal s (IsReborn v above)) (rebirth_ok b given s ok v above (over_or_free b s ok v orderly.0) _ refl) orderly.1
 orderly_ok b given deal deals (StartsAnew c clock ∷ is) s ok orderly = orderly_ok b given deal deals is (befalls deal s (StartsAnew c clock)) (anew_ok b given s ok c clock _ refl) orderly.1
 orderly_ok b given deal deals (HasLimit v limit ∷ is) s ok orderly = orderly_ok b given deal deals is (befalls deal s (HasLimit v limit)) (limit_ok b given s ok v limit _ refl) orderly.1
 orderly_ok b given deal deals (IsRaised c clock ∷ is) s ok orderly = orderly_ok b given deal deals is (befalls deal s (IsRaised c clock)) (raise_ok b given s ok c clock _ refl) orderly.1
 orderly_ok b given deal deals (IsSkipped v above ∷ is) s ok orderly = orderly_ok b given deal deals is (befalls deal s (IsSkipped v above)) (skip_ok b given s ok v above _ refl) orderly.1
 
+every_orderly : ClientLaws → VoterLaws → (voters clients limit : ℕ) (quorums : List (List ℕ)) (deal : Dealing) (is : List Incident)
+    → AreLimits voters clients limit → DoMeet voters quorums → DealsFrom quorums deal → AreOrderly deal (begin voters clients limit) is
+    → SavedOk (record { voters = voters; clients = clients; limit = limit; quorums = quorums }) (all_befall deal is (begin voters clients limit))
+every_orderly cs vs voters clients limit quorums deal is limits meets deals orderly =
+    let b : Bounds = record { voters = voters; clients = clients; limit = limit; quorums = quorums } in
+    let given : Given b = record { client = cs; voter = vs; limits = limits; meet = meets } in
+    orderly_ok b given deal deals is (begin voters clients limit) (begin_ok b given) orderly
+
 pub every_rebirth : ClientLaws → VoterLaws → (voters clients limit : ℕ) (quorums : List (List ℕ)) (deal : Dealing) (is : List Incident)
     → AreLimits voters clients limit → DoMeet voters quorums → DealsFrom quorums deal → AreOrderly deal (begin voters clients limit) is
     → IsExclusive (all_befall deal is (begin voters clients limit)).live.visible
-every_rebirth cs vs voters clients limit quorums deal is limits meets deals orderly =
-    let b : Bounds = record { voters = voters; clients = clients; limit = limit; quorums = quorums } in
-    let given : Given b = record { client = cs; voter = vs; limits = limits; meet = meets } in
-    (orderly_ok b given deal deals is (begin voters clients limit) (begin_ok b given) orderly).walked.list
+every_rebirth cs vs voters clients limit quorums deal is limits meets deals orderly = (every_orderly cs vs voters clients limit quorums deal is limits meets deals orderly).walked.list
+
+pub every_free_vote : ClientLaws → VoterLaws → (voters clients limit : ℕ) (quorums : List (List ℕ)) (deal : Dealing) (is : List Incident) (v : ℕ)
+    → AreLimits voters clients limit → DoMeet voters quorums → DealsFrom quorums deal → AreOrderly deal (begin voters clients limit) is
+    → (voter_at (all_befall deal is (begin voters clients limit)).live.voters v).held ≡ None → IsOver (all_befall deal is (begin voters clients limit)) v
+every_free_vote cs vs voters clients limit quorums deal is v limits meets deals orderly free =
+    free_over (record { voters = voters; clients = clients; limit = limit; quorums = quorums }) (all_befall deal is (begin voters clients limit))
+    (every_orderly cs vs voters clients limit quorums deal is limits meets deals orderly) v free

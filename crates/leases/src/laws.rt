@@ -1,17 +1,17 @@
 //! Laws: what a guard may rely on.
-ghost use Rattle.std.specs.Prelude.{◌≡◌, ◌⊎◌, ℕ, List, Some};
+ghost use Rattle.std.specs.Prelude.{◌≡◌, ◌⊎◌, ℕ, List, None, Some};
 ghost use Rattle.std.specs.List.{AllByRecursion};
 ghost use Rattle.leases.specs.Comeback.{AllIdle, AreLawful, unseen};
 ghost use Rattle.leases.specs.Drained.{AsksNoMore, IsOut};
 ghost use Rattle.world.specs.Incidents.{Incident, all_befall};
-ghost use Rattle.leases.specs.Orderly.{AreOrderly};
+ghost use Rattle.leases.specs.Orderly.{AreOrderly, IsOver};
 ghost use Rattle.fence.specs.Passes.{Admits};
 ghost use Rattle.leases.specs.Shows.{HasSeenOnly, IsCurrent, IsShown, story_of};
 ghost use Rattle.passes.specs.Grants.{AreApart, Pass};
 ghost use Rattle.passes.specs.Guarded.{AreAdmitted, AreEntered, AreInOrder, DoNotInterleave, Entry, RequestsHaveOneTurn, TurnsTellRequests};
 ghost use Rattle.world.specs.Restarts.{Happening, IsIn, IsSameRequest, all_happen, begin, pass_of, stamp_of};
 ghost use Rattle.world.specs.Runs.{AreLimits};
-ghost use Rattle.world_state.specs.Steps.{Dealing};
+ghost use Rattle.world_state.specs.Steps.{Dealing, voter_at};
 ghost use Rattle.message.specs.declared.message.ToVoter.{ToVoter};
 ghost use Rattle.voter.specs.declared.state.VoterState.{VoterState};
 ghost use Rattle.voter.specs.Steps.{Outcome, step};
@@ -81,12 +81,27 @@ pub fn current_passes_are_admitted()
 ///   was inside, it left by this. It may then disclaim: a voter may take a RELEASE of any request that is
 ///   over, but no other message that nobody sent;
 /// - a voter is reborn once all clients are done with it: none has its vote, and no LOCKED of it may
-///   still count, for clients as they are and as saved.
+///   still count, for clients as they are and as saved;
+/// - a voter that has given its vote to nobody is forgotten, and begun again with a number of grants that
+///   is at least the number that it gave. This may be at any time, and often.
 pub fn at_most_one_is_inside_with_rebirths()
     ensures { (voters clients limit : ℕ) (quorums : List (List ℕ)) (deal : Dealing) (incidents : List Incident)
         → AreLimits voters clients limit → DoMeet voters quorums → DealsFrom quorums deal
         → AreOrderly deal (begin voters clients limit) incidents
         → IsExclusive (all_befall deal incidents (begin voters clients limit)).live.visible }
+{
+    parts_keep_their_rules();
+}
+
+/// Of a vote that nobody has, no client has anything that counts: as it is and as it is saved, none has
+/// this voter's vote, and no LOCKED of it counts. So a free vote may be forgotten, at any time, and
+/// often.
+pub fn free_votes_are_over()
+    ensures { (voters clients limit : ℕ) (quorums : List (List ℕ)) (deal : Dealing) (incidents : List Incident) (v : ℕ)
+        → AreLimits voters clients limit → DoMeet voters quorums → DealsFrom quorums deal
+        → AreOrderly deal (begin voters clients limit) incidents
+        → (voter_at (all_befall deal incidents (begin voters clients limit)).live.voters v).held ≡ None
+        → IsOver (all_befall deal incidents (begin voters clients limit)) v }
 {
     parts_keep_their_rules();
 }

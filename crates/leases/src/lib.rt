@@ -34,7 +34,8 @@
 //! - of those whose grants are all current, at most one is inside
 //!   ([`at_most_one_is_inside_by_current_grants`]);
 //! - **at most one is inside, also while clients start anew**, as long as no grant is let go and a voter
-//!   is reborn only when all clients are done with it ([`at_most_one_is_inside_with_rebirths`]);
+//!   is reborn only when all clients are done with it ([`at_most_one_is_inside_with_rebirths`]). While
+//!   nobody has its vote, they are ([`free_votes_are_over`]): so a free vote may be forgotten;
 //! - after evictions, rebirths and clients anew, once all clients are idle, as they are and as saved, at
 //!   most one is inside for as long as no incident befalls ([`exclusion_comes_back`]);
 //! - after these, once all clients are idle as they are, **requests get on again**: the laws of `progress`
@@ -76,6 +77,6 @@ pub use laws::{
     admitted_passes_are_in_order, admitted_passes_do_not_interleave,
     at_most_one_is_inside_by_current_grants, at_most_one_is_inside_with_rebirths,
     current_passes_are_admitted, exclusion_comes_back, finished_requests_stay_out,
-    passes_are_apart, requests_have_one_pass, turns_name_requests,
+    free_votes_are_over, passes_are_apart, requests_have_one_pass, turns_name_requests,
 };
 pub use node_runs::{nodes_run_as_incidents, services_run_as_incidents};
