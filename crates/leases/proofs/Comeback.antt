@@ -54,7 +54,7 @@ use Rattle.world.proofs.Raises.{no_inquiry, raised_by_step}
 use Rattle.leases.specs.Orderly.{EndsOld}
 use Rattle.leases.proofs.Rebirths.{ends_within}
 use Rattle.leases.specs.Comeback.{AllIdle, AreLawful, IsEviction, IsLawful, unseen}
-use Rattle.leases.proofs.Numbers.{befalls_on, begin_on, length_map, nobody}
+use Rattle.leases.proofs.Numbers.{befalls_on, begin_on, length_map, newborn}
 use Rattle.world.proofs.Restarts.{SavedOk, all_ok}
 use Rattle.world.proofs.Reached.{accepts_among}
 use Rattle.world.proofs.VoterMoves.{more_granted}
@@ -66,7 +66,8 @@ use Rattle.quorum_set.specs.declared.bridge.Side.{Side}
 use Rattle.quorum_set.specs.declared.bridge.Side.TheVariants.{First, Second}
 use Rattle.world.specs.Restarts.{save_and_send}
 use Rattle.world_state.specs.Steps.{after_client, after_voter, draw_of, say}
-use Rattle.leases.proofs.Numbers.{Told, Votes, none_told, with_draw, Naming, Numbered, count}
+use Rattle.leases.proofs.Numbers.{given_within}
+use Rattle.leases.proofs.Numbers.{Told, Votes, none_told, with_draw, Lives, Numbered, count}
 
 -- what `voter` says of the requests that a message finishes, and of votes that are asked back
 pub record EndLaws : Type 0 where
@@ -310,13 +311,13 @@ replies_fit b N l y known fits id seen few (r ∷ rs) report place carry = (
 
 -- ---- what the naming knows beside
 
-known_of : (b : Bounds) (G : Naming) (v : ℕ) (y : VoterState) → Votes b G v y → VoterKnown b y
-known_of b G v y is = record { sound = is.sound; limit = is.limit; stamps = λ c s e. (is.entries c s e).1 }
+known_of : (b : Bounds) (v : ℕ) (y : VoterState) → Votes b v y → VoterKnown b y
+known_of b v y is = record { sound = is.sound; limit = is.limit; stamps = λ c s e. (is.entries c s e).1 }
 
-held_counted : (b : Bounds) (G : Naming) (s : Saved) → Numbered b G s → (c v g : ℕ) → holds_under (client_at s.live.clients c) v g ≡ true → g ≤ count s.voters v
-held_counted b G s num c v g has = ((num.live_clients c).votes v g has).1
+held_counted : (b : Bounds) (G : Lives) (s : Saved) → Numbered b G s → (c v g : ℕ) → holds_under (client_at s.live.clients c) v g ≡ true → g ≤ count s.voters v
+held_counted b G s num c v g has = let had = (num.live_clients c).votes v g has in given_within b G s num v had.1 c (client_at s.live.clients c).stamp g had.0
 
-count_within : (b : Bounds) (G : Naming) (s : Saved) → Numbered b G s → (v : ℕ) → count s.voters v ≤ b.limit
+count_within : (b : Bounds) (G : Lives) (s : Saved) → Numbered b G s → (v : ℕ) → count s.voters v ≤ b.limit
 count_within b G s num v =
     let y = num.voters v in
     let most = y.sound.granted in
@@ -359,7 +360,7 @@ settle_by b s c o false e gone from out at =
       last_saved = u.last_saved;
     }
 
-client_settles : (b : Bounds) → Given b → (G : Naming) (s : Saved) → Numbered b G s → Settled b s → (c : ℕ) (cause : client.Cause) → Steps b s c cause → (o : client.Outcome)
+client_settles : (b : Bounds) → Given b → (G : Lives) (s : Saved) → Numbered b G s → Settled b s → (c : ℕ) (cause : client.Cause) → Steps b s c cause → (o : client.Outcome)
     → client.step (client_at s.live.clients c) cause ≡ Ok o → (silent : Bool) → is_silent (length o.out) o.seen ≡ silent → Settled b (save_unless silent (OneClient c) (record s { live = (client_did s.live c o).state }))
 client_settles b given G s num st c cause go o is silent e =
     let x = client_at s.live.clients c in
@@ -383,12 +384,12 @@ with_draw_settled : (b : Bounds) (s : Saved) → Settled b s → (side : Side) (
 with_draw_settled b s st First c = record { sent = st.sent; live_voters = st.live_voters; voters = st.voters; behind = st.behind; last = st.last; last_saved = st.last_saved }
 with_draw_settled b s st Second c = record { sent = st.sent; live_voters = st.live_voters; voters = st.voters; behind = st.behind; last = st.last; last_saved = st.last_saved }
 
-client_tries : (b : Bounds) → Given b → (G : Naming) (s : Saved) → Numbered b G s → Settled b s → (c : ℕ) (cause : client.Cause) → Steps b s c cause
+client_tries : (b : Bounds) → Given b → (G : Lives) (s : Saved) → Numbered b G s → Settled b s → (c : ℕ) (cause : client.Cause) → Steps b s c cause
     → (r : Result client.Outcome ClientFault) → client.step (client_at s.live.clients c) cause ≡ r → Settled b (save_and_send s (OneClient c) (after_client s.live c r))
 client_tries b given G s num st c cause go (Ok o) is = client_settles b given G s num st c cause go o is (is_silent (length o.out) o.seen) refl
 client_tries b given G s num st c cause go (Err fault) is = st
 
-client_draws : (b : Bounds) → Given b → (G : Naming) (s : Saved) → Numbered b G s → Settled b s → (c : ℕ) (cause : client.Cause) → Steps b s c cause
+client_draws : (b : Bounds) → Given b → (G : Lives) (s : Saved) → Numbered b G s → Settled b s → (c : ℕ) (cause : client.Cause) → Steps b s c cause
     → (side : Side) (r : Result client.Outcome ClientFault) → client.step (client_at s.live.clients c) cause ≡ r → Settled b (save_and_send s (OneClient c) (after_client (draw_of side s.live c) c r))
 client_draws b given G s num st c cause go First (Ok o) is =
     client_settles b given G (record s { live = draw_of First s.live c }) (with_draw b G s num First c) (with_draw_settled b s st First c) c cause
@@ -398,7 +399,7 @@ client_draws b given G s num st c cause go Second (Ok o) is =
     (record { within = go.within; accepts = go.accepts; came = go.came }) o is (is_silent (length o.out) o.seen) refl
 client_draws b given G s num st c cause go side (Err fault) is = st
 
-client_says : (b : Bounds) → Given b → (G : Naming) (s : Saved) → Numbered b G s → Settled b s → (c : ℕ) → c < b.clients → (n : ℕ) → n ≡ length (client.remind (client_at s.live.clients c))
+client_says : (b : Bounds) → Given b → (G : Lives) (s : Saved) → Numbered b G s → Settled b s → (c : ℕ) → c < b.clients → (n : ℕ) → n ≡ length (client.remind (client_at s.live.clients c))
     → (silent : Bool) → is_silent n Nothing ≡ silent
     → Settled b (save_unless silent (OneClient c) (record s { live = (say s.live (map kinds.ToVoter (client.remind (client_at s.live.clients c)))).state }))
 client_says b given G s num st c within n many true e = record {
@@ -469,7 +470,7 @@ voter_speaks b s st v rises rs fits true = told_also b s st (map kinds.ToClient 
 voter_speaks b s st v rises rs fits false =
     saved_voter_settled b (record s { live = record s.live { sent = s.live.sent ++ map kinds.ToClient rs } }) (told_also b s st (map kinds.ToClient rs) fits) v (voter_at s.live.voters v) (st.live_voters v) rises
 
-voter_tries : (b : Bounds) → Given b → EndLaws → (G : Naming) (s : Saved) → Numbered b G s → Settled b s → (m : ToVoter) → Told b G (count s.voters) (kinds.ToVoter m) → Fits b (count s.voters) s.clients (kinds.ToVoter m)
+voter_tries : (b : Bounds) → Given b → EndLaws → (G : Lives) (s : Saved) → Numbered b G s → Settled b s → (m : ToVoter) → Told b (count s.voters) (kinds.ToVoter m) → Fits b (count s.voters) s.clients (kinds.ToVoter m)
     → (r : Option voter.Outcome) → voter.step (voter_at s.live.voters m.voter) m ≡ r → Settled b (save_and_send s (OneVoter m.voter) (after_voter s.live m.voter r))
 voter_tries b given end G s num st m told fits None is = st
 voter_tries b given end G s num st m told fits (Some o) is =
@@ -492,12 +493,12 @@ voter_tries b given end G s num st m told fits (Some o) is =
     (replies_fit b (count s.voters) s.clients o.state known after y.id (seen_after y.seen m.body) (seen_within b.limit y.seen m.body (st.live_voters v).seen fits.1) o.replies meets.heard
     (laws.answers y m o was.sound is).place carries.carried) (is_silent (length o.replies) Nothing)
 
-voter_reminds : (b : Bounds) → Given b → (G : Naming) (s : Saved) → Numbered b G s → Settled b s → (v n : ℕ)
+voter_reminds : (b : Bounds) → Given b → (G : Lives) (s : Saved) → Numbered b G s → Settled b s → (v n : ℕ)
     → Settled b (save_unless (is_silent n Nothing) (OneVoter v) (record s { live = (say s.live (map kinds.ToClient (voter.remind (voter_at s.live.voters v)))).state }))
 voter_reminds b given G s num st v n =
     let y = voter_at s.live.voters v in
     voter_speaks b s st v (num.behind v) (voter.remind y)
-    (replies_fit b (count s.voters) s.clients y (known_of b G v y (num.live_voters v)) (st.live_voters v) y.id y.seen (st.live_voters v).seen (voter.remind y) (given.voter.reminds y) (given.voter.places y) (given.voter.remembers y))
+    (replies_fit b (count s.voters) s.clients y (known_of b v y (num.live_voters v)) (st.live_voters v) y.id y.seen (st.live_voters v).seen (voter.remind y) (given.voter.reminds y) (given.voter.places y) (given.voter.remembers y))
     (is_silent n Nothing)
 
 -- ---- steps of the world
@@ -524,7 +525,7 @@ locks_reached b x sender (to_client.Locked stamp grant) is v t g locks = (let sa
 locks_reached b x sender (to_client.Fail stamp) is v t g locks = absurd locks
 locks_reached b x sender (to_client.Inquire grant) is v t g locks = absurd locks
 
-settled_came : (b : Bounds) → Given b → EndLaws → (G : Naming) (s : Saved) → Numbered b G s → Settled b s → (k : ℕ) (o : Option Message) → ((m : Message) → o ≡ Some m → Told b G (count s.voters) m)
+settled_came : (b : Bounds) → Given b → EndLaws → (G : Lives) (s : Saved) → Numbered b G s → Settled b s → (k : ℕ) (o : Option Message) → ((m : Message) → o ≡ Some m → Told b (count s.voters) m)
     → ((m : Message) → o ≡ Some m → Fits b (count s.voters) s.clients m) → Settled b (save_and_send s (receiver o) (come s.live k o))
 settled_came b given end G s num st k None told fits = st
 settled_came b given end G s num st k (Some (kinds.ToVoter m)) told fits =
@@ -543,14 +544,14 @@ settled_came b given end G s num st k (Some (kinds.ToClient m)) told fits =
     })
     (client.step (client_at s.live.clients m.client) (client.Takes m)) refl
 
-settled_happens : (b : Bounds) → Given b → EndLaws → (deal : Dealing) → DealsFrom b.quorums deal → (G : Naming) (s : Saved) → Numbered b G s → Settled b s → (h : Happening) → Settled b (happens deal s h)
+settled_happens : (b : Bounds) → Given b → EndLaws → (deal : Dealing) → DealsFrom b.quorums deal → (G : Lives) (s : Saved) → Numbered b G s → Settled b s → (h : Happening) → Settled b (happens deal s h)
 unfolding step
 settled_happens b given end deal deals G s num st (Goes (Ask c)) = settled_if b s st (OneClient c) (nat_lt c (length s.live.clients)) c _ (λ t.
     let q = quorum_dealt deal s.live.side (next_ticket s.live) in
     client_draws b given G s num st c (client.Asks q)
     (record { within = subst (λ n. c < n) num.sizes.0 (ltb-true _ _ t); accepts = accepts_among b given.meet q (deals s.live.side (next_ticket s.live)); came = λ v u g never. absurd never }) s.live.side _ refl)
 settled_happens b given end deal deals G s num st (Goes (Deliver k)) =
-    settled_came b given end G s num st k (slice_get s.live.sent k) (λ m is. AllByRecursion-get (Told b G (count s.voters)) s.live.sent k m num.told is)
+    settled_came b given end G s num st k (slice_get s.live.sent k) (λ m is. AllByRecursion-get (Told b (count s.voters)) s.live.sent k m num.told is)
     (λ m is. AllByRecursion-get (Fits b (count s.voters) s.clients) s.live.sent k m st.sent is)
 settled_happens b given end deal deals G s num st (Goes (Leave c)) = settled_if b s st (OneClient c) (nat_lt c (length s.live.clients)) c _ (λ t.
     client_tries b given G s num st c client.Leaves (record { within = subst (λ n. c < n) num.sizes.0 (ltb-true _ _ t); accepts = tt; came = λ v u g never. absurd never }) _ refl)
@@ -595,7 +596,7 @@ reborn_fits b l y above = record {
   back = λ g c t held waits. absurd (none-some g held);
 }
 
-settled_reborn : (b : Bounds) (G : Naming) (s : Saved) → Numbered b G s → Settled b s → (v above : ℕ) (t : Bool) → (nat_lt v (length s.live.voters) && is_above (voter_at s.live.voters v) above) ≡ t
+settled_reborn : (b : Bounds) (G : Lives) (s : Saved) → Numbered b G s → Settled b s → (v above : ℕ) (t : Bool) → (nat_lt v (length s.live.voters) && is_above (voter_at s.live.voters v) above) ≡ t
     → Settled b (be_reborn t s v above)
 settled_reborn b G s num st v above false is = st
 settled_reborn b G s num st v above true is =
@@ -623,7 +624,7 @@ settled_anew b s st c clock true is =
     let w = saved_goes b t u c z (omega arith) (subst (λ (y : ClientState). NotBehind z y) (sym there) (self z)) none in
     record { sent = w.sent; live_voters = w.live_voters; voters = w.voters; behind = w.behind; last = w.last; last_saved = w.last_saved }
 
-evicted_fits : (b : Bounds) (G : Naming) (s : Saved) → Numbered b G s → Settled b s → (m : ToVoter) → IsEviction s m → Fits b (count s.voters) s.clients (kinds.ToVoter m) × AsksInRange b.limit m.body
+evicted_fits : (b : Bounds) (G : Lives) (s : Saved) → Numbered b G s → Settled b s → (m : ToVoter) → IsEviction s m → Fits b (count s.voters) s.clients (kinds.ToVoter m) × AsksInRange b.limit m.body
 evicted_fits b G s num st m is =
     let g = is.grant in
     let entry : IsEntry (voter_at s.live.voters m.voter) g.client g.stamp = inl (g, is.held, refl, refl) in
@@ -647,7 +648,7 @@ range_old limit x (asks.Request t) ends = absurd ends
 range_old limit x (asks.Relinquish g) ends = absurd ends
 range_old limit x (asks.Release t) ends = tt
 
-lawful_fits : (b : Bounds) (G : Naming) (s : Saved) → Numbered b G s → Settled b s → (m : ToVoter) → m.client < b.clients → IsEviction s m ⊎ EndsOld (client_at s.clients m.client) m.body
+lawful_fits : (b : Bounds) (G : Lives) (s : Saved) → Numbered b G s → Settled b s → (m : ToVoter) → m.client < b.clients → IsEviction s m ⊎ EndsOld (client_at s.clients m.client) m.body
     → Fits b (count s.voters) s.clients (kinds.ToVoter m) × AsksInRange b.limit m.body
 lawful_fits b G s num st m within is = elim is [
   | inl evicts ↦ evicted_fits b G s num st m evicts
@@ -659,7 +660,7 @@ lawful_fits b G s num st m within is = elim is [
       ((asked_old (count s.voters) x m.voter m.body ends, ends_within b.limit x m.body ends (omega arith)), range_old b.limit x m.body ends)
 ]
 
-settled_hears : (b : Bounds) → Given b → EndLaws → (G : Naming) (s : Saved) → Numbered b G s → Settled b s → (m : ToVoter) → IsEviction s m ⊎ EndsOld (client_at s.clients m.client) m.body
+settled_hears : (b : Bounds) → Given b → EndLaws → (G : Lives) (s : Saved) → Numbered b G s → Settled b s → (m : ToVoter) → IsEviction s m ⊎ EndsOld (client_at s.clients m.client) m.body
     → Settled b (hear s m)
 settled_hears b given end G s num st m is = settled_if_voter b s st (OneVoter m.voter) (nat_lt m.voter (length s.live.voters)) m.voter _ (λ t.
     settled_if b s st (OneVoter m.voter) (is_message s m) m.client _ (λ u.
@@ -689,7 +690,7 @@ settled_skipped : (b : Bounds) (s : Saved) → Settled b s → (v above : ℕ) (
 settled_skipped b s st v above false = st
 settled_skipped b s st v above true = settled_counted b s st v above (voter_at s.live.voters v).limit
 
-settled_raised : (b : Bounds) → Given b → (G : Naming) (s : Saved) → Numbered b G s → Settled b s → (c clock : ℕ) (t : Bool) → nat_lt c (length s.live.clients) ≡ t → Settled b (be_raised t s c clock)
+settled_raised : (b : Bounds) → Given b → (G : Lives) (s : Saved) → Numbered b G s → Settled b s → (c clock : ℕ) (t : Bool) → nat_lt c (length s.live.clients) ≡ t → Settled b (be_raised t s c clock)
 unfolding client.step
 settled_raised b given G s num st c clock false is = st
 settled_raised b given G s num st c clock true is =
@@ -700,7 +701,7 @@ settled_raised b given G s num st c clock true is =
       came = λ v t g never. absurd never;
     }) (Ok (client.take x (no_inquiry x clock))) refl)
 
-settled_befalls : (b : Bounds) → Given b → EndLaws → (deal : Dealing) → DealsFrom b.quorums deal → (G : Naming) (s : Saved) → Numbered b G s → Settled b s → (i : Incident) → IsLawful s i → Settled b (befalls deal s i)
+settled_befalls : (b : Bounds) → Given b → EndLaws → (deal : Dealing) → DealsFrom b.quorums deal → (G : Lives) (s : Saved) → Numbered b G s → Settled b s → (i : Incident) → IsLawful s i → Settled b (befalls deal s i)
 settled_befalls b given end deal deals G s num st (Happens h) lawful = settled_happens b given end deal deals G s num st h
 settled_befalls b given end deal deals G s num st (Hears m) lawful = settled_hears b given end G s num st m lawful
 settled_befalls b given end deal deals G s num st (IsReborn v above) lawful = settled_reborn b G s num st v above _ refl
@@ -710,15 +711,15 @@ settled_befalls b given end deal deals G s num st (IsRaised c clock) lawful = se
 settled_befalls b given end deal deals G s num st (IsSkipped v above) lawful = settled_skipped b s st v above _
 
 pub record Reaches (b : Bounds) (s : Saved) : Type 0 where
-  pub named : Naming
-  pub num : Numbered b named s
+  pub lives : Lives
+  pub num : Numbered b lives s
   pub settled : Settled b s
 
 settled_all : (b : Bounds) → Given b → EndLaws → (deal : Dealing) → DealsFrom b.quorums deal → (is : List Incident) (s : Saved) → Reaches b s → AreLawful deal s is → Reaches b (all_befall deal is s)
 settled_all b given end deal deals [] s r lawful = r
 settled_all b given end deal deals (i ∷ is) s r lawful =
-    let one = befalls_on b given deal deals r.named s r.num i in
-    settled_all b given end deal deals is (befalls deal s i) (record { named = one.named; num = one.ok; settled = settled_befalls b given end deal deals r.named s r.num r.settled i lawful.0 }) lawful.1
+    let one = befalls_on b given deal deals r.lives s r.num i in
+    settled_all b given end deal deals is (befalls deal s i) (record { lives = one.lives; num = one.ok; settled = settled_befalls b given end deal deals r.lives s r.num r.settled i lawful.0 }) lawful.1
 
 -- no voter of the first world finished a request
 first_finished : (voters limit v c : ℕ) → slice_index (voter_at (new_voters voters limit) v).finished c ≡ 0
@@ -746,7 +747,7 @@ begin_settled b given =
 pub reaches_all : (b : Bounds) → Given b → EndLaws → (deal : Dealing) → DealsFrom b.quorums deal → (is : List Incident) → AreLawful deal (begin b.voters b.clients b.limit) is
     → Reaches b (all_befall deal is (begin b.voters b.clients b.limit))
 reaches_all b given end deal deals is lawful =
-    settled_all b given end deal deals is (begin b.voters b.clients b.limit) (record { named = nobody; num = begin_on b given; settled = begin_settled b given }) lawful
+    settled_all b given end deal deals is (begin b.voters b.clients b.limit) (record { lives = newborn; num = begin_on b given; settled = begin_settled b given }) lawful
 
 -- ---- all clients are idle
 
@@ -772,13 +773,13 @@ message_idle b N l X Y idle on more (kinds.ToVoter m) fits =
 message_idle b N l X Y idle on more (kinds.ToClient m) fits =
     said_idle b (X m.client) (Y m.voter).held m.voter m.client m.body (idle m.client) (said_on b.limit (client_at l m.client) (X m.client) m.body (on m.client) fits.1)
 
-range_of : (b : Bounds) (G : Naming) (N : ℕ → ℕ) (l : List ClientState) (m : Message) → Told b G N m → Fits b N l m → IsInRange b.voters b.clients b.limit m
-range_of b G N l (kinds.ToVoter m) told fits = (told.0, told.1, fits.1)
-range_of b G N l (kinds.ToClient m) told fits = (told.0, told.1, fits.0, reports_within b (client_at l m.client) m.body fits.1)
+range_of : (b : Bounds) (N : ℕ → ℕ) (l : List ClientState) (m : Message) → Told b N m → Fits b N l m → IsInRange b.voters b.clients b.limit m
+range_of b N l (kinds.ToVoter m) told fits = (told.0, told.1, fits.1)
+range_of b N l (kinds.ToClient m) told fits = (told.0, told.1, fits.0, reports_within b (client_at l m.client) m.body fits.1)
 
-ranges_of : (b : Bounds) (G : Naming) (N : ℕ → ℕ) (l : List ClientState) (ms : List Message) → AllByRecursion (Told b G N) ms → AllByRecursion (Fits b N l) ms → AllByRecursion (IsInRange b.voters b.clients b.limit) ms
-ranges_of b G N l [] told fits = tt
-ranges_of b G N l (m ∷ ms) told fits = (range_of b G N l m told.0 fits.0, ranges_of b G N l ms told.1 fits.1)
+ranges_of : (b : Bounds) (N : ℕ → ℕ) (l : List ClientState) (ms : List Message) → AllByRecursion (Told b N) ms → AllByRecursion (Fits b N l) ms → AllByRecursion (IsInRange b.voters b.clients b.limit) ms
+ranges_of b N l [] told fits = tt
+ranges_of b N l (m ∷ ms) told fits = (range_of b N l m told.0 fits.0, ranges_of b N l ms told.1 fits.1)
 
 held_holds : (x : ClientState) (v g : ℕ) → holds_under x v g ≡ true → holds x v ≡ true
 held_holds x v g is = grind (arith, nat_tests)
@@ -792,12 +793,12 @@ record ClientKnown (b : Bounds) (N : ℕ → ℕ) (l : List ClientState) (c : �
   on : NotBehind (client_at l c) x
   last : IsCounted N x
 
-idle_world : (b : Bounds) (G : Naming) (s : Saved) → Numbered b G s → Settled b s → (X : ℕ → ClientState) (Y : ℕ → VoterState) → ((c : ℕ) → ClientKnown b (count s.voters) s.clients c (X c))
-    → ((v : ℕ) → Votes b G v (Y v) × VoterFits b s.clients (Y v) × (count s.voters v ≤ (Y v).granted)) → WorldOk b X Y s.live.sent
+idle_world : (b : Bounds) (G : Lives) (s : Saved) → Numbered b G s → Settled b s → (X : ℕ → ClientState) (Y : ℕ → VoterState) → ((c : ℕ) → ClientKnown b (count s.voters) s.clients c (X c))
+    → ((v : ℕ) → Votes b v (Y v) × VoterFits b s.clients (Y v) × (count s.voters v ≤ (Y v).granted)) → WorldOk b X Y s.live.sent
 idle_world b G s num st X Y clients voters = record {
   messages = AllByRecursion-weaker (Fits b (count s.voters) s.clients) (MessageOk X Y)
       (message_idle b (count s.voters) s.clients X Y (λ c. (clients c).idle) (λ c. (clients c).on) (λ v. (voters v).2)) s.live.sent st.sent;
-  ranges = ranges_of b G (count s.voters) s.clients s.live.sent num.told st.sent;
+  ranges = ranges_of b (count s.voters) s.clients s.live.sent num.told st.sent;
   held = λ c v g is. absurd (false≢true (sym ((clients c).sound.held v (held_holds (X c) v g is)).busy ∙ (clients c).idle));
   last = λ c v. (let most = (voters v).2 in let few = (clients c).last v in omega arith);
   clients = λ c. record { sound = (clients c).sound; quorum = (clients c).quorum };
@@ -824,19 +825,19 @@ idle_out Idle e = refl
 idle_out Asking e = absurd (false≢true e)
 idle_out Inside e = absurd (false≢true e)
 
-live_known : (b : Bounds) (G : Naming) (s : Saved) → Numbered b G s → Settled b s → (c : ℕ) → is_idle (client_at s.live.clients c).phase ≡ true
+live_known : (b : Bounds) (G : Lives) (s : Saved) → Numbered b G s → Settled b s → (c : ℕ) → is_idle (client_at s.live.clients c).phase ≡ true
     → ClientKnown b (count s.voters) s.clients c (client_at s.live.clients c)
 live_known b G s num st c idle =
     let k = num.live_clients c in
     record { sound = k.sound; quorum = k.quorum; id = λ w. record { id = k.id w; limit = k.limit w }; idle = idle; on = st.behind c; last = st.last c }
 
 -- it is enough for the live world that the clients are idle as they are
-pub idle_live : (b : Bounds) (G : Naming) (s : Saved) → Numbered b G s → Settled b s → ((c : ℕ) → is_idle (client_at s.live.clients c).phase ≡ true)
+pub idle_live : (b : Bounds) (G : Lives) (s : Saved) → Numbered b G s → Settled b s → ((c : ℕ) → is_idle (client_at s.live.clients c).phase ≡ true)
     → WorldOk b (client_at s.live.clients) (voter_at s.live.voters) s.live.sent
 idle_live b G s num st idle = idle_world b G s num st (client_at s.live.clients) (voter_at s.live.voters) (λ c. live_known b G s num st c (idle c))
     (λ v. (num.live_voters v, st.live_voters v, num.behind v))
 
-idle_ok : (b : Bounds) (G : Naming) (s : Saved) → Numbered b G s → Settled b s → AllIdle s → SavedOk b (unseen s)
+idle_ok : (b : Bounds) (G : Lives) (s : Saved) → Numbered b G s → Settled b s → AllIdle s → SavedOk b (unseen s)
 idle_ok b G s num st idle =
     let N = count s.voters in
     let live : (c : ℕ) → ClientKnown b N s.clients c (client_at s.live.clients c) = λ c. live_known b G s num st c (idle c).0 in
@@ -855,8 +856,8 @@ idle_ok b G s num st idle =
       mixes = λ X Y mix other. idle_world b G s num st X Y
           (λ c. elim (mix c) [ inl e ↦ subst (λ (x : ClientState). ClientKnown b N s.clients c x) (sym e) (live c) | inr e ↦ subst (λ (x : ClientState). ClientKnown b N s.clients c x) (sym e) (saved c) ])
           (λ v. elim (other v) [
-            | inl e ↦ subst (λ (y : VoterState). Votes b G v y × VoterFits b s.clients y × (N v ≤ y.granted)) (sym e) (num.live_voters v, st.live_voters v, num.behind v)
-            | inr e ↦ subst (λ (y : VoterState). Votes b G v y × VoterFits b s.clients y × (N v ≤ y.granted)) (sym e) (num.voters v, st.voters v, as_many N v)
+            | inl e ↦ subst (λ (y : VoterState). Votes b v y × VoterFits b s.clients y × (N v ≤ y.granted)) (sym e) (num.live_voters v, st.live_voters v, num.behind v)
+            | inr e ↦ subst (λ (y : VoterState). Votes b v y × VoterFits b s.clients y × (N v ≤ y.granted)) (sym e) (num.voters v, st.voters v, as_many N v)
           ]);
       walked = record { list = tt; inside = λ c. idle_out (client_at s.live.clients c).phase (idle c).0 };
       insides = λ c in_saved. absurd (false≢true (sym (idle_out (client_at s.clients c).phase (idle c).1) ∙ in_saved));
@@ -871,4 +872,4 @@ comes_back cs vs end voters clients limit quorums deal incidents hs limits meets
     let given : Given b = record { client = cs; voter = vs; limits = limits; meet = meets } in
     let first = begin voters clients limit in
     let r = reaches_all b given end deal deals incidents lawful in
-    (all_ok b given deal deals hs (unseen (all_befall deal incidents first)) (idle_ok b r.named (all_befall deal incidents first) r.num r.settled idle)).walked.list
+    (all_ok b given deal deals hs (unseen (all_befall deal incidents first)) (idle_ok b r.lives (all_befall deal incidents first) r.num r.settled idle)).walked.list

@@ -2,7 +2,6 @@
 use Rattle.std.proofs.Common.{◌≡◌, ℕ, zero, suc, ◌≤◌, true, List, [], ◌∷◌, ◌++◌, take, refl, sym, ap, subst, ◌∙◌, ◌⊎◌, inl, inr, arith}
 use Rattle.std.specs.Prelude.{slice_index}
 use Rattle.std.specs.List.{AllByRecursion}
-use Rattle.std.proofs.lemmas.Bool.{cases_lt}
 use Rattle.std.proofs.lemmas.Bool.Decides.{nat_tests}
 use Rattle.std.proofs.lemmas.Option.{same_Some}
 use Rattle.voter.specs.declared.state.Grant.{Grant}
@@ -16,56 +15,49 @@ use Rattle.world.proofs.Exclusion.{list_all-holds, under_grant}
 use Rattle.world.proofs.Reached.{Given}
 use Rattle.world.specs.Incidents.{Incident, all_befall, befalls}
 use Rattle.fence.specs.Passes.{Admits, is_not_older}
-use Rattle.leases.specs.Shows.{HasSeenOnly, IsCurrent, IsShown, Show, Story, WasIn, pass_in, world_at}
-use Rattle.passes.specs.Grants.{AreApart, AreOfOne, Giving, IsCoterie, IsPass, Pass, ShareQuorum}
-use Rattle.passes.specs.Guarded.{AreAdmitted, AreEntered, AreInOrder, DoNotInterleave, Entry, HaveOnePassEach, RequestsHaveOneTurn, ShowTheSame, TurnsTellRequests}
-use Rattle.passes.proofs.Guards.{NamesRequests, in_order, no_interleaving, own_quorum, requests_apart, two_passes}
-use Rattle.passes.proofs.Turns.{one_turn, turns}
-use Rattle.numbers.proofs.Lists.{AllByRecursion-weaker}
+use Rattle.leases.specs.Shows.{HasSeenOnly, IsCurrent, IsShown, Show, Story, WasIn, pass_in, story_of, world_at}
+use Rattle.leases.specs.WorldVoters.{AreVoters}
+use Rattle.passes.specs.Grants.{AreApart, AreOfOne, Gave, Giving, HaveLimits, IsCoterie, IsPass, Pass, ShareQuorum, Voters}
+use Rattle.passes.specs.Guarded.{Entry, HaveOnePassEach, ShowTheSame}
+use Rattle.passes.proofs.Guards.{own_quorum}
 use Rattle.requester.specs.declared.state.ClientState.{ClientState}
 use Rattle.requester.specs.Words.{held_of, is_inside, members}
 use Rattle.leases.proofs.Passes.{one_pass}
 use Rattle.passes.proofs.Requests.{Begins, has_grant, one_begins}
-use Rattle.leases.proofs.Numbers.{all_on, among_of, grant_of, Further, IsGrant, Knows, Naming, Numbered, begin_on, befalls_on, count, knows_on, nobody, same_number}
+use Rattle.leases.proofs.Numbers.{Further, Knows, Lives, Numbered, all_on, among_of, begin_on, befalls_on, knows_on, newborn, voters_of}
 
 -- ---- every client at every moment
 
--- what holds of a whole story: each client, at each moment, had votes by grants that have one name
-pub record Whole (b : Bounds) (deal : Dealing) (G : Naming) (s : Saved) (incidents : List Incident) : Type 0 where
-  pub named : Naming
-  pub ok : Numbered b named (all_befall deal incidents s)
-  pub further : Further G named (count s.voters) (count (all_befall deal incidents s).voters)
-  pub every : (moment c : ℕ) → Knows b named (count (all_befall deal incidents s).voters) c (client_at (all_befall deal (take moment incidents) s).live.clients c)
+-- what holds of a whole story: each client, at each moment, had votes by grants that its voters gave
+pub record Whole (b : Bounds) (deal : Dealing) (G : Lives) (s : Saved) (incidents : List Incident) : Type 0 where
+  pub lives : Lives
+  pub ok : Numbered b lives (all_befall deal incidents s)
+  pub further : Further b G lives
+  pub every : (moment c : ℕ) → Knows b lives c (client_at (all_befall deal (take moment incidents) s).live.clients c)
 
-join : (G H K : Naming) (N M P : ℕ → ℕ) → Further G H N M → Further H K M P → Further G K N P
-join G H K N M P first second = record {
-  same = λ v n few. let more = first.more v in second.same v n (omega arith) ∙ first.same v n few;
-  more = λ v. let more = first.more v in let most = second.more v in omega arith;
-}
-
-first_moments : (b : Bounds) (deal : Dealing) (G : Naming) (s : Saved) → Numbered b G s → (moment c : ℕ) → Knows b G (count s.voters) c (client_at (all_befall deal (take moment []) s).live.clients c)
+first_moments : (b : Bounds) (deal : Dealing) (G : Lives) (s : Saved) → Numbered b G s → (moment c : ℕ) → Knows b G c (client_at (all_befall deal (take moment []) s).live.clients c)
 first_moments b deal G s ok zero c = ok.live_clients c
 first_moments b deal G s ok (suc n) c = ok.live_clients c
 
-next_moments : (b : Bounds) (deal : Dealing) (G H : Naming) (s : Saved) (i : Incident) (is : List Incident) → Numbered b G s
-    → Further G H (count s.voters) (count (all_befall deal (i ∷ is) s).voters)
-    → ((moment c : ℕ) → Knows b H (count (all_befall deal is (befalls deal s i)).voters) c (client_at (all_befall deal (take moment is) (befalls deal s i)).live.clients c))
-    → (moment c : ℕ) → Knows b H (count (all_befall deal (i ∷ is) s).voters) c (client_at (all_befall deal (take moment (i ∷ is)) s).live.clients c)
-next_moments b deal G H s i is ok f rest zero c = knows_on b G H (count s.voters) (count (all_befall deal (i ∷ is) s).voters) f c (client_at s.live.clients c) (ok.live_clients c)
+next_moments : (b : Bounds) (deal : Dealing) (G H : Lives) (s : Saved) (i : Incident) (is : List Incident) → Numbered b G s
+    → Further b G H
+    → ((moment c : ℕ) → Knows b H c (client_at (all_befall deal (take moment is) (befalls deal s i)).live.clients c))
+    → (moment c : ℕ) → Knows b H c (client_at (all_befall deal (take moment (i ∷ is)) s).live.clients c)
+next_moments b deal G H s i is ok f rest zero c = knows_on b G H f c (client_at s.live.clients c) (ok.live_clients c)
 next_moments b deal G H s i is ok f rest (suc n) c = rest n c
 
-whole : (b : Bounds) → Given b → (deal : Dealing) → DealsFrom b.quorums deal → (G : Naming) (s : Saved) → Numbered b G s → (incidents : List Incident) → Whole b deal G s incidents
+whole : (b : Bounds) → Given b → (deal : Dealing) → DealsFrom b.quorums deal → (G : Lives) (s : Saved) → Numbered b G s → (incidents : List Incident) → Whole b deal G s incidents
 whole b given deal deals G s ok [] = record {
-  named = G;
+  lives = G;
   ok = ok;
-  further = record { same = λ v n few. refl; more = λ v. same_number (count s.voters v) };
+  further = λ v c t g is. is;
   every = first_moments b deal G s ok;
 }
 whole b given deal deals G s ok (i ∷ is) =
     let one = befalls_on b given deal deals G s ok i in
-    let rest = whole b given deal deals one.named (befalls deal s i) one.ok is in
-    let f = join G one.named rest.named (count s.voters) (count (befalls deal s i).voters) (count (all_befall deal (i ∷ is) s).voters) one.further rest.further in
-    record { named = rest.named; ok = rest.ok; further = f; every = next_moments b deal G rest.named s i is ok f rest.every }
+    let rest = whole b given deal deals one.lives (befalls deal s i) one.ok is in
+    let f : Further b G rest.lives = λ v c t g is. rest.further v c t g (one.further v c t g is) in
+    record { lives = rest.lives; ok = rest.ok; further = f; every = next_moments b deal G rest.lives s i is ok f rest.every }
 
 -- ---- two moments
 
@@ -85,13 +77,10 @@ same_later cs vs voters clients limit quorums deal is js c limits meets deals be
     ap (λ (s : Saved). pass_of s c) e
     ∙ one_pass cs vs voters clients limit quorums deal is begins.0 c limits meets deals in_is (subst (λ (s : Saved). IsIn s c) e in_js) (same ∙ ap (λ (s : Saved). stamp_of s c) e)
 
-abbrev story_of : ℕ → ℕ → ℕ → Dealing → List Incident → Story
-story_of voters clients limit deal incidents = record { deal = deal; first = begin voters clients limit; incidents = incidents }
-
 pub same_pass : ClientLaws → VoterLaws → (voters clients limit : ℕ) (quorums : List (List ℕ)) (deal : Dealing) (incidents : List Incident) (w x : Show)
     → AreLimits voters clients limit → DoMeet voters quorums → DealsFrom quorums deal
-    → WasIn (story_of voters clients limit deal incidents) w → WasIn (story_of voters clients limit deal incidents) x → IsSameRequest (world_at (story_of voters clients limit deal incidents) w.moment) w.client (world_at (story_of voters clients limit deal incidents) x.moment) x.client
-    → pass_in (story_of voters clients limit deal incidents) w ≡ pass_in (story_of voters clients limit deal incidents) x
+    → WasIn (story_of deal voters clients limit incidents) w → WasIn (story_of deal voters clients limit incidents) x → IsSameRequest (world_at (story_of deal voters clients limit incidents) w.moment) w.client (world_at (story_of deal voters clients limit incidents) x.moment) x.client
+    → pass_in (story_of deal voters clients limit incidents) w ≡ pass_in (story_of deal voters clients limit incidents) x
 same_pass cs vs voters clients limit quorums deal incidents w x limits meets deals in_w in_x one =
     let first = begin voters clients limit in
     let s = all_befall deal (take w.moment incidents) first in
@@ -107,127 +96,102 @@ same_pass cs vs voters clients limit quorums deal incidents w x limits meets dea
 
 -- ---- what is shown is a pass
 
--- the grants that clients have
-abbrev giving : Naming → (ℕ → ℕ) → Giving
-giving G N v c s g = IsGrant G N v c s g
-
-names : (G : Naming) (N : ℕ → ℕ) → NamesRequests (giving G N)
-names G N v g c s d t one two =
-    let e : grant_of c s g ≡ grant_of d t g = sym one.0 ∙ two.0 in
-    (ap (λ (k : Grant). k.client) e, ap (λ (k : Grant). k.stamp) e)
-
-knows_pass : (b : Bounds) (G : Naming) (N : ℕ → ℕ) (c : ℕ) (x : ClientState) → Knows b G N c x → is_inside x.phase ≡ true → IsPass b.quorums (giving G N) (record { client = c; stamp = x.stamp; grants = x.held })
-knows_pass b G N c x k inside = record {
+knows_pass : (b : Bounds) (G : Lives) (c : ℕ) (x : ClientState) → Knows b G c x → is_inside x.phase ≡ true
+    → IsPass b.quorums (Gave (voters_of b G)) (record { client = c; stamp = x.stamp; grants = x.held })
+knows_pass b G c x k inside = record {
   quorum = members x;
-  among = among_of b G N c x k inside;
+  among = among_of b G c x k inside;
   covers = λ v member. has_grant x v (list_all-holds x (members x) v (k.sound.inside inside) member);
-  given = λ v some. k.votes v (held_of x v) (under_grant x v some);
+  given = λ v some. (k.votes v (held_of x v) (under_grant x v some)).0;
 }
 
-coterie : (b : Bounds) → Given b → IsCoterie b.voters b.quorums
-coterie b given = record { few = given.limits.few_voters; meets = given.meet.meets }
-
--- what a story's shows are: passes, by grants that have one name, and one pass for each request
-record Passes_of (quorums : List (List ℕ)) (voters : ℕ) (story : Story) : Type 0 where
-  named : Naming
-  most : ℕ → ℕ
-  coterie : IsCoterie voters quorums
-  passes : (p : Pass) → IsShown story p → IsPass quorums (giving named most) p
-  one : (p q : Pass) → IsShown story p → IsShown story q → AreOfOne p q → p.grants ≡ q.grants
-
-passes_of : ClientLaws → VoterLaws → (voters clients limit : ℕ) (quorums : List (List ℕ)) (deal : Dealing) (incidents : List Incident)
-    → AreLimits voters clients limit → DoMeet voters quorums → DealsFrom quorums deal → Passes_of quorums voters (story_of voters clients limit deal incidents)
-passes_of cs vs voters clients limit quorums deal incidents limits meets deals =
+pub have_voters : ClientLaws → VoterLaws → (voters clients limit : ℕ) (quorums : List (List ℕ)) (deal : Dealing) (incidents : List Incident)
+    → AreLimits voters clients limit → DoMeet voters quorums → DealsFrom quorums deal
+    → (lives : Voters) × AreVoters voters limit quorums (story_of deal voters clients limit incidents) lives
+have_voters cs vs voters clients limit quorums deal incidents limits meets deals =
     let b : Bounds = record { voters = voters; clients = clients; limit = limit; quorums = quorums } in
     let given : Given b = record { client = cs; voter = vs; limits = limits; meet = meets } in
-    let all = whole b given deal deals nobody (begin voters clients limit) (begin_on b given) incidents in
-    let story = story_of voters clients limit deal incidents in
-    let N = count (all_befall deal incidents (begin voters clients limit)).voters in
-    record {
-      named = all.named;
-      most = N;
-      coterie = coterie b given;
-      passes = λ p is. subst (λ (q : Pass). IsPass quorums (giving all.named N) q) is.2
-          (knows_pass b all.named N is.0.client (client_at (world_at story is.0.moment).live.clients is.0.client) (all.every is.0.moment is.0.client) is.1);
-      one = λ p q is_p is_q same. sym (ap (λ (k : Pass). k.grants) is_p.2)
-          ∙ same_pass cs vs voters clients limit quorums deal incidents is_p.0 is_q.0 limits meets deals is_p.1 is_q.1
-          (ap (λ (k : Pass). k.client) is_p.2 ∙ same.0 ∙ sym (ap (λ (k : Pass). k.client) is_q.2), ap (λ (k : Pass). k.stamp) is_p.2 ∙ same.1 ∙ sym (ap (λ (k : Pass). k.stamp) is_q.2))
-          ∙ ap (λ (k : Pass). k.grants) is_q.2;
-    }
+    let all = whole b given deal deals newborn (begin voters clients limit) (begin_on b given) incidents in
+    let story = story_of deal voters clients limit incidents in
+    let lives = voters_of b all.lives in (
+      lives,
+      record {
+        limits = λ v. refl;
+        leads = λ v few. (all.ok.nodes v).node few;
+        says = all.ok.says;
+        passes = λ p is. subst (λ (q : Pass). IsPass quorums (Gave lives) q) is.2
+            (knows_pass b all.lives is.0.client (client_at (world_at story is.0.moment).live.clients is.0.client) (all.every is.0.moment is.0.client) is.1);
+      },
+    )
 
-pairs : (quorums : List (List ℕ)) (voters : ℕ) (story : Story) → (k : Passes_of quorums voters story) → (p q : Pass) → IsShown story p → IsShown story q → AreOfOne p q ⊎ AreApart p.grants q.grants
-pairs quorums voters story k p q is_p is_q = two_passes voters quorums (giving k.named k.most) k.coterie (names k.named k.most) p q (k.passes p is_p) (k.passes q is_q)
+-- ---- what `passes` asks for
 
-one_each : (quorums : List (List ℕ)) (voters : ℕ) (story : Story) → (k : Passes_of quorums voters story) → (p : Pass) → IsShown story p → (ps : List Pass) → AllByRecursion (IsShown story) ps
-    → AllByRecursion (λ q. AreOfOne p q → ShareQuorum quorums p.grants q.grants) ps
-one_each quorums voters story k p is_p [] are = tt
-one_each quorums voters story k p is_p (q ∷ qs) are = (
-  λ same. own_quorum quorums (giving k.named k.most) p q.grants (k.passes p is_p) (k.one p q is_p are.0 same),
-  one_each quorums voters story k p is_p qs are.1,
+pub coterie_of : (voters clients limit : ℕ) (quorums : List (List ℕ)) → AreLimits voters clients limit → DoMeet voters quorums → IsCoterie voters quorums
+coterie_of voters clients limit quorums limits meets = record { few = limits.few_voters; meets = meets.meets }
+
+pub have_limits : (voters clients limit : ℕ) → AreLimits voters clients limit → (lives : Voters) → ((v : ℕ) → lives.limit v ≡ limit) → HaveLimits lives
+have_limits voters clients limit limits lives are v = let same = are v in let few = limits.few_stamps in omega arith
+
+-- each request shows one pass
+abbrev OnePass : Story → Type 0
+OnePass story = (p q : Pass) → IsShown story p → IsShown story q → AreOfOne p q → p.grants ≡ q.grants
+
+pub one_pass_of : ClientLaws → VoterLaws → (voters clients limit : ℕ) (quorums : List (List ℕ)) (deal : Dealing) (incidents : List Incident)
+    → AreLimits voters clients limit → DoMeet voters quorums → DealsFrom quorums deal → OnePass (story_of deal voters clients limit incidents)
+one_pass_of cs vs voters clients limit quorums deal incidents limits meets deals p q is_p is_q same = sym (ap (λ (k : Pass). k.grants) is_p.2)
+    ∙ same_pass cs vs voters clients limit quorums deal incidents is_p.0 is_q.0 limits meets deals is_p.1 is_q.1
+    (ap (λ (k : Pass). k.client) is_p.2 ∙ same.0 ∙ sym (ap (λ (k : Pass). k.client) is_q.2), ap (λ (k : Pass). k.stamp) is_p.2 ∙ same.1 ∙ sym (ap (λ (k : Pass). k.stamp) is_q.2))
+    ∙ ap (λ (k : Pass). k.grants) is_q.2
+
+one_each : (quorums : List (List ℕ)) (gave : Giving) (story : Story) → ((p : Pass) → IsShown story p → IsPass quorums gave p) → OnePass story → (p : Pass) → IsShown story p
+    → (ps : List Pass) → AllByRecursion (IsShown story) ps → AllByRecursion (λ q. AreOfOne p q → ShareQuorum quorums p.grants q.grants) ps
+one_each quorums gave story are_passes one p is_p [] are = tt
+one_each quorums gave story are_passes one p is_p (q ∷ qs) are = (
+  λ same. own_quorum quorums gave p q.grants (are_passes p is_p) (one p q is_p are.0 same),
+  one_each quorums gave story are_passes one p is_p qs are.1,
 )
 
-all_one_each : (quorums : List (List ℕ)) (voters : ℕ) (story : Story) → Passes_of quorums voters story → (ps : List Pass) → AllByRecursion (IsShown story) ps → HaveOnePassEach quorums ps
-all_one_each quorums voters story k [] are = tt
-all_one_each quorums voters story k (p ∷ ps) are = (one_each quorums voters story k p are.0 ps are.1, all_one_each quorums voters story k ps are.1)
+pub all_one_each : (quorums : List (List ℕ)) (gave : Giving) (story : Story) → ((p : Pass) → IsShown story p → IsPass quorums gave p) → OnePass story
+    → (ps : List Pass) → AllByRecursion (IsShown story) ps → HaveOnePassEach quorums ps
+all_one_each quorums gave story are_passes one [] are = tt
+all_one_each quorums gave story are_passes one (p ∷ ps) are = (one_each quorums gave story are_passes one p are.0 ps are.1, all_one_each quorums gave story are_passes one ps are.1)
 
-same_each : (quorums : List (List ℕ)) (voters : ℕ) (story : Story) → (k : Passes_of quorums voters story) → (e : Entry) → IsShown story e.pass → (es : List Entry) → AllByRecursion (λ f. IsShown story f.pass) es
+same_each : (story : Story) → OnePass story → (e : Entry) → IsShown story e.pass → (es : List Entry) → AllByRecursion (λ f. IsShown story f.pass) es
     → AllByRecursion (λ f. AreOfOne e.pass f.pass → e.pass.grants ≡ f.pass.grants) es
-same_each quorums voters story k e is_e [] are = tt
-same_each quorums voters story k e is_e (f ∷ fs) are = (k.one e.pass f.pass is_e are.0, same_each quorums voters story k e is_e fs are.1)
+same_each story one e is_e [] are = tt
+same_each story one e is_e (f ∷ fs) are = (one e.pass f.pass is_e are.0, same_each story one e is_e fs are.1)
 
-all_show_same : (quorums : List (List ℕ)) (voters : ℕ) (story : Story) → Passes_of quorums voters story → (es : List Entry) → AllByRecursion (λ f. IsShown story f.pass) es → ShowTheSame es
-all_show_same quorums voters story k [] are = tt
-all_show_same quorums voters story k (e ∷ es) are = (same_each quorums voters story k e are.0 es are.1, all_show_same quorums voters story k es are.1)
-
-pub admitted_in_order : ClientLaws → VoterLaws → (voters clients limit : ℕ) (quorums : List (List ℕ)) (deal : Dealing) (incidents : List Incident) (seen : List ℕ) (passes : List Pass)
-    → AreLimits voters clients limit → DoMeet voters quorums → DealsFrom quorums deal
-    → AllByRecursion (IsShown (story_of voters clients limit deal incidents)) passes → AreAdmitted seen passes → AreInOrder passes
-admitted_in_order cs vs voters clients limit quorums deal incidents seen passes limits meets deals are admitted =
-    let story = story_of voters clients limit deal incidents in
-    let k = passes_of cs vs voters clients limit quorums deal incidents limits meets deals in
-    in_order (IsShown story) (pairs quorums voters story k) seen passes are admitted
-
-pub not_interleaved : ClientLaws → VoterLaws → (voters clients limit : ℕ) (quorums : List (List ℕ)) (deal : Dealing) (incidents : List Incident) (passes : List Pass)
-    → AreLimits voters clients limit → DoMeet voters quorums → DealsFrom quorums deal
-    → AllByRecursion (IsShown (story_of voters clients limit deal incidents)) passes → AreInOrder passes → DoNotInterleave passes
-not_interleaved cs vs voters clients limit quorums deal incidents passes limits meets deals are order =
-    let story = story_of voters clients limit deal incidents in
-    let k = passes_of cs vs voters clients limit quorums deal incidents limits meets deals in
-    let passes_are = AllByRecursion-weaker (IsShown story) (IsPass quorums (giving k.named k.most)) k.passes passes are in
-    requests_apart quorums passes (no_interleaving voters quorums (giving k.named k.most) k.coterie passes passes_are order) (all_one_each quorums voters story k passes are)
-
-pub turns_of : ClientLaws → VoterLaws → (voters clients limit : ℕ) (quorums : List (List ℕ)) (deal : Dealing) (incidents : List Incident) (seen : List ℕ) (turn : ℕ) (entries : List Entry)
-    → AreLimits voters clients limit → DoMeet voters quorums → DealsFrom quorums deal
-    → AllByRecursion (λ e. IsShown (story_of voters clients limit deal incidents) e.pass) entries → AreEntered seen turn entries → TurnsTellRequests entries × RequestsHaveOneTurn entries
-turns_of cs vs voters clients limit quorums deal incidents seen turn entries limits meets deals are entered =
-    let story = story_of voters clients limit deal incidents in
-    let k = passes_of cs vs voters clients limit quorums deal incidents limits meets deals in (
-      turns (IsShown story) (pairs quorums voters story k) seen turn entries are entered,
-      one_turn (IsShown story) (pairs quorums voters story k) seen turn entries are entered (all_show_same quorums voters story k entries are),
-    )
+pub all_show_same : (story : Story) → OnePass story → (es : List Entry) → AllByRecursion (λ f. IsShown story f.pass) es → ShowTheSame es
+all_show_same story one [] are = tt
+all_show_same story one (e ∷ es) are = (same_each story one e are.0 es are.1, all_show_same story one es are.1)
 
 -- ---- two moments of a run
 
-pub apart_inside : ClientLaws → VoterLaws → (voters clients limit : ℕ) (quorums : List (List ℕ)) (deal : Dealing) (before after : List Incident) (c d : ℕ)
+-- what `passes` says of two passes
+abbrev ApartLaw : Type 0
+ApartLaw = (count : ℕ) (quorums : List (List ℕ)) (voters : Voters) (first second : Pass) → IsCoterie count quorums → HaveLimits voters
+    → IsPass quorums (Gave voters) first → IsPass quorums (Gave voters) second → AreOfOne first second ⊎ AreApart first.grants second.grants
+
+pub apart_inside : ClientLaws → VoterLaws → ApartLaw → (voters clients limit : ℕ) (quorums : List (List ℕ)) (deal : Dealing) (before after : List Incident) (c d : ℕ)
     → AreLimits voters clients limit → DoMeet voters quorums → DealsFrom quorums deal
     → IsIn (all_befall deal before (begin voters clients limit)) c
     → IsIn (all_befall deal after (all_befall deal before (begin voters clients limit))) d
     → IsSameRequest (all_befall deal before (begin voters clients limit)) c (all_befall deal after (all_befall deal before (begin voters clients limit))) d
     ⊎ AreApart (pass_of (all_befall deal before (begin voters clients limit)) c) (pass_of (all_befall deal after (all_befall deal before (begin voters clients limit))) d)
-apart_inside cs vs voters clients limit quorums deal before after c d limits meets deals in_c in_d =
+apart_inside cs vs apart voters clients limit quorums deal before after c d limits meets deals in_c in_d =
     let b : Bounds = record { voters = voters; clients = clients; limit = limit; quorums = quorums } in
     let given : Given b = record { client = cs; voter = vs; limits = limits; meet = meets } in
     let s = all_befall deal before (begin voters clients limit) in
     let t = all_befall deal after s in
-    let first = all_on b given deal deals nobody (begin voters clients limit) (begin_on b given) before in
-    let second = all_on b given deal deals first.named s first.ok after in
-    let N = count t.voters in
+    let first = all_on b given deal deals newborn (begin voters clients limit) (begin_on b given) before in
+    let second = all_on b given deal deals first.lives s first.ok after in
+    let lives = voters_of b second.lives in
     let x = client_at s.live.clients c in
     let y = client_at t.live.clients d in
-    two_passes voters quorums (giving second.named N) (coterie b given) (names second.named N)
-    (record { client = c; stamp = x.stamp; grants = x.held }) (record { client = d; stamp = y.stamp; grants = y.held })
-    (knows_pass b second.named N c x (knows_on b first.named second.named (count s.voters) N second.further c x (first.ok.live_clients c)) in_c)
-    (knows_pass b second.named N d y (second.ok.live_clients d) in_d)
+    apart voters quorums lives (record { client = c; stamp = x.stamp; grants = x.held }) (record { client = d; stamp = y.stamp; grants = y.held })
+    (coterie_of voters clients limit quorums limits meets) (have_limits voters clients limit limits lives (λ v. refl))
+    (knows_pass b second.lives c x (knows_on b first.lives second.lives second.further c x (first.ok.live_clients c)) in_c)
+    (knows_pass b second.lives d y (second.ok.live_clients d) in_d)
 
 -- ---- who is not refused
 
@@ -249,7 +213,7 @@ current_admitted cs vs voters clients limit quorums deal incidents seen pass lim
     let b : Bounds = record { voters = voters; clients = clients; limit = limit; quorums = quorums } in
     let given : Given b = record { client = cs; voter = vs; limits = limits; meet = meets } in
     let first = begin voters clients limit in
-    let all = whole b given deal deals nobody first (begin_on b given) incidents in
+    let all = whole b given deal deals newborn first (begin_on b given) incidents in
     let story : Story = record { deal = deal; first = first; incidents = incidents } in
     elim (none_or_some (slice_index pass v)) [
       | inl none ↦ shows_none seen pass v none
@@ -260,39 +224,23 @@ current_admitted cs vs voters clients limit quorums deal incidents seen pass lim
           | inr had ↦
               let w = was.0 in
               let k = slice_index (pass_in story w) v in
-              let known = (all.every w.moment w.client).votes v k (under_grant (client_at (world_at story w.moment).live.clients w.client) v had) in
+              let gave = ((all.every w.moment w.client).votes v k (under_grant (client_at (world_at story w.moment).live.clients w.client) v had)).0 in
               let g = current v some in
+              let latest = (all.ok.nodes v).live g.0 g.1 w.client (client_at (world_at story w.moment).live.clients w.client).stamp k gave in
               let number = g.2 in
               let same = was.1 in
-              elim (cases_lt g.0.grant k) [
-                | inl later ↦
-                    let behind = all.ok.behind v in
-                    let few = known.1 in
-                    let unused = (all.ok.live_voters v).latest g.0 g.1 k later (omega arith) in
-                    let named = ap (λ (h : Grant). h.grant) known.0 in
-                    absurd (omega arith)
-                | inr older ↦ omega arith
-              ]
+              omega arith
         ]
       ])
     ]
 
 -- ---- of the clients whose grants are current, at most one is inside
 
-pub one_current : ClientLaws → VoterLaws → (voters clients limit : ℕ) (quorums : List (List ℕ)) (deal : Dealing) (incidents : List Incident) (c d : ℕ)
-    → AreLimits voters clients limit → DoMeet voters quorums → DealsFrom quorums deal
-    → IsIn (all_befall deal incidents (begin voters clients limit)) c → IsIn (all_befall deal incidents (begin voters clients limit)) d
-    → IsCurrent (all_befall deal incidents (begin voters clients limit)) (pass_of (all_befall deal incidents (begin voters clients limit)) c)
-    → IsCurrent (all_befall deal incidents (begin voters clients limit)) (pass_of (all_befall deal incidents (begin voters clients limit)) d)
-    → c ≡ d
-one_current cs vs voters clients limit quorums deal incidents c d limits meets deals in_c in_d current_c current_d =
-    let s = all_befall deal incidents (begin voters clients limit) in
-    elim (apart_inside cs vs voters clients limit quorums deal incidents [] c d limits meets deals in_c in_d) [
-      | inl same ↦ same.0
-      | inr apart ↦
-          let v = apart.voter in
-          let g = current_c v apart.first_has in
-          let h = current_d v apart.second_has in
-          let one : g.0 ≡ h.0 = same_Some g.0 h.0 (sym g.1 ∙ h.1) in
-          absurd (apart.apart v apart.first_has (sym g.2 ∙ ap (λ (k : Grant). k.grant) one ∙ h.2))
-    ]
+pub one_current : (s : Saved) (c d : ℕ) → IsSameRequest s c s d ⊎ AreApart (pass_of s c) (pass_of s d) → IsCurrent s (pass_of s c) → IsCurrent s (pass_of s d) → c ≡ d
+one_current s c d (inl same) current_c current_d = same.0
+one_current s c d (inr apart) current_c current_d =
+    let v = apart.voter in
+    let g = current_c v apart.first_has in
+    let h = current_d v apart.second_has in
+    let one : g.0 ≡ h.0 = same_Some g.0 h.0 (sym g.1 ∙ h.1) in
+    absurd (apart.apart v apart.first_has (sym g.2 ∙ ap (λ (k : Grant). k.grant) one ∙ h.2))

@@ -1,6 +1,7 @@
 pub mod Comeback
 pub mod Drained
 pub mod Guards
+pub mod LifeLemmas
 pub mod NodeRunLemmas
 pub mod Numbers
 pub mod PassLemmas

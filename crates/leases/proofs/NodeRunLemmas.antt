@@ -5,7 +5,7 @@ use Rattle.std.specs.FinMap as fin
 use Rattle.std.specs.Ordering.{nat_cmp}
 use Rattle.std.specs.List.{AllByRecursion}
 use Rattle.std.proofs.lemmas.Bool.Decides.{nat_tests}
-use Rattle.std.proofs.lemmas.List.{append-nil, length-set, map-append, set-get_or, set-set}
+use Rattle.std.proofs.lemmas.List.{append-nil, length-set, map-append, set-set}
 use Rattle.std.proofs.lemmas.Option.{none-some, same_Some}
 use Rattle.message.specs.declared.message.Message.{Message}
 use Rattle.message.specs.declared.message.Message.TheVariants as kinds
@@ -32,20 +32,10 @@ use Rattle.leases.specs.Comeback.{AreLawful, IsEviction}
 use Rattle.leases.specs.Orderly.{AreOrderly}
 use Rattle.leases.specs.NodeRuns.{ArePlaces, EvictsNone, HasVoter, IsInRange, MayCome, MayRun, Places, WasSent, arrival_by, eviction_of, incidents_from, incidents_of, unless_refused, with_voter}
 use Rattle.leases.proofs.Guards.{befall-append}
+use Rattle.leases.proofs.LifeLemmas.{mid, set_own}
 use Rattle.world.proofs.Places.{voter_here}
 
 -- ---- a world in which a voter has another state
-
--- the world in which this voter has these states, live and saved, after these messages more
-abbrev mid : Saved → ℕ → VoterState → VoterState → List ToClient → Saved
-mid s v y z more = record s {
-  live = record s.live { voters = slice_set s.live.voters v y; sent = s.live.sent ++ map kinds.ToClient more };
-  voters = slice_set s.voters v z;
-}
-
-pub set_own : (vs : List VoterState) (v : ℕ) (y : VoterState) → voter_at vs v ≡ y → slice_set vs v y ≡ vs
-unfolding voter_at
-set_own vs v y is = ap (λ z. slice_set vs v z) (sym is) ∙ set-get_or vs v (voter.start 0 1)
 
 own : (s : Saved) (v : ℕ) (y : VoterState) → HasVoter s v y → s ≡ mid s v y y []
 own s v y has =

@@ -35,7 +35,7 @@ use Rattle.world.proofs.Restarts.{within_or}
 use Rattle.world.specs.Incidents.{Incident, Happens, Hears, IsReborn, StartsAnew, HasLimit, IsRaised, IsSkipped, all_befall, anew, be_raised, be_reborn, be_skipped, befalls, have_limit, is_ahead, is_message, start_anew}
 use Rattle.world.proofs.Exclusion.{inside_busy}
 use Rattle.world.proofs.Raises.{no_inquiry, raised_by_step}
-use Rattle.leases.proofs.Numbers.{Naming, Numbered, Told, all_on, befalls_on, begin_on, count, nobody}
+use Rattle.leases.proofs.Numbers.{Lives, Numbered, Told, all_on, befalls_on, begin_on, count, newborn}
 use Rattle.passes.proofs.Requests.{HasOnly, ended, only_after, only_least, only_self, quiet_stays, silent_sees}
 
 -- ---- a client that is inside
@@ -203,7 +203,7 @@ pair_exchange R s true First all = all
 pair_exchange R s true Second all = all
 pair_exchange R s false side all = all
 
-given_step : (b : Bounds) (G : Naming) (s : Saved) → Numbered b G s → (c : ℕ) → c < length s.live.clients → (cause : client.Cause) → Accepts (client_at s.live.clients c) cause → Given_step b s c cause
+given_step : (b : Bounds) (G : Lives) (s : Saved) → Numbered b G s → (c : ℕ) → c < length s.live.clients → (cause : client.Cause) → Accepts (client_at s.live.clients c) cause → Given_step b s c cause
 given_step b G s ok c within cause accepts = record {
   within = within;
   within_saved = subst (λ n. c < n) (ok.sizes.0 ∙ sym ok.sizes.2) within;
@@ -211,8 +211,8 @@ given_step b G s ok c within cause accepts = record {
   accepts = accepts;
 }
 
-pair_came : (R : ℕ → ClientState → ClientState → Type 0) → Lasts R → (b : Bounds) → Given b → (G : Naming) (s : Saved) → Numbered b G s → Pairs R s → (k : ℕ) (o : Option Message)
-    → ((m : Message) → o ≡ Some m → Told b G (count s.voters) m) → Pairs R (save_and_send s (receiver o) (come s.live k o))
+pair_came : (R : ℕ → ClientState → ClientState → Type 0) → Lasts R → (b : Bounds) → Given b → (G : Lives) (s : Saved) → Numbered b G s → Pairs R s → (k : ℕ) (o : Option Message)
+    → ((m : Message) → o ≡ Some m → Told b (count s.voters) m) → Pairs R (save_and_send s (receiver o) (come s.live k o))
 pair_came R lasts b given G s ok all k None told = all
 pair_came R lasts b given G s ok all k (Some (kinds.ToVoter m)) told = pair_voted R s m.voter (voter.step (voter_at s.live.voters m.voter) m) all
 pair_came R lasts b given G s ok all k (Some (kinds.ToClient m)) told =
@@ -227,7 +227,7 @@ if_there_pair : (R : ℕ → ClientState → ClientState → Type 0) (s t : Save
 if_there_pair R s t true all new = new
 if_there_pair R s t false all new = all
 
-pair_happens : (R : ℕ → ClientState → ClientState → Type 0) → Lasts R → (b : Bounds) → Given b → (deal : Dealing) → DealsFrom b.quorums deal → (G : Naming) (s : Saved) → Numbered b G s → Pairs R s
+pair_happens : (R : ℕ → ClientState → ClientState → Type 0) → Lasts R → (b : Bounds) → Given b → (deal : Dealing) → DealsFrom b.quorums deal → (G : Lives) (s : Saved) → Numbered b G s → Pairs R s
     → (h : Happening) → Pairs R (happens deal s h)
 unfolding step
 pair_happens R lasts b given deal deals G s ok all (Goes (Ask c)) = if_pair R s (OneClient c) (nat_lt c (length s.live.clients)) c _ all (λ t.
@@ -235,7 +235,7 @@ pair_happens R lasts b given deal deals G s ok all (Goes (Ask c)) = if_pair R s 
     pair_drew R lasts given.client b s c (client.Asks q)
     (given_step b G s ok c (ltb-true _ _ t) (client.Asks q) (accepts_among b given.meet q (deals s.live.side (next_ticket s.live)))) all s.live.side _ refl)
 pair_happens R lasts b given deal deals G s ok all (Goes (Deliver k)) =
-    pair_came R lasts b given G s ok all k (slice_get s.live.sent k) (λ m is. AllByRecursion-get (Told b G (count s.voters)) s.live.sent k m ok.told is)
+    pair_came R lasts b given G s ok all k (slice_get s.live.sent k) (λ m is. AllByRecursion-get (Told b (count s.voters)) s.live.sent k m ok.told is)
 pair_happens R lasts b given deal deals G s ok all (Goes (Leave c)) = if_pair R s (OneClient c) (nat_lt c (length s.live.clients)) c _ all (λ t.
     pair_tried R lasts given.client b s c client.Leaves (given_step b G s ok c (ltb-true _ _ t) client.Leaves tt) all _ refl)
 pair_happens R lasts b given deal deals G s ok all (Goes (GiveUp c)) = if_pair R s (OneClient c) (nat_lt c (length s.live.clients)) c _ all (λ t.
@@ -261,7 +261,7 @@ pair_reborn : (R : ℕ → ClientState → ClientState → Type 0) (s : Saved) (
 pair_reborn R s v above true all = all
 pair_reborn R s v above false all = all
 
-pair_anew : (R : ℕ → ClientState → ClientState → Type 0) → Lasts R → (b : Bounds) (G : Naming) (s : Saved) → Numbered b G s → Pairs R s → (c clock : ℕ) (t : Bool)
+pair_anew : (R : ℕ → ClientState → ClientState → Type 0) → Lasts R → (b : Bounds) (G : Lives) (s : Saved) → Numbered b G s → Pairs R s → (c clock : ℕ) (t : Bool)
     → (nat_lt c (length s.live.clients) && is_ahead (client_at s.live.clients c) clock) ≡ t → Pairs R (start_anew t s c clock)
 pair_anew R lasts b G s ok all c clock false is = all
 pair_anew R lasts b G s ok all c clock true is =
@@ -280,7 +280,7 @@ pair_skipped : (R : ℕ → ClientState → ClientState → Type 0) (s : Saved) 
 pair_skipped R s v above true all = all
 pair_skipped R s v above false all = all
 
-pair_raised : (R : ℕ → ClientState → ClientState → Type 0) → Lasts R → (b : Bounds) → Given b → (G : Naming) (s : Saved) → Numbered b G s → Pairs R s → (c clock : ℕ) (t : Bool)
+pair_raised : (R : ℕ → ClientState → ClientState → Type 0) → Lasts R → (b : Bounds) → Given b → (G : Lives) (s : Saved) → Numbered b G s → Pairs R s → (c clock : ℕ) (t : Bool)
     → nat_lt c (length s.live.clients) ≡ t → Pairs R (be_raised t s c clock)
 unfolding client.step
 pair_raised R lasts b given G s ok all c clock false is = all
@@ -289,7 +289,7 @@ pair_raised R lasts b given G s ok all c clock true is =
     subst (λ (u : Saved). Pairs R u) (raised_by_step s c clock) (pair_tried R lasts given.client b s c (client.Takes (no_inquiry x clock))
     (given_step b G s ok c (ltb-true _ _ is) (client.Takes (no_inquiry x clock)) (refl, omega arith)) all (Ok (client.take x (no_inquiry x clock))) refl)
 
-pair_befalls : (R : ℕ → ClientState → ClientState → Type 0) → Lasts R → (b : Bounds) → Given b → (deal : Dealing) → DealsFrom b.quorums deal → (G : Naming) (s : Saved) → Numbered b G s → Pairs R s
+pair_befalls : (R : ℕ → ClientState → ClientState → Type 0) → Lasts R → (b : Bounds) → Given b → (deal : Dealing) → DealsFrom b.quorums deal → (G : Lives) (s : Saved) → Numbered b G s → Pairs R s
     → (i : Incident) → Pairs R (befalls deal s i)
 pair_befalls R lasts b given deal deals G s ok all (Happens h) = pair_happens R lasts b given deal deals G s ok all h
 pair_befalls R lasts b given deal deals G s ok all (Hears m) = if_voter_pair R s (OneVoter m.voter) (nat_lt m.voter (length s.live.voters)) m.voter _ all
@@ -300,12 +300,12 @@ pair_befalls R lasts b given deal deals G s ok all (HasLimit v limit) = pair_lim
 pair_befalls R lasts b given deal deals G s ok all (IsRaised c clock) = pair_raised R lasts b given G s ok all c clock _ refl
 pair_befalls R lasts b given deal deals G s ok all (IsSkipped v above) = pair_skipped R s v above _ all
 
-pair_all : (R : ℕ → ClientState → ClientState → Type 0) → Lasts R → (b : Bounds) → Given b → (deal : Dealing) → DealsFrom b.quorums deal → (is : List Incident) (G : Naming) (s : Saved) → Numbered b G s → Pairs R s
+pair_all : (R : ℕ → ClientState → ClientState → Type 0) → Lasts R → (b : Bounds) → Given b → (deal : Dealing) → DealsFrom b.quorums deal → (is : List Incident) (G : Lives) (s : Saved) → Numbered b G s → Pairs R s
     → Pairs R (all_befall deal is s)
 pair_all R lasts b given deal deals [] G s ok all = all
 pair_all R lasts b given deal deals (i ∷ is) G s ok all =
     let one = befalls_on b given deal deals G s ok i in
-    pair_all R lasts b given deal deals is one.named (befalls deal s i) one.ok (pair_befalls R lasts b given deal deals G s ok all i)
+    pair_all R lasts b given deal deals is one.lives (befalls deal s i) one.ok (pair_befalls R lasts b given deal deals G s ok all i)
 
 pub one_pass : ClientLaws → VoterLaws → (voters clients limit : ℕ) (quorums : List (List ℕ)) (deal : Dealing) (before after : List Incident) (c : ℕ)
     → AreLimits voters clients limit → DoMeet voters quorums → DealsFrom quorums deal
@@ -319,15 +319,15 @@ one_pass cs vs voters clients limit quorums deal before after c limits meets dea
     let first = begin voters clients limit in
     let s = all_befall deal before first in
     let t = all_befall deal after s in
-    let on = all_on b given deal deals nobody first (begin_on b given) before in
+    let on = all_on b given deal deals newborn first (begin_on b given) before in
     let x = client_at s.live.clients c in
     let y = client_at t.live.clients c in
-    let saved = pair_all (λ d k l. IsSavedIn k l) (saved_in_last cs) b given deal deals before nobody first (begin_on b given) (λ d. only_self (client_at first.clients d)) in
+    let saved = pair_all (λ d k l. IsSavedIn k l) (saved_in_last cs) b given deal deals before newborn first (begin_on b given) (λ d. only_self (client_at first.clients d)) in
     let has : Pairs (BothHave c x.stamp x.held) s = λ d at. (
       subst (λ (k : ℕ). HasOnly x.stamp x.held (client_at s.live.clients k)) (sym at) (only_self x in_s),
       subst (λ (k : ℕ). HasOnly x.stamp x.held (client_at s.clients k)) (sym at) (saved c in_s),
     ) in
-    let later = (pair_all (BothHave c x.stamp x.held) (both_last cs c x.stamp x.held) b given deal deals after on.named s on.ok has c refl).0 in
+    let later = (pair_all (BothHave c x.stamp x.held) (both_last cs c x.stamp x.held) b given deal deals after on.lives s on.ok has c refl).0 in
     elim later [
       | inl less ↦ absurd (omega arith)
       | inr is ↦ elim is.1 [

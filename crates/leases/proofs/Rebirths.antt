@@ -42,12 +42,7 @@ use Rattle.world.proofs.Restarts.{ComesBack, Mix, SavedOk, begin_ok, client_less
 use Rattle.world.specs.Incidents.{Incident, Happens, Hears, IsReborn, StartsAnew, HasLimit, IsRaised, IsSkipped, all_befall, anew, be_raised, be_reborn, be_skipped, befalls, have_limit, hear, is_above, is_ahead, is_limit, is_message, is_request_within, reborn, start_anew}
 use Rattle.leases.specs.Orderly.{AreDone, AreOrderly, CountsNoMore, EndsOld, IsOver, IsPast}
 use Rattle.world.proofs.Raises.{no_inquiry, raised_by_step}
-
-put_at : {A : Type 0} (P : A → Type 0) (Y : ℕ → A) (v : ℕ) (z : A) (q : ℕ) → (q ≡ v → P z) → (q ≢ v → P (Y q)) → P (put Y v z q)
-put_at P Y v z q here there = elim (eqb q v) as (λ b. eqb q v ≡ b → P (cond b z (Y q))) [
-  | true ↦ λ e. here (grind (arith, nat_tests))
-  | false ↦ λ e. there (λ same. grind (arith, nat_tests))
-] refl
+use Rattle.leases.proofs.LifeLemmas.{put_at}
 
 put_back : {A : Type 0} (Y : ℕ → A) (v : ℕ) (y z : A) → Y v ≡ z → put (put Y v y) v z ≡ Y
 put_back Y v y z is = λ i q. put_at (λ a. a ≡ Y q) (put Y v y) v z q (λ same. sym is ∙ ap Y (sym same)) (λ other. put_at (λ a. a ≡ Y q) Y v y q (λ same. absurd (other same)) (λ _. refl)) i

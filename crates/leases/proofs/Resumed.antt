@@ -26,28 +26,28 @@ use Rattle.leases.specs.Again.{IsReachedAgain}
 use Rattle.leases.specs.Comeback.{unseen}
 use Rattle.world.specs.Incidents.{all_befall}
 use Rattle.leases.proofs.Comeback.{EndLaws, Settled, idle_live, idle_out, reaches_all}
-use Rattle.leases.proofs.Numbers.{IsNamed, Naming, Numbered, Told, count}
+use Rattle.leases.proofs.Numbers.{IsNamed, Lives, Numbered, Told, count}
 
 -- a LOCKED that was ever sent reports a grant that its voter gave
-named_given : (b : Bounds) (G : Naming) (N : ℕ → ℕ) (v c n : ℕ) (body : ClientBody) → N v ≤ n → IsNamed b G N v c body → IsUpTo n body
-named_given b G N v c n (to_client.Locked t g) most named = let few = named.0.1 in omega arith
-named_given b G N v c n (to_client.Fail t) most named = tt
-named_given b G N v c n (to_client.Inquire g) most named = tt
+named_given : (b : Bounds) (N : ℕ → ℕ) (v n : ℕ) (body : ClientBody) → N v ≤ n → IsNamed b N v body → IsUpTo n body
+named_given b N v n (to_client.Locked t g) most named = let few = named.0 in omega arith
+named_given b N v n (to_client.Fail t) most named = tt
+named_given b N v n (to_client.Inquire g) most named = tt
 
-told_given : (b : Bounds) (G : Naming) (N : ℕ → ℕ) (vs : List VoterState) → ((v : ℕ) → N v ≤ (voter_at vs v).granted) → (m : Message) → Told b G N m → WasGiven vs m
-told_given b G N vs most (kinds.ToVoter m) told = tt
-told_given b G N vs most (kinds.ToClient m) told = named_given b G N m.voter m.client (voter_at vs m.voter).granted m.body (most m.voter) told.2
+told_given : (b : Bounds) (N : ℕ → ℕ) (vs : List VoterState) → ((v : ℕ) → N v ≤ (voter_at vs v).granted) → (m : Message) → Told b N m → WasGiven vs m
+told_given b N vs most (kinds.ToVoter m) told = tt
+told_given b N vs most (kinds.ToClient m) told = named_given b N m.voter (voter_at vs m.voter).granted m.body (most m.voter) told.2
 
-told_asked : (b : Bounds) (G : Naming) (s : Saved) → ((c : ℕ) → is_idle (client_at s.live.clients c).phase ≡ true) → (m : Message) → Told b G (count s.voters) m → AskedAt s.live.clients m
-told_asked b G s idle (kinds.ToVoter m) told = idle_ask (client_at s.live.clients m.client) m.voter m.body (idle m.client)
-told_asked b G s idle (kinds.ToClient m) told = tt
+told_asked : (b : Bounds) (s : Saved) → ((c : ℕ) → is_idle (client_at s.live.clients c).phase ≡ true) → (m : Message) → Told b (count s.voters) m → AskedAt s.live.clients m
+told_asked b s idle (kinds.ToVoter m) told = idle_ask (client_at s.live.clients m.client) m.voter m.body (idle m.client)
+told_asked b s idle (kinds.ToClient m) told = tt
 
 -- what `progress` keeps, of a world in which all clients are idle
-keeps_idle : (b : Bounds) (G : Naming) (s : Saved) → Numbered b G s → Settled b s → ((c : ℕ) → is_idle (client_at s.live.clients c).phase ≡ true) → Keeps (unseen s).live
+keeps_idle : (b : Bounds) (G : Lives) (s : Saved) → Numbered b G s → Settled b s → ((c : ℕ) → is_idle (client_at s.live.clients c).phase ≡ true) → Keeps (unseen s).live
 keeps_idle b G s num st idle = record {
   always = record {
     seen = λ v c t entry runs. absurd (false≢true (sym (current_busy (client_at s.live.clients c) t runs) ∙ idle c));
-    given = AllByRecursion-weaker (Told b G (count s.voters)) (WasGiven s.live.voters) (told_given b G (count s.voters) s.live.voters num.behind) s.live.sent num.told;
+    given = AllByRecursion-weaker (Told b (count s.voters)) (WasGiven s.live.voters) (told_given b (count s.voters) s.live.voters num.behind) s.live.sent num.told;
   };
   fits = record {
     pairs = λ c v. record {
@@ -61,7 +61,7 @@ keeps_idle b G s num st idle = record {
     lacks = λ c asks. absurd (false≢true (sym (is_asking-busy (client_at s.live.clients c).phase asks) ∙ idle c));
   };
   placed = record {
-    asked = AllByRecursion-weaker (Told b G (count s.voters)) (AskedAt s.live.clients) (told_asked b G s idle) s.live.sent num.told;
+    asked = AllByRecursion-weaker (Told b (count s.voters)) (AskedAt s.live.clients) (told_asked b s idle) s.live.sent num.told;
     places = λ v c t entry runs. absurd (false≢true (sym (current_busy (client_at s.live.clients c) t runs) ∙ idle c));
     back = λ v. (st.live_voters v).back;
   };
@@ -79,8 +79,8 @@ kept_again rules cs vs deal w r =
     let ok : RunOk b first = record {
       clients = t.num.sizes.0;
       voters = t.num.sizes.1;
-      world = idle_live b t.named s t.num t.settled r.idle;
+      world = idle_live b t.lives s t.num t.settled r.idle;
       walked = record { list = tt; inside = λ c. idle_out (client_at s.live.clients c).phase (r.idle c) };
     } in
     let coherent : StaysCoherent deal first = λ steps. coherent_by b given (run_of deal steps first) (run_from b given deal r.deals steps first ok) in
-    subst (IsKept deal) (sym r.state) (IsKept-run deal r.steps first (IsKept-first rules deal first coherent (keeps_idle b t.named s t.num t.settled r.idle)))
+    subst (IsKept deal) (sym r.state) (IsKept-run deal r.steps first (IsKept-first rules deal first coherent (keeps_idle b t.lives s t.num t.settled r.idle)))

@@ -5,7 +5,7 @@ use Rattle.std.specs.FinMap as fin
 use Rattle.std.specs.Ordering.{nat_cmp}
 use Rattle.std.specs.List.{AllByRecursion, range_with_len}
 use Rattle.std.proofs.lemmas.Bool.{and_parts, cases_eq, ltb-true}
-use Rattle.std.proofs.lemmas.List.{append-nil, length-set, set_past}
+use Rattle.std.proofs.lemmas.List.{length-set, set_past}
 use Rattle.std.proofs.lemmas.List.FromFn.{get_or-map-range_with_len, length-map-range_with_len}
 use Rattle.std.proofs.lemmas.Option.{none-some}
 use Rattle.message.specs.declared.message.ToClient.{ToClient}
@@ -25,7 +25,8 @@ use Rattle.leases.specs.Services.{Along, Befalls, IsLawfulEpisode, IsOrderlyEpis
 use Rattle.world.proofs.Places.{voter_here, voter_others}
 use Rattle.world.proofs.Restarts.{within_or}
 use Rattle.leases.proofs.Guards.{befall-append}
-use Rattle.leases.proofs.NodeRunLemmas.{Ends, lawful-append, node_leads, node_orderly, put_has, set_own}
+use Rattle.leases.proofs.NodeRunLemmas.{Ends, lawful-append, node_leads, node_orderly, put_has}
+use Rattle.leases.proofs.LifeLemmas.{as_mid, set_own}
 
 -- ---- a new service
 
@@ -96,10 +97,7 @@ pub reborn_served : (s : Saved) (v above : ℕ) (t : Bool) → IsServed s → Is
 reborn_served s v above false served = served
 reborn_served s v above true served =
     let z = reborn (voter_at s.live.voters v) above in
-    let sent = append-nil s.live.sent in
-    let path : with_voter s v z [] ≡ be_reborn true s v above =
-    λ i. record s { live = record s.live { voters = slice_set s.live.voters v z; sent = sent i }; voters = slice_set s.voters v z } in
-    subst (λ (u : Saved). IsServed u) path (run_served s v z [] served (λ there.
+    subst (λ (u : Saved). IsServed u) (as_mid s v z z (slice_set s.live.voters v z) (slice_set s.voters v z) refl refl) (run_served s v z [] served (λ there.
     let has = served v there in
     put_has s v z [] has.lives there (ap (λ (y : VoterState). y.id) has.live ∙ has.id) (λ c stamp e. absurd (no_entry z.id z.limit c stamp e))))
 
@@ -114,11 +112,9 @@ recount_served : (s : Saved) (v granted limit : ℕ) → v < length s.live.voter
     → IsServed (save (OneVoter v) (record s { live = record s.live { voters = slice_set s.live.voters v (counted (voter_at s.live.voters v) granted limit) } }))
 recount_served s v granted limit within served =
     let z = counted (voter_at s.live.voters v) granted limit in
-    let sent = append-nil s.live.sent in
     let saved = ap (λ (y : VoterState). slice_set s.voters v y) (sym (voter_here s.live.voters v z within)) in
-    let path : with_voter s v z [] ≡ save (OneVoter v) (record s { live = record s.live { voters = slice_set s.live.voters v z } }) =
-    λ i. record s { live = record s.live { voters = slice_set s.live.voters v z; sent = sent i }; voters = saved i } in
-    subst (λ (u : Saved). IsServed u) path (run_served s v z [] served (λ there.
+    let live : List VoterState = slice_set s.live.voters v z in
+    subst (λ (u : Saved). IsServed u) (as_mid s v z z live (slice_set s.voters v (voter_at live v)) refl saved) (run_served s v z [] served (λ there.
     let has = served v there in
     put_has s v z [] has.lives there (ap (λ (y : VoterState). y.id) has.live ∙ has.id)
     (λ c stamp e. has.clients c stamp (subst (λ (y : VoterState). IsEntry y c stamp) has.live e))))

@@ -6,3 +6,4 @@ pub mod Orderly
 pub mod Services
 pub mod Shows
 pub mod Visits
+pub mod WorldVoters

@@ -7,7 +7,8 @@ ghost use Rattle.world.specs.Incidents.{Incident, all_befall};
 ghost use Rattle.leases.specs.Orderly.{AreOrderly, IsOver};
 ghost use Rattle.fence.specs.Passes.{Admits};
 ghost use Rattle.leases.specs.Shows.{HasSeenOnly, IsCurrent, IsShown, story_of};
-ghost use Rattle.passes.specs.Grants.{AreApart, Pass};
+ghost use Rattle.leases.specs.WorldVoters.{AreVoters};
+ghost use Rattle.passes.specs.Grants.{AreApart, Pass, Voters};
 ghost use Rattle.passes.specs.Guarded.{AreAdmitted, AreEntered, AreInOrder, DoNotInterleave, Entry, RequestsHaveOneTurn, TurnsTellRequests};
 ghost use Rattle.world.specs.Restarts.{Happening, IsIn, IsSameRequest, all_happen, begin, pass_of, stamp_of};
 ghost use Rattle.world.specs.Runs.{AreLimits};
@@ -19,6 +20,18 @@ ghost use Rattle.world.specs.Visible.{DealsFrom, DoMeet, IsExclusive};
 
 use voter::{messages_finish_requests, votes_are_asked_back};
 use world::parts_keep_their_rules;
+
+/// The voters of a world with incidents are voters of `passes`: each by itself, with a life. For each list
+/// of incidents there are lives that lead to what the world has of its voters at the end, live and saved.
+/// In its life a voter says what the world has sent from it, and nothing else. So what a client shows
+/// while it is inside is a pass, and what `passes` says of passes holds of it.
+pub fn worlds_have_voters()
+    ensures { (voters clients limit : ℕ) (quorums : List (List ℕ)) (deal : Dealing) (incidents : List Incident)
+        → AreLimits voters clients limit → DoMeet voters quorums → DealsFrom quorums deal
+        → (lives : Voters) × AreVoters voters limit quorums (story_of deal voters clients limit incidents) lives }
+{
+    parts_keep_their_rules();
+}
 
 /// Of two clients that are inside, at any two times, both have a grant of some voter, and none of
 /// the same number, unless it is the same client in the same request.
@@ -34,6 +47,7 @@ pub fn passes_are_apart()
         (pass_of (all_befall deal after (all_befall deal before (begin voters clients limit))) second) }
 {
     parts_keep_their_rules();
+    passes::passes_are_apart();
 }
 
 /// Of any two passes that a guard admits, the later one is of the same request, or newer: some voter
@@ -46,7 +60,8 @@ pub fn admitted_passes_are_in_order()
         → AllByRecursion (IsShown (story_of deal voters clients limit incidents)) passes
         → AreAdmitted seen passes → AreInOrder passes }
 {
-    parts_keep_their_rules();
+    worlds_have_voters();
+    passes::admitted_passes_are_in_order();
 }
 
 /// The passes that a guard admits do not interleave: between two shows of one request stand only
@@ -58,7 +73,8 @@ pub fn admitted_passes_do_not_interleave()
         → AllByRecursion (IsShown (story_of deal voters clients limit incidents)) passes
         → AreAdmitted seen passes → DoNotInterleave passes }
 {
-    admitted_passes_are_in_order();
+    worlds_have_voters();
+    passes::admitted_requests_do_not_interleave();
     parts_keep_their_rules();
 }
 
@@ -132,7 +148,7 @@ pub fn at_most_one_is_inside_by_current_grants()
         (pass_of (all_befall deal incidents (begin voters clients limit)) second)
         → first ≡ second }
 {
-    parts_keep_their_rules();
+    passes_are_apart();
 }
 
 /// The turns that a guard gives to the passes that it admits name their requests: of two of them the
@@ -144,6 +160,9 @@ pub fn turns_name_requests()
         → AllByRecursion (λ e. IsShown (story_of deal voters clients limit incidents) e.pass) entries
         → AreEntered seen turn entries → TurnsTellRequests entries × RequestsHaveOneTurn entries }
 {
+    worlds_have_voters();
+    passes::turns_tell_requests();
+    passes::requests_have_one_turn();
     parts_keep_their_rules();
 }
 

@@ -60,7 +60,9 @@
 //! Fencing tokens are from Gray and Cheriton's leases (SOSP 1989) and Burrows' sequencers (Chubby, OSDI
 //! 2006). Here a token is one number for each voter, as votes of one quorum have no common counter.
 //!
-//! What of this holds of voters alone, whatever their clients are, has `passes`.
+//! What of this holds of voters alone, whatever their clients are, has `passes`. The voters of a world are
+//! such voters ([`worlds_have_voters`]): each has a life by itself, in which it says what the world has sent
+//! from it. So the laws on passes here are those of `passes`, of the clients of one world.
 //!
 //! Depends on `passes`, `world`, `world_state`, `progress`, `voter_node` and `fence`, and on definitions of
 //! `voter`, `requester`, `message` and `numbers`.
@@ -78,5 +80,6 @@ pub use laws::{
     at_most_one_is_inside_by_current_grants, at_most_one_is_inside_with_rebirths,
     current_passes_are_admitted, exclusion_comes_back, finished_requests_stay_out,
     free_votes_are_over, passes_are_apart, requests_have_one_pass, turns_name_requests,
+    worlds_have_voters,
 };
 pub use node_runs::{nodes_run_as_incidents, services_run_as_incidents};
