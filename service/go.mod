@@ -7,6 +7,7 @@ require (
 	github.com/nats-io/nats.go v1.22.1
 	github.com/prometheus/client_golang v1.14.0
 	github.com/spf13/cobra v1.6.1
+	github.com/spf13/pflag v1.0.5
 	go.etcd.io/bbolt v1.3.6
 	golang.org/x/sys v0.3.0
 )
@@ -22,7 +23,6 @@ require (
 	github.com/prometheus/client_model v0.3.0 // indirect
 	github.com/prometheus/common v0.37.0 // indirect
 	github.com/prometheus/procfs v0.8.0 // indirect
-	github.com/spf13/pflag v1.0.5 // indirect
 	golang.org/x/crypto v0.4.0 // indirect
 	google.golang.org/protobuf v1.28.1 // indirect
 )

@@ -61,6 +61,15 @@ type Config struct {
 	Transport transport.Transport // NATS with the cluster's servers if nil; it is not closed with the client
 }
 
+// FromEnvironment returns how to reach a cluster, by the variables QLOCK_CLUSTER, QLOCK_PREFIX, QLOCK_USER, QLOCK_SECRET,
+// QLOCK_CERT and QLOCK_KEY. What has no variable is empty. Another variable QLOCK_.. is an error if nothing of
+// this project reads it.
+func FromEnvironment() (Config, error) {
+	return Config{Cluster: config.FromEnvironment("cluster"), Prefix: config.FromEnvironment("prefix"),
+		User: config.FromEnvironment("user"), Secret: config.FromEnvironment("secret"),
+		Cert: config.FromEnvironment("cert"), Key: config.FromEnvironment("key")}, config.CheckEnvironment()
+}
+
 // Stats counts what a client did.
 type Stats struct {
 	Passes       uint64 // locks that were given back

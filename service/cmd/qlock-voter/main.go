@@ -59,8 +59,11 @@ func exitStatus(err error) int {
 
 func command(ctx context.Context) *cobra.Command {
 	var path string
-	root := &cobra.Command{Use: "qlock-voter", Short: "A voter of the lock service", Version: qlock.Version(), SilenceUsage: true, SilenceErrors: true}
-	root.PersistentFlags().StringVarP(&path, "config", "c", "voter.toml", "the voter's file")
+	root := &cobra.Command{Use: "qlock-voter", Short: "A voter of the lock service",
+		Long: "A voter of the lock service. Each setting of its file is also a variable of the environment, which goes " +
+			"before the file: max_locks is QLOCK_MAX_LOCKS. Without a file all are.", Version: qlock.Version(), SilenceUsage: true, SilenceErrors: true}
+	root.PersistentFlags().StringVarP(&path, "config", "c", "",
+		"the voter's file; "+config.VoterFile+" if there is one")
 	root.AddCommand(
 		&cobra.Command{Use: "init", Args: cobra.NoArgs, Short: "Make the state of this voter, once",
 			RunE: func(*cobra.Command, []string) error { return initialise(ctx, path) }},

@@ -1,5 +1,5 @@
 // Package config reads the two files of a process: the cluster's, which all processes share and `qlockctl init` makes,
-// and a voter's own.
+// and a voter's own. What is not of the cluster may be in the environment, too.
 package config
 
 import (
@@ -9,6 +9,7 @@ import (
 	"encoding/hex"
 	"errors"
 	"fmt"
+	"os"
 	"strconv"
 	"time"
 
@@ -181,23 +182,56 @@ func (c *Cluster) Text() ([]byte, error) {
 	return text.Bytes(), err
 }
 
-// ReadVoter reads a voter's file, and that of its cluster.
+// VoterFile is the voter's file if nobody names another one. It need not be there.
+const VoterFile = "voter.toml"
+
+// ReadVoter reads a voter's file, the environment, which goes before it, and the cluster's file.
+// Without a path it is VoterFile, if that is there.
 func ReadVoter(path string) (*Voter, *Cluster, error) {
 	v := &Voter{MaxLocks: 100000, First: Duration{250 * time.Millisecond}, Most: Duration{5 * time.Second}}
-	if err := decode(path, v); err != nil {
+	place := path // what an error names
+	if path == "" {
+		place = VoterFile
+	}
+	if _, err := os.Stat(place); path == "" && errors.Is(err, os.ErrNotExist) {
+		place = "there is no " + VoterFile + ", and in the environment"
+	} else if err := decode(place, v); err != nil {
 		return nil, nil, err
 	}
-	if v.Data == "" || v.MaxLocks < 1 || v.First.Duration <= 0 || v.Most.Duration < v.First.Duration {
-		return nil, nil, fmt.Errorf("%s: %w: data, max_locks, remind_first or remind_most", path, ErrConfig)
+	if err := CheckEnvironment(); err != nil {
+		return nil, nil, err
+	}
+	if err := Environ(v); err != nil {
+		return nil, nil, err
+	}
+	if why := v.fault(); why != "" {
+		return nil, nil, fmt.Errorf("%w: %s: %s", ErrConfig, place, why)
 	}
 	cluster, err := ReadCluster(v.Cluster)
 	if err != nil {
 		return nil, nil, err
 	}
 	if cluster.Number(v.Voter) < 0 {
-		return nil, nil, fmt.Errorf("%s: %w: the coterie has no voter %q", path, ErrConfig, v.Voter)
+		return nil, nil, fmt.Errorf("%w: %s: the coterie has no voter %q", ErrConfig, place, v.Voter)
 	}
 	return v, cluster, nil
+}
+
+// fault returns what is wrong with a voter's settings, "" if nothing is.
+func (v *Voter) fault() string {
+	switch {
+	case v.Cluster == "":
+		return "cluster is not set"
+	case v.Voter == "":
+		return "voter is not set"
+	case v.Data == "":
+		return "data is not set"
+	case v.MaxLocks < 1:
+		return "max_locks has to be 1 or more"
+	case v.First.Duration <= 0 || v.Most.Duration < v.First.Duration:
+		return "remind_first has to be above 0, and remind_most may not be shorter"
+	}
+	return ""
 }
 
 // decode reads a file. A key that nothing reads is refused.
