@@ -54,6 +54,8 @@ type Config struct {
 	Prefix    string              // of the session's mailbox: with "app" it is qlock.CLUSTER.c.app.NAME, which a user may be permitted
 	User      string              // the user of NATS; none if empty
 	Secret    string              // the file of the user's password
+	Seed      string              // the file of the seed of an nkey, in place of a user
+	Creds     string              // the file of credentials (a JWT and its seed), in place of a user
 	Cert, Key string              // the files of a certificate and its key; none if empty
 	Heartbeat time.Duration       // a quarter of the TTL, at most 500 ms, if 0
 	DontWait  bool                // Open fails with ErrNumbers at once if all numbers are in use
@@ -62,12 +64,12 @@ type Config struct {
 }
 
 // FromEnvironment returns how to reach a cluster, by the variables QLOCK_CLUSTER, QLOCK_PREFIX, QLOCK_USER, QLOCK_SECRET,
-// QLOCK_CERT and QLOCK_KEY. What has no variable is empty. Another variable QLOCK_.. is an error if nothing of
-// this project reads it.
+// QLOCK_SEED, QLOCK_CREDS, QLOCK_CERT and QLOCK_KEY. What has no variable is empty. Another variable QLOCK_.. is
+// an error if nothing of this project reads it.
 func FromEnvironment() (Config, error) {
-	return Config{Cluster: config.FromEnvironment("cluster"), Prefix: config.FromEnvironment("prefix"),
-		User: config.FromEnvironment("user"), Secret: config.FromEnvironment("secret"),
-		Cert: config.FromEnvironment("cert"), Key: config.FromEnvironment("key")}, config.CheckEnvironment()
+	read := config.FromEnvironment
+	return Config{Cluster: read("cluster"), Prefix: read("prefix"), User: read("user"), Secret: read("secret"),
+		Seed: read("seed"), Creds: read("creds"), Cert: read("cert"), Key: read("key")}, config.CheckEnvironment()
 }
 
 // Stats counts what a client did.
@@ -180,7 +182,7 @@ func newClient(cluster *config.Cluster, c Config) (*Client, error) {
 		calls: make(chan func()), ended: make(chan struct{}), stopped: make(chan struct{}), locks: map[string]*lock{}, busy: map[*lock]struct{}{}}
 	client.session = newSession(cluster, name)
 	if client.carrier == nil {
-		access := config.Access{User: c.User, Secret: c.Secret, Cert: c.Cert, Key: c.Key}
+		access := config.Access{User: c.User, Secret: c.Secret, Seed: c.Seed, Creds: c.Creds, Cert: c.Cert, Key: c.Key}
 		link, err := transport.Connect(cluster, access, "qlock client")
 		if err != nil {
 			return nil, err

@@ -101,6 +101,7 @@ func TestServerStandsStill(t *testing.T) {
 // server is a server of NATS that can be killed and started again.
 type server struct {
 	path, address, log string
+	users              []string // the words that say who its users are
 	run                *exec.Cmd
 }
 
@@ -108,7 +109,7 @@ type server struct {
 func (s *server) start(t *testing.T) {
 	t.Helper()
 	host, port, _ := net.SplitHostPort(s.address)
-	s.run = exec.Command(s.path, "-a", host, "-p", port, "--user", "shop", "--pass", "right", "-l", s.log)
+	s.run = exec.Command(s.path, append([]string{"-a", host, "-p", port, "-l", s.log}, s.users...)...)
 	if err := s.run.Start(); err != nil {
 		t.Fatal(err)
 	}
@@ -130,6 +131,12 @@ func (s *server) kill() {
 // begin starts a new server, which has one user.
 func begin(t *testing.T) *server {
 	t.Helper()
+	return beginWith(t, "--user", "shop", "--pass", "right")
+}
+
+// beginWith starts a new server with the users that some words say.
+func beginWith(t *testing.T, users ...string) *server {
+	t.Helper()
 	path, err := local.NATSServer()
 	if err != nil {
 		t.Skip("apt-get install nats-server")
@@ -138,7 +145,8 @@ func begin(t *testing.T) *server {
 	if err != nil {
 		t.Fatal(err)
 	}
-	s := &server{path: path, address: fmt.Sprintf("127.0.0.1:%d", ports[0]), log: filepath.Join(t.TempDir(), "log")}
+	s := &server{path: path, address: fmt.Sprintf("127.0.0.1:%d", ports[0]), log: filepath.Join(t.TempDir(), "log"),
+		users: users}
 	s.start(t)
 	t.Cleanup(func() { s.kill() })
 	return s
@@ -243,6 +251,18 @@ func TestNoPasswordInClear(t *testing.T) {
 		}
 		if errors.Is(err, transport.ErrClear) != isRefused {
 			t.Errorf("%s: %v", server, err)
+		}
+	}
+	here, far := []string{"nats://127.0.0.1:1"}, []string{"nats://10.0.0.1:4222"}
+	for _, one := range []struct {
+		access    config.Access
+		servers   []string
+		isRefused bool
+	}{{config.Access{Creds: "none"}, far, true}, {config.Access{Creds: "none"}, here, false},
+		{config.Access{Seed: "none"}, far, false}} {
+		_, err := transport.Connect(&config.Cluster{Servers: one.servers}, one.access, "test")
+		if err == nil || errors.Is(err, transport.ErrClear) != one.isRefused {
+			t.Errorf("%+v: %v", one, err)
 		}
 	}
 	none := config.Access{}

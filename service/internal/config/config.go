@@ -58,10 +58,13 @@ type Cluster struct {
 	OldPlanned *qlock.Plan `toml:"-"` // nil if none is being exchanged
 }
 
-// Access is how a process shows the servers of NATS who it is. All of it may be empty.
+// Access is how a process shows the servers of NATS who it is. All of it may be empty. Of a password, a
+// seed and credentials there is one at most.
 type Access struct {
 	User   string `toml:"user"`
 	Secret string `toml:"secret"` // the file of the password
+	Seed   string `toml:"seed"`   // the file of the seed of an nkey, which is the user
+	Creds  string `toml:"creds"`  // the file of credentials: a JWT, and the seed of its user
 	Cert   string `toml:"cert"`   // the files of a certificate and of its key
 	Key    string `toml:"key"`
 }

@@ -32,12 +32,13 @@ func TestEnvironment(t *testing.T) {
 		t.Error(err)
 	}
 	for name, value := range map[string]string{"CLUSTER": cluster, "VOTER": "b", "DATA": "d", "LOST": "2", "LISTEN": ":1",
-		"MAX_LOCKS": "7", "REMIND_FIRST": "1s", "REMIND_MOST": "2s", "USER": "u", "SECRET": "s", "CERT": "c", "KEY": "k"} {
+		"MAX_LOCKS": "7", "REMIND_FIRST": "1s", "REMIND_MOST": "2s", "USER": "u", "SECRET": "s", "SEED": "n",
+		"CREDS": "j", "CERT": "c", "KEY": "k"} {
 		t.Setenv("QLOCK_"+name, value)
 	}
 	want := Voter{Cluster: cluster, Voter: "b", Data: "d", Lost: 2, Listen: ":1", MaxLocks: 7,
 		First: Duration{time.Second}, Most: Duration{2 * time.Second},
-		Access: Access{User: "u", Secret: "s", Cert: "c", Key: "k"}}
+		Access: Access{User: "u", Secret: "s", Seed: "n", Creds: "j", Cert: "c", Key: "k"}}
 	if v, _, err := ReadVoter(""); err != nil || *v != want {
 		t.Errorf("%+v, %v", v, err)
 	}
