@@ -28,7 +28,7 @@ func main() {
 	ctx, stop := signal.NotifyContext(context.Background(), syscall.SIGINT, syscall.SIGTERM)
 	defer stop()
 	if err := command(ctx).Execute(); err != nil {
-		fmt.Fprintf(os.Stderr, "%s%v\n", prefix, err)
+		fmt.Fprintf(os.Stderr, "%s%s%v\n", event.Stderr.Priority(event.Error), prefix, err)
 		os.Exit(exitStatus(err))
 	}
 }
@@ -126,6 +126,7 @@ func start(ctx context.Context, path string) error {
 	if err != nil {
 		return err
 	}
+	event.Stderr.SetLeast(own.Log)
 	if err := checkApart(ctx, path, own.Data); ctx.Err() != nil {
 		return nil
 	} else if err != nil {
@@ -148,7 +149,7 @@ func start(ctx context.Context, path string) error {
 		server := &http.Server{Handler: daemon.Handler(), ReadHeaderTimeout: 5 * time.Second}
 		go func() {
 			if err := server.Serve(listener); !errors.Is(err, http.ErrServerClosed) {
-				event.Stderr.Write("metrics-failed", "why", err)
+				event.Stderr.Write(event.Error, "metrics-failed", "why", err)
 			}
 		}()
 		defer server.Close()

@@ -13,6 +13,7 @@ import (
 	"strconv"
 	"time"
 
+	"calvundek.example/service/internal/event"
 	"calvundek.example/service/internal/wire"
 	"calvundek.example/service/qlock"
 	"github.com/BurntSushi/toml"
@@ -79,6 +80,8 @@ type Voter struct {
 	MaxLocks int      `toml:"max_locks"`
 	First    Duration `toml:"remind_first"`
 	Most     Duration `toml:"remind_most"`
+
+	Log event.Level `toml:"log"` // the least level of what is logged
 	Access
 }
 

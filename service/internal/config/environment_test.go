@@ -7,6 +7,8 @@ import (
 	"strings"
 	"testing"
 	"time"
+
+	"calvundek.example/service/internal/event"
 )
 
 // in goes to a new folder until the test ends.
@@ -33,11 +35,11 @@ func TestEnvironment(t *testing.T) {
 	}
 	for name, value := range map[string]string{"CLUSTER": cluster, "VOTER": "b", "DATA": "d", "LOST": "2", "LISTEN": ":1",
 		"MAX_LOCKS": "7", "REMIND_FIRST": "1s", "REMIND_MOST": "2s", "USER": "u", "SECRET": "s", "SEED": "n",
-		"CREDS": "j", "CERT": "c", "KEY": "k"} {
+		"CREDS": "j", "CERT": "c", "KEY": "k", "LOG": "warning"} {
 		t.Setenv("QLOCK_"+name, value)
 	}
 	want := Voter{Cluster: cluster, Voter: "b", Data: "d", Lost: 2, Listen: ":1", MaxLocks: 7,
-		First: Duration{time.Second}, Most: Duration{2 * time.Second},
+		First: Duration{time.Second}, Most: Duration{2 * time.Second}, Log: event.Warning,
 		Access: Access{User: "u", Secret: "s", Seed: "n", Creds: "j", Cert: "c", Key: "k"}}
 	if v, _, err := ReadVoter(""); err != nil || *v != want {
 		t.Errorf("%+v, %v", v, err)
@@ -57,7 +59,7 @@ func TestEnvironment(t *testing.T) {
 	if _, _, err := ReadVoter(path + ".none"); !errors.Is(err, ErrConfig) {
 		t.Errorf("a file that is named and not there: %v", err)
 	}
-	for name, value := range map[string]string{"LOST": "-1", "MAX_LOCKS": "many", "REMIND_MOST": "5"} {
+	for name, value := range map[string]string{"LOST": "-1", "MAX_LOCKS": "many", "REMIND_MOST": "5", "LOG": "loud"} {
 		before := os.Getenv("QLOCK_" + name)
 		t.Setenv("QLOCK_"+name, value)
 		if _, _, err := ReadVoter(""); !errors.Is(err, ErrConfig) || !strings.Contains(err.Error(), "QLOCK_"+name) {

@@ -9,6 +9,7 @@ import (
 	"time"
 
 	"calvundek.example/service/internal/config"
+	"calvundek.example/service/internal/event"
 	"calvundek.example/service/internal/wire"
 	"calvundek.example/service/qlock"
 )
@@ -226,7 +227,7 @@ func (d *Daemon) takePlan(number uint64, coterie, plan string, takes bool) error
 	g, err := d.plans.next(number, Texts{string(first), string(second)})
 	if err == nil && takes && g.Number != d.plans.Number {
 		d.setPlans(g)
-		d.log.Write("exchange", "generation", number)
+		d.log.Write(event.Info, "exchange", "generation", number)
 	}
 	return err
 }
@@ -268,7 +269,7 @@ func (d *Daemon) retire(number uint64, mark string) error {
 		d.recount(client)
 	}
 	d.setPlans(d.plans.retire())
-	d.log.Write("retire", "generation", number, "ended", len(silent))
+	d.log.Write(event.Info, "retire", "generation", number, "ended", len(silent))
 	return nil
 }
 
@@ -290,7 +291,7 @@ func (d *Daemon) settle(number uint64, mark, text string, now time.Time) error {
 		g := d.plans
 		g.Settled = true
 		d.setPlans(g)
-		d.log.Write("settled", "generation", number)
+		d.log.Write(event.Info, "settled", "generation", number)
 	}
 	return nil
 }
