@@ -26,7 +26,8 @@ const (
 	RoomBytes = 16 << 20
 )
 
-// NATS is a connection to one of the servers of NATS. If it fails, it goes on to the next one, for ever.
+// NATS is a connection to one of the servers of NATS. If it fails, it goes on to the next one, for ever. It goes to no other
+// server than those of the cluster's file.
 type NATS struct {
 	connection *nats.Conn
 	current    atomic.Pointer[nats.Conn] // the connection, once Connect returned it
@@ -90,11 +91,7 @@ func hidden(cluster *config.Cluster, access config.Access) error {
 		return nil
 	}
 	for _, server := range cluster.Servers {
-		text := server
-		if !strings.Contains(text, "://") {
-			text = "nats://" + text
-		}
-		place, err := url.Parse(text)
+		place, err := parse(server)
 		if err != nil {
 			return fmt.Errorf("%w: a server is no URL: %v", config.ErrConfig, errors.Unwrap(err))
 		}
@@ -191,7 +188,60 @@ func (d *dialer) Dial(network, address string) (net.Conn, error) {
 			connection.Opts.TLSConfig.RootCAs = pool
 		}
 	}
+	if !isListed(d.cluster, address) {
+		return nil, fmt.Errorf("%w: %s", errUnlisted, address)
+	}
 	return net.DialTimeout(network, address, time.Second)
+}
+
+// errUnlisted is returned for a server that another one named, and the cluster's file does not.
+var errUnlisted = errors.New("this is none of the cluster's servers")
+
+// isListed returns whether an address is that of a server of the cluster's file. The library finds
+// the addresses of a name itself, and also goes to servers that a server names.
+func isListed(cluster *config.Cluster, address string) bool {
+	for _, server := range cluster.Servers {
+		host, port := endpoint(server)
+		if net.JoinHostPort(host, port) == address {
+			return true
+		}
+		if !strings.HasSuffix(address, ":"+port) || net.ParseIP(host) != nil {
+			continue
+		}
+		found, _ := net.LookupHost(host)
+		for _, one := range found {
+			if net.JoinHostPort(one, port) == address {
+				return true
+			}
+		}
+	}
+	return false
+}
+
+// ports are those of servers that name none, where it is not 4222.
+var ports = map[string]string{"ws": "80", "wss": "443"}
+
+// endpoint returns the host and the port of a server.
+func endpoint(server string) (host, port string) {
+	at, err := parse(server)
+	if err != nil {
+		return "", ""
+	}
+	if port = at.Port(); port != "" {
+		return at.Hostname(), port
+	}
+	if port = ports[at.Scheme]; port == "" {
+		port = "4222"
+	}
+	return at.Hostname(), port
+}
+
+// parse reads a server's URL.
+func parse(server string) (*url.URL, error) {
+	if !strings.Contains(server, "://") {
+		server = "nats://" + server
+	}
+	return url.Parse(server)
 }
 
 // CertificateEnd returns when the certificate in this process's files ends, and 0 if there is none

@@ -2,6 +2,7 @@ package transport_test
 
 import (
 	"bufio"
+	"encoding/json"
 	"errors"
 	"fmt"
 	"net"
@@ -9,6 +10,7 @@ import (
 	"os/exec"
 	"path/filepath"
 	"strings"
+	"sync/atomic"
 	"testing"
 	"time"
 
@@ -37,9 +39,12 @@ func until(t *testing.T, what string, so func() bool) {
 	}
 }
 
-// greet speaks to a client as a server until it was asked for a sign of life, and then reads nothing more.
-func greet(connection net.Conn) {
-	fmt.Fprint(connection, `INFO {"server_id":"test","version":"2.9.10","proto":1,"max_payload":1048576}`+"\r\n")
+// greet speaks to a client as a server until it was asked for a sign of life, and then reads nothing more. It names other
+// servers.
+func greet(connection net.Conn, others ...string) {
+	names, _ := json.Marshal(others)
+	fmt.Fprintf(connection, `INFO {"server_id":"test","version":"2.9.10","proto":1,"max_payload":1048576,"connect_urls":%s}`+
+		"\r\n", names)
 	for lines := bufio.NewScanner(connection); lines.Scan(); {
 		if lines.Text() == "PING" {
 			fmt.Fprint(connection, "PONG\r\n")
@@ -95,6 +100,41 @@ func TestServerStandsStill(t *testing.T) {
 	}
 	if noticed == 0 {
 		t.Error("it was not noticed within ten seconds")
+	}
+}
+
+// A server that names another one leads nobody there.
+func TestUnlistedServer(t *testing.T) {
+	var came [2]atomic.Int32
+	var at [2]string
+	for i := range came {
+		listener, err := net.Listen("tcp", "127.0.0.1:0")
+		if err != nil {
+			t.Fatal(err)
+		}
+		defer listener.Close()
+		i := i
+		at[i] = listener.Addr().String()
+		go func() {
+			for {
+				connection, err := listener.Accept()
+				if err != nil {
+					return
+				}
+				came[i].Add(1)
+				greet(connection, at[1])
+				connection.Close()
+			}
+		}()
+	}
+	named := strings.Replace(at[0], "127.0.0.1", "localhost", 1)
+	for _, address := range []string{at[0], named} {
+		connect(t, address, config.Access{})
+		before := came[0].Load()
+		until(t, "the server ended some connections", func() bool { return came[0].Load() > before+3 })
+	}
+	if n := came[1].Load(); n > 0 {
+		t.Errorf("%d connections came to a server that only another one names", n)
 	}
 }
 
