@@ -2,10 +2,10 @@
 
 There is no case for what would need more than a machine and two minutes:
 
-- a clock of another rate: no program can be given one without a change of its library. `another_ttl` tries the same by files;
+- a clock of another rate: no program can be given one without a change of its library; `another_ttl` does it by files;
 - the margin of a lease under load, all incidents at once, and operators among them: `service/trial/hour.sh`;
 - a guest that is suspended, or copied while it runs: it needs a hypervisor. `frozen` stops the processes;
-- two builds side by side: another format has another first word, and its messages are foreign (`messages_foreign_total`).
+- two builds side by side: another format has another first word, and its messages are foreign.
 """
 
 import contextlib
@@ -264,7 +264,7 @@ def short_lease(room: Path) -> bool:
 
 @case(60)
 def another_ttl(room: Path) -> bool:
-    """A client's file has a longer TTL than the voters'. It would believe in its lease for too long, so it gets none."""
+    """A client's file has a longer TTL than the voters'. It would believe for too long that it is inside."""
     c = Cluster(room)
     other = c.room / "other.toml"
     other.write_text(c.file.read_text().replace('ttl = "2s"', 'ttl = "2.2s"'))
@@ -310,7 +310,7 @@ def socket_takes_nothing(room: Path) -> bool:
 
 @case(90)
 def frozen(room: Path) -> bool:
-    """Clients, voters and the server stand still for longer than a TTL, and go on in any order. Nobody is inside untold."""
+    """Clients, voters and the server stand still for longer than a TTL, and go on in any order. All are told."""
     c, chance = Cluster(room), random.Random(7)
     first, second = Session(c), Session(c)
     stands = True

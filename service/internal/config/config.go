@@ -30,6 +30,10 @@ var (
 // beside the margin of a lease.
 const shortestTTL = time.Second
 
+// MostPlan is how many bytes a coterie and its plan may have together that come over the network. A cycle has at most
+// 999999 tickets, so such a plan is read in less than a second.
+const MostPlan = 96 << 10
+
 // Duration is a time that is written as "250ms".
 type Duration struct{ time.Duration }
 

@@ -24,9 +24,6 @@ var (
 	ErrAnother  = errors.New("the voter has another plan of this number: another exchange was begun")
 )
 
-// mostPlan is how many bytes the two texts of a plan may have, to be sent in one message.
-const mostPlan = 96 << 10
-
 // Texts are a coterie and a plan of it.
 type Texts struct {
 	Coterie string `json:"coterie"`
@@ -114,7 +111,7 @@ func (g Generations) next(number uint64, texts Texts) (Generations, error) {
 		return g, ErrSettle
 	case number != g.Number+1:
 		return g, ErrNumber
-	case len(texts.Coterie)+len(texts.Plan) > mostPlan:
+	case len(texts.Coterie)+len(texts.Plan) > config.MostPlan:
 		return g, ErrLong
 	}
 	old, err := qlock.ReadPlan(g.Now.Coterie, g.Now.Plan)
