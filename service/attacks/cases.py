@@ -46,13 +46,14 @@ from cluster import (
     start,
     until,
 )
-from secure import Secure
+from secure import Secure, authority, certificate, server_file, start_server
 
 GREAT_STAMP = (1 << 40) - 1
 FLOOD = 256 << 10
 PAGE_BYTES = 4096
 FIBMAP = 1
 CLONE_NEWNET = 0x40000000
+CLONE_NEWNS = 0x00020000
 
 
 class LeftOut(Exception):
@@ -809,6 +810,39 @@ def rogue_route(room: Path) -> bool:
         orders += c.run("qlockctl", *words, check=False)[1]
     print(f"the rogue hears {heard.count('MSG ')} messages, and orders: {orders.splitlines()[:2]}")
     return "MSG " not in heard and "let_go" not in orders and s.lost() == 0 and s.has("another")
+
+
+def name_loopback(room: Path, names: list[str]) -> None:
+    """Gives the loopback these names, for this process and those that it starts."""
+    if ctypes.CDLL(None).unshare(CLONE_NEWNS):
+        raise LeftOut("it needs root")
+    (room / "hosts").write_text("".join(f"127.0.0.1 {name}\n" for name in ["localhost", *names]))
+    shell("mount", "--make-rprivate", "/")
+    shell("mount", "--bind", room / "hosts", "/etc/hosts")
+
+
+@case(60)
+def three_servers(room: Path) -> bool:
+    """The page's three servers start one after the other. None is tried by an address, which no certificate has."""
+    names = ["m0", "m1", "m2"]
+    name_loopback(room, names)
+    for name in ("ca", "routes-ca"):
+        authority(room, name)
+    routes, logs = [f"{name}:{free_port()}" for name in names], []
+    for name, route in zip(names, routes):
+        keys = room / name
+        keys.mkdir()
+        for file in room.glob("*ca.*"):
+            shutil.copy(file, keys)
+        certificate(keys, "machine", "ca", names=f"DNS:{name}")
+        certificate(keys, "routes", "routes-ca", names=f"DNS:{name}")
+        start_server(room, name, server_file(route, keys, free_port(), routes, "prod"))
+        logs.append(room / f"{name}.log")
+    time.sleep(4)
+    made = [log.read_text().count("Route connection created") for log in logs]
+    wrong = [line for log in logs for line in log.read_text().splitlines() if "route handshake error" in line]
+    print(f"routes that were made: {made}; handshakes that failed: {len(wrong)} {wrong[:1]}")
+    return min(made) > 1 and not wrong
 
 
 @case(120)
