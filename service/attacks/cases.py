@@ -1,9 +1,19 @@
-"""The attacks. Each is a function that returns whether the service stands, and says what it saw."""
+"""The attacks. Each is a function that returns whether the service stands, and says what it saw.
+
+There is no case for what would need more than a machine and two minutes:
+
+- a clock of another rate: no program can be given one without a change of its library; `another_ttl` does it by files;
+- the margin of a lease under load, all incidents at once, and operators among them: `service/trial/hour.sh`;
+- a guest that is suspended, or copied while it runs: it needs a hypervisor. `frozen` stops the processes;
+- two builds side by side: another format has another first word, and its messages are foreign.
+"""
 
 import contextlib
+import ctypes
 import fcntl
 import json
 import os
+import random
 import re
 import shutil
 import signal
@@ -12,6 +22,7 @@ import subprocess
 import threading
 import time
 from collections.abc import Callable
+from concurrent.futures import ThreadPoolExecutor
 from pathlib import Path
 
 from cluster import (
@@ -35,12 +46,14 @@ from cluster import (
     start,
     until,
 )
-from secure import Secure
+from secure import Secure, authority, certificate, server_file, start_server
 
 GREAT_STAMP = (1 << 40) - 1
 FLOOD = 256 << 10
 PAGE_BYTES = 4096
 FIBMAP = 1
+CLONE_NEWNET = 0x40000000
+CLONE_NEWNS = 0x00020000
 
 
 class LeftOut(Exception):
@@ -248,6 +261,87 @@ def short_lease(room: Path) -> bool:
     code = made.wait(20)
     print(f"`qlockctl init --ttl 900ms`: status {code}: {(room / 'init.log').read_text().strip()}")
     return code != 0
+
+
+@case(60)
+def another_ttl(room: Path) -> bool:
+    """A client's file has a longer TTL than the voters'. It would believe for too long that it is inside."""
+    c = Cluster(room)
+    other = c.room / "other.toml"
+    other.write_text(c.file.read_text().replace('ttl = "2s"', 'ttl = "2.2s"'))
+    code, text = c.lock("l", "4s", file=other)
+    foreign = c.metric("hub", "messages_foreign_total")
+    print(f"with another ttl: status {code}: {text}; hub took {foreign:.0f} messages for foreign ones")
+    return code == 75 and foreign > 0 and c.locks(1)
+
+
+def shrink_sockets() -> None:
+    """Moves this process to a network of its own, whose sockets take some thousand bytes."""
+    if ctypes.CDLL(None).unshare(CLONE_NEWNET):
+        raise LeftOut("it needs root")
+    shell("ip", "link", "set", "lo", "up")
+    for name in ("tcp_wmem", "tcp_rmem"):
+        try:
+            Path("/proc/sys/net/ipv4", name).write_text("4096 4096 8192")
+        except OSError as why:
+            raise LeftOut(str(why)) from why
+
+
+@case(90)
+def socket_takes_nothing(room: Path) -> bool:
+    """The socket of who has a thousand locks takes nothing any more. It hears of all before anybody else enters."""
+    shrink_sockets()
+    c = Cluster(room)
+    cable = Relay(c.port)
+    holder, others = Session(c, c.moved(cable.port)), [Session(c) for _ in range(4)]
+    print("the holder:", holder.ask("take l 1000", "taken", 60))
+    names = ["l-0", "l-333", "l-666", "l-999"]
+    for other, name in zip(others, names):
+        other.tell(f"lock {name} 30s")
+    cable.is_cut = True
+    margins = []
+    for other, name in zip(others, names):
+        entered, lost = other.find(f"held {name} ", 20), holder.find(f"lost {name}$", 5)
+        if not entered:
+            raise RuntimeError(f"nobody enters {name}")
+        margins.append(entered[0] - lost[0] if lost else -5)
+    print(f"the holder is told {min(margins):.2f} s or more before another one enters")
+    return min(margins) > 0
+
+
+@case(90)
+def frozen(room: Path) -> bool:
+    """Clients, voters and the server stand still for longer than a TTL, and go on in any order. All are told."""
+    c, chance = Cluster(room), random.Random(7)
+    first, second = Session(c), Session(c)
+    stands = True
+    for number in range(5):
+        lock = f"l-{number}"
+        if not is_pass(first.lock(lock)):
+            raise RuntimeError("the lock is not to be had")
+        second.tell(f"lock {lock} 20s")
+        time.sleep(0.3)
+        others = [second.process, c.server, *c.voters.values()]
+        still = [first.process, *others] if number == 4 else [first.process, *chance.sample(others, number)]
+        for process in still:
+            process.send_signal(signal.SIGSTOP)
+        time.sleep(3)
+        chance.shuffle(still)
+        woken = 0.0
+        for process in still:
+            woken = time.time() if process is first.process else woken
+            process.send_signal(signal.SIGCONT)
+            time.sleep(chance.choice([0, 0.3]))
+        entered = second.find(f"held {lock} ", 1)
+        lost = first.find(f"lost {lock}$", 0.5)
+        late = (lost[0] if lost else time.time()) - max(entered[0], woken) if entered else 0
+        print(f"{len(still)} stood still; another one entered: {bool(entered)}, the first was told {late:.3f} s late")
+        stands = stands and late < 0.5
+        first.ask(f"unlock {lock}", "unlocked|failed", 10)
+        if not second.find(f"held {lock} ", 20):
+            raise RuntimeError("the second one never enters")
+        second.ask(f"unlock {lock}", "unlocked|failed", 10)
+    return stands and c.all_run()
 
 
 def are_let_go(c: Cluster, limit: float) -> bool:
@@ -505,7 +599,61 @@ def names_beyond_the_most(room: Path) -> bool:
     return old == 20 and (code == 0 or "full" in text or "max_locks" in text)
 
 
+@case(120)
+def number_for_who_waits(room: Path) -> bool:
+    """64 sessions have all numbers. Who comes next is told so, or waits, and gets the first number that is free."""
+    c = Cluster(room)
+    with ThreadPoolExecutor(8) as pool:
+        sessions = list(pool.map(lambda _: Session(c), range(64)))
+    code, text = c.lock("l", "3s")
+    print(f"who does not wait: status {code}: {text}")
+    waiting: list[tuple[int, str]] = []
+    waits = threading.Thread(target=lambda: waiting.append(c.lock("l", "30s")), daemon=True)
+    waits.start()
+    time.sleep(2)
+    is_early = bool(waiting)
+    print(sessions[7].ask("close", "closed", 10))
+    freed = time.monotonic()
+    waits.join(32)
+    print(f"who waits: {waiting} {time.monotonic() - freed:.1f} s after a number was free")
+    return code == 75 and "number" in text and not is_early and bool(waiting) and waiting[0][0] == 0
+
+
+@case(120)
+def herd(room: Path) -> bool:
+    """A hundred jobs begin at once, more than there are numbers. All get their locks."""
+    c = Cluster(room)
+    began = time.monotonic()
+    with ThreadPoolExecutor(100) as pool:
+        done = list(pool.map(lambda i: c.lock(f"l-{i % 50}", "50s"), range(100)))
+    wrong = [one for one in done if one[0]]
+    print(f"{len(done) - len(wrong)} of {len(done)} jobs in {time.monotonic() - began:.1f} s", wrong[:2])
+    most = max(c.metric(voter, "queue_messages") for voter in NAMES)
+    return not wrong and most < 1000 and c.all_run()
+
+
 # Operators
+
+
+@case(90)
+def evict_while_away(room: Path) -> bool:
+    """A session is evicted while hub is away, which granted it a vote. Back again, hub does not serve it either."""
+    c = Cluster(room)
+    holder, other = Session(c), Session(c)
+    for number in range(20):  # until it is inside by hub
+        lock = f"l-{number}"
+        if 0 in grants(holder.lock(lock)):
+            break
+    c.stop("hub")
+    code, text = c.ctl("evict", "--timeout", "2s", holder.number, check=False)
+    lost = holder.find(f"lost {lock}$", 5)
+    c.start("hub")
+    until(lambda: c.health("hub") == 200, 10)
+    entered = is_pass(other.lock(lock, 15))
+    print(f"evict: status {code}: {text.splitlines()[-1:]}; told: {bool(lost)}; another one enters: {entered}")
+    late = holder.lock("late", 3)
+    print(f"who was evicted asks again: {late[:120]}")
+    return code == 3 and bool(lost) and entered and not is_pass(late)
 
 
 def grow(c: Cluster, coterie: Path) -> tuple[int, str]:
@@ -662,6 +810,39 @@ def rogue_route(room: Path) -> bool:
         orders += c.run("qlockctl", *words, check=False)[1]
     print(f"the rogue hears {heard.count('MSG ')} messages, and orders: {orders.splitlines()[:2]}")
     return "MSG " not in heard and "let_go" not in orders and s.lost() == 0 and s.has("another")
+
+
+def name_loopback(room: Path, names: list[str]) -> None:
+    """Gives the loopback these names, for this process and those that it starts."""
+    if ctypes.CDLL(None).unshare(CLONE_NEWNS):
+        raise LeftOut("it needs root")
+    (room / "hosts").write_text("".join(f"127.0.0.1 {name}\n" for name in ["localhost", *names]))
+    shell("mount", "--make-rprivate", "/")
+    shell("mount", "--bind", room / "hosts", "/etc/hosts")
+
+
+@case(60)
+def three_servers(room: Path) -> bool:
+    """The page's three servers start one after the other. None is tried by an address, which no certificate has."""
+    names = ["m0", "m1", "m2"]
+    name_loopback(room, names)
+    for name in ("ca", "routes-ca"):
+        authority(room, name)
+    routes, logs = [f"{name}:{free_port()}" for name in names], []
+    for name, route in zip(names, routes):
+        keys = room / name
+        keys.mkdir()
+        for file in room.glob("*ca.*"):
+            shutil.copy(file, keys)
+        certificate(keys, "machine", "ca", names=f"DNS:{name}")
+        certificate(keys, "routes", "routes-ca", names=f"DNS:{name}")
+        start_server(room, name, server_file(route, keys, free_port(), routes, "prod"))
+        logs.append(room / f"{name}.log")
+    time.sleep(4)
+    made = [log.read_text().count("Route connection created") for log in logs]
+    wrong = [line for log in logs for line in log.read_text().splitlines() if "route handshake error" in line]
+    print(f"routes that were made: {made}; handshakes that failed: {len(wrong)} {wrong[:1]}")
+    return min(made) > 1 and not wrong
 
 
 @case(120)

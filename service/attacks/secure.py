@@ -1,5 +1,6 @@
 """A cluster with certificates and users, by the commands and the server's file of docs/service.md, on the loopback."""
 
+import json
 import re
 import subprocess
 import time
@@ -12,6 +13,7 @@ PAGE = (SERVICE.parent / "docs" / "service.md").read_text()
 FILE = PAGE.split("`/etc/nats-server.conf` on `m0`:\n\n```\n")[1].split("```")[0]
 CURVE = "-pkeyopt ec_paramgen_curve:prime256v1"
 USES = "serverAuth,clientAuth"
+HERE = "DNS:localhost,IP:127.0.0.1"
 
 
 def openssl(words: str, folder: Path) -> None:
@@ -27,10 +29,10 @@ def authority(folder: Path, name: str) -> None:
     openssl(f"req -x509 -new -key {name}.key -days 3650 -subj /CN=qlock-{name} -out {name}.pem", folder)
 
 
-def certificate(folder: Path, name: str, by: str, seconds: int | None = None) -> None:
+def certificate(folder: Path, name: str, by: str, seconds: int | None = None, names: str = HERE) -> None:
     """Makes a certificate by an authority, of a year, or of some seconds."""
     openssl(f"req -new -newkey ec {CURVE} -nodes -subj /CN=localhost -keyout {name}.key.new -out {name}.csr", folder)
-    (folder / f"{name}.ext").write_text(f"subjectAltName=DNS:localhost,IP:127.0.0.1\nextendedKeyUsage={USES}\n")
+    (folder / f"{name}.ext").write_text(f"subjectAltName={names}\nextendedKeyUsage={USES}\n")
     files = f"-in {name}.csr -extfile {name}.ext -out {name}.pem.new"
     if seconds is None:
         openssl(f"x509 -req -CA {by}.pem -CAkey {by}.key -CAcreateserial -days 365 {files}", folder)
@@ -52,6 +54,34 @@ def short_certificate(folder: Path, files: str, by: str, seconds: int) -> None:
         (folder / "next").write_text("1000\n")
     first, last = (time.strftime("%Y%m%d%H%M%SZ", time.gmtime(time.time() + s)) for s in (-60, seconds))
     openssl(f"ca -batch -notext -config ca.cnf -startdate {first} -enddate {last} {files}", folder)
+
+
+def server_file(own: str, keys: Path, port: int, routes: list[str], cluster: str) -> str:
+    """The page's file of the server with this route, on the loopback, with all voters and with passwords."""
+    first = re.search(r"  \{ user: voter-0,.*?\} \}\n", FILE, re.S)
+    if not first:
+        raise RuntimeError("the page has no user voter-0")
+    others = ""
+    for i in range(1, len(NAMES)):
+        others += re.sub(r"(voter-|\.v\.|\.admin\.)0", rf"\g<1>{i}", first.group())
+    text = re.sub(r"  \.\.\. .*\n", lambda _: others, FILE)
+    text = re.sub(r'user: ([a-z0-9-]+), password: "\.\.\."', r'user: \1, password: "password-\1"', text)
+    for there, here in (
+        ("/etc/qlock", str(keys)),
+        ('"0.0.0.0:4222"', f'"127.0.0.1:{port}"'),
+        ('"0.0.0.0:6222"', f'"127.0.0.1:{own.split(":")[1]}"'),
+        ('advertise: "m0:6222"', f'advertise: "{own}"'),
+        ("server_name: m0", f"server_name: {own.split(':')[0]}"),
+        ("qlock.prod.", f"qlock.{cluster}."),
+    ):
+        text = text.replace(there, here)
+    return re.sub(r"routes: \[.*\]", f"routes: {json.dumps([f'tls://{route}' for route in routes])}", text)
+
+
+def start_server(room: Path, name: str, text: str) -> subprocess.Popen[bytes]:
+    """Starts a server of NATS with a file."""
+    (room / f"{name}.conf").write_text(text)
+    return start([NATS, "-c", room / f"{name}.conf"], room / f"{name}.log")
 
 
 class Secure(Cluster):
@@ -84,28 +114,9 @@ class Secure(Cluster):
 
     def start_server(self) -> None:
         """Starts the server of NATS with the page's file, for one machine."""
-        text = self.page_file()
-        for there, here in (
-            ("/etc/qlock", str(self.keys)),
-            ('"0.0.0.0:4222"', f'"127.0.0.1:{self.port}"'),
-            ('"0.0.0.0:6222"', f'"127.0.0.1:{self.route_port}"'),
-            ("qlock.prod.", f"qlock.{self.id}."),
-        ):
-            text = text.replace(there, here)
-        text = re.sub(r"routes: \[.*\]", f'routes: ["tls://localhost:{self.route_port}"]', text)
-        (self.room / "nats.conf").write_text(text)
-        self.server = start([NATS, "-c", self.room / "nats.conf"], self.room / "nats.log")
-
-    def page_file(self) -> str:
-        """The file of a server as the page has it, with all voters and with passwords."""
-        first = re.search(r"  \{ user: voter-0,.*?\} \}\n", FILE, re.S)
-        if not first:
-            raise RuntimeError("the page has no user voter-0")
-        others = ""
-        for i in range(1, len(NAMES)):
-            others += re.sub(r"(voter-|\.v\.|\.admin\.)0", rf"\g<1>{i}", first.group())
-        block = re.sub(r"  \.\.\. .*\n", lambda _: others, FILE)
-        return re.sub(r'user: ([a-z0-9-]+), password: "\.\.\."', r'user: \1, password: "password-\1"', block)
+        route = f"localhost:{self.route_port}"
+        text = server_file(route, self.keys, self.port, [route], self.id)
+        self.server = start_server(self.room, "nats", text)
 
     def url(self) -> str:
         """Where the server is."""

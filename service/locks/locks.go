@@ -54,11 +54,22 @@ type Config struct {
 	Prefix    string              // of the session's mailbox: with "app" it is qlock.CLUSTER.c.app.NAME, which a user may be permitted
 	User      string              // the user of NATS; none if empty
 	Secret    string              // the file of the user's password
+	Seed      string              // the file of the seed of an nkey, in place of a user
+	Creds     string              // the file of credentials (a JWT and its seed), in place of a user
 	Cert, Key string              // the files of a certificate and its key; none if empty
 	Heartbeat time.Duration       // a quarter of the TTL, at most 500 ms, if 0
 	DontWait  bool                // Open fails with ErrNumbers at once if all numbers are in use
 	FailOver  time.Duration       // for how long a voter is silent before it is passed over; 4 heartbeats if 0
 	Transport transport.Transport // NATS with the cluster's servers if nil; it is not closed with the client
+}
+
+// FromEnvironment returns how to reach a cluster, by the variables QLOCK_CLUSTER, QLOCK_PREFIX, QLOCK_USER, QLOCK_SECRET,
+// QLOCK_SEED, QLOCK_CREDS, QLOCK_CERT and QLOCK_KEY. What has no variable is empty. Another variable QLOCK_.. is
+// an error if nothing of this project reads it.
+func FromEnvironment() (Config, error) {
+	read := config.FromEnvironment
+	return Config{Cluster: read("cluster"), Prefix: read("prefix"), User: read("user"), Secret: read("secret"),
+		Seed: read("seed"), Creds: read("creds"), Cert: read("cert"), Key: read("key")}, config.CheckEnvironment()
 }
 
 // Stats counts what a client did.
@@ -171,7 +182,7 @@ func newClient(cluster *config.Cluster, c Config) (*Client, error) {
 		calls: make(chan func()), ended: make(chan struct{}), stopped: make(chan struct{}), locks: map[string]*lock{}, busy: map[*lock]struct{}{}}
 	client.session = newSession(cluster, name)
 	if client.carrier == nil {
-		access := config.Access{User: c.User, Secret: c.Secret, Cert: c.Cert, Key: c.Key}
+		access := config.Access{User: c.User, Secret: c.Secret, Seed: c.Seed, Creds: c.Creds, Cert: c.Cert, Key: c.Key}
 		link, err := transport.Connect(cluster, access, "qlock client")
 		if err != nil {
 			return nil, err

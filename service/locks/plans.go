@@ -21,12 +21,15 @@ package locks
 import (
 	"bytes"
 	"encoding/base64"
+	"errors"
 	"time"
 
 	"calvundek.example/service/internal/config"
 	"calvundek.example/service/internal/wire"
 	"calvundek.example/service/qlock"
 )
+
+var errLong = errors.New("locks: a plan is longer than one that is sent")
 
 // known is a plan, and what messages say of it.
 type known struct {
@@ -118,7 +121,7 @@ func (c *Client) controlPlans(voter int, words [][]byte) bool {
 		return true
 	}
 	if string(words[0]) == "plan" {
-		c.fetched(newest, string(words[2]), string(words[3]))
+		c.fetched(voter, newest, string(words[2]), string(words[3]))
 	} else if oldest, ok := number(words[3]); ok {
 		c.noteGeneration(voter, newest, string(words[2]), oldest)
 	}
@@ -141,7 +144,7 @@ func (c *Client) noteGeneration(voter int, newest uint64, mark string, oldest ui
 	case retired && !c.hasQuorum(^c.retirers()):
 		c.end(ErrRetired)
 	case newest == c.generation+1 && c.next == nil && time.Since(p.asked) > c.config.Heartbeat:
-		p.asked = time.Now()
+		p.asked, p.awaited = time.Now(), true
 		c.out[voter] = append(c.out[voter], ". plan\n"...)
 	case newest == c.generation && oldest == newest && mark == c.plan.mark && c.older != nil:
 		c.older = nil
@@ -169,25 +172,40 @@ func (c *Client) having(mark string) (mask uint64) {
 	return mask
 }
 
-// fetched takes the next plan, if it is one that may be used beside this one.
-func (c *Client) fetched(number uint64, coterie, plan string) {
-	if c.next != nil || number != c.generation+1 {
+// restAfterJunk is for how long a voter is not asked again that sent no plan which can be used.
+const restAfterJunk = time.Minute
+
+// fetched takes the next plan of a voter that was asked for it, if it is one that may be used beside this one. To read one
+// takes time, so a voter may spend it once a minute.
+func (c *Client) fetched(voter int, number uint64, coterie, plan string) {
+	p := &c.peers[voter]
+	if !p.awaited || c.next != nil || number != c.generation+1 {
 		return
 	}
+	p.awaited = false
+	next, err := readPlan(coterie, plan)
+	if err != nil || config.CheckExchange(c.plan.Plan, next) != nil {
+		p.asked = time.Now().Add(restAfterJunk)
+		return
+	}
+	c.next = &known{next, c.cluster.Mark(config.Mark(number, next.Coterie))}
+	c.meetAll(len(next.Names))
+}
+
+// readPlan reads a plan as a voter sends it.
+func readPlan(coterie, plan string) (*qlock.Plan, error) {
 	first, err := base64.StdEncoding.DecodeString(coterie)
 	if err != nil {
-		return
+		return nil, err
 	}
 	second, err := base64.StdEncoding.DecodeString(plan)
 	if err != nil {
-		return
+		return nil, err
 	}
-	next, err := qlock.ReadPlan(string(first), string(second))
-	if err != nil || config.CheckExchange(c.plan.Plan, next) != nil {
-		return
+	if len(first)+len(second) > config.MostPlan {
+		return nil, errLong
 	}
-	c.next = &known{next, c.cluster.Mark(config.Mark(number, string(first)))}
-	c.meetAll(len(next.Names))
+	return qlock.ReadPlan(string(first), string(second))
 }
 
 // adopt asks by the next plan from now on.

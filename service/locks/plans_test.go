@@ -1,15 +1,18 @@
 package locks
 
 import (
+	"bytes"
 	"context"
 	"encoding/base64"
 	"errors"
+	"fmt"
 	"strings"
 	"sync"
 	"testing"
 	"time"
 
 	"calvundek.example/service/guard"
+	"calvundek.example/service/internal/config"
 	"calvundek.example/service/internal/exchange"
 	"calvundek.example/service/internal/voter"
 	"calvundek.example/service/internal/worlds"
@@ -221,8 +224,56 @@ func TestPlansThatAreNotTaken(t *testing.T) {
 			text = plan.Text
 		}
 		encode := base64.StdEncoding.EncodeToString
-		if c.fetched(number, encode([]byte(coterie)), encode([]byte(text))); c.next != nil {
+		c.peers[0].awaited = true
+		if c.fetched(0, number, encode([]byte(coterie)), encode([]byte(text))); c.next != nil {
 			t.Errorf("plan %d of %s", number, coterie)
 		}
+	}
+}
+
+// A plan is read only of a voter that was asked for it, and only once in a minute if it is of no use. One that is longer than
+// what is sent is not read.
+func TestPlansCostLittle(t *testing.T) {
+	w := worlds.New(t, worlds.Majority, time.Second)
+	plan, err := qlock.FindPlan("voters = [\"a\", \"b\", \"c\"]\nquorums = [[\"a\", \"b\", \"c\"]]\n")
+	if err != nil {
+		t.Fatal(err)
+	}
+	long := strings.Repeat("# no voter\n", config.MostPlan/10) + plan.Coterie
+	if _, err := qlock.ReadPlan(long, plan.Text); err != nil {
+		t.Fatal(err)
+	}
+	encode := base64.StdEncoding.EncodeToString
+	c, err := newClient(w.Cluster, Config{Transport: w.Bus.Port()})
+	if err != nil {
+		t.Fatal(err)
+	}
+	says := func(coterie string) {
+		words := fmt.Sprintf("plan 1 %s %s", encode([]byte(coterie)), encode([]byte(plan.Text)))
+		c.controlPlans(2, bytes.Fields([]byte(words)))
+	}
+	isAsked := func() bool {
+		c.out[2] = nil
+		c.controlPlans(2, bytes.Fields([]byte("generation 1 abcdefabcdef 0")))
+		return strings.Contains(string(c.out[2]), ". plan\n")
+	}
+	if says(plan.Coterie); c.next != nil {
+		t.Error("a plan is taken for which nobody asked")
+	}
+	if !isAsked() {
+		t.Fatal("the voter is not asked")
+	}
+	if says(long); c.next != nil {
+		t.Error("a plan is taken that is too long")
+	}
+	if says(plan.Coterie); c.next != nil || isAsked() {
+		t.Error("a voter that sent junk is heard again at once")
+	}
+	c.peers[2].asked = time.Now().Add(-time.Second)
+	if !isAsked() {
+		t.Error("the voter is not asked again")
+	}
+	if says(plan.Coterie); c.next == nil {
+		t.Error("the next plan is not taken")
 	}
 }

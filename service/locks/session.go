@@ -51,6 +51,7 @@ type peer struct {
 	mark     string                   // of the newest plan that it has, once it said so
 	oldest   uint64                   // the number of the oldest plan that it said is not retired
 	asked    time.Time                // when it was asked for its plan
+	awaited  bool                     // it was asked, and did not send it yet
 	saves    uint64                   // the highest count of its saves that it told
 	proof    string                   // of that count, which only the voter can make
 	heard    time.Time                // when a message came

@@ -26,7 +26,8 @@ const (
 	RoomBytes = 16 << 20
 )
 
-// NATS is a connection to one of the servers of NATS. If it fails, it goes on to the next one, for ever.
+// NATS is a connection to one of the servers of NATS. If it fails, it goes on to the next one, for ever. It goes to no other
+// server than those of the cluster's file.
 type NATS struct {
 	connection *nats.Conn
 	current    atomic.Pointer[nats.Conn] // the connection, once Connect returned it
@@ -76,25 +77,25 @@ func Connect(cluster *config.Cluster, access config.Access, name string) (*NATS,
 }
 
 // ErrClear is returned where a password would leave in clear.
-var ErrClear = fmt.Errorf("%w: a password needs TLS: servers as tls://HOST:PORT, or ca in the cluster's file",
+var ErrClear = fmt.Errorf("%w: a password or creds need TLS: servers as tls://HOST:PORT, or ca in the cluster's file",
 	config.ErrConfig)
 
+// ErrAccess is returned if a process says in several ways who it is.
+var ErrAccess = fmt.Errorf("%w: only one of user, seed and creds can be used", config.ErrConfig)
+
 // hidden returns ErrClear if a password would leave this machine without TLS. With an authority or
-// a certificate all is by TLS.
+// a certificate all is by TLS. Credentials count as a password: their JWT is shown, and it may be one
+// that needs no signature. A seed never leaves; it signs a number that the server made up.
 func hidden(cluster *config.Cluster, access config.Access) error {
 	if cluster.CA != "" || access.Cert != "" {
 		return nil
 	}
 	for _, server := range cluster.Servers {
-		text := server
-		if !strings.Contains(text, "://") {
-			text = "nats://" + text
-		}
-		place, err := url.Parse(text)
+		place, err := parse(server)
 		if err != nil {
 			return fmt.Errorf("%w: a server is no URL: %v", config.ErrConfig, errors.Unwrap(err))
 		}
-		if access.User == "" && place.User == nil {
+		if access.User == "" && access.Creds == "" && place.User == nil {
 			continue
 		}
 		host := net.ParseIP(place.Hostname())
@@ -107,8 +108,7 @@ func hidden(cluster *config.Cluster, access config.Access) error {
 }
 
 // identity returns the options that say who this process is, and which servers it believes.
-// Certificate, authority and password are read again for each connection, so new files need no
-// restart.
+// All files are read again for each connection, so new files need no restart.
 func (n *NATS) identity(cluster *config.Cluster, access config.Access) (options []nats.Option, err error) {
 	if access.Cert != "" {
 		read := func() (*tls.Certificate, error) {
@@ -125,23 +125,50 @@ func (n *NATS) identity(cluster *config.Cluster, access config.Access) (options 
 	if cluster.CA != "" {
 		options = append(options, nats.RootCAs(cluster.CA))
 	}
-	if access.User != "" {
-		password, err := secret(access)
-		if err != nil {
-			return nil, err
-		}
-		options = append(options, nats.UserInfo(access.User, password))
+	user, err := user(access)
+	if err != nil {
+		return nil, err
+	}
+	if user != nil {
+		options = append(options, user)
 	}
 	return append(options, nats.SetCustomDialer(&dialer{n, cluster, access})), nil
 }
 
-// secret reads a user's password.
-func secret(access config.Access) (string, error) {
-	text, err := os.ReadFile(access.Secret)
-	return strings.TrimSpace(string(text)), err
+// user returns the option that says which user of NATS this process is, nil if it is none.
+func user(access config.Access) (nats.Option, error) {
+	switch {
+	case access.User != "" && access.Seed+access.Creds != "" || access.Seed != "" && access.Creds != "":
+		return nil, ErrAccess
+	case access.User != "":
+		text, err := os.ReadFile(access.Secret)
+		return nats.UserInfo(access.User, strings.TrimSpace(string(text))), err
+	case access.Seed != "":
+		option, err := nats.NkeyOptionFromSeed(access.Seed)
+		return option, named(access.Seed, err)
+	case access.Creds != "":
+		option, tried := nats.UserCredentials(access.Creds), nats.Options{}
+		err := option(&tried)
+		if err == nil {
+			_, err = tried.UserJWT()
+		}
+		if err == nil {
+			_, err = tried.SignatureCB(nil)
+		}
+		return option, named(access.Creds, err)
+	}
+	return nil, nil
 }
 
-// dialer reads the password and the authority before each connection.
+// named names the file with which an error came about.
+func named(path string, err error) error {
+	if err == nil {
+		return nil
+	}
+	return fmt.Errorf("%s: %w", path, err)
+}
+
+// dialer reads how this process shows who it is, and the authority, before each connection.
 type dialer struct {
 	*NATS
 	cluster *config.Cluster
@@ -152,8 +179,8 @@ type dialer struct {
 // be read, as it is being renewed, stays as it was.
 func (d *dialer) Dial(network, address string) (net.Conn, error) {
 	if connection := d.current.Load(); connection != nil {
-		if password, err := secret(d.access); err == nil && d.access.User != "" {
-			connection.Opts.Password = password
+		if user, err := user(d.access); err == nil && user != nil {
+			_ = user(&connection.Opts)
 		}
 		pool := x509.NewCertPool()
 		if text, err := os.ReadFile(d.cluster.CA); err == nil && pool.AppendCertsFromPEM(text) {
@@ -161,7 +188,60 @@ func (d *dialer) Dial(network, address string) (net.Conn, error) {
 			connection.Opts.TLSConfig.RootCAs = pool
 		}
 	}
+	if !isListed(d.cluster, address) {
+		return nil, fmt.Errorf("%w: %s", errUnlisted, address)
+	}
 	return net.DialTimeout(network, address, time.Second)
+}
+
+// errUnlisted is returned for a server that another one named, and the cluster's file does not.
+var errUnlisted = errors.New("this is none of the cluster's servers")
+
+// isListed returns whether an address is that of a server of the cluster's file. The library finds
+// the addresses of a name itself, and also goes to servers that a server names.
+func isListed(cluster *config.Cluster, address string) bool {
+	for _, server := range cluster.Servers {
+		host, port := endpoint(server)
+		if net.JoinHostPort(host, port) == address {
+			return true
+		}
+		if !strings.HasSuffix(address, ":"+port) || net.ParseIP(host) != nil {
+			continue
+		}
+		found, _ := net.LookupHost(host)
+		for _, one := range found {
+			if net.JoinHostPort(one, port) == address {
+				return true
+			}
+		}
+	}
+	return false
+}
+
+// ports are those of servers that name none, where it is not 4222.
+var ports = map[string]string{"ws": "80", "wss": "443"}
+
+// endpoint returns the host and the port of a server.
+func endpoint(server string) (host, port string) {
+	at, err := parse(server)
+	if err != nil {
+		return "", ""
+	}
+	if port = at.Port(); port != "" {
+		return at.Hostname(), port
+	}
+	if port = ports[at.Scheme]; port == "" {
+		port = "4222"
+	}
+	return at.Hostname(), port
+}
+
+// parse reads a server's URL.
+func parse(server string) (*url.URL, error) {
+	if !strings.Contains(server, "://") {
+		server = "nats://" + server
+	}
+	return url.Parse(server)
 }
 
 // CertificateEnd returns when the certificate in this process's files ends, and 0 if there is none

@@ -2,6 +2,7 @@ package transport_test
 
 import (
 	"bufio"
+	"encoding/json"
 	"errors"
 	"fmt"
 	"net"
@@ -9,6 +10,7 @@ import (
 	"os/exec"
 	"path/filepath"
 	"strings"
+	"sync/atomic"
 	"testing"
 	"time"
 
@@ -37,9 +39,12 @@ func until(t *testing.T, what string, so func() bool) {
 	}
 }
 
-// greet speaks to a client as a server until it was asked for a sign of life, and then reads nothing more.
-func greet(connection net.Conn) {
-	fmt.Fprint(connection, `INFO {"server_id":"test","version":"2.9.10","proto":1,"max_payload":1048576}`+"\r\n")
+// greet speaks to a client as a server until it was asked for a sign of life, and then reads nothing more. It names other
+// servers.
+func greet(connection net.Conn, others ...string) {
+	names, _ := json.Marshal(others)
+	fmt.Fprintf(connection, `INFO {"server_id":"test","version":"2.9.10","proto":1,"max_payload":1048576,"connect_urls":%s}`+
+		"\r\n", names)
 	for lines := bufio.NewScanner(connection); lines.Scan(); {
 		if lines.Text() == "PING" {
 			fmt.Fprint(connection, "PONG\r\n")
@@ -98,9 +103,45 @@ func TestServerStandsStill(t *testing.T) {
 	}
 }
 
+// A server that names another one leads nobody there.
+func TestUnlistedServer(t *testing.T) {
+	var came [2]atomic.Int32
+	var at [2]string
+	for i := range came {
+		listener, err := net.Listen("tcp", "127.0.0.1:0")
+		if err != nil {
+			t.Fatal(err)
+		}
+		defer listener.Close()
+		i := i
+		at[i] = listener.Addr().String()
+		go func() {
+			for {
+				connection, err := listener.Accept()
+				if err != nil {
+					return
+				}
+				came[i].Add(1)
+				greet(connection, at[1])
+				connection.Close()
+			}
+		}()
+	}
+	named := strings.Replace(at[0], "127.0.0.1", "localhost", 1)
+	for _, address := range []string{at[0], named} {
+		connect(t, address, config.Access{})
+		before := came[0].Load()
+		until(t, "the server ended some connections", func() bool { return came[0].Load() > before+3 })
+	}
+	if n := came[1].Load(); n > 0 {
+		t.Errorf("%d connections came to a server that only another one names", n)
+	}
+}
+
 // server is a server of NATS that can be killed and started again.
 type server struct {
 	path, address, log string
+	users              []string // the words that say who its users are
 	run                *exec.Cmd
 }
 
@@ -108,7 +149,7 @@ type server struct {
 func (s *server) start(t *testing.T) {
 	t.Helper()
 	host, port, _ := net.SplitHostPort(s.address)
-	s.run = exec.Command(s.path, "-a", host, "-p", port, "--user", "shop", "--pass", "right", "-l", s.log)
+	s.run = exec.Command(s.path, append([]string{"-a", host, "-p", port, "-l", s.log}, s.users...)...)
 	if err := s.run.Start(); err != nil {
 		t.Fatal(err)
 	}
@@ -130,6 +171,12 @@ func (s *server) kill() {
 // begin starts a new server, which has one user.
 func begin(t *testing.T) *server {
 	t.Helper()
+	return beginWith(t, "--user", "shop", "--pass", "right")
+}
+
+// beginWith starts a new server with the users that some words say.
+func beginWith(t *testing.T, users ...string) *server {
+	t.Helper()
 	path, err := local.NATSServer()
 	if err != nil {
 		t.Skip("apt-get install nats-server")
@@ -138,7 +185,8 @@ func begin(t *testing.T) *server {
 	if err != nil {
 		t.Fatal(err)
 	}
-	s := &server{path: path, address: fmt.Sprintf("127.0.0.1:%d", ports[0]), log: filepath.Join(t.TempDir(), "log")}
+	s := &server{path: path, address: fmt.Sprintf("127.0.0.1:%d", ports[0]), log: filepath.Join(t.TempDir(), "log"),
+		users: users}
 	s.start(t)
 	t.Cleanup(func() { s.kill() })
 	return s
@@ -243,6 +291,18 @@ func TestNoPasswordInClear(t *testing.T) {
 		}
 		if errors.Is(err, transport.ErrClear) != isRefused {
 			t.Errorf("%s: %v", server, err)
+		}
+	}
+	here, far := []string{"nats://127.0.0.1:1"}, []string{"nats://10.0.0.1:4222"}
+	for _, one := range []struct {
+		access    config.Access
+		servers   []string
+		isRefused bool
+	}{{config.Access{Creds: "none"}, far, true}, {config.Access{Creds: "none"}, here, false},
+		{config.Access{Seed: "none"}, far, false}} {
+		_, err := transport.Connect(&config.Cluster{Servers: one.servers}, one.access, "test")
+		if err == nil || errors.Is(err, transport.ErrClear) != one.isRefused {
+			t.Errorf("%+v: %v", one, err)
 		}
 	}
 	none := config.Access{}

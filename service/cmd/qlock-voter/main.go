@@ -28,7 +28,7 @@ func main() {
 	ctx, stop := signal.NotifyContext(context.Background(), syscall.SIGINT, syscall.SIGTERM)
 	defer stop()
 	if err := command(ctx).Execute(); err != nil {
-		fmt.Fprintf(os.Stderr, "%s%v\n", prefix, err)
+		fmt.Fprintf(os.Stderr, "%s%s%v\n", event.Stderr.Priority(event.Error), prefix, err)
 		os.Exit(exitStatus(err))
 	}
 }
@@ -59,8 +59,11 @@ func exitStatus(err error) int {
 
 func command(ctx context.Context) *cobra.Command {
 	var path string
-	root := &cobra.Command{Use: "qlock-voter", Short: "A voter of the lock service", Version: qlock.Version(), SilenceUsage: true, SilenceErrors: true}
-	root.PersistentFlags().StringVarP(&path, "config", "c", "voter.toml", "the voter's file")
+	root := &cobra.Command{Use: "qlock-voter", Short: "A voter of the lock service",
+		Long: "A voter of the lock service. Each setting of its file is also a variable of the environment, which goes " +
+			"before the file: max_locks is QLOCK_MAX_LOCKS. Without a file all are.", Version: qlock.Version(), SilenceUsage: true, SilenceErrors: true}
+	root.PersistentFlags().StringVarP(&path, "config", "c", "",
+		"the voter's file; "+config.VoterFile+" if there is one")
 	root.AddCommand(
 		&cobra.Command{Use: "init", Args: cobra.NoArgs, Short: "Make the state of this voter, once",
 			RunE: func(*cobra.Command, []string) error { return initialise(ctx, path) }},
@@ -123,6 +126,7 @@ func start(ctx context.Context, path string) error {
 	if err != nil {
 		return err
 	}
+	event.Stderr.SetLeast(own.Log)
 	if err := checkApart(ctx, path, own.Data); ctx.Err() != nil {
 		return nil
 	} else if err != nil {
@@ -145,7 +149,7 @@ func start(ctx context.Context, path string) error {
 		server := &http.Server{Handler: daemon.Handler(), ReadHeaderTimeout: 5 * time.Second}
 		go func() {
 			if err := server.Serve(listener); !errors.Is(err, http.ErrServerClosed) {
-				event.Stderr.Write("metrics-failed", "why", err)
+				event.Stderr.Write(event.Error, "metrics-failed", "why", err)
 			}
 		}()
 		defer server.Close()

@@ -21,7 +21,7 @@ import (
 
 // TestMain lets this program be qlock-voter where a test, or a start, runs it as that.
 func TestMain(m *testing.M) {
-	if os.Getenv("QLOCK_VOTER_MAIN") != "" {
+	if os.Getenv("VOTER_MAIN") != "" {
 		main()
 		return
 	}
@@ -56,7 +56,7 @@ func execute(words ...string) error {
 
 // What no restart mends has the exit status for which the unit starts nothing again.
 func TestExitStatus(t *testing.T) {
-	t.Setenv("QLOCK_VOTER_MAIN", "1")
+	t.Setenv("VOTER_MAIN", "1")
 	file, data := files(t)
 	want := func(what string, status int, err error, is error) {
 		t.Helper()
@@ -87,6 +87,34 @@ func TestExitStatus(t *testing.T) {
 	want("another error", 1, voter.ErrSave, voter.ErrSave)
 }
 
+// A voter whose settings are all in the environment needs no file, and neither does its check.
+func TestWithoutFile(t *testing.T) {
+	t.Setenv("VOTER_MAIN", "1")
+	file, data := files(t)
+	before, err := os.Getwd()
+	if err != nil {
+		t.Fatal(err)
+	}
+	defer os.Chdir(before)
+	if err := os.Chdir(t.TempDir()); err != nil {
+		t.Fatal(err)
+	}
+	for name, value := range map[string]string{"CLUSTER": filepath.Join(filepath.Dir(file), "cluster.toml"), "VOTER": "a",
+		"DATA": data} {
+		t.Setenv("QLOCK_"+name, value)
+	}
+	if err := execute("init"); err != nil {
+		t.Fatal(err)
+	}
+	if err := checkApart(context.Background(), "", data); err != nil {
+		t.Error(err)
+	}
+	t.Setenv("QLOCK_VOTR", "b")
+	if err := execute("start"); exitStatus(err) != exitHopeless || !strings.Contains(err.Error(), "QLOCK_VOTR") {
+		t.Errorf("a slip of the pen: status %d, %v", exitStatus(err), err)
+	}
+}
+
 // The unit starts no voter again that no restart helps. It waits until the voter has started, and
 // watches its loop.
 func TestUnit(t *testing.T) {
@@ -105,7 +133,7 @@ func TestUnit(t *testing.T) {
 // Whatever is damaged or cut off: a start with it ends with one line and the status that no restart
 // helps, also where a read ends the process. Or it is nothing that a voter reads.
 func TestDamagedStarts(t *testing.T) {
-	t.Setenv("QLOCK_VOTER_MAIN", "1")
+	t.Setenv("VOTER_MAIN", "1")
 	file, data := files(t)
 	if err := execute("init", "-c", file); err != nil {
 		t.Fatal(err)

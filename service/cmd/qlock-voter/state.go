@@ -69,7 +69,7 @@ func checkApart(ctx context.Context, path, data string) error {
 		return err
 	}
 	var said bytes.Buffer
-	apart := exec.CommandContext(ctx, self, "check", "-c", path)
+	apart := exec.CommandContext(ctx, self, "check", "-c", path) // and the same environment
 	apart.Stderr = &said
 	if err = apart.Run(); err == nil {
 		return nil

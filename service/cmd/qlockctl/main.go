@@ -16,6 +16,7 @@ import (
 	"calvundek.example/service/qlock"
 	"calvundek.example/service/transport"
 	"github.com/spf13/cobra"
+	"github.com/spf13/pflag"
 )
 
 // settings are the flags of all commands.
@@ -51,11 +52,14 @@ func main() {
 
 func command(ctx context.Context) *cobra.Command {
 	s := &settings{}
-	root := &cobra.Command{Use: "qlockctl", Short: "Operate a lock service", Version: qlock.Version(), SilenceUsage: true, SilenceErrors: true}
+	root := &cobra.Command{Use: "qlockctl", Short: "Operate a lock service", Version: qlock.Version(), SilenceUsage: true, SilenceErrors: true,
+		PersistentPreRunE: func(command *cobra.Command, _ []string) error { return readEnvironment(command) }}
 	flags := root.PersistentFlags()
 	flags.StringVarP(&s.cluster, "cluster", "c", "/etc/qlock/cluster.toml", "the cluster's file")
 	flags.StringVar(&s.access.User, "user", "", "the user of NATS")
 	flags.StringVar(&s.access.Secret, "secret", "", "the file of the user's password")
+	flags.StringVar(&s.access.Seed, "seed", "", "the file of the seed of an nkey, in place of a user with a password")
+	flags.StringVar(&s.access.Creds, "creds", "", "the file of credentials, in place of a user with a password")
 	flags.StringVar(&s.access.Cert, "cert", "", "the file of a certificate")
 	flags.StringVar(&s.access.Key, "key", "", "the file of the certificate's key")
 	flags.DurationVar(&s.timeout, "timeout", 3*time.Second, "how long to wait for replies of voters")
@@ -63,6 +67,36 @@ func command(ctx context.Context) *cobra.Command {
 	root.AddCommand(initCommand(s), statusCommand(ctx, s), reportCommand(ctx, s), evictCommand(ctx, s), unlockCommand(ctx, s),
 		exchangeCommand(ctx, s), retireCommand(ctx, s), runCommand(ctx, s))
 	return root
+}
+
+// fromEnvironment are the flags that the environment has, too: --cluster is QLOCK_CLUSTER.
+var fromEnvironment = []string{"cluster", "user", "secret", "seed", "creds", "cert", "key", "timeout", "prefix"}
+
+// readEnvironment sets the flags that are not given, and are in the environment.
+func readEnvironment(command *cobra.Command) (err error) {
+	if err = config.CheckEnvironment(); err == nil {
+		for _, name := range fromEnvironment {
+			if err = setFlag(command.Flags().Lookup(name)); err != nil {
+				err = fmt.Errorf("%w: the environment's --%s: %v", config.ErrConfig, name, err)
+				break
+			}
+		}
+	}
+	if err != nil && command.Name() == "run" {
+		return status{exitSettings, err}
+	}
+	return err
+}
+
+// setFlag sets a flag that is not given by the environment, if the command has it.
+func setFlag(flag *pflag.Flag) error {
+	if flag == nil || flag.Changed {
+		return nil
+	}
+	if text := config.FromEnvironment(flag.Name); text != "" {
+		return flag.Value.Set(text)
+	}
+	return nil
 }
 
 // ask asks voters, and hands their replies to a function.
@@ -83,5 +117,6 @@ func (s *settings) ask(ctx context.Context, use func(ctx context.Context, cluste
 
 // client returns the configuration of a client.
 func (s *settings) client(prefix string) locks.Config {
-	return locks.Config{Cluster: s.cluster, Prefix: prefix, User: s.access.User, Secret: s.access.Secret, Cert: s.access.Cert, Key: s.access.Key}
+	return locks.Config{Cluster: s.cluster, Prefix: prefix, User: s.access.User, Secret: s.access.Secret,
+		Seed: s.access.Seed, Creds: s.access.Creds, Cert: s.access.Cert, Key: s.access.Key}
 }

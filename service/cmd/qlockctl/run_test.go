@@ -39,12 +39,12 @@ func TestRunProgram(t *testing.T) {
 
 // A program is killed with the process that runs it.
 func TestProgramIsKilledWithRun(t *testing.T) {
-	if os.Getenv("QLOCK_RUNS") != "" {
+	if os.Getenv("TEST_RUNS") != "" {
 		_, _ = runProgram(context.Background(), time.Second, []string{"sh", "-c", "echo $$; exec sleep 60"}, "A=b")
 		return
 	}
 	run := exec.Command(os.Args[0], "-test.run", "^TestProgramIsKilledWithRun$")
-	run.Env = append(os.Environ(), "QLOCK_RUNS=1")
+	run.Env = append(os.Environ(), "TEST_RUNS=1")
 	out, err := run.StdoutPipe()
 	if err != nil {
 		t.Fatal(err)

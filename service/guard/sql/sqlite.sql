@@ -12,8 +12,10 @@
 -- what was written after it. `.bail on` is for a script of the shell sqlite3: then the shell ends at an error, and keeps
 -- nothing, and without it the shell goes on. A program has no such line, and rolls back itself.
 --
+-- A guard is made once, before: INSERT INTO qlock_guard (name) VALUES ('orders').
+--
 -- A pass has 512 bytes: for each of 64 voters the number of a grant, 8 bytes, the lowest first (locks.Held.Token). Bind it
--- as a blob.
+-- as a blob. A script has it as x'$QLOCK_PASS'.
 
 CREATE TABLE qlock_guard (
     name TEXT PRIMARY KEY,

@@ -1,5 +1,5 @@
 // Package config reads the two files of a process: the cluster's, which all processes share and `qlockctl init` makes,
-// and a voter's own.
+// and a voter's own. What is not of the cluster may be in the environment, too.
 package config
 
 import (
@@ -9,9 +9,11 @@ import (
 	"encoding/hex"
 	"errors"
 	"fmt"
+	"os"
 	"strconv"
 	"time"
 
+	"calvundek.example/service/internal/event"
 	"calvundek.example/service/internal/wire"
 	"calvundek.example/service/qlock"
 	"github.com/BurntSushi/toml"
@@ -27,6 +29,10 @@ var (
 // shortestTTL is the shortest TTL: what delays a client's word beside a busy machine is to be small
 // beside the margin of a lease.
 const shortestTTL = time.Second
+
+// MostPlan is how many bytes a coterie and its plan may have together that come over the network. A cycle has at most
+// 999999 tickets, so such a plan is read in less than a second.
+const MostPlan = 96 << 10
 
 // Duration is a time that is written as "250ms".
 type Duration struct{ time.Duration }
@@ -57,10 +63,13 @@ type Cluster struct {
 	OldPlanned *qlock.Plan `toml:"-"` // nil if none is being exchanged
 }
 
-// Access is how a process shows the servers of NATS who it is. All of it may be empty.
+// Access is how a process shows the servers of NATS who it is. All of it may be empty. Of a password, a
+// seed and credentials there is one at most.
 type Access struct {
 	User   string `toml:"user"`
 	Secret string `toml:"secret"` // the file of the password
+	Seed   string `toml:"seed"`   // the file of the seed of an nkey, which is the user
+	Creds  string `toml:"creds"`  // the file of credentials: a JWT, and the seed of its user
 	Cert   string `toml:"cert"`   // the files of a certificate and of its key
 	Key    string `toml:"key"`
 }
@@ -75,6 +84,8 @@ type Voter struct {
 	MaxLocks int      `toml:"max_locks"`
 	First    Duration `toml:"remind_first"`
 	Most     Duration `toml:"remind_most"`
+
+	Log event.Level `toml:"log"` // the least level of what is logged
 	Access
 }
 
@@ -181,23 +192,56 @@ func (c *Cluster) Text() ([]byte, error) {
 	return text.Bytes(), err
 }
 
-// ReadVoter reads a voter's file, and that of its cluster.
+// VoterFile is the voter's file if nobody names another one. It need not be there.
+const VoterFile = "voter.toml"
+
+// ReadVoter reads a voter's file, the environment, which goes before it, and the cluster's file.
+// Without a path it is VoterFile, if that is there.
 func ReadVoter(path string) (*Voter, *Cluster, error) {
 	v := &Voter{MaxLocks: 100000, First: Duration{250 * time.Millisecond}, Most: Duration{5 * time.Second}}
-	if err := decode(path, v); err != nil {
+	place := path // what an error names
+	if path == "" {
+		place = VoterFile
+	}
+	if _, err := os.Stat(place); path == "" && errors.Is(err, os.ErrNotExist) {
+		place = "there is no " + VoterFile + ", and in the environment"
+	} else if err := decode(place, v); err != nil {
 		return nil, nil, err
 	}
-	if v.Data == "" || v.MaxLocks < 1 || v.First.Duration <= 0 || v.Most.Duration < v.First.Duration {
-		return nil, nil, fmt.Errorf("%s: %w: data, max_locks, remind_first or remind_most", path, ErrConfig)
+	if err := CheckEnvironment(); err != nil {
+		return nil, nil, err
+	}
+	if err := Environ(v); err != nil {
+		return nil, nil, err
+	}
+	if why := v.fault(); why != "" {
+		return nil, nil, fmt.Errorf("%w: %s: %s", ErrConfig, place, why)
 	}
 	cluster, err := ReadCluster(v.Cluster)
 	if err != nil {
 		return nil, nil, err
 	}
 	if cluster.Number(v.Voter) < 0 {
-		return nil, nil, fmt.Errorf("%s: %w: the coterie has no voter %q", path, ErrConfig, v.Voter)
+		return nil, nil, fmt.Errorf("%w: %s: the coterie has no voter %q", ErrConfig, place, v.Voter)
 	}
 	return v, cluster, nil
+}
+
+// fault returns what is wrong with a voter's settings, "" if nothing is.
+func (v *Voter) fault() string {
+	switch {
+	case v.Cluster == "":
+		return "cluster is not set"
+	case v.Voter == "":
+		return "voter is not set"
+	case v.Data == "":
+		return "data is not set"
+	case v.MaxLocks < 1:
+		return "max_locks has to be 1 or more"
+	case v.First.Duration <= 0 || v.Most.Duration < v.First.Duration:
+		return "remind_first has to be above 0, and remind_most may not be shorter"
+	}
+	return ""
 }
 
 // decode reads a file. A key that nothing reads is refused.

@@ -65,13 +65,14 @@ func TestVoterFile(t *testing.T) {
 		_, _, err := ReadVoter(path)
 		return err
 	}
-	if err := read("voter = \"b\"\ndata = \"d\"\nuser = \"u\"\nsecret = \"s\"\n"); err != nil {
+	if err := read("voter = \"b\"\ndata = \"d\"\nuser = \"u\"\nsecret = \"s\"\nlog = \"error\"\n"); err != nil {
 		t.Error(err)
 	}
 	for what, text := range map[string]string{
 		"no such voter":         "voter = \"c\"\ndata = \"d\"\n",
 		"no folder":             "voter = \"b\"\n",
 		"an unknown key":        "voter = \"b\"\ndata = \"d\"\nuser_name = \"u\"\n",
+		"no such level":         "voter = \"b\"\ndata = \"d\"\nlog = \"loud\"\n",
 		"no locks":              "voter = \"b\"\ndata = \"d\"\nmax_locks = 0\n",
 		"reminders that shrink": "voter = \"b\"\ndata = \"d\"\nremind_first = \"10s\"\n",
 	} {

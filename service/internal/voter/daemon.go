@@ -163,7 +163,7 @@ func (d *Daemon) listen() (err error) {
 // Run is the loop. It returns nil when the context ends, and ErrSave when a save fails.
 func (d *Daemon) Run(ctx context.Context) error {
 	defer d.store.db.Close()
-	d.log.Write("start", "voter", d.own.Voter, "number", d.store.meta.Voter, "cluster", d.cluster.ID,
+	d.log.Write(event.Info, "start", "voter", d.own.Voter, "number", d.store.meta.Voter, "cluster", d.cluster.ID,
 		"block", d.store.meta.Block, "identity", d.store.meta.Identity, "locks", len(d.votes))
 	next := time.Now()
 	for {
@@ -175,14 +175,14 @@ func (d *Daemon) Run(ctx context.Context) error {
 			next = now.Add(tick)
 		}
 		if d.older {
-			d.log.Write("older-copy", "saves", d.store.saves)
+			d.log.Write(event.Error, "older-copy", "saves", d.store.saves)
 			if err := d.store.condemn(); err != nil {
-				d.log.Write("save-failed", "why", err)
+				d.log.Write(event.Error, "save-failed", "why", err)
 			}
 			return fmt.Errorf("%s: %w", file(d.own.Data), ErrOlder)
 		}
 		if err := d.commit(now); err != nil {
-			d.log.Write("save-failed", "why", err)
+			d.log.Write(event.Error, "save-failed", "why", err)
 			return err
 		}
 		d.lively.Store(now.UnixNano())
@@ -224,7 +224,7 @@ func (d *Daemon) end() error {
 		}
 	}
 	err := d.commit(time.Now())
-	d.log.Write("end", "voter", d.own.Voter)
+	d.log.Write(event.Info, "end", "voter", d.own.Voter)
 	return err
 }
 
@@ -233,7 +233,7 @@ func (d *Daemon) end() error {
 func (d *Daemon) look(now time.Time) {
 	if d.link != nil && d.link.Returns() != d.returns {
 		d.returns = d.link.Returns()
-		d.log.Write("broker-back", "returns", d.returns)
+		d.log.Write(event.Info, "broker-back", "returns", d.returns)
 	}
 	if d.link == nil || d.link.Connected() {
 		d.away = now
@@ -243,7 +243,7 @@ func (d *Daemon) look(now time.Time) {
 		if link, ok := d.link.(interface{ Why() error }); ok {
 			why = link.Why()
 		}
-		d.log.Write("broker-away", "why", why)
+		d.log.Write(event.Warning, "broker-away", "why", why)
 	}
 }
 
@@ -335,7 +335,7 @@ func (d *Daemon) first(l *letter, lock []byte, said wire.Line) *vote {
 		d.m.full.Inc()
 		if !d.isFull {
 			d.isFull = true
-			d.log.Write("full", "locks", len(d.votes), "lock", string(lock))
+			d.log.Write(event.Warning, "full", "locks", len(d.votes), "lock", string(lock))
 		}
 		return nil
 	}
@@ -382,7 +382,7 @@ func (d *Daemon) refuse(v *vote, why error) {
 		d.m.spent.Inc()
 		if !v.isSpent {
 			v.isSpent = true
-			d.log.Write("grants-spent", "lock", v.name)
+			d.log.Write(event.Error, "grants-spent", "lock", v.name)
 		}
 	}
 }
@@ -494,6 +494,7 @@ func (d *Daemon) open(l *letter, speaker verdict, oldest []byte) bool {
 func (d *Daemon) shut(l *letter, speaker verdict) {
 	if speaker == known {
 		d.table.end(l.Number)
+		d.log.Write(event.Debug, "session-ended", "client", l.Number, "epoch", l.Epoch)
 		d.tell(l.Name, "closed %d %d", l.Number, l.Epoch)
 	}
 }
@@ -533,6 +534,7 @@ func (d *Daemon) claim(name string, words [][]byte, now time.Time) bool {
 	if before.Name != name || before.Epoch != epoch {
 		d.asksBy[number] = 0
 		d.recount(number)
+		d.log.Write(event.Debug, "session-claimed", "client", number, "epoch", epoch)
 	}
 	d.tell(name, "claimed %d %d %d %d", number, epoch, row.Base, row.Reserved)
 	return true
@@ -550,7 +552,7 @@ func (d *Daemon) round(now time.Time) {
 				d.table.lapse(int(held.Client))
 			}
 			d.m.expired.Inc()
-			d.log.Write("lease-expired", "lock", v.name, "client", held.Client, "stamp", held.Stamp, "grant", held.Number)
+			d.log.Write(event.Warning, "lease-expired", "lock", v.name, "client", held.Client, "stamp", held.Stamp, "grant", held.Number)
 		}
 		if v.timer.IsDue(now) {
 			if lines, err := v.Remind(nil); err == nil && len(lines) > 0 {

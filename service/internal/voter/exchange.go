@@ -9,6 +9,7 @@ import (
 	"time"
 
 	"calvundek.example/service/internal/config"
+	"calvundek.example/service/internal/event"
 	"calvundek.example/service/internal/wire"
 	"calvundek.example/service/qlock"
 )
@@ -22,9 +23,6 @@ var (
 	ErrLag      = errors.New("clients still have requests of the old plan")
 	ErrAnother  = errors.New("the voter has another plan of this number: another exchange was begun")
 )
-
-// mostPlan is how many bytes the two texts of a plan may have, to be sent in one message.
-const mostPlan = 96 << 10
 
 // Texts are a coterie and a plan of it.
 type Texts struct {
@@ -113,7 +111,7 @@ func (g Generations) next(number uint64, texts Texts) (Generations, error) {
 		return g, ErrSettle
 	case number != g.Number+1:
 		return g, ErrNumber
-	case len(texts.Coterie)+len(texts.Plan) > mostPlan:
+	case len(texts.Coterie)+len(texts.Plan) > config.MostPlan:
 		return g, ErrLong
 	}
 	old, err := qlock.ReadPlan(g.Now.Coterie, g.Now.Plan)
@@ -226,7 +224,7 @@ func (d *Daemon) takePlan(number uint64, coterie, plan string, takes bool) error
 	g, err := d.plans.next(number, Texts{string(first), string(second)})
 	if err == nil && takes && g.Number != d.plans.Number {
 		d.setPlans(g)
-		d.log.Write("exchange", "generation", number)
+		d.log.Write(event.Info, "exchange", "generation", number)
 	}
 	return err
 }
@@ -268,7 +266,7 @@ func (d *Daemon) retire(number uint64, mark string) error {
 		d.recount(client)
 	}
 	d.setPlans(d.plans.retire())
-	d.log.Write("retire", "generation", number, "ended", len(silent))
+	d.log.Write(event.Info, "retire", "generation", number, "ended", len(silent))
 	return nil
 }
 
@@ -290,7 +288,7 @@ func (d *Daemon) settle(number uint64, mark, text string, now time.Time) error {
 		g := d.plans
 		g.Settled = true
 		d.setPlans(g)
-		d.log.Write("settled", "generation", number)
+		d.log.Write(event.Info, "settled", "generation", number)
 	}
 	return nil
 }

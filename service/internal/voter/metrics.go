@@ -19,10 +19,10 @@ type metrics struct {
 	registry                                                                              *prometheus.Registry
 	received, foreign, refused, unproved, unsent, reminders, expired, grants, spent, full prometheus.Counter
 	commit, batch                                                                         prometheus.Histogram
-	locks, busy, sessions, numbers, plan, left                                            prometheus.Gauge
+	locks, busy, held, sessions, numbers, plan, left                                      prometheus.Gauge
 
-	held, waiting oldest // of the grants that last, and of the requests that wait
-	most          uint64 // the highest number of a grant that was noted
+	lasting, waiting oldest // of the grants that last, and of the requests that wait
+	most             uint64 // the highest number of a grant that was noted
 }
 
 // highest notes the number of a grant, and returns the highest one that was noted.
@@ -73,12 +73,13 @@ func newMetrics() *metrics {
 	m.commit = m.histogram("commit_seconds", "Time of one save.", prometheus.ExponentialBuckets(0.0002, 2, 14))
 	m.batch = m.histogram("commit_votes", "Votes of one save.", prometheus.ExponentialBuckets(1, 2, 12))
 	m.locks = m.gauge("locks", "Locks that this voter knows.")
-	m.busy = m.gauge("locks_held", "Locks whose vote somebody has.")
+	m.busy = m.gauge("locks_busy", "Locks that somebody has or waits for.")
+	m.held = m.gauge("locks_held", "Locks whose vote somebody has.")
 	m.sessions = m.gauge("sessions", "Sessions that are open.")
 	m.numbers = m.gauge("numbers_free", "Client numbers that are free, or whose session was silent for the TTL.")
 	m.plan = m.gauge("plan", "How often the plan was exchanged.")
 	m.left = m.gauge("grants_left", "How many grants may follow the highest one that this run saw.")
-	m.read("held_oldest_seconds", "How long the grant lasts that has lasted longest.", m.held.age)
+	m.read("held_oldest_seconds", "How long the grant lasts that has lasted longest.", m.lasting.age)
 	m.read("waiting_oldest_seconds", "How long the request waits that has waited longest.", m.waiting.age)
 	return m
 }
@@ -159,11 +160,11 @@ func (m *metrics) histogram(name, help string, buckets []float64) prometheus.His
 
 // measure sets the numbers that are looked at from time to time.
 func (d *Daemon) measure(now time.Time) {
-	held, waiting, busy, open, free := now, now, 0, 0, 0
+	lasting, waiting, held, open, free := now, now, 0, 0, 0
 	for v := range d.busy {
 		if v.held.Number > 0 {
-			busy++
-			held = earlier(held, v.since)
+			held++
+			lasting = earlier(lasting, v.since)
 		}
 		for client, ask := range v.asks {
 			if !v.isHolder(client) {
@@ -179,9 +180,10 @@ func (d *Daemon) measure(now time.Time) {
 			free++
 		}
 	}
-	d.m.held.note(held, now)
+	d.m.lasting.note(lasting, now)
 	d.m.waiting.note(waiting, now)
-	d.m.busy.Set(float64(busy))
+	d.m.busy.Set(float64(len(d.busy)))
+	d.m.held.Set(float64(held))
 	d.m.sessions.Set(float64(open))
 	d.m.numbers.Set(float64(free))
 	d.m.plan.Set(float64(d.plans.Number))

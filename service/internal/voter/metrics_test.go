@@ -59,6 +59,7 @@ func TestNumbersOfAVoter(t *testing.T) {
 		"process_open_fds ", "qlock_voter_certificate_end_timestamp_seconds 1.9e+09",
 		"qlock_voter_counts_unproved_total 0", fmt.Sprintf("qlock_voter_grants_left %v", float64(blockSize-1)),
 		"qlock_voter_held_oldest_seconds 3600.", "qlock_voter_waiting_oldest_seconds 0",
+		fmt.Sprintf("qlock_voter_locks_busy %d", d.status(time.Now()).Busy), "qlock_voter_locks_held 1",
 		"qlock_voter_requests_full_total 0", "qlock_voter_broker_reconnects_total 0"} {
 		if !strings.Contains(page.Body.String(), "\n"+line) {
 			t.Errorf("there is no %q", line)

@@ -8,6 +8,7 @@ import (
 	"time"
 
 	"calvundek.example/service/internal/config"
+	"calvundek.example/service/internal/event"
 	"calvundek.example/service/internal/wire"
 	"calvundek.example/service/qlock"
 )
@@ -174,7 +175,7 @@ func (d *Daemon) evict(number int, now time.Time) LetGo {
 		}
 	}
 	d.recount(number)
-	d.log.Write("evicted", "client", number, "grants", gone)
+	d.log.Write(event.Warning, "evicted", "client", number, "grants", gone)
 	return LetGo{gone}
 }
 
@@ -184,7 +185,7 @@ func (d *Daemon) unlock(lock string, grant uint64, now time.Time) LetGo {
 	if v == nil || v.held.Number != grant || !d.letGo(v, now) {
 		return LetGo{0}
 	}
-	d.log.Write("unlocked", "lock", lock, "grant", grant)
+	d.log.Write(event.Warning, "unlocked", "lock", lock, "grant", grant)
 	return LetGo{1}
 }
 

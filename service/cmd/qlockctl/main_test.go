@@ -1,0 +1,58 @@
+package main
+
+import (
+	"context"
+	"errors"
+	"strings"
+	"testing"
+	"time"
+
+	"calvundek.example/service/internal/config"
+	"github.com/spf13/cobra"
+)
+
+// What is not given by a flag is in the environment, for each command.
+func TestEnvironment(t *testing.T) {
+	t.Setenv("QLOCK_CLUSTER", "/there/is/none")
+	t.Setenv("QLOCK_TIMEOUT", "7s")
+	t.Setenv("QLOCK_PREFIX", "jobs")
+	execute := func(words ...string) error {
+		root := command(context.Background())
+		root.SetArgs(words)
+		return root.Execute()
+	}
+	for _, words := range [][]string{{"status"}, {"run", "l", "true"}} {
+		if err := execute(words...); !errors.Is(err, config.ErrConfig) || !strings.Contains(err.Error(), "/there/is/none") {
+			t.Errorf("%s: %v", words[0], err)
+		}
+	}
+	if err := execute("status", "-c", "/nor/this"); err == nil || !strings.Contains(err.Error(), "/nor/this") {
+		t.Errorf("a flag goes before the environment: %v", err)
+	}
+	var read *cobra.Command
+	for _, one := range command(context.Background()).Commands() {
+		if one.Name() == "run" {
+			read = one
+		}
+	}
+	if err := read.ParseFlags([]string{"--timeout", "2s"}); err != nil {
+		t.Fatal(err)
+	}
+	if err := readEnvironment(read); err != nil {
+		t.Fatal(err)
+	}
+	prefix, _ := read.Flags().GetString("prefix")
+	if timeout, _ := read.Flags().GetDuration("timeout"); timeout != 2*time.Second || prefix != "jobs" {
+		t.Error(timeout, prefix)
+	}
+	t.Setenv("QLOCK_TIMEOUT", "soon")
+	if err := execute("status"); !errors.Is(err, config.ErrConfig) || !strings.Contains(err.Error(), "timeout") {
+		t.Error(err)
+	}
+	t.Setenv("QLOCK_TIMEOUT", "")
+	t.Setenv("QLOCK_CLUSTR", "slip")
+	var end status
+	if err := execute("run", "l", "true"); !errors.As(err, &end) || end.code != exitSettings {
+		t.Error(err)
+	}
+}
