@@ -35,17 +35,6 @@ pub struct Evicted {
     pub sent: usize,
 }
 
-/// Returns how many grants a voter gave. It is the fourth number that the voter saves.
-#[tactic(auto, unfolding(voter::specs::Saved::words_of))]
-fn granted_of(voter: &Voter) -> u64
-    ensures value { result ≡ voter.now.granted }
-    ensures kept { IsKept voter.now }
-{
-    let mut words = ArrayVec::new();
-    voter.save(&mut words);
-    words[3]
-}
-
 /// Returns the highest stamp that a client may use. It is the third number that the client saves.
 #[tactic(auto, unfolding(requester::specs::Saved::words_of))]
 fn limit_of(client: &Requester) -> u64
@@ -63,7 +52,7 @@ fn own_count(voter: &Voter) -> u64
     ensures value { result ≡ voter.now.granted }
     ensures above { is_above voter.now result ≡ true }
 {
-    granted_of(voter)
+    voter.granted()
 }
 
 /// Returns the stamp of a client's last request, 0 if there was none. It may start anew with this clock.
@@ -99,7 +88,7 @@ fn is_above(voter: &Voter, above: u64) -> bool
     ensures value { result ≡ is_above voter.now above }
     ensures kept { IsKept voter.now }
 {
-    granted_of(voter) <= above && above <= voter.limit()
+    voter.granted() <= above && above <= voter.limit()
 }
 
 /// Returns whether a client may start anew with this clock: whether it used no greater stamp, and its

@@ -77,7 +77,8 @@ impl Voter {
     /// Returns how many grants the voter gave, with those whose numbers it skipped. The next grant has
     /// the number after this one.
     pub fn granted(&self) -> u64
-        ensures { result ≡ self.now.granted }
+        ensures value { result ≡ self.now.granted }
+        ensures kept { IsKept self.now }
     {
         self.state.granted
     }
