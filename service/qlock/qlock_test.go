@@ -43,7 +43,7 @@ func TestRefusals(t *testing.T) {
 		{"a grant above the limit", GrantsSpent, take("request 0 0 2")},
 		{"a limit that falls", BadArgument, voter.Extend(0)},
 		{"a limit that grows", 0, voter.Extend(3)},
-		{"a number that was given", BadArgument, voter.Raise(0)},
+		{"a number below the count", BadArgument, voter.Raise(0)},
 		{"a number above the limit", BadArgument, voter.Raise(4)},
 		{"a number that is skipped", 0, voter.Raise(2)},
 		{"the second grant", 0, take("request 0 0 3")},
