@@ -377,8 +377,6 @@ func (c *Client) flush() {
 		box := wire.VoterBox(c.cluster.ID, voter)
 		header := c.header
 		header.Coterie = c.speaks(voter)
-		header.Saves, header.Proof = c.peers[voter].saves,
-			c.peers[voter].proof // so an older copy of its state notices that it is one
 		header.Split(c.out[voter], func(message []byte) {
 			_ = c.carrier.Send(box, message) // a reminder repeats what is lost
 		})

@@ -41,7 +41,7 @@ func newScene(t *testing.T) *scene {
 	l := s.locks["x"]
 	for v, p := range s.peers {
 		s.marks = append(s.marks, wire.Header{Cluster: s.cluster.ID, Coterie: s.plan.mark, Kind: wire.FromVoter,
-			Number: v, Name: p.identity, Saves: p.saves})
+			Number: v, Name: p.identity, Run: p.run, Start: p.start})
 	}
 	one := bits.TrailingZeros64(l.shown.Quorum)
 	s.missed = bits.TrailingZeros64(l.shown.Quorum &^ (1 << one))
@@ -93,7 +93,7 @@ func (s *scene) view(sender int) view {
 		if i == sender {
 			known = &v.sender
 		}
-		known[i] = fmt.Sprint(p.identity, p.block, p.mark, p.saves, p.known, p.reserved, p.requests, p.closed)
+		known[i] = fmt.Sprint(p.identity, p.run, p.start, p.mark, p.known, p.reserved, p.requests, p.closed)
 	}
 	return v
 }

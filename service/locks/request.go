@@ -186,11 +186,11 @@ func (c *Client) ask(l *lock) {
 		c.refuse(l, fmt.Errorf("%s: %w", l.name, ErrFull))
 		return
 	}
-	quorum := c.nextQuorum(c.silent(now) | full)
+	quorum := c.nextQuorum(c.avoided(now) | full)
 	stamp, lines, err := c.begins(l, quorum)
 	if err == nil && !c.mayAsk(quorum, stamp) {
 		*l.Client = before // these voters may lag behind others
-		quorum = c.nextQuorum(c.silent(now) | full | ^c.owners(stamp))
+		quorum = c.nextQuorum(c.avoided(now) | full | ^c.owners(stamp))
 		stamp, lines, err = c.begins(l, quorum)
 	}
 	switch {
@@ -287,8 +287,12 @@ func (c *Client) askAgain(l *lock) {
 func (c *Client) send(l *lock, lines []byte, now time.Time) {
 	for len(lines) > 0 {
 		end := bytes.IndexByte(lines, '\n') + 1
-		if to := wire.ReadLine(lines[:end]).To; to >= 0 && to < len(c.peers) {
-			c.out[to] = append(append(append(c.out[to], l.name...), ' '), lines[:end]...)
+		if said := wire.ReadLine(lines[:end]); said.To >= 0 && said.To < len(c.peers) {
+			c.out[said.To] = append(append(append(c.out[said.To], l.name...), ' '), lines[:end-1]...)
+			if l.shown.Phase == qlock.Inside && string(said.Word) == "request" {
+				c.out[said.To] = append(c.out[said.To], " inside"...)
+			}
+			c.out[said.To] = append(c.out[said.To], '\n')
 		}
 		lines = lines[end:]
 	}
@@ -404,12 +408,12 @@ func (c *Client) round(now time.Time) {
 	} else {
 		c.lapse()
 	}
-	silent := c.silent(now)
+	avoided := c.avoided(now)
 	for l := range c.busy {
 		switch {
 		case l.shown.Phase == qlock.Idle:
 			c.pump(l)
-		case c.isStuck(l, silent, now):
+		case c.isStuck(l, avoided, now):
 			c.stats.FailOvers++
 			c.askAgain(l)
 		case l.timer.IsDue(now):

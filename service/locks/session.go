@@ -47,13 +47,13 @@ var errTaken = errors.New("locks: another session has the number")
 // peer is a voter, as a session knows it.
 type peer struct {
 	identity string
-	block    uint64                   // how often the voter lost its state
+	run      uint64                   // how often the voter was made again
+	start    uint64                   // how often it started
+	quiet    time.Time                // until then it takes only requests of who is inside
 	mark     string                   // of the newest plan that it has, once it said so
 	oldest   uint64                   // the number of the oldest plan that it said is not retired
 	asked    time.Time                // when it was asked for its plan
 	awaited  bool                     // it was asked, and did not send it yet
-	saves    uint64                   // the highest count of its saves that it told
-	proof    string                   // of that count, which only the voter can make
 	heard    time.Time                // when a message came
 	known    time.Duration            // when the newest heartbeat left that it acknowledged, by uptime
 	sent     map[uint64]time.Duration // when heartbeats left that it did not acknowledge
@@ -423,6 +423,16 @@ func (c *Client) silent(now time.Time) (mask uint64) {
 	return mask
 }
 
+// avoided returns the voters that are asked only if nobody else would do: they are silent, or quiet.
+func (c *Client) avoided(now time.Time) (mask uint64) {
+	for v := range c.peers {
+		if now.Before(c.peers[v].quiet) {
+			mask |= 1 << v
+		}
+	}
+	return mask | c.silent(now)
+}
+
 // message takes a message of a voter.
 func (c *Client) message(data []byte) {
 	h, lines, err := wire.Read(data)
@@ -461,25 +471,42 @@ func (c *Client) message(data []byte) {
 }
 
 // recognise returns whether a message is of the voter that was there before. One that was made again after its state was
-// lost takes its place: it forgot whom it granted its votes, so all requests that have one are over.
+// lost takes its place: it forgot whom it granted its votes, so all requests that have one are over. One that started
+// again may not know whom it granted its last ones.
 func (c *Client) recognise(h wire.Header) bool {
 	p := &c.peers[h.Number]
-	if p.identity == "" {
-		p.identity, p.block = h.Name, h.Block
-	}
-	if p.identity == h.Name {
-		if h.Saves > p.saves || p.proof == "" {
-			p.saves, p.proof = h.Saves, h.Proof
-		}
+	before := *p
+	switch {
+	case h.Name == p.identity && h.Start == p.start:
 		return true
-	}
-	if h.Block <= p.block {
+	case p.identity == "" || h.Name != p.identity && h.Run > p.run || h.Name == p.identity && h.Start > p.start:
+		p.identity, p.run, p.start = h.Name, h.Run, h.Start
+	default:
 		return false
 	}
-	p.identity, p.block, p.saves, p.proof = h.Name, h.Block, h.Saves, h.Proof
-	p.forget()
-	c.spoilAll(1 << h.Number)
+	switch {
+	case before.identity == "":
+	case before.identity != h.Name:
+		p.forget()
+		c.spoilAll(1 << h.Number)
+	default:
+		c.restarted(h.Number)
+	}
 	return true
+}
+
+// restarted renews at a voter that started again the requests that are inside by its vote. Others that have its vote are
+// given up: it may be somebody else's.
+func (c *Client) restarted(voter int) {
+	for l := range c.busy {
+		switch {
+		case l.shown.Phase == qlock.Idle || c.votes(l)>>voter&1 == 0:
+		case l.shown.Phase == qlock.Inside:
+			c.remind(l, time.Now())
+		default:
+			c.askAgain(l)
+		}
+	}
 }
 
 // noteLapses notes how often a voter let a grant of this session go since it was silent. It may be
@@ -528,6 +555,12 @@ func (c *Client) control(voter int, words [][]byte) {
 		c.leaves(voter)
 		return
 	}
+	if len(words) == 2 && string(words[0]) == "quiet" {
+		if left, ok := number(words[1]); ok {
+			c.isQuiet(voter, left)
+		}
+		return
+	}
 	if c.controlPlans(voter, words) {
 		return
 	}
@@ -571,13 +604,26 @@ func (c *Client) control(voter int, words [][]byte) {
 	}
 }
 
-// leaves notes that a voter ends. It is silent at once, and requests that wait for it ask others,
-// if they would do.
+// isQuiet notes that a voter takes no new request for so many milliseconds, at most a TTL.
+func (c *Client) isQuiet(voter int, left uint64) {
+	if most := uint64(c.cluster.TTL.Duration.Milliseconds()); left > most {
+		left = most
+	}
+	c.peers[voter].quiet = time.Now().Add(time.Duration(left) * time.Millisecond)
+	c.avoid()
+}
+
+// leaves notes that a voter ends. It is silent at once.
 func (c *Client) leaves(voter int) {
-	now := time.Now()
 	c.peers[voter].heard = time.Time{}
+	c.avoid()
+}
+
+// avoid lets requests that wait for a silent voter ask others, if they would do.
+func (c *Client) avoid() {
+	now := time.Now()
 	for l := range c.busy {
-		if c.waitsFor(l, c.silent(now)) {
+		if c.waitsFor(l, c.avoided(now)) {
 			c.stats.FailOvers++
 			c.askAgain(l)
 		}

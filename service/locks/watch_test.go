@@ -47,7 +47,7 @@ func TestLostClosesWithoutTheLoop(t *testing.T) {
 func lapsed(c *Client, voter int, lapses uint64, lines string) {
 	p := c.peers[voter]
 	h := wire.Header{Cluster: c.cluster.ID, Coterie: c.plan.mark, Kind: wire.FromVoter, Number: voter,
-		Name: p.identity, Block: p.block, Lapses: lapses}
+		Name: p.identity, Run: p.run, Start: p.start, Lapses: lapses}
 	c.message(append(h.Append(nil), lines...))
 }
 

@@ -52,9 +52,6 @@ func (m *mover) begin() error {
 		if err := m.cluster.Exchange(coterie); err != nil {
 			return err
 		}
-		for len(m.lost) < len(m.cluster.Voters) {
-			m.lost = append(m.lost, 0)
-		}
 		m.coteries, m.retires = m.coteries[1:], true
 		m.insist(func() error { return m.cluster.Install(coterie) })
 	}

@@ -35,7 +35,6 @@ type player struct {
 	mutex   sync.Mutex
 	away    map[*local.Process]bool // what is down, or stands still
 	back    sync.WaitGroup
-	lost    []int // how often each voter lost its state
 	counts  map[string]int
 	failure error
 }
@@ -291,11 +290,7 @@ func (p *player) loseState(i int, one *local.Process) error {
 	if !one.Ended(10*time.Second) || !strings.Contains(one.Log(), "there is no state") {
 		return fmt.Errorf("%s: %w", one.Name, errStarted)
 	}
-	p.lost[i]++
-	if err := p.cluster.WriteVoter(i, p.lost[i]); err != nil {
-		return err
-	}
-	if err := p.cluster.InitVoter(i); err != nil {
+	if err := p.cluster.InitLost(i); err != nil {
 		return err
 	}
 	return one.Start()
@@ -319,7 +314,7 @@ func (p *player) putOlder(one *local.Process, path string) error {
 	if err := one.Start(); err != nil {
 		return err
 	}
-	time.Sleep(p.ttl/2 + time.Second) // the clients hear of later saves
+	time.Sleep(p.ttl/2 + time.Second) // the others hear of the start
 	one.Kill()
 	newest, err := os.ReadFile(path)
 	if err != nil {

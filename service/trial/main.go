@@ -133,7 +133,7 @@ func run(o options) error {
 	}
 	w.open = o.open
 	p := &player{cluster: cluster, witness: w, ttl: o.TTL, options: o, random: rand.New(rand.NewSource(o.seed)),
-		away: map[*local.Process]bool{}, lost: make([]int, len(cluster.Voters)), counts: map[string]int{}}
+		away: map[*local.Process]bool{}, counts: map[string]int{}}
 	self, err := os.Executable()
 	if err != nil {
 		return err

@@ -40,8 +40,8 @@ const prefix = "qlock-voter: "
 const exitHopeless = 78
 
 // hopeless are the errors that no restart mends.
-var hopeless = []error{config.ErrConfig, voter.ErrMissing, voter.ErrOther, voter.ErrOlder, voter.ErrDamaged,
-	voter.ErrFormat}
+var hopeless = []error{config.ErrConfig, voter.ErrMissing, voter.ErrOther, voter.ErrOlder, voter.ErrPlace,
+	voter.ErrDamaged, voter.ErrFormat}
 
 // exitStatus returns the exit status of a command that failed.
 func exitStatus(err error) int {
@@ -65,51 +65,47 @@ func command(ctx context.Context) *cobra.Command {
 	root.PersistentFlags().StringVarP(&path, "config", "c", "",
 		"the voter's file; "+config.VoterFile+" if there is one")
 	root.AddCommand(
-		&cobra.Command{Use: "init", Args: cobra.NoArgs, Short: "Make the state of this voter, once",
-			RunE: func(*cobra.Command, []string) error { return initialise(ctx, path) }},
+		makeCommand(ctx, &path),
 		&cobra.Command{Use: "start", Args: cobra.NoArgs, Short: "Run this voter; its state has to be there",
 			RunE: func(*cobra.Command, []string) error { return start(ctx, path) }},
-		&cobra.Command{Use: "pardon", Args: cobra.NoArgs,
-			Short: "Take the mark of an older copy off a state that is the newest one",
-			Long: "Takes the mark of an older copy off the state of this voter, so that it starts again. It is for a " +
-				"state of which you know that it is the newest one, as after a copy of it served somebody else. On an " +
-				"older copy it breaks the lock: docs/service.md says when it may be used.",
-			RunE: func(*cobra.Command, []string) error { return pardon(path) }},
 		&cobra.Command{Use: "check", Args: cobra.NoArgs,
 			Short: "Read the whole state of this voter, which does not run",
 			RunE:  func(*cobra.Command, []string) error { return check(path) }})
 	return root
 }
 
-// pardon takes the mark of an older copy off the state.
-func pardon(path string) error {
-	own, cluster, err := config.ReadVoter(path)
-	if err != nil {
-		return err
-	}
-	return voter.Pardon(own, cluster)
+// makeCommand returns the command that makes a voter's state.
+func makeCommand(ctx context.Context, path *string) *cobra.Command {
+	var isLost bool
+	c := &cobra.Command{Use: "init", Args: cobra.NoArgs, Short: "Make the state of this voter, once",
+		Long: "Makes the state of this voter. The first start asks the other voters, and is refused if there was a voter of " +
+			"this place before. With --lost the state takes the place of one that was lost: the other voters, which have to " +
+			"run, say what it forgot. The lost one may never come back.",
+		RunE: func(*cobra.Command, []string) error { return initialise(ctx, *path, isLost) }}
+	c.Flags().BoolVar(&isLost, "lost", false, "the state of this voter was lost")
+	return c
 }
 
-// initialise makes the state. With `lost` above 0 it asks the other voters what this one forgot.
-func initialise(ctx context.Context, path string) error {
+// initialise makes the state. If one was lost it asks the other voters what this one forgot.
+func initialise(ctx context.Context, path string, isLost bool) error {
 	own, cluster, err := config.ReadVoter(path)
 	if err != nil {
 		return err
 	}
 	var meta voter.Meta
-	if own.Lost == 0 {
-		meta, err = voter.Init(own, cluster)
+	if isLost {
+		meta, err = initialiseLost(ctx, own, cluster)
 	} else {
-		meta, err = rejoin(ctx, own, cluster)
+		meta, err = voter.Init(own, cluster)
 	}
 	if err != nil {
 		return err
 	}
-	fmt.Printf("voter=%s number=%d cluster=%s lost=%d identity=%s\n", own.Voter, meta.Voter, meta.Cluster, meta.Block, meta.Identity)
+	fmt.Printf("voter=%s number=%d cluster=%s run=%d identity=%s\n", own.Voter, meta.Voter, meta.Cluster, meta.Run, meta.Identity)
 	return nil
 }
 
-func rejoin(ctx context.Context, own *config.Voter, cluster *config.Cluster) (voter.Meta, error) {
+func initialiseLost(ctx context.Context, own *config.Voter, cluster *config.Cluster) (voter.Meta, error) {
 	link, err := transport.Connect(cluster, own.Access, "qlock-voter init "+own.Voter)
 	if err != nil {
 		return voter.Meta{}, err
@@ -117,7 +113,7 @@ func rejoin(ctx context.Context, own *config.Voter, cluster *config.Cluster) (vo
 	defer link.Close()
 	ctx, cancel := context.WithTimeout(ctx, patience)
 	defer cancel()
-	return voter.Rejoin(ctx, own, cluster, operator.New(cluster, link))
+	return voter.InitLost(ctx, own, cluster, operator.New(cluster, link))
 }
 
 // start runs the voter until a signal comes, or a save fails.

@@ -69,7 +69,6 @@ func TestExitStatus(t *testing.T) {
 	if err := execute("init", "-c", file); err != nil {
 		t.Fatal(err)
 	}
-	want("no mark", 1, execute("pardon", "-c", file), voter.ErrNoMark)
 	path := filepath.Join(data, "voter.db")
 	state, err := os.ReadFile(path)
 	if err != nil {

@@ -191,8 +191,8 @@ func statusCommand(ctx context.Context, s *settings) *cobra.Command {
 		if err := json.Unmarshal(r.Body, &one); err != nil {
 			return "", err
 		}
-		return fmt.Sprintf("locks=%d busy=%d sessions=%d granted=%d runs=%s lost=%d identity=%.8s", one.Locks, one.Busy,
-			len(one.Sessions), one.Granted, time.Duration(one.Runs*float64(time.Second)).Round(time.Second), one.Block, one.Identity) +
+		return fmt.Sprintf("locks=%d busy=%d sessions=%d granted=%d runs=%s start=%d run=%d identity=%.8s", one.Locks, one.Busy,
+			len(one.Sessions), one.Granted, time.Duration(one.Runs*float64(time.Second)).Round(time.Second), one.Start, one.Run, one.Identity) +
 			plans(one.Planned), nil
 	})
 }

@@ -3,6 +3,7 @@ package bus
 
 import (
 	"math/rand"
+	"strings"
 	"sync"
 	"time"
 )
@@ -59,7 +60,7 @@ func (p *Port) Cut(cut bool) {
 	}
 }
 
-// Listen returns what comes to a mailbox. Whoever listened before hears nothing any more.
+// Listen returns what comes to a mailbox, or to all of which only the last word differs if that is "*". Whoever listened before hears nothing any more.
 func (p *Port) Listen(mailbox string) (<-chan []byte, error) {
 	p.bus.mutex.Lock()
 	defer p.bus.mutex.Unlock()
@@ -143,8 +144,12 @@ func (b *Bus) occurs(percent int) bool { return b.random.Intn(100) < percent }
 
 // post puts a message into a mailbox. It is lost if nobody listens, or there is no room.
 func (b *Bus) post(mailbox string, message []byte) {
+	box := b.boxes[mailbox]
+	if box == nil {
+		box = b.boxes[mailbox[:strings.LastIndexByte(mailbox, '.')+1]+"*"]
+	}
 	select {
-	case b.boxes[mailbox] <- message:
+	case box <- message:
 	default:
 		b.dropped++
 	}

@@ -79,7 +79,6 @@ type Voter struct {
 	Cluster  string   `toml:"cluster"` // the cluster's file
 	Voter    string   `toml:"voter"`   // its name in the coterie
 	Data     string   `toml:"data"`    // the folder of its state
-	Lost     uint64   `toml:"lost"`    // how often it lost its state; noted before a new one is made
 	Listen   string   `toml:"listen"`  // the address of /metrics and /healthz, none if it is empty
 	MaxLocks int      `toml:"max_locks"`
 	First    Duration `toml:"remind_first"`

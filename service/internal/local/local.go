@@ -275,7 +275,7 @@ func (c *Cluster) makeVoter(i int) error {
 		return err
 	}
 	c.Listen = append(c.Listen, fmt.Sprintf("127.0.0.1:%d", ports[0]))
-	if err := c.WriteVoter(i, 0); err != nil {
+	if err := c.writeVoter(i); err != nil {
 		return err
 	}
 	if err := c.command("qlock-voter", "init", "-c", c.VoterFile(i)); err != nil {
@@ -296,15 +296,15 @@ func (c *Cluster) VoterFile(i int) string {
 // Data returns the folder of a voter's state.
 func (c *Cluster) Data(i int) string { return filepath.Join(c.Folder, c.names[i]) }
 
-// WriteVoter writes a voter's settings, with how often it lost its state.
-func (c *Cluster) WriteVoter(i, lost int) error {
-	text := fmt.Sprintf("cluster = %q\nvoter = %q\ndata = %q\nlisten = %q\nlost = %d\n", c.File, c.names[i], c.Data(i), c.Listen[i], lost)
+// writeVoter writes a voter's settings.
+func (c *Cluster) writeVoter(i int) error {
+	text := fmt.Sprintf("cluster = %q\nvoter = %q\ndata = %q\nlisten = %q\n", c.File, c.names[i], c.Data(i), c.Listen[i])
 	return os.WriteFile(c.VoterFile(i), []byte(text), 0o644)
 }
 
-// InitVoter makes a voter's state, and returns what the program said if it did not.
-func (c *Cluster) InitVoter(i int) error {
-	return c.command("qlock-voter", "init", "-c", c.VoterFile(i))
+// InitLost makes the state of a voter that lost it, and returns what the program said if it did not.
+func (c *Cluster) InitLost(i int) error {
+	return c.command("qlock-voter", "init", "--lost", "-c", c.VoterFile(i))
 }
 
 // operate runs an operator's command. That a quorum of the voters did it and not all is no error.

@@ -74,6 +74,7 @@ func TestAllVotesOfABatchAreSaved(t *testing.T) {
 	one.hears("a locked 0 0 1")
 	w.Stop(0)
 	w.Start(0)
+	w.Ready()
 	two := newVoice(t, w, 1, "two")
 	for _, name := range names {
 		two.says(name + " request 1 0 2\n")
@@ -110,6 +111,7 @@ func TestWhoIsLetGoHearsSo(t *testing.T) {
 	}
 	w.Stop(0)
 	w.Start(0)
+	w.Ready()
 	one.says(". open 0\n")
 	if one.hears("opened 0 1 "); one.last.Lapses != 1 {
 		t.Errorf("after a start %d lapses are told", one.last.Lapses)
@@ -129,6 +131,7 @@ func TestStartForgetsWhoWaits(t *testing.T) {
 	two.hears("orders locked 0 1 2") // saved while the third one waits
 	w.Stop(0)
 	w.Start(0)
+	w.Ready()
 	two.says("orders release 1 0 2\n")
 	if three.within("orders locked", 300*time.Millisecond) {
 		t.Error("a voter that was started again remembers who waited")

@@ -5,6 +5,7 @@ package voter
 import (
 	"bytes"
 	"context"
+	"crypto/rand"
 	"errors"
 	"fmt"
 	"strconv"
@@ -23,10 +24,8 @@ var ErrSave = errors.New("the state can't be saved")
 
 const (
 	tick        = 50 * time.Millisecond
-	mostSpoke   = 4096             // sessions of which it knows that they spoke in this run
 	longestAway = 10 * time.Second // of the broker, before it is logged
 	longest     = 10 * time.Second // for which a step that sends nothing waits for the next save
-	blockSize   = uint64(1) << 35  // how many grants of a lock a voter may give until it loses its state once more
 )
 
 // Daemon is a voter.
@@ -46,6 +45,7 @@ type Daemon struct {
 	asksBy   [qlock.MaxClients]uint64 // the oldest plan of which a session has a request, as it said; 0 before
 
 	plans         Generations
+	inUse         plansInUse
 	newPlans      bool // they changed since the last save
 	mark, oldMark string
 	marks         map[string]string // by which plan a session speaks, while there are two
@@ -59,13 +59,17 @@ type Daemon struct {
 	room     []byte
 	before   qlock.Voter // of the step that is made
 
-	isFull          bool                // it was logged that there is no room for another lock
-	older           bool                // a session heard of a later save than this state has
-	prover          *prover             // of counts of saves
-	begun           uint64              // how often the state was saved before this run
-	begunProof      string              // of that
-	spoke           map[string]struct{} // sessions that spoke in this run
-	done            map[string][]byte   // replies to what operators let go, by their questions
+	isFull          bool // it was logged that there is no room for another lock
+	join            joining
+	peers           [places]Peer
+	newPeers        map[int]Peer // they changed since the last save
+	newOwn          bool         // what the state has of its own starts changed
+	letters         []posted     // words to other voters that leave after the save
+	voters          <-chan []byte
+	floor, ceiling  uint64            // its grants are above the floor, and up to the ceiling
+	quietUntil      time.Time         // until then only those inside get a vote
+	markers         [keyBytes]byte    // the key of this run's markers
+	done            map[string][]byte // replies to what operators let go, by their questions
 	messages, admin <-chan []byte
 	inbox           inbox
 	started         time.Time
@@ -81,7 +85,7 @@ type Daemon struct {
 // Owner returns whose state a voter has to have.
 func Owner(own *config.Voter, cluster *config.Cluster) Meta {
 	return Meta{Format: format, Cluster: cluster.ID, Coterie: config.Mark(cluster.Generation, cluster.Coterie),
-		Voter: cluster.Number(own.Voter), Block: own.Lost}
+		Voter: cluster.Number(own.Voter)}
 }
 
 // Open opens the state of a voter, and listens. Its state has to be there (Init, Rejoin).
@@ -94,7 +98,7 @@ func Open(own *config.Voter, cluster *config.Cluster, carrier transport.Transpor
 		votes: map[string]*vote{}, busy: map[*vote]struct{}{}, dirty: map[*vote]struct{}{}, silent: map[*vote]struct{}{},
 		table: table{ttl: cluster.TTL.Duration, changed: map[int]Session{}, later: map[int]Session{}},
 		out:   map[string][]byte{}, replies: map[string]answer{}, started: time.Now(), away: time.Now(),
-		done: map[string][]byte{}}
+		done: map[string][]byte{}, newPeers: map[int]Peer{}}
 	if err := d.begin(); err != nil {
 		state.db.Close()
 		return nil, err
@@ -114,19 +118,18 @@ func Open(own *config.Voter, cluster *config.Cluster, carrier transport.Transpor
 	return d, nil
 }
 
-// begin begins a run of the state: it takes the plans of the cluster's file, and proves counts of
-// saves from now on.
+// begin begins a run of the state: it takes the plans of the cluster's file.
 func (d *Daemon) begin() (err error) {
 	d.plans, d.newPlans, err = d.store.plans.follow(NewGenerations(d.cluster))
 	if err != nil {
 		return fmt.Errorf("%s: %w: of another plan than that of the cluster's file", file(d.own.Data), err)
 	}
-	if d.prover, err = newProver(d.store.key, d.store.meta.Identity); err != nil {
+	if _, err := rand.Read(d.markers[:]); err != nil {
 		return err
 	}
-	d.begun, d.spoke = d.store.saves, map[string]struct{}{}
-	d.begunProof = d.prover.of(d.begun)
-	return nil
+	d.join = joining{began: time.Now(), saves: d.store.saves}
+	d.join.process, err = newProcess()
+	return err
 }
 
 // load reads the sessions and the votes. All leases begin anew.
@@ -143,7 +146,7 @@ func (d *Daemon) load(now time.Time) error {
 	}, func(number int, row Session) error {
 		d.table.rows[number] = row
 		return nil
-	})
+	}, func(place int, p Peer) { d.peers[place] = p })
 	for i := 0; err == nil && i < len(votes); i++ {
 		if err = d.restore(votes[i].name, votes[i].state, now); err != nil {
 			err = fmt.Errorf("vote %q: %w", votes[i].name, err)
@@ -156,6 +159,9 @@ func (d *Daemon) listen() (err error) {
 	if d.messages, err = d.carrier.Listen(wire.VoterBox(d.cluster.ID, d.store.meta.Voter)); err != nil {
 		return err
 	}
+	if d.voters, err = d.carrier.Listen(wire.PeerBoxes(d.cluster.ID, d.store.meta.Voter)); err != nil {
+		return err
+	}
 	d.admin, err = d.carrier.Listen(wire.AdminBox(d.cluster.ID, d.store.meta.Voter))
 	return err
 }
@@ -164,7 +170,7 @@ func (d *Daemon) listen() (err error) {
 func (d *Daemon) Run(ctx context.Context) error {
 	defer d.store.db.Close()
 	d.log.Write(event.Info, "start", "voter", d.own.Voter, "number", d.store.meta.Voter, "cluster", d.cluster.ID,
-		"block", d.store.meta.Block, "identity", d.store.meta.Identity, "locks", len(d.votes))
+		"run", d.store.meta.Run, "start", d.store.own.Start, "identity", d.store.meta.Identity, "locks", len(d.votes))
 	next := time.Now()
 	for {
 		now := time.Now()
@@ -174,12 +180,9 @@ func (d *Daemon) Run(ctx context.Context) error {
 			d.round(now)
 			next = now.Add(tick)
 		}
-		if d.older {
-			d.log.Write(event.Error, "older-copy", "saves", d.store.saves)
-			if err := d.store.condemn(); err != nil {
-				d.log.Write(event.Error, "save-failed", "why", err)
-			}
-			return fmt.Errorf("%s: %w", file(d.own.Data), ErrOlder)
+		if d.start(now); d.join.refused != nil {
+			d.log.Write(event.Error, "refused", "why", d.join.refused)
+			return d.join.refused
 		}
 		if err := d.commit(now); err != nil {
 			d.log.Write(event.Error, "save-failed", "why", err)
@@ -204,6 +207,8 @@ func (d *Daemon) wait(ctx context.Context, until time.Time) bool {
 		return false
 	case m := <-d.messages:
 		d.sort(m)
+	case m := <-d.voters:
+		d.hearPeer(m, time.Now())
 	case m := <-d.admin:
 		d.operate(m, time.Now())
 	case <-timer.C:
@@ -223,9 +228,19 @@ func (d *Daemon) end() error {
 			d.tell(row.Name, "leaving")
 		}
 	}
-	err := d.commit(time.Now())
+	if err := d.commit(time.Now()); err != nil {
+		return err
+	}
+	if d.join.done {
+		for voter := 0; voter < places; voter++ {
+			if d.others()>>voter&1 == 1 {
+				d.write(voter, word{Word: "ended", Process: d.join.process, Saves: d.store.saves})
+			}
+		}
+		d.deliverLetters()
+	}
 	d.log.Write(event.Info, "end", "voter", d.own.Voter)
-	return err
+	return nil
 }
 
 // look logs that the broker is back, or has been away for long. No lease ends meanwhile: no marker
@@ -252,21 +267,6 @@ func (d *Daemon) IsLively(within time.Duration) bool {
 	return time.Since(time.Unix(0, d.lively.Load())) < within
 }
 
-// isBehind returns whether the sender proves that another run of this voter had a save that this
-// state does not have. How often this run saved doesn't matter. Until a session spoke in this run
-// it is told the count from before it: else a greater one would hide what it heard. A count that
-// nobody proved is dropped.
-func (d *Daemon) isBehind(h wire.Header) bool {
-	if h.Saves <= d.begun {
-		return false
-	}
-	from := d.prover.origin(h.Saves, h.Proof)
-	if from == unproved {
-		d.m.unproved.Inc()
-	}
-	return from == anotherRun
-}
-
 // isOurs returns whether a message is of this cluster, and of a plan that is not retired.
 func (d *Daemon) isOurs(h wire.Header) bool {
 	return h.Cluster == d.store.meta.Cluster && wire.IsName([]byte(h.Name)) &&
@@ -282,6 +282,7 @@ func (d *Daemon) line(l *letter, speaker verdict, lock, line []byte, now time.Ti
 	if string(lock) == "." {
 		return d.control(l, speaker, line, now)
 	}
+	line, isInside := cutInside(line)
 	said := wire.ReadLine(line)
 	if speaker != known || said.From != l.Number || said.To != d.store.meta.Voter || !wire.IsName(lock) ||
 		!isToVoter(said) {
@@ -289,6 +290,12 @@ func (d *Daemon) line(l *letter, speaker verdict, lock, line []byte, now time.Ti
 	}
 	if !d.isHis(said) {
 		d.m.refused.Inc()
+		return true
+	}
+	if string(said.Word) == "request" && !isInside && now.Before(d.quietUntil) {
+		if l.once("quiet") {
+			d.tell(l.Name, "quiet %d", d.quietUntil.Sub(now).Milliseconds()+1)
+		}
 		return true
 	}
 	v := d.votes[string(lock)]
@@ -301,7 +308,19 @@ func (d *Daemon) line(l *letter, speaker verdict, lock, line []byte, now time.Ti
 	}
 	d.step(v, said.From, now, func(out []byte) ([]byte, error) { return v.Take(line, out) })
 	d.deny(v, l.Header, said)
+	if v.held.Client == uint64(said.From) && v.held.Stamp == said.Stamp {
+		v.isOld = false // whoever has it is there
+	}
 	return true
+}
+
+// cutInside takes the word "inside" off a REQUEST, and returns whether it was there.
+func cutInside(line []byte) (rest []byte, isInside bool) {
+	const inside = " inside"
+	if bytes.HasSuffix(line, []byte(inside)) {
+		return line[:len(line)-len(inside)], true
+	}
+	return line, false
 }
 
 // isToVoter returns whether a line has a word that voters take.
@@ -346,22 +365,20 @@ func (d *Daemon) first(l *letter, lock []byte, said wire.Line) *vote {
 	return d.add(string(lock), voter)
 }
 
-// newVoter makes a vote. If this voter lost its state, its grants begin above all that it gave before.
+// newVoter makes a vote, whose grants are above the floor.
 func (d *Daemon) newVoter() (*qlock.Voter, error) {
-	id, block := uint8(d.store.meta.Voter), d.store.meta.Block
-	if block == 0 {
-		return qlock.NewVoter(id, d.lastGrant())
-	}
-	return qlock.RebornVoter(id, block*blockSize, d.lastGrant())
+	return qlock.RebornVoter(uint8(d.store.meta.Voter), d.floor, d.ceiling)
 }
-
-// lastGrant returns the number of the last grant that a vote may get.
-func (d *Daemon) lastGrant() uint64 { return (d.store.meta.Block + 1) * blockSize }
 
 // step makes a step that a client's line, or letting its grant go, leads to. Its lines leave after the next save.
 func (d *Daemon) step(v *vote, client int, now time.Time, take func(out []byte) ([]byte, error)) {
 	d.before = *v.Voter
 	lines, err := take(d.room[:0])
+	if errors.Is(err, qlock.GrantsSpent) && v.limit < d.ceiling {
+		v.limit = d.ceiling
+		_ = v.Extend(d.ceiling) // it never fails: the limit is below
+		lines, err = take(d.room[:0])
+	}
 	if err != nil {
 		d.refuse(v, err)
 		return
@@ -542,6 +559,7 @@ func (d *Daemon) claim(name string, words [][]byte, now time.Time) bool {
 
 // round does what time asks for: it lets grants of dead clients go that others wait for, and reminds.
 func (d *Daemon) round(now time.Time) {
+	d.endQuiet(now)
 	for v := range d.busy {
 		for v.held.Number > 0 && v.isWanted() && d.isOver(v.held) {
 			held := v.held
@@ -562,6 +580,20 @@ func (d *Daemon) round(now time.Time) {
 		}
 	}
 	d.measure(now)
+}
+
+// endQuiet lets the grants of before the start go of which nobody said that he is inside.
+func (d *Daemon) endQuiet(now time.Time) {
+	if d.quietUntil.IsZero() || now.Before(d.quietUntil) {
+		return
+	}
+	d.quietUntil = time.Time{}
+	for v := range d.busy {
+		if held := v.held; v.isOld && held.Number > 0 && d.letGo(v, now) {
+			d.log.Write(event.Warning, "not-renewed", "lock", v.name, "client", held.Client, "stamp", held.Stamp, "grant", held.Number)
+		}
+		v.isOld = false
+	}
 }
 
 // isOver returns whether a grant may be let go: its session is dead, or its number has a later one.
@@ -587,8 +619,8 @@ func (d *Daemon) letGo(v *vote, now time.Time) bool {
 // waits for the next save, at most ten seconds: steps that send nothing, and rows of which a TTL
 // makes up for the loss.
 func (d *Daemon) commit(now time.Time) error {
-	must := len(d.dirty)+len(d.table.changed) > 0 || d.newPlans
-	leaves := len(d.out)+len(d.replies) > 0
+	must := len(d.dirty)+len(d.table.changed)+len(d.newPeers) > 0 || d.newPlans || d.newOwn
+	leaves := len(d.out)+len(d.replies)+len(d.letters) > 0
 	switch {
 	case !must && len(d.table.later)+len(d.silent) == 0:
 		d.savedAll = now
@@ -606,41 +638,37 @@ func (d *Daemon) commit(now time.Time) error {
 // save saves all that is not saved.
 func (d *Daemon) save(now time.Time) error {
 	began := time.Now()
-	var plans *Generations
-	if d.newPlans {
-		plans = &d.plans
-	}
 	for v := range d.silent {
 		d.dirty[v] = struct{}{}
 	}
-	if err := d.store.save(d.dirty, d.table.unsaved(), plans); err != nil {
+	c := changes{votes: d.dirty, sessions: d.table.unsaved(), peers: d.newPeers}
+	if d.newPlans {
+		c.plans = &d.plans
+	}
+	if d.newOwn {
+		c.own = &d.store.own
+	}
+	if err := d.store.save(c); err != nil {
 		return fmt.Errorf("%w: %v", ErrSave, err)
 	}
 	d.m.commit.Observe(time.Since(began).Seconds())
 	d.m.batch.Observe(float64(len(d.dirty)))
 	d.table.saved()
-	d.dirty, d.silent, d.newPlans, d.savedAll = map[*vote]struct{}{}, map[*vote]struct{}{}, false, now
+	d.dirty, d.silent, d.newPeers = map[*vote]struct{}{}, map[*vote]struct{}{}, map[int]Peer{}
+	d.newPlans, d.newOwn, d.savedAll = false, false, now
 	return nil
 }
 
 // deliver sends what may leave.
 func (d *Daemon) deliver() {
-	meta := d.store.meta
-	header := wire.Header{Cluster: meta.Cluster, Kind: wire.FromVoter, Number: meta.Voter, Block: meta.Block,
-		Name: meta.Identity}
+	header := d.header()
 	d.outBytes = 0
-	saved := d.prover.of(d.store.saves)
+	d.deliverLetters()
 	for session, lines := range d.out {
-		if header.Saves, header.Proof = d.begun, d.begunProof; d.hasSpoken(session) {
-			header.Saves, header.Proof = d.store.saves, saved
-		}
-		box := wire.SessionBox(meta.Cluster, session)
+		box := wire.SessionBox(header.Cluster, session)
 		header.Coterie, header.Lapses = d.speaks(session), d.table.lapses(session)
 		header.Split(lines, func(message []byte) { d.post(box, message) })
 		delete(d.out, session)
-	}
-	if len(d.spoke) >= mostSpoke { // those of the rest are told the count from before this run until they speak again
-		d.spoke = map[string]struct{}{}
 	}
 	for box, reply := range d.replies {
 		header.Coterie, header.Lapses = reply.mark, 0
@@ -651,11 +679,6 @@ func (d *Daemon) deliver() {
 		}
 		delete(d.replies, box)
 	}
-}
-
-func (d *Daemon) hasSpoken(session string) bool {
-	_, spoke := d.spoke[session]
-	return spoke
 }
 
 // post sends one message. What can't be sent is lost: a reminder repeats it.

@@ -11,7 +11,6 @@ import (
 	"calvundek.example/service/internal/event"
 	"calvundek.example/service/internal/wire"
 	"calvundek.example/service/qlock"
-	"github.com/prometheus/client_golang/prometheus/testutil"
 )
 
 // A status that is too long for a message shows fewer votes, and says how many it left out.
@@ -43,7 +42,7 @@ func TestStatusOutsideOfTheLoop(t *testing.T) {
 	now, carrier := time.Unix(1000, 0), &slow{sent: make(chan []byte)}
 	d := &Daemon{cluster: &config.Cluster{ID: "test"}, own: &config.Voter{}, carrier: carrier, m: newMetrics(),
 		store: &store{meta: Meta{Cluster: "test", Identity: "copy"}}, mark: "mark", busy: map[*vote]struct{}{},
-		replies: map[string]answer{}, done: map[string][]byte{}, table: *newTable(now), prover: proverOf(t, 'k')}
+		replies: map[string]answer{}, done: map[string][]byte{}, table: *newTable(now)}
 	for i := 0; i < 3*mostShown; i++ {
 		d.busy[&vote{name: fmt.Sprintf("orders-%05d", i)}] = struct{}{}
 	}
@@ -74,64 +73,11 @@ func (p *post) Send(_ string, message []byte) error { p.sent = append(p.sent, me
 
 func (p *post) Listen(string) (<-chan []byte, error) { return nil, nil }
 
-// What a voter tells a session before that one spoke hides no save of which it heard before.
-func TestReminderOfAnOlderCopy(t *testing.T) {
-	carrier := new(post)
-	d := &Daemon{store: &store{meta: Meta{Cluster: "test", Identity: "copy"}, saves: 106}, carrier: carrier, m: newMetrics(), mark: "mark", begun: 100,
-		prover: proverOf(t, 'k'), spoke: map[string]struct{}{},
-		out: map[string][]byte{"me": []byte("orders inquire 0 0 1 1\n")}}
-	d.deliver()
-	h, _, err := wire.Read(carrier.sent[0])
-	if err != nil || h.Saves > 100 {
-		t.Error(h.Saves, err)
-	}
-	if !d.isBehind(wire.Header{Name: "me", Saves: 105, Proof: proverOf(t, 'k').of(105)}) {
-		t.Error("a reminder hides that this is an older copy")
-	}
-}
-
-// proverOf returns a new run of the voter "copy" with a key.
-func proverOf(t *testing.T, key byte) *prover {
-	t.Helper()
-	p, err := newProver(bytes.Repeat([]byte{key}, keyBytes), "copy")
-	if err != nil {
-		t.Fatal(err)
-	}
-	return p
-}
-
-// Only a count that another run of this voter told says that this state is an older copy.
-func TestWhichCountsAreBelieved(t *testing.T) {
-	d := &Daemon{m: newMetrics(), begun: 100, prover: proverOf(t, 'k')}
-	earlier := proverOf(t, 'k')
-	for _, one := range []struct {
-		what     string
-		saves    uint64
-		proof    string
-		isBehind bool
-		unproved float64
-	}{
-		{"a count from before", 100, "", false, 0},
-		{"one that is made up", 1<<64 - 1, "", false, 1},
-		{"one with words of no run", 1<<64 - 1, "x.y", false, 1},
-		{"one of another voter", 101, proverOf(t, 'j').of(101), false, 1},
-		{"another count with a proof", 102, earlier.of(101), false, 1},
-		{"one of this run, also by a session that was not told it", 1000, d.prover.of(1000), false, 0},
-		{"one of another run", 101, earlier.of(101), true, 0},
-	} {
-		before := testutil.ToFloat64(d.m.unproved)
-		got := d.isBehind(wire.Header{Name: "me", Saves: one.saves, Proof: one.proof})
-		if counted := testutil.ToFloat64(d.m.unproved) - before; got != one.isBehind || counted != one.unproved {
-			t.Errorf("%s: %v, and %v were dropped", one.what, got, counted)
-		}
-	}
-}
-
 // A lock without a grant left is logged once, and nothing is let go there.
 func TestSpentLock(t *testing.T) {
 	var log bytes.Buffer
 	now := time.Unix(1000, 0)
-	d := &Daemon{own: &config.Voter{}, store: &store{}, m: newMetrics(), log: event.To(&log), votes: map[string]*vote{}, busy: map[*vote]struct{}{},
+	d := &Daemon{own: &config.Voter{}, store: &store{}, ceiling: 1, m: newMetrics(), log: event.To(&log), votes: map[string]*vote{}, busy: map[*vote]struct{}{},
 		dirty: map[*vote]struct{}{}, silent: map[*vote]struct{}{}, out: map[string][]byte{}, table: table{ttl: time.Second, changed: map[int]Session{}, later: map[int]Session{}}}
 	voter, err := qlock.NewVoter(0, 1)
 	if err != nil {
@@ -153,7 +99,7 @@ func TestSpentLock(t *testing.T) {
 // Each line of a vote leaves: LOCKED, FAIL to whom waits behind another one, and INQUIRE.
 func TestEachLineLeaves(t *testing.T) {
 	now := time.Unix(1000, 0)
-	d := &Daemon{own: &config.Voter{}, store: &store{}, m: newMetrics(), votes: map[string]*vote{}, busy: map[*vote]struct{}{},
+	d := &Daemon{own: &config.Voter{}, store: &store{}, ceiling: 10, m: newMetrics(), votes: map[string]*vote{}, busy: map[*vote]struct{}{},
 		dirty: map[*vote]struct{}{}, silent: map[*vote]struct{}{}, out: map[string][]byte{}, table: *newTable(now)}
 	voter, err := qlock.NewVoter(0, 10)
 	if err != nil {

@@ -135,7 +135,59 @@ func (d *Daemon) setPlans(g Generations) {
 	d.markPlans()
 }
 
+// plansInUse are the plan that a voter has, and the one before it until that is retired.
+type plansInUse []*qlock.Plan
+
+// voters returns how many places they have.
+func (p plansInUse) voters() (most int) {
+	for _, plan := range p {
+		if len(plan.Names) > most {
+			most = len(plan.Names)
+		}
+	}
+	return most
+}
+
+// haveQuorums returns whether voters contain a quorum of each plan.
+func (p plansInUse) haveQuorums(voters uint64) bool {
+	for _, plan := range p {
+		if !plan.HasQuorum(voters) {
+			return false
+		}
+	}
+	return true
+}
+
+// haveAny returns whether voters contain a quorum of some plan.
+func (p plansInUse) haveAny(voters uint64) bool {
+	for _, plan := range p {
+		if plan.HasQuorum(voters) {
+			return true
+		}
+	}
+	return false
+}
+
+// read reads the plans in use, which were checked when they were taken.
+func (g *Generations) read() (plans plansInUse, err error) {
+	texts := []Texts{g.Now}
+	if g.Old != nil {
+		texts = append(texts, *g.Old)
+	}
+	for _, one := range texts {
+		plan, err := qlock.ReadPlan(one.Coterie, one.Plan)
+		if err != nil {
+			return nil, err
+		}
+		plans = append(plans, plan)
+	}
+	return plans, nil
+}
+
 func (d *Daemon) markPlans() {
+	if plans, err := d.plans.read(); err == nil {
+		d.inUse = plans
+	}
 	d.mark, d.oldMark, d.marks = d.cluster.Mark(d.plans.mark()), d.cluster.Mark(d.plans.oldMark()), map[string]string{}
 }
 

@@ -1,6 +1,8 @@
 package voter
 
 import (
+	"crypto/hmac"
+	"crypto/sha256"
 	"fmt"
 	"time"
 
@@ -18,6 +20,7 @@ const (
 	mostMessage  = wire.MostBytes + 4096 // bytes of one message
 	mostControls = 16                    // lines of control in one message
 	mostLine     = 256                   // bytes of one line
+	keyBytes     = 32                    // of the key of markers
 )
 
 // letter is a message of a client that waits, or of which some lines are taken.
@@ -97,16 +100,16 @@ func (d *Daemon) receive() {
 // sendMarker sends a marker to this voter itself, if it is time for one.
 func (d *Daemon) sendMarker(now time.Time) {
 	if number, due := d.table.clock.isDue(now); due {
-		meta := d.store.meta
-		h := wire.Header{Cluster: meta.Cluster, Coterie: d.mark, Kind: wire.FromVoter, Number: meta.Voter,
-			Block: meta.Block, Name: meta.Identity}
-		d.post(wire.VoterBox(meta.Cluster, meta.Voter), append(h.Append(nil), d.markerLine(number)...))
+		h := d.header()
+		d.post(wire.VoterBox(h.Cluster, h.Number), append(h.Append(nil), d.markerLine(number)...))
 	}
 }
 
 // markerLine returns the line of a marker. Nobody else can make one.
 func (d *Daemon) markerLine(number uint64) string {
-	return fmt.Sprintf(". marker %d %s\n", number, d.prover.sum("marker "+d.prover.run, number))
+	mac := hmac.New(sha256.New, d.markers[:])
+	fmt.Fprint(mac, number)
+	return fmt.Sprintf(". marker %d %x\n", number, mac.Sum(nil)[:16])
 }
 
 // isMarker takes the lines of a marker, and returns whether they are one of this run.
@@ -135,6 +138,9 @@ func (d *Daemon) sort(message []byte) {
 		}
 		return
 	}
+	if !d.join.done {
+		return // nothing is taken before the others answered
+	}
 	queue := strangers
 	if h.Epoch > 0 && d.table.judge(h.Number, h.Name, h.Epoch) == known {
 		queue = h.Number
@@ -149,7 +155,7 @@ func (d *Daemon) sort(message []byte) {
 // this turn had enough.
 func (d *Daemon) work() {
 	began, taken := time.Now(), 0
-	for taken < mostLines && d.outBytes < mostOut && !d.older && time.Since(began) < longestTurn {
+	for taken < mostLines && d.outBytes < mostOut && time.Since(began) < longestTurn {
 		l := d.inbox.next()
 		if l == nil {
 			return
@@ -190,11 +196,6 @@ func (d *Daemon) greet(l *letter, now time.Time) (speaker verdict, ok bool) {
 		return taken, false
 	}
 	d.hears(l.Header)
-	if d.isBehind(l.Header) {
-		d.older = true // nothing leaves any more
-		return taken, false
-	}
-	d.spoke[l.Name] = struct{}{}
 	if l.Epoch == 0 {
 		return unknown, true
 	}

@@ -17,7 +17,7 @@ func reader() *Daemon {
 	d := &Daemon{cluster: &config.Cluster{ID: "test"}, store: &store{meta: Meta{Cluster: "test"}}, mark: "mark",
 		m: newMetrics(), busy: map[*vote]struct{}{},
 		table: table{ttl: time.Second, changed: map[int]Session{}, later: map[int]Session{}}, out: map[string][]byte{},
-		spoke: map[string]struct{}{}}
+		join: joining{done: true}, ceiling: 1 << 20}
 	d.table.begin(now)
 	return d
 }

@@ -5,85 +5,93 @@ import (
 	"encoding/json"
 	"errors"
 	"fmt"
+	"strings"
 	"time"
 
 	"calvundek.example/service/internal/config"
 	"calvundek.example/service/internal/operator"
-	"calvundek.example/service/internal/wire"
 	"calvundek.example/service/qlock"
 )
 
-// The errors of making a voter.
+// The errors of making a voter again.
 var (
-	ErrBlocks = errors.New("no block of grants is left for this voter: it lost its state too often")
-	ErrFewer  = errors.New("too few voters replied to know what this voter forgot")
+	ErrFewer = errors.New("too few voters replied to know what this voter forgot")
+	ErrNew   = errors.New("no voter knows one of this place: a new one needs `qlock-voter init`")
 )
 
-// Init makes the state of a new voter, once.
+// Init makes the state of a new voter, once. Its first start asks the others whether there was one.
 func Init(own *config.Voter, cluster *config.Cluster) (Meta, error) {
-	return create(own, cluster, nil)
+	return create(own, cluster, Knows{}, 0)
 }
 
-// Rejoin makes the state of a voter in place of one that was lost. Its settings say how often it was lost, this time
-// included. Its grants are numbered above all that it gave, and the sessions are those that the other voters know.
+// InitLost makes the state of a voter in place of one that was lost. Its grants are numbered above all that it gave, and
+// the sessions are those that the other voters know.
 //
 // The old state may never come back. Clients that have a vote of this voter lose their locks.
-func Rejoin(ctx context.Context, own *config.Voter, cluster *config.Cluster, console *operator.Console) (Meta, error) {
+func InitLost(ctx context.Context, own *config.Voter, cluster *config.Cluster, console *operator.Console) (Meta, error) {
+	place := cluster.Number(own.Voter)
 	var others []int
 	for voter := range cluster.Names() {
-		if voter != cluster.Number(own.Voter) {
+		if voter != place {
 			others = append(others, voter)
 		}
 	}
-	replies, err := console.Ask(ctx, "sessions", others...)
+	replies, err := console.Ask(ctx, fmt.Sprint("knows ", place), others...)
 	if err != nil {
 		return Meta{}, err
 	}
-	sessions, heard, err := Merge(replies)
+	known, heard, err := Merge(replies)
 	if err != nil {
 		return Meta{}, err
 	}
 	// Whatever a quorum with this voter keeps, one of those that replied keeps: the others are no quorum with it.
-	if cluster.HasAny(^heard) {
-		return Meta{}, fmt.Errorf("%w: %s", ErrFewer, silent(replies))
+	switch {
+	case len(others) > 0 && cluster.HasAny(^heard) && silent(replies) != "":
+		return Meta{}, fmt.Errorf("%w: %s did not", ErrFewer, silent(replies))
+	case known.Peer.Identity == "":
+		return Meta{}, ErrNew
 	}
-	return create(own, cluster, sessions)
+	return create(own, cluster, known, known.Peer.Run+1)
 }
 
 // create makes a state with a new identity.
-func create(own *config.Voter, cluster *config.Cluster, sessions map[int]Session) (Meta, error) {
+func create(own *config.Voter, cluster *config.Cluster, known Knows, run uint64) (Meta, error) {
 	meta := Owner(own, cluster)
-	if (meta.Block+1)*blockSize > wire.MaxStamp {
-		return meta, ErrBlocks
-	}
+	meta.Run = run
 	var err error
 	if meta.Identity, err = config.Nonce(); err != nil {
 		return meta, err
 	}
 	meta.Made = time.Now().UTC()
-	return meta, Create(own.Data, meta, NewGenerations(cluster), sessions)
+	return meta, Create(own.Data, meta, NewGenerations(cluster), known.Sessions, known.Peer.Ceiling)
 }
 
-// Merge returns, for each number, the newest session that a voter knows, and the highest stamp that one keeps as
-// reserved, and which voters replied.
-func Merge(replies []operator.Reply) (sessions map[int]Session, heard uint64, err error) {
-	sessions = map[int]Session{}
+// Merge returns what voters together know of a place and of all sessions: the last run there with the highest ceiling,
+// and, for each number, the newest session, and the highest stamp that one keeps as reserved. It also returns which voters
+// replied.
+func Merge(replies []operator.Reply) (all Knows, heard uint64, err error) {
+	all.Sessions = map[int]Session{}
 	for _, r := range replies {
 		if r.Err != nil {
 			continue
 		}
-		var rows []Session
-		if err := json.Unmarshal(r.Body, &rows); err != nil || len(rows) != qlock.MaxClients {
-			return nil, 0, fmt.Errorf("%s: %w", r.Name, operator.ErrRefused)
+		var one Knows
+		if err := json.Unmarshal(r.Body, &one); err != nil || one.Sessions == nil {
+			return Knows{}, 0, fmt.Errorf("%s: %w", r.Name, operator.ErrRefused)
 		}
 		heard |= 1 << r.Voter
-		for number, row := range rows {
-			if row.Lapses = 0; row.Epoch > 0 { // those are another voter's
-				sessions[number] = newer(sessions[number], row)
+		ceiling := greatest(all.Peer.Ceiling, one.Peer.Ceiling)
+		if all.Peer.Identity == "" || one.Peer.Run > all.Peer.Run {
+			all.Peer = one.Peer
+		}
+		all.Peer.Ceiling = ceiling
+		for number, row := range one.Sessions {
+			if row.Lapses = 0; number >= 0 && number < qlock.MaxClients && row.Epoch > 0 { // those are another voter's
+				all.Sessions[number] = newer(all.Sessions[number], row)
 			}
 		}
 	}
-	return sessions, heard, nil
+	return all, heard, nil
 }
 
 // newer returns the session of two that counts, with the higher of what both reserved: one in use
@@ -106,11 +114,13 @@ func newer(a, b Session) Session {
 	return b
 }
 
-func silent(replies []operator.Reply) (names string) {
+// silent returns the names of those that did not reply.
+func silent(replies []operator.Reply) string {
+	var names []string
 	for _, r := range replies {
 		if r.Err != nil {
-			names += r.Name + " "
+			names = append(names, r.Name)
 		}
 	}
-	return names + "did not"
+	return strings.Join(names, " ")
 }

@@ -16,10 +16,10 @@ import (
 
 // metrics are a voter's numbers for Prometheus.
 type metrics struct {
-	registry                                                                              *prometheus.Registry
-	received, foreign, refused, unproved, unsent, reminders, expired, grants, spent, full prometheus.Counter
-	commit, batch                                                                         prometheus.Histogram
-	locks, busy, held, sessions, numbers, plan, left                                      prometheus.Gauge
+	registry                                                                    *prometheus.Registry
+	received, foreign, refused, unsent, reminders, expired, grants, spent, full prometheus.Counter
+	commit, batch                                                               prometheus.Histogram
+	locks, busy, held, sessions, numbers, plan, left                            prometheus.Gauge
 
 	lasting, waiting oldest // of the grants that last, and of the requests that wait
 	most             uint64 // the highest number of a grant that was noted
@@ -62,8 +62,6 @@ func newMetrics() *metrics {
 	m.received = m.counter("messages_received_total", "Messages received.")
 	m.foreign = m.counter("messages_foreign_total", "Messages of another cluster or coterie, or of no sender of this protocol.")
 	m.refused = m.counter("lines_refused_total", "Lines that were dropped.")
-	m.unproved = m.counter("counts_unproved_total",
-		"Counts of saves, repeated by sessions, that this voter never told.")
 	m.unsent = m.counter("messages_unsent_total", "Messages that could not be sent.")
 	m.reminders = m.counter("reminders_total", "Reminders sent.")
 	m.expired = m.counter("leases_expired_total", "Grants that were let go, since their client was silent for the TTL.")
@@ -95,7 +93,6 @@ func (d *Daemon) watch() {
 		d.m.registry.MustRegister(prometheus.NewCounterFunc(prometheus.CounterOpts{Name: "qlock_voter_" + name,
 			Help: help}, read))
 	}
-	d.m.left.Set(float64(d.lastGrant()))
 	counter("broker_reconnects_total", "How often the connection to the broker came back.",
 		func() float64 { return float64(link.Returns()) })
 	d.m.read("file_bytes", "How long the file of the state is.", func() float64 { return length(file(d.own.Data)) })

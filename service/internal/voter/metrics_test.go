@@ -37,7 +37,7 @@ func TestNumbersOfAVoter(t *testing.T) {
 		t.Fatal(err)
 	}
 	defer d.store.db.Close()
-	d.measure(time.Now())
+	d.ceiling = 100
 	voter, err := d.newVoter()
 	if err != nil {
 		t.Fatal(err)
@@ -57,7 +57,7 @@ func TestNumbersOfAVoter(t *testing.T) {
 		"qlock_voter_locks_most 77", "qlock_voter_numbers_free 64",
 		"qlock_voter_plan 0", "qlock_voter_file_bytes ", "qlock_voter_build_info{", "go_goroutines ",
 		"process_open_fds ", "qlock_voter_certificate_end_timestamp_seconds 1.9e+09",
-		"qlock_voter_counts_unproved_total 0", fmt.Sprintf("qlock_voter_grants_left %v", float64(blockSize-1)),
+		"qlock_voter_grants_left 99",
 		"qlock_voter_held_oldest_seconds 3600.", "qlock_voter_waiting_oldest_seconds 0",
 		fmt.Sprintf("qlock_voter_locks_busy %d", d.status(time.Now()).Busy), "qlock_voter_locks_held 1",
 		"qlock_voter_requests_full_total 0", "qlock_voter_broker_reconnects_total 0"} {

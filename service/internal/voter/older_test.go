@@ -1,108 +1,255 @@
 package voter_test
 
 import (
+	"context"
+	"encoding/json"
 	"errors"
-	"fmt"
-	"io"
+	"os"
+	"path/filepath"
 	"strings"
 	"testing"
 	"time"
 
-	"calvundek.example/service/internal/event"
 	"calvundek.example/service/internal/voter"
 	"calvundek.example/service/internal/wire"
 	"calvundek.example/service/internal/worlds"
 )
 
-// speaker returns that function of the first session of a number.
-func speaker(t *testing.T, w *worlds.World, number int, name string) func(line string, saves uint64) uint64 {
-	t.Helper()
-	return speakerOf(t, w, number, name, 1)
+// caller speaks as a session to voter 0.
+type caller struct {
+	*testing.T
+	send  func(lines string)
+	heard <-chan []byte
 }
 
-// speakerOf returns a function that sends a line of a session to voter 0, with what it heard of its saves, and returns how often the
-// voter was saved when it replied.
-func speakerOf(t *testing.T, w *worlds.World, number int, name string, epoch uint64) func(line string, saves uint64) uint64 {
+// newCaller returns the first session of a number.
+func newCaller(t *testing.T, w *worlds.World, number int, name string) caller {
+	t.Helper()
+	return newCallerOf(t, w, number, name, 1)
+}
+
+// newCallerOf returns a session of a number.
+func newCallerOf(t *testing.T, w *worlds.World, number int, name string, epoch uint64) caller {
 	t.Helper()
 	port := w.Bus.Port()
 	heard, err := port.Listen(wire.SessionBox("test", name))
 	if err != nil {
 		t.Fatal(err)
 	}
-	header := wire.Header{Cluster: "test", Coterie: w.Cluster.Marks()[0], Kind: wire.FromClient, Number: number,
-		Epoch:    epoch,
+	header := wire.Header{Cluster: "test", Coterie: w.Cluster.Marks()[0], Kind: wire.FromClient, Number: number, Epoch: epoch,
 		Reserved: 100 * epoch, Name: name}
-	proofs := map[uint64]string{}
-	_ = port.Send(wire.VoterBox("test", 0), append(header.Append(nil), fmt.Sprintf(". claim %d %d\n", number,
-		epoch)...))
-	if reply := string(<-heard); !strings.Contains(reply, ". claimed ") {
-		t.Fatalf("no claim: %s", reply)
-	}
-	return func(line string, saves uint64) uint64 {
-		t.Helper()
-		header.Saves, header.Proof = saves, proofs[saves]
-		_ = port.Send(wire.VoterBox("test", 0), append(header.Append(nil), line+"\n"...))
-		select {
-		case message := <-heard:
-			h, _, err := wire.Read(message)
-			if err != nil {
-				t.Error(err)
-			}
-			proofs[h.Saves] = h.Proof
-			return h.Saves
-		case <-time.After(time.Second):
-			return 0
-		}
-	}
+	v := caller{t, func(lines string) {
+		_ = port.Send(wire.VoterBox("test", 0), append(header.Append(nil), lines...))
+	}, heard}
+	return v
 }
 
-// An older copy of a state is found out by who heard of a later save, also if the copy itself was saved more often since. No start
-// serves with it any more.
-func TestOlderCopyIsSavedMeanwhile(t *testing.T) {
+// says says lines again and again until a reply has some words, and returns whether one came.
+func (v caller) says(lines, want string) bool {
+	v.Helper()
+	for end := time.Now().Add(5 * time.Second); time.Now().Before(end); {
+		v.send(lines)
+		select {
+		case m := <-v.heard:
+			if strings.Contains(string(m), want) {
+				return true
+			}
+		case <-time.After(100 * time.Millisecond):
+		}
+	}
+	return false
+}
+
+// grantOf returns the number of the grant that a voter has given for a lock.
+func grantOf(t *testing.T, w *worlds.World, lock string) uint64 {
+	t.Helper()
+	ctx, cancel := context.WithTimeout(context.Background(), 5*time.Second)
+	defer cancel()
+	replies, err := w.Console().Ask(ctx, "lock "+lock, 0)
+	if err != nil || replies[0].Err != nil {
+		t.Fatal(err, replies)
+	}
+	var one voter.VoteView
+	if err := json.Unmarshal(replies[0].Body, &one); err != nil {
+		t.Fatal(err)
+	}
+	return one.Grant
+}
+
+// An older copy of a state, from before a start that others know, never gives a vote.
+func TestOlderCopyOfAnEarlierRun(t *testing.T) {
 	w := worlds.New(t, worlds.Majority, time.Second)
-	one, other := speaker(t, w, 0, "one"), speaker(t, w, 1, "other")
-	saves := one("orders request 0 0 1", 0)
+	one := newCaller(t, w, 0, "one")
+	if !one.says(". claim 0 1 50\norders request 0 0 1\n", "orders locked") {
+		t.Fatal("no vote")
+	}
 	w.Stop(0)
 	older := w.Copy(0)
 	w.Start(0)
-	saves = one("stock request 0 0 1", saves)
-	saves = one("lists request 0 0 1", saves)
+	if !one.says("stock request 0 0 2\n", "stock locked") {
+		t.Fatal("no vote after a start")
+	}
 	w.Stop(0)
+	newest := w.Copy(0)
 	w.Put(0, older)
 	w.Start(0)
-	for i, last := 0, uint64(0); last <= saves; i++ {
-		if last = other(fmt.Sprintf("lock%d request 1 0 1", i), last); last == 0 {
-			t.Fatal("the copy does not serve who heard of nothing")
-		}
-	}
-	one("orders request 0 0 1", saves)
 	if err := w.Ends(0); !errors.Is(err, voter.ErrOlder) {
 		t.Errorf("an older copy: %v", err)
 	}
-	if _, err := voter.Open(w.Owns[0], w.Cluster, w.Bus.Port(), event.To(io.Discard)); !errors.Is(err, voter.ErrOlder) {
-		t.Errorf("an older copy is started again: %v", err)
-	}
-	if err := voter.Pardon(w.Owns[0], w.Cluster); err != nil {
-		t.Fatal(err)
-	}
-	if err := voter.Pardon(w.Owns[0], w.Cluster); !errors.Is(err, voter.ErrNoMark) {
-		t.Errorf("a second pardon: %v", err)
-	}
+	w.Put(0, newest)
 	w.Start(0)
-	if one("lists request 0 0 2", saves) == 0 {
-		t.Error("a state that was pardoned does not serve who heard of another copy")
+	if !one.says("lists request 0 0 3\n", "lists locked") {
+		t.Error("the newest state does not serve")
 	}
 }
 
-// No count that anybody makes up ends a voter, neither with a session nor without one.
-func TestMadeUpCountsEndNobody(t *testing.T) {
+// An older copy of the last run goes on above all grants that it gave, and gives no vote for a TTL
+// but to who says that he is inside.
+func TestOlderCopyOfTheLastRun(t *testing.T) {
+	const ttl = 2 * time.Second
+	w := worlds.New(t, worlds.Majority, ttl)
+	one, other := newCaller(t, w, 0, "one"), newCaller(t, w, 1, "other")
+	if !one.says(". claim 0 1 50\nstock request 0 0 1\n", "stock locked") ||
+		!other.says(". claim 1 1 50\n. open 0\n", "opened") {
+		t.Fatal("no session")
+	}
+	older := w.Copy(0)
+	if !one.says("orders request 0 0 2\n", "orders locked") {
+		t.Fatal("no vote")
+	}
+	before := grantOf(t, w, "orders")
+	w.Kill(0)
+	w.Put(0, older)
+	w.Start(0)
+	began := time.Now()
+	if !other.says("orders request 1 0 1\n", ". quiet ") {
+		t.Error("it is not quiet")
+	}
+	if !one.says("orders request 0 0 2 inside\n", "orders locked") {
+		t.Error("who is inside does not get the vote again")
+	}
+	if after := grantOf(t, w, "orders"); after <= before || after <= 1<<16 {
+		t.Errorf("grant %d after %d", after, before)
+	}
+	if !one.says("orders release 0 0 2\n", "") || !other.says("orders request 1 0 1\n", "orders locked") {
+		t.Error("it stays quiet")
+	}
+	if took := time.Since(began); took < ttl-200*time.Millisecond {
+		t.Errorf("quiet for %v", took)
+	}
+}
+
+// A grant from before a crash that nobody renews is let go after a TTL.
+func TestUnrenewedGrant(t *testing.T) {
 	w := worlds.New(t, worlds.Majority, time.Second)
-	one := speaker(t, w, 0, "one")
-	saves := one("orders request 0 0 1", 0)
-	port := w.Bus.Port()
-	h := wire.Header{Cluster: "test", Coterie: w.Cluster.Marks()[0], Kind: wire.FromClient, Name: "x", Saves: 1<<64 - 1}
-	_ = port.Send(wire.VoterBox("test", 0), h.Append(nil))
-	if one("stock request 0 0 1", 1<<63) == 0 || one("lists request 0 0 1", saves) == 0 {
-		t.Error("a made-up count stops a voter")
+	one, other := newCaller(t, w, 0, "one"), newCaller(t, w, 1, "other")
+	if !one.says(". claim 0 1 50\norders request 0 0 1\n", "orders locked") {
+		t.Fatal("no vote")
+	}
+	w.Kill(0)
+	w.Start(0)
+	beats := make(chan struct{})
+	go func() { // it is there, and does not say that it is inside
+		for {
+			select {
+			case <-beats:
+				return
+			case <-time.After(100 * time.Millisecond):
+				one.send(". open 0\n")
+			}
+		}
+	}()
+	defer close(beats)
+	if !other.says(". claim 1 1 50\norders request 1 0 1\n", "orders locked") {
+		t.Error("the vote stays with who did not renew it")
+	}
+}
+
+// A voter that ended cleanly serves at once.
+func TestCleanEnd(t *testing.T) {
+	w := worlds.New(t, worlds.Majority, 30*time.Second)
+	one := newCaller(t, w, 0, "one")
+	if !one.says(". claim 0 1 50\norders request 0 0 1\n", "orders locked") {
+		t.Fatal("no vote")
+	}
+	w.Stop(0)
+	w.Start(0)
+	if !one.says("stock request 0 0 2\n", "stock locked") {
+		t.Error("it is quiet")
+	}
+}
+
+// A second process with a copy of a state is refused, and the first one goes on.
+func TestTwoProcesses(t *testing.T) {
+	w := worlds.New(t, worlds.Majority, time.Second)
+	w.Stop(0)
+	state, first := w.Copy(0), w.Owns[0].Data
+	w.Start(0)
+	one := newCaller(t, w, 0, "one")
+	if !one.says(". claim 0 1 50\norders request 0 0 1\n", "orders locked") {
+		t.Fatal("no vote")
+	}
+	w.Owns[0].Data = filepath.Join(t.TempDir(), "copy")
+	if err := os.MkdirAll(w.Owns[0].Data, 0o700); err != nil {
+		t.Fatal(err)
+	}
+	w.Put(0, state)
+	err := w.Second(0)
+	if w.Owns[0].Data = first; !errors.Is(err, voter.ErrOlder) {
+		t.Errorf("a second process: %v", err)
+	}
+}
+
+// A state that is made anew where a voter was is refused, and made again as a lost one it serves,
+// with grants above all that the lost one gave.
+func TestForgottenLoss(t *testing.T) {
+	w := worlds.New(t, worlds.Majority, time.Second)
+	one := newCaller(t, w, 0, "one")
+	if !one.says(". claim 0 1 50\norders request 0 0 1\n", "orders locked") {
+		t.Fatal("no vote")
+	}
+	before := grantOf(t, w, "orders")
+	w.Stop(0)
+	if err := os.RemoveAll(w.Owns[0].Data); err != nil {
+		t.Fatal(err)
+	}
+	if _, err := voter.Init(w.Owns[0], w.Cluster); err != nil {
+		t.Fatal(err)
+	}
+	w.Start(0)
+	if err := w.Ends(0); !errors.Is(err, voter.ErrPlace) {
+		t.Errorf("a loss that was forgotten: %v", err)
+	}
+	w.Lose(0)
+	w.Start(0)
+	if !one.says(". claim 0 1 50\norders request 0 0 2\n", "orders locked") {
+		t.Fatal("no vote after a loss")
+	}
+	if after := grantOf(t, w, "orders"); after <= before || after <= 1<<16 {
+		t.Errorf("grant %d after %d", after, before)
+	}
+}
+
+// A new voter gives no vote before so many answered that the silent ones and it contain no quorum.
+func TestNewVoterWaits(t *testing.T) {
+	w := worlds.New(t, worlds.Majority, time.Second)
+	w.Kill(1)
+	w.Kill(2)
+	w.Stop(0)
+	if err := os.RemoveAll(w.Owns[0].Data); err != nil {
+		t.Fatal(err)
+	}
+	if _, err := voter.Init(w.Owns[0], w.Cluster); err != nil {
+		t.Fatal(err)
+	}
+	w.Start(0)
+	one := newCaller(t, w, 0, "one")
+	for i := 0; i < 5; i++ {
+		one.send(". claim 0 1 50\norders request 0 0 1\n")
+		select {
+		case m := <-one.heard:
+			t.Fatalf("it speaks: %s", m)
+		case <-time.After(100 * time.Millisecond):
+		}
 	}
 }

@@ -26,9 +26,13 @@ const mostReply = 900 << 10
 type Status struct {
 	Meta
 	Locks   int     `json:"locks"`
-	Busy    int     `json:"busy"`    // votes that somebody has or waits for
-	Granted uint64  `json:"granted"` // grants given since the start
-	Saves   uint64  `json:"saves"`   // how often the state was saved; each loss begins far above
+	Busy    int     `json:"busy"`                    // votes that somebody has or waits for
+	Granted uint64  `json:"granted"`                 // grants given since the start
+	Saves   uint64  `json:"saves"`                   // how often the state was saved
+	Start   uint64  `json:"start"`                   // how often the voter started
+	Ceiling uint64  `json:"ceiling"`                 // no grant has a greater number
+	Serves  bool    `json:"serves"`                  // the others answered its start
+	Quiet   float64 `json:"quiet_seconds,omitempty"` // for which only those inside get a vote
 	Runs    float64 `json:"runs_seconds"`
 	Planned
 	Sessions []SessionView `json:"sessions"`
@@ -144,6 +148,12 @@ func (d *Daemon) obey(words []string, now time.Time) interface{} {
 		return d.status(now)
 	case len(words) == 1 && words[0] == "sessions":
 		return d.table.rows[:]
+	case len(words) == 2 && words[0] == "knows":
+		if place := wire.Number([]byte(words[1])); place >= 0 && place < places {
+			return Knows{d.peers[place], d.table.known()}
+		}
+	case !d.join.done:
+		return Refused{"the voter waits for what other voters know of it"}
 	case len(words) == 2 && words[0] == "lock":
 		if v := d.votes[words[1]]; v != nil {
 			return view(v, now)
@@ -190,7 +200,8 @@ func (d *Daemon) unlock(lock string, grant uint64, now time.Time) LetGo {
 }
 
 func (d *Daemon) status(now time.Time) Status {
-	s := Status{Meta: d.store.meta, Locks: len(d.votes), Busy: len(d.busy), Granted: d.granted, Saves: d.store.saves, Runs: now.Sub(d.started).Seconds(),
+	s := Status{Meta: d.store.meta, Locks: len(d.votes), Busy: len(d.busy), Granted: d.granted, Saves: d.store.saves,
+		Start: d.store.own.Start, Ceiling: d.ceiling, Serves: d.join.done, Quiet: d.quiet(now).Seconds(), Runs: now.Sub(d.started).Seconds(),
 		Planned: Planned{d.plans.Number, d.plans.oldest(), d.plans.Settled}, Sessions: []SessionView{}, Votes: []VoteView{}}
 	for number, row := range d.table.rows {
 		if row.Open {

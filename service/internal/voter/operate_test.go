@@ -13,8 +13,10 @@ import (
 // meanwhile.
 func TestRepeatedEvict(t *testing.T) {
 	w := worlds.New(t, worlds.Majority, time.Second)
-	one := speaker(t, w, 0, "one")
-	one("orders request 0 0 1", 0)
+	one := newCaller(t, w, 0, "one")
+	if !one.says(". claim 0 1 50\norders request 0 0 1\n", "orders locked") {
+		t.Fatal("no vote")
+	}
 	port := w.Bus.Port()
 	heard, err := port.Listen(wire.OperatorBox("test", "op"))
 	if err != nil {
@@ -29,8 +31,8 @@ func TestRepeatedEvict(t *testing.T) {
 	if got := ask("evict 0"); got != `{"let_go":1}` {
 		t.Fatal(got)
 	}
-	two := speakerOf(t, w, 0, "two", 3)
-	if two("orders request 0 0 101", 0) == 0 {
+	two := newCallerOf(t, w, 0, "two", 3)
+	if !two.says(". claim 0 3 50\norders request 0 0 101\n", "orders locked") {
 		t.Fatal("the next session has no vote")
 	}
 	if got := ask("evict 0"); got != `{"let_go":1}` {

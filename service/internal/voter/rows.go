@@ -115,7 +115,7 @@ func verify(path string) (err error) {
 	}
 	return db.View(func(tx *bbolt.Tx) error {
 		tally := uint64(0)
-		for _, bucket := range [][]byte{metaBucket, voteBucket, sessionBucket} {
+		for _, bucket := range buckets {
 			if tx.Bucket(bucket) == nil {
 				return fmt.Errorf("%w: there is no bucket %q", ErrDamaged, bucket)
 			}

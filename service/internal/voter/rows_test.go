@@ -19,13 +19,14 @@ type content struct {
 	saves uint64
 	votes map[string]string
 	rows  map[int]Session
+	peers map[int]Peer
 }
 
 // aState makes a state with votes and sessions, and returns its folder and its owner.
 func aState(t *testing.T, votes int) (folder string, meta Meta) {
 	t.Helper()
 	folder, meta = filepath.Join(t.TempDir(), "a"), Meta{Format: format, Cluster: "test", Identity: "identity"}
-	if err := Create(folder, meta, Generations{Now: texts(t, two)}, nil); err != nil {
+	if err := Create(folder, meta, Generations{Now: texts(t, two)}, nil, 0); err != nil {
 		t.Fatal(err)
 	}
 	s, err := openStore(folder, meta)
@@ -41,9 +42,9 @@ func aState(t *testing.T, votes int) (folder string, meta Meta) {
 		if _, err := one.Take([]byte(fmt.Sprintf("request %d 0 17", i%64)), nil); err != nil {
 			t.Fatal(err)
 		}
-		changed := map[*vote]struct{}{{Voter: one, name: fmt.Sprint("orders-", i)}: {}}
-		if err := s.save(changed, map[int]Session{i % 64: of(fmt.Sprint("session-", i), 5, 100, 9000)},
-			nil); err != nil {
+		if err := s.save(changes{votes: map[*vote]struct{}{{Voter: one, name: fmt.Sprint("orders-", i)}: {}},
+			sessions: map[int]Session{i % 64: of(fmt.Sprint("session-", i), 5, 100, 9000)},
+			peers:    map[int]Peer{i % 64: {Identity: "other", Start: uint64(i)}}}); err != nil {
 			t.Fatal(err)
 		}
 	}
@@ -62,9 +63,10 @@ func read(folder string, meta Meta) (content, error) {
 
 // contentOf returns what an open state has.
 func contentOf(s *store) (content, error) {
-	c := content{meta: s.meta, saves: s.saves, votes: map[string]string{}, rows: map[int]Session{}}
+	c := content{meta: s.meta, saves: s.saves, votes: map[string]string{}, rows: map[int]Session{}, peers: map[int]Peer{}}
 	err := s.load(func(name string, state []byte) error { c.votes[name] = string(state); return nil },
-		func(number int, row Session) error { c.rows[number] = row; return nil })
+		func(number int, row Session) error { c.rows[number] = row; return nil },
+		func(place int, p Peer) { c.peers[place] = p })
 	return c, err
 }
 
@@ -140,9 +142,9 @@ func TestDamagedRoot(t *testing.T) {
 }
 
 // A row that is gone is missed, and one that is older than the others is found: of a vote, of a
-// number, and of the plans.
+// number, of a place, and of the plans.
 func TestRowsOfOneTransaction(t *testing.T) {
-	for row, bucket := range map[string][]byte{"orders-1": voteBucket, "\x01": sessionBucket, "plans": metaBucket} {
+	for row, bucket := range map[string][]byte{"orders-1": voteBucket, "\x01": sessionBucket, "\x02": peerBucket, "plans": metaBucket} {
 		folder, meta := aState(t, 3)
 		s, err := openStore(folder, meta)
 		if err != nil {
@@ -157,8 +159,9 @@ func TestRowsOfOneTransaction(t *testing.T) {
 		if err != nil {
 			t.Fatal(err)
 		}
-		if err := s.save(map[*vote]struct{}{{Voter: changed, name: "orders-1"}: {}},
-			map[int]Session{1: of("another", 7, 200, 9000)}, &Generations{Now: texts(t, all)}); err != nil {
+		if err := s.save(changes{votes: map[*vote]struct{}{{Voter: changed, name: "orders-1"}: {}},
+			sessions: map[int]Session{1: of("another", 7, 200, 9000)}, peers: map[int]Peer{2: {Identity: "other", Start: 9}},
+			plans: &Generations{Now: texts(t, all)}}); err != nil {
 			t.Fatal(err)
 		}
 		s.db.Close()

@@ -1,7 +1,6 @@
 package voter
 
 import (
-	"crypto/rand"
 	"encoding/json"
 	"errors"
 	"fmt"
@@ -9,7 +8,6 @@ import (
 	"path/filepath"
 	"time"
 
-	"calvundek.example/service/internal/config"
 	"calvundek.example/service/qlock"
 	"go.etcd.io/bbolt"
 )
@@ -20,13 +18,11 @@ var (
 	ErrMissing = errors.New("there is no state; a new voter needs `qlock-voter init`, one whose state is lost must not be made as if it were new")
 	ErrOther   = errors.New("the state is another voter's")
 	ErrInUse   = errors.New("the state is in use by another process")
-	ErrOlder   = errors.New("the state is an older copy: a session heard of a later save; put the newest one back, or make the voter again as one that lost its state")
 	ErrFormat  = errors.New("the state is of another version of this program")
-	ErrNoMark  = errors.New("the state has no mark of an older copy")
 	ErrDamaged = errors.New("the state is damaged; it forgot what it granted")
 )
 
-// format is the version of the file. Version 1 had no key, and checksums of votes alone.
+// format is the version of the file. Version 1 had checksums of votes alone.
 const format = 2
 
 // lockTimeout is how long a file may be in use by another process.
@@ -38,43 +34,44 @@ type Meta struct {
 	Cluster  string    `json:"cluster"`
 	Coterie  string    `json:"coterie"` // the mark of the plan with which it was made
 	Voter    int       `json:"voter"`
-	Block    uint64    `json:"block"` // how often this voter lost its state
+	Run      uint64    `json:"run"` // how often this voter was made again, after its state was lost
 	Identity string    `json:"identity"`
 	Made     time.Time `json:"made"`
 }
 
 // owner returns the parts that have to be those of whoever opens the file.
 func (m Meta) owner() string {
-	return fmt.Sprintf("voter %d of cluster %s, lost %d times", m.Voter, m.Cluster, m.Block)
+	return fmt.Sprintf("voter %d of cluster %s", m.Voter, m.Cluster)
 }
 
 var (
 	metaBucket    = []byte("meta")
 	countsKey     = []byte("counts")
 	plansKey      = []byte("plans")
-	proofKey      = []byte("key")   // with which the voter proves its counts of saves
-	olderKey      = []byte("older") // is there if this copy was found to be an older one
+	ownKey        = []byte("own")
 	voteBucket    = []byte("votes")
 	sessionBucket = []byte("sessions")
+	peerBucket    = []byte("peers")
 )
+
+// buckets are all of them.
+var buckets = [][]byte{metaBucket, voteBucket, sessionBucket, peerBucket}
 
 // store is the file of a voter's state. One transaction saves any number of votes and sessions.
 type store struct {
 	db    *bbolt.DB
 	meta  Meta
 	plans Generations // as they were read
-	key   []byte      // with which counts of saves are proved
-	saves uint64      // how often it was saved; each loss begins far above
+	own   own         // of its starts
+	saves uint64      // how often it was saved
 	tally uint64      // of its rows
-
-	isOlder bool // it has the mark of an older copy
 }
 
 func file(folder string) string { return filepath.Join(folder, "voter.db") }
 
-// Create makes the state of a voter, which begins with these sessions. It returns ErrExists if there is one. The state is
-// made in a second file, which is renamed. So one that is half made is not there.
-func Create(folder string, meta Meta, plans Generations, sessions map[int]Session) error {
+// Create makes the state of a voter, which begins with these sessions, and gives no grant up to a ceiling. It returns
+// ErrExists if there is one. The state is made in a second file, which is renamed. So one that is half made is not there.
+func Create(folder string, meta Meta, plans Generations, sessions map[int]Session, ceiling uint64) error {
 	if err := os.MkdirAll(folder, 0o700); err != nil {
 		return err
 	}
@@ -85,7 +82,7 @@ func Create(folder string, meta Meta, plans Generations, sessions map[int]Sessio
 	if err := os.Remove(second); err != nil && !errors.Is(err, os.ErrNotExist) {
 		return err
 	}
-	if err := write(second, meta, plans, sessions); err != nil {
+	if err := write(second, meta, plans, sessions, ceiling); err != nil {
 		return err
 	}
 	if err := os.Rename(second, file(folder)); err != nil {
@@ -94,13 +91,13 @@ func Create(folder string, meta Meta, plans Generations, sessions map[int]Sessio
 	return syncFolders(folder)
 }
 
-func write(path string, meta Meta, plans Generations, sessions map[int]Session) error {
+func write(path string, meta Meta, plans Generations, sessions map[int]Session, ceiling uint64) error {
 	db, err := bbolt.Open(path, 0o600, &bbolt.Options{Timeout: lockTimeout})
 	if err != nil {
 		return err
 	}
-	err = (&store{db: db}).update(meta.Block<<40, func(b *batch) error {
-		for _, name := range [][]byte{metaBucket, voteBucket, sessionBucket} {
+	err = (&store{db: db}).update(0, func(b *batch) error {
+		for _, name := range buckets {
 			if _, err := b.tx.CreateBucket(name); err != nil {
 				return err
 			}
@@ -112,7 +109,7 @@ func write(path string, meta Meta, plans Generations, sessions map[int]Session) 
 		if err := b.put(metaBucket, metaBucket, value); err != nil {
 			return err
 		}
-		if err := b.putNewKey(); err != nil {
+		if err := b.putOwn(own{Ceiling: ceiling}); err != nil {
 			return err
 		}
 		if err := b.putPlans(plans); err != nil {
@@ -142,18 +139,9 @@ func syncFolders(folder string) error {
 	return nil
 }
 
-// openStore opens the state of a voter, which has to be there, and this voter's. One process has it at a time.
+// openStore opens the state of a voter, which has to be there, and this voter's, and counts the start. One process has it
+// at a time.
 func openStore(folder string, want Meta) (*store, error) {
-	s, err := openFile(folder, want)
-	if err == nil && s.isOlder {
-		s.db.Close()
-		return nil, fmt.Errorf("%s: %w", file(folder), ErrOlder)
-	}
-	return s, err
-}
-
-// openFile opens the state of a voter, also one that has the mark of an older copy.
-func openFile(folder string, want Meta) (*store, error) {
 	if _, err := os.Stat(file(folder)); errors.Is(err, os.ErrNotExist) {
 		return nil, fmt.Errorf("%s: %w", file(folder), ErrMissing)
 	} else if err != nil {
@@ -207,8 +195,9 @@ func (s *store) begin(folder string, want Meta) error {
 	if err := s.db.View(check); err != nil {
 		return err
 	}
+	s.own.Start++
 	for root := 0; root < 2; root++ {
-		if err := s.update(s.saves, func(*batch) error { return nil }); err != nil {
+		if err := s.update(s.saves, func(b *batch) error { return b.putOwn(s.own) }); err != nil {
 			return err
 		}
 	}
@@ -236,17 +225,16 @@ func (s *store) read(tx *bbolt.Tx) (err error) {
 	if isOldFormat(tx) {
 		return fmt.Errorf("%w: it has format 1, and this one has format %d", ErrFormat, format)
 	}
-	var meta, plans, older []byte
+	var meta, plans, own []byte
 	for _, one := range []struct {
 		key  []byte
 		into *[]byte
-	}{{metaBucket, &meta}, {plansKey, &plans}, {proofKey, &s.key}, {olderKey, &older}} {
+	}{{metaBucket, &meta}, {plansKey, &plans}, {ownKey, &own}} {
 		if *one.into, err = get(tx, metaBucket, one.key); err != nil {
 			return err
 		}
 	}
-	s.key, s.isOlder = append([]byte(nil), s.key...), older != nil
-	if len(s.key) != keyBytes || json.Unmarshal(meta, &s.meta) != nil || json.Unmarshal(plans, &s.plans) != nil {
+	if json.Unmarshal(meta, &s.meta) != nil || json.Unmarshal(plans, &s.plans) != nil || json.Unmarshal(own, &s.own) != nil {
 		return fmt.Errorf("%w: it does not say whose it is", ErrDamaged)
 	}
 	if s.meta.Format != format {
@@ -256,8 +244,9 @@ func (s *store) read(tx *bbolt.Tx) (err error) {
 	return err
 }
 
-// load hands each vote and each session to a function.
-func (s *store) load(vote func(name string, state []byte) error, session func(number int, row Session) error) error {
+// load hands each vote, each session and what is known of each place to a function.
+func (s *store) load(vote func(name string, state []byte) error, session func(number int, row Session) error,
+	peer func(place int, p Peer)) error {
 	return s.db.View(func(tx *bbolt.Tx) error {
 		err := each(tx, voteBucket, func(key, value []byte) error {
 			state, ok := unpack(value)
@@ -269,31 +258,58 @@ func (s *store) load(vote func(name string, state []byte) error, session func(nu
 		if err != nil {
 			return err
 		}
-		return each(tx, sessionBucket, func(key, value []byte) error {
+		err = each(tx, sessionBucket, func(key, value []byte) error {
 			var row Session
 			if err := json.Unmarshal(value, &row); err != nil || len(key) != 1 || key[0] >= qlock.MaxClients {
 				return fmt.Errorf("session %x: %w", key, ErrDamaged)
 			}
 			return session(int(key[0]), row)
 		})
+		if err != nil {
+			return err
+		}
+		return each(tx, peerBucket, func(key, value []byte) error {
+			var p Peer
+			if err := json.Unmarshal(value, &p); err != nil || len(key) != 1 || key[0] >= places {
+				return fmt.Errorf("place %x: %w", key, ErrDamaged)
+			}
+			peer(int(key[0]), p)
+			return nil
+		})
 	})
 }
 
-// save saves votes, sessions and plans in one transaction, and counts it. Plans that did not change are nil. When it returns nil all
-// is on the disk.
-func (s *store) save(votes map[*vote]struct{}, sessions map[int]Session, plans *Generations) error {
+// changes are what one transaction saves. Plans and own that did not change are nil.
+type changes struct {
+	votes    map[*vote]struct{}
+	sessions map[int]Session
+	peers    map[int]Peer
+	plans    *Generations
+	own      *own
+}
+
+// save saves what changed in one transaction, and counts it. When it returns nil all is on the disk.
+func (s *store) save(c changes) error {
 	return s.update(s.saves+1, func(b *batch) error {
-		for v := range votes {
+		for v := range c.votes {
 			if err := b.put(voteBucket, []byte(v.name), pack(v.State())); err != nil {
 				return err
 			}
 		}
-		if plans != nil {
-			if err := b.putPlans(*plans); err != nil {
+		if c.plans != nil {
+			if err := b.putPlans(*c.plans); err != nil {
 				return err
 			}
 		}
-		return b.putSessions(sessions)
+		if c.own != nil {
+			if err := b.putOwn(*c.own); err != nil {
+				return err
+			}
+		}
+		if err := b.putPeers(c.peers); err != nil {
+			return err
+		}
+		return b.putSessions(c.sessions)
 	})
 }
 
@@ -314,37 +330,27 @@ func (s *store) update(saves uint64, write func(*batch) error) error {
 	return err
 }
 
-// condemn notes that this is an older copy, so that no start serves with it: its saves would hide what it forgot.
-func (s *store) condemn() error {
-	return s.update(s.saves, func(b *batch) error { return b.put(metaBucket, olderKey, []byte{1}) })
-}
-
-// Pardon takes the mark of an older copy off a state, whose operator knows that it is the newest
-// one. The state gets a new key: what sessions heard of another copy says nothing of it any more.
-func Pardon(own *config.Voter, cluster *config.Cluster) error {
-	s, err := openFile(own.Data, Owner(own, cluster))
+// putOwn saves what a state has of its own starts.
+func (b *batch) putOwn(own own) error {
+	value, err := json.Marshal(own)
 	if err != nil {
 		return err
 	}
-	defer s.db.Close()
-	if !s.isOlder {
-		return fmt.Errorf("%s: %w", file(own.Data), ErrNoMark)
-	}
-	return s.update(s.saves, func(b *batch) error {
-		if err := b.remove(metaBucket, olderKey); err != nil {
-			return err
-		}
-		return b.putNewKey()
-	})
+	return b.put(metaBucket, ownKey, value)
 }
 
-// putNewKey saves a new key for proofs.
-func (b *batch) putNewKey() error {
-	key := make([]byte, keyBytes)
-	if _, err := rand.Read(key); err != nil {
-		return err
+// putPeers saves what is known of places.
+func (b *batch) putPeers(peers map[int]Peer) error {
+	for place, p := range peers {
+		value, err := json.Marshal(p)
+		if err != nil {
+			return err
+		}
+		if err := b.put(peerBucket, []byte{byte(place)}, value); err != nil {
+			return err
+		}
 	}
-	return b.put(metaBucket, proofKey, key)
+	return nil
 }
 
 func (b *batch) putPlans(plans Generations) error {

@@ -56,6 +56,24 @@ func (t *table) begin(now time.Time) {
 	}
 }
 
+// hearAll lets all leases begin anew.
+func (t *table) hearAll(now time.Time) {
+	for number := range t.rows {
+		t.hear(number, now)
+	}
+}
+
+// known returns the rows of numbers that a session ever had.
+func (t *table) known() map[int]Session {
+	rows := map[int]Session{}
+	for number, row := range t.rows {
+		if row.Epoch > 0 {
+			rows[number] = row
+		}
+	}
+	return rows
+}
+
 // hear notes that a number's session was heard.
 func (t *table) hear(number int, now time.Time) { t.heard[number] = t.clock.at(now) }
 

@@ -22,7 +22,9 @@ type vote struct {
 	asks  map[int]ask  // by client: who has it, and who waits
 	timer remind.Timer // for the reminder of whoever has it
 
-	isSpent bool // it was logged that all grants are given
+	limit   uint64 // how many grants it may give
+	isOld   bool   // its grant is from before the start, and nobody said that he is inside by it
+	isSpent bool   // it was logged that all grants are given
 }
 
 // isHolder returns whether the client has the vote.
@@ -53,6 +55,7 @@ func (d *Daemon) restore(name string, state []byte, now time.Time) error {
 		return err
 	}
 	v := d.add(name, voter)
+	v.isOld = true
 	held, err := v.Held()
 	if err != nil || held.Number == 0 {
 		return err
@@ -123,7 +126,8 @@ func (d *Daemon) noteGrant(v *vote, now time.Time) error {
 		if held.Number > 0 {
 			d.m.grants.Inc()
 			d.granted++
-			d.m.left.Set(float64(d.lastGrant() - d.m.highest(held.Number)))
+			d.m.left.Set(float64(d.ceiling - d.m.highest(held.Number)))
+			d.needsCeiling(d.m.most, now)
 		}
 	}
 	v.timer.Of(held.Number, now)

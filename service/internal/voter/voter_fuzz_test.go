@@ -116,6 +116,7 @@ func (s *stage) open(t testing.TB) *Daemon {
 	if err != nil {
 		t.Fatal(err)
 	}
+	d.join.done, d.ceiling = true, 1<<20 // as if the others had answered
 	return d
 }
 
@@ -191,7 +192,6 @@ func mustGrow(t *testing.T, before, after Session, number int) {
 func FuzzMessage(f *testing.F) {
 	s := newStage(f)
 	saved := s.header(2, 1<<40, 1<<63, "evil")
-	saved.Saves = 1<<64 - 1
 	for _, lines := range []string{"", ". hello\n", strings.Repeat(". hello\n", 100), ". claim 5 1\n", ". claim 0 2\n",
 		". drop 1 1\n", ". open 0\n", ". close\n", ". plan\n", "orders request 1 0 2\n", "orders request 0 0 1\n",
 		"stock request 1 0 9\nstock release 1 0 9\n", "orders release 0 0 1\n", "orders relinquish 0 0 1 1\n",
@@ -207,9 +207,6 @@ func FuzzMessage(f *testing.F) {
 		d := s.again(t)
 		rows, held := d.table.rows, d.votes["orders"].held
 		hand(d, message)
-		if d.older {
-			t.Fatal("a message without a proof ends the voter")
-		}
 		if sent(d) > mostReplies+4*len(message) {
 			t.Fatalf("%d bytes leave for a message of %d", sent(d), len(message))
 		}
@@ -366,6 +363,7 @@ func FuzzRows(f *testing.F) {
 	rows, held := d.table.rows, d.votes["orders"].held
 	places := rowsOf(f, d.store.db)
 	d.store.db.Close()
+	s.state = s.read(f) // each start changes a row
 	for i, place := range places {
 		f.Add(uint8(i), uint16(0), []byte{})
 		f.Add(uint8(i), uint16(bytes.LastIndexByte(place[2], '0')), []byte{1})
@@ -437,34 +435,41 @@ func rowsOf(f *testing.F, db *bbolt.DB) (places [][3][]byte) {
 	return places
 }
 
-// What voters reply about sessions brings no number back: of each it has the highest epoch, and a
-// stamp as high as any of them.
+// What voters reply of a place brings nothing back: of each number it has the highest epoch, and a
+// stamp as high as any of them; of the place the last run, and the highest ceiling.
 func FuzzMerge(f *testing.F) {
-	rows := make([]Session, qlock.MaxClients)
-	rows[3], rows[63] = Session{Name: "x", Epoch: 4, Base: 9, Reserved: 100, Open: true, Used: true},
-		Session{Epoch: 1, Reserved: 7}
-	first, _ := json.Marshal(rows)
-	rows[3] = Session{Name: "y", Epoch: 4, Base: 9, Reserved: 50, Open: true}
-	second, _ := json.Marshal(rows)
+	one := Knows{Peer{Identity: "v", Run: 1, Start: 4, Ceiling: 900}, map[int]Session{
+		3:  {Name: "x", Epoch: 4, Base: 9, Reserved: 100, Open: true, Used: true},
+		63: {Epoch: 1, Reserved: 7}}}
+	first, _ := json.Marshal(one)
+	second, _ := json.Marshal(Knows{Peer{Identity: "w", Ceiling: 950}, map[int]Session{
+		3: {Name: "y", Epoch: 4, Base: 9, Reserved: 50, Open: true}}})
 	f.Add(first, second)
-	f.Add(first, []byte("[]"))
+	f.Add(first, []byte("{}"))
 	f.Add([]byte("{\"error\":\"no\"}"), second)
 	f.Fuzz(func(t *testing.T, first, second []byte) {
 		replies := []operator.Reply{{Voter: 0, Name: "a", Body: first}, {Voter: 1, Name: "b", Body: second}}
-		sessions, heard, err := Merge(replies)
+		all, heard, err := Merge(replies)
 		if err != nil {
 			return
 		}
-		if heard != 0b11 || len(sessions) > qlock.MaxClients {
-			t.Fatalf("%b, %d sessions", heard, len(sessions))
+		if heard != 0b11 || len(all.Sessions) > qlock.MaxClients {
+			t.Fatalf("%b, %d sessions", heard, len(all.Sessions))
 		}
 		for _, body := range [][]byte{first, second} {
-			var rows []Session
-			if err := json.Unmarshal(body, &rows); err != nil {
+			var one Knows
+			if err := json.Unmarshal(body, &one); err != nil {
 				t.Fatal(err)
 			}
-			for number, row := range rows {
-				if got := sessions[number]; row.Epoch > 0 && (got.Epoch < row.Epoch || got.Reserved < row.Reserved) {
+			if one.Peer.Ceiling > all.Peer.Ceiling || one.Peer.Identity != "" && one.Peer.Run > all.Peer.Run {
+				t.Fatalf("%+v of %+v", all.Peer, one.Peer)
+			}
+			for number, row := range one.Sessions {
+				if number < 0 || number >= qlock.MaxClients || row.Epoch == 0 {
+					continue
+				}
+				got := all.Sessions[number]
+				if got.Reserved < row.Reserved || got.Epoch < row.Epoch && !got.Used {
 					t.Fatalf("number %d: %+v of %+v", number, got, row)
 				}
 			}

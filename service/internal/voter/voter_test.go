@@ -50,10 +50,9 @@ func TestWrongStarts(t *testing.T) {
 	}
 	other := worlds.NewCluster(t, "voters = [\"a\", \"b\"]\nquorums = [[\"b\"]]\n", time.Second)
 	for what, how := range map[string]func(own *config.Voter, cluster *config.Cluster){
-		"another cluster":       func(_ *config.Voter, c *config.Cluster) { c.ID = "other" },
-		"another coterie":       func(_ *config.Voter, c *config.Cluster) { c.Coterie, c.Planned = other.Coterie, other.Planned },
-		"another voter":         func(o *config.Voter, _ *config.Cluster) { o.Voter = "c" },
-		"a state before a loss": func(o *config.Voter, _ *config.Cluster) { o.Lost = 1 },
+		"another cluster": func(_ *config.Voter, c *config.Cluster) { c.ID = "other" },
+		"another coterie": func(_ *config.Voter, c *config.Cluster) { c.Coterie, c.Planned = other.Coterie, other.Planned },
+		"another voter":   func(o *config.Voter, _ *config.Cluster) { o.Voter = "c" },
 	} {
 		if err := open(change(*own, *cluster, how)); !errors.Is(err, voter.ErrOther) {
 			t.Errorf("%s: %v", what, err)
@@ -129,7 +128,7 @@ func session(t *testing.T, w *worlds.World, to int) (<-chan []byte, func(lines s
 
 // A voter whose save fails sends nothing of it, and ends.
 func TestFailedSaveEndsTheVoter(t *testing.T) {
-	cluster := worlds.NewCluster(t, worlds.Majority, time.Second)
+	cluster := worlds.NewCluster(t, "voters = [\"a\"]\nquorums = [[\"a\"]]\n", time.Second)
 	own := worlds.NewVoter("a", filepath.Join(t.TempDir(), "a"))
 	if _, err := voter.Init(own, cluster); err != nil {
 		t.Fatal(err)

@@ -1,15 +1,15 @@
 // Package wire has the messages between voters, clients and operators: a header line, and lines of locks, "LOCK LINE",
 // or of control, ". WORDS". One message may have the lines of many locks.
 //
-//	qlock1 CLUSTER COTERIE c NUMBER EPOCH RESERVED SESSION SEQ SAVES PROOF   from a client's session
-//	qlock1 CLUSTER COTERIE v NUMBER BLOCK IDENTITY SAVES PROOF LAPSES        from a voter
-//	qlock1 CLUSTER COTERIE o NAME                                            from an operator
+//	qlock2 CLUSTER COTERIE c NUMBER EPOCH RESERVED SESSION SEQ     from a client's session
+//	qlock2 CLUSTER COTERIE v NUMBER RUN START IDENTITY LAPSES      from a voter
+//	qlock2 CLUSTER COTERIE o NAME                                  from an operator
 //
-// COTERIE is a part of the SHA-256 of the TTL, the coterie, and how often the plan was exchanged. A
-// voter counts its saves. It proves the count by a word that only it can make, and a session
-// repeats the highest count that it heard of the receiver, with its PROOF; a session that heard of
-// none says 0 and "-". LAPSES counts how often the voter let a grant of the session go since it was
-// silent. Lines of control, and the replies:
+// Behind these there may be words KEY=VALUE. Who does not know a key ignores it. COTERIE is a part of
+// the SHA-256 of the TTL, the coterie, and how often the plan was exchanged. RUN is how often the
+// voter was made again after its state was lost, and START how often its process started. LAPSES
+// counts how often the voter let a grant of the session go since it was silent. Lines of control,
+// and the replies:
 //
 //	hello         number N EPOCH FREE for each number
 //	claim N EPOCH STAMPS   claimed N EPOCH BASE RESERVED, or refused N EPOCH; it reserves so many
@@ -25,6 +25,13 @@
 // room for the lock of a REQUEST, "taken N EPOCH" to a session that is over, and "unknown N EPOCH"
 // to one that has to claim its number there. It takes no other line of these two. A REQUEST's stamp
 // is above BASE and at most RESERVED, and no line of a lock has one above RESERVED.
+//
+// A client that is inside has the word "inside" behind its REQUEST. A voter that starts, and may not
+// know whom it granted its votes, is quiet for a TTL: it takes no REQUEST but of who is inside, and
+// says "quiet MS" to others.
+//
+// Voters speak to one another in mailboxes of their own, a line of JSON behind the header (package
+// voter, peers.go).
 //
 // A voter that ends by a signal says "leaving" to all sessions.
 //
@@ -73,23 +80,20 @@ type Header struct {
 	Epoch            uint64 // of a client: which session of its number it is, 0 while it has none
 	Reserved         uint64 // of a client: no stamp of the session is greater
 	Seq              uint64 // of a client: counts its heartbeats
-	Block            uint64 // of a voter: how often it lost its state
-	Saves            uint64 // of a voter: counts its saves; of a client: the highest count that it heard of the receiver
-	Proof            string // of the count, by the voter; none if it is empty
+	Run              uint64 // of a voter: how often it was made again, after its state was lost
+	Start            uint64 // of a voter: how often its process started
 	Lapses           uint64 // of a voter: how often it let a grant of the session go
 	Name             string // a session's, an operator's, or a voter's identity
 }
 
 // Append appends the header's line.
 func (h Header) Append(out []byte) []byte {
-	out = append(out, fmt.Sprintf("qlock1 %s %s %c ", h.Cluster, h.Coterie, h.Kind)...)
+	out = append(out, fmt.Sprintf("qlock2 %s %s %c ", h.Cluster, h.Coterie, h.Kind)...)
 	switch h.Kind {
 	case FromClient:
-		out = append(out, fmt.Sprintf("%d %d %d %s %d %d %s\n", h.Number, h.Epoch, h.Reserved, h.Name, h.Seq, h.Saves,
-			word(h.Proof))...)
+		out = append(out, fmt.Sprintf("%d %d %d %s %d\n", h.Number, h.Epoch, h.Reserved, h.Name, h.Seq)...)
 	case FromVoter:
-		out = append(out, fmt.Sprintf("%d %d %s %d %s %d\n", h.Number, h.Block, h.Name, h.Saves, word(h.Proof),
-			h.Lapses)...)
+		out = append(out, fmt.Sprintf("%d %d %d %s %d\n", h.Number, h.Run, h.Start, h.Name, h.Lapses)...)
 	default:
 		out = append(out, h.Name+"\n"...)
 	}
@@ -103,54 +107,38 @@ func Read(message []byte) (h Header, lines []byte, err error) {
 		return h, nil, ErrForeign
 	}
 	words := bytes.Fields(first)
-	if len(words) < 5 || string(words[0]) != "qlock1" || len(words[3]) != 1 {
+	if len(words) < 5 || string(words[0]) != "qlock2" || len(words[3]) != 1 {
 		return h, nil, ErrForeign
 	}
 	h.Cluster, h.Coterie, h.Kind = string(words[1]), string(words[2]), Kind(words[3][0])
-	if !h.read(words[4:]) {
+	if !h.read(withoutKeys(words[4:])) {
 		return h, nil, ErrForeign
 	}
 	return h, lines, nil
 }
 
+// withoutKeys returns the words before those KEY=VALUE at the end, of which none is known yet.
+func withoutKeys(words [][]byte) [][]byte {
+	for len(words) > 0 && bytes.IndexByte(words[len(words)-1], '=') > 0 {
+		words = words[:len(words)-1]
+	}
+	return words
+}
+
 // read reads the words behind the kind of a sender, and returns whether they are right.
 func (h *Header) read(words [][]byte) bool {
 	switch {
-	case h.Kind == FromClient && len(words) == 7:
+	case h.Kind == FromClient && len(words) == 5:
 		h.Name = string(words[3])
-		return h.number(words[0]) && long(words[1], &h.Epoch) && long(words[2], &h.Reserved) && long(words[4], &h.Seq) &&
-			long(words[5], &h.Saves) && h.proof(words[6])
-	case h.Kind == FromVoter && len(words) == 6:
-		h.Name = string(words[2])
-		return h.number(words[0]) && long(words[1], &h.Block) && long(words[3], &h.Saves) && h.proof(words[4]) &&
-			long(words[5], &h.Lapses)
+		return h.number(words[0]) && long(words[1], &h.Epoch) && long(words[2], &h.Reserved) && long(words[4], &h.Seq)
+	case h.Kind == FromVoter && len(words) == 5:
+		h.Name = string(words[3])
+		return h.number(words[0]) && long(words[1], &h.Run) && long(words[2], &h.Start) && long(words[4], &h.Lapses)
 	case h.Kind == FromOperator && len(words) == 1:
 		h.Name = string(words[0])
 		return true
 	}
 	return false
-}
-
-// none is the word for a proof that is not there.
-const none = "-"
-
-// mostProof is how many bytes a proof may have.
-const mostProof = 64
-
-// word returns the word of a proof.
-func word(proof string) string {
-	if proof == "" {
-		return none
-	}
-	return proof
-}
-
-// proof reads the proof of a count.
-func (h *Header) proof(word []byte) bool {
-	if h.Proof = ""; string(word) != none {
-		h.Proof = string(word)
-	}
-	return len(word) <= mostProof
 }
 
 // number reads the number of a client or a voter.
@@ -256,6 +244,14 @@ func only(word []byte, marks string) bool {
 
 // VoterBox returns the mailbox of a voter.
 func VoterBox(cluster string, voter int) string { return fmt.Sprintf("qlock.%s.v.%d", cluster, voter) }
+
+// PeerBox returns the mailbox in which a voter takes what another one says.
+func PeerBox(cluster string, to, from int) string {
+	return fmt.Sprintf("qlock.%s.p.%d.%d", cluster, to, from)
+}
+
+// PeerBoxes returns all mailboxes in which a voter takes what others say.
+func PeerBoxes(cluster string, to int) string { return fmt.Sprintf("qlock.%s.p.%d.*", cluster, to) }
 
 // AdminBox returns the mailbox in which a voter takes what operators ask.
 func AdminBox(cluster string, voter int) string {

@@ -10,8 +10,8 @@ import (
 // headers are one of each kind of sender, as they are sent.
 var headers = []Header{
 	{Cluster: "prod", Coterie: "0a1b2c3d4e5f", Kind: FromClient, Number: 63, Epoch: 4, Reserved: 1 << 40, Seq: 9,
-		Saves: 3, Name: "jobs.77"},
-	{Cluster: "prod", Coterie: "0a1b2c3d4e5f", Kind: FromVoter, Number: 5, Block: 2, Saves: 1<<64 - 1,
+		Name: "jobs.77"},
+	{Cluster: "prod", Coterie: "0a1b2c3d4e5f", Kind: FromVoter, Number: 5, Run: 2, Start: 1<<64 - 1,
 		Name: "0123456789abcdef"},
 	{Cluster: "prod", Coterie: "0a1b2c3d4e5f", Kind: FromOperator, Name: "fedcba9876543210"},
 }
@@ -31,7 +31,7 @@ func FuzzRead(f *testing.F) {
 			f.Add(append(h.Append(nil), lines...))
 		}
 	}
-	f.Add([]byte("qlock1  a\tb c 0 0 0 x 0 0\n"))
+	f.Add([]byte("qlock2  a\tb c 0 0 0 x 0\n"))
 	f.Fuzz(func(t *testing.T, message []byte) {
 		before := append([]byte(nil), message...)
 		h, lines, err := Read(message)

@@ -10,10 +10,9 @@ import (
 // What is written is read back.
 func TestHeaders(t *testing.T) {
 	for _, h := range []Header{
-		{Cluster: "prod", Coterie: "0a1b", Kind: FromClient, Number: 63, Epoch: 4, Reserved: 1 << 40, Seq: 9, Saves: 3, Name: "app.77"},
-		{Cluster: "prod", Coterie: "0a1b", Kind: FromClient, Number: 1, Epoch: 1, Seq: 1, Saves: 1 << 50,
-			Proof: "00ff", Name: "x"},
-		{Cluster: "prod", Coterie: "0a1b", Kind: FromVoter, Number: 5, Block: 2, Saves: 7, Proof: "ab", Lapses: 3,
+		{Cluster: "prod", Coterie: "0a1b", Kind: FromClient, Number: 63, Epoch: 4, Reserved: 1 << 40, Seq: 9, Name: "app.77"},
+		{Cluster: "prod", Coterie: "0a1b", Kind: FromClient, Number: 1, Epoch: 1, Seq: 1, Name: "x"},
+		{Cluster: "prod", Coterie: "0a1b", Kind: FromVoter, Number: 5, Run: 2, Start: 7, Lapses: 3,
 			Name: "id"},
 		{Cluster: "prod", Coterie: "0a1b", Kind: FromOperator, Name: "op"},
 	} {
@@ -24,13 +23,21 @@ func TestHeaders(t *testing.T) {
 	}
 }
 
+// Words KEY=VALUE behind a header that nobody knows are ignored.
+func TestUnknownKeys(t *testing.T) {
+	h := Header{Cluster: "prod", Coterie: "0a1b", Kind: FromVoter, Number: 5, Run: 2, Start: 7, Name: "id"}
+	text := strings.TrimSuffix(string(h.Append(nil)), "\n")
+	if got, lines, err := Read([]byte(text + " caps=a,b level=2\n. hello\n")); err != nil || got != h || string(lines) != ". hello\n" {
+		t.Error(got, err)
+	}
+}
+
 // Anything else is foreign, and nothing panics.
 func TestForeign(t *testing.T) {
-	for _, text := range []string{"", "\n", "qlock1", "qlock2 a b o x\n", "qlock1 a b o x", "qlock1 a b c 1 2 3 n\n",
-		"qlock1 a b c 64 2 3 n 4 5 -\n", "qlock1 a b c 1 x 3 n 4 5 -\n", "qlock1 a b c 1 2 3 n 4 -5 -\n",
-		"qlock1 a b v -1 0 n 1 - 0\n", "qlock1 a b v 1 0 n 1 -\n",
-		"qlock1 a b v 1 0 n 1 " + strings.Repeat("a", 65) + " 0\n",
-		"qlock1 a b q n\n", "qlock1 a b vv 1 0 n 1\n"} {
+	for _, text := range []string{"", "\n", "qlock2", "qlock1 a b o x\n", "qlock2 a b o x", "qlock2 a b c 1 2 3 n\n",
+		"qlock2 a b c 64 2 3 n 4\n", "qlock2 a b c 1 x 3 n 4\n", "qlock2 a b c 1 2 3 n -5\n", "qlock2 a b c 1 2 3 n 4 =x\n",
+		"qlock2 a b v -1 0 1 n 0\n", "qlock2 a b v 1 0 1 n\n", "qlock2 a b v 1 0 1 n 0 x\n",
+		"qlock2 a b q n\n", "qlock2 a b vv 1 0 1 n 0\n"} {
 		if _, _, err := Read([]byte(text)); err != ErrForeign {
 			t.Errorf("%q: %v", text, err)
 		}

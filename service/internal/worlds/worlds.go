@@ -3,6 +3,7 @@ package worlds
 
 import (
 	"context"
+	"encoding/json"
 	"errors"
 	"io"
 	"os"
@@ -41,7 +42,34 @@ func New(t *testing.T, coterie string, ttl time.Duration) *World {
 	t.Helper()
 	w := &World{T: t, Bus: bus.New(1), Cluster: NewCluster(t, coterie, ttl), folder: t.TempDir()}
 	w.grow()
+	w.Ready()
 	return w
+}
+
+// Ready waits until all voters serve.
+func (w *World) Ready() {
+	w.T.Helper()
+	ctx, cancel := context.WithTimeout(context.Background(), 20*time.Second)
+	defer cancel()
+	console := w.Console()
+	for ctx.Err() == nil {
+		replies, err := console.Ask(ctx, "status", console.All()...)
+		if err != nil {
+			w.T.Fatal(err)
+		}
+		serving := 0
+		for _, r := range replies {
+			var status voter.Status
+			if json.Unmarshal(r.Body, &status) == nil && status.Serves {
+				serving++
+			}
+		}
+		if serving == len(replies) {
+			return
+		}
+		time.Sleep(10 * time.Millisecond)
+	}
+	w.T.Fatal("some voter does not serve")
 }
 
 // grow makes and starts the voters that are not there yet.
@@ -155,6 +183,18 @@ func (w *World) Ends(i int) error {
 	}
 }
 
+// Second starts a second process of a voter, and returns why it ended.
+func (w *World) Second(i int) error {
+	w.T.Helper()
+	daemon, err := voter.Open(w.Owns[i], w.Cluster, w.Bus.Port(), event.To(io.Discard))
+	if err != nil {
+		return err
+	}
+	ctx, cancel := context.WithTimeout(context.Background(), 10*time.Second)
+	defer cancel()
+	return daemon.Run(ctx)
+}
+
 // Copy returns the state of a voter that is stopped, and Put puts one back.
 func (w *World) Copy(i int) []byte {
 	w.T.Helper()
@@ -182,16 +222,15 @@ func (w *World) Kill(i int) {
 	w.stops[i]()
 }
 
-// Lose removes a voter's state, which is stopped, and makes it again as one that lost it once more.
+// Lose removes a voter's state, which is stopped, and makes it again as one that lost it.
 func (w *World) Lose(i int) {
 	w.T.Helper()
 	if err := os.RemoveAll(w.Owns[i].Data); err != nil {
 		w.T.Fatal(err)
 	}
-	w.Owns[i].Lost++
 	ctx, cancel := context.WithTimeout(context.Background(), 5*time.Second)
 	defer cancel()
-	if _, err := voter.Rejoin(ctx, w.Owns[i], w.Cluster, w.Console()); err != nil {
+	if _, err := voter.InitLost(ctx, w.Owns[i], w.Cluster, w.Console()); err != nil {
 		w.T.Fatal(err)
 	}
 }
