@@ -372,6 +372,7 @@ func TestLostVoter(t *testing.T) {
 			w.Stop(i)
 			w.Lose(i)
 			w.Start(i)
+			w.Ready()
 		}
 		if !isLost(held) {
 			t.Error("a client whose votes were forgotten does not know")

@@ -104,6 +104,7 @@ func TestExchangeAfterLosses(t *testing.T) {
 		w.Stop(i)
 		w.Lose(i)
 		w.Start(i)
+		w.Ready()
 	}
 	if _, err := begin(t, w, w.Cluster, all); err != nil {
 		t.Errorf("after two losses: %v", err)
@@ -120,6 +121,7 @@ func TestTwoOperators(t *testing.T) {
 		t.Fatal(err)
 	}
 	w.Start(2)
+	w.Ready()
 	if written, err := begin(t, w, before, all); err == nil || written != nil {
 		t.Fatalf("a second exchange: %v, written: %v", err, written != nil)
 	}
@@ -225,6 +227,7 @@ func TestRetireBringsUpToDate(t *testing.T) {
 		t.Fatal("nothing is reserved")
 	}
 	w.Start(2)
+	w.Ready()
 	soon(t, "the voters don't reply", func() bool { return w.Retire() == nil })
 	replies, err := w.Console().Ask(within(t, 5*time.Second), "status", 2)
 	if err != nil || !strings.Contains(string(replies[0].Body), fmt.Sprintf(`"reserved":%d`, 1<<18)) {

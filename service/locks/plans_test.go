@@ -126,6 +126,7 @@ func TestExchangeWhileClientsPass(t *testing.T) {
 	soon(t, "the voters do not take the plan", func() bool { return w.Install() == nil })
 	w.Stop(0)
 	w.Start(0)
+	w.Ready()
 	for _, c := range []*Client{first, second, third} {
 		soon(t, "a client stays with the old plan", func() bool { number, alone := planOf(c); return number == 1 && !alone })
 	}
@@ -144,6 +145,7 @@ func TestExchangeWhileClientsPass(t *testing.T) {
 	soon(t, "the old plan is not retired", func() bool { return w.Retire() == nil })
 	w.Stop(1)
 	w.Start(1)
+	w.Ready()
 	for _, c := range []*Client{first, second, third} {
 		soon(t, "a client keeps the old plan", func() bool { number, alone := planOf(c); return number == 1 && alone })
 	}

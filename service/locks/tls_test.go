@@ -35,14 +35,14 @@ const serverFile = `listen: "127.0.0.1:%d"
 tls { cert_file: "%s/server.pem", key_file: "%s/server.key", ca_file: "%s/ca.pem", verify: true }
 authorization { users: [
   { user: voter-a, password: secret-a, permissions: {
-      subscribe: ["qlock.test.v.0", "qlock.test.admin.0"],
-      publish: ["qlock.test.c.>", "qlock.test.o.*", "qlock.test.v.0"] } }
+      subscribe: ["qlock.test.v.0", "qlock.test.p.0.*", "qlock.test.admin.0"],
+      publish: ["qlock.test.c.>", "qlock.test.o.*", "qlock.test.v.0", "qlock.test.p.*.0"] } }
   { user: voter-b, password: secret-b, permissions: {
-      subscribe: ["qlock.test.v.1", "qlock.test.admin.1"],
-      publish: ["qlock.test.c.>", "qlock.test.o.*", "qlock.test.v.1"] } }
+      subscribe: ["qlock.test.v.1", "qlock.test.p.1.*", "qlock.test.admin.1"],
+      publish: ["qlock.test.c.>", "qlock.test.o.*", "qlock.test.v.1", "qlock.test.p.*.1"] } }
   { user: voter-c, password: secret-c, permissions: {
-      subscribe: ["qlock.test.v.2", "qlock.test.admin.2"],
-      publish: ["qlock.test.c.>", "qlock.test.o.*", "qlock.test.v.2"] } }
+      subscribe: ["qlock.test.v.2", "qlock.test.p.2.*", "qlock.test.admin.2"],
+      publish: ["qlock.test.c.>", "qlock.test.o.*", "qlock.test.v.2", "qlock.test.p.*.2"] } }
   { user: shop, password: secret-shop, permissions: { subscribe: ["qlock.test.c.shop.*"], publish: ["qlock.test.v.*"] } }
   { user: spy, password: secret-spy, permissions: { subscribe: ["qlock.test.c.spy.*"], publish: ["qlock.test.v.*"] } }
   { user: operator, password: secret-operator, permissions: { subscribe: ["qlock.test.o.*"], publish: ["qlock.test.admin.*"] } }

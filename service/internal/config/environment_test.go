@@ -33,12 +33,12 @@ func TestEnvironment(t *testing.T) {
 	if _, _, err := ReadVoter(""); !errors.Is(err, ErrConfig) || !strings.Contains(err.Error(), "there is no voter.toml") {
 		t.Error(err)
 	}
-	for name, value := range map[string]string{"CLUSTER": cluster, "VOTER": "b", "DATA": "d", "LOST": "2", "LISTEN": ":1",
+	for name, value := range map[string]string{"CLUSTER": cluster, "VOTER": "b", "DATA": "d", "LISTEN": ":1",
 		"MAX_LOCKS": "7", "REMIND_FIRST": "1s", "REMIND_MOST": "2s", "USER": "u", "SECRET": "s", "SEED": "n",
 		"CREDS": "j", "CERT": "c", "KEY": "k", "LOG": "warning"} {
 		t.Setenv("QLOCK_"+name, value)
 	}
-	want := Voter{Cluster: cluster, Voter: "b", Data: "d", Lost: 2, Listen: ":1", MaxLocks: 7,
+	want := Voter{Cluster: cluster, Voter: "b", Data: "d", Listen: ":1", MaxLocks: 7,
 		First: Duration{time.Second}, Most: Duration{2 * time.Second}, Log: event.Warning,
 		Access: Access{User: "u", Secret: "s", Seed: "n", Creds: "j", Cert: "c", Key: "k"}}
 	if v, _, err := ReadVoter(""); err != nil || *v != want {
@@ -59,7 +59,7 @@ func TestEnvironment(t *testing.T) {
 	if _, _, err := ReadVoter(path + ".none"); !errors.Is(err, ErrConfig) {
 		t.Errorf("a file that is named and not there: %v", err)
 	}
-	for name, value := range map[string]string{"LOST": "-1", "MAX_LOCKS": "many", "REMIND_MOST": "5", "LOG": "loud"} {
+	for name, value := range map[string]string{"MAX_LOCKS": "many", "REMIND_MOST": "5", "LOG": "loud"} {
 		before := os.Getenv("QLOCK_" + name)
 		t.Setenv("QLOCK_"+name, value)
 		if _, _, err := ReadVoter(""); !errors.Is(err, ErrConfig) || !strings.Contains(err.Error(), "QLOCK_"+name) {

@@ -108,11 +108,11 @@ func inform(ctx context.Context, c *config.Cluster, console *operator.Console, p
 	if err != nil {
 		return err
 	}
-	sessions, _, err := voter.Merge(replies)
+	known, _, err := voter.Merge(replies)
 	if err != nil {
 		return err
 	}
-	text, err := json.Marshal(sessions)
+	text, err := json.Marshal(known.Sessions)
 	if err != nil {
 		return err
 	}
@@ -182,14 +182,14 @@ func settle(ctx context.Context, c *config.Cluster, console *operator.Console, p
 	if err != nil {
 		return nil, err
 	}
-	sessions, heard, err := voter.Merge(replies)
+	known, heard, err := voter.Merge(replies)
 	if err != nil {
 		return nil, err
 	}
 	if !c.HasQuorums(heard) {
 		return replies, fewer(replies)
 	}
-	text, err := json.Marshal(sessions)
+	text, err := json.Marshal(known.Sessions)
 	if err != nil {
 		return nil, err
 	}

@@ -36,7 +36,7 @@ func InitLost(ctx context.Context, own *config.Voter, cluster *config.Cluster, c
 			others = append(others, voter)
 		}
 	}
-	replies, err := console.Ask(ctx, fmt.Sprint("knows ", place), others...)
+	replies, err := console.Ask(ctx, "knows", others...)
 	if err != nil {
 		return Meta{}, err
 	}
@@ -48,10 +48,10 @@ func InitLost(ctx context.Context, own *config.Voter, cluster *config.Cluster, c
 	switch {
 	case len(others) > 0 && cluster.HasAny(^heard) && silent(replies) != "":
 		return Meta{}, fmt.Errorf("%w: %s did not", ErrFewer, silent(replies))
-	case known.Peer.Identity == "":
+	case known.Peers[place].Identity == "":
 		return Meta{}, ErrNew
 	}
-	return create(own, cluster, known, known.Peer.Run+1)
+	return create(own, cluster, known, known.Peers[place].Run+1)
 }
 
 // create makes a state with a new identity.
@@ -63,14 +63,15 @@ func create(own *config.Voter, cluster *config.Cluster, known Knows, run uint64)
 		return meta, err
 	}
 	meta.Made = time.Now().UTC()
-	return meta, Create(own.Data, meta, NewGenerations(cluster), known.Sessions, known.Peer.Ceiling)
+	ceiling := known.Peers[meta.Voter].Ceiling
+	delete(known.Peers, meta.Voter)
+	return meta, Create(own.Data, meta, NewGenerations(cluster), known, ceiling)
 }
 
-// Merge returns what voters together know of a place and of all sessions: the last run there with the highest ceiling,
-// and, for each number, the newest session, and the highest stamp that one keeps as reserved. It also returns which voters
-// replied.
+// Merge returns what voters together know: of each place the last voter, with the highest ceiling; of each number the
+// newest session, and the highest stamp that one keeps as reserved. It also returns which voters replied.
 func Merge(replies []operator.Reply) (all Knows, heard uint64, err error) {
-	all.Sessions = map[int]Session{}
+	all.Sessions, all.Peers = map[int]Session{}, map[int]Peer{}
 	for _, r := range replies {
 		if r.Err != nil {
 			continue
@@ -80,11 +81,11 @@ func Merge(replies []operator.Reply) (all Knows, heard uint64, err error) {
 			return Knows{}, 0, fmt.Errorf("%s: %w", r.Name, operator.ErrRefused)
 		}
 		heard |= 1 << r.Voter
-		ceiling := greatest(all.Peer.Ceiling, one.Peer.Ceiling)
-		if all.Peer.Identity == "" || one.Peer.Run > all.Peer.Run {
-			all.Peer = one.Peer
+		for place, p := range one.Peers {
+			if place >= 0 && place < places {
+				all.Peers[place] = laterPeer(all.Peers[place], p)
+			}
 		}
-		all.Peer.Ceiling = ceiling
 		for number, row := range one.Sessions {
 			if row.Lapses = 0; number >= 0 && number < qlock.MaxClients && row.Epoch > 0 { // those are another voter's
 				all.Sessions[number] = newer(all.Sessions[number], row)

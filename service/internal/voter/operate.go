@@ -147,11 +147,9 @@ func (d *Daemon) obey(words []string, now time.Time) interface{} {
 	case len(words) == 1 && words[0] == "status":
 		return d.status(now)
 	case len(words) == 1 && words[0] == "sessions":
-		return d.table.rows[:]
-	case len(words) == 2 && words[0] == "knows":
-		if place := wire.Number([]byte(words[1])); place >= 0 && place < places {
-			return Knows{d.peers[place], d.table.known()}
-		}
+		return Knows{Sessions: d.table.known()}
+	case len(words) == 1 && words[0] == "knows":
+		return d.knows()
 	case !d.join.done:
 		return Refused{"the voter waits for what other voters know of it"}
 	case len(words) == 2 && words[0] == "lock":

@@ -73,13 +73,13 @@ func (p Peer) meets(now Peer) (Peer, error) {
 
 // word is what voters say to one another.
 type word struct {
-	Word    string          `json:"word"`              // start, known, ceiling, kept or ended
-	Process string          `json:"process"`           // of the voter that starts, also in a reply to it
-	Ceiling uint64          `json:"ceiling,omitempty"` // that it asks for, and that is kept
-	Saves   uint64          `json:"saves,omitempty"`   // with which it ended
-	Known   *Peer           `json:"known,omitempty"`   // what was known of it
-	Why     string          `json:"why,omitempty"`     // why it is refused
-	Rows    map[int]Session `json:"rows,omitempty"`    // the sessions that the one who answers knows
+	Word    string `json:"word"`              // start, known, ceiling, kept or ended
+	Process string `json:"process"`           // of the voter that starts, also in a reply to it
+	Ceiling uint64 `json:"ceiling,omitempty"` // that it asks for, and that is kept
+	Saves   uint64 `json:"saves,omitempty"`   // with which it ended
+	Known   *Peer  `json:"known,omitempty"`   // what was known of it
+	Why     string `json:"why,omitempty"`     // why it is refused
+	Knows   *Knows `json:"knows,omitempty"`   // all that the one who answers knows
 }
 
 // own is what a state has of its own starts.
@@ -261,7 +261,8 @@ func (d *Daemon) meet(h wire.Header, w word) {
 	next, err := known.meets(Peer{Identity: h.Name, Run: h.Run, Start: h.Start, Process: w.Process, Ceiling: w.Ceiling})
 	reply := word{Word: "kept", Process: w.Process, Ceiling: w.Ceiling}
 	if w.Word == "start" {
-		reply = word{Word: "known", Process: w.Process, Known: &known, Rows: d.table.known()}
+		all := d.knows()
+		reply = word{Word: "known", Process: w.Process, Known: &known, Knows: &all}
 	}
 	if err != nil {
 		reply.Why = fmt.Sprintf("%v (voter %d, run %d, start %d are known of %.8s)", err, h.Number, known.Run, known.Start,
@@ -282,7 +283,7 @@ func (d *Daemon) putPeer(place int, p Peer) {
 // learnsOfItself takes what another voter knew of this one.
 func (d *Daemon) learnsOfItself(h wire.Header, w word, now time.Time) {
 	j := &d.join
-	if w.Process != j.process || w.Known == nil || j.done {
+	if w.Process != j.process || w.Known == nil || w.Knows == nil || j.done {
 		return
 	}
 	if w.Why != "" {
@@ -294,12 +295,20 @@ func (d *Daemon) learnsOfItself(h wire.Header, w word, now time.Time) {
 	if w.Known.Identity == d.store.meta.Identity && w.Known.Ended > 0 && w.Known.Ended == j.saves {
 		j.isClean = true
 	}
-	for number, row := range w.Rows {
+	for number, row := range w.Knows.Sessions {
 		if number < 0 || number >= qlock.MaxClients {
 			continue
 		}
 		if row.Lapses = 0; d.table.learn(number, row, now) {
 			d.recount(number)
+		}
+	}
+	for place, p := range w.Knows.Peers {
+		if place < 0 || place >= places || place == d.store.meta.Voter {
+			continue
+		}
+		if later := laterPeer(d.peers[place], p); later != d.peers[place] {
+			d.putPeer(place, later)
 		}
 	}
 }
@@ -324,10 +333,33 @@ func (d *Daemon) header() wire.Header {
 		Start: d.store.own.Start, Name: meta.Identity}
 }
 
-// Knows is the reply to `knows PLACE`: what a voter keeps of a place, and of all sessions.
+// Knows is what a voter keeps of all places, and of all sessions.
 type Knows struct {
-	Peer     Peer            `json:"peer"`
+	Peers    map[int]Peer    `json:"peers"`
 	Sessions map[int]Session `json:"sessions"`
+}
+
+// knows returns what this voter keeps, and what it is itself.
+func (d *Daemon) knows() Knows {
+	peers := map[int]Peer{}
+	for place, p := range d.peers {
+		if p.Identity != "" {
+			peers[place] = p
+		}
+	}
+	self := d.self()
+	self.Ceiling = d.store.own.Ceiling
+	peers[d.store.meta.Voter] = self
+	return Knows{peers, d.table.known()}
+}
+
+// laterPeer returns of two that were in a place the later one, with the higher ceiling of both.
+func laterPeer(a, b Peer) Peer {
+	if b.Run > a.Run || b.Run == a.Run && (b.Start > a.Start || a.Identity == "") {
+		a, b = b, a
+	}
+	a.Ceiling = greatest(a.Ceiling, b.Ceiling)
+	return a
 }
 
 // newProcess returns a word for a process.

@@ -22,7 +22,7 @@ func TestStartEndsNoLease(t *testing.T) {
 	own := &config.Voter{Voter: "a", Data: filepath.Join(t.TempDir(), "a"), MaxLocks: 10}
 	meta := Owner(own, cluster)
 	meta.Identity = "identity"
-	if err := Create(own.Data, meta, NewGenerations(cluster), map[int]Session{3: of("s", 1, 0, 100)}, 0); err != nil {
+	if err := Create(own.Data, meta, NewGenerations(cluster), Knows{Sessions: map[int]Session{3: of("s", 1, 0, 100)}}, 0); err != nil {
 		t.Fatal(err)
 	}
 	d, err := Open(own, cluster, bus.New(1).Port(), event.To(testWriter{t}))

@@ -26,7 +26,7 @@ type content struct {
 func aState(t *testing.T, votes int) (folder string, meta Meta) {
 	t.Helper()
 	folder, meta = filepath.Join(t.TempDir(), "a"), Meta{Format: format, Cluster: "test", Identity: "identity"}
-	if err := Create(folder, meta, Generations{Now: texts(t, two)}, nil, 0); err != nil {
+	if err := Create(folder, meta, Generations{Now: texts(t, two)}, Knows{}, 0); err != nil {
 		t.Fatal(err)
 	}
 	s, err := openStore(folder, meta)

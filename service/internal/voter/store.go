@@ -69,9 +69,9 @@ type store struct {
 
 func file(folder string) string { return filepath.Join(folder, "voter.db") }
 
-// Create makes the state of a voter, which begins with these sessions, and gives no grant up to a ceiling. It returns
+// Create makes the state of a voter, which begins with what others know, and gives no grant up to a ceiling. It returns
 // ErrExists if there is one. The state is made in a second file, which is renamed. So one that is half made is not there.
-func Create(folder string, meta Meta, plans Generations, sessions map[int]Session, ceiling uint64) error {
+func Create(folder string, meta Meta, plans Generations, known Knows, ceiling uint64) error {
 	if err := os.MkdirAll(folder, 0o700); err != nil {
 		return err
 	}
@@ -82,7 +82,7 @@ func Create(folder string, meta Meta, plans Generations, sessions map[int]Sessio
 	if err := os.Remove(second); err != nil && !errors.Is(err, os.ErrNotExist) {
 		return err
 	}
-	if err := write(second, meta, plans, sessions, ceiling); err != nil {
+	if err := write(second, meta, plans, known, ceiling); err != nil {
 		return err
 	}
 	if err := os.Rename(second, file(folder)); err != nil {
@@ -91,7 +91,7 @@ func Create(folder string, meta Meta, plans Generations, sessions map[int]Sessio
 	return syncFolders(folder)
 }
 
-func write(path string, meta Meta, plans Generations, sessions map[int]Session, ceiling uint64) error {
+func write(path string, meta Meta, plans Generations, known Knows, ceiling uint64) error {
 	db, err := bbolt.Open(path, 0o600, &bbolt.Options{Timeout: lockTimeout})
 	if err != nil {
 		return err
@@ -115,7 +115,10 @@ func write(path string, meta Meta, plans Generations, sessions map[int]Session, 
 		if err := b.putPlans(plans); err != nil {
 			return err
 		}
-		return b.putSessions(sessions)
+		if err := b.putPeers(known.Peers); err != nil {
+			return err
+		}
+		return b.putSessions(known.Sessions)
 	})
 	if closed := db.Close(); err == nil {
 		err = closed

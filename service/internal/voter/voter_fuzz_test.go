@@ -435,14 +435,14 @@ func rowsOf(f *testing.F, db *bbolt.DB) (places [][3][]byte) {
 	return places
 }
 
-// What voters reply of a place brings nothing back: of each number it has the highest epoch, and a
-// stamp as high as any of them; of the place the last run, and the highest ceiling.
+// What voters reply brings nothing back: of each number it has the highest epoch, and a
+// stamp as high as any of them; of each place the last run, and the highest ceiling.
 func FuzzMerge(f *testing.F) {
-	one := Knows{Peer{Identity: "v", Run: 1, Start: 4, Ceiling: 900}, map[int]Session{
+	one := Knows{map[int]Peer{2: {Identity: "v", Run: 1, Start: 4, Ceiling: 900}}, map[int]Session{
 		3:  {Name: "x", Epoch: 4, Base: 9, Reserved: 100, Open: true, Used: true},
 		63: {Epoch: 1, Reserved: 7}}}
 	first, _ := json.Marshal(one)
-	second, _ := json.Marshal(Knows{Peer{Identity: "w", Ceiling: 950}, map[int]Session{
+	second, _ := json.Marshal(Knows{map[int]Peer{2: {Identity: "w", Ceiling: 950}}, map[int]Session{
 		3: {Name: "y", Epoch: 4, Base: 9, Reserved: 50, Open: true}}})
 	f.Add(first, second)
 	f.Add(first, []byte("{}"))
@@ -461,8 +461,10 @@ func FuzzMerge(f *testing.F) {
 			if err := json.Unmarshal(body, &one); err != nil {
 				t.Fatal(err)
 			}
-			if one.Peer.Ceiling > all.Peer.Ceiling || one.Peer.Identity != "" && one.Peer.Run > all.Peer.Run {
-				t.Fatalf("%+v of %+v", all.Peer, one.Peer)
+			for place, p := range one.Peers {
+				if got := all.Peers[place]; place >= 0 && place < places && (p.Ceiling > got.Ceiling || p.Run > got.Run) {
+					t.Fatalf("place %d: %+v of %+v", place, got, p)
+				}
 			}
 			for number, row := range one.Sessions {
 				if number < 0 || number >= qlock.MaxClients || row.Epoch == 0 {
