@@ -25,7 +25,6 @@ NATS = shutil.which("nats-server") or "/usr/sbin/nats-server"
 NAMES = ["hub", "rim1", "rim2", "rim3", "rim4"]
 WHEEL = SERVICE / "wheel-4.toml"
 GROWN = SERVICE / "wheel-4-grown.toml"
-MOST_COUNT = (1 << 64) - 1
 
 # what is to be ended once a case is over, the newest first
 ENDINGS: list[Callable[[], object]] = []
@@ -164,11 +163,11 @@ class Cluster:
         self.init(voter)
         self.start(voter)
 
-    def write(self, voter: str, lost: int = 0, cluster: Path | None = None) -> None:
+    def write(self, voter: str, cluster: Path | None = None) -> None:
         """Writes a voter's file."""
         self.ports.setdefault(voter, free_port())
         (self.room / f"{voter}.toml").write_text(
-            f'cluster = "{cluster or self.file}"\nvoter = "{voter}"\ndata = "{self.data(voter)}"\nlost = {lost}\n'
+            f'cluster = "{cluster or self.file}"\nvoter = "{voter}"\ndata = "{self.data(voter)}"\n'
             f'listen = "127.0.0.1:{self.ports[voter]}"\n{self.voter_lines}{self.access(voter)}'
         )
 
@@ -180,9 +179,9 @@ class Cluster:
         """The folder of a voter's state."""
         return self.room / voter
 
-    def init(self, voter: str, check: bool = True) -> tuple[int, str]:
+    def init(self, voter: str, *words: str, check: bool = True) -> tuple[int, str]:
         """Makes a voter's state."""
-        return self.run("qlock-voter", "init", "-c", self.room / f"{voter}.toml", check=check)
+        return self.run("qlock-voter", "init", *words, "-c", self.room / f"{voter}.toml", check=check)
 
     def start(self, voter: str, prefix: Iterable[object] = ()) -> None:
         """Starts a voter from its state."""
@@ -197,8 +196,7 @@ class Cluster:
         """Takes a voter's state away, and makes it again as the page says."""
         self.stop(voter, signal.SIGKILL)
         shutil.rmtree(self.data(voter))
-        self.write(voter, lost=1)
-        self.init(voter)
+        self.init(voter, "--lost")
         self.start(voter)
 
     def wait(self) -> None:
@@ -435,19 +433,16 @@ class Stranger(Wire):
             raise RuntimeError("the lock is not to be had")
         self.heard = self.read(0.5)
         self.socket.sendall(b"UNSUB 1\r\n")
-        forms = re.findall(rf"^qlock1 {self.id} (\S+) ([cv])((?: \S+)+)\r?$", self.heard, re.M)
-        self.marks = {kind: mark for mark, kind, _ in forms}
-        self.words = {kind: len(words.split()) for _, kind, words in forms}
+        forms = re.findall(rf"^qlock2 {self.id} (\S+) ([cv])(?: \S+)+\r?$", self.heard, re.M)
+        self.marks = {kind: mark for mark, kind in forms}
 
-    def header(self, kind: str, words: str, count: int) -> str:
-        """The header of a client's or a voter's message, with a count of saves that nobody proved."""
-        known = f"{words} {count}"
-        rest = ["-", "0"][: self.words[kind] - len(known.split())]  # no proof, and a count behind it
-        return " ".join(["qlock1", self.id, self.marks[kind], kind, known, *rest]) + "\n"
+    def header(self, kind: str, words: str) -> str:
+        """The header of a client's or a voter's message."""
+        return f"qlock2 {self.id} {self.marks[kind]} {kind} {words}\n"
 
     def say(self, voter: int, number: int, epoch: int, reserved: int, name: str, lines: str) -> None:
         """Sends a message of a client to a voter."""
-        header = self.header("c", f"{number} {epoch} {reserved} {name} 1", 0)
+        header = self.header("c", f"{number} {epoch} {reserved} {name} 1")
         self.publish(f"qlock.{self.id}.v.{voter}", header + lines)
 
     def must_arrive(self) -> None:

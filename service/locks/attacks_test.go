@@ -110,7 +110,7 @@ func TestOneGreatStamp(t *testing.T) {
 			t.Fatal(err)
 		}
 	}
-	great := uint64(wire.MaxStamp - 1)
+	great := uint64(qlock.MaxStamp - 1)
 	for claims := 0; claims < 2; claims++ {
 		s := newStranger(t, w, fmt.Sprint("evil.", claims))
 		s.Number, s.Epoch, s.Reserved, s.Seq = 62+claims, 1000, great, 1
@@ -200,7 +200,7 @@ func TestSpentStampsEndOneLock(t *testing.T) {
 	if err := take(t, c, "x").Unlock(); err != nil {
 		t.Fatal(err)
 	}
-	if err := c.call(func() error { return c.locks["x"].Raise(wire.MaxStamp) }); err != nil {
+	if err := c.call(func() error { return c.locks["x"].Raise(qlock.MaxStamp) }); err != nil {
 		t.Fatal(err)
 	}
 	if _, err := c.Lock(within(t, 5*time.Second), "x"); !errors.Is(err, qlock.StampsSpent) {

@@ -119,13 +119,13 @@ func (c *Client) controlPlans(voter int, words [][]byte) bool {
 	if len(words) != 4 || string(words[0]) != "generation" && string(words[0]) != "plan" {
 		return false
 	}
-	newest, ok := number(words[1])
+	newest, ok := wire.Decimal(words[1])
 	if !ok {
 		return true
 	}
 	if string(words[0]) == "plan" {
 		c.fetched(voter, newest, string(words[2]), string(words[3]))
-	} else if oldest, ok := number(words[3]); ok {
+	} else if oldest, ok := wire.Decimal(words[3]); ok {
 		c.noteGeneration(voter, newest, string(words[2]), oldest)
 	}
 	return true

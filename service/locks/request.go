@@ -46,7 +46,7 @@ func (c *Client) find(name string) (*lock, error) {
 	if len(c.locks) >= mostIdle+len(c.busy) {
 		c.forget()
 	}
-	client, err := qlock.ClientAnew(uint8(c.header.Number), wire.MaxStamp, c.used)
+	client, err := qlock.ClientAnew(uint8(c.header.Number), qlock.MaxStamp, c.used)
 	if err != nil {
 		return nil, err
 	}

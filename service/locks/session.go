@@ -296,7 +296,7 @@ func (c *Client) reserve(stamp uint64, now time.Time) {
 // reserved.
 func (c *Client) noteStamps(voter int, base, reserved uint64) {
 	p := &c.peers[voter]
-	if reserved > wire.MaxStamp || base > reserved {
+	if reserved > qlock.MaxStamp || base > reserved {
 		c.stats.Refused++
 		return
 	}
@@ -546,7 +546,7 @@ func (c *Client) spoilAll(voters uint64) {
 // control takes a control line of a voter.
 func (c *Client) control(voter int, words [][]byte) {
 	if len(words) == 3 && (string(words[0]) == "gone" || string(words[0]) == "full") {
-		if stamp, ok := number(words[2]); ok && string(words[0]) == "gone" {
+		if stamp, ok := wire.Decimal(words[2]); ok && string(words[0]) == "gone" {
 			c.gone(string(words[1]), stamp)
 		} else if ok {
 			c.full(voter, string(words[1]), stamp)
@@ -558,7 +558,7 @@ func (c *Client) control(voter int, words [][]byte) {
 		return
 	}
 	if len(words) == 2 && string(words[0]) == "quiet" {
-		if left, ok := number(words[1]); ok {
+		if left, ok := wire.Decimal(words[1]); ok {
 			c.isQuiet(voter, left)
 		}
 		return
@@ -571,7 +571,7 @@ func (c *Client) control(voter int, words [][]byte) {
 		return
 	}
 	for i, word := range words[1:] {
-		value, ok := number(word)
+		value, ok := wire.Decimal(word)
 		if !ok {
 			return
 		}
@@ -651,7 +651,7 @@ func (c *Client) noteClaim(voter int, granted bool, base, reserved uint64) {
 		return
 	}
 	c.replied |= 1 << voter
-	if c.header.Epoch == 0 && base <= wire.MaxStamp {
+	if c.header.Epoch == 0 && base <= qlock.MaxStamp {
 		c.used = greatest(c.used, base) // what any session of the number used at this quorum
 	}
 	c.noteStamps(voter, base, reserved)
@@ -738,14 +738,4 @@ func (c *Client) finish() {
 		c.done = true
 		close(c.drained)
 	}
-}
-
-func number(word []byte) (n uint64, ok bool) {
-	for _, b := range word {
-		if b < '0' || b > '9' || n > 1<<60 {
-			return 0, false
-		}
-		n = 10*n + uint64(b-'0')
-	}
-	return n, len(word) > 0
 }

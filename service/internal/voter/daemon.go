@@ -62,6 +62,10 @@ type Daemon struct {
 	isFull          bool // it was logged that there is no room for another lock
 	join            joining
 	peers           [places]Peer
+	loaded          [places]Peer        // as they were at the start
+	resting         []resting           // the votes that nobody has, the oldest first
+	gone            map[string]struct{} // locks that are forgotten, whose rows are still there
+	restsFor        time.Duration
 	newPeers        map[int]Peer // they changed since the last save
 	newOwn          bool         // what the state has of its own starts changed
 	letters         []posted     // words to other voters that leave after the save
@@ -98,7 +102,10 @@ func Open(own *config.Voter, cluster *config.Cluster, carrier transport.Transpor
 		votes: map[string]*vote{}, busy: map[*vote]struct{}{}, dirty: map[*vote]struct{}{}, silent: map[*vote]struct{}{},
 		table: table{ttl: cluster.TTL.Duration, changed: map[int]Session{}, later: map[int]Session{}},
 		out:   map[string][]byte{}, replies: map[string]answer{}, started: time.Now(), away: time.Now(),
-		done: map[string][]byte{}, newPeers: map[int]Peer{}}
+		done: map[string][]byte{}, newPeers: map[int]Peer{}, gone: map[string]struct{}{}, restsFor: shortestRest}
+	if d.restsFor < 2*cluster.TTL.Duration {
+		d.restsFor = 2 * cluster.TTL.Duration
+	}
 	if err := d.begin(); err != nil {
 		state.db.Close()
 		return nil, err
@@ -146,7 +153,7 @@ func (d *Daemon) load(now time.Time) error {
 	}, func(number int, row Session) error {
 		d.table.rows[number] = row
 		return nil
-	}, func(place int, p Peer) { d.peers[place] = p })
+	}, func(place int, p Peer) { d.peers[place], d.loaded[place] = p, p })
 	for i := 0; err == nil && i < len(votes); i++ {
 		if err = d.restore(votes[i].name, votes[i].state, now); err != nil {
 			err = fmt.Errorf("vote %q: %w", votes[i].name, err)
@@ -306,6 +313,7 @@ func (d *Daemon) line(l *letter, speaker verdict, lock, line []byte, now time.Ti
 		d.m.refused.Inc()
 		return true
 	}
+	v.heard = now
 	d.step(v, said.From, now, func(out []byte) ([]byte, error) { return v.Take(line, out) })
 	d.deny(v, l.Header, said)
 	if v.held.Client == uint64(said.From) && v.held.Stamp == said.Stamp {
@@ -375,7 +383,7 @@ func (d *Daemon) step(v *vote, client int, now time.Time, take func(out []byte) 
 	d.before = *v.Voter
 	lines, err := take(d.room[:0])
 	if errors.Is(err, qlock.GrantsSpent) && v.limit < d.ceiling {
-		v.limit = d.ceiling
+		v.limit, v.isSpent = d.ceiling, false
 		_ = v.Extend(d.ceiling) // it never fails: the limit is below
 		lines, err = take(d.room[:0])
 	}
@@ -560,6 +568,7 @@ func (d *Daemon) claim(name string, words [][]byte, now time.Time) bool {
 // round does what time asks for: it lets grants of dead clients go that others wait for, and reminds.
 func (d *Daemon) round(now time.Time) {
 	d.endQuiet(now)
+	d.forget(now)
 	for v := range d.busy {
 		for v.held.Number > 0 && v.isWanted() && d.isOver(v.held) {
 			held := v.held
@@ -622,7 +631,7 @@ func (d *Daemon) commit(now time.Time) error {
 	must := len(d.dirty)+len(d.table.changed)+len(d.newPeers) > 0 || d.newPlans || d.newOwn
 	leaves := len(d.out)+len(d.replies)+len(d.letters) > 0
 	switch {
-	case !must && len(d.table.later)+len(d.silent) == 0:
+	case !must && len(d.table.later)+len(d.silent)+len(d.gone) == 0:
 		d.savedAll = now
 	case must && leaves || now.Sub(d.savedAll) > longest:
 		if err := d.save(now); err != nil {
@@ -641,7 +650,7 @@ func (d *Daemon) save(now time.Time) error {
 	for v := range d.silent {
 		d.dirty[v] = struct{}{}
 	}
-	c := changes{votes: d.dirty, sessions: d.table.unsaved(), peers: d.newPeers}
+	c := changes{votes: d.dirty, gone: d.gone, sessions: d.table.unsaved(), peers: d.newPeers}
 	if d.newPlans {
 		c.plans = &d.plans
 	}
@@ -655,7 +664,7 @@ func (d *Daemon) save(now time.Time) error {
 	d.m.batch.Observe(float64(len(d.dirty)))
 	d.table.saved()
 	d.dirty, d.silent, d.newPeers = map[*vote]struct{}{}, map[*vote]struct{}{}, map[int]Peer{}
-	d.newPlans, d.newOwn, d.savedAll = false, false, now
+	d.gone, d.newPlans, d.newOwn, d.savedAll = map[string]struct{}{}, false, false, now
 	return nil
 }
 

@@ -16,10 +16,10 @@ import (
 
 // metrics are a voter's numbers for Prometheus.
 type metrics struct {
-	registry                                                                    *prometheus.Registry
-	received, foreign, refused, unsent, reminders, expired, grants, spent, full prometheus.Counter
-	commit, batch                                                               prometheus.Histogram
-	locks, busy, held, sessions, numbers, plan, left                            prometheus.Gauge
+	registry                                                                               *prometheus.Registry
+	received, foreign, refused, unsent, reminders, expired, grants, spent, full, forgotten prometheus.Counter
+	commit, batch                                                                          prometheus.Histogram
+	locks, busy, held, sessions, numbers, plan, left                                       prometheus.Gauge
 
 	lasting, waiting oldest // of the grants that last, and of the requests that wait
 	most             uint64 // the highest number of a grant that was noted
@@ -68,6 +68,7 @@ func newMetrics() *metrics {
 	m.grants = m.counter("grants_total", "Grants given.")
 	m.spent = m.counter("grants_spent_total", "Messages that needed a grant of a lock which has none left.")
 	m.full = m.counter("requests_full_total", "Requests for locks for which there was no room (max_locks).")
+	m.forgotten = m.counter("locks_forgotten_total", "Locks that were forgotten, as nobody used them.")
 	m.commit = m.histogram("commit_seconds", "Time of one save.", prometheus.ExponentialBuckets(0.0002, 2, 14))
 	m.batch = m.histogram("commit_votes", "Votes of one save.", prometheus.ExponentialBuckets(1, 2, 12))
 	m.locks = m.gauge("locks", "Locks that this voter knows.")

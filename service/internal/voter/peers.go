@@ -183,7 +183,7 @@ func (d *Daemon) isKept(now time.Time) {
 // raiseAll lets all votes go on above what this voter may have given: they keep their grants.
 func (d *Daemon) raiseAll() {
 	for _, v := range d.votes {
-		v.limit = d.ceiling
+		v.limit, v.highest = d.ceiling, greatest(v.highest, d.floor)
 		_ = v.Extend(d.ceiling) // neither fails: no limit was above the ceiling
 		_ = v.Raise(d.floor)
 	}
@@ -248,7 +248,8 @@ func (d *Daemon) hearPeer(message []byte, now time.Time) {
 	case "known":
 		d.learnsOfItself(h, w, now)
 	case "kept":
-		if j := &d.join; w.Process == j.process && w.Ceiling == j.asks && w.Why == "" {
+		p := d.peers[h.Number]
+		if j := &d.join; w.Process == j.process && w.Ceiling == j.asks && w.Why == "" && p.Identity == h.Name && p.Start == h.Start {
 			j.kept |= 1 << h.Number
 			d.isKept(now)
 		}
@@ -258,6 +259,9 @@ func (d *Daemon) hearPeer(message []byte, now time.Time) {
 // meet judges another voter that starts, or asks for a ceiling, and answers.
 func (d *Daemon) meet(h wire.Header, w word) {
 	known := d.peers[h.Number]
+	if !d.join.done {
+		known = d.loaded[h.Number] // what it heard since may be of another cluster with the same name
+	}
 	next, err := known.meets(Peer{Identity: h.Name, Run: h.Run, Start: h.Start, Process: w.Process, Ceiling: w.Ceiling})
 	reply := word{Word: "kept", Process: w.Process, Ceiling: w.Ceiling}
 	if w.Word == "start" {
@@ -287,8 +291,20 @@ func (d *Daemon) learnsOfItself(h wire.Header, w word, now time.Time) {
 		return
 	}
 	if w.Why != "" {
+		if p := d.peers[h.Number]; p.Identity != "" && p.Identity != h.Name && h.Run <= p.Run {
+			d.m.foreign.Inc()
+			return
+		}
 		j.refused = fmt.Errorf("%s: %w: voter %d says: %s", file(d.own.Data), refusalOf(*w.Known, d.self()), h.Number, w.Why)
 		return
+	}
+	who, err := d.peers[h.Number].meets(w.Knows.Peers[h.Number])
+	if err != nil || who.Identity != h.Name {
+		d.m.foreign.Inc() // it is not the voter that is known there
+		return
+	}
+	if who != d.peers[h.Number] {
+		d.putPeer(h.Number, who)
 	}
 	j.answered |= 1 << h.Number
 	j.known = greatest(j.known, w.Known.Ceiling)

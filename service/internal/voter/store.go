@@ -285,6 +285,7 @@ func (s *store) load(vote func(name string, state []byte) error, session func(nu
 // changes are what one transaction saves. Plans and own that did not change are nil.
 type changes struct {
 	votes    map[*vote]struct{}
+	gone     map[string]struct{} // locks that are forgotten
 	sessions map[int]Session
 	peers    map[int]Peer
 	plans    *Generations
@@ -296,6 +297,11 @@ func (s *store) save(c changes) error {
 	return s.update(s.saves+1, func(b *batch) error {
 		for v := range c.votes {
 			if err := b.put(voteBucket, []byte(v.name), pack(v.State())); err != nil {
+				return err
+			}
+		}
+		for name := range c.gone {
+			if err := b.remove(voteBucket, []byte(name)); err != nil {
 				return err
 			}
 		}

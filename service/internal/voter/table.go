@@ -3,7 +3,6 @@ package voter
 import (
 	"time"
 
-	"calvundek.example/service/internal/wire"
 	"calvundek.example/service/qlock"
 )
 
@@ -187,7 +186,7 @@ func (t *table) reserve(number int, wanted uint64, now time.Time) {
 		return
 	}
 	highest := t.highest()
-	reserved := smallest(wanted, smallest(highest+t.stamps.refill(stampRate, mostStamps, now), wire.MaxStamp))
+	reserved := smallest(wanted, smallest(highest+t.stamps.refill(stampRate, mostStamps, now), qlock.MaxStamp))
 	if reserved <= row.Reserved {
 		return
 	}

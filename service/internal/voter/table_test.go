@@ -5,7 +5,6 @@ import (
 	"testing"
 	"time"
 
-	"calvundek.example/service/internal/wire"
 	"calvundek.example/service/qlock"
 )
 
@@ -114,7 +113,7 @@ func TestGrowthIsBounded(t *testing.T) {
 		t.Error("a session can't follow the stamps of another one")
 	}
 	table.reserve(4, 1<<62, now.Add(1000000*time.Hour))
-	if table.reserve(4, 1<<63, now.Add(2000000*time.Hour)); table.rows[4].Reserved > wire.MaxStamp {
+	if table.reserve(4, 1<<63, now.Add(2000000*time.Hour)); table.rows[4].Reserved > qlock.MaxStamp {
 		t.Error("a stamp is reserved that there is not")
 	}
 	for i := 0; i < 1000; i++ {

@@ -25,6 +25,10 @@ type vote struct {
 	limit   uint64 // how many grants it may give
 	isOld   bool   // its grant is from before the start, and nobody said that he is inside by it
 	isSpent bool   // it was logged that all grants are given
+
+	heard     time.Time // when a line of the lock came
+	highest   uint64    // no grant of it has a greater number
+	isResting bool      // nobody has it or waits for it, and it is among those that are forgotten after a while
 }
 
 // isHolder returns whether the client has the vote.
@@ -40,7 +44,9 @@ func (v *vote) isWanted() bool {
 // add makes a lock known to the daemon.
 func (d *Daemon) add(name string, voter *qlock.Voter) *vote {
 	v := &vote{Voter: voter, name: name, timer: remind.Timer{First: d.own.First.Duration, Most: d.own.Most.Duration}}
+	v.limit, v.highest = d.ceiling, d.floor
 	d.votes[name] = v
+	delete(d.gone, name)
 	return v
 }
 
@@ -57,6 +63,9 @@ func (d *Daemon) restore(name string, state []byte, now time.Time) error {
 	v := d.add(name, voter)
 	v.isOld = true
 	held, err := v.Held()
+	if err == nil && held.Number == 0 {
+		d.rest(v, now)
+	}
 	if err != nil || held.Number == 0 {
 		return err
 	}
@@ -91,6 +100,7 @@ func (d *Daemon) noteAsk(v *vote, client int, now time.Time) error {
 	if len(v.asks) == 0 {
 		v.asks = nil
 		delete(d.busy, v)
+		d.rest(v, now)
 	} else {
 		d.busy[v] = struct{}{}
 	}
@@ -124,6 +134,7 @@ func (d *Daemon) noteGrant(v *vote, now time.Time) error {
 	if held.Number != v.held.Number {
 		v.held, v.since = held, now
 		if held.Number > 0 {
+			v.highest = greatest(v.highest, held.Number)
 			d.m.grants.Inc()
 			d.granted++
 			d.m.left.Set(float64(d.ceiling - d.m.highest(held.Number)))

@@ -56,9 +56,6 @@ const MostBytes = 256 << 10
 // mostHeader is how many bytes a header's line may have.
 const mostHeader = 512
 
-// MaxStamp is the highest stamp of a session, and the highest number of a grant. The library allows more.
-const MaxStamp = 1 << 40
-
 // ErrForeign is returned for a message that is not of this protocol.
 var ErrForeign = errors.New("wire: no message of this protocol")
 
@@ -149,7 +146,7 @@ func (h *Header) number(word []byte) bool {
 
 // long reads a number of 64 bits.
 func long(word []byte, n *uint64) (ok bool) {
-	*n, ok = decimal(word)
+	*n, ok = Decimal(word)
 	return ok
 }
 
@@ -184,15 +181,15 @@ func (h Header) Split(lines []byte, send func(message []byte)) {
 
 // Number returns the small number in a word, -1 if there is none.
 func Number(word []byte) int {
-	n, ok := decimal(word)
+	n, ok := Decimal(word)
 	if !ok || n > math.MaxInt32 {
 		return -1
 	}
 	return int(n)
 }
 
-// decimal reads a number of 64 bits. It is called for each word of each line, so it makes no string.
-func decimal(word []byte) (n uint64, ok bool) {
+// Decimal reads a number of 64 bits. It is called for each word of each line, so it makes no string.
+func Decimal(word []byte) (n uint64, ok bool) {
 	for _, digit := range word {
 		if digit -= '0'; digit > 9 || n > (math.MaxUint64-uint64(digit))/10 {
 			return 0, false
@@ -219,7 +216,7 @@ func ReadLine(line []byte) Line {
 	}
 	stamp, _, _ := bytes.Cut(rest, []byte(" "))
 	l := Line{Word: word, From: Number(from), To: Number(to)}
-	l.Stamp, _ = decimal(stamp)
+	l.Stamp, _ = Decimal(stamp)
 	return l
 }
 

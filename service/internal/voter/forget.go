@@ -1,0 +1,56 @@
+package voter
+
+import "time"
+
+// How a voter forgets locks that nobody uses.
+//
+// A vote that nobody has, and of which nothing was heard for a while, is dropped: no client has
+// anything of it that counts (`free_votes_are_over`). If it is asked for again it begins above the
+// floor, which is at least what each dropped vote has given. After a start all votes begin above the
+// ceiling, so the floor needs no disk.
+
+// shortestRest is for how long nothing may be heard of a lock before it is forgotten, unless two TTLs
+// are more.
+const shortestRest = 30 * time.Second
+
+// resting is a lock of which nothing was heard since some time.
+type resting struct {
+	vote  *vote
+	since time.Time
+}
+
+// rest notes that nobody has a vote or waits for it.
+func (d *Daemon) rest(v *vote, now time.Time) {
+	if !v.isResting {
+		v.isResting = true
+		d.resting = append(d.resting, resting{v, now})
+	}
+}
+
+// forget drops the votes that rested for long enough. Their rows go with the next save.
+func (d *Daemon) forget(now time.Time) {
+	for len(d.resting) > 0 && now.Sub(d.resting[0].since) >= d.restsFor {
+		v := d.resting[0].vote
+		d.resting, v.isResting = d.resting[1:], false
+		switch {
+		case v.asks != nil:
+		case now.Sub(v.heard) < d.restsFor:
+			d.rest(v, v.heard)
+		default:
+			d.forgetVote(v)
+		}
+	}
+	if len(d.resting) == 0 {
+		d.resting = nil // and with it what was taken out
+	}
+}
+
+// forgetVote forgets a vote.
+func (d *Daemon) forgetVote(v *vote) {
+	d.floor = greatest(d.floor, v.highest)
+	delete(d.votes, v.name)
+	delete(d.dirty, v)
+	delete(d.silent, v)
+	d.gone[v.name] = struct{}{}
+	d.m.forgotten.Inc()
+}
