@@ -19,7 +19,7 @@ var others = []string{"PREFIX", "TIMEOUT", // of qlockctl
 	"PASS", // which a program finds that `qlockctl run` runs
 	"BUILD", "LIBRARY", "PLAN_LIBRARY", "WHEEL_LIBRARIES", "PROGRAMS", "PGHOST"}
 
-// links are the ends of variables that Kubernetes and Docker make of the names of services.
+// links are the ends of variables that Kubernetes makes of the names of services.
 var links = regexp.MustCompile(`^(.*_)?(SERVICE_HOST|SERVICE_PORT(_.+)?|PORT(_\d+_(TCP|UDP|SCTP)(_.+)?)?)$`)
 
 // variable returns the name of the variable of a setting.
