@@ -344,6 +344,8 @@ func (c *Client) run() {
 			}
 		case f := <-c.calls:
 			f()
+		case f := <-c.read:
+			f()
 		case now := <-ticker.C:
 			c.round(now)
 			if c.draining {

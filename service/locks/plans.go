@@ -39,19 +39,22 @@ type known struct {
 
 // plans are those that a client knows of.
 type plans struct {
-	plan       known  // by which it asks
-	generation uint64 // its number
-	older      *known // the one before it, until it is retired
-	next       *known // the one after it, until enough voters have it
+	plan       known       // by which it asks
+	generation uint64      // its number
+	older      *known      // the one before it, until it is retired
+	next       *known      // the one after it, until enough voters have it
+	isReading  bool        // a plan is being read
+	read       chan func() // what is to be done once it was
 }
 
 func newPlans(c *config.Cluster) plans {
 	marks := c.Marks()
 	newest := known{c.Planned, marks[0]}
 	if c.OldPlanned == nil {
-		return plans{plan: newest, generation: c.Generation}
+		return plans{plan: newest, generation: c.Generation, read: make(chan func(), 1)}
 	}
-	return plans{plan: known{c.OldPlanned, marks[1]}, generation: c.Generation - 1, next: &newest}
+	return plans{plan: known{c.OldPlanned, marks[1]}, generation: c.Generation - 1, next: &newest,
+		read: make(chan func(), 1)}
 }
 
 // hasQuorum returns whether a set of voters contains a quorum of each plan that is in use.
@@ -143,7 +146,7 @@ func (c *Client) noteGeneration(voter int, newest uint64, mark string, oldest ui
 		}
 	case retired && !c.hasQuorum(^c.retirers()):
 		c.end(ErrRetired)
-	case newest == c.generation+1 && c.next == nil && time.Since(p.asked) > c.config.Heartbeat:
+	case newest == c.generation+1 && c.next == nil && !c.isReading && time.Since(p.asked) > c.config.Heartbeat:
 		p.asked, p.awaited = time.Now(), true
 		c.out[voter] = append(c.out[voter], ". plan\n"...)
 	case newest == c.generation && oldest == newest && mark == c.plan.mark && c.older != nil:
@@ -175,21 +178,31 @@ func (c *Client) having(mark string) (mask uint64) {
 // restAfterJunk is for how long a voter is not asked again that sent no plan which can be used.
 const restAfterJunk = time.Minute
 
-// fetched takes the next plan of a voter that was asked for it, if it is one that may be used beside this one. To read one
-// takes time, so a voter may spend it once a minute.
+// fetched reads the next plan of a voter that was asked for it. That takes time, up to a second, so the loop goes on
+// meanwhile, and a voter may spend it once a minute.
 func (c *Client) fetched(voter int, number uint64, coterie, plan string) {
 	p := &c.peers[voter]
-	if !p.awaited || c.next != nil || number != c.generation+1 {
+	if !p.awaited || c.next != nil || c.isReading || number != c.generation+1 {
 		return
 	}
-	p.awaited = false
-	next, err := readPlan(coterie, plan)
+	p.awaited, c.isReading = false, true
+	go func() {
+		next, err := readPlan(coterie, plan)
+		c.read <- func() { c.wasRead(voter, number, next, err) }
+	}()
+}
+
+// wasRead takes a plan that was read, if it is one that may be used beside this one.
+func (c *Client) wasRead(voter int, number uint64, next *qlock.Plan, err error) {
+	c.isReading = false
 	if err != nil || config.CheckExchange(c.plan.Plan, next) != nil {
-		p.asked = time.Now().Add(restAfterJunk)
+		c.peers[voter].asked = time.Now().Add(restAfterJunk)
 		return
 	}
-	c.next = &known{next, c.cluster.Mark(config.Mark(number, next.Coterie))}
-	c.meetAll(len(next.Names))
+	if c.next == nil && number == c.generation+1 {
+		c.next = &known{next, c.cluster.Mark(config.Mark(number, next.Coterie))}
+		c.meetAll(len(next.Names))
+	}
 }
 
 // readPlan reads a plan as a voter sends it.

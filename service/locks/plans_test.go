@@ -225,9 +225,17 @@ func TestPlansThatAreNotTaken(t *testing.T) {
 		}
 		encode := base64.StdEncoding.EncodeToString
 		c.peers[0].awaited = true
-		if c.fetched(0, number, encode([]byte(coterie)), encode([]byte(text))); c.next != nil {
+		c.fetched(0, number, encode([]byte(coterie)), encode([]byte(text)))
+		if finishReading(c); c.next != nil {
 			t.Errorf("plan %d of %s", number, coterie)
 		}
+	}
+}
+
+// finishReading waits until the plan is read that a client reads, if it reads one.
+func finishReading(c *Client) {
+	if c.isReading {
+		(<-c.read)()
 	}
 }
 
@@ -251,6 +259,11 @@ func TestPlansCostLittle(t *testing.T) {
 	says := func(coterie string) {
 		words := fmt.Sprintf("plan 1 %s %s", encode([]byte(coterie)), encode([]byte(plan.Text)))
 		c.controlPlans(2, bytes.Fields([]byte(words)))
+		c.controlPlans(2, bytes.Fields([]byte(words))) // twice
+		if c.next != nil {
+			t.Error("the loop waited until the plan was read")
+		}
+		finishReading(c)
 	}
 	isAsked := func() bool {
 		c.out[2] = nil

@@ -247,6 +247,8 @@ func (c *Client) rounds(ctx context.Context, say func(), done func() bool) error
 			select {
 			case m := <-c.messages:
 				c.message(m)
+			case f := <-c.read:
+				f()
 			case <-timer.C:
 				waits = false
 			case <-ctx.Done():
