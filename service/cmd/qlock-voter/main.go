@@ -61,7 +61,7 @@ func command(ctx context.Context) *cobra.Command {
 	var path string
 	root := &cobra.Command{Use: "qlock-voter", Short: "A voter of the lock service",
 		Long: "A voter of the lock service. Each setting of its file is also a variable of the environment, which goes " +
-			"before the file: max_locks is QLOCK_MAX_LOCKS. Without a file all are.", Version: qlock.Version(), SilenceUsage: true, SilenceErrors: true}
+			"before the file: max_locks is QLOCK_MAX_LOCKS. If all that is needed is there, there need be no file.", Version: qlock.Version(), SilenceUsage: true, SilenceErrors: true}
 	root.PersistentFlags().StringVarP(&path, "config", "c", "",
 		"the voter's file; "+config.VoterFile+" if there is one")
 	root.AddCommand(
