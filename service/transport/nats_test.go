@@ -106,18 +106,20 @@ func TestServerStandsStill(t *testing.T) {
 // A server that names another one leads nobody there.
 func TestUnlistedServer(t *testing.T) {
 	var came [2]atomic.Int32
+	var listeners [2]net.Listener
 	var at [2]string
-	for i := range came {
+	for i := range listeners {
 		listener, err := net.Listen("tcp", "127.0.0.1:0")
 		if err != nil {
 			t.Fatal(err)
 		}
 		defer listener.Close()
-		i := i
-		at[i] = listener.Addr().String()
-		go func() {
+		listeners[i], at[i] = listener, listener.Addr().String()
+	}
+	for i := range listeners {
+		go func(i int) {
 			for {
-				connection, err := listener.Accept()
+				connection, err := listeners[i].Accept()
 				if err != nil {
 					return
 				}
@@ -125,7 +127,7 @@ func TestUnlistedServer(t *testing.T) {
 				greet(connection, at[1])
 				connection.Close()
 			}
-		}()
+		}(i)
 	}
 	named := strings.Replace(at[0], "127.0.0.1", "localhost", 1)
 	for _, address := range []string{at[0], named} {
