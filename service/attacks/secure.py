@@ -63,7 +63,7 @@ def server_file(own: str, keys: Path, port: int, routes: list[str], cluster: str
         raise RuntimeError("the page has no user voter-0")
     others = ""
     for i in range(1, len(NAMES)):
-        others += re.sub(r"(voter-|\.v\.|\.admin\.)0", rf"\g<1>{i}", first.group())
+        others += re.sub(r"(voter-|\.v\.|\.p\.|\.p\.\*\.|\.admin\.)0", rf"\g<1>{i}", first.group())
     text = re.sub(r"  \.\.\. .*\n", lambda _: others, FILE)
     text = re.sub(r'user: ([a-z0-9-]+), password: "\.\.\."', r'user: \1, password: "password-\1"', text)
     for there, here in (

@@ -36,22 +36,36 @@ func InitLost(ctx context.Context, own *config.Voter, cluster *config.Cluster, c
 			others = append(others, voter)
 		}
 	}
+	for {
+		known, missing, err := askOthers(ctx, cluster, console, others)
+		switch {
+		case err != nil:
+			return Meta{}, err
+		case missing == "" && known.Peers[place].Identity == "":
+			return Meta{}, ErrNew
+		case missing == "":
+			return create(own, cluster, known, known.Peers[place].Run+1)
+		case ctx.Err() != nil:
+			return Meta{}, fmt.Errorf("%w: %s did not", ErrFewer, missing)
+		}
+	}
+}
+
+// askOthers asks other voters what they know, and returns which ones are missing. Whatever a quorum with this voter keeps, one of
+// those that replied keeps, if the others are no quorum with it: then none is missing.
+func askOthers(ctx context.Context, cluster *config.Cluster, console *operator.Console, others []int) (known Knows,
+	missing string, err error) {
+	ctx, cancel := context.WithTimeout(ctx, 2*time.Second)
+	defer cancel()
 	replies, err := console.Ask(ctx, "knows", others...)
 	if err != nil {
-		return Meta{}, err
+		return known, "", err
 	}
 	known, heard, err := Merge(replies)
-	if err != nil {
-		return Meta{}, err
+	if cluster.HasAny(^heard) {
+		missing = silent(replies)
 	}
-	// Whatever a quorum with this voter keeps, one of those that replied keeps: the others are no quorum with it.
-	switch {
-	case len(others) > 0 && cluster.HasAny(^heard) && silent(replies) != "":
-		return Meta{}, fmt.Errorf("%w: %s did not", ErrFewer, silent(replies))
-	case known.Peers[place].Identity == "":
-		return Meta{}, ErrNew
-	}
-	return create(own, cluster, known, known.Peers[place].Run+1)
+	return known, missing, err
 }
 
 // create makes a state with a new identity.
