@@ -467,40 +467,40 @@ func TestManyStartAtOnce(t *testing.T) {
 	}
 }
 
-// Where voters have no room for another lock, calls for new ones fail with ErrFull, and those for
-// the ones that are there succeed.
+// Where voters have no room for another lock, as all are in use, calls for new ones fail with ErrFull.
+// Once one is given back there is room.
 func TestFullIsSaid(t *testing.T) {
 	w := worlds.New(t, worlds.Majority, 2*time.Second)
 	c, _ := start(t, w)
-	var passed []string
+	var holds []*Held
 	full := 0
 	for i := 0; i < 200; i++ { // each voter has room for 100
-		name := fmt.Sprint("lock-", i)
-		held, err := c.Lock(within(t, 5*time.Second), name)
+		held, err := c.Lock(within(t, 5*time.Second), fmt.Sprint("lock-", i))
 		switch {
 		case err == nil:
-			passed = append(passed, name)
-			if err := held.Unlock(); err != nil {
-				t.Error(err)
-			}
+			holds = append(holds, held)
 		case errors.Is(err, ErrFull):
 			full++
 		default:
-			t.Fatal(name, err)
+			t.Fatal(i, err)
 		}
 	}
-	if len(passed) < 100 || full == 0 {
-		t.Fatalf("%d passed, %d are refused", len(passed), full)
+	if len(holds) < 100 || full == 0 {
+		t.Fatalf("%d are held, %d are refused", len(holds), full)
 	}
-	for round := 0; round < 3; round++ {
-		for _, name := range passed {
-			held, err := c.Lock(within(t, 5*time.Second), name)
-			if err != nil {
-				t.Fatalf("round %d, %s, which passed before: %v", round, name, err)
-			}
-			if err := held.Unlock(); err != nil {
-				t.Error(err)
-			}
+	for _, held := range holds {
+		if err := held.Unlock(); err != nil {
+			t.Error(err)
+		}
+	}
+	time.Sleep(2 * time.Second) // for a TTL other quorums were asked
+	for i := 0; i < 200; i++ {
+		held, err := c.Lock(within(t, 5*time.Second), fmt.Sprint("lock-", i))
+		if err != nil {
+			t.Fatalf("lock %d: %v", i, err)
+		}
+		if err := held.Unlock(); err != nil {
+			t.Error(err)
 		}
 	}
 }

@@ -492,6 +492,9 @@ func (c *Client) recognise(h wire.Header) bool {
 		p.forget()
 		c.spoilAll(1 << h.Number)
 	default:
+		if h.Lapses < p.lapses {
+			p.lapses = h.Lapses // an older copy of its state; each vote of it is asked for anew
+		}
 		c.restarted(h.Number)
 	}
 	return true

@@ -54,6 +54,8 @@ var kinds = []struct {
 	{"servers frozen", 1, func(p *player) { p.stop(p.cluster.Servers, 4*time.Second) }, nil},
 	{"voters that lost their state", 1, (*player).lose, nil},
 	{"older copies put back", 1, (*player).putBack, nil},
+	{"older copies of the last run that went on", 1, (*player).goBack, nil},
+	{"times all voters were killed at once", 1, (*player).killAll, nil},
 	{"sessions that operators ended", 2, (*player).evict, nil},
 	{"locks that operators unlocked", 2, (*player).unlock, nil},
 	{"voters cut off", 3, func(p *player) { p.cut(p.cluster.Voters, (*local.Island).Cut) }, hasIslands},
@@ -334,6 +336,44 @@ func (p *player) putOlder(one *local.Process, path string) error {
 		return err
 	}
 	return one.Start()
+}
+
+// goBack puts a copy of a voter's state back that was taken while it ran. It goes on from there.
+func (p *player) goBack() {
+	i, one := p.one()
+	if err := p.returnTo(one, filepath.Join(p.cluster.Data(i), "voter.db")); err != nil {
+		p.fail(err)
+	}
+	p.witness.incident()
+}
+
+func (p *player) returnTo(one *local.Process, path string) error {
+	one.Signal(syscall.SIGSTOP) // it writes nothing meanwhile
+	older, err := os.ReadFile(path)
+	one.Signal(syscall.SIGCONT)
+	if err != nil {
+		return err
+	}
+	time.Sleep(p.ttl/2 + time.Duration(p.random.Int63n(int64(p.ttl))))
+	one.Kill()
+	if err := os.WriteFile(path, older, 0o600); err != nil {
+		return err
+	}
+	return one.Start()
+}
+
+// killAll kills all voters at once, and starts them.
+func (p *player) killAll() {
+	p.one()
+	for _, one := range p.cluster.Voters {
+		one.Kill()
+	}
+	for _, one := range p.cluster.Voters {
+		if err := one.Start(); err != nil {
+			p.fail(err)
+		}
+	}
+	p.witness.incident()
 }
 
 // check returns an error if a process has ended that was not killed.

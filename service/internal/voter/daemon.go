@@ -357,7 +357,7 @@ func (d *Daemon) first(l *letter, lock []byte, said wire.Line) *vote {
 	if string(said.Word) != "request" {
 		return nil
 	}
-	if len(d.votes) >= d.own.MaxLocks {
+	if len(d.votes) >= d.own.MaxLocks && !d.makeRoom() {
 		d.tell(l.Name, "full %s %d", lock, said.Stamp)
 		d.m.full.Inc()
 		if !d.isFull {

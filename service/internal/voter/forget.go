@@ -4,8 +4,8 @@ import "time"
 
 // How a voter forgets locks that nobody uses.
 //
-// A vote that nobody has, and of which nothing was heard for a while, is dropped: no client has
-// anything of it that counts (`free_votes_are_over`). If it is asked for again it begins above the
+// A vote that nobody has, and of which nothing was heard for a while, is dropped, earlier where there
+// is no room for another lock: no client has anything of it that counts (`free_votes_are_over`). If it is asked for again it begins above the
 // floor, which is at least what each dropped vote has given. After a start all votes begin above the
 // ceiling, so the floor needs no disk.
 
@@ -43,6 +43,18 @@ func (d *Daemon) forget(now time.Time) {
 	if len(d.resting) == 0 {
 		d.resting = nil // and with it what was taken out
 	}
+}
+
+// makeRoom forgets the lock that rested longest, and returns whether there was one.
+func (d *Daemon) makeRoom() bool {
+	for len(d.resting) > 0 {
+		v := d.resting[0].vote
+		if d.resting, v.isResting = d.resting[1:], false; v.asks == nil {
+			d.forgetVote(v)
+			return true
+		}
+	}
+	return false
 }
 
 // forgetVote forgets a vote.

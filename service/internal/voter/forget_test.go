@@ -83,6 +83,23 @@ func TestOneTimeNames(t *testing.T) {
 	}
 }
 
+// Only locks in use fill a voter: another one takes the place of the one that rested longest.
+func TestRoomOfRestingLocks(t *testing.T) {
+	d, says := alone(t, 10)
+	for i := 1; i <= 100; i++ {
+		says(fmt.Sprintf("lock-%d request 0 0 %d\nlock-%d release 0 0 %d\n", i, i, i, i))
+	}
+	if len(d.votes) != 10 || d.votes["lock-100"] == nil || d.votes["lock-1"] != nil {
+		t.Errorf("%d locks are kept", len(d.votes))
+	}
+	for i := 101; i <= 111; i++ {
+		says(fmt.Sprintf("lock-%d request 0 0 %d\n", i, i))
+	}
+	if d.votes["lock-110"] == nil || d.votes["lock-111"] != nil {
+		t.Error("a lock beyond the most is given, or one within is not")
+	}
+}
+
 // A lock that somebody has, or of which a line came meanwhile, is kept.
 func TestWhatIsNotForgotten(t *testing.T) {
 	d, says := alone(t, 10)
