@@ -66,6 +66,11 @@ func command(ctx context.Context) *cobra.Command {
 		"the voter's file; "+config.VoterFile+" if there is one")
 	root.AddCommand(
 		makeCommand(ctx, &path),
+		&cobra.Command{Use: "upgrade", Args: cobra.NoArgs,
+			Short: "Take the state of an earlier version of this program over",
+			Long: "Makes a state for this version of one of format 1, which stays beside it. All voters and clients of the " +
+				"cluster have to be stopped, and each voter is upgraded before one starts. Guards go on.",
+			RunE: func(*cobra.Command, []string) error { return upgrade(path) }},
 		&cobra.Command{Use: "start", Args: cobra.NoArgs, Short: "Run this voter; its state has to be there",
 			RunE: func(*cobra.Command, []string) error { return start(ctx, path) }},
 		&cobra.Command{Use: "check", Args: cobra.NoArgs,
@@ -84,6 +89,19 @@ func makeCommand(ctx context.Context, path *string) *cobra.Command {
 		RunE: func(*cobra.Command, []string) error { return initialise(ctx, *path, isLost) }}
 	c.Flags().BoolVar(&isLost, "lost", false, "the state of this voter was lost")
 	return c
+}
+
+// upgrade takes the state of an earlier version over.
+func upgrade(path string) error {
+	own, cluster, err := config.ReadVoter(path)
+	if err != nil {
+		return err
+	}
+	meta, err := voter.Upgrade(own, cluster)
+	if err == nil {
+		fmt.Printf("voter=%s number=%d cluster=%s identity=%s\n", own.Voter, meta.Voter, meta.Cluster, meta.Identity)
+	}
+	return err
 }
 
 // initialise makes the state. If one was lost it asks the other voters what this one forgot.
