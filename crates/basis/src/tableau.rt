@@ -2,7 +2,7 @@
 ghost use Rattle.std.specs.Prelude.{◌≡◌, ◌+◌, ◌<◌, ◌≤◌, length, vec_len, IfOk, IfSome};
 ghost use Rattle.std.specs.List.{All};
 ghost use Rattle.numbers.specs.Bounds.{max_quorums, max_voters};
-ghost use Rattle.quorum_set.specs.Capacities.{IsCapacity};
+ghost use Rattle.quorum_set.specs.Capacities.{AreCapacities, IsCapacity};
 
 use numbers::MAX_VOTERS;
 use quorum_set::{Coterie, QSet};
@@ -22,16 +22,23 @@ const TILT: f64 = 0.0000001;
 const SMALLEST: f64 = 0.000000001;
 
 /// The numbers of a row: one for each column.
-pub(crate) type Cells = [f64; MAX_VOTERS + 1];
+type Cells = [f64; MAX_VOTERS + 1];
 
 /// The row of a voter. It says that the quorums with the voter, and its slack, sum to the right
 /// side.
 #[derive(Clone, Copy, Drop)]
-pub(crate) struct Row {
+struct Row {
     cells: Cells,
     /// The column that the row is solved for: a quorum's number, or behind the quorums a voter's
     /// slack.
     basis: usize,
+}
+
+/// The tableau after the last pivot.
+#[derive(Drop)]
+pub struct Tableau {
+    rows: Vec<Row>,
+    prices: Cells,
 }
 
 /// A column that may enter. It is the sum of the members' slacks.
@@ -55,11 +62,7 @@ fn start_row(voter: usize, basis: usize, capacity: u64) -> Row
 }
 
 /// Returns the rows before the first pivot: no quorum is used.
-pub(crate) fn start_rows(
-    alloc: Global,
-    quorums: usize,
-    capacities: &[u64],
-) -> Result<Vec<Row>, AllocError>
+fn start_rows(alloc: Global, quorums: usize, capacities: &[u64]) -> Result<Vec<Row>, AllocError>
     requires voters { length capacities.now ≤ max_voters }
     requires quorums { quorums ≤ max_quorums }
     requires capacities { All IsCapacity capacities.now }
@@ -74,10 +77,13 @@ pub(crate) fn start_rows(
 /// Returns the sum of the members' cells.
 fn sum_over(cells: &Cells, members: &QSet) -> f64 {
     let mut sum = 0.0;
-    for voter in 0..MAX_VOTERS {
-        if members.has(voter as u8) {
-            sum += cells[voter];
+    let mut rest = members.bits();
+    for _ in 0..MAX_VOTERS {
+        if rest == 0 {
+            return sum;
         }
+        sum += cells[rest.trailing_zeros() as usize % MAX_VOTERS];
+        rest &= rest - 1;
     }
     sum
 }
@@ -163,7 +169,9 @@ fn pivot(rows: &mut [Row], prices: &mut Cells, number: usize, column: &Column)
     divide(&mut solved, entry);
     for row in rows.iter_mut() {
         let times = sum_over(&row.cells, &column.members);
-        subtract(&mut row.cells, times, &solved);
+        if times != 0.0 {
+            subtract(&mut row.cells, times, &solved);
+        }
     }
     subtract(prices, column.price, &solved);
     rows[number] = Row {
@@ -173,7 +181,7 @@ fn pivot(rows: &mut [Row], prices: &mut Cells, number: usize, column: &Column)
 }
 
 /// Pivots until no column improves the solution, at most 10,000 times.
-pub(crate) fn improve(coterie: &Coterie, rows: &mut [Row], prices: &mut Cells) {
+fn improve(coterie: &Coterie, rows: &mut [Row], prices: &mut Cells) {
     for _ in 0..PIVOTS {
         let Some(column) = entering(coterie, prices) else {
             return;
@@ -185,35 +193,50 @@ pub(crate) fn improve(coterie: &Coterie, rows: &mut [Row], prices: &mut Cells) {
     }
 }
 
-/// Returns how much the solution uses each quorum.
-pub(crate) fn quorum_shares(
-    alloc: Global,
-    rows: &[Row],
-    quorums: usize,
-) -> Result<Vec<f64>, AllocError>
-    ensures { IfOk result (λ v. vec_len v ≡ quorums) }
+/// Returns the tableau of a coterie and its voters' capacities when no column improves the solution,
+/// or after 10,000 pivots.
+pub fn search(alloc: Global, coterie: &Coterie, capacities: &[u64]) -> Result<Tableau, AllocError>
+    requires { AreCapacities capacities.now coterie.now.voters }
 {
-    let mut shares = vec![in alloc; 0.0; quorums]?;
-    for row in rows {
-        if row.basis < shares.len() {
-            shares[row.basis] = row.cells[RIGHT];
-        }
-    }
-    Ok(shares)
+    let mut rows = start_rows(alloc, coterie.count(), capacities)?;
+    let mut prices = [0.0; MAX_VOTERS + 1];
+    improve(coterie, &mut rows, &mut prices);
+    Ok(Tableau { rows, prices })
 }
 
-/// Returns what a unit of each voter's capacity is worth to the solution.
-pub(crate) fn voter_shares(
-    alloc: Global,
-    prices: &Cells,
-    voters: usize,
-) -> Result<Vec<f64>, AllocError>
-    requires { voters ≤ max_voters }
-    ensures { IfOk result (λ v. vec_len v ≡ voters) }
-{
-    let mut shares = Vec::with_capacity(alloc, voters)?;
-    for voter in 0..voters {
-        shares.push(-prices[voter])?;
+impl Tableau {
+    /// Returns how much the solution uses each quorum.
+    pub fn quorum_shares(&self, alloc: Global, quorums: usize) -> Result<Vec<f64>, AllocError>
+        ensures { IfOk result (λ v. vec_len v ≡ quorums) }
+    {
+        let mut shares = vec![in alloc; 0.0; quorums]?;
+        for row in self.rows.as_slice() {
+            if row.basis < shares.len() {
+                shares[row.basis] = row.cells[RIGHT];
+            }
+        }
+        Ok(shares)
     }
-    Ok(shares)
+
+    /// Returns what a unit of each voter's capacity is worth to the solution.
+    pub fn voter_shares(&self, alloc: Global, voters: usize) -> Result<Vec<f64>, AllocError>
+        requires { voters ≤ max_voters }
+        ensures { IfOk result (λ v. vec_len v ≡ voters) }
+    {
+        let mut shares = Vec::with_capacity(alloc, voters)?;
+        for voter in 0..voters {
+            shares.push(-self.prices[voter])?;
+        }
+        Ok(shares)
+    }
+
+    /// Returns the columns that the rows are solved for: quorums' numbers, and behind these the
+    /// voters' slacks.
+    pub(crate) fn basis(&self, alloc: Global) -> Result<Vec<usize>, AllocError> {
+        let mut columns = Vec::with_capacity(alloc, self.rows.len())?;
+        for row in self.rows.as_slice() {
+            columns.push(row.basis)?;
+        }
+        Ok(columns)
+    }
 }
