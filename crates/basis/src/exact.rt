@@ -1,21 +1,11 @@
 //! The exact weights of a basis.
 ghost use Rattle.std.specs.Prelude.{◌≡◌, ◌<◌, ◌≤◌, IfSome, length, vec_len, IfOk};
-ghost use Rattle.quorum_set.specs.Capacities.{AreCapacities};
 
 use crate::ratio::whole;
 use crate::system::solution;
-use crate::tableau::search;
+use crate::tableau::Tableau;
 use quorum_set::{Coterie, QSet};
 use std::alloc::{AllocError, Global};
-
-/// Weights of the quorums and of the voters that a basis determines.
-#[derive(Drop)]
-pub struct Vertex {
-    /// A weight for each quorum.
-    pub quorum_weights: Vec<u64>,
-    /// A weight for each voter.
-    pub voter_weights: Vec<u64>,
-}
 
 /// Which quorums and which voters are above 0 in a solution.
 #[derive(Drop)]
@@ -114,7 +104,7 @@ fn quorum_rows(alloc: Global, basis: &Basis) -> Result<Vec<Vec<u64>>, AllocError
 }
 
 /// Writes each number at its place.
-fn put(weights: &mut [u64], places: &[usize], numbers: &[u64])
+pub(crate) fn put(weights: &mut [u64], places: &[usize], numbers: &[u64])
     ensures { length weights.new ≡ length weights.old }
 {
     for (place, number) in places.iter().zip(numbers.iter()) {
@@ -144,30 +134,33 @@ fn placed(
     Ok(Some(weights))
 }
 
-/// Returns the exact weights of the basis that a search in floating point ends with, if they are
-/// small. Nothing is claimed of the numbers except how many there are.
-pub fn best_vertex(
+/// Returns the exact weights of the quorums by the basis of a search, if they are small. Nothing is
+/// claimed of the numbers except how many there are.
+pub fn quorum_weights(
     alloc: Global,
     coterie: &Coterie,
     capacities: &[u64],
-) -> Result<Option<Vertex>, AllocError>
-    requires capacities { AreCapacities capacities.now coterie.now.voters }
-    ensures quorums { IfOk result (λ o. IfSome o (λ w. vec_len w.quorum_weights ≡ length coterie.now.quorums)) }
-    ensures voters { IfOk result (λ o. IfSome o (λ w. vec_len w.voter_weights ≡ coterie.now.voters)) }
+    tableau: &Tableau,
+) -> Result<Option<Vec<u64>>, AllocError>
+    ensures { IfOk result (λ o. IfSome o (λ v. vec_len v ≡ length coterie.now.quorums)) }
 {
-    let tableau = search(alloc, coterie, capacities)?;
     let columns = tableau.basis(alloc)?;
     let basis = basis_of(alloc, coterie, &columns)?;
-    let uses = voter_rows(alloc, &basis, capacities)?;
-    let Some(quorum_weights) = placed(alloc, uses, &basis.quorums, coterie.count())? else {
-        return Ok(None);
-    };
-    let prices = quorum_rows(alloc, &basis)?;
-    let Some(voter_weights) = placed(alloc, prices, &basis.voters, coterie.voters())? else {
-        return Ok(None);
-    };
-    Ok(Some(Vertex {
-        quorum_weights,
-        voter_weights,
-    }))
+    let rows = voter_rows(alloc, &basis, capacities)?;
+    placed(alloc, rows, &basis.quorums, coterie.count())
+}
+
+/// Returns the exact weights of the voters by the basis of a search, if they are small. Nothing is
+/// claimed of the numbers except how many there are.
+pub fn voter_weights(
+    alloc: Global,
+    coterie: &Coterie,
+    tableau: &Tableau,
+) -> Result<Option<Vec<u64>>, AllocError>
+    ensures { IfOk result (λ o. IfSome o (λ v. vec_len v ≡ coterie.now.voters)) }
+{
+    let columns = tableau.basis(alloc)?;
+    let basis = basis_of(alloc, coterie, &columns)?;
+    let rows = quorum_rows(alloc, &basis)?;
+    placed(alloc, rows, &basis.voters, coterie.voters())
 }

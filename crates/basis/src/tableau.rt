@@ -41,11 +41,11 @@ pub struct Tableau {
     prices: Cells,
 }
 
-/// A column that may enter. It is the sum of the members' slacks.
+/// A column that may enter. It is a sum of the voters' slacks, each times a factor.
 #[derive(Clone, Copy)]
 struct Column {
     number: usize,
-    members: QSet,
+    factors: Cells,
     /// By how much a unit of it improves the solution.
     price: f64,
 }
@@ -102,15 +102,36 @@ fn subtract(cells: &mut Cells, times: f64, other: &Cells) {
     }
 }
 
-/// Returns the column of a voter's slack, of this number and price.
-fn slack(voter: usize, number: usize, price: f64) -> Column
-    requires { voter < max_voters }
-{
-    let mut members = QSet::empty();
-    let _ = members.insert(voter as u8);
+/// Returns the sum of the cells, each times a factor.
+fn entry_of(cells: &Cells, factors: &Cells) -> f64 {
+    let mut sum = 0.0;
+    for voter in 0..MAX_VOTERS {
+        sum += cells[voter] * factors[voter];
+    }
+    sum
+}
+
+/// Adds a quorum to the factors of a column.
+fn add_members(factors: &mut Cells, members: &QSet) {
+    for voter in 0..MAX_VOTERS {
+        if members.has(voter as u8) {
+            factors[voter] += 1.0;
+        }
+    }
+}
+
+/// Returns the column of a quorum, or of the slack of a voter whose number is behind those of the
+/// quorums.
+fn column_of(coterie: &Coterie, number: usize, price: f64) -> Column {
+    let mut factors = [0.0; MAX_VOTERS + 1];
+    if number < coterie.count() {
+        add_members(&mut factors, coterie.quorum(number));
+    } else if number - coterie.count() < MAX_VOTERS {
+        factors[number - coterie.count()] = 1.0;
+    }
     Column {
         number,
-        members,
+        factors,
         price,
     }
 }
@@ -120,25 +141,23 @@ fn entering(coterie: &Coterie, prices: &Cells) -> Option<Column> {
     let mut best = None;
     let mut most = SMALLEST;
     for number in 0..coterie.count() {
-        let members = coterie.quorum(number).copy();
-        let price = 1.0 + sum_over(prices, &members);
+        let price = 1.0 + sum_over(prices, coterie.quorum(number));
         if price > most {
             most = price;
-            best = Some(Column {
-                number,
-                members,
-                price,
-            });
+            best = Some(number);
         }
     }
     for voter in 0..coterie.voters() {
         let price = prices[voter];
         if price > most {
             most = price;
-            best = Some(slack(voter, coterie.count() + voter, price));
+            best = Some(coterie.count() + voter);
         }
     }
-    best
+    match best {
+        Some(number) => Some(column_of(coterie, number, most)),
+        None => None,
+    }
 }
 
 /// Returns the number of the row that limits a column most, if one does.
@@ -148,7 +167,7 @@ fn leaving(rows: &[Row], column: &Column) -> Option<usize>
     let mut best = None;
     let mut least = 0.0;
     for (number, row) in rows.iter().enumerate() {
-        let entry = sum_over(&row.cells, &column.members);
+        let entry = entry_of(&row.cells, &column.factors);
         if entry > SMALLEST {
             let limit = row.cells[RIGHT] / entry;
             if best.is_none() || limit < least {
@@ -165,10 +184,10 @@ fn pivot(rows: &mut [Row], prices: &mut Cells, number: usize, column: &Column)
     requires { number < length rows.old }
 {
     let mut solved = rows[number].cells;
-    let entry = sum_over(&solved, &column.members);
+    let entry = entry_of(&solved, &column.factors);
     divide(&mut solved, entry);
     for row in rows.iter_mut() {
-        let times = sum_over(&row.cells, &column.members);
+        let times = entry_of(&row.cells, &column.factors);
         if times != 0.0 {
             subtract(&mut row.cells, times, &solved);
         }
@@ -190,6 +209,69 @@ fn improve(coterie: &Coterie, rows: &mut [Row], prices: &mut Cells) {
             return;
         };
         pivot(rows, prices, number, &column);
+    }
+}
+
+/// Returns the column of some quorums together. Its number is behind those of all others.
+fn sum_column(coterie: &Coterie, quorums: &[usize]) -> Column {
+    let mut factors = [0.0; MAX_VOTERS + 1];
+    for number in quorums {
+        if *number < coterie.count() {
+            add_members(&mut factors, coterie.quorum(*number));
+        }
+    }
+    Column {
+        number: coterie.count() + coterie.voters(),
+        factors,
+        price: 1.0,
+    }
+}
+
+/// Returns of these quorums, and of the slacks of these voters, the column of which a unit improves
+/// the solution most, if one does.
+fn entering_among(
+    coterie: &Coterie,
+    prices: &Cells,
+    quorums: &[usize],
+    voters: &QSet,
+) -> Option<Column> {
+    let mut best = None;
+    let mut most = SMALLEST;
+    for number in quorums {
+        if *number < coterie.count() {
+            let price = sum_over(prices, coterie.quorum(*number));
+            if price > most {
+                most = price;
+                best = Some(*number);
+            }
+        }
+    }
+    for voter in 0..MAX_VOTERS {
+        if voters.has(voter as u8) && prices[voter] > most {
+            most = prices[voter];
+            best = Some(coterie.count() + voter);
+        }
+    }
+    match best {
+        Some(number) => Some(column_of(coterie, number, most)),
+        None => None,
+    }
+}
+
+/// Makes the smallest use of some quorums as great as possible, while the solution stays as good as it
+/// is. No other quorums may be used, and only the slacks of these voters.
+fn even_out(coterie: &Coterie, rows: &mut [Row], quorums: &[usize], voters: &QSet) {
+    let mut prices = [0.0; MAX_VOTERS + 1];
+    let mut column = sum_column(coterie, quorums);
+    for _ in 0..PIVOTS {
+        let Some(number) = leaving(rows, &column) else {
+            return;
+        };
+        pivot(rows, &mut prices, number, &column);
+        let Some(next) = entering_among(coterie, &prices, quorums, voters) else {
+            return;
+        };
+        column = next;
     }
 }
 
@@ -238,5 +320,33 @@ impl Tableau {
             columns.push(row.basis)?;
         }
         Ok(columns)
+    }
+
+    /// Returns how much a solution of the same worth uses each of these quorums, where the smallest
+    /// use is as great as possible. Only the voters of the set may have a slack.
+    pub(crate) fn even_shares(
+        mut self,
+        alloc: Global,
+        coterie: &Coterie,
+        quorums: &[usize],
+        voters: &QSet,
+    ) -> Result<Vec<f64>, AllocError> {
+        even_out(coterie, &mut self.rows, quorums, voters);
+        let behind = coterie.count() + coterie.voters();
+        let all = self.quorum_shares(alloc, behind + 1)?;
+        let least = share_at(&all, behind);
+        let mut shares = Vec::with_capacity(alloc, quorums.len())?;
+        for number in quorums {
+            shares.push(share_at(&all, *number) + least)?;
+        }
+        Ok(shares)
+    }
+}
+
+/// Returns the share at a place, or 0 behind the end.
+fn share_at(shares: &[f64], place: usize) -> f64 {
+    match shares.get(place) {
+        Some(share) => *share,
+        None => 0.0,
     }
 }

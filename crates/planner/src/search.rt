@@ -7,7 +7,7 @@ ghost use Rattle.planner.specs.Weights.{HaveNoCommonDivisor, IsGreatestDivisor};
 ghost use Rattle.planner.specs.Causes.{CanCome};
 
 use crate::fault::PlannerFault;
-use basis::best_vertex;
+use basis::{Tableau, inner_weights, quorum_weights, search as search_basis, voter_weights};
 use certificate::{Plan, PlanFault, check, gcd};
 use quorum_set::Coterie;
 use simplex::solve;
@@ -15,6 +15,9 @@ use std::alloc::Global;
 
 /// The number of pivots that the simplex method may make.
 const PIVOTS: u32 = 10_000;
+
+/// A plan of the basis with a cycle of at most this length is taken as it is.
+const SHORT: u64 = 1_000;
 
 /// Returns the greatest common divisor of the weights; 0 if all are 0.
 fn divisor_of(weights: &[u64]) -> u64
@@ -90,7 +93,85 @@ fn checked(
     }
 }
 
-/// Returns the plan of the basis that a search in floating point ends with, if its weights are one.
+/// Returns the plan of some weights, in lowest terms, if they are a certificate.
+fn accepted(
+    alloc: Global,
+    coterie: &Coterie,
+    capacities: &[u64],
+    quorum_weights: Vec<u64>,
+    voter_weights: Vec<u64>,
+) -> Result<Option<Plan>, PlannerFault>
+    requires capacities { AreCapacities capacities.now coterie.now.voters }
+    requires quorums { vec_len quorum_weights ≡ length coterie.now.quorums }
+    requires voters { vec_len voter_weights ≡ coterie.now.voters }
+    ensures coterie { IfOk result (λ o. IfSome o (λ p. p.system ≡ coterie.now)) }
+    ensures capacities { IfOk result (λ o. IfSome o (λ p. p.capacities ≡ capacities.now)) }
+    ensures certificate { IfOk result (λ o. IfSome o IsCertificate) }
+    ensures optimal { IfOk result (λ o. IfSome o IsOptimal) }
+    ensures lowest { IfOk result (λ o. IfSome o (λ p.
+        HaveNoCommonDivisor p.quorum_weights × HaveNoCommonDivisor p.voter_weights)) }
+    ensures memory { IfErr result (λ fault. fault ≡ PlannerFault.OutOfMemory) }
+{
+    match checked(alloc, coterie, capacities, quorum_weights, voter_weights) {
+        Ok(plan) => Ok(Some(plan)),
+        Err(PlannerFault::OutOfMemory) => Err(PlannerFault::OutOfMemory),
+        Err(_) => Ok(None),
+    }
+}
+
+/// Returns the plan of the basis that a search in floating point ended with, if its weights are one.
+fn by_vertex(
+    alloc: Global,
+    coterie: &Coterie,
+    capacities: &[u64],
+    tableau: &Tableau,
+    voters: &[u64],
+) -> Result<Option<Plan>, PlannerFault>
+    requires capacities { AreCapacities capacities.now coterie.now.voters }
+    requires voters { length voters.now ≡ coterie.now.voters }
+    ensures coterie { IfOk result (λ o. IfSome o (λ p. p.system ≡ coterie.now)) }
+    ensures capacities { IfOk result (λ o. IfSome o (λ p. p.capacities ≡ capacities.now)) }
+    ensures certificate { IfOk result (λ o. IfSome o IsCertificate) }
+    ensures optimal { IfOk result (λ o. IfSome o IsOptimal) }
+    ensures lowest { IfOk result (λ o. IfSome o (λ p.
+        HaveNoCommonDivisor p.quorum_weights × HaveNoCommonDivisor p.voter_weights)) }
+    ensures memory { IfErr result (λ fault. fault ≡ PlannerFault.OutOfMemory) }
+{
+    match quorum_weights(alloc, coterie, capacities, tableau)? {
+        Some(quorums) => {
+            let voters = voters.to_vec(alloc)?;
+            accepted(alloc, coterie, capacities, quorums, voters)
+        }
+        None => Ok(None),
+    }
+}
+
+/// Returns the plan of weights near a point inside the face of all that are as good, if there is one.
+fn by_face(
+    alloc: Global,
+    coterie: &Coterie,
+    capacities: &[u64],
+    tableau: Tableau,
+    voters: Vec<u64>,
+) -> Result<Option<Plan>, PlannerFault>
+    requires capacities { AreCapacities capacities.now coterie.now.voters }
+    requires voters { vec_len voters ≡ coterie.now.voters }
+    ensures coterie { IfOk result (λ o. IfSome o (λ p. p.system ≡ coterie.now)) }
+    ensures capacities { IfOk result (λ o. IfSome o (λ p. p.capacities ≡ capacities.now)) }
+    ensures certificate { IfOk result (λ o. IfSome o IsCertificate) }
+    ensures optimal { IfOk result (λ o. IfSome o IsOptimal) }
+    ensures lowest { IfOk result (λ o. IfSome o (λ p.
+        HaveNoCommonDivisor p.quorum_weights × HaveNoCommonDivisor p.voter_weights)) }
+    ensures memory { IfErr result (λ fault. fault ≡ PlannerFault.OutOfMemory) }
+{
+    match inner_weights(alloc, coterie, capacities, tableau, &voters)? {
+        Some(quorums) => accepted(alloc, coterie, capacities, quorums, voters),
+        None => Ok(None),
+    }
+}
+
+/// Returns a plan by a search in floating point, if it leads to one. The basis has a plan whose cycle
+/// is short, or the shorter plan counts of the basis and of a point inside the face.
 fn by_basis(
     alloc: Global,
     coterie: &Coterie,
@@ -105,19 +186,19 @@ fn by_basis(
         HaveNoCommonDivisor p.quorum_weights × HaveNoCommonDivisor p.voter_weights)) }
     ensures memory { IfErr result (λ fault. fault ≡ PlannerFault.OutOfMemory) }
 {
-    let Some(vertex) = best_vertex(alloc, coterie, capacities)? else {
+    let tableau = search_basis(alloc, coterie, capacities)?;
+    let Some(voters) = voter_weights(alloc, coterie, &tableau)? else {
         return Ok(None);
     };
-    match checked(
-        alloc,
-        coterie,
-        capacities,
-        vertex.quorum_weights,
-        vertex.voter_weights,
-    ) {
-        Ok(plan) => Ok(Some(plan)),
-        Err(PlannerFault::OutOfMemory) => Err(PlannerFault::OutOfMemory),
-        Err(_) => Ok(None),
+    let Some(vertex) = by_vertex(alloc, coterie, capacities, &tableau, &voters)? else {
+        return by_face(alloc, coterie, capacities, tableau, voters);
+    };
+    if vertex.cycle_len() <= SHORT {
+        return Ok(Some(vertex));
+    }
+    match by_face(alloc, coterie, capacities, tableau, voters)? {
+        Some(inner) if inner.cycle_len() <= vertex.cycle_len() => Ok(Some(inner)),
+        _ => Ok(Some(vertex)),
     }
 }
 
@@ -165,9 +246,8 @@ fn search(alloc: Global, coterie: &Coterie, capacities: &[u64]) -> Result<Plan, 
 /// to be a capacity for each voter, 1 to 1000.
 ///
 /// All weights are 1 if and only if these are a certificate. They are one for uniform coteries whose
-/// voters have the same capacity. Otherwise `basis` looks for weights, in floating point and by one
-/// exact solve. If they are no certificate, the simplex method looks for weights in exact numbers, with
-/// at most 10,000 pivots. In each case no number above 1 divides all weights of the quorums, or all
+/// voters have the same capacity. Otherwise `basis` looks for weights. If they are no certificate, the
+/// simplex method looks for some in exact numbers, with at most 10,000 pivots. In each case no number above 1 divides all weights of the quorums, or all
 /// weights of the voters.
 ///
 /// Fails with `NoPlan` if no search finds a plan, with the cause of the last one. That all weights 1
