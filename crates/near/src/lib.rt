@@ -9,7 +9,7 @@
 //! The bound is made of weights of the voters, by the duality of linear programs (Naor and Wool,
 //! SIAM J. Comput. 27(2), 1998).
 //!
-//! The simplex method looks for the weights, in floating point. Nobody has to trust it: load and
+//! The search of `basis` looks for the weights, in floating point. Nobody has to trust it: load and
 //! bound are computed exactly from the rounded weights.
 //!
 //! Proved:
@@ -23,8 +23,8 @@
 //!
 //! Not proved: how near the load is to the bound.
 //!
-//! Depends on `certificate`, `quorum_set`, `dealer`, `divisor` and `numbers`, and on lemmas of
-//! `known_loads`.
+//! Depends on `basis`, `certificate`, `quorum_set`, `dealer`, `divisor` and `numbers`, and on lemmas
+//! of `known_loads`.
 //!
 //! ```text
 //! let near = near(alloc, &coterie, &capacities)?;
@@ -38,7 +38,6 @@ mod dealing;
 mod laws;
 mod plan;
 mod sums;
-mod tableau;
 mod weights;
 
 pub use laws::no_load_is_below_the_bound;

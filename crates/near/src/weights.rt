@@ -4,8 +4,8 @@ ghost use Rattle.numbers.specs.Bounds.{max_cycle};
 ghost use Rattle.quorum_set.specs.Capacities.{AreCapacities};
 ghost use Rattle.quorum_set.specs.Coteries.{IsCoterie};
 
-use crate::tableau::{improve, quorum_shares, start_rows, voter_shares};
-use numbers::{MAX_CYCLE, MAX_VOTERS};
+use basis::search;
+use numbers::MAX_CYCLE;
 use quorum_set::Coterie;
 use std::alloc::{AllocError, Global};
 use std::num::saturating_f64_to_u64;
@@ -89,11 +89,9 @@ pub(crate) fn weights_for(
     ensures some_voter { IfOk result (λ w. 0 < sum w.voters.items) }
     ensures few_voters { IfOk result (λ w. sum w.voters.items ≤ max_cycle) }
 {
-    let mut rows = start_rows(alloc, coterie.count(), capacities)?;
-    let mut prices = [0.0; MAX_VOTERS + 1];
-    improve(coterie, &mut rows, &mut prices);
-    let of_quorums = quorum_shares(alloc, &rows, coterie.count())?;
-    let of_voters = voter_shares(alloc, &prices, coterie.voters())?;
+    let tableau = search(alloc, coterie, capacities)?;
+    let of_quorums = tableau.quorum_shares(alloc, coterie.count())?;
+    let of_voters = tableau.voter_shares(alloc, coterie.voters())?;
     Ok(Weights {
         quorums: rounded(alloc, &of_quorums, LONGEST)?,
         voters: rounded(alloc, &of_voters, MAX_CYCLE)?,

@@ -1,5 +1,5 @@
 -- The cause for each fault of the simplex method, and for each fault of the check of its weights.
-use Rattle.std.specs.Prelude.{◌≡◌, ℕ, List, Bool, true, false}
+use Rattle.std.specs.Prelude.{◌≡◌, ℕ, List, true, false}
 use Rattle.quorum_set.specs.Capacities.{are_unit}
 use Rattle.simplex.specs.declared.fault.SimplexFault.{SimplexFault}
 use Rattle.simplex.specs.declared.fault.SimplexFault.TheVariants.{Overflow as TooWide, PivotLimit as TooLong, NoRow as Unlimited, OutOfMemory as NoRoom}
@@ -33,14 +33,3 @@ CanCome capacities (NoPlan WrongLength) = ⊥
 CanCome capacities (NoPlan NotOptimal) = are_unit capacities ≡ true
 CanCome capacities (NoPlan NotOptimalRatio) = are_unit capacities ≡ false
 CanCome capacities fault = Unit {0}
-
--- how many pivots both rules together may make
-abbrev pub most_pivots : ℕ
-most_pivots = 10000
-
--- Whether a number of the simplex method or the sum of the weights grew too large. Another rule may
--- find a plan then.
-abbrev pub grew_too_large : PlannerFault → Bool
-grew_too_large (NoPlan Overflow) = true
-grew_too_large (NoPlan TooLarge) = true
-grew_too_large fault = false

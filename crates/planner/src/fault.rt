@@ -50,7 +50,7 @@ pub enum PlannerFault {
 }
 
 impl PlannerFault {
-    ghost use Rattle.planner.specs.Causes.{of_simplex_fault, of_plan_fault, grew_too_large};
+    ghost use Rattle.planner.specs.Causes.{of_simplex_fault, of_plan_fault};
 
     /// Returns the fault of the search for a fault of the simplex method.
     pub(crate) fn of_simplex(fault: SimplexFault) -> PlannerFault
@@ -76,18 +76,6 @@ impl PlannerFault {
             PlanFault::NotOptimalRatio { .. } => PlannerFault::NoPlan(Cause::NotOptimalRatio),
             PlanFault::OutOfMemory => PlannerFault::OutOfMemory,
             _ => PlannerFault::NoPlan(Cause::NotOptimal),
-        }
-    }
-
-    /// Returns whether a number of the simplex method or the sum of the weights grew too large, so
-    /// that another rule may find a plan.
-    pub(crate) fn grew_too_large(self) -> bool
-        ensures { result ≡ grew_too_large self }
-    {
-        match self {
-            PlannerFault::NoPlan(Cause::Overflow) => true,
-            PlannerFault::NoPlan(Cause::TooLarge) => true,
-            _ => false,
         }
     }
 }

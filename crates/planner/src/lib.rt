@@ -2,12 +2,12 @@
 //! capacity, and certifies them.
 //!
 //! `plan` first tries all weights 1. If all voters have the same capacity, these are a certificate
-//! if and only if the coterie is uniform. If they are none, `plan` tries weights that the simplex
-//! method finds. Each attempt is checked by `certificate::check`, so a plan that is returned is
-//! optimal however it was found. Whether a plan is found for any other coterie is left to the
-//! method.
+//! if and only if the coterie is uniform. If they are none, `plan` tries the weights that `basis`
+//! finds, and then those of the simplex method in exact numbers. Each attempt is checked by
+//! `certificate::check`, so a plan that is returned is optimal however it was found. Whether a plan is
+//! found for any other coterie is left to the searches.
 //!
-//! This crate depends on `certificate`, `simplex`, `quorum_set` and `numbers`.
+//! This crate depends on `certificate`, `basis`, `simplex`, `quorum_set` and `numbers`.
 //!
 //! ```text
 //! // A hub 0 with three rims: {0, 1}, {0, 2}, {0, 3} and {1, 2, 3}.

@@ -1,38 +1,23 @@
 //! The search for a plan.
-ghost use Rattle.std.specs.Prelude.{◌≡◌, ◌≢◌, ◌<◌, ◌≤◌, ◌/◌, true, length, vec_len, map, sum, IfOk, IfErr, IsOkUnless};
+ghost use Rattle.std.specs.Prelude.{◌≡◌, ◌≢◌, ◌<◌, ◌/◌, length, vec_len, map, sum, IfOk, IfSome, IfErr, IsOkUnless};
 ghost use Rattle.quorum_set.specs.Capacities.{AreCapacities};
 ghost use Rattle.certificate.specs.Certificates.{IsCertificate, IsOptimal};
 ghost use Rattle.planner.specs.Uniform.{AreEqual, IsUniform, IsWarranted, all_ones};
 ghost use Rattle.planner.specs.Weights.{HaveNoCommonDivisor, IsGreatestDivisor};
-ghost use Rattle.planner.specs.Causes.{CanCome, grew_too_large, most_pivots};
-ghost use Rattle.simplex.specs.Pivots.{NamesAtMost};
+ghost use Rattle.planner.specs.Causes.{CanCome};
 
 use crate::fault::PlannerFault;
+use basis::{Tableau, inner_weights, quorum_weights, search as search_basis, voter_weights};
 use certificate::{Plan, PlanFault, check, gcd};
 use quorum_set::Coterie;
-use simplex::{Candidate, Rule, SimplexFault, solve_by};
+use simplex::solve;
 use std::alloc::Global;
 
-/// The number of pivots that the simplex method may make, over both rules.
+/// The number of pivots that the simplex method may make.
 const PIVOTS: u32 = 10_000;
 
-/// A plan that a rule found.
-#[derive(Drop)]
-struct Found {
-    plan: Plan,
-    /// How many pivots were made.
-    spent: u32,
-}
-
-/// Why a rule found no plan.
-#[derive(Clone, Copy)]
-struct Miss {
-    fault: PlannerFault,
-    /// The rule that found none.
-    rule: Rule,
-    /// At most how many pivots were made.
-    spent: u32,
-}
+/// A plan of the basis with a cycle of at most this length is taken as it is.
+const SHORT: u64 = 1_000;
 
 /// Returns the greatest common divisor of the weights; 0 if all are 0.
 fn divisor_of(weights: &[u64]) -> u64
@@ -82,144 +67,177 @@ fn even(alloc: Global, coterie: &Coterie, capacities: &[u64]) -> Result<Plan, Pl
     check(alloc, coterie, capacities, quorum_weights, voter_weights)
 }
 
-/// Returns the plan of a candidate's weights, in lowest terms. The rule is the one that found them.
+/// Returns the plan of some weights, in lowest terms, or the fault of the check.
 fn checked(
     alloc: Global,
     coterie: &Coterie,
     capacities: &[u64],
-    rule: Rule,
-    candidate: Candidate,
-) -> Result<Found, Miss>
+    mut quorum_weights: Vec<u64>,
+    mut voter_weights: Vec<u64>,
+) -> Result<Plan, PlannerFault>
     requires capacities { AreCapacities capacities.now coterie.now.voters }
-    requires quorums { vec_len candidate.quorum_weights ≡ length coterie.now.quorums }
-    requires voters { vec_len candidate.voter_weights ≡ coterie.now.voters }
-    ensures coterie { IfOk result (λ f. f.plan.system ≡ coterie.now) }
-    ensures capacities { IfOk result (λ f. f.plan.capacities ≡ capacities.now) }
-    ensures certificate { IfOk result (λ f. IsCertificate f.plan) }
-    ensures optimal { IfOk result (λ f. IsOptimal f.plan) }
-    ensures lowest { IfOk result (λ f.
-        HaveNoCommonDivisor f.plan.quorum_weights × HaveNoCommonDivisor f.plan.voter_weights) }
-    ensures unreachable { IfErr result (λ miss. CanCome capacities.now miss.fault) }
-    ensures spent { IfOk result (λ f. f.spent ≡ candidate.pivots) }
-    ensures missed { IfErr result (λ miss. (miss.rule ≡ rule) × (miss.spent ≡ candidate.pivots)) }
+    requires quorums { vec_len quorum_weights ≡ length coterie.now.quorums }
+    requires voters { vec_len voter_weights ≡ coterie.now.voters }
+    ensures coterie { IfOk result (λ p. p.system ≡ coterie.now) }
+    ensures capacities { IfOk result (λ p. p.capacities ≡ capacities.now) }
+    ensures certificate { IfOk result IsCertificate }
+    ensures optimal { IfOk result IsOptimal }
+    ensures lowest { IfOk result (λ p. HaveNoCommonDivisor p.quorum_weights × HaveNoCommonDivisor p.voter_weights) }
+    ensures unreachable { IfErr result (CanCome capacities.now) }
 {
-    let spent = candidate.pivots;
-    let mut quorum_weights = candidate.quorum_weights;
-    let mut voter_weights = candidate.voter_weights;
     divide(&mut quorum_weights);
     divide(&mut voter_weights);
     match check(alloc, coterie, capacities, quorum_weights, voter_weights) {
-        Ok(plan) => Ok(Found { plan, spent }),
-        Err(fault) => {
-            let fault = PlannerFault::of_check(fault);
-            Err(Miss { fault, rule, spent })
-        }
+        Ok(plan) => Ok(plan),
+        Err(fault) => Err(PlannerFault::of_check(fault)),
     }
 }
 
-/// Returns a bound on the number of pivots that were made before this fault, if that many were allowed.
-fn spent_before(fault: SimplexFault, pivots: u32) -> u32
-    requires { NamesAtMost pivots fault }
-    ensures { result ≤ pivots }
-{
-    match fault {
-        SimplexFault::Overflow { pivots: made } => made,
-        _ => pivots,
-    }
-}
-
-/// Returns the plan that the simplex method finds by this rule with at most `pivots` pivots.
-fn attempt(
+/// Returns the plan of some weights, in lowest terms, if they are a certificate.
+fn accepted(
     alloc: Global,
     coterie: &Coterie,
     capacities: &[u64],
-    rule: Rule,
-    pivots: u32,
-) -> Result<Found, Miss>
+    quorum_weights: Vec<u64>,
+    voter_weights: Vec<u64>,
+) -> Result<Option<Plan>, PlannerFault>
     requires capacities { AreCapacities capacities.now coterie.now.voters }
-    ensures coterie { IfOk result (λ f. f.plan.system ≡ coterie.now) }
-    ensures capacities { IfOk result (λ f. f.plan.capacities ≡ capacities.now) }
-    ensures certificate { IfOk result (λ f. IsCertificate f.plan) }
-    ensures optimal { IfOk result (λ f. IsOptimal f.plan) }
-    ensures lowest { IfOk result (λ f.
-        HaveNoCommonDivisor f.plan.quorum_weights × HaveNoCommonDivisor f.plan.voter_weights) }
-    ensures unreachable { IfErr result (λ miss. CanCome capacities.now miss.fault) }
-    ensures spent { IfOk result (λ f. f.spent ≤ pivots) }
-    ensures missed { IfErr result (λ miss. (miss.rule ≡ rule) × (miss.spent ≤ pivots)) }
+    requires quorums { vec_len quorum_weights ≡ length coterie.now.quorums }
+    requires voters { vec_len voter_weights ≡ coterie.now.voters }
+    ensures coterie { IfOk result (λ o. IfSome o (λ p. p.system ≡ coterie.now)) }
+    ensures capacities { IfOk result (λ o. IfSome o (λ p. p.capacities ≡ capacities.now)) }
+    ensures certificate { IfOk result (λ o. IfSome o IsCertificate) }
+    ensures optimal { IfOk result (λ o. IfSome o IsOptimal) }
+    ensures lowest { IfOk result (λ o. IfSome o (λ p.
+        HaveNoCommonDivisor p.quorum_weights × HaveNoCommonDivisor p.voter_weights)) }
+    ensures memory { IfErr result (λ fault. fault ≡ PlannerFault.OutOfMemory) }
 {
-    match solve_by(alloc, coterie, capacities, rule, pivots) {
-        Ok(candidate) => checked(alloc, coterie, capacities, rule, candidate),
-        Err(simplex_fault) => {
-            let spent = spent_before(simplex_fault, pivots);
-            let fault = PlannerFault::of_simplex(simplex_fault);
-            Err(Miss { fault, rule, spent })
-        }
+    match checked(alloc, coterie, capacities, quorum_weights, voter_weights) {
+        Ok(plan) => Ok(Some(plan)),
+        Err(PlannerFault::OutOfMemory) => Err(PlannerFault::OutOfMemory),
+        Err(_) => Ok(None),
     }
 }
 
-/// Returns the plan that the simplex method finds by the second rule, after the first one missed.
-fn second_attempt(
+/// Returns the plan of the basis that a search in floating point ended with, if its weights are one.
+fn by_vertex(
     alloc: Global,
     coterie: &Coterie,
     capacities: &[u64],
-    first: Miss,
-) -> Result<Found, Miss>
+    tableau: &Tableau,
+    voters: &[u64],
+) -> Result<Option<Plan>, PlannerFault>
     requires capacities { AreCapacities capacities.now coterie.now.voters }
-    requires first { first.spent ≤ most_pivots }
-    ensures coterie { IfOk result (λ f. f.plan.system ≡ coterie.now) }
-    ensures capacities { IfOk result (λ f. f.plan.capacities ≡ capacities.now) }
-    ensures certificate { IfOk result (λ f. IsCertificate f.plan) }
-    ensures optimal { IfOk result (λ f. IsOptimal f.plan) }
-    ensures lowest { IfOk result (λ f.
-        HaveNoCommonDivisor f.plan.quorum_weights × HaveNoCommonDivisor f.plan.voter_weights) }
-    ensures unreachable { IfErr result (λ miss. CanCome capacities.now miss.fault) }
-    ensures spent { IfOk result (λ f. (first.spent ≤ f.spent) × (f.spent ≤ most_pivots)) }
-    ensures missed { IfErr result (λ miss. (first.spent ≤ miss.spent) × (miss.spent ≤ most_pivots)) }
-    ensures rule { IfErr result (λ miss. miss.rule ≡ Rule.LeastPivot) }
+    requires voters { length voters.now ≡ coterie.now.voters }
+    ensures coterie { IfOk result (λ o. IfSome o (λ p. p.system ≡ coterie.now)) }
+    ensures capacities { IfOk result (λ o. IfSome o (λ p. p.capacities ≡ capacities.now)) }
+    ensures certificate { IfOk result (λ o. IfSome o IsCertificate) }
+    ensures optimal { IfOk result (λ o. IfSome o IsOptimal) }
+    ensures lowest { IfOk result (λ o. IfSome o (λ p.
+        HaveNoCommonDivisor p.quorum_weights × HaveNoCommonDivisor p.voter_weights)) }
+    ensures memory { IfErr result (λ fault. fault ≡ PlannerFault.OutOfMemory) }
 {
-    match attempt(
-        alloc,
-        coterie,
-        capacities,
-        Rule::LeastPivot,
-        PIVOTS - first.spent,
-    ) {
-        Ok(found) => Ok(Found {
-            plan: found.plan,
-            spent: first.spent + found.spent,
-        }),
-        Err(miss) => Err(Miss {
-            fault: miss.fault,
-            rule: miss.rule,
-            spent: first.spent + miss.spent,
-        }),
+    match quorum_weights(alloc, coterie, capacities, tableau)? {
+        Some(quorums) => {
+            let voters = voters.to_vec(alloc)?;
+            accepted(alloc, coterie, capacities, quorums, voters)
+        }
+        None => Ok(None),
     }
 }
 
-/// Returns the plan that the simplex method finds, by one rule or the other.
-fn search(alloc: Global, coterie: &Coterie, capacities: &[u64]) -> Result<Found, Miss>
+/// Returns the plan of weights near a point inside the face of all that are as good, if there is one.
+fn by_face(
+    alloc: Global,
+    coterie: &Coterie,
+    capacities: &[u64],
+    tableau: Tableau,
+    voters: Vec<u64>,
+) -> Result<Option<Plan>, PlannerFault>
     requires capacities { AreCapacities capacities.now coterie.now.voters }
-    ensures coterie { IfOk result (λ f. f.plan.system ≡ coterie.now) }
-    ensures capacities { IfOk result (λ f. f.plan.capacities ≡ capacities.now) }
-    ensures certificate { IfOk result (λ f. IsCertificate f.plan) }
-    ensures optimal { IfOk result (λ f. IsOptimal f.plan) }
-    ensures lowest { IfOk result (λ f.
-        HaveNoCommonDivisor f.plan.quorum_weights × HaveNoCommonDivisor f.plan.voter_weights) }
-    ensures unreachable { IfErr result (λ miss. CanCome capacities.now miss.fault) }
-    // Both rules together make at most 10,000 pivots.
-    ensures spent { IfOk result (λ f. f.spent ≤ most_pivots) }
-    ensures limit { IfErr result (λ miss. miss.spent ≤ most_pivots) }
-    // If numbers grew too large, the second rule was tried, and the cause is its own.
-    ensures last { IfErr result (λ miss. grew_too_large miss.fault ≡ true → miss.rule ≡ Rule.LeastPivot) }
+    requires voters { vec_len voters ≡ coterie.now.voters }
+    ensures coterie { IfOk result (λ o. IfSome o (λ p. p.system ≡ coterie.now)) }
+    ensures capacities { IfOk result (λ o. IfSome o (λ p. p.capacities ≡ capacities.now)) }
+    ensures certificate { IfOk result (λ o. IfSome o IsCertificate) }
+    ensures optimal { IfOk result (λ o. IfSome o IsOptimal) }
+    ensures lowest { IfOk result (λ o. IfSome o (λ p.
+        HaveNoCommonDivisor p.quorum_weights × HaveNoCommonDivisor p.voter_weights)) }
+    ensures memory { IfErr result (λ fault. fault ≡ PlannerFault.OutOfMemory) }
 {
-    let first = match attempt(alloc, coterie, capacities, Rule::Dantzig, PIVOTS) {
-        Ok(found) => return Ok(found),
-        Err(miss) => miss,
+    match inner_weights(alloc, coterie, capacities, tableau, &voters)? {
+        Some(quorums) => accepted(alloc, coterie, capacities, quorums, voters),
+        None => Ok(None),
+    }
+}
+
+/// Returns a plan by a search in floating point, if it leads to one. The basis has a plan whose cycle
+/// is short, or the shorter plan counts of the basis and of a point inside the face.
+fn by_basis(
+    alloc: Global,
+    coterie: &Coterie,
+    capacities: &[u64],
+) -> Result<Option<Plan>, PlannerFault>
+    requires capacities { AreCapacities capacities.now coterie.now.voters }
+    ensures coterie { IfOk result (λ o. IfSome o (λ p. p.system ≡ coterie.now)) }
+    ensures capacities { IfOk result (λ o. IfSome o (λ p. p.capacities ≡ capacities.now)) }
+    ensures certificate { IfOk result (λ o. IfSome o IsCertificate) }
+    ensures optimal { IfOk result (λ o. IfSome o IsOptimal) }
+    ensures lowest { IfOk result (λ o. IfSome o (λ p.
+        HaveNoCommonDivisor p.quorum_weights × HaveNoCommonDivisor p.voter_weights)) }
+    ensures memory { IfErr result (λ fault. fault ≡ PlannerFault.OutOfMemory) }
+{
+    let tableau = search_basis(alloc, coterie, capacities)?;
+    let Some(voters) = voter_weights(alloc, coterie, &tableau)? else {
+        return Ok(None);
     };
-    if first.fault.grew_too_large() {
-        second_attempt(alloc, coterie, capacities, first)
-    } else {
-        Err(first)
+    let Some(vertex) = by_vertex(alloc, coterie, capacities, &tableau, &voters)? else {
+        return by_face(alloc, coterie, capacities, tableau, voters);
+    };
+    if vertex.cycle_len() <= SHORT {
+        return Ok(Some(vertex));
+    }
+    match by_face(alloc, coterie, capacities, tableau, voters)? {
+        Some(inner) if inner.cycle_len() <= vertex.cycle_len() => Ok(Some(inner)),
+        _ => Ok(Some(vertex)),
+    }
+}
+
+/// Returns the plan that the simplex method finds in exact numbers.
+fn by_simplex(alloc: Global, coterie: &Coterie, capacities: &[u64]) -> Result<Plan, PlannerFault>
+    requires capacities { AreCapacities capacities.now coterie.now.voters }
+    ensures coterie { IfOk result (λ p. p.system ≡ coterie.now) }
+    ensures capacities { IfOk result (λ p. p.capacities ≡ capacities.now) }
+    ensures certificate { IfOk result IsCertificate }
+    ensures optimal { IfOk result IsOptimal }
+    ensures lowest { IfOk result (λ p. HaveNoCommonDivisor p.quorum_weights × HaveNoCommonDivisor p.voter_weights) }
+    ensures unreachable { IfErr result (CanCome capacities.now) }
+{
+    match solve(alloc, coterie, capacities, PIVOTS) {
+        Ok(candidate) => checked(
+            alloc,
+            coterie,
+            capacities,
+            candidate.quorum_weights,
+            candidate.voter_weights,
+        ),
+        Err(fault) => Err(PlannerFault::of_simplex(fault)),
+    }
+}
+
+/// Returns the plan that one of the two searches finds, or the fault of the second.
+fn search(alloc: Global, coterie: &Coterie, capacities: &[u64]) -> Result<Plan, PlannerFault>
+    requires capacities { AreCapacities capacities.now coterie.now.voters }
+    ensures coterie { IfOk result (λ p. p.system ≡ coterie.now) }
+    ensures capacities { IfOk result (λ p. p.capacities ≡ capacities.now) }
+    ensures certificate { IfOk result IsCertificate }
+    ensures optimal { IfOk result IsOptimal }
+    ensures lowest { IfOk result (λ p. HaveNoCommonDivisor p.quorum_weights × HaveNoCommonDivisor p.voter_weights) }
+    ensures unreachable { IfErr result (CanCome capacities.now) }
+{
+    match by_basis(alloc, coterie, capacities) {
+        Ok(Some(plan)) => Ok(plan),
+        Ok(None) => by_simplex(alloc, coterie, capacities),
+        Err(fault) => Err(fault),
     }
 }
 
@@ -228,13 +246,12 @@ fn search(alloc: Global, coterie: &Coterie, capacities: &[u64]) -> Result<Found,
 /// to be a capacity for each voter, 1 to 1000.
 ///
 /// All weights are 1 if and only if these are a certificate. They are one for uniform coteries whose
-/// voters have the same capacity. Otherwise the simplex method looks for weights, by Dantzig's rule
-/// and, if its numbers grow too large, by the rule of the smallest pivot. Both rules together make
-/// at most 10,000 pivots. In each case no number above 1 divides all weights of the quorums, or all
+/// voters have the same capacity. Otherwise `basis` looks for weights. If they are no certificate, the
+/// simplex method looks for some in exact numbers, with at most 10,000 pivots. In each case no number above 1 divides all weights of the quorums, or all
 /// weights of the voters.
 ///
-/// Fails with `NoPlan` if neither rule finds a plan, with the cause of the last attempt. That all
-/// weights 1 are a certificate excludes this. It may run out of memory at any point.
+/// Fails with `NoPlan` if no search finds a plan, with the cause of the last one. That all weights 1
+/// are a certificate excludes this. It may run out of memory at any point.
 pub fn plan(alloc: Global, coterie: &Coterie, capacities: &[u64]) -> Result<Plan, PlannerFault>
     requires capacities { AreCapacities capacities.now coterie.now.voters }
     ensures coterie { IfOk result (λ p. p.system ≡ coterie.now) }
@@ -257,9 +274,6 @@ pub fn plan(alloc: Global, coterie: &Coterie, capacities: &[u64]) -> Result<Plan
     match even(alloc, coterie, capacities) {
         Ok(plan) => Ok(plan),
         Err(PlanFault::OutOfMemory) => Err(PlannerFault::OutOfMemory),
-        Err(_) => match search(alloc, coterie, capacities) {
-            Ok(found) => Ok(found.plan),
-            Err(miss) => Err(miss.fault),
-        },
+        Err(_) => search(alloc, coterie, capacities),
     }
 }

@@ -34,11 +34,11 @@ const S1: Explanation = Explanation {
     meaning: "A number of the simplex method did not fit: an entry of its table in 128\n\
         bits, or a weight in 64. The crate is `simplex`. The command `plan` prints\n\
         it as the cause of `N1 NoPlan`.",
-    example: "solve_by(alloc, &walks, &[1; 64], Rule::LeastPivot, 10_000), for the 63 sets of\n\
+    example: "solve(alloc, &walks, &[1; 64], 10_000), for the 63 sets of\n\
         crates/test_planning/src/plans.rt\n\
         S1 Overflow",
     mistakes: "The coterie is large and irregular. Take a regular shape, or fewer\n\
-        voters. Or try the other rule: `solve_by` takes one.",
+        voters.",
 };
 
 const S2: Explanation = Explanation {

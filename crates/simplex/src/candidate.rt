@@ -3,9 +3,10 @@ ghost use Rattle.std.specs.Prelude.{◌≡◌, ℕ, ◌+◌, ◌<◌, ◌≤◌,
 ghost use Rattle.quorum_set.specs.Capacities.{AreCapacities};
 ghost use Rattle.simplex.specs.Pivots.{NamesAtMost};
 
-use crate::choice::{Rule, entering, first_entering};
-use crate::fault::{Halt, SimplexFault};
+use crate::choice::{first_entering, greatest_entering};
+use crate::fault::SimplexFault;
 use crate::method::Method;
+use fraction::FracFault;
 use quorum_set::Coterie;
 use std::alloc::Global;
 
@@ -43,15 +44,15 @@ fn overflow(method: &Method) -> SimplexFault
     }
 }
 
-/// Makes one pivot if one is needed: by the rule, or by Bland's rule after 2n pivots in a row that
-/// stalled, for n voters.
-fn make_step(alloc: Global, method: &mut Method, rule: Rule, stalled: usize) -> Result<Step, Halt>
+/// Makes one pivot if one is needed: by Dantzig's rule, or by Bland's rule after 2n pivots in a row
+/// that stalled, for n voters.
+fn make_step(method: &mut Method, stalled: usize) -> Result<Step, FracFault>
     requires { method.old.made + 1 < 2 ^ 32 }
     ensures coterie { method.new.coterie ≡ method.old.coterie }
     ensures made { method.new.made ≤ method.old.made + 1 }
 {
     let entering = if stalled < 2 * method.tableau().voters() {
-        entering(method, rule)?
+        greatest_entering(method)?
     } else {
         first_entering(method)?
     };
@@ -62,7 +63,7 @@ fn make_step(alloc: Global, method: &mut Method, rule: Rule, stalled: usize) -> 
     let Some(exit) = method.leaving()? else {
         return Ok(Step::NoRow);
     };
-    method.pivot(alloc, exit.row, column)?;
+    method.pivot(exit.row, column)?;
     Ok(if exit.right == 0 {
         Step::Stalled
     } else {
@@ -71,7 +72,7 @@ fn make_step(alloc: Global, method: &mut Method, rule: Rule, stalled: usize) -> 
 }
 
 /// Pivots until no column improves the solution.
-fn improve(alloc: Global, method: &mut Method, rule: Rule, pivots: u32) -> Result<(), SimplexFault>
+fn improve(method: &mut Method, pivots: u32) -> Result<(), SimplexFault>
     requires { method.old.made ≡ 0 }
     ensures coterie { method.new.coterie ≡ method.old.coterie }
     ensures limit { method.new.made ≤ pivots }
@@ -79,13 +80,12 @@ fn improve(alloc: Global, method: &mut Method, rule: Rule, pivots: u32) -> Resul
 {
     let mut stalled = 0usize;
     for step in 0..pivots {
-        match make_step(alloc, method, rule, stalled) {
+        match make_step(method, stalled) {
             Ok(Step::Best) => return Ok(()),
             Ok(Step::NoRow) => return Err(SimplexFault::NoRow),
             Ok(Step::Stalled) => stalled = stalled.saturating_add(1),
             Ok(Step::Improved) => stalled = 0,
-            Err(Halt::Overflow) => return Err(overflow(method)),
-            Err(Halt::OutOfMemory) => return Err(SimplexFault::OutOfMemory),
+            Err(_) => return Err(overflow(method)),
         }
     }
     match first_entering(method) {
@@ -136,7 +136,9 @@ fn voter_weights(alloc: Global, method: &Method) -> Result<Vec<u64>, SimplexFaul
 }
 
 /// Returns a candidate that Dantzig's rule finds with at most `pivots` pivots: one number for each
-/// quorum and one for each voter. There has to be a capacity for each voter, 1 to 1000.
+/// quorum and one for each voter. There has to be a capacity for each voter, 1 to 1000. After 2n
+/// pivots in a row that left the solution as it was, for n voters, Bland's rule chooses until a pivot
+/// improves the solution.
 ///
 /// Fails with `Overflow` if a number does not fit, with `PivotLimit` if more pivots are needed,
 /// with `NoRow` if no row limits a column, and with `OutOfMemory`. The number of pivots in
@@ -153,27 +155,8 @@ pub fn solve(
     ensures limit { IfOk result (λ c. c.pivots ≤ pivots) }
     ensures refused { IfErr result (NamesAtMost pivots) }
 {
-    solve_by(alloc, coterie, capacities, Rule::Dantzig, pivots)
-}
-
-/// Returns a candidate that this rule finds; otherwise the same as `solve`. After 2n pivots in a
-/// row that left the solution as it was, for n voters, Bland's rule chooses until a pivot improves
-/// the solution.
-pub fn solve_by(
-    alloc: Global,
-    coterie: &Coterie,
-    capacities: &[u64],
-    rule: Rule,
-    pivots: u32,
-) -> Result<Candidate, SimplexFault>
-    requires capacities { AreCapacities capacities.now coterie.now.voters }
-    ensures quorums { IfOk result (λ c. vec_len c.quorum_weights ≡ length coterie.now.quorums) }
-    ensures voters { IfOk result (λ c. vec_len c.voter_weights ≡ coterie.now.voters) }
-    ensures limit { IfOk result (λ c. c.pivots ≤ pivots) }
-    ensures refused { IfErr result (NamesAtMost pivots) }
-{
     let mut method = Method::of(alloc, coterie, capacities)?;
-    improve(alloc, &mut method, rule, pivots)?;
+    improve(&mut method, pivots)?;
     let quorum_weights = quorum_weights(alloc, &method, coterie.count())?;
     let voter_weights = voter_weights(alloc, &method)?;
     let made = method.made();

@@ -2,7 +2,6 @@
 ghost use Rattle.std.specs.Prelude.{◌≡◌};
 ghost use Rattle.simplex.specs.declared.fault.SimplexFault.TheVariants.{OutOfMemory};
 
-use fraction::FracFault;
 use std::alloc::{AllocError, AllocFailed};
 use thiserror::Error;
 
@@ -41,32 +40,5 @@ impl<T: Drop> From<AllocFailed<T>> for SimplexFault {
 
     fn from(_error: AllocFailed<T>) -> SimplexFault {
         SimplexFault::OutOfMemory
-    }
-}
-
-/// Why a step was not made.
-#[derive(Clone, Copy)]
-pub(crate) enum Halt {
-    /// A number does not fit.
-    Overflow,
-    /// Memory ran out.
-    OutOfMemory,
-}
-
-impl From<FracFault> for Halt {
-    fn from(_error: FracFault) -> Halt {
-        Halt::Overflow
-    }
-}
-
-impl From<AllocError> for Halt {
-    fn from(_error: AllocError) -> Halt {
-        Halt::OutOfMemory
-    }
-}
-
-impl<T: Drop> From<AllocFailed<T>> for Halt {
-    fn from(_error: AllocFailed<T>) -> Halt {
-        Halt::OutOfMemory
     }
 }

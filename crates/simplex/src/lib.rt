@@ -6,8 +6,7 @@
 //! Wool, SIAM J. Comput. 27(2), 1998).
 //!
 //! Here Dantzig's simplex method solves the program, from the empty solution, in whole numbers over
-//! one denominator: in 64 bits, and in 128 bits (`fraction::Shared`) from the first pivot that does
-//! not fit. Both solutions are read off the tableau as they are. The method is the revised one: only
+//! one denominator (`fraction::Shared`). Both solutions are read off the tableau as they are. The method is the revised one: only
 //! the columns of the voters' slacks are stored, since the quorums' columns are sums of them. So a
 //! pivot costs about the square of the number of voters.
 //!
@@ -25,13 +24,9 @@
 
 mod candidate;
 mod choice;
-mod exact;
 mod fault;
 mod method;
-mod narrow;
 mod tableau;
-mod wide;
 
-pub use candidate::{Candidate, solve, solve_by};
-pub use choice::Rule;
+pub use candidate::{Candidate, solve};
 pub use fault::SimplexFault;

@@ -4,7 +4,6 @@ ghost use Rattle.std.specs.List.{All};
 ghost use Rattle.numbers.specs.Bounds.{max_voters, max_quorums};
 ghost use Rattle.quorum_set.specs.Capacities.{AreCapacities};
 
-use crate::fault::Halt;
 use crate::tableau::Tableau;
 use fraction::FracFault;
 use quorum_set::Coterie;
@@ -19,7 +18,7 @@ pub(crate) struct Exit {
     /// The column that the row is solved for.
     basis: usize,
     /// The row's entry in the column.
-    pub(crate) entry: i128,
+    entry: i128,
     /// The row's right side.
     pub(crate) right: i128,
 }
@@ -35,8 +34,6 @@ pub(crate) struct Method<'a> {
     /// The column that each voter's row is solved for: a quorum's number, or after the quorums a
     /// voter's slack.
     basis: Vec<usize>,
-    /// The column with which the next search by `Rule::LeastPivot` begins.
-    pub(crate) next: usize,
     /// How many pivots were made.
     made: u32,
     ghost voters: { tableau.voters ≡ coterie.now.voters },
@@ -148,7 +145,6 @@ impl<'a> Method<'a> {
             columns,
             tableau,
             basis,
-            next: 0,
             made: 0,
         })
     }
@@ -223,14 +219,14 @@ impl<'a> Method<'a> {
     }
 
     /// Solves a row for the column that enters, whose number is `column`.
-    pub(crate) fn pivot(&mut self, alloc: Global, row: usize, column: usize) -> Result<(), Halt>
+    pub(crate) fn pivot(&mut self, row: usize, column: usize) -> Result<(), FracFault>
         requires row { row < self.old.coterie.now.voters }
         requires made { self.old.made + 1 < 2 ^ 32 }
         ensures coterie { self.new.coterie ≡ self.old.coterie }
         ensures counted { OnOk result (self.new.made ≡ self.old.made + 1) }
         ensures same { OnErr result (self.new.made ≡ self.old.made) }
     {
-        self.tableau.pivot(alloc, row)?;
+        self.tableau.pivot(row)?;
         self.basis[row] = column;
         self.made += 1;
         Ok(())

@@ -1,13 +1,11 @@
 //! The tableau of the revised simplex method.
-ghost use Rattle.std.specs.Prelude.{◌≡◌, ◌+◌, ◌<◌, ◌≤◌, length, IfOk};
-ghost use Rattle.std.specs.Option.{ForSome};
+ghost use Rattle.std.specs.Prelude.{◌≡◌, ◌+◌, ◌<◌, ◌≤◌, ℕ, length, IfOk};
 ghost use Rattle.std.specs.List.{All};
 ghost use Rattle.numbers.specs.Bounds.{max_voters};
+ghost use Rattle.fraction.specs.Tables.{row_of, entry_at};
+ghost use Rattle.simplex.specs.Starts.{IsStartRow, AreStartRows};
 
-use crate::fault::Halt;
-use crate::narrow::Narrow;
-use crate::wide::Wide;
-use fraction::FracFault;
+use fraction::{FracFault, Shared};
 use std::alloc::{AllocError, Global};
 
 /// A row for each voter and one for the objective, over one denominator. The columns are a slack
@@ -18,17 +16,52 @@ use std::alloc::{AllocError, Global};
 /// The columns of the quorums are not stored. The unit is 1 in the objective's row and 0 in the
 /// others, before each pivot and after it. So a quorum's column is the sum of its members' slacks
 /// and of the unit.
-///
-/// Numbers have 64 bits until a pivot does not fit, and 128 bits from then on.
 #[derive(Drop)]
 pub(crate) struct Tableau {
     voters: usize,
-    narrow: Narrow,
-    /// The tableau that counts, if there is one.
-    wide: Option<Wide>,
+    cells: Shared,
     ghost few_voters: { voters ≤ max_voters },
-    ghost narrow_voters: { narrow.voters ≡ voters },
-    ghost wide_voters: { ForSome wide (λ w. w.voters ≡ voters) },
+    ghost rows: { length cells.rows ≡ voters + 1 },
+    ghost columns: { (i : ℕ) → i < voters + 1 → length (row_of cells i) ≡ voters + 3 },
+}
+
+/// Returns an entry before the first pivot: no quorum is used, and each voter's slack is the voter's
+/// capacity. The right side of the objective's row is 0.
+fn start_entry(capacities: &[u64], row: usize, column: usize) -> i64
+    requires { length capacities.now ≤ max_voters }
+{
+    let voters = capacities.len();
+    if row == voters {
+        return i64::from(column == voters + 1);
+    }
+    match capacities.get(row) {
+        Some(capacity) if column == voters => capacity.cast_signed(),
+        _ => i64::from(column == row),
+    }
+}
+
+/// Returns a row before the first pivot.
+fn start_row(alloc: Global, capacities: &[u64], row: usize) -> Result<Vec<i128>, AllocError>
+    requires { length capacities.now ≤ max_voters }
+    ensures { IfOk result (λ v. IsStartRow (length capacities.now + 3) v.items) }
+{
+    let mut entries = Vec::with_capacity(alloc, capacities.len() + 3)?;
+    for column in 0..capacities.len() + 3 {
+        entries.push(i128::from(start_entry(capacities, row, column)))?;
+    }
+    Ok(entries)
+}
+
+/// Returns the rows before the first pivot.
+fn start_rows(alloc: Global, capacities: &[u64]) -> Result<Vec<Vec<i128>>, AllocError>
+    requires { length capacities.now ≤ max_voters }
+    ensures { IfOk result (λ v. AreStartRows (length capacities.now + 1) (length capacities.now + 3) v.items) }
+{
+    let mut rows = Vec::with_capacity(alloc, capacities.len() + 1)?;
+    for row in 0..capacities.len() + 1 {
+        rows.push(start_row(alloc, capacities, row)?)?;
+    }
+    Ok(rows)
 }
 
 impl Tableau {
@@ -37,10 +70,10 @@ impl Tableau {
         requires { length capacities.now ≤ max_voters }
         ensures { IfOk result (λ t. t.voters ≡ length capacities.now) }
     {
+        let rows = start_rows(alloc, capacities)?;
         Ok(Tableau {
             voters: capacities.len(),
-            narrow: Narrow::of(alloc, capacities)?,
-            wide: None,
+            cells: Shared::of(rows, 1),
         })
     }
 
@@ -56,11 +89,9 @@ impl Tableau {
     fn entry(&self, row: usize, column: usize) -> i128
         requires row { row ≤ self.now.voters }
         requires column { column < self.now.voters + 3 }
+        ensures { result ≡ entry_at self.now.cells row column }
     {
-        match &self.wide {
-            Some(wide) => wide.entry(row, column),
-            None => i128::from(self.narrow.entry(row, column)),
-        }
+        self.cells.entry(row, column)
     }
 
     /// Returns the right side of a row: a whole number over the denominator, as are all entries.
@@ -88,10 +119,7 @@ impl Tableau {
     pub(crate) fn price(&self, columns: &[usize]) -> Result<i128, FracFault>
         requires { All (λ j. j < self.now.voters + 3) columns.now }
     {
-        match &self.wide {
-            Some(wide) => wide.price(columns),
-            None => Ok(i128::from(self.narrow.price(columns))),
-        }
+        self.cells.sum(self.voters, columns)
     }
 
     /// Makes the sum of some columns the column that enters.
@@ -99,30 +127,18 @@ impl Tableau {
         requires { All (λ j. j < self.old.voters + 3) columns.now }
         ensures { self.new.voters ≡ self.old.voters }
     {
-        match &mut self.wide {
-            Some(wide) => wide.enter(columns),
-            None => {
-                self.narrow.enter(columns);
-                Ok(())
-            }
-        }
+        self.cells.sum_columns(columns, self.voters + 2)
     }
 
     /// Solves a voter's row for the column that enters. Fails with `Overflow` if the row's entry
     /// there is not positive, or if a number does not fit.
-    pub(crate) fn pivot(&mut self, alloc: Global, row: usize) -> Result<(), Halt>
+    pub(crate) fn pivot(&mut self, row: usize) -> Result<(), FracFault>
         requires { row < self.old.voters }
         ensures { self.new.voters ≡ self.old.voters }
     {
-        if self.wide.is_none() {
-            if self.narrow.pivot(row) {
-                return Ok(());
-            }
-            self.wide = Some(Wide::of(alloc, &self.narrow)?);
+        if self.entry(row, self.voters + 2) <= 0 {
+            return Err(FracFault::Overflow);
         }
-        if let Some(wide) = &mut self.wide {
-            wide.pivot(row)?;
-        }
-        Ok(())
+        self.cells.pivot(row, self.voters + 2)
     }
 }

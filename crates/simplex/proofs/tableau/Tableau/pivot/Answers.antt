@@ -1,5 +1,5 @@
 use Rattle.simplex.proofs.Shapes.{HasSize-pivot, positive_entry}
-use Rattle.simplex.proofs.wide.Wide.pivot.Goals as goal
+use Rattle.simplex.proofs.tableau.Tableau.pivot.Goals as goal
 
 pub pivot-requires-clause-positive : goal.pivot-requires-clause-positive
 pivot-requires-clause-positive c = positive_entry c.entry.result _ c.if-entry-le0.false (record { sfits = c.entry.type_inv }) c.entry.ensures

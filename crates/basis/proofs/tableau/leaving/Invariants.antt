@@ -1,5 +1,5 @@
 use Rattle.std.proofs.Common.{◌<◌, IfSome, length}
-use Rattle.near.proofs.tableau.leaving.Given as goal
+use Rattle.basis.proofs.tableau.leaving.Given as goal
 
 abbrev pub invariant-loop-number : goal.invariant-loop-number
 invariant-loop-number l = IfSome l.best (λ number. number < length l.rows)
