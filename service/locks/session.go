@@ -30,6 +30,7 @@ import (
 	"time"
 
 	"calvundek.example/service/internal/config"
+	"calvundek.example/service/internal/level"
 	"calvundek.example/service/internal/wire"
 	"calvundek.example/service/qlock"
 	"golang.org/x/sys/unix"
@@ -62,6 +63,7 @@ type peer struct {
 	reserved uint64                   // what it acknowledged as reserved
 	claimed  uint64                   // with which heartbeat the number was claimed there again
 	taken    bool                     // it said that this session is over
+	level    uint64                   // of the cluster, as it knows it
 	lapses   uint64                   // how often it let a grant of this session go since it was silent
 	stale    bool                     // the message that is taken is from before the last time
 	requests uint64                   // how many of this session it said that it has
@@ -92,7 +94,8 @@ type session struct {
 }
 
 func newSession(cluster *config.Cluster, name string) session {
-	s := session{asked: -1, drained: make(chan struct{}), header: wire.Header{Cluster: cluster.ID, Kind: wire.FromClient, Name: name}}
+	s := session{asked: -1, drained: make(chan struct{}), header: wire.Header{Cluster: cluster.ID, Kind: wire.FromClient, Name: name,
+		Level: level.Newest}}
 	s.meet(len(cluster.Names()))
 	return s
 }
@@ -371,6 +374,9 @@ func (c *Client) heartbeat(now time.Time) {
 		}
 		p.sent[c.header.Seq] = up
 		c.out[v] = append(c.out[v], open...)
+		if level.Newest >= level.Greets && p.level >= level.Greets {
+			c.out[v] = append(c.out[v], ". greet\n"...)
+		}
 		if c.draining && p.drained {
 			c.out[v] = append(c.out[v], ". close\n"...)
 		}
@@ -453,7 +459,7 @@ func (c *Client) message(data []byte) {
 		c.stats.Refused++
 		return
 	}
-	c.peers[h.Number].heard = time.Now()
+	c.peers[h.Number].heard, c.peers[h.Number].level = time.Now(), h.Level
 	c.noteLapses(h)
 	for c.why == nil {
 		lock, line, rest, found := wire.Next(lines)

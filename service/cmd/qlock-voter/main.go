@@ -40,7 +40,7 @@ const prefix = "qlock-voter: "
 const exitHopeless = 78
 
 // hopeless are the errors that no restart mends.
-var hopeless = []error{config.ErrConfig, voter.ErrMissing, voter.ErrOther, voter.ErrOlder, voter.ErrPlace,
+var hopeless = []error{config.ErrConfig, voter.ErrMissing, voter.ErrOther, voter.ErrOlder, voter.ErrPlace, voter.ErrLevel,
 	voter.ErrDamaged, voter.ErrFormat}
 
 // exitStatus returns the exit status of a command that failed.

@@ -65,7 +65,7 @@ func command(ctx context.Context) *cobra.Command {
 	flags.DurationVar(&s.timeout, "timeout", 3*time.Second, "how long to wait for replies of voters")
 	flags.BoolVar(&s.json, "json", false, "print JSON")
 	root.AddCommand(initCommand(s), statusCommand(ctx, s), reportCommand(ctx, s), evictCommand(ctx, s), unlockCommand(ctx, s),
-		exchangeCommand(ctx, s), retireCommand(ctx, s), runCommand(ctx, s))
+		exchangeCommand(ctx, s), retireCommand(ctx, s), levelCommand(ctx, s), runCommand(ctx, s))
 	return root
 }
 

@@ -14,6 +14,7 @@ import (
 
 	"calvundek.example/service/internal/config"
 	"calvundek.example/service/internal/event"
+	"calvundek.example/service/internal/level"
 	"calvundek.example/service/internal/wire"
 	"calvundek.example/service/qlock"
 	"calvundek.example/service/transport"
@@ -62,9 +63,10 @@ type Daemon struct {
 	isFull          bool // it was logged that there is no room for another lock
 	join            joining
 	peers           [places]Peer
-	loaded          [places]Peer        // as they were at the start
-	resting         []resting           // the votes that nobody has, the oldest first
-	gone            map[string]struct{} // locks that are forgotten, whose rows are still there
+	loaded          [places]Peer             // as they were at the start
+	resting         []resting                // the votes that nobody has, the oldest first
+	levels          [qlock.MaxClients]uint64 // the newest level that a session knows, 0 until it was heard
+	gone            map[string]struct{}      // locks that are forgotten, whose rows are still there
 	restsFor        time.Duration
 	newPeers        map[int]Peer // they changed since the last save
 	newOwn          bool         // what the state has of its own starts changed
@@ -486,9 +488,18 @@ func (d *Daemon) control(l *letter, speaker verdict, line []byte, now time.Time)
 		return d.claim(l.Name, words[1:], now)
 	case word == "drop" && len(words) == 3:
 		return d.drop(l.Name, words[1:])
+	case word == "greet" && len(words) == 1 && level.Newest >= level.Greets && d.store.own.level() >= level.Greets:
+		d.tell(l.Name, "greeted")
+		return true
+	case controlWords[word]:
+		return false
 	}
-	return false
+	d.m.refused.Inc() // of a newer program
+	return true
 }
+
+// controlWords are the words of control that this program knows.
+var controlWords = map[string]bool{"hello": true, "plan": true, "open": true, "close": true, "claim": true, "drop": true}
 
 // hello says which numbers are free.
 func (d *Daemon) hello(name string) bool {

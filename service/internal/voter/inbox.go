@@ -204,6 +204,7 @@ func (d *Daemon) greet(l *letter, now time.Time) (speaker verdict, ok bool) {
 	l.begun = true
 	switch {
 	case speaker == known:
+		d.levels[l.Number] = l.Level
 		d.table.reserve(l.Number, l.Reserved, now)
 	case speaker == unknown && first:
 		d.tell(l.Name, "unknown %d %d", l.Number, l.Epoch)

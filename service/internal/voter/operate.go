@@ -31,6 +31,7 @@ type Status struct {
 	Saves   uint64  `json:"saves"`                   // how often the state was saved
 	Start   uint64  `json:"start"`                   // how often the voter started
 	Ceiling uint64  `json:"ceiling"`                 // no grant has a greater number
+	Level   uint64  `json:"level"`                   // the cluster's
 	Serves  bool    `json:"serves"`                  // the others answered its start
 	Quiet   float64 `json:"quiet_seconds,omitempty"` // for which only those inside get a vote
 	Runs    float64 `json:"runs_seconds"`
@@ -150,6 +151,8 @@ func (d *Daemon) obey(words []string, now time.Time) interface{} {
 		return Knows{Sessions: d.table.known()}
 	case len(words) == 1 && words[0] == "knows":
 		return d.knows()
+	case len(words) == 2 && (words[0] == "level" || words[0] == "would-level"):
+		return d.raiseLevel(words[1], words[0] == "level")
 	case !d.join.done:
 		return Refused{"the voter waits for what other voters know of it"}
 	case len(words) == 2 && words[0] == "lock":
@@ -199,7 +202,7 @@ func (d *Daemon) unlock(lock string, grant uint64, now time.Time) LetGo {
 
 func (d *Daemon) status(now time.Time) Status {
 	s := Status{Meta: d.store.meta, Locks: len(d.votes), Busy: len(d.busy), Granted: d.granted, Saves: d.store.saves,
-		Start: d.store.own.Start, Ceiling: d.ceiling, Serves: d.join.done, Quiet: d.quiet(now).Seconds(), Runs: now.Sub(d.started).Seconds(),
+		Start: d.store.own.Start, Ceiling: d.ceiling, Level: d.store.own.level(), Serves: d.join.done, Quiet: d.quiet(now).Seconds(), Runs: now.Sub(d.started).Seconds(),
 		Planned: Planned{d.plans.Number, d.plans.oldest(), d.plans.Settled}, Sessions: []SessionView{}, Votes: []VoteView{}}
 	for number, row := range d.table.rows {
 		if row.Open {

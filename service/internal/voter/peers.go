@@ -85,7 +85,8 @@ type word struct {
 // own is what a state has of its own starts.
 type own struct {
 	Start   uint64 `json:"start"`
-	Ceiling uint64 `json:"ceiling"` // that was asked for last
+	Ceiling uint64 `json:"ceiling"`         // that was asked for last
+	Level   uint64 `json:"level,omitempty"` // the cluster's
 }
 
 // joining is how far a start is.
@@ -306,6 +307,10 @@ func (d *Daemon) learnsOfItself(h wire.Header, w word, now time.Time) {
 	if who != d.peers[h.Number] {
 		d.putPeer(h.Number, who)
 	}
+	if err := d.learnsLevel(w.Knows.Level); err != nil {
+		j.refused = fmt.Errorf("%s: %w", file(d.own.Data), err)
+		return
+	}
 	j.answered |= 1 << h.Number
 	j.known = greatest(j.known, w.Known.Ceiling)
 	if w.Known.Identity == d.store.meta.Identity && w.Known.Ended > 0 && w.Known.Ended == j.saves {
@@ -346,13 +351,14 @@ func (d *Daemon) self() Peer {
 func (d *Daemon) header() wire.Header {
 	meta := d.store.meta
 	return wire.Header{Cluster: meta.Cluster, Coterie: d.mark, Kind: wire.FromVoter, Number: meta.Voter, Run: meta.Run,
-		Start: d.store.own.Start, Name: meta.Identity}
+		Start: d.store.own.Start, Name: meta.Identity, Level: d.store.own.level()}
 }
 
 // Knows is what a voter keeps of all places, and of all sessions.
 type Knows struct {
 	Peers    map[int]Peer    `json:"peers"`
 	Sessions map[int]Session `json:"sessions"`
+	Level    uint64          `json:"level"`
 }
 
 // knows returns what this voter keeps, and what it is itself.
@@ -366,7 +372,7 @@ func (d *Daemon) knows() Knows {
 	self := d.self()
 	self.Ceiling = d.store.own.Ceiling
 	peers[d.store.meta.Voter] = self
-	return Knows{peers, d.table.known()}
+	return Knows{peers, d.table.known(), d.store.own.level()}
 }
 
 // laterPeer returns of two that were in a place the later one, with the higher ceiling of both.

@@ -8,6 +8,7 @@ import (
 	"path/filepath"
 	"time"
 
+	"calvundek.example/service/internal/level"
 	"calvundek.example/service/qlock"
 	"go.etcd.io/bbolt"
 )
@@ -194,6 +195,9 @@ func (s *store) begin(folder string, want Meta) error {
 	}
 	if s.meta.owner() != want.owner() {
 		return fmt.Errorf("%w: of %s, not of %s", ErrOther, s.meta.owner(), want.owner())
+	}
+	if s.own.level() > level.Newest {
+		return fmt.Errorf("%w: %d, and this one knows levels up to %d", ErrLevel, s.own.level(), level.Newest)
 	}
 	if err := s.db.View(check); err != nil {
 		return err

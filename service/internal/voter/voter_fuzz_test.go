@@ -438,11 +438,11 @@ func rowsOf(f *testing.F, db *bbolt.DB) (places [][3][]byte) {
 // What voters reply brings nothing back: of each number it has the highest epoch, and a
 // stamp as high as any of them; of each place the last run, and the highest ceiling.
 func FuzzMerge(f *testing.F) {
-	one := Knows{map[int]Peer{2: {Identity: "v", Run: 1, Start: 4, Ceiling: 900}}, map[int]Session{
+	one := Knows{Peers: map[int]Peer{2: {Identity: "v", Run: 1, Start: 4, Ceiling: 900}}, Sessions: map[int]Session{
 		3:  {Name: "x", Epoch: 4, Base: 9, Reserved: 100, Open: true, Used: true},
 		63: {Epoch: 1, Reserved: 7}}}
 	first, _ := json.Marshal(one)
-	second, _ := json.Marshal(Knows{map[int]Peer{2: {Identity: "w", Ceiling: 950}}, map[int]Session{
+	second, _ := json.Marshal(Knows{Peers: map[int]Peer{2: {Identity: "w", Ceiling: 950}}, Sessions: map[int]Session{
 		3: {Name: "y", Epoch: 4, Base: 9, Reserved: 50, Open: true}}})
 	f.Add(first, second)
 	f.Add(first, []byte("{}"))

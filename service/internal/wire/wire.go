@@ -5,7 +5,8 @@
 //	qlock2 CLUSTER COTERIE v NUMBER RUN START IDENTITY LAPSES      from a voter
 //	qlock2 CLUSTER COTERIE o NAME                                  from an operator
 //
-// Behind these there may be words KEY=VALUE. Who does not know a key ignores it. COTERIE is a part of
+// Behind these there may be words KEY=VALUE, as level=1 of clients and voters (package level). Who does not know a key
+// ignores it, and so it is with words of control. COTERIE is a part of
 // the SHA-256 of the TTL, the coterie, and how often the plan was exchanged. RUN is how often the
 // voter was made again after its state was lost, and START how often its process started. LAPSES
 // counts how often the voter let a grant of the session go since it was silent. Lines of control,
@@ -47,6 +48,7 @@ import (
 	"errors"
 	"fmt"
 	"math"
+	"strconv"
 	"strings"
 )
 
@@ -79,6 +81,7 @@ type Header struct {
 	Seq              uint64 // of a client: counts its heartbeats
 	Run              uint64 // of a voter: how often it was made again, after its state was lost
 	Start            uint64 // of a voter: how often its process started
+	Level            uint64 // of a voter: the cluster's level; of a client: the newest one that it knows; 0 if it says none
 	Lapses           uint64 // of a voter: how often it let a grant of the session go
 	Name             string // a session's, an operator's, or a voter's identity
 }
@@ -88,13 +91,16 @@ func (h Header) Append(out []byte) []byte {
 	out = append(out, fmt.Sprintf("qlock2 %s %s %c ", h.Cluster, h.Coterie, h.Kind)...)
 	switch h.Kind {
 	case FromClient:
-		out = append(out, fmt.Sprintf("%d %d %d %s %d\n", h.Number, h.Epoch, h.Reserved, h.Name, h.Seq)...)
+		out = append(out, fmt.Sprintf("%d %d %d %s %d", h.Number, h.Epoch, h.Reserved, h.Name, h.Seq)...)
 	case FromVoter:
-		out = append(out, fmt.Sprintf("%d %d %d %s %d\n", h.Number, h.Run, h.Start, h.Name, h.Lapses)...)
+		out = append(out, fmt.Sprintf("%d %d %d %s %d", h.Number, h.Run, h.Start, h.Name, h.Lapses)...)
 	default:
-		out = append(out, h.Name+"\n"...)
+		out = append(out, h.Name...)
 	}
-	return out
+	if h.Level > 0 {
+		out = strconv.AppendUint(append(out, " level="...), h.Level, 10)
+	}
+	return append(out, '\n')
 }
 
 // Read reads the header of a message, and returns the lines behind it.
@@ -108,18 +114,26 @@ func Read(message []byte) (h Header, lines []byte, err error) {
 		return h, nil, ErrForeign
 	}
 	h.Cluster, h.Coterie, h.Kind = string(words[1]), string(words[2]), Kind(words[3][0])
-	if !h.read(withoutKeys(words[4:])) {
-		return h, nil, ErrForeign
+	words, ok := h.readKeys(words[4:])
+	if !ok || !h.read(words) {
+		return Header{}, nil, ErrForeign
 	}
 	return h, lines, nil
 }
 
-// withoutKeys returns the words before those KEY=VALUE at the end, of which none is known yet.
-func withoutKeys(words [][]byte) [][]byte {
-	for len(words) > 0 && bytes.IndexByte(words[len(words)-1], '=') > 0 {
+// readKeys reads the words KEY=VALUE at the end, and returns those before them. Keys that it does not know are ignored.
+func (h *Header) readKeys(words [][]byte) (rest [][]byte, ok bool) {
+	for len(words) > 0 {
+		key, value, found := bytes.Cut(words[len(words)-1], []byte("="))
+		if !found || len(key) == 0 {
+			break
+		}
+		if string(key) == "level" && (!long(value, &h.Level) || h.Level == 0) {
+			return nil, false
+		}
 		words = words[:len(words)-1]
 	}
-	return words
+	return words, true
 }
 
 // read reads the words behind the kind of a sender, and returns whether they are right.
