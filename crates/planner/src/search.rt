@@ -16,8 +16,9 @@ use std::alloc::Global;
 /// The number of pivots that the simplex method may make.
 const PIVOTS: u32 = 10_000;
 
-/// A plan of the basis with a cycle of at most this length is taken as it is.
-const SHORT: u64 = 1_000;
+/// A plan of the basis with a cycle of at most this length is taken as it is. To look for a shorter
+/// one takes up to ten times as long as to find it.
+const SHORT: u64 = 3_000;
 
 /// Returns the greatest common divisor of the weights; 0 if all are 0.
 fn divisor_of(weights: &[u64]) -> u64
