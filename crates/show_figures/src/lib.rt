@@ -58,8 +58,8 @@ mod sizes;
 mod slacks;
 mod totals;
 
-pub use comparisons::{Comparison, Loads, Loss, comparison_of, losses_of};
-pub use deal::{Dealt, Evenness, dealt_tickets};
+pub use comparisons::{Comparison, Loads, Loss, comparison_of, loads_of_weights, losses_of};
+pub use deal::{Dealt, Evenness, dealt_tickets, evenly_dealt};
 pub use figures::{
     QuorumFigure, VoterFigure, WeightFigure, busy_part, quorum_figures, voter_figures,
     weight_figures,
