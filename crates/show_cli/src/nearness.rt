@@ -8,11 +8,10 @@ ghost use Rattle.show_cli.specs.Failures.{HasCoterie};
 use commands::{Fault, coterie_of};
 use certificate::Weights;
 use coterie_file::Named;
-use even::EvenCycle;
 use near::{is_within, near};
 use quorum_set::are_unit;
 use show_command_line::{Form, NearPage};
-use show_figures::Loads;
+use show_figures::{evenly_dealt, loads_of_weights};
 use show_json::near_json;
 use show_words::{push_excess, push_percent, push_quorum_members, push_quotient};
 use std::alloc::{AllocError, Global};
@@ -39,18 +38,17 @@ fn push_fraction(text: &mut String, weights: &Weights) -> Result<(), AllocError>
 
 /// Appends the load, and how near it is to that of the best weights.
 fn push_load(text: &mut String, weights: &Weights) -> Result<(), AllocError> {
-    let load = weights.load();
-    let bound = weights.bound();
+    let loads = loads_of_weights(weights);
+    let (part, whole) = loads.bound;
     push_fraction(text, weights)?;
-    if load == bound {
+    if loads.load == loads.bound {
         return text.push_str(": no weights of these quorums have a smaller load\n");
     }
     text.push_str(": at most ")?;
-    push_excess(text, Loads { load, bound })?;
+    push_excess(text, loads)?;
     write!(
         text,
-        " above the best possible, as no weights of these quorums have a load below {}/{}\n",
-        bound.0, bound.1
+        " above the best possible, as no weights of these quorums have a load below {part}/{whole}\n"
     )
 }
 
@@ -129,10 +127,11 @@ fn dealt_words(
 ) -> Result<String, AllocError> {
     let mut text = String::new(alloc);
     push_load(&mut text, weights)?;
-    let cycle = EvenCycle::of(alloc, weights.copy(alloc)?)?;
-    for ticket in 0..count {
+    let dealt = evenly_dealt(alloc, weights.copy(alloc)?, count)?;
+    for receipt in &dealt.receipts {
+        let ticket = receipt.ticket;
         write!(text, "{ticket}")?;
-        push_quorum(&mut text, named, cycle.quorum_at(ticket))?;
+        push_quorum(&mut text, named, receipt.quorum)?;
     }
     Ok(text)
 }

@@ -7,9 +7,8 @@ use crate::parts::{
 };
 use certificate::Weights;
 use coterie_file::Named;
-use even::EvenCycle;
 use serde::Serialize;
-use show_figures::{NearVoter, name_of, near_voter};
+use show_figures::{NearVoter, evenly_dealt, name_of, near_voter};
 use std::alloc::{AllocError, Global};
 
 /// Weights that are near the best.
@@ -87,9 +86,9 @@ fn tickets_of<'a>(
     count: u64,
 ) -> Result<Vec<Ticket<'a>>, AllocError> {
     let mut tickets = Vec::new(alloc);
-    let cycle = EvenCycle::of(alloc, weights.copy(alloc)?)?;
-    for ticket in 0..count {
-        tickets.push(ticket_of(alloc, named, ticket, cycle.quorum_at(ticket))?)?;
+    let dealt = evenly_dealt(alloc, weights.copy(alloc)?, count)?;
+    for receipt in &dealt.receipts {
+        tickets.push(ticket_of(alloc, named, receipt.ticket, receipt.quorum)?)?;
     }
     Ok(tickets)
 }
