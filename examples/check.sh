@@ -332,6 +332,7 @@ shown near-wheel-3 wheel-3.toml near
 shown near-wheel-3-fast-hub wheel-3-fast-hub.toml near
 shown near-twenty-eight twenty-eight.toml near
 shown near-deal-twenty-eight twenty-eight.toml near --deal 5
+shown near-cycle-twenty-eight twenty-eight.toml near --cycle 20
 shown deal-names-wheel-3 wheel-3-planned.txt deal --names 5
 shown deal-names-even-wheel-3 wheel-3-planned.txt deal --even --names 5
 program=$show

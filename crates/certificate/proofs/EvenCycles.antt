@@ -8,7 +8,7 @@ use Rattle.quorum_set.specs.Counts.{count_of, busiest_of}
 use Rattle.numbers.specs.Counts.{greatest_below, times}
 use Rattle.numbers.specs.Sums.{sum_below}
 use Rattle.certificate.specs.Loads.{weight_on}
-use Rattle.certificate.specs.Certificates.{Weighted, IsCertificate, busiest_count, cycle_count, cycle_ratio}
+use Rattle.certificate.specs.Certificates.{Weighted, AreWeights, busiest_count, cycle_count, cycle_ratio}
 use Rattle.certificate.specs.Ratios.{ratio_of}
 use Rattle.certificate.proofs.RatioLemmas.{greatest_ratio-bound, greatest_ratio-is, greatest_ratio-reached, greatest_ratio-some}
 use Rattle.divisor.specs.Gcd.{lowest_terms}
@@ -80,7 +80,7 @@ count-times-ge k c q p cap count e same =
     let is : count * q ≡ k * c * q = ap (λ x. x * q) e in
     omega (arith, scaled, is)
 
-pub ratio_of-even : (w : Weighted) (k : ℕ) (list : List ℕ) → IsCertificate w → ((j : ℕ) → times j list ≡ k * get_or w.quorum_weights j 0)
+pub ratio_of-even : (w : Weighted) (k : ℕ) (list : List ℕ) → AreWeights w → ((j : ℕ) → times j list ≡ k * get_or w.quorum_weights j 0)
     → ratio_of w.system w.capacities list ≡ lowest_terms (k * (cycle_ratio w).0) (cycle_ratio w).1
 ratio_of-even w k list h present =
     let s = w.system in

@@ -9,10 +9,10 @@ use Rattle.numbers.proofs.SumsBelow.{sum_below-cross, sum_below-le, sum_below-li
 use Rattle.quorum_set.specs.Capacities.{AreCapacities}
 use Rattle.quorum_set.specs.Counts.{count_of}
 use Rattle.certificate.specs.Loads.{weight_within}
-use Rattle.certificate.specs.Certificates.{Weighted, IsCertificate, IsOptimal, cycle_len, cycle_ratio, capacity_total, voter_total, lightest_quorum}
+use Rattle.certificate.specs.Certificates.{Weighted, AreWeights, IsCertificate, IsOptimal, cycle_len, cycle_ratio, capacity_total, voter_total, lightest_quorum}
 use Rattle.certificate.specs.Ratios.{ratio_of}
 use Rattle.certificate.proofs.Duality.{Bears-list}
-use Rattle.certificate.proofs.RatioLemmas.{capacity-some, greatest_ratio-bound, greatest_ratio-reached, greatest_ratio-some}
+use Rattle.certificate.proofs.RatioLemmas.{AreWeights-certificate, capacity-some, greatest_ratio-bound, greatest_ratio-reached, greatest_ratio-some}
 
 -- each voter's weight as often as the list names the voter
 abbrev weighed : QuorumSystem → List ℕ → List ℕ → ℕ
@@ -26,7 +26,7 @@ weighed-ratio s capacities b list are =
     (greatest_ratio-bound s.voters capacities (λ i. count_of s i list) are)
 
 -- some voter has a weight, and each capacity is at least 1
-pub capacity_total-some : (w : Weighted) → IsCertificate w → 0 < capacity_total w
+pub capacity_total-some : (w : Weighted) → AreWeights w → 0 < capacity_total w
 capacity_total-some w h =
     let all : sum_below (λ i. get_or w.voter_weights i 0) w.system.voters ≡ voter_total w =
     subst (λ n. sum_below (λ i. get_or w.voter_weights i 0) n ≡ voter_total w) h.voters (sum_below-list (λ x. x) w.voter_weights) in
@@ -61,7 +61,7 @@ IsOptimal-certificate w h list small =
     let low = Bears-list s list h.coterie small (λ i. get_or w.voter_weights i 0) (lightest_quorum w) (λ j lt. least_of-le (weight_within w.voter_weights) s.quorums j [] lt) in
     let high = weighed-ratio s w.capacities w.voter_weights list h.capacities in
     let met : length list * cycle.0 * r.1 ≤ r.0 * cycle.1 * cycle_len w =
-    mul-le_balanced (length list) (lightest_quorum w) (weighed s w.voter_weights list) cycle.0 cycle.1 (capacity_total w) (cycle_len w) r.0 r.1 (capacity_total-some w h) low high h.balanced in
+    mul-le_balanced (length list) (lightest_quorum w) (weighed s w.voter_weights list) cycle.0 cycle.1 (capacity_total w) (cycle_len w) r.0 r.1 (capacity_total-some w (AreWeights-certificate w h)) low high h.balanced in
     let found = greatest_ratio-reached s.voters w.capacities (λ i. count_of s i list) h.capacities h.coterie.some_voter in (
       found.0,
       found.1,

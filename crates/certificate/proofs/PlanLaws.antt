@@ -15,14 +15,14 @@ use Rattle.numbers.proofs.Options.{option_or-None}
 use Rattle.certificate.specs.declared.fault.PlanFault.{PlanFault}
 use Rattle.certificate.specs.declared.fault.PlanFault.TheVariants.{BadText, WrongCapacity}
 use Rattle.divisor.specs.Gcd.{gcd_of}
-use Rattle.certificate.specs.Certificates.{Weighted, IsCertificate, cycle_len, cycle_ratio, load_of, weights_fault, with_weights}
+use Rattle.certificate.specs.Certificates.{Weighted, AreWeights, IsCertificate, cycle_len, cycle_ratio, load_of, weights_fault, with_weights}
 use Rattle.texts.specs.Lines.{text_of_lines}
 use Rattle.certificate.specs.PlanTexts.{HasDigits, IsShort, PlanContents, contents_of, written_capacities, version_of, load_digits, title_line, load_line, cycle_line, weights_line}
 use Rattle.certificate.specs.PlanTexts.{capacity_lines, lines_of, plan_text, read_title, read_load, read_cycle, read_capacities, read_weights, line_at, capacities_at, ◌>>=◌}
 use Rattle.certificate.specs.PlanTexts.{contents_at, head_fault, are_given, capacities_fault, unless_fault, judge_plan, plan_at, UnlessOutOfMemory}
 use Rattle.certificate.proofs.FaultLaws.{cond_Some-None, weights_fault-IsCertificate}
 use Rattle.certificate.proofs.Numbers.{HasDigits-small}
-use Rattle.certificate.proofs.RatioLemmas.{cycle_ratio-small}
+use Rattle.certificate.proofs.RatioLemmas.{AreWeights-certificate, cycle_ratio-small, load_of-le}
 use Rattle.certificate.proofs.UnitCapacities.{cycle_ratio-are_unit}
 use Rattle.texts.proofs.CutLemmas.{Lacks}
 use Rattle.certificate.proofs.PlanLines.{read_title-Some, read_title-one, read_title-two, read_load-Some, read_load-written, read_cycle-Some, read_cycle-written, IsCapacity-IsShort}
@@ -285,17 +285,10 @@ AreWritten-written_capacities w h = by (are_unit w.capacities) refl
     by true unit = tt
     by false some = (h.capacities.in_range, some)
 
--- the load has no greater numbers than the ratio, divided by the cycle's length
-load_of-le : (w : Weighted) → ((load_of w).0 ≤ (cycle_ratio w).0) × ((load_of w).1 ≤ (cycle_ratio w).1 * cycle_len w)
-load_of-le w =
-    let p = (cycle_ratio w).0 in
-    let d = (cycle_ratio w).1 * cycle_len w in
-    (div-le_self p (gcd_of p d), div-le_self d (gcd_of p d))
-
 small_product : (q len most : ℕ) → q ≤ most → len ≤ 1000000 → q * len ≤ most * 1000000
 small_product q len most le few = mul-le-mul le few
 
-load_of-HasDigits : (w : Weighted) → IsCertificate w
+pub load_of-HasDigits : (w : Weighted) → AreWeights w
     → HasDigits (load_digits (version_of (written_capacities w.capacities))) (load_of w).0 × HasDigits (load_digits (version_of (written_capacities w.capacities))) (load_of w).1
 load_of-HasDigits w h = by (are_unit w.capacities) refl
   where
@@ -311,7 +304,7 @@ load_of-HasDigits w h = by (are_unit w.capacities) refl
 
 pub IsWrittenAs-certificate : (w : Weighted) → IsCertificate w → IsWrittenAs (contents_of w)
 IsWrittenAs-certificate w h =
-    let loads = load_of-HasDigits w h in
+    let loads = load_of-HasDigits w (AreWeights-certificate w h) in
     record {
       left = loads.0;
       right = loads.1;

@@ -8,14 +8,11 @@ use Rattle.std.proofs.Math.Nat.{div-le_self, mul-le-mul_left, mul-le-mul_right, 
 use Rattle.divisor.specs.Gcd.{gcd_of, lowest_terms}
 use Rattle.divisor.proofs.GcdLemmas.{lowest_terms-exact, lowest_terms-lowest, lowest_terms-same, lowest_terms-some}
 use Rattle.quorum_set.specs.Capacities.{AreCapacities}
-use Rattle.certificate.specs.Certificates.{Weighted, IsCertificate, IsKept, cycle_count, cycle_len, cycle_ratio}
+use Rattle.certificate.specs.Certificates.{Weighted, AreSums, AreWeights, IsCertificate, capacity_total, cycle_count, cycle_len, cycle_ratio, lightest_quorum, load_of}
+use Rattle.certificate.specs.declared.sums.Sums.{Sums}
 use Rattle.certificate.proofs.LoadLemmas.{weight_on-le}
 use Rattle.certificate.specs.Loads.{weight_on}
-use Rattle.certificate.specs.Ratios.{greater_of, greatest_fraction, greatest_ratio}
-
--- a fraction is at most another
-abbrev pub IsAtMost : ℕ × ℕ → ℕ × ℕ → Type 0
-IsAtMost r s = r.0 * s.1 ≤ s.0 * r.1
+use Rattle.certificate.specs.Ratios.{IsAtMost, greater_of, greatest_fraction, greatest_ratio}
 
 pub IsAtMost-trans : (r s t : ℕ × ℕ) → 0 < s.1 → IsAtMost r s → IsAtMost s t → IsAtMost r t
 IsAtMost-trans r s t some low high =
@@ -174,29 +171,65 @@ counts_with_next quorums weights counts i v long is below j lt =
       | inr off ↦ get_or-set_other counts i j v 0 off ∙ below j (omega arith)
     ]
 
--- the ratio of a certificate
-pub cycle_ratio-some : (w : Weighted) → IsCertificate w → 0 < (cycle_ratio w).1
-cycle_ratio-some w h = greatest_ratio-some w.system.voters w.capacities (cycle_count w) h.capacities
+-- what is a certificate has weights
+pub AreWeights-certificate : (w : Weighted) → IsCertificate w → AreWeights w
+AreWeights-certificate w h = record {
+  coterie = h.coterie;
+  capacities = h.capacities;
+  quorums = h.quorums;
+  voters = h.voters;
+  some_quorum = h.some_quorum;
+  few_quorums = h.few_quorums;
+  some_voter = h.some_voter;
+  few_voters = h.few_voters;
+}
 
-pub cycle_ratio-small : (w : Weighted) → IsCertificate w → ((cycle_ratio w).0 ≤ 1000000) × ((cycle_ratio w).1 ≤ 1000)
-cycle_ratio-small w h =
-    greatest_ratio-small w.system.voters w.capacities (cycle_count w) h.capacities 1000000
-    (λ i lt. omega (arith, weight_on-le i w.system.quorums w.quorum_weights, h.few_quorums))
+-- the load has no greater numbers than the ratio, divided by the cycle's length
+pub load_of-le : (w : Weighted) → ((load_of w).0 ≤ (cycle_ratio w).0) × ((load_of w).1 ≤ (cycle_ratio w).1 * cycle_len w)
+load_of-le w =
+    let p = (cycle_ratio w).0 in
+    let d = (cycle_ratio w).1 * cycle_len w in
+    (div-le_self p (gcd_of p d), div-le_self d (gcd_of p d))
 
--- the denominator of the load, before it is reduced
-pub load_of-some : (w : Weighted) → IsCertificate w → 0 < (cycle_ratio w).1 * cycle_len w
-load_of-some w h =
-    let more : (cycle_ratio w).1 * 1 ≤ (cycle_ratio w).1 * cycle_len w = mul-le-mul_left (cycle_ratio w).1 h.some_quorum in
-    omega (arith, more, cycle_ratio-some w h)
+-- weights that are balanced are a certificate
+pub IsCertificate-balanced : (w : Weighted) → AreWeights w → (cycle_ratio w).0 * capacity_total w ≡ (cycle_ratio w).1 * lightest_quorum w * cycle_len w → IsCertificate w
+IsCertificate-balanced w h balanced = record {
+  coterie = h.coterie;
+  capacities = h.capacities;
+  quorums = h.quorums;
+  voters = h.voters;
+  some_quorum = h.some_quorum;
+  few_quorums = h.few_quorums;
+  some_voter = h.some_voter;
+  few_voters = h.few_voters;
+  balanced = balanced;
+}
 
-load_of-small : (w : Weighted) → IsCertificate w → (cycle_ratio w).1 * cycle_len w ≤ 1000000000
-load_of-small w h =
-    let less : (cycle_ratio w).1 * cycle_len w ≤ (cycle_ratio w).1 * 1000000 = mul-le-mul_left (cycle_ratio w).1 h.few_quorums in
-    omega (arith, less, (cycle_ratio-small w h).1)
+module _ (w : Weighted) (h : AreWeights w) where
+  pub cycle_ratio-some : 0 < (cycle_ratio w).1
+  cycle_ratio-some = greatest_ratio-some w.system.voters w.capacities (cycle_count w) h.capacities
 
--- the same in what a plan stores
-pub IsKept-denominator : (w : Weighted) (len busiest : ℕ) (ratio : ℕ × ℕ) → IsKept w len busiest ratio
-    → (0 < ratio.1 * len) × (ratio.1 * len ≤ 1000000000)
-IsKept-denominator w len busiest ratio kept =
-    let same : (cycle_ratio w).1 * cycle_len w ≡ ratio.1 * len = ap₂ (λ r d. r.1 * d) (sym kept.3) (sym kept.1) in
-    subst (λ x. (0 < x) × (x ≤ 1000000000)) same (load_of-some w kept.0, load_of-small w kept.0)
+  pub cycle_ratio-small : ((cycle_ratio w).0 ≤ 1000000) × ((cycle_ratio w).1 ≤ 1000)
+  cycle_ratio-small =
+      greatest_ratio-small w.system.voters w.capacities (cycle_count w) h.capacities 1000000
+      (λ i lt. omega (arith, weight_on-le i w.system.quorums w.quorum_weights, h.few_quorums))
+
+  -- the denominator of the load, before it is reduced
+  pub load_of-some : 0 < (cycle_ratio w).1 * cycle_len w
+  load_of-some =
+      let more : (cycle_ratio w).1 * 1 ≤ (cycle_ratio w).1 * cycle_len w = mul-le-mul_left (cycle_ratio w).1 h.some_quorum in
+      omega (arith, more, cycle_ratio-some)
+
+  load_of-small : (cycle_ratio w).1 * cycle_len w ≤ 1000000000
+  load_of-small =
+      let less : (cycle_ratio w).1 * cycle_len w ≤ (cycle_ratio w).1 * 1000000 = mul-le-mul_left (cycle_ratio w).1 h.few_quorums in
+      omega (arith, less, cycle_ratio-small.1)
+
+  pub load_of-fits : ((load_of w).0 ≤ 1000000) × ((load_of w).1 ≤ 1000000000)
+  load_of-fits = (omega (arith, (load_of-le w).0, cycle_ratio-small.0), omega (arith, (load_of-le w).1, load_of-small))
+
+  -- the same in what weights store
+  pub stored-small : (sums : Sums) → AreSums w sums → sums.ratio.1 * sums.cycle_len ≤ 1000000000
+  stored-small sums are =
+      let same : sums.ratio.1 * sums.cycle_len ≡ (cycle_ratio w).1 * cycle_len w = ap₂ (λ r d. r.1 * d) are.ratio are.cycle_len in
+      omega (arith, same, load_of-small)

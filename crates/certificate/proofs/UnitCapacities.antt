@@ -86,7 +86,7 @@ module _ (w : Weighted) (long : length w.capacities ≡ w.system.voters) (unit :
   ratio-one = ap (λ r. r.1) cycle_ratio-are_unit
 
   -- the weights' sum, with capacities and without
-  capacity_total-are_unit : length w.voter_weights ≡ w.system.voters → capacity_total w ≡ voter_total w
+  pub capacity_total-are_unit : length w.voter_weights ≡ w.system.voters → capacity_total w ≡ voter_total w
   capacity_total-are_unit voters =
       let same = sum_below-same w.system.voters (λ i. get_or w.voter_weights i 0 * get_or w.capacities i 0) (λ i. get_or w.voter_weights i 0)
       (λ i lt. times_one (get_or w.voter_weights i 0) (get_or w.capacities i 0) (get_or-are_unit w.capacities unit i 0 (omega (arith, lt, long)))) in

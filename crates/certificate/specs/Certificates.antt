@@ -10,7 +10,7 @@ use Rattle.numbers.specs.Sums.{sum_below}
 use Rattle.divisor.specs.Gcd.{lowest_terms}
 use Rattle.certificate.specs.Loads.{weight_on, weight_within}
 use Rattle.certificate.specs.Ratios.{greatest_ratio}
-use Rattle.certificate.specs.declared.plan.Sums.{Sums}
+use Rattle.certificate.specs.declared.sums.Sums.{Sums}
 use Rattle.certificate.specs.declared.fault.PlanFault.{PlanFault}
 use Rattle.certificate.specs.declared.fault.PlanFault.TheVariants.{WrongLength, TooLarge, Empty, NotOptimal, NotOptimalRatio, OutOfMemory}
 
@@ -54,6 +54,28 @@ cycle_ratio w = greatest_ratio w.system.voters w.capacities (cycle_count w)
 abbrev pub lightest_quorum : Weighted → ℕ
 lightest_quorum w = least_of (weight_within w.voter_weights) w.system.quorums
 
+-- a coterie with a capacity for each voter, a weight for each quorum and one for each voter; neither
+-- sum of weights is 0 or above 1,000,000
+pub record AreWeights (w : Weighted) : Type 0 where
+  pub coterie : IsCoterie w.system
+  pub capacities : AreCapacities w.capacities w.system.voters
+  pub quorums : length w.quorum_weights ≡ length w.system.quorums
+  pub voters : length w.voter_weights ≡ w.system.voters
+  pub some_quorum : 0 < cycle_len w
+  pub few_quorums : cycle_len w ≤ max_cycle
+  pub some_voter : 0 < voter_total w
+  pub few_voters : voter_total w ≤ max_cycle
+
+-- the sums of these weights, which are small
+pub record AreSums (w : Weighted) (sums : Sums) : Type 0 where
+  pub cycle_len : sums.cycle_len ≡ cycle_len w
+  pub busiest : sums.busiest ≡ busiest_count w
+  pub ratio : sums.ratio ≡ cycle_ratio w
+  pub capacity_total : sums.capacity_total ≡ capacity_total w
+  pub lightest_quorum : sums.lightest_quorum ≡ lightest_quorum w
+  pub small_total : sums.capacity_total ≤ 1000000000
+  pub small_quorum : sums.lightest_quorum ≤ 64000000
+
 -- The weights show that no cycle has a smaller ratio for its length. In any list of quorums, the
 -- voters' counts, each times the voter's weight, add up to at least the lightest quorum's weight for
 -- each entry. This cycle reaches that bound. It is the duality of linear programs by which Naor and
@@ -68,11 +90,6 @@ pub record IsCertificate (w : Weighted) : Type 0 where
   pub some_voter : 0 < voter_total w
   pub few_voters : voter_total w ≤ max_cycle
   pub balanced : (cycle_ratio w).0 * capacity_total w ≡ (cycle_ratio w).1 * lightest_quorum w * cycle_len w
-
--- the numbers that a plan stores next to its weights: the cycle's length, the busiest count, and the
--- ratio
-abbrev pub IsKept : Weighted → ℕ → ℕ → ℕ × ℕ → Type 0
-IsKept w len top ratio = IsCertificate w × (len ≡ cycle_len w) × (top ≡ busiest_count w) × (ratio ≡ cycle_ratio w)
 
 -- each list of quorum numbers uses some voter at least as often, for the list's length and the
 -- voter's capacity, as the ratio of the cycle says
@@ -119,24 +136,41 @@ balance_fault w =
     then NotOptimal (busiest_count w) (voter_total w) (lightest_quorum w) (cycle_len w)
     else NotOptimalRatio (cycle_ratio w).0 (cycle_ratio w).1 (capacity_total w) (lightest_quorum w) (cycle_len w)
 
--- the first fault of the weights
-abbrev pub weights_fault : Weighted → Option PlanFault
-weights_fault w =
+-- the first fault of the numbers of weights and of their sums, or else `rest`
+abbrev pub sizes_fault_or : Option PlanFault → Weighted → Option PlanFault
+sizes_fault_or rest w =
     if not ((length w.quorum_weights == length w.system.quorums) && (length w.voter_weights == w.system.voters))
     then Some WrongLength else
     if nat_lt max_cycle (cycle_len w) || nat_lt max_cycle (voter_total w) then Some TooLarge else
-    if (cycle_len w == 0) || (voter_total w == 0) then Some Empty else
-    if not ((cycle_ratio w).0 * capacity_total w == (cycle_ratio w).1 * lightest_quorum w * cycle_len w)
-    then Some (balance_fault w) else None
+    if (cycle_len w == 0) || (voter_total w == 0) then Some Empty else rest
 
--- the result for the weights: if they have no fault, what their plan stores; else their first fault
-abbrev pub AnswersSums : Weighted → Result Sums PlanFault → Type 0
-AnswersSums w (Ok s) = (weights_fault w ≡ None) × IsKept w s.cycle_len s.busiest s.ratio
-AnswersSums w (Err e) = weights_fault w ≡ Some e
+-- the first fault of the weights, whatever they show
+abbrev pub sizes_fault : Weighted → Option PlanFault
+sizes_fault w = sizes_fault_or None w
 
--- the result for the weights: if they have no fault, a plan with them or out of memory; else their
--- first fault
+-- the first fault of the weights as a certificate
+abbrev pub weights_fault : Weighted → Option PlanFault
+weights_fault w =
+    sizes_fault_or
+    (if not ((cycle_ratio w).0 * capacity_total w == (cycle_ratio w).1 * lightest_quorum w * cycle_len w)
+    then Some (balance_fault w) else None)
+    w
+
+-- the sums of the weights, if this first fault is none; else the fault
+abbrev pub AnswersSums : Option PlanFault → Weighted → Result Sums PlanFault → Type 0
+AnswersSums fault w (Ok sums) = (fault ≡ None) × AreWeights w × AreSums w sums
+AnswersSums fault w (Err e) = fault ≡ Some e
+
+-- the weights or out of memory, if this first fault is none; else the fault
+abbrev pub AnswersUnless : Option PlanFault → Weighted → Result Weighted PlanFault → Type 0
+AnswersUnless fault w (Ok made) = (fault ≡ None) × (made ≡ w)
+AnswersUnless fault w (Err OutOfMemory) = fault ≡ None
+AnswersUnless fault w (Err e) = fault ≡ Some e
+
+-- the result for weights, whatever they show
+abbrev pub AnswersWeights : Weighted → Result Weighted PlanFault → Type 0
+AnswersWeights w result = AnswersUnless (sizes_fault w) w result
+
+-- the result for weights as a certificate
 abbrev pub AnswersPlan : Weighted → Result Weighted PlanFault → Type 0
-AnswersPlan w (Ok p) = (weights_fault w ≡ None) × (p ≡ w)
-AnswersPlan w (Err OutOfMemory) = weights_fault w ≡ None
-AnswersPlan w (Err e) = weights_fault w ≡ Some e
+AnswersPlan w result = AnswersUnless (weights_fault w) w result

@@ -1,8 +1,12 @@
 -- How much voters are used for their capacities: counts divided by capacities, as fractions.
-use Rattle.std.specs.Prelude.{ℕ, ◌*◌, nat_lt, if◌then◌else◌, List, slice_index, zero, suc}
+use Rattle.std.specs.Prelude.{ℕ, ◌*◌, ◌≤◌, nat_lt, if◌then◌else◌, List, slice_index, zero, suc}
 use Rattle.divisor.specs.Gcd.{lowest_terms}
 use Rattle.quorum_set.specs.Coteries.{QuorumSystem}
 use Rattle.quorum_set.specs.Counts.{count_of}
+
+-- the first fraction is at most the second; each is a numerator and a denominator
+abbrev pub IsAtMost : ℕ × ℕ → ℕ × ℕ → Type 0
+IsAtMost r s = r.0 * s.1 ≤ s.0 * r.1
 
 -- the greater of two fractions, each a numerator and a denominator; the first if they are equal
 abbrev pub greater_of : ℕ × ℕ → ℕ × ℕ → ℕ × ℕ

@@ -8,10 +8,11 @@ ghost use Rattle.numbers.specs.Counts.{greatest_below, times};
 ghost use Rattle.quorum_set.specs.Capacities.{AreCapacities, IsCapacity, are_unit, unit_capacities};
 ghost use Rattle.quorum_set.specs.Coteries.{IsCoterie};
 ghost use Rattle.quorum_set.specs.Counts.{count_of, busiest_of};
-ghost use Rattle.certificate.specs.Certificates.{Weighted, IsCertificate, IsOptimal, IsUnitCertificate, IsUnitOptimal, weights_fault, busiest_count, cycle_len, cycle_ratio, load_of, unit_load};
+ghost use Rattle.certificate.specs.Bounds.{BearsBound, IsBounded, bound_of};
+ghost use Rattle.certificate.specs.Certificates.{Weighted, AreWeights, IsCertificate, IsOptimal, IsUnitCertificate, IsUnitOptimal, weights_fault, busiest_count, cycle_len, cycle_ratio, load_of, unit_load};
 ghost use Rattle.certificate.specs.Loads.{weight_on};
 ghost use Rattle.certificate.specs.PlanTexts.{HasDigits, IsShort, plan_text, number_of, load_line, cycle_line, weights_line, read_load, read_cycle, read_capacities, read_weights};
-ghost use Rattle.certificate.specs.Ratios.{greatest_ratio, ratio_of};
+ghost use Rattle.certificate.specs.Ratios.{IsAtMost, greatest_ratio, ratio_of};
 
 /// A list that has each quorum k times its weight uses each voter k times the weight on the voter's
 /// quorums. It uses its busiest voter k times the busiest count, and its ratio is k times the ratio
@@ -26,7 +27,7 @@ pub fn whole_cycles_are_even()
     ensures busiest { (w : Weighted) (k : ℕ) (list : List ℕ) → length w.quorum_weights ≡ length w.system.quorums
         → ((j : ℕ) → times j list ≡ k * slice_index w.quorum_weights j)
         → busiest_of w.system list ≡ k * busiest_count w }
-    ensures ratio { (w : Weighted) (k : ℕ) (list : List ℕ) → IsCertificate w
+    ensures ratio { (w : Weighted) (k : ℕ) (list : List ℕ) → AreWeights w
         → ((j : ℕ) → times j list ≡ k * slice_index w.quorum_weights j)
         → ratio_of w.system w.capacities list ≡ lowest_terms (k * (cycle_ratio w).0) (cycle_ratio w).1 }
 {}
@@ -50,6 +51,17 @@ pub fn no_list_has_a_smaller_ratio()
         → (list : List ℕ) → All (λ j. j < length w.system.quorums) list
         → length list * (cycle_ratio w).0 * (ratio_of w.system w.capacities list).1
         ≤ (ratio_of w.system w.capacities list).0 * ((cycle_ratio w).1 * cycle_len w) }
+{}
+
+/// The voters' weights bound each load from below: no weights of the same coterie and capacities
+/// have a load below the bound. Each list of quorum numbers uses some voter, for its capacity, at
+/// least as often as the bound says. The load is the bound if and only if the weights are a
+/// certificate.
+pub fn no_load_is_below_the_bound()
+    ensures voter { (w : Weighted) → AreWeights w → BearsBound w }
+    ensures load { (w : Weighted) → AreWeights w → IsBounded w }
+    ensures own { (w : Weighted) → AreWeights w → IsAtMost (bound_of w) (load_of w) }
+    ensures certificate { (w : Weighted) → AreWeights w → (load_of w ≡ bound_of w) ↔ IsCertificate w }
 {}
 
 /// If all capacities are 1, a ratio is the greatest count, over 1. The weights are a certificate,

@@ -1,56 +1,32 @@
 //! Plans.
-ghost use Rattle.std.specs.Prelude.{◌≡◌, ◌*◌, ◌<◌, ◌≤◌, true, length, sum, IfOk, slice_index};
+ghost use Rattle.std.specs.Prelude.{◌≡◌, ◌*◌, ◌<◌, true, length, IfErr, IfOk, slice_index};
 ghost use Rattle.std.specs.Int.{IsGcd};
-ghost use Rattle.numbers.specs.Bounds.{max_capacity, max_cycle};
-ghost use Rattle.numbers.specs.Counts.{greatest_below};
 ghost use Rattle.quorum_set.specs.Capacities.{AreCapacities, are_unit};
-ghost use Rattle.certificate.specs.Certificates.{IsCertificate, IsOptimal, IsUnitOptimal, AnswersPlan, AnswersSums, capacity_total, cycle_count, cycle_len, cycle_ratio, busiest_count, lightest_quorum, load_of, unit_load, with_weights};
-ghost use Rattle.certificate.specs.Loads.{weight_on};
-ghost use Rattle.certificate.specs.Ratios.{greatest_ratio};
+ghost use Rattle.certificate.specs.Bounds.{bound_of};
+ghost use Rattle.certificate.specs.Certificates.{IsCertificate, IsOptimal, IsUnitOptimal, AnswersPlan, capacity_total, cycle_count, cycle_len, cycle_ratio, busiest_count, lightest_quorum, load_of, unit_load, with_weights};
 
 use crate::fault::PlanFault;
-use crate::loads::{busiest_count, capacity_total, lightest_quorum, total, weight_on};
-use crate::ratios::greatest_ratio;
-use divisor::lowest_terms;
-use numbers::MAX_VOTERS;
-use quorum_set::{Coterie, are_unit};
+use crate::sums::balanced_sums_of;
+use crate::weights::{Weights, with_sums};
+use quorum_set::Coterie;
 use std::alloc::{AllocError, Global};
 use std::marker::Model;
 
-/// A coterie with a capacity for each voter, a weight for each quorum, and a weight for each voter.
-/// The voters' weights are the certificate that the quorums' weights are optimal. Contracts see the
-/// four.
+/// Weights whose load is their bound. So no weights of the coterie and the capacities have a smaller
+/// load, and the voters' weights are the certificate of that. Contracts see the weights.
 #[derive(Drop)]
 pub struct Plan {
-    coterie: Coterie,
-    capacities: Vec<u64>,
-    quorum_weights: Vec<u64>,
-    voter_weights: Vec<u64>,
-    cycle_len: u64,
-    busiest: u64,
-    ratio: (u64, u64),
+    weights: Weights,
 }
 
 impl Model for Plan {
-    ghost use Rattle.certificate.specs.Certificates.{Weighted, IsKept};
+    ghost use Rattle.certificate.specs.Certificates.{IsCertificate, Weighted};
 
     ghost Value = { Weighted };
 
-    ghost view = { λ p. record {
-      system = p.coterie;
-      capacities = p.capacities.items;
-      quorum_weights = p.quorum_weights.items;
-      voter_weights = p.voter_weights.items;
-    } };
+    ghost view = { λ p. p.weights };
 
-    ghost invariant = { λ p. IsKept
-        (record {
-          system = p.coterie;
-          capacities = p.capacities.items;
-          quorum_weights = p.quorum_weights.items;
-          voter_weights = p.voter_weights.items;
-        })
-        p.cycle_len p.busiest p.ratio };
+    ghost invariant = { λ p. IsCertificate p.weights };
 }
 
 /// Checks weights of the quorums against weights of the voters. Returns the plan that has both, a
@@ -93,106 +69,29 @@ fn plan_of(
         (with_weights coterie.now capacities.now quorum_weights.items voter_weights.items) result }
     ensures certificate { IfOk result IsCertificate }
 {
-    let Sums {
-        cycle_len,
-        busiest,
-        ratio,
-    } = match sums_of(coterie, capacities, &quorum_weights, &voter_weights) {
+    let sums = match balanced_sums_of(coterie, capacities, &quorum_weights, &voter_weights) {
         Ok(sums) => sums,
         Err(fault) => return Err(fault),
     };
-    Ok(Plan {
-        coterie: coterie.copy(alloc)?,
-        capacities: capacities.to_vec(alloc)?,
-        quorum_weights,
-        voter_weights,
-        cycle_len,
-        busiest,
-        ratio,
-    })
+    let weights = with_sums(alloc, coterie, capacities, quorum_weights, voter_weights, sums)?;
+    Ok(Plan { weights })
 }
 
-/// What a plan stores next to its weights: the cycle's length, the busiest count, and the ratio.
-struct Sums {
-    cycle_len: u64,
-    busiest: u64,
-    ratio: (u64, u64),
-}
-
-/// Returns what the plan of these weights stores, or their first fault.
-#[tactic(auto, using(crate::proofs::LoadLemmas::balance_fits))]
-fn sums_of(
-    coterie: &Coterie,
-    capacities: &[u64],
-    quorum_weights: &[u64],
-    voter_weights: &[u64],
-) -> Result<Sums, PlanFault>
-    requires capacities { AreCapacities capacities.now coterie.now.voters }
-    ensures { AnswersSums
-        (with_weights coterie.now capacities.now quorum_weights.now voter_weights.now) result }
-{
-    if quorum_weights.len() != coterie.count() || voter_weights.len() != coterie.voters() {
-        return Err(PlanFault::WrongLength);
-    }
-    let (Some(cycle_len), Some(voter_total)) = (total(quorum_weights), total(voter_weights)) else {
-        return Err(PlanFault::TooLarge);
-    };
-    if cycle_len == 0 || voter_total == 0 {
-        return Err(PlanFault::Empty);
-    }
-    let busiest = busiest_count(coterie, quorum_weights);
-    let ratio = cycle_ratio(coterie, capacities, quorum_weights, busiest);
-    let capacity_total = capacity_total(capacities, voter_weights);
-    let lightest_quorum = lightest_quorum(coterie, voter_weights);
-    if ratio.0 * capacity_total != ratio.1 * lightest_quorum * cycle_len {
-        if are_unit(capacities) {
-            return Err(PlanFault::NotOptimal {
-                busiest_count: busiest,
-                voter_total,
-                lightest_quorum,
-                cycle_len,
-            });
+impl Weights {
+    /// Returns the plan of these weights if they are a certificate, so that the load is the bound.
+    /// Otherwise gives the weights back.
+    pub fn into_plan(self) -> Result<Plan, Weights>
+        ensures plan { IfOk result (λ p. p ≡ self) }
+        ensures certificate { IfOk result IsCertificate }
+        ensures optimal { IfOk result IsOptimal }
+        ensures weights { IfErr result (λ w. w ≡ self) }
+        ensures above { IfErr result (λ w. ¬ IsCertificate w) }
+    {
+        if self.is_balanced() {
+            return Ok(Plan { weights: self });
         }
-        return Err(PlanFault::NotOptimalRatio {
-            ratio_numerator: ratio.0,
-            ratio_denominator: ratio.1,
-            capacity_total,
-            lightest_quorum,
-            cycle_len,
-        });
+        Err(self)
     }
-    Ok(Sums {
-        cycle_len,
-        busiest,
-        ratio,
-    })
-}
-
-/// Returns the ratio of the cycle with these weights of the quorums and this busiest count.
-#[tactic(auto, using(crate::proofs::RatioLemmas::counts_with_next))]
-fn cycle_ratio(
-    coterie: &Coterie,
-    capacities: &[u64],
-    weights: &[u64],
-    busiest_count: u64,
-) -> (u64, u64)
-    requires capacities { AreCapacities capacities.now coterie.now.voters }
-    requires lengths { length weights.now ≡ length coterie.now.quorums }
-    requires small { sum weights.now ≤ max_cycle }
-    requires busiest { busiest_count
-        ≡ greatest_below coterie.now.voters (λ i. weight_on i coterie.now.quorums weights.now) }
-    ensures ratio { result
-        ≡ greatest_ratio coterie.now.voters capacities.now (λ i. weight_on i coterie.now.quorums weights.now) }
-    ensures small { (result.0 ≤ max_cycle) × (result.1 ≤ max_capacity) }
-{
-    if are_unit(capacities) {
-        return (busiest_count, 1);
-    }
-    let mut counts = [0; MAX_VOTERS];
-    for voter in 0..coterie.voters() {
-        counts[voter] = weight_on(coterie, weights, voter as u8);
-    }
-    greatest_ratio(&counts[..coterie.voters()], capacities)
 }
 
 impl Plan {
@@ -201,7 +100,7 @@ impl Plan {
         ensures value { result.now ≡ self.now.system }
         ensures certificate { IsCertificate self.now }
     {
-        &self.coterie
+        self.weights.coterie()
     }
 
     /// Returns the length of a cycle: the sum of the quorums' weights, 1 to 1,000,000.
@@ -209,7 +108,7 @@ impl Plan {
         ensures value { result ≡ cycle_len self.now }
         ensures certificate { IsCertificate self.now }
     {
-        self.cycle_len
+        self.weights.cycle_len()
     }
 
     /// Returns how often a cycle uses its busiest voter.
@@ -219,7 +118,7 @@ impl Plan {
         // If all capacities are 1, no list of quorums has, for its length, a smaller busiest count.
         ensures least { are_unit self.now.capacities ≡ true → IsUnitOptimal self.now }
     {
-        self.busiest
+        self.weights.busiest()
     }
 
     /// Returns the ratio of a cycle: how often it uses a voter, divided by the voter's capacity, for
@@ -231,7 +130,7 @@ impl Plan {
         // Each list of quorums uses some voter, for its length and the voter's capacity, as much.
         ensures optimal { IsOptimal self.now }
     {
-        self.ratio
+        self.weights.ratio()
     }
 
     /// Returns the load, as a numerator and a denominator in lowest terms: the ratio of a cycle,
@@ -247,8 +146,7 @@ impl Plan {
         // If all capacities are 1, this is the least share that lists of quorums reach.
         ensures least { are_unit self.now.capacities ≡ true → (result ≡ unit_load self.now) × IsUnitOptimal self.now }
     {
-        let denominator = self.ratio.1 * self.cycle_len;
-        lowest_terms(self.ratio.0, denominator)
+        self.weights.load()
     }
 
     /// Returns the capacity of a voter, 1 to 1000. The voter's number has to be below the number of
@@ -258,7 +156,7 @@ impl Plan {
         ensures value { result ≡ slice_index self.now.capacities voter }
         ensures certificate { IsCertificate self.now }
     {
-        self.capacities[usize::from(voter)]
+        self.weights.capacity(voter)
     }
 
     /// Returns the capacity of each voter.
@@ -266,7 +164,7 @@ impl Plan {
         ensures value { result.now ≡ self.now.capacities }
         ensures certificate { IsCertificate self.now }
     {
-        self.capacities.as_slice()
+        self.weights.capacities()
     }
 
     /// Returns the weight of a quorum: how often a cycle uses it. The quorum's number has to be
@@ -276,7 +174,7 @@ impl Plan {
         ensures value { result ≡ slice_index self.now.quorum_weights quorum }
         ensures certificate { IsCertificate self.now }
     {
-        self.quorum_weights[quorum]
+        self.weights.weight(quorum)
     }
 
     /// Returns the weight of a voter in the certificate. The voter's number has to be below the
@@ -286,7 +184,7 @@ impl Plan {
         ensures value { result ≡ slice_index self.now.voter_weights voter }
         ensures certificate { IsCertificate self.now }
     {
-        self.voter_weights[usize::from(voter)]
+        self.weights.voter_weight(voter)
     }
 
     /// Returns how often a cycle uses a voter: the sum of the weights of the quorums with that
@@ -295,7 +193,7 @@ impl Plan {
         ensures value { result ≡ cycle_count self.now voter }
         ensures certificate { IsCertificate self.now }
     {
-        weight_on(&self.coterie, &self.quorum_weights, voter)
+        self.weights.count(voter)
     }
 
     /// Returns the sum of the voters' weights in the certificate, each times the voter's capacity:
@@ -304,7 +202,7 @@ impl Plan {
         ensures value { result ≡ capacity_total self.now }
         ensures certificate { IsCertificate self.now }
     {
-        capacity_total(&self.capacities, &self.voter_weights)
+        self.weights.capacity_total()
     }
 
     /// Returns the weight of the lightest quorum in the certificate: the smallest sum, over the
@@ -313,21 +211,21 @@ impl Plan {
         ensures value { result ≡ lightest_quorum self.now }
         ensures certificate { IsCertificate self.now }
     {
-        lightest_quorum(&self.coterie, &self.voter_weights)
+        self.weights.lightest_quorum()
     }
 
     /// Returns the weight of each quorum.
     pub(crate) fn quorum_weights(&self) -> &[u64]
         ensures { result.now ≡ self.now.quorum_weights }
     {
-        self.quorum_weights.as_slice()
+        self.weights.quorum_weights()
     }
 
     /// Returns the weight of each voter.
     pub(crate) fn voter_weights(&self) -> &[u64]
         ensures { result.now ≡ self.now.voter_weights }
     {
-        self.voter_weights.as_slice()
+        self.weights.voter_weights()
     }
 
     /// Returns an equal plan, unless it runs out of memory.
@@ -336,13 +234,26 @@ impl Plan {
         ensures certificate { IsCertificate self.now }
     {
         Ok(Plan {
-            coterie: self.coterie.copy(alloc)?,
-            capacities: self.capacities.as_slice().to_vec(alloc)?,
-            quorum_weights: self.quorum_weights.as_slice().to_vec(alloc)?,
-            voter_weights: self.voter_weights.as_slice().to_vec(alloc)?,
-            cycle_len: self.cycle_len,
-            busiest: self.busiest,
-            ratio: self.ratio,
+            weights: self.weights.copy(alloc)?,
         })
+    }
+
+    /// Returns the weights.
+    pub fn weights(&self) -> &Weights
+        ensures value { result.now ≡ self.now }
+        ensures certificate { IsCertificate self.now }
+        // No weights of the coterie and the capacities have a smaller load.
+        ensures load { load_of self.now ≡ bound_of self.now }
+    {
+        &self.weights
+    }
+
+    /// Returns the weights, without saying that they are a plan.
+    pub fn into_weights(self) -> Weights
+        ensures value { result ≡ self }
+        ensures certificate { IsCertificate self }
+        ensures load { load_of self ≡ bound_of self }
+    {
+        self.weights
     }
 }

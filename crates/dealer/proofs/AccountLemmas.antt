@@ -13,6 +13,7 @@ use Rattle.certificate.specs.Certificates.{Weighted, IsCertificate, IsUnitOptima
 use Rattle.certificate.specs.Loads.{weight_on}
 use Rattle.certificate.specs.Ratios.{ratio_of}
 use Rattle.certificate.proofs.EvenCycles.{count_of-even, busiest_of-even, ratio_of-even}
+use Rattle.certificate.proofs.RatioLemmas.{AreWeights-certificate}
 use Rattle.dealer.specs.declared.account.Account.{Account}
 use Rattle.dealer.specs.Cycles.{cycle_of, quorum_of_ticket}
 use Rattle.dealer.specs.Accounts.{values_below, quorums_named, account_of, ratio_of_cycles, IsWholeCycles}
@@ -110,7 +111,7 @@ pub busiest_of-whole : (w : Weighted) (k : ℕ) (tickets : List ℕ) → IsCerti
 busiest_of-whole w k tickets is whole = busiest_of-even w k (quorums_named w tickets) is.quorums (times-whole w k tickets whole)
 
 pub ratio_of-whole : (w : Weighted) (k : ℕ) (tickets : List ℕ) → IsCertificate w → IsWholeCycles w k tickets → ratio_of w.system w.capacities (quorums_named w tickets) ≡ ratio_of_cycles w k
-ratio_of-whole w k tickets is whole = ratio_of-even w k (quorums_named w tickets) is (times-whole w k tickets whole)
+ratio_of-whole w k tickets is whole = ratio_of-even w k (quorums_named w tickets) (AreWeights-certificate w is) (times-whole w k tickets whole)
 
 -- the account of k cycles has k times the weights
 pub quorums-whole : (w : Weighted) (k : ℕ) (tickets : List ℕ) → IsCertificate w → IsWholeCycles w k tickets

@@ -3,9 +3,9 @@ use Rattle.std.proofs.Common.{◌≡◌, ℕ, ◌*◌, ◌<◌, ◌≤◌, List,
 use Rattle.std.proofs.Math.Nat.{le_of_mul-le-mul_right}
 use Rattle.divisor.proofs.GcdLemmas.{lowest_terms-exact}
 use Rattle.certificate.specs.Certificates.{Weighted, IsCertificate, IsOptimal, cycle_len, cycle_ratio}
-use Rattle.certificate.specs.Ratios.{greatest_ratio, ratio_of}
+use Rattle.certificate.specs.Ratios.{IsAtMost, greatest_ratio, ratio_of}
 use Rattle.certificate.proofs.Optimal.{IsOptimal-ratio_of}
-use Rattle.certificate.proofs.RatioLemmas.{IsAtMost, IsAtMost-trans, cycle_ratio-some, greatest_ratio-same}
+use Rattle.certificate.proofs.RatioLemmas.{AreWeights-certificate, IsAtMost-trans, cycle_ratio-some, greatest_ratio-same}
 use Rattle.dealer.specs.Accounts.{IsLeastRatio, ratio_of_cycles, values_below}
 use Rattle.dealer.proofs.AccountLemmas.{length-values_below, get_or-values_below}
 
@@ -22,7 +22,7 @@ IsLeastRatio-cycles w k n r is optimal long same list as_long within =
     let p = (cycle_ratio w).0 in
     let q = (cycle_ratio w).1 in
     subst (λ (r : ℕ × ℕ). IsAtMost r s) (sym same)
-    (IsAtMost-trans (ratio_of_cycles w k) (k * p, q) s (cycle_ratio-some w is) (omega (arith, lowest_terms-exact (k * p) q))
+    (IsAtMost-trans (ratio_of_cycles w k) (k * p, q) s (cycle_ratio-some w (AreWeights-certificate w is)) (omega (arith, lowest_terms-exact (k * p) q))
     (scaled k (cycle_len w) (length list) p q s.0 s.1 is.some_quorum (as_long ∙ long) (IsOptimal-ratio_of w is.capacities optimal list within)))
   where
     scaled : (k d n p q x y : ℕ) → 0 < d → n ≡ k * d → n * p * y ≤ x * (q * d) → k * p * y ≤ x * q

@@ -22,8 +22,8 @@ use Rattle.even.proofs.WindowLemmas.{repeat_order-window}
 abbrev pub IsWithinBelow : EvenOrder → ℕ → ℕ → Type 0
 IsWithinBelow o below excess =
     (i first n : ℕ) → i < below
-    → slack_unit o.plan * count_of o.plan.system i (window o first n)
-    ≤ get_or o.plan.capacities i 0 * (n * (cycle_ratio o.plan).0 + excess)
+    → slack_unit o.weights * count_of o.weights.system i (window o first n)
+    ≤ get_or o.weights.capacities i 0 * (n * (cycle_ratio o.weights).0 + excess)
 
 -- the smallest excess of the voters below n
 pub record IsExcessBelow (o : EvenOrder) (below excess : ℕ) : Type 0 where
@@ -50,38 +50,38 @@ widened cap np e after x le more =
     omega (arith, le, scaled)
 
 -- one voter more
-pub IsExcessBelow-more : (o : EvenOrder) (order : List ℕ) (i excess lead up after : ℕ) → 0 < cycle_len o.plan → order ≡ window o 0 (cycle_len o.plan) → 0 < get_or o.plan.capacities i 0
+pub IsExcessBelow-more : (o : EvenOrder) (order : List ℕ) (i excess lead up after : ℕ) → 0 < cycle_len o.weights → order ≡ window o 0 (cycle_len o.weights) → 0 < get_or o.weights.capacities i 0
     → IsExcessBelow o i excess
-    → IsGreatestLead o.plan.system i (slack_unit o.plan) ((cycle_ratio o.plan).0 * get_or o.plan.capacities i 0) order lead
-    → up ≡ lead / get_or o.plan.capacities i 0 + min 1 (lead % get_or o.plan.capacities i 0)
+    → IsGreatestLead o.weights.system i (slack_unit o.weights) ((cycle_ratio o.weights).0 * get_or o.weights.capacities i 0) order lead
+    → up ≡ lead / get_or o.weights.capacities i 0 + min 1 (lead % get_or o.weights.capacities i 0)
     → excess ≤ after → up ≤ after → ((f : ℕ) → excess ≤ f → up ≤ f → after ≤ f)
     → IsExcessBelow o (i + 1) after
 IsExcessBelow-more o order i excess lead up after some is cap before greatest rounded more up_more most =
-    let d = cycle_len o.plan in
-    let unit = slack_unit o.plan in
-    let p = (cycle_ratio o.plan).0 in
-    let capacity = get_or o.plan.capacities i 0 in
+    let d = cycle_len o.weights in
+    let unit = slack_unit o.weights in
+    let p = (cycle_ratio o.weights).0 in
+    let capacity = get_or o.weights.capacities i 0 in
     let both = div_ceil_times lead capacity cap in
     let low : lead ≤ up * capacity = subst (λ u. lead ≤ u * capacity) (sym rounded) both.0 in
     let high : up * capacity < lead + capacity = subst (λ u. u * capacity < lead + capacity) (sym rounded) both.1 in
-    let turned = λ (first n : ℕ). ap (λ list. unit * count_of o.plan.system i list) (repeat_order-window o order first n some is) in
+    let turned = λ (first n : ℕ). ap (λ list. unit * count_of o.weights.system i list) (repeat_order-window o order first n some is) in
     record {
       bound = λ j first n lt. elim (cases_eq j i) [
         | inl at ↦
-            let here = bound_step (unit * count_of o.plan.system i (window o first n)) n p capacity lead up after (omega (arith, turned first n, greatest.bound first n)) low up_more in
-            subst (λ v. unit * count_of o.plan.system v (window o first n) ≤ get_or o.plan.capacities v 0 * (n * p + after)) (sym at) here
+            let here = bound_step (unit * count_of o.weights.system i (window o first n)) n p capacity lead up after (omega (arith, turned first n, greatest.bound first n)) low up_more in
+            subst (λ v. unit * count_of o.weights.system v (window o first n) ≤ get_or o.weights.capacities v 0 * (n * p + after)) (sym at) here
         | inr off ↦
             let was = before.bound j first n (omega arith) in
-            widened (get_or o.plan.capacities j 0) (n * p) excess after (unit * count_of o.plan.system j (window o first n)) was more
+            widened (get_or o.weights.capacities j 0) (n * p) excess after (unit * count_of o.weights.system j (window o first n)) was more
       ];
       least = λ f within.
           let (first, n, reached) = greatest.reached in
           most f
           (before.least f (λ j first n lt. within j first n (omega arith)))
-          (least_step (unit * count_of o.plan.system i (window o first n)) n p capacity lead up f (sym (turned first n) ∙ reached) (within i first n (omega arith)) high);
+          (least_step (unit * count_of o.weights.system i (window o first n)) n p capacity lead up f (sym (turned first n) ∙ reached) (within i first n (omega arith)) high);
     }
 
-pub IsExcess-all : (o : EvenOrder) (n excess : ℕ) → n ≡ o.plan.system.voters → IsExcessBelow o n excess → IsExcess o excess
+pub IsExcess-all : (o : EvenOrder) (n excess : ℕ) → n ≡ o.weights.system.voters → IsExcessBelow o n excess → IsExcess o excess
 IsExcess-all o n excess all is =
     let whole = subst (λ v. IsExcessBelow o v excess) all is in
     record { bound = whole.bound; least = whole.least }
@@ -97,7 +97,7 @@ whole_costs d p q count cap le =
 -- what is within an excess is within a greater one
 IsWithin-more : (o : EvenOrder) (e f : ℕ) → e ≤ f → IsWithin o e → IsWithin o f
 IsWithin-more o e f le within = λ i first n lt.
-    widened (get_or o.plan.capacities i 0) (n * (cycle_ratio o.plan).0) e f (slack_unit o.plan * count_of o.plan.system i (window o first n)) (within i first n lt) le
+    widened (get_or o.weights.capacities i 0) (n * (cycle_ratio o.weights).0) e f (slack_unit o.weights * count_of o.weights.system i (window o first n)) (within i first n lt) le
 
 -- one stride more: what is kept has the smaller excess of the two
 pub IsBestOf-more : (w : Weighted) (strides : List ℕ) (best best_excess next next_excess kept kept_excess : ℕ)
@@ -157,16 +157,16 @@ IsFirstBest-next w strides best best_excess next next_excess is_best is_next lt 
           (next_excess, is_next.bound, not_before k below);
     }
 
--- of two orders of a plan the second's stride is not later in the list
-not_later : (strides : List ℕ) (first second : EvenOrder) → first.plan ≡ second.plan → (one : IsFirstBest strides first) → (other : IsFirstBest strides second) → one.place < other.place → ⊥
+-- of two orders of the same weights the second's stride is not later in the list
+not_later : (strides : List ℕ) (first second : EvenOrder) → first.weights ≡ second.weights → (one : IsFirstBest strides first) → (other : IsFirstBest strides second) → one.place < other.place → ⊥
 not_later strides first second same one other lt =
     let (excess, within, without) = other.earlier one.place lt in
-    let moved : IsWithin (with_stride first.plan second.stride) excess = subst (λ w. IsWithin (with_stride w second.stride) excess) (sym same) within in
-    let at : IsWithin (with_stride first.plan (get_or strides other.place 0)) excess = subst (λ s. IsWithin (with_stride first.plan s) excess) (sym other.is) moved in
+    let moved : IsWithin (with_stride first.weights second.stride) excess = subst (λ w. IsWithin (with_stride w second.stride) excess) (sym same) within in
+    let at : IsWithin (with_stride first.weights (get_or strides other.place 0)) excess = subst (λ s. IsWithin (with_stride first.weights s) excess) (sym other.is) moved in
     let best : IsWithin first excess = one.best other.place 0 other.inside excess at in
-    without (subst (λ s. IsWithin (with_stride second.plan s) excess) (sym one.is) (subst (λ w. IsWithin (with_stride w first.stride) excess) same best))
+    without (subst (λ s. IsWithin (with_stride second.weights s) excess) (sym one.is) (subst (λ w. IsWithin (with_stride w first.stride) excess) same best))
 
-pub IsFirstBest-one_stride : (strides : List ℕ) (first second : EvenOrder) → first.plan ≡ second.plan → IsFirstBest strides first → IsFirstBest strides second → first ≡ second
+pub IsFirstBest-one_stride : (strides : List ℕ) (first second : EvenOrder) → first.weights ≡ second.weights → IsFirstBest strides first → IsFirstBest strides second → first ≡ second
 IsFirstBest-one_stride strides first second same one other =
     elim (cases_lt one.place other.place) [
       | inl before ↦ absurd (not_later strides first second same one other before)
@@ -181,13 +181,13 @@ IsFirstBest-one_stride strides first second same one other =
 
 -- Several processes
 
-count_of-rows : (o : EvenOrder) (excess i : ℕ) (rows : List Row) → IsWithin o excess → i < o.plan.system.voters
-    → slack_unit o.plan * count_of o.plan.system i (quorums_of_rows o rows)
-    ≤ get_or o.plan.capacities i 0 * (length (quorums_of_rows o rows) * (cycle_ratio o.plan).0 + length rows * excess)
+count_of-rows : (o : EvenOrder) (excess i : ℕ) (rows : List Row) → IsWithin o excess → i < o.weights.system.voters
+    → slack_unit o.weights * count_of o.weights.system i (quorums_of_rows o rows)
+    ≤ get_or o.weights.capacities i 0 * (length (quorums_of_rows o rows) * (cycle_ratio o.weights).0 + length rows * excess)
 count_of-rows o excess i [] within lt = omega arith
 count_of-rows o excess i (row ∷ rows) within lt =
-    let test : ℕ → ℕ = λ j. cond {A = ℕ} (has (get_or o.plan.system.quorums j []) i) 1 0 in
-    joined (slack_unit o.plan) (get_or o.plan.capacities i 0) (cycle_ratio o.plan).0 excess row.1 (length (quorums_of_rows o rows)) (length rows) _ _ _ _
+    let test : ℕ → ℕ = λ j. cond {A = ℕ} (has (get_or o.weights.system.quorums j []) i) 1 0 in
+    joined (slack_unit o.weights) (get_or o.weights.capacities i 0) (cycle_ratio o.weights).0 excess row.1 (length (quorums_of_rows o rows)) (length rows) _ _ _ _
     (sum_by-append test (window o row.0 row.1) (quorums_of_rows o rows))
     (omega (arith, length-append (window o row.0 row.1) (quorums_of_rows o rows), length-map-range_with_len (even_quorum o) row.0 row.1))
     (within i row.0 row.1 lt)
@@ -198,12 +198,12 @@ count_of-rows o excess i (row ∷ rows) within lt =
         omega (arith, ap (λ t. u * t) sum, ap (λ t. cap * (t * p + suc k * e)) len, first, rest)
 
 pub count_of-permuted_rows : (o : EvenOrder) (excess : ℕ) (rows : List Row) (list : List ℕ) → IsWithin o excess → IsPermutation (quorums_of_rows o rows) list
-    → (i : ℕ) → i < o.plan.system.voters
-    → slack_unit o.plan * count_of o.plan.system i list ≤ get_or o.plan.capacities i 0 * (length list * (cycle_ratio o.plan).0 + length rows * excess)
+    → (i : ℕ) → i < o.weights.system.voters
+    → slack_unit o.weights * count_of o.weights.system i list ≤ get_or o.weights.capacities i 0 * (length list * (cycle_ratio o.weights).0 + length rows * excess)
 count_of-permuted_rows o excess rows list within permuted i lt =
     let all = quorums_of_rows o rows in
-    let counts = sum_by-IsPermutation (λ j. cond {A = ℕ} (has (get_or o.plan.system.quorums j []) i) 1 0) all list permuted in
+    let counts = sum_by-IsPermutation (λ j. cond {A = ℕ} (has (get_or o.weights.system.quorums j []) i) 1 0) all list permuted in
     let long = length_permutation all list permuted in
-    subst (λ c. slack_unit o.plan * c ≤ get_or o.plan.capacities i 0 * (length list * (cycle_ratio o.plan).0 + length rows * excess)) (sym counts)
-    (subst (λ n. slack_unit o.plan * count_of o.plan.system i all ≤ get_or o.plan.capacities i 0 * (n * (cycle_ratio o.plan).0 + length rows * excess)) (sym long)
+    subst (λ c. slack_unit o.weights * c ≤ get_or o.weights.capacities i 0 * (length list * (cycle_ratio o.weights).0 + length rows * excess)) (sym counts)
+    (subst (λ n. slack_unit o.weights * count_of o.weights.system i all ≤ get_or o.weights.capacities i 0 * (n * (cycle_ratio o.weights).0 + length rows * excess)) (sym long)
     (count_of-rows o excess i rows within lt))

@@ -16,7 +16,7 @@ use Rattle.numbers.proofs.CountLemmas.{times-append}
 use Rattle.numbers.proofs.SumsBelow.{sum_below-list, sum_below-periods, sum_below-same}
 use Rattle.quorum_set.specs.Coteries.{QuorumSystem}
 use Rattle.quorum_set.specs.Counts.{count_of}
-use Rattle.certificate.specs.Certificates.{IsCertificate, cycle_len}
+use Rattle.certificate.specs.Certificates.{AreWeights, cycle_len}
 use Rattle.even.specs.EvenCycles.{EvenOrder, Row, places_of, even_quorum, window, IsFair, quorums_of_rows, whole_rows, total_of}
 use Rattle.even.specs.Leads.{gains_of, lead_after, repeat_order, IsGreatestLead}
 use Rattle.even.proofs.StrideLemmas.{place_again, sum_below-strided}
@@ -87,13 +87,13 @@ IsGreatestLead-rounds s i gain cost order start greatest some whole begun most =
 
 -- Windows
 
-even_quorum-again : (o : EvenOrder) (t : ℕ) → even_quorum o (t % cycle_len o.plan) ≡ even_quorum o t
-even_quorum-again o t = ap (λ p. get_or (places_of o.plan.quorum_weights) p 0) (mul-mod_first t o.stride (cycle_len o.plan))
+even_quorum-again : (o : EvenOrder) (t : ℕ) → even_quorum o (t % cycle_len o.weights) ≡ even_quorum o t
+even_quorum-again o t = ap (λ p. get_or (places_of o.weights.quorum_weights) p 0) (mul-mod_first t o.stride (cycle_len o.weights))
 
 -- the tickets of one cycle, begun again at their end, are all tickets
-pub repeat_order-window : (o : EvenOrder) (order : List ℕ) (first n : ℕ) → 0 < cycle_len o.plan → order ≡ window o 0 (cycle_len o.plan) → repeat_order order first n ≡ window o first n
+pub repeat_order-window : (o : EvenOrder) (order : List ℕ) (first n : ℕ) → 0 < cycle_len o.weights → order ≡ window o 0 (cycle_len o.weights) → repeat_order order first n ≡ window o first n
 repeat_order-window o order first n some is =
-    let d = cycle_len o.plan in
+    let d = cycle_len o.weights in
     let long : length order ≡ d = ap length is ∙ length-map-range_with_len (even_quorum o) 0 d in
     let each : (t : ℕ) → get_or order (t % length order) 0 ≡ even_quorum o t = λ t. ap (λ m. get_or order (t % m) 0) long
     ∙ ap (λ list. get_or list (t % d) 0) is
@@ -102,10 +102,10 @@ repeat_order-window o order first n some is =
     λ i. map (λ t. each t i) (range_with_len first n)
 
 -- k cycles from any ticket on use each quorum k times its weight
-pub times-window : (o : EvenOrder) (first k j : ℕ) → 0 < cycle_len o.plan → IsFair o → times j (window o first (k * cycle_len o.plan)) ≡ k * get_or o.plan.quorum_weights j 0
+pub times-window : (o : EvenOrder) (first k j : ℕ) → 0 < cycle_len o.weights → IsFair o → times j (window o first (k * cycle_len o.weights)) ≡ k * get_or o.weights.quorum_weights j 0
 times-window o first k j some fair =
-    let d = cycle_len o.plan in
-    let weights = o.plan.quorum_weights in
+    let d = cycle_len o.weights in
+    let weights = o.weights.quorum_weights in
     let places = places_of weights in
     let is_j : ℕ → ℕ = λ x. cond (eqb x j) 1 0 in
     let at_place : ℕ → ℕ = λ p. is_j (get_or places p 0) in
@@ -120,29 +120,29 @@ times-window o first k j some fair =
     ∙ times-places_of weights j)
 
 -- so does one cycle from ticket 0
-pub times-round : (o : EvenOrder) (j : ℕ) → 0 < cycle_len o.plan → IsFair o → times j (window o 0 (cycle_len o.plan)) ≡ 1 * get_or o.plan.quorum_weights j 0
+pub times-round : (o : EvenOrder) (j : ℕ) → 0 < cycle_len o.weights → IsFair o → times j (window o 0 (cycle_len o.weights)) ≡ 1 * get_or o.weights.quorum_weights j 0
 times-round o j some fair =
-    let one : cycle_len o.plan ≡ 1 * cycle_len o.plan = omega arith in
+    let one : cycle_len o.weights ≡ 1 * cycle_len o.weights = omega arith in
     ap (λ n. times j (window o 0 n)) one ∙ times-window o 0 1 j some fair
 
 -- a ticket's quorum, by its place in the first cycle
-pub even_quorum-place : (o : EvenOrder) (ticket len stride : ℕ) → len ≡ cycle_len o.plan → stride ≡ o.stride
-    → get_or (places_of o.plan.quorum_weights) (ticket % len * stride % len) 0 ≡ even_quorum o ticket
+pub even_quorum-place : (o : EvenOrder) (ticket len stride : ℕ) → len ≡ cycle_len o.weights → stride ≡ o.stride
+    → get_or (places_of o.weights.quorum_weights) (ticket % len * stride % len) 0 ≡ even_quorum o ticket
 even_quorum-place o ticket len stride long is =
-    ap (λ d. get_or (places_of o.plan.quorum_weights) (ticket % d * stride % d) 0) long
-    ∙ ap (λ s. get_or (places_of o.plan.quorum_weights) (ticket % cycle_len o.plan * s % cycle_len o.plan) 0) is
+    ap (λ d. get_or (places_of o.weights.quorum_weights) (ticket % d * stride % d) 0) long
+    ∙ ap (λ s. get_or (places_of o.weights.quorum_weights) (ticket % cycle_len o.weights * s % cycle_len o.weights) 0) is
     ∙ even_quorum-again o ticket
 
 -- tickets stand for quorums that there are
-pub even_quorum-lt : (o : EvenOrder) (ticket : ℕ) → IsCertificate o.plan → even_quorum o ticket < length o.plan.system.quorums
+pub even_quorum-lt : (o : EvenOrder) (ticket : ℕ) → AreWeights o.weights → even_quorum o ticket < length o.weights.system.quorums
 even_quorum-lt o ticket is =
-    let place = ticket * o.stride % cycle_len o.plan in
-    let inside = mod-lt (ticket * o.stride) {m = cycle_len o.plan} is.some_quorum in
-    omega (arith, places_of-lt o.plan.quorum_weights place inside, is.quorums)
+    let place = ticket * o.stride % cycle_len o.weights in
+    let inside = mod-lt (ticket * o.stride) {m = cycle_len o.weights} is.some_quorum in
+    omega (arith, places_of-lt o.weights.quorum_weights place inside, is.quorums)
 
-pub All-window : (o : EvenOrder) (first n : ℕ) → IsCertificate o.plan → All (λ j. j < length o.plan.system.quorums) (window o first n)
+pub All-window : (o : EvenOrder) (first n : ℕ) → AreWeights o.weights → All (λ j. j < length o.weights.system.quorums) (window o first n)
 All-window o first n is =
-    All-from_get_or (λ j. j < length o.plan.system.quorums) (window o first n) 0
+    All-from_get_or (λ j. j < length o.weights.system.quorums) (window o first n) 0
     (λ k lt. let at = get_or-map-range_with_len (even_quorum o) first n k (first + k) 0 (omega (arith, length-map-range_with_len (even_quorum o) first n)) refl in
     omega (arith, at, even_quorum-lt o (first + k) is))
 
@@ -153,28 +153,28 @@ window-more o before after ticket quorum made here pushed =
     pushed ∙ ap₂ (λ (xs : List ℕ) (x : ℕ). xs ++ x ∷ []) made here ∙ sym (map-range_with_len_more (even_quorum o) 0 ticket ticket (omega arith))
 
 -- the same of several processes' cycles, one after another
-times-rows : (o : EvenOrder) (cycles : List Row) (j : ℕ) → 0 < cycle_len o.plan → IsFair o → times j (quorums_of_rows o (whole_rows o cycles)) ≡ total_of cycles * get_or o.plan.quorum_weights j 0
+times-rows : (o : EvenOrder) (cycles : List Row) (j : ℕ) → 0 < cycle_len o.weights → IsFair o → times j (quorums_of_rows o (whole_rows o cycles)) ≡ total_of cycles * get_or o.weights.quorum_weights j 0
 times-rows o [] j some fair = omega arith
 times-rows o (row ∷ cycles) j some fair =
     let total = sum_by-cons (λ (row : Row). row.1) row cycles in
     omega (
       arith,
-      times-append j (window o row.0 (row.1 * cycle_len o.plan)) (quorums_of_rows o (whole_rows o cycles)),
+      times-append j (window o row.0 (row.1 * cycle_len o.weights)) (quorums_of_rows o (whole_rows o cycles)),
       times-window o row.0 row.1 j some fair,
       times-rows o cycles j some fair,
-      ap (λ n. n * get_or o.plan.quorum_weights j 0) total,
+      ap (λ n. n * get_or o.weights.quorum_weights j 0) total,
     )
 
 -- and in any order
-pub times-permuted_rows : (o : EvenOrder) (cycles : List Row) (list : List ℕ) → 0 < cycle_len o.plan → IsFair o → IsPermutation (quorums_of_rows o (whole_rows o cycles)) list
-    → (j : ℕ) → times j list ≡ total_of cycles * get_or o.plan.quorum_weights j 0
+pub times-permuted_rows : (o : EvenOrder) (cycles : List Row) (list : List ℕ) → 0 < cycle_len o.weights → IsFair o → IsPermutation (quorums_of_rows o (whole_rows o cycles)) list
+    → (j : ℕ) → times j list ≡ total_of cycles * get_or o.weights.quorum_weights j 0
 times-permuted_rows o cycles list some fair permuted j =
     sum_by-IsPermutation (λ k. cond (eqb k j) 1 0) (quorums_of_rows o (whole_rows o cycles)) list permuted ∙ times-rows o cycles j some fair
 
-length-rows : (o : EvenOrder) (cycles : List Row) → length (quorums_of_rows o (whole_rows o cycles)) ≡ total_of cycles * cycle_len o.plan
+length-rows : (o : EvenOrder) (cycles : List Row) → length (quorums_of_rows o (whole_rows o cycles)) ≡ total_of cycles * cycle_len o.weights
 length-rows o [] = omega arith
 length-rows o (row ∷ cycles) =
-    let d = cycle_len o.plan in
+    let d = cycle_len o.weights in
     let total = sum_by-cons (λ (row : Row). row.1) row cycles in
     omega (
       arith,
@@ -184,5 +184,5 @@ length-rows o (row ∷ cycles) =
       ap (λ n. n * d) total,
     )
 
-pub length-permuted_rows : (o : EvenOrder) (cycles : List Row) (list : List ℕ) → IsPermutation (quorums_of_rows o (whole_rows o cycles)) list → length list ≡ total_of cycles * cycle_len o.plan
+pub length-permuted_rows : (o : EvenOrder) (cycles : List Row) (list : List ℕ) → IsPermutation (quorums_of_rows o (whole_rows o cycles)) list → length list ≡ total_of cycles * cycle_len o.weights
 length-permuted_rows o cycles list permuted = length_permutation (quorums_of_rows o (whole_rows o cycles)) list permuted ∙ length-rows o cycles

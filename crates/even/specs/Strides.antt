@@ -4,7 +4,7 @@ use Rattle.std.specs.List.{All, range_with_len}
 use Rattle.numbers.specs.Bounds.{max_cycle}
 use Rattle.numbers.specs.Sums.{sum_below}
 use Rattle.divisor.specs.Gcd.{gcd_of}
-use Rattle.certificate.specs.Certificates.{Weighted, IsCertificate, IsOptimal}
+use Rattle.certificate.specs.Certificates.{Weighted, AreWeights}
 use Rattle.even.specs.EvenCycles.{EvenOrder, IsFair}
 use Rattle.even.specs.Slacks.{IsExcess, IsWithin}
 
@@ -31,15 +31,15 @@ abbrev pub strides_of : ℕ → List ℕ
 strides_of len =
     1 ∷ take (strides_tried len) (filter (λ s. gcd_of s len == 1) (map (stride_at len) (range_with_len 0 len)))
 
--- a plan with another stride
+-- weights with another stride
 abbrev pub with_stride : Weighted → ℕ → EvenOrder
-with_stride w stride = record { plan = w; stride = stride }
+with_stride w stride = record { weights = w; stride = stride }
 
 -- none of these strides has a smaller slack: any tickets in a row are within what they are within for
 -- that stride
 abbrev pub IsBestOf : List ℕ → EvenOrder → Type 0
 IsBestOf strides o =
-    All (λ s. (excess : ℕ) → IsWithin (with_stride o.plan s) excess → IsWithin o excess) strides
+    All (λ s. (excess : ℕ) → IsWithin (with_stride o.weights s) excess → IsWithin o excess) strides
 
 -- the first order has the smaller slack: tickets in a row are within some excess for it, and not for
 -- the second order
@@ -53,14 +53,13 @@ pub record IsFirstBest (strides : List ℕ) (o : EvenOrder) : Type 0 where
   pub inside : place < length strides
   pub is : slice_index strides place ≡ o.stride
   pub best : IsBestOf strides o
-  pub earlier : (k : ℕ) → k < place → IsMoreEven o (with_stride o.plan (slice_index strides k))
+  pub earlier : (k : ℕ) → k < place → IsMoreEven o (with_stride o.weights (slice_index strides k))
 
--- what an even cycle keeps: an optimal plan, where the places of each quorum end, the stride, and its
+-- what an even cycle keeps: weights, where the places of each quorum end, the stride, and its
 -- excess
 pub record IsEvenCycle (o : EvenOrder) (ends : List ℕ) (excess : ℕ) : Type 0 where
-  pub certificate : IsCertificate o.plan
-  pub optimal : IsOptimal o.plan
-  pub sums : ends ≡ ends_of o.plan.quorum_weights
+  pub sizes : AreWeights o.weights
+  pub sums : ends ≡ ends_of o.weights.quorum_weights
   pub fair : IsFair o
   pub short : o.stride ≤ max_cycle
   pub smallest : IsExcess o excess

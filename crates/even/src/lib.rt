@@ -1,8 +1,8 @@
-//! An order of a plan's cycle that is even from the first ticket.
+//! An order of a cycle of weights that is even from the first ticket.
 //!
 //! A [`Cycle`](dealer::Cycle) goes by rounds. Whole cycles use each quorum as often as its weight
 //! says, but within one some voters may be used far more than others. An [`EvenCycle`] is a second
-//! order of the same plan. Its places are the quorums, each as often as its weight, one quorum
+//! order, for a plan or any other weights. Its places are the quorums, each as often as its weight, one quorum
 //! after another. Ticket x stands for the quorum at place `x * stride`, counted round the places.
 //! The stride has no divisor in common with the cycle's length, so any tickets of one cycle in a row
 //! use each place once.
@@ -13,7 +13,7 @@
 //! An even cycle is made by trying some strides, and keeps the first one of smallest slack.
 //!
 //! ```text
-//! let Ok(cycle) = EvenCycle::of(alloc, plan) else { .. };
+//! let Ok(cycle) = EvenCycle::of(alloc, plan.into_weights()) else { .. };
 //! let slack = cycle.slack();                 // of any five of nine voters: 770/126, about 6.1
 //! let quorum = cycle.quorum_at(ticket);      // ticket, ticket + 1, ..
 //! ```
@@ -23,7 +23,7 @@
 //! ([`whole_cycles_begin_anywhere`]); and the slack. Not proved: that some other stride or order has
 //! no smaller slack.
 //!
-//! Depends on `certificate`, whose [`Plan`](certificate::Plan) it takes, on definitions of `dealer`,
+//! Depends on `certificate`, whose [`Weights`](certificate::Weights) it takes, on definitions of `dealer`,
 //! and on `quorum_set`, `divisor` and `numbers`.
 #![tactic(auto)]
 

@@ -4,18 +4,18 @@ ghost use Rattle.std.specs.List.Sorted.{IsNonDecreasing};
 ghost use Rattle.even.specs.EvenCycles.{places_of};
 ghost use Rattle.even.specs.Strides.{ends_of};
 
-use certificate::Plan;
+use certificate::Weights;
 use std::alloc::{AllocError, Global};
 
 /// Returns where the places of each quorum end.
-pub(crate) fn ends_of(alloc: Global, plan: &Plan) -> Result<Vec<u64>, AllocError>
-    ensures { IfOk result (λ v. v.items ≡ ends_of plan.now.quorum_weights) }
+pub(crate) fn ends_of(alloc: Global, weights: &Weights) -> Result<Vec<u64>, AllocError>
+    ensures { IfOk result (λ v. v.items ≡ ends_of weights.now.quorum_weights) }
 {
-    let count = plan.coterie().count();
+    let count = weights.coterie().count();
     let mut ends = Vec::with_capacity(alloc, count)?;
     let mut end = 0;
     for quorum in 0..count {
-        end += plan.weight(quorum);
+        end += weights.weight(quorum);
         ends.push(end)?;
     }
     Ok(ends)

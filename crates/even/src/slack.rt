@@ -3,9 +3,9 @@ ghost use Rattle.std.specs.Prelude.{◌≡◌, ◌*◌, ◌<◌, ◌≤◌, slic
 ghost use Rattle.certificate.specs.Certificates.{cycle_ratio};
 ghost use Rattle.even.specs.Slacks.{slack_unit};
 
-use certificate::Plan;
+use certificate::Weights;
 
-/// How far tickets in a row are from the plan's load: a fraction, `excess / unit`.
+/// How far tickets in a row are from the load: a fraction, `excess / unit`.
 ///
 /// Any n tickets in a row use each voter at most n times the load plus this fraction, times the
 /// voter's capacity.
@@ -17,19 +17,19 @@ pub struct Slack {
     pub unit: u64,
 }
 
-/// Returns the denominator of the slacks of a plan.
-pub(crate) fn unit_of(plan: &Plan) -> u64
-    ensures value { result ≡ slack_unit plan.now }
+/// Returns the denominator of the slacks of weights.
+pub(crate) fn unit_of(weights: &Weights) -> u64
+    ensures value { result ≡ slack_unit weights.now }
     ensures small { result ≤ 1000000000 }
 {
-    plan.cycle_len() * plan.ratio().1
+    weights.cycle_len() * weights.ratio().1
 }
 
 /// Returns how much of a slack's unit one ticket gives a voter: the ratio's numerator times the
 /// voter's capacity.
-pub(crate) fn share_of(plan: &Plan, voter: u8) -> u64
-    requires { voter < plan.now.system.voters }
-    ensures { result ≡ (cycle_ratio plan.now).0 * slice_index plan.now.capacities voter }
+pub(crate) fn share_of(weights: &Weights, voter: u8) -> u64
+    requires { voter < weights.now.system.voters }
+    ensures { result ≡ (cycle_ratio weights.now).0 * slice_index weights.now.capacities voter }
 {
-    plan.ratio().0 * plan.capacity(voter)
+    weights.ratio().0 * weights.capacity(voter)
 }

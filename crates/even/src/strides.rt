@@ -13,7 +13,7 @@ ghost use Rattle.even.specs.Strides.{ends_of, stride_at, strides_of, strides_tri
 use crate::leads::greatest_lead;
 use crate::places::quorum_of_place;
 use crate::slack::{share_of, unit_of};
-use certificate::Plan;
+use certificate::Weights;
 use divisor::gcd;
 use std::alloc::{AllocError, Global};
 
@@ -69,13 +69,13 @@ fn near_golden(alloc: Global, len: u64) -> Result<Vec<u64>, AllocError>
 }
 
 /// Returns the quorums of the tickets of one cycle.
-fn order_of(alloc: Global, plan: &Plan, ends: &[u64], stride: u64) -> Result<Vec<usize>, AllocError>
-    requires ends { ends.now ≡ ends_of plan.now.quorum_weights }
+fn order_of(alloc: Global, weights: &Weights, ends: &[u64], stride: u64) -> Result<Vec<usize>, AllocError>
+    requires ends { ends.now ≡ ends_of weights.now.quorum_weights }
     requires short { stride ≤ max_cycle }
     ensures { IfOk result (λ v. v.items
-        ≡ window (with_stride plan.now stride) 0 (cycle_len plan.now)) }
+        ≡ window (with_stride weights.now stride) 0 (cycle_len weights.now)) }
 {
-    let len = plan.cycle_len();
+    let len = weights.cycle_len();
     let mut order = Vec::with_capacity(alloc, len as usize)?;
     for ticket in 0..len {
         order.push(quorum_of_place(ends, ticket * stride % len))?;
@@ -84,47 +84,47 @@ fn order_of(alloc: Global, plan: &Plan, ends: &[u64], stride: u64) -> Result<Vec
 }
 
 /// Returns a voter's greatest lead, given the quorums of the tickets of one cycle.
-fn lead_of(plan: &Plan, stride: u64, order: &[usize], voter: u8) -> u64
-    requires order { order.now ≡ window (with_stride plan.now stride) 0 (cycle_len plan.now) }
-    requires fair { IsFair (with_stride plan.now stride) }
-    requires voter { voter < plan.now.system.voters }
-    ensures { IsGreatestLead plan.now.system voter (slack_unit plan.now)
-        ((cycle_ratio plan.now).0 * slice_index plan.now.capacities voter) order.now result }
+fn lead_of(weights: &Weights, stride: u64, order: &[usize], voter: u8) -> u64
+    requires order { order.now ≡ window (with_stride weights.now stride) 0 (cycle_len weights.now) }
+    requires fair { IsFair (with_stride weights.now stride) }
+    requires voter { voter < weights.now.system.voters }
+    ensures { IsGreatestLead weights.now.system voter (slack_unit weights.now)
+        ((cycle_ratio weights.now).0 * slice_index weights.now.capacities voter) order.now result }
 {
     greatest_lead(
-        plan.coterie(),
+        weights.coterie(),
         order,
         voter,
-        unit_of(plan),
-        share_of(plan, voter),
+        unit_of(weights),
+        share_of(weights, voter),
     )
 }
 
 /// Returns the excess of a stride, given the quorums of the tickets of one cycle.
-fn excess_of(plan: &Plan, stride: u64, order: &[usize]) -> u64
-    requires order { order.now ≡ window (with_stride plan.now stride) 0 (cycle_len plan.now) }
-    requires fair { IsFair (with_stride plan.now stride) }
-    ensures { IsExcess (with_stride plan.now stride) result }
+fn excess_of(weights: &Weights, stride: u64, order: &[usize]) -> u64
+    requires order { order.now ≡ window (with_stride weights.now stride) 0 (cycle_len weights.now) }
+    requires fair { IsFair (with_stride weights.now stride) }
+    ensures { IsExcess (with_stride weights.now stride) result }
 {
     let mut excess = 0;
-    for voter in 0..plan.coterie().voters() {
-        let lead = lead_of(plan, stride, order, voter as u8);
-        let rounded = lead.div_ceil(plan.capacity(voter as u8));
+    for voter in 0..weights.coterie().voters() {
+        let lead = lead_of(weights, stride, order, voter as u8);
+        let rounded = lead.div_ceil(weights.capacity(voter as u8));
         excess = excess.max(rounded);
     }
     excess
 }
 
 /// Returns a stride with its excess.
-fn tried(alloc: Global, plan: &Plan, ends: &[u64], stride: u64) -> Result<Choice, AllocError>
-    requires ends { ends.now ≡ ends_of plan.now.quorum_weights }
+fn tried(alloc: Global, weights: &Weights, ends: &[u64], stride: u64) -> Result<Choice, AllocError>
+    requires ends { ends.now ≡ ends_of weights.now.quorum_weights }
     requires short { stride ≤ max_cycle }
-    requires fair { IsFair (with_stride plan.now stride) }
+    requires fair { IsFair (with_stride weights.now stride) }
     ensures stride { IfOk result (λ choice. choice.stride ≡ stride) }
-    ensures excess { IfOk result (λ choice. IsExcess (with_stride plan.now stride) choice.excess) }
+    ensures excess { IfOk result (λ choice. IsExcess (with_stride weights.now stride) choice.excess) }
 {
-    let order = order_of(alloc, plan, ends, stride)?;
-    let excess = excess_of(plan, stride, &order);
+    let order = order_of(alloc, weights, ends, stride)?;
+    let excess = excess_of(weights, stride, &order);
     Ok(Choice { stride, excess })
 }
 
@@ -141,18 +141,18 @@ fn better_of(first: Choice, second: Choice) -> Choice
 }
 
 /// Returns the first stride of smallest excess among those that are tried.
-pub(crate) fn best_of(alloc: Global, plan: &Plan, ends: &[u64]) -> Result<Choice, AllocError>
-    requires ends { ends.now ≡ ends_of plan.now.quorum_weights }
+pub(crate) fn best_of(alloc: Global, weights: &Weights, ends: &[u64]) -> Result<Choice, AllocError>
+    requires ends { ends.now ≡ ends_of weights.now.quorum_weights }
     ensures short { IfOk result (λ choice. choice.stride ≤ max_cycle) }
-    ensures fair { IfOk result (λ choice. IsFair (with_stride plan.now choice.stride)) }
-    ensures excess { IfOk result (λ choice. IsExcess (with_stride plan.now choice.stride) choice.excess) }
+    ensures fair { IfOk result (λ choice. IsFair (with_stride weights.now choice.stride)) }
+    ensures excess { IfOk result (λ choice. IsExcess (with_stride weights.now choice.stride) choice.excess) }
     ensures first { IfOk result (λ choice.
-        IsFirstBest (strides_of (cycle_len plan.now)) (with_stride plan.now choice.stride)) }
+        IsFirstBest (strides_of (cycle_len weights.now)) (with_stride weights.now choice.stride)) }
 {
-    let strides = near_golden(alloc, plan.cycle_len())?;
-    let mut best = tried(alloc, plan, ends, 1)?;
+    let strides = near_golden(alloc, weights.cycle_len())?;
+    let mut best = tried(alloc, weights, ends, 1)?;
     for stride in &strides {
-        best = better_of(best, tried(alloc, plan, ends, *stride)?);
+        best = better_of(best, tried(alloc, weights, ends, *stride)?);
     }
     Ok(best)
 }

@@ -15,8 +15,8 @@ use Rattle.certificate.specs.Loads.{weight_within}
 use Rattle.certificate.specs.Ratios.{greatest_ratio}
 use Rattle.certificate.proofs.RatioLemmas.{greatest_ratio-bound}
 use Rattle.known_loads.specs.SmallestQuorums.{smallest_size, smallest_capacity}
-use Rattle.certificate.proofs.Duality.{Bears}
-use Rattle.known_loads.proofs.Duality.{Bears-cycle, average, one_quorum}
+use Rattle.certificate.proofs.Duality.{Bears, Bears-cycle}
+use Rattle.known_loads.proofs.Duality.{average, one_quorum}
 
 -- Counts without capacities
 

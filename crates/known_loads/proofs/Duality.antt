@@ -14,34 +14,6 @@ use Rattle.quorum_set.proofs.Meetings.{AllMeet-coterie}
 use Rattle.certificate.specs.Loads.{weight_on}
 use Rattle.certificate.proofs.Duality.{Bears, quorum-Ascends}
 
--- Weights of quorums
-
-weight_step : (h : Bool) (b x less : ℕ) → b * (cond h x 0 + less) ≡ x * cond h b 0 + b * less
-weight_step true b x less = omega arith
-weight_step false b x less = omega arith
-
-Bears-weights : (n : ℕ) (quorums : List (List ℕ)) (weights : List ℕ) → length weights ≡ length quorums
-    → ((j : ℕ) → j < length quorums → Ascends 0 n (get_or quorums j []))
-    → Bears n quorums (sum weights) (λ i. weight_on i quorums weights)
-Bears-weights n [] [] long up weight light each = omega arith
-Bears-weights n [] (x ∷ weights) long up weight light each = absurd (omega arith)
-Bears-weights n (q ∷ quorums) [] long up weight light each = absurd (omega arith)
-Bears-weights n (q ∷ quorums) (x ∷ weights) long up weight light each =
-    let split = sum_below-same n (λ i. weight i * weight_on i (q ∷ quorums) (x ∷ weights)) (λ i. x * cond (has q i) (weight i) 0 + weight i * weight_on i quorums weights)
-    (λ i lt. weight_step (has q i) (weight i) x (weight_on i quorums weights)) in
-    let added = sum_below-add n (λ i. x * cond (has q i) (weight i) 0) (λ i. weight i * weight_on i quorums weights) in
-    let first = sum_below-times n x (λ i. cond (has q i) (weight i) 0) in
-    let members : x * sum_below (λ i. cond (has q i) (weight i) 0) n ≡ x * sum_by weight q =
-    ap (λ t. x * t) (sum_below-members 0 n weight q (up 0 (omega arith))) in
-    let heavy : x * light ≤ x * sum_by weight q = mul-le-mul_left x (each 0 (omega arith)) in
-    let rest = Bears-weights n quorums weights (omega arith) (λ j lt. up (suc j) (omega arith)) weight light (λ j lt. each (suc j) (omega arith)) in
-    let all : sum (x ∷ weights) * light ≡ (x + sum weights) * light = ap (λ t. t * light) (sum_by-cons (λ y. y) x weights) in
-    omega (arith, split, added, first, members, heavy, rest, all)
-
-pub Bears-cycle : (s : QuorumSystem) (weights : List ℕ) → IsCoterie s → length weights ≡ length s.quorums
-    → Bears s.voters s.quorums (sum weights) (λ i. weight_on i s.quorums weights)
-Bears-cycle s weights is long = Bears-weights s.voters s.quorums weights long (λ j lt. quorum-Ascends s j is lt)
-
 -- Two lists of weights
 
 -- a member's weight is within the weight of a set

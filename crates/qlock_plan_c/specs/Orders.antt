@@ -12,7 +12,7 @@ use Rattle.qlock_plan_c.specs.declared.order.Order.TheVariants.{Rounds, Even}
 -- the even order of a plan: of the strides that are tried, its stride is the first of smallest
 -- slack
 abbrev pub IsEvenOrder : Weighted → EvenOrder → Type 0
-IsEvenOrder w o = (o.plan ≡ w) × IsFirstBest (strides_of (cycle_len w)) o
+IsEvenOrder w o = (o.weights ≡ w) × IsFirstBest (strides_of (cycle_len w)) o
 
 -- the order with this number: 0 is the cycle of `dealer`, by rounds, and 1 the even order
 abbrev pub IsOrder : Weighted → ℕ → Order → Type 0
@@ -22,7 +22,7 @@ IsOrder w number (Even o) = (number ≡ 1) × IsEvenOrder w o
 -- the plan of an order
 abbrev pub plan_of : Order → Weighted
 plan_of (Rounds plan) = plan
-plan_of (Even o) = o.plan
+plan_of (Even o) = o.weights
 
 -- the quorum of a ticket
 abbrev pub quorum_by : Order → ℕ → ℕ

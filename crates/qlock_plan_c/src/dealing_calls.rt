@@ -46,7 +46,7 @@ fn even_in(alloc: Global, coterie: &[u8], plan: &[u8]) -> Result<EvenCycle, Inpu
         Ok(planned) => planned,
         Err(fault) => return Err(fault),
     };
-    match EvenCycle::of(alloc, planned.plan) {
+    match EvenCycle::of(alloc, planned.plan.into_weights()) {
         Ok(cycle) => Ok(cycle),
         Err(_) => Err(InputFault::OutOfMemory),
     }

@@ -3,7 +3,7 @@ ghost use Rattle.std.specs.Prelude.{◌≡◌, ◌<◌, ◌+◌, ◌≤◌, IfOk
 ghost use Rattle.numbers.specs.Bounds.{max_tickets};
 ghost use Rattle.qlock_plan_c.specs.Orders.{IsOrder, mask_of, masks_of, plan_of, quorum_by};
 
-use certificate::Plan;
+use certificate::{Plan, Weights};
 use dealer::Cycle;
 use even::EvenCycle;
 use std::alloc::{AllocError, Global};
@@ -24,7 +24,7 @@ impl Order {
         ensures { IfOk result (IsOrder plan number) }
     {
         if number == 1 {
-            return Ok(Order::Even(EvenCycle::of(alloc, plan)?));
+            return Ok(Order::Even(EvenCycle::of(alloc, plan.into_weights())?));
         }
         Ok(Order::Rounds(Cycle::from_plan(alloc, plan)?))
     }
@@ -34,8 +34,8 @@ impl Order {
         ensures { result ≡ mask_of (plan_of self.now) (quorum_by self.now ticket) }
     {
         match self {
-            Order::Rounds(cycle) => mask_in(cycle.plan(), cycle.quorum_at(ticket)),
-            Order::Even(cycle) => mask_in(cycle.plan(), cycle.quorum_at(ticket)),
+            Order::Rounds(cycle) => mask_in(cycle.plan().weights(), cycle.quorum_at(ticket)),
+            Order::Even(cycle) => mask_in(cycle.weights(), cycle.quorum_at(ticket)),
         }
     }
 
@@ -52,10 +52,10 @@ impl Order {
     }
 }
 
-/// Returns the mask of a quorum of a plan.
-fn mask_in(plan: &Plan, quorum: usize) -> u64
-    requires { quorum < length plan.now.system.quorums }
-    ensures { result ≡ mask_of plan.now quorum }
+/// Returns the mask of a quorum.
+fn mask_in(weights: &Weights, quorum: usize) -> u64
+    requires { quorum < length weights.now.system.quorums }
+    ensures { result ≡ mask_of weights.now quorum }
 {
-    plan.coterie().quorum(quorum).bits()
+    weights.coterie().quorum(quorum).bits()
 }

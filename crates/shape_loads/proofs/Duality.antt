@@ -7,7 +7,7 @@ use Rattle.numbers.proofs.CountLemmas.{least_of-le}
 use Rattle.numbers.proofs.SumsBelow.{sum_below-cross}
 use Rattle.quorum_set.specs.Coteries.{QuorumSystem, IsCoterie}
 use Rattle.certificate.specs.Loads.{weight_on, weight_within}
-use Rattle.known_loads.proofs.Duality.{Bears-cycle}
+use Rattle.certificate.proofs.Duality.{Bears-cycle}
 
 -- no cycle whose ratio is at most p / q goes below what the voters' weights show
 pub weak_duality : (s : QuorumSystem) (a b : List ℕ) (capacity : ℕ → ℕ) (p q : ℕ) → IsCoterie s → length a ≡ length s.quorums

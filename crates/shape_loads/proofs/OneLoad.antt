@@ -10,7 +10,7 @@ use Rattle.certificate.specs.Certificates.{Weighted, IsCertificate, IsUnitCertif
 use Rattle.certificate.specs.Certificates.{unit_load, voter_total}
 use Rattle.certificate.specs.Loads.{weight_within}
 use Rattle.certificate.proofs.Optimal.{capacity_total-some}
-use Rattle.certificate.proofs.RatioLemmas.{greatest_ratio-bound, load_of-some}
+use Rattle.certificate.proofs.RatioLemmas.{AreWeights-certificate, greatest_ratio-bound, load_of-some}
 use Rattle.certificate.proofs.UnitCapacities.{IsUnitCertificate-IsCertificate, are_unit-unit_capacities, cycle_ratio-are_unit, load_of-are_unit}
 use Rattle.shape_loads.specs.ShapeLoads.{HasLoad, IsUnitPlan}
 use Rattle.shape_loads.proofs.Duality.{weak_duality}
@@ -37,15 +37,15 @@ module _ (v w : Weighted) (hv : IsCertificate v) (hw : IsCertificate w) (same : 
   pub ratio-one : (cycle_ratio v).0 * ((cycle_ratio w).1 * cycle_len w) ≡ (cycle_ratio w).0 * ((cycle_ratio v).1 * cycle_len v)
   ratio-one =
       let up = ratio-le (lightest_quorum v) (cycle_len w) (cycle_ratio w).0 (cycle_ratio w).1 (capacity_total v) (cycle_ratio v).0 (cycle_ratio v).1 (cycle_len v)
-      (capacity_total-some v hv) (across v w hw same same_capacities) hv.balanced in
+      (capacity_total-some v (AreWeights-certificate v hv)) (across v w hw same same_capacities) hv.balanced in
       let down = ratio-le (lightest_quorum w) (cycle_len v) (cycle_ratio v).0 (cycle_ratio v).1 (capacity_total w) (cycle_ratio w).0 (cycle_ratio w).1 (cycle_len w)
-      (capacity_total-some w hw) (across w v hv (sym same) (sym same_capacities)) hw.balanced in
+      (capacity_total-some w (AreWeights-certificate w hw)) (across w v hv (sym same) (sym same_capacities)) hw.balanced in
       omega (arith, up, down)
 
   pub load-one : load_of v ≡ load_of w
   load-one =
       lowest_terms-same (cycle_ratio v).0 ((cycle_ratio v).1 * cycle_len v) (cycle_ratio w).0 ((cycle_ratio w).1 * cycle_len w)
-      (load_of-some v hv) (load_of-some w hw) ratio-one
+      (load_of-some v (AreWeights-certificate v hv)) (load_of-some w (AreWeights-certificate w hw)) ratio-one
 
 -- Capacities that are all 1
 

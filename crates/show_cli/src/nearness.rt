@@ -1,24 +1,34 @@
 //! Weights that are near the best: how near they are, whom to ask how often, and tickets dealt by them.
 ghost use Rattle.std.specs.Prelude.{◌≤◌, IfErr, IfOk, IfSome};
-ghost use Rattle.numbers.specs.Bounds.{max_dealt};
+ghost use Rattle.numbers.specs.Bounds.{max_cycle, max_dealt};
 ghost use Rattle.commands.specs.Commands.{Refuses, coterie_part};
 ghost use Rattle.commands.specs.Devices.{IsOwn};
 ghost use Rattle.show_cli.specs.Failures.{HasCoterie};
 
 use commands::{Fault, coterie_of};
+use certificate::Weights;
 use coterie_file::Named;
-use near::{NearPlan, near};
+use near::{is_within, near};
 use quorum_set::are_unit;
 use show_command_line::{Form, NearPage};
-use show_figures::Loads;
+use show_figures::{evenly_dealt, loads_of_weights};
 use show_json::near_json;
 use show_words::{push_excess, push_percent, push_quorum_members, push_quotient};
 use std::alloc::{AllocError, Global};
 
-/// Appends the load as a fraction, and in percent if all capacities are 1.
-fn push_fraction(text: &mut String, weights: &NearPlan) -> Result<(), AllocError> {
+/// How long a cycle is at most if no length was asked for.
+const CYCLE: u64 = 1000;
+
+/// By how many millionths of the bound the load of weights is above it at most that are called near.
+const NEAR: u64 = 10_000;
+
+/// Appends the load as a fraction, and whether it is near the best, and in percent if all capacities are 1.
+fn push_fraction(text: &mut String, weights: &Weights) -> Result<(), AllocError> {
     let (part, whole) = weights.load();
-    write!(text, "near load {part}/{whole}")?;
+    if is_within(weights, NEAR) {
+        text.push_str("near ")?;
+    }
+    write!(text, "load {part}/{whole}")?;
     if are_unit(weights.capacities()) {
         text.push_str(", ")?;
         push_percent(text, part, whole)?;
@@ -27,24 +37,23 @@ fn push_fraction(text: &mut String, weights: &NearPlan) -> Result<(), AllocError
 }
 
 /// Appends the load, and how near it is to that of the best weights.
-fn push_load(text: &mut String, weights: &NearPlan) -> Result<(), AllocError> {
-    let load = weights.load();
-    let bound = weights.bound();
+fn push_load(text: &mut String, weights: &Weights) -> Result<(), AllocError> {
+    let loads = loads_of_weights(weights);
+    let (part, whole) = loads.bound;
     push_fraction(text, weights)?;
-    if load == bound {
+    if loads.load == loads.bound {
         return text.push_str(": no weights of these quorums have a smaller load\n");
     }
     text.push_str(": at most ")?;
-    push_excess(text, Loads { load, bound })?;
+    push_excess(text, loads)?;
     write!(
         text,
-        " above the best possible, as no weights of these quorums have a load below {}/{}\n",
-        bound.0, bound.1
+        " above the best possible, as no weights of these quorums have a load below {part}/{whole}\n"
     )
 }
 
 /// Appends the throughput, if some capacity is not 1: 1 divided by the load.
-fn push_throughput(text: &mut String, weights: &NearPlan) -> Result<(), AllocError> {
+fn push_throughput(text: &mut String, weights: &Weights) -> Result<(), AllocError> {
     if are_unit(weights.capacities()) {
         return Ok(());
     }
@@ -62,7 +71,7 @@ fn push_quorum(text: &mut String, named: &Named, quorum: usize) -> Result<(), Al
 }
 
 /// Appends the quorums of positive weight: the share of the requests, and how often a cycle uses each.
-fn push_quorums(text: &mut String, named: &Named, weights: &NearPlan) -> Result<(), AllocError> {
+fn push_quorums(text: &mut String, named: &Named, weights: &Weights) -> Result<(), AllocError> {
     let len = weights.cycle_len();
     write!(
         text,
@@ -79,7 +88,7 @@ fn push_quorums(text: &mut String, named: &Named, weights: &NearPlan) -> Result<
 }
 
 /// Appends that the weights are no plan, unless their load is the bound.
-fn push_no_plan(text: &mut String, weights: &NearPlan) -> Result<(), AllocError> {
+fn push_no_plan(text: &mut String, weights: &Weights) -> Result<(), AllocError> {
     if weights.load() == weights.bound() {
         return Ok(());
     }
@@ -88,13 +97,24 @@ fn push_no_plan(text: &mut String, weights: &NearPlan) -> Result<(), AllocError>
     )
 }
 
+/// Appends that a longer cycle may be nearer to the best, unless the load is near the bound.
+fn push_distance(text: &mut String, weights: &Weights) -> Result<(), AllocError> {
+    if is_within(weights, NEAR) {
+        return Ok(());
+    }
+    text.push_str(
+        "They are more than 1 % above the bound. A longer cycle may come nearer: --cycle N.\n",
+    )
+}
+
 /// Returns the page about these weights.
-fn weights_words(alloc: Global, named: &Named, weights: &NearPlan) -> Result<String, AllocError> {
+fn weights_words(alloc: Global, named: &Named, weights: &Weights) -> Result<String, AllocError> {
     let mut text = String::new(alloc);
     push_load(&mut text, weights)?;
     push_throughput(&mut text, weights)?;
     push_quorums(&mut text, named, weights)?;
     push_no_plan(&mut text, weights)?;
+    push_distance(&mut text, weights)?;
     Ok(text)
 }
 
@@ -102,14 +122,16 @@ fn weights_words(alloc: Global, named: &Named, weights: &NearPlan) -> Result<Str
 fn dealt_words(
     alloc: Global,
     named: &Named,
-    weights: &NearPlan,
+    weights: &Weights,
     count: u64,
 ) -> Result<String, AllocError> {
     let mut text = String::new(alloc);
     push_load(&mut text, weights)?;
-    for (ticket, quorum) in weights.listing(alloc, count as usize)?.iter().enumerate() {
+    let dealt = evenly_dealt(alloc, weights.copy(alloc)?, count)?;
+    for receipt in &dealt.receipts {
+        let ticket = receipt.ticket;
         write!(text, "{ticket}")?;
-        push_quorum(&mut text, named, *quorum)?;
+        push_quorum(&mut text, named, receipt.quorum)?;
     }
     Ok(text)
 }
@@ -119,7 +141,7 @@ fn shown(
     alloc: Global,
     page: &NearPage,
     named: &Named,
-    weights: &NearPlan,
+    weights: &Weights,
 ) -> Result<String, AllocError> {
     match (page.tickets, page.form) {
         (tickets, Form::Json) => near_json(alloc, named, weights, tickets),
@@ -134,7 +156,8 @@ pub(crate) fn near_weights_page(
     page: &NearPage,
     input: &[u8],
 ) -> Result<String, Fault>
-    requires { IfSome page.now.tickets (λ n. n ≤ max_dealt) }
+    requires tickets { IfSome page.now.tickets (λ n. n ≤ max_dealt) }
+    requires cycle { IfSome page.now.cycle (λ n. (1 ≤ n) × (n ≤ max_cycle)) }
     ensures parts { IfOk result (λ _. HasCoterie input.now) }
     ensures refused { IfErr result (λ fault. Refuses fault (coterie_part input.now)) }
     ensures own { IfErr result IsOwn }
@@ -143,7 +166,8 @@ pub(crate) fn near_weights_page(
         Ok(named) => named,
         Err(fault) => return Err(fault),
     };
-    let weights = match near(alloc, named.coterie(), named.capacities()) {
+    let most = page.cycle.unwrap_or(CYCLE);
+    let weights = match near(alloc, named.coterie(), named.capacities(), most) {
         Ok(weights) => weights,
         Err(_) => return Err(Fault::OutOfMemory),
     };

@@ -16,6 +16,7 @@ use Rattle.show_coteries.specs.Names.{IsShapeOf}
 use Rattle.show_coteries.specs.declared.shape.CoterieShape.{CoterieShape}
 use Rattle.show_command_line.specs.Words.{HasFlag, HasShape, HasTexts, IsNamedBy, MayHaveCapacities, MayHaveNumber, NamesNone, Refuses, RefusesUse, picture_word, show_app}
 use Rattle.show_command_line.specs.declared.command.Picture.{Picture}
+use Rattle.show_command_line.specs.declared.command.NearPage.{NearPage}
 use Rattle.show_command_line.specs.declared.command.ShowCommand.TheVariants.{Compare, Coterie, Deal, Explain, ExplainAll, ListFaults, Near, Picture as Show, Waiting, Without}
 
 -- a flag whose value is this text
@@ -34,8 +35,8 @@ NamesNone-deal rows none (Deal dealing) named = none dealing.count named.1
 NamesNone-deal rows none command named = search rules
 
 -- nor does `near` with a number out of range
-pub NamesNone-near : (rows : List Row) → ((number : Option ℕ) → MayHaveNumber (codes "deal") 0 max_dealt rows number → ⊥) → NamesNone (Some (codes "near", rows))
-NamesNone-near rows none (Near page) named = none page.tickets named.1
+pub NamesNone-near : (rows : List Row) → ((page : NearPage) → IsNamedBy (Some (codes "near", rows)) (Near page) → ⊥) → NamesNone (Some (codes "near", rows))
+NamesNone-near rows none (Near page) named = none page named
 NamesNone-near rows none command named = search rules
 
 -- an argument without values has no texts

@@ -6,7 +6,7 @@ use Rattle.clap.specs.Words.{App, IsAmong, Row, Rule, Text, all_of, fault_of, fi
 use Rattle.clap.specs.declared.builder.action.ArgAction.TheVariants.{SetTrue}
 use Rattle.clap.specs.declared.builder.range.ValueRange.{ValueRange}
 use Rattle.clap.specs.declared.builder.value_parser.ValueParser.TheVariants.{Unsigned}
-use Rattle.numbers.specs.Bounds.{max_clients, max_dealt}
+use Rattle.numbers.specs.Bounds.{max_clients, max_cycle, max_dealt}
 use Rattle.show_faults.specs.Codes.{IsFaultCode, code_in}
 use Rattle.show_faults.specs.declared.explanation.Explanation.{Explanation}
 use Rattle.command_line.specs.Words as qlock
@@ -94,9 +94,13 @@ waiting_app =
 abbrev pub near_deal_rule : Rule
 near_deal_rule = record (optional_rule (codes "deal") 0 max_dealt) { long = Some (codes "deal"); value_names = 1 }
 
--- qlock-show near, with --deal and --json
+-- --cycle N, for `near`
+abbrev pub near_cycle_rule : Rule
+near_cycle_rule = record (optional_rule (codes "cycle") 1 max_cycle) { long = Some (codes "cycle"); value_names = 1 }
+
+-- qlock-show near, with --cycle, --deal and --json
 abbrev pub near_app : App
-near_app = with_rules (new_app (codes "near")) (near_deal_rule ∷ flag_rule (codes "json") ∷ [])
+near_app = with_rules (new_app (codes "near")) (near_cycle_rule ∷ near_deal_rule ∷ flag_rule (codes "json") ∷ [])
 
 -- --capacity NUMBERS.., for `coterie`
 abbrev pub capacity_rule : Rule
@@ -194,7 +198,10 @@ IsNamedBy (Some used) (Deal dealing) =
     × HasFlag (codes "even") used.1 dealing.is_even
     × IsTicketForm used.1 dealing.form
 IsNamedBy (Some used) (Near page) =
-    (used.0 ≡ codes "near") × MayHaveNumber (codes "deal") 0 max_dealt used.1 page.tickets × IsForm used.1 page.form
+    (used.0 ≡ codes "near")
+    × MayHaveNumber (codes "cycle") 1 max_cycle used.1 page.cycle
+    × MayHaveNumber (codes "deal") 0 max_dealt used.1 page.tickets
+    × IsForm used.1 page.form
 IsNamedBy (Some used) (Coterie shape capacities) =
     (used.0 ≡ codes "coterie") × HasShape used.1 shape × MayHaveCapacities used.1 capacities
 IsNamedBy (Some used) (Compare files form) =

@@ -51,6 +51,8 @@ pub struct Dealing {
 pub struct NearPage {
     /// How they are written.
     pub form: Form,
+    /// How many tickets a cycle has at most, 1 to 1,000,000, if a length was asked for.
+    pub cycle: Option<u64>,
     /// How many tickets are dealt by them, 0 to 100,000, in place of a page about them.
     pub tickets: Option<u64>,
 }

@@ -6,7 +6,7 @@ ghost use Rattle.command_line.specs.Words.{IsLocal, used_as};
 ghost use Rattle.command_line.specs.declared.usage.Usage.TheVariants.{Arguments, OutOfMemory};
 ghost use Rattle.show_command_line.specs.Commands.{IsShown};
 ghost use Rattle.show_command_line.specs.declared.command.Picture.{Picture};
-ghost use Rattle.show_command_line.specs.Words.{HasFlag, HasTexts, IsForm, MayHaveCapacities, capacity_rule, coterie_app, planners_app, IsNamedBy, IsTicketForm, MayHaveNumber, Names, Refuses, RefusesUse, compare_app, coteries_app, explain_app, fault_app, files_rule, flag_rule, near_app, near_deal_rule, optional_rule, pages_app, plan_app, picture_app, picture_word, qlock_words, resilience_app, round_rule, show_app, tickets_app, waiting_app, without_app, words_rule};
+ghost use Rattle.show_command_line.specs.Words.{HasFlag, HasTexts, IsForm, MayHaveCapacities, capacity_rule, coterie_app, planners_app, IsNamedBy, IsTicketForm, MayHaveNumber, Names, Refuses, RefusesUse, compare_app, coteries_app, explain_app, fault_app, files_rule, flag_rule, near_app, near_cycle_rule, near_deal_rule, optional_rule, pages_app, plan_app, picture_app, picture_word, qlock_words, resilience_app, round_rule, show_app, tickets_app, waiting_app, without_app, words_rule};
 
 use crate::command::{Dealing, Form, NearPage, Picture, ShowCommand, TicketForm};
 use clap::builder::ValueParser;
@@ -17,7 +17,7 @@ use command_line::{
     without_commands, word_argument,
 };
 use commands::{Command, Usage, read_words};
-use numbers::{MAX_CLIENTS, MAX_DEALT};
+use numbers::{MAX_CLIENTS, MAX_CYCLE, MAX_DEALT};
 use show_coteries::{shape_of, widened};
 use show_faults::explanation_of;
 use show_waiting::Waiting;
@@ -187,7 +187,23 @@ fn near_deal_argument<'a>(alloc: Global) -> Arg<'a>
     .value_name("N")
 }
 
-/// Returns the subcommand `near`, with the option `--deal` and the flag `--json`.
+/// Returns the option `--cycle N` of `near`.
+fn near_cycle_argument<'a>(alloc: Global) -> Arg<'a>
+    ensures rule { rule_of result ≡ near_cycle_rule }
+    ensures local { result.global ≡ false }
+{
+    optional_argument(
+        alloc,
+        "cycle",
+        "How many tickets a cycle has at most, 1 to 1000000; without it 1000",
+        1,
+        MAX_CYCLE,
+    )
+    .long("cycle")
+    .value_name("N")
+}
+
+/// Returns the subcommand `near`, with the options `--cycle` and `--deal` and the flag `--json`.
 fn near_command<'a>(alloc: Global) -> Result<clap::Command<'a>, AllocError>
     ensures app { IfOk result (λ c. app_of c ≡ near_app) }
     ensures local { IfOk result IsLocal }
@@ -197,7 +213,8 @@ fn near_command<'a>(alloc: Global) -> Result<clap::Command<'a>, AllocError>
         "near",
         "Find weights near the best where qlock plan finds no plan, with a bound below which no plan's load is: a coterie",
     );
-    let command = with_argument(Ok(command), near_deal_argument(alloc));
+    let command = with_argument(Ok(command), near_cycle_argument(alloc));
+    let command = with_argument(command, near_deal_argument(alloc));
     with_argument(command, json_argument(alloc))
 }
 
@@ -465,20 +482,26 @@ fn number_if_given(
     }
 }
 
-/// Returns `near` with how many tickets are dealt, if any, and the form that its flag says.
+/// Returns `near` with how long a cycle is at most, how many tickets are dealt, if any, and the form that its flag says.
 fn near_of(used: &ArgMatches) -> Result<ShowCommand, Usage>
     ensures named { IfOk result (IsNamedBy (used_as (codes "near") used.now)) }
     ensures refused { IfErr result (RefusesUse (used_as (codes "near") used.now)) }
     ensures memory { IfErr result (λ usage. usage ≡ Arguments) }
     ensures shown { IfOk result IsShown }
 {
-    match number_if_given(used, "deal", 0, MAX_DEALT) {
-        Ok(tickets) => Ok(ShowCommand::Near(NearPage {
-            form: form_of(used),
-            tickets,
-        })),
-        Err(usage) => Err(usage),
-    }
+    let cycle = match number_if_given(used, "cycle", 1, MAX_CYCLE) {
+        Ok(cycle) => cycle,
+        Err(usage) => return Err(usage),
+    };
+    let tickets = match number_if_given(used, "deal", 0, MAX_DEALT) {
+        Ok(tickets) => tickets,
+        Err(usage) => return Err(usage),
+    };
+    Ok(ShowCommand::Near(NearPage {
+        form: form_of(used),
+        cycle,
+        tickets,
+    }))
 }
 
 /// Returns `waiting` with its numbers.

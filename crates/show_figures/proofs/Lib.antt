@@ -1,4 +1,3 @@
 mod CountLemmas
 mod FigureLemmas
-mod PlanLoads
 mod WeightLemmas

@@ -2,8 +2,9 @@
 use Rattle.std.specs.Prelude.{◌≡◌, ℕ, List, [], length, slice_index_or, IfNone, IfSome}
 use Rattle.numbers.specs.Counts.{greatest_below}
 use Rattle.quorum_set.specs.Coteries.{QuorumSystem}
-use Rattle.certificate.specs.Certificates.{Weighted, load_of}
-use Rattle.near.specs.Nearness.{IsAtMost, IsBounded, IsNear, bound_of}
+use Rattle.certificate.specs.Bounds.{IsBounded, bound_of}
+use Rattle.certificate.specs.Certificates.{AreWeights, Weighted, load_of}
+use Rattle.certificate.specs.Ratios.{IsAtMost}
 use Rattle.failures.specs.Failures.{MeetsEach, system_without}
 use Rattle.coterie_file.specs.Named.{NamedSystem}
 use Rattle.show_figures.specs.declared.comparisons.Loads.{Loads}
@@ -19,7 +20,7 @@ pub record AreLoads (s : QuorumSystem) (given : List ℕ) (loads : Loads) : Type
   pub weights : Weighted
   pub system : weights.system ≡ s
   pub capacities : weights.capacities ≡ given
-  pub near : IsNear weights
+  pub are : AreWeights weights
   pub load : loads.load ≡ load_of weights
   pub bound : loads.bound ≡ bound_of weights
   pub bounded : IsBounded weights

@@ -16,12 +16,12 @@ use Rattle.show_figures.specs.declared.deal.Evenness.{Evenness}
 abbrev pub even_receipt : EvenOrder → ℕ → Receipt
 even_receipt o ticket = record { ticket = ticket; quorum = even_quorum o ticket }
 
--- The tickets below n, dealt in the even order of the plan, with its stride and its slack. The stride is
+-- The tickets below n, dealt in the even order of the weights, with its stride and its slack. The stride is
 -- the first of smallest slack among those that are tried: by the law `even_orders_are_one` of `even`
 -- there is one such order.
 pub record IsEvenDeal (w : Weighted) (n : ℕ) (d : Dealt) : Type 0 where
   pub order : EvenOrder
-  pub plan : order.plan ≡ w
+  pub weights : order.weights ≡ w
   pub first : IsFirstBest (strides_of (cycle_len w)) order
   pub account : d.account ≡ account_of_list w (window order 0 n)
   pub receipts : d.receipts.items ≡ map (even_receipt order) (range_with_len 0 n)

@@ -5,7 +5,7 @@ ghost use Rattle.numbers.specs.Sets.{has};
 ghost use Rattle.quorum_set.specs.Counts.{count_of};
 ghost use Rattle.show_figures.specs.Accounts.{account_of_list, counts_of_list};
 
-use certificate::{Plan, greatest_ratio};
+use certificate::{Weights, greatest_ratio};
 use dealer::{Account, Counts};
 use quorum_set::Coterie;
 use std::alloc::{AllocError, Global};
@@ -62,16 +62,20 @@ fn greatest_of(numbers: &[u64]) -> u64
     greatest
 }
 
-/// Returns the account of a list of a plan's quorums. The counts of the quorums are left out, as no
+/// Returns the account of a list of quorums. The counts of the quorums are left out, as no
 /// page shows them.
-pub(crate) fn account_of(alloc: Global, plan: &Plan, list: &[usize]) -> Result<Account, AllocError>
-    requires { All (λ j. j < length plan.now.system.quorums) list.now }
-    ensures value { IfOk result (λ account. account ≡ account_of_list plan.now list.now) }
-    ensures one_each { IfOk result (λ account. length account.voters ≡ plan.now.system.voters) }
+pub(crate) fn account_of(
+    alloc: Global,
+    weights: &Weights,
+    list: &[usize],
+) -> Result<Account, AllocError>
+    requires { All (λ j. j < length weights.now.system.quorums) list.now }
+    ensures value { IfOk result (λ account. account ≡ account_of_list weights.now list.now) }
+    ensures one_each { IfOk result (λ account. length account.voters ≡ weights.now.system.voters) }
 {
-    let voters = counts_of_voters(alloc, plan.coterie(), list)?;
+    let voters = counts_of_voters(alloc, weights.coterie(), list)?;
     let busiest = greatest_of(&voters);
-    let ratio = greatest_ratio(&voters, plan.capacities());
+    let ratio = greatest_ratio(&voters, weights.capacities());
     Ok(Account {
         drawn: list.len() as u64,
         quorums: Counts::from(Vec::new(alloc)),

@@ -9,13 +9,17 @@ ghost use Rattle.show_figures.specs.Comparisons.{AreLoads, IsLoss, largest_size}
 
 use crate::bounds::smallest_size;
 use crate::sizes::largest_size;
+use certificate::Weights;
 use coterie_file::Named;
 use failures::coterie_without;
-use near::{near, no_load_is_below_the_bound};
+use near::near;
 use planner::{PlannerFault, plan};
 use quorum_set::{Coterie, QSet, are_unit};
 use show_failures::{Resilience, groups_of, resilience_of};
 use std::alloc::{AllocError, Global};
+
+/// At most how long the cycles are whose load is shown where the planner finds no plan.
+const LONGEST: u64 = 100_000;
 
 /// The load of weights of a coterie, and a bound. Each is a numerator and a denominator in lowest
 /// terms.
@@ -57,6 +61,16 @@ pub struct Comparison {
     pub losses: Vec<Loss>,
 }
 
+/// Returns the load of weights, and its bound.
+pub fn loads_of_weights(weights: &Weights) -> Loads
+    ensures { AreLoads weights.now.system weights.now.capacities result }
+{
+    Loads {
+        load: weights.load(),
+        bound: weights.bound(),
+    }
+}
+
 /// Returns the load of the plan that the planner finds, which is its own bound. Returns `None` if the
 /// planner finds none.
 fn plan_loads(
@@ -67,13 +81,8 @@ fn plan_loads(
     requires { AreCapacities capacities.now coterie.now.voters }
     ensures { IfOk result (λ loads. IfSome loads (AreLoads coterie.now capacities.now)) }
 {
-    // Called for its contract alone: no load is below a bound.
-    no_load_is_below_the_bound();
     match plan(alloc, coterie, capacities) {
-        Ok(plan) => Ok(Some(Loads {
-            load: plan.load(),
-            bound: plan.load(),
-        })),
+        Ok(plan) => Ok(Some(loads_of_weights(plan.weights()))),
         Err(PlannerFault::OutOfMemory) => Err(AllocError),
         Err(_) => Ok(None),
     }
@@ -84,11 +93,8 @@ fn near_loads(alloc: Global, coterie: &Coterie, capacities: &[u64]) -> Result<Lo
     requires { AreCapacities capacities.now coterie.now.voters }
     ensures { IfOk result (AreLoads coterie.now capacities.now) }
 {
-    let plan = near(alloc, coterie, capacities)?;
-    Ok(Loads {
-        load: plan.load(),
-        bound: plan.bound(),
-    })
+    let weights = near(alloc, coterie, capacities, LONGEST)?;
+    Ok(loads_of_weights(&weights))
 }
 
 /// Returns the load of the plan that the planner finds. If it finds none, returns the load of the

@@ -5,18 +5,18 @@ ghost use Rattle.numbers.specs.Bounds.{max_dealt};
 ghost use Rattle.show_figures.specs.Deals.{IsEvenDeal, IsRoundsDeal, even_receipt};
 
 use crate::even_order::account_below;
-use certificate::Plan;
+use certificate::{Plan, Weights};
 use commands::dealt;
 use dealer::{Account, Receipt};
 use even::{EvenCycle, Slack};
 use std::alloc::{AllocError, Global};
 
-/// How the even order goes round a plan's cycle, and how even it is.
+/// How the even order goes round a cycle, and how even it is.
 #[derive(Clone, Copy, Debug)]
 pub struct Evenness {
     /// How much further each ticket goes in the ring of the cycle's tickets.
     pub stride: u64,
-    /// How far tickets in a row are from the plan's load.
+    /// How far tickets in a row are from the load.
     pub slack: Slack,
 }
 
@@ -43,12 +43,12 @@ fn receipts_of(alloc: Global, cycle: &EvenCycle, count: u64) -> Result<Vec<Recei
     Ok(receipts)
 }
 
-/// Deals the tickets below `count` in the even order of a plan.
-fn evenly_dealt(alloc: Global, plan: Plan, count: u64) -> Result<Dealt, AllocError>
-    ensures dealt { IfOk result (IsEvenDeal plan count) }
-    ensures one_each { IfOk result (λ d. length d.account.voters ≡ plan.system.voters) }
+/// Deals the tickets below `count` in the even order of weights. Fails only if it runs out of memory.
+pub fn evenly_dealt(alloc: Global, weights: Weights, count: u64) -> Result<Dealt, AllocError>
+    ensures dealt { IfOk result (IsEvenDeal weights count) }
+    ensures one_each { IfOk result (λ d. length d.account.voters ≡ weights.system.voters) }
 {
-    let cycle = EvenCycle::of(alloc, plan)?;
+    let cycle = EvenCycle::of(alloc, weights)?;
     let account = account_below(alloc, &cycle, count)?;
     let receipts = receipts_of(alloc, &cycle, count)?;
     let stride = cycle.stride();
@@ -88,7 +88,7 @@ pub fn dealt_tickets(
     ensures one_each { IfOk result (λ d. length d.account.voters ≡ plan.system.voters) }
 {
     if is_even {
-        evenly_dealt(alloc, plan, count)
+        evenly_dealt(alloc, plan.into_weights(), count)
     } else {
         dealt_by_rounds(alloc, plan, count)
     }

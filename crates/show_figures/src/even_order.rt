@@ -11,7 +11,7 @@ use std::alloc::{AllocError, Global};
 /// Returns the quorums of the tickets below `count`.
 fn quorums_of(alloc: Global, cycle: &EvenCycle, count: u64) -> Result<Vec<usize>, AllocError>
     ensures quorums { IfOk result (λ v. v.items ≡ window cycle.now 0 count) }
-    ensures in_range { IfOk result (λ v. All (λ j. j < length cycle.now.plan.system.quorums) v.items) }
+    ensures in_range { IfOk result (λ v. All (λ j. j < length cycle.now.weights.system.quorums) v.items) }
 {
     let mut quorums = Vec::new(alloc);
     for ticket in 0..count {
@@ -26,9 +26,9 @@ pub(crate) fn account_below(
     cycle: &EvenCycle,
     count: u64,
 ) -> Result<Account, AllocError>
-    ensures value { IfOk result (λ account. account ≡ account_of_list cycle.now.plan (window cycle.now 0 count)) }
-    ensures one_each { IfOk result (λ account. length account.voters ≡ cycle.now.plan.system.voters) }
+    ensures value { IfOk result (λ account. account ≡ account_of_list cycle.now.weights (window cycle.now 0 count)) }
+    ensures one_each { IfOk result (λ account. length account.voters ≡ cycle.now.weights.system.voters) }
 {
     let quorums = quorums_of(alloc, cycle, count)?;
-    account_of(alloc, cycle.plan(), &quorums)
+    account_of(alloc, cycle.weights(), &quorums)
 }

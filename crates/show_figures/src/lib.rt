@@ -12,7 +12,8 @@
 //!   group of voters fails, such as a rack ([`losses_of`]). The load is that of the plan that `planner`
 //!   finds: it is the smallest possible one. If it finds none, the load is that of the weights that `near`
 //!   finds, with a bound.
-//! - [`dealt_tickets`] deals tickets by rounds, as `qlock deal` does, or in the even order.
+//! - [`dealt_tickets`] deals tickets by rounds, as `qlock deal` does, or in the even order;
+//!   [`evenly_dealt`] deals those of any weights in the even order.
 //! - [`share`], [`tenths`] and [`parts_above`] round parts of a whole, and [`name_of`] has the
 //!   name of a voter.
 //!
@@ -58,8 +59,8 @@ mod sizes;
 mod slacks;
 mod totals;
 
-pub use comparisons::{Comparison, Loads, Loss, comparison_of, losses_of};
-pub use deal::{Dealt, Evenness, dealt_tickets};
+pub use comparisons::{Comparison, Loads, Loss, comparison_of, loads_of_weights, losses_of};
+pub use deal::{Dealt, Evenness, dealt_tickets, evenly_dealt};
 pub use figures::{
     QuorumFigure, VoterFigure, WeightFigure, busy_part, quorum_figures, voter_figures,
     weight_figures,

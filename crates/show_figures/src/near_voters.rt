@@ -2,7 +2,7 @@
 ghost use Rattle.std.specs.Prelude.{◌≡◌, ◌<◌, slice_index};
 ghost use Rattle.certificate.specs.Certificates.{cycle_count};
 
-use near::NearPlan;
+use certificate::Weights;
 
 /// How often weights near the best use a voter, and its weight.
 #[derive(Clone, Copy)]
@@ -16,15 +16,15 @@ pub struct NearVoter {
 }
 
 /// Returns a voter's capacity, how often a cycle uses it, and its weight.
-pub fn near_voter(plan: &NearPlan, voter: u8) -> NearVoter
-    requires { voter < plan.now.system.voters }
-    ensures capacity { result.capacity ≡ slice_index plan.now.capacities voter }
-    ensures count { result.count ≡ cycle_count plan.now voter }
-    ensures weight { result.weight ≡ slice_index plan.now.voter_weights voter }
+pub fn near_voter(weights: &Weights, voter: u8) -> NearVoter
+    requires { voter < weights.now.system.voters }
+    ensures capacity { result.capacity ≡ slice_index weights.now.capacities voter }
+    ensures count { result.count ≡ cycle_count weights.now voter }
+    ensures weight { result.weight ≡ slice_index weights.now.voter_weights voter }
 {
     NearVoter {
-        capacity: plan.capacities()[voter as usize],
-        count: plan.count(voter),
-        weight: plan.voter_weights()[voter as usize],
+        capacity: weights.capacity(voter),
+        count: weights.count(voter),
+        weight: weights.voter_weight(voter),
     }
 }

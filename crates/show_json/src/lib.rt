@@ -11,7 +11,7 @@
 //! - [`compare_json`] has the figures of coteries side by side.
 //!
 //! They are proved safe; what they say is only tested. The figures come from functions that pin them: of
-//! `show_figures`, `show_failures`, `failures`, `certificate` and `near`.
+//! `show_figures`, `show_failures`, `failures`, `certificate` and `even`.
 //!
 //! Depends on these, on `show_compare` for what to compare, and on `serde` and `serde_json` for JSON.
 //!

@@ -5,10 +5,10 @@ ghost use Rattle.certificate.specs.Certificates.{cycle_count};
 use crate::parts::{
     Fraction, Quorum, Ticket, Voter, fraction_of, line_of, quorum_names, ticket_of,
 };
+use certificate::Weights;
 use coterie_file::Named;
-use near::NearPlan;
 use serde::Serialize;
-use show_figures::{NearVoter, name_of, near_voter};
+use show_figures::{NearVoter, evenly_dealt, name_of, near_voter};
 use std::alloc::{AllocError, Global};
 
 /// Weights that are near the best.
@@ -29,10 +29,10 @@ struct NearPage<'a> {
 fn quorums_of<'a>(
     alloc: Global,
     named: &'a Named,
-    plan: &NearPlan,
+    weights: &Weights,
 ) -> Result<Vec<Quorum<'a>>, AllocError> {
     let mut quorums = Vec::new(alloc);
-    for (number, weight) in plan.quorum_weights().iter().enumerate() {
+    for (number, weight) in weights.quorum_weights().iter().enumerate() {
         if *weight > 0 {
             quorums.push(Quorum {
                 number,
@@ -45,18 +45,18 @@ fn quorums_of<'a>(
 }
 
 /// Returns a voter: its name, its capacity, how often a cycle uses it, and its weight.
-fn voter_of<'a>(named: &'a Named, plan: &NearPlan, voter: u8) -> Voter<'a>
-    requires { voter < plan.now.system.voters }
+fn voter_of<'a>(named: &'a Named, weights: &Weights, voter: u8) -> Voter<'a>
+    requires { voter < weights.now.system.voters }
     ensures name { result.name.now ≡ slice_index_or named.now.names voter (codes "?") }
-    ensures capacity { result.capacity ≡ slice_index plan.now.capacities voter }
-    ensures count { result.count ≡ cycle_count plan.now voter }
-    ensures weight { result.weight ≡ slice_index plan.now.voter_weights voter }
+    ensures capacity { result.capacity ≡ slice_index weights.now.capacities voter }
+    ensures count { result.count ≡ cycle_count weights.now voter }
+    ensures weight { result.weight ≡ slice_index weights.now.voter_weights voter }
 {
     let NearVoter {
         capacity,
         count,
         weight,
-    } = near_voter(plan, voter);
+    } = near_voter(weights, voter);
     Voter {
         name: name_of(named, voter),
         capacity,
@@ -69,25 +69,26 @@ fn voter_of<'a>(named: &'a Named, plan: &NearPlan, voter: u8) -> Voter<'a>
 fn voters_of<'a>(
     alloc: Global,
     named: &'a Named,
-    plan: &NearPlan,
+    weights: &Weights,
 ) -> Result<Vec<Voter<'a>>, AllocError> {
     let mut voters = Vec::new(alloc);
-    for number in 0..plan.coterie().voters() {
-        voters.push(voter_of(named, plan, number as u8))?;
+    for number in 0..weights.coterie().voters() {
+        voters.push(voter_of(named, weights, number as u8))?;
     }
     Ok(voters)
 }
 
-/// Returns the tickets below `count`, dealt by rounds.
+/// Returns the tickets below `count`, dealt in the even order.
 fn tickets_of<'a>(
     alloc: Global,
     named: &'a Named,
-    plan: &NearPlan,
+    weights: &Weights,
     count: u64,
 ) -> Result<Vec<Ticket<'a>>, AllocError> {
     let mut tickets = Vec::new(alloc);
-    for (ticket, quorum) in plan.listing(alloc, count as usize)?.iter().enumerate() {
-        tickets.push(ticket_of(alloc, named, ticket as u64, *quorum)?)?;
+    let dealt = evenly_dealt(alloc, weights.copy(alloc)?, count)?;
+    for receipt in &dealt.receipts {
+        tickets.push(ticket_of(alloc, named, receipt.ticket, receipt.quorum)?)?;
     }
     Ok(tickets)
 }
@@ -98,19 +99,19 @@ fn tickets_of<'a>(
 pub fn near_json(
     alloc: Global,
     named: &Named,
-    plan: &NearPlan,
+    weights: &Weights,
     tickets: Option<u64>,
 ) -> Result<String, AllocError> {
     let tickets = match tickets {
-        Some(count) => Some(tickets_of(alloc, named, plan, count)?),
+        Some(count) => Some(tickets_of(alloc, named, weights, count)?),
         None => None,
     };
     let page = NearPage {
-        load: fraction_of(plan.load()),
-        bound: fraction_of(plan.bound()),
-        cycle: plan.cycle_len(),
-        quorums: quorums_of(alloc, named, plan)?,
-        voters: voters_of(alloc, named, plan)?,
+        load: fraction_of(weights.load()),
+        bound: fraction_of(weights.bound()),
+        cycle: weights.cycle_len(),
+        quorums: quorums_of(alloc, named, weights)?,
+        voters: voters_of(alloc, named, weights)?,
         tickets,
     };
     line_of(alloc, &page)

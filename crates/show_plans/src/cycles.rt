@@ -23,7 +23,7 @@ const LEAST_WIDTH: u64 = 680;
 
 /// Returns how the count of the busiest voter grows in the even order of a plan, and the order's slack.
 fn even_samples(alloc: Global, plan: &Plan) -> Result<(Vec<Sample>, Slack), AllocError> {
-    let even = EvenCycle::of(alloc, plan.copy(alloc)?)?;
+    let even = EvenCycle::of(alloc, plan.weights().copy(alloc)?)?;
     let samples = samples_of(alloc, plan, Order::Even(&even), POINTS)?;
     Ok((samples, even.slack()))
 }

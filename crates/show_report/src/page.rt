@@ -92,7 +92,7 @@ pub fn report_page(
     let used = used_coterie(alloc, plan)?;
     let borne = borne_by(plan, &used);
     let losses = losses_of(alloc, named)?;
-    let slack = slack_of(alloc, plan)?;
+    let slack = slack_of(alloc, plan.weights())?;
     let quorums = quorum_figures(alloc, plan)?;
     let voters = voter_figures(alloc, plan)?;
     let weights = weight_figures(alloc, plan)?;

@@ -1,7 +1,7 @@
 //! How near weights are to the best.
 ghost use Rattle.std.specs.Prelude.{◌<◌};
 
-use near::near;
+use near::{is_within, near};
 use quorum_set::{Coterie, QSet};
 use rand_core::{Rng, SeedableRng};
 use rand_pcg::Pcg64;
@@ -63,14 +63,7 @@ fn draw_capacities(
     Ok(capacities)
 }
 
-/// Returns whether a load is less than 0.02 % above a bound.
-fn is_near(load: (u64, u64), bound: (u64, u64)) -> bool {
-    let own = u128::from(load.0).saturating_mul(u128::from(bound.1));
-    let least = u128::from(bound.0).saturating_mul(u128::from(load.1));
-    (own >= least) & (own.saturating_mul(10_000) < least.saturating_mul(10_002))
-}
-
-/// Returns whether the weights for the coterie of a seed are near the best, and short.
+/// Returns whether the weights for the coterie of a seed are near the best, in short cycles and in long ones.
 fn are_found(alloc: Global, size: (u8, usize), greatest: u64, seed: u64) -> Result<bool, Fail> {
     let mut rng = Pcg64::seed_from_u64(seed);
     let voters = usize::from(size.0);
@@ -79,8 +72,9 @@ fn are_found(alloc: Global, size: (u8, usize), greatest: u64, seed: u64) -> Resu
     if !are_capacities(&capacities, coterie.voters()) {
         return Ok(false);
     }
-    let weights = near(alloc, &coterie, &capacities)?;
-    Ok(is_near(weights.load(), weights.bound()) & (weights.cycle_len() < 100_000))
+    let short = near(alloc, &coterie, &capacities, 1000)?;
+    let long = near(alloc, &coterie, &capacities, 100_000)?;
+    Ok(is_within(&short, 3000) & is_within(&long, 200))
 }
 
 /// Returns whether this holds for each seed.

@@ -1,4 +1,5 @@
 use Rattle.certificate.proofs.EvenCycles.{busiest_of-even, ratio_of-even}
+use Rattle.certificate.proofs.RatioLemmas.{AreWeights-certificate}
 use Rattle.dealer.proofs.RatioLemmas.{IsLeastRatio-cycles}
 use Rattle.even.proofs.WindowLemmas.{length-permuted_rows, times-permuted_rows, times-window}
 use Rattle.even.specs.EvenCycles.{total_of}
@@ -12,13 +13,13 @@ returns-clause-shares c = λ o cycles list is fair permuted. times-permuted_rows
 
 pub returns-clause-busiest : goal.returns-clause-busiest
 returns-clause-busiest c = λ o cycles list is fair permuted.
-    busiest_of-even o.plan (total_of cycles) list is.quorums (times-permuted_rows o cycles list is.some_quorum fair permuted)
+    busiest_of-even o.weights (total_of cycles) list is.quorums (times-permuted_rows o cycles list is.some_quorum fair permuted)
 
 pub returns-clause-ratio : goal.returns-clause-ratio
 returns-clause-ratio c = λ o cycles list is fair permuted.
-    ratio_of-even o.plan (total_of cycles) list is (times-permuted_rows o cycles list is.some_quorum fair permuted)
+    ratio_of-even o.weights (total_of cycles) list is (times-permuted_rows o cycles list is.some_quorum fair permuted)
 
 pub returns-clause-least : goal.returns-clause-least
 returns-clause-least c = λ o cycles list is optimal fair permuted.
-    IsLeastRatio-cycles o.plan (total_of cycles) _ _ is optimal (length-permuted_rows o cycles list permuted)
-    (ratio_of-even o.plan (total_of cycles) list is (times-permuted_rows o cycles list is.some_quorum fair permuted))
+    IsLeastRatio-cycles o.weights (total_of cycles) _ _ is optimal (length-permuted_rows o cycles list permuted)
+    (ratio_of-even o.weights (total_of cycles) list (AreWeights-certificate o.weights is) (times-permuted_rows o cycles list is.some_quorum fair permuted))

@@ -6,8 +6,8 @@ use Rattle.even.proofs.places.ends_of.Goals as goal
 
 pub overflow_add-end : goal.overflow_add-end
 overflow_add-end c =
-    let weights = c.args.plan.now.quorum_weights in
-    let is = c.weight-end.ensures.certificate in
+    let weights = c.args.weights.now.quorum_weights in
+    let is = c.weight-end.ensures.weights in
     omega (
       arith,
       c.weight-end.ensures.value,
@@ -19,7 +19,7 @@ overflow_add-end c =
 
 pub loop-quorum-preserved : goal.loop-quorum-preserved
 loop-quorum-preserved c =
-    let weights = c.args.plan.now.quorum_weights in
+    let weights = c.args.weights.now.quorum_weights in
     let q = c.loop-quorum.quorum in
     let next = sum_below-next (λ k. get_or weights k 0) q in
     record {

@@ -5,6 +5,6 @@ use Rattle.even.proofs.places.ends_of.Given as goal
 
 abbrev pub invariant-loop-quorum : goal.invariant-loop-quorum
 invariant-loop-quorum l = record {
-  end_is : l.end ≡ sum_below (λ k. slice_index l.plan.quorum_weights k) l.quorum;
-  ends_are : l.ends.items ≡ map (λ j. sum_below (λ k. slice_index l.plan.quorum_weights k) (j + 1)) (range_with_len 0 l.quorum);
+  end_is : l.end ≡ sum_below (λ k. slice_index l.weights.quorum_weights k) l.quorum;
+  ends_are : l.ends.items ≡ map (λ j. sum_below (λ k. slice_index l.weights.quorum_weights k) (j + 1)) (range_with_len 0 l.quorum);
 }

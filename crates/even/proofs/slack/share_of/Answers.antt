@@ -5,8 +5,8 @@ use Rattle.even.proofs.slack.share_of.Goals as goal
 
 pub overflow_mul-result : goal.overflow_mul-result
 overflow_mul-result c =
-    let is = c.ratio.ensures.certificate in
-    let small = cycle_ratio-small c.args.plan.now is in
+    let is = c.ratio.ensures.weights in
+    let small = cycle_ratio-small c.args.weights.now is in
     let capacity = is.capacities.in_range c.args.voter 0 (omega (arith, is.capacities.one_each, c.requires)) in
     let product = mul-le c.ratio.result.0 c.capacity.result 1000000 1000 (omega (arith, ap (λ r. r.0) c.ratio.ensures.value, small.0)) (omega (arith, c.capacity.ensures.value, capacity.1)) in
     omega (arith, product)

@@ -6,8 +6,8 @@ use Rattle.even.proofs.slack.unit_of.Goals as goal
 
 unit_small : (c : After-ratio) → c.cycle_len.result * c.ratio.result.1 ≤ 1000000000
 unit_small c =
-    let is = c.ratio.ensures.certificate in
-    let small = cycle_ratio-small c.args.plan.now is in
+    let is = c.ratio.ensures.weights in
+    let small = cycle_ratio-small c.args.weights.now is in
     mul-le c.cycle_len.result c.ratio.result.1 1000000 1000 (omega (arith, c.cycle_len.ensures.value, is.few_quorums)) (omega (arith, ap (λ r. r.1) c.ratio.ensures.value, small.1))
 
 pub overflow_mul-result : goal.overflow_mul-result

@@ -27,20 +27,20 @@ record IsChoice (w : Weighted) (strides : List ℕ) (choice : Choice) : Type 0 w
   first : IsFirstBest strides (with_stride w choice.stride)
 
 -- the strides that are tried are fair, and short
-strides_fair : (c : After-deref-stride-items) → All (λ s. IsFair (with_stride c.args.plan.now s)) c.deref-stride-items.result.now
+strides_fair : (c : After-deref-stride-items) → All (λ s. IsFair (with_stride c.args.weights.now s)) c.deref-stride-items.result.now
 strides_fair c =
-    subst (λ list. All (λ s. IsGcd s (cycle_len c.args.plan.now) 1) list) (sym c.deref-stride-items.ensures.value)
+    subst (λ list. All (λ s. IsGcd s (cycle_len c.args.weights.now) 1) list) (sym c.deref-stride-items.ensures.value)
     (subst (λ len. All (λ s. IsGcd s len 1) c.in_ok-strides.strides.items) c.cycle_len.ensures.value c.in_ok-strides.ensures.fair)
 
 strides_short : (c : After-deref-stride-items) → All (λ s. s ≤ max_cycle) c.deref-stride-items.result.now
 strides_short c = subst (λ list. All (λ s. s ≤ max_cycle) list) (sym c.deref-stride-items.ensures.value) c.in_ok-strides.ensures.short
 
 pub tried-requires-clause-fair : goal.tried-requires-clause-fair
-tried-requires-clause-fair c = one_is_fair c.args.plan.now
+tried-requires-clause-fair c = one_is_fair c.args.weights.now
 
 pub loop-stride-init : goal.loop-stride-init
 loop-stride-init c =
-    let w = c.args.plan.now in
+    let w = c.args.weights.now in
     let best = c.in_ok-best.best in
     let one = c.in_ok-best.ensures.stride in
     record {
@@ -56,7 +56,7 @@ tried-requires-in-loop-stride-clause-fair c =
 
 pub loop-stride-preserved : goal.loop-stride-preserved
 loop-stride-preserved c =
-    let w = c.args.plan.now in
+    let w = c.args.weights.now in
     let items = c.deref-stride-items.result.now in
     let i = c.loop-stride.stride-index in
     let at = (goal.at.loop-stride-preserved c).After-deref-stride-items in
@@ -94,7 +94,7 @@ loop-stride-preserved c =
 
 pub returns-clause-first : goal.returns-clause-first
 returns-clause-first c =
-    let w = c.args.plan.now in
+    let w = c.args.weights.now in
     let items = c.deref-stride-items.result.now in
     let all = take_all c.loop-stride.stride-index items (omega arith)
     ∙ c.deref-stride-items.ensures.value

@@ -16,27 +16,27 @@ use Rattle.even.proofs.strides.lead_of.Goals as goal
 
 pub greatest_lead-requires-clause-order : goal.greatest_lead-requires-clause-order
 greatest_lead-requires-clause-order c =
-    let w = c.args.plan.now in
+    let w = c.args.weights.now in
     subst (λ s. All (λ j. j < length s.quorums) c.args.order.now) (sym c.coterie.ensures.value)
-    (subst (λ list. All (λ j. j < length w.system.quorums) list) (sym c.requires.order) (All-window (with_stride w c.args.stride) 0 (cycle_len w) c.coterie.ensures.certificate))
+    (subst (λ list. All (λ j. j < length w.system.quorums) list) (sym c.requires.order) (All-window (with_stride w c.args.stride) 0 (cycle_len w) c.coterie.ensures.weights))
 
 pub greatest_lead-requires-clause-some : goal.greatest_lead-requires-clause-some
 greatest_lead-requires-clause-some c =
-    let w = c.args.plan.now in
-    omega (arith, ap length c.requires.order, length-map-range_with_len (even_quorum (with_stride w c.args.stride)) 0 (cycle_len w), c.coterie.ensures.certificate.some_quorum)
+    let w = c.args.weights.now in
+    omega (arith, ap length c.requires.order, length-map-range_with_len (even_quorum (with_stride w c.args.stride)) 0 (cycle_len w), c.coterie.ensures.weights.some_quorum)
 
 pub greatest_lead-requires-clause-short : goal.greatest_lead-requires-clause-short
 greatest_lead-requires-clause-short c =
-    let w = c.args.plan.now in
-    omega (arith, ap length c.requires.order, length-map-range_with_len (even_quorum (with_stride w c.args.stride)) 0 (cycle_len w), c.coterie.ensures.certificate.few_quorums)
+    let w = c.args.weights.now in
+    omega (arith, ap length c.requires.order, length-map-range_with_len (even_quorum (with_stride w c.args.stride)) 0 (cycle_len w), c.coterie.ensures.weights.few_quorums)
 
 pub greatest_lead-requires-clause-whole : goal.greatest_lead-requires-clause-whole
 greatest_lead-requires-clause-whole c =
-    let w = c.args.plan.now in
+    let w = c.args.weights.now in
     let o = with_stride w c.args.stride in
     let order = c.args.order.now in
     let i = c.args.voter in
-    let is = c.coterie.ensures.certificate in
+    let is = c.coterie.ensures.weights in
     let long = ap length c.requires.order ∙ length-map-range_with_len (even_quorum o) 0 (cycle_len w) in
     let names : (j : ℕ) → times j order ≡ 1 * get_or w.quorum_weights j 0 = λ j.
     ap (times j) c.requires.order ∙ times-round o j is.some_quorum c.requires.fair in
@@ -52,7 +52,7 @@ greatest_lead-requires-clause-whole c =
 
 pub returns : goal.returns
 returns c =
-    let w = c.args.plan.now in
+    let w = c.args.weights.now in
     let order = c.args.order.now in
     let i = c.args.voter in
     let lead = c.greatest_lead.result in

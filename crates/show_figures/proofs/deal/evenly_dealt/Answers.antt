@@ -7,9 +7,9 @@ use Rattle.show_figures.proofs.deal.evenly_dealt.Goals as goal
 pub returns-clause-dealt : goal.returns-clause-dealt
 returns-clause-dealt c = record {
   order = c.in_ok-cycle.cycle;
-  plan = c.in_ok-cycle.ensures.plan;
+  weights = c.in_ok-cycle.ensures.weights;
   first = c.in_ok-cycle.ensures.first;
-  account = c.in_ok-account.ensures.value ∙ ap (λ (w : Weighted). account_of_list w (window c.in_ok-cycle.cycle 0 c.args.count)) c.in_ok-cycle.ensures.plan;
+  account = c.in_ok-account.ensures.value ∙ ap (λ (w : Weighted). account_of_list w (window c.in_ok-cycle.cycle 0 c.args.count)) c.in_ok-cycle.ensures.weights;
   receipts = c.in_ok-receipts.ensures;
   evenness = _;
   told = refl;

@@ -9,7 +9,7 @@ loop-ticket-preserved c =
     let o = c.args.cycle.now in
     let t = c.loop-ticket.ticket in
     let before = c.loop-ticket.quorums.items in
-    let there : ℕ → Type 0 = λ j. j < length o.plan.system.quorums in
+    let there : ℕ → Type 0 = λ j. j < length o.weights.system.quorums in
     record {
       so_far = c.in_ok-push.ensures.items ∙ ap₂ (λ (xs : List ℕ) (x : ℕ). xs ++ x ∷ []) c.loop-ticket.invariant.so_far c.quorum_at.ensures.value
           ∙ sym (map-range_with_len_more (even_quorum o) 0 t t (omega arith));

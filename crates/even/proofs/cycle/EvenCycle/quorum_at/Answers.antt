@@ -10,18 +10,18 @@ use Rattle.even.proofs.cycle.EvenCycle.quorum_at.Goals as goal
 
 pub quorum_of_place-requires : goal.quorum_of_place-requires
 quorum_of_place-requires c =
-    subst IsNonDecreasing (sym (c.deref.ensures.value ∙ c.self.invariant.sums)) (IsNonDecreasing-ends_of c.self.inside.plan.quorum_weights)
+    subst IsNonDecreasing (sym (c.deref.ensures.value ∙ c.self.invariant.sums)) (IsNonDecreasing-ends_of c.self.inside.weights.quorum_weights)
 
 -- the search is at the ticket's place
-quorum_found : (c : After-quorum_of_place) → c.quorum_of_place.result ≡ even_quorum (with_stride c.self.inside.plan c.self.inside.stride) c.args.ticket
+quorum_found : (c : After-quorum_of_place) → c.quorum_of_place.result ≡ even_quorum (with_stride c.self.inside.weights c.self.inside.stride) c.args.ticket
 quorum_found c =
-    let weights = c.self.inside.plan.quorum_weights in
+    let weights = c.self.inside.weights.quorum_weights in
     let len = c.cycle_len-len.result in
     let long = c.cycle_len-len.ensures.value in
     let place = c.args.ticket % len * c.self.inside.stride in
-    let inside : place % len < sum weights = omega (arith, mod-lt place {m = len} (omega (arith, long, c.self.invariant.certificate.some_quorum)), long) in
+    let inside : place % len < sum weights = omega (arith, mod-lt place {m = len} (omega (arith, long, c.self.invariant.sizes.some_quorum)), long) in
     c.quorum_of_place.ensures weights (c.deref.ensures.value ∙ c.self.invariant.sums) inside
-    ∙ even_quorum-place (with_stride c.self.inside.plan c.self.inside.stride) c.args.ticket len c.self.inside.stride long refl
+    ∙ even_quorum-place (with_stride c.self.inside.weights c.self.inside.stride) c.args.ticket len c.self.inside.stride long refl
 
 pub returns-clause-value : goal.returns-clause-value
 returns-clause-value c =
@@ -29,6 +29,6 @@ returns-clause-value c =
 
 pub returns-clause-in_range : goal.returns-clause-in_range
 returns-clause-in_range c =
-    let o = with_stride c.self.inside.plan c.self.inside.stride in
+    let o = with_stride c.self.inside.weights c.self.inside.stride in
     let found = quorum_found (goal.at.returns-clause-in_range c).After-quorum_of_place in
-    omega (arith, found, even_quorum-lt o c.args.ticket c.self.invariant.certificate, ap (λ (o : EvenOrder). length o.plan.system.quorums) c.self.view_is)
+    omega (arith, found, even_quorum-lt o c.args.ticket c.self.invariant.sizes, ap (λ (o : EvenOrder). length o.weights.system.quorums) c.self.view_is)

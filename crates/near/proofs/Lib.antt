@@ -1,3 +1,0 @@
-mod Bounds
-mod FaultSums
-mod Rounds
