@@ -87,7 +87,7 @@ enum {
 
 /* ---- A voter: it has one vote, and grants it to one client at a time. `n` is always QLOCK_VOTER_BYTES. */
 
-/* Makes a new voter with the number `id`, 0 to 63, that may give `limit` grants, 1 to QLOCK_MAX_STAMP. QLOCK_MAX_STAMP is a
+/* Makes a new voter with the number `id`, 0 to 63. No grant of it has a number above `limit`, 1 to QLOCK_MAX_STAMP. QLOCK_MAX_STAMP is a
    good limit, unless lost voters are to be reborn. A voter is made once: this call in place of one that was lost breaks the lock (see qlock_voter_reborn).
 
    QLOCK_BAD_ARGUMENT  `id` or `limit` is out of range
@@ -118,17 +118,18 @@ int32_t qlock_voter_remind(const uint8_t *state, size_t n, uint8_t *out, size_t 
    QLOCK_BAD_STATE  the bytes are no voter */
 int32_t qlock_voter_held(const uint8_t *state, size_t n, uint64_t *client, uint64_t *stamp, uint64_t *grant);
 
-/* Makes a voter that lost its state, in place of qlock_voter_new. It gave at most `above` grants before, and may give `limit`
-   grants in all, 1 to QLOCK_MAX_STAMP. If it gave more than `above`, two clients may have one grant number, and a guard can't
+/* Makes a voter that lost its state, in place of qlock_voter_new. Its grants have numbers above `above`, up to
+   `limit`, 1 to QLOCK_MAX_STAMP. If it gave a grant above `above` before, two clients may have one grant number, and a guard can't
    tell them apart. So make each voter with a limit far below QLOCK_MAX_STAMP, a block of grants, and note the blocks in the
    settings of the cluster: a lost voter is reborn with `above` at the end of its last block, and with the next block. Two clients
-   may be inside until all of them are idle at one moment, as they are and as saved: until then only the guard's word counts.
+   may be inside until all of them are idle at one moment, as they are and as saved: until then only the guard's word counts. A vote
+   that nobody has is different: it may be dropped, and begun again by this call, at any time.
 
    QLOCK_BAD_ARGUMENT  `id` or `limit` is out of range, or `above` is greater than `limit`
    QLOCK_BAD_STATE     `n` is not QLOCK_VOTER_BYTES */
 int32_t qlock_voter_reborn(uint8_t id, uint64_t above, uint64_t limit, uint8_t *state, size_t n);
 
-/* Raises the number of grants that the voter may give in all. Note the new block in the settings before.
+/* Raises the highest number that a grant of the voter may have. Note the new block in the settings before.
 
    QLOCK_BAD_ARGUMENT  `limit` is below the voter's limit, or above QLOCK_MAX_STAMP
    QLOCK_BAD_STATE     the bytes are no voter */

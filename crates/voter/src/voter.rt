@@ -36,7 +36,7 @@ impl Model for Voter {
 }
 
 impl Voter {
-    /// Returns a new voter with this number, 0 to 63. It may give `limit` grants, 1 to 2^62.
+    /// Returns a new voter with this number, 0 to 63. No grant of it has a number above `limit`, 1 to 2^62.
     pub fn new(id: u8, limit: u64) -> Self
         requires id { id < max_voters }
         requires least { 1 ≤ limit }
@@ -48,11 +48,12 @@ impl Voter {
         }
     }
 
-    /// Returns a voter that lost its state. It gave at most `above` grants before, and may give `limit`
-    /// grants in all, also 1 to 2^62.
+    /// Returns a voter that lost its state. Its grants have numbers above `above`, up to `limit`, also 1 to
+    /// 2^62.
     ///
-    /// If it gave more, two clients may have one grant number. So make a voter with a limit below 2^62,
-    /// a *block* of grants; if it is lost, `above` is the end of its block.
+    /// If it gave a grant above `above` before, two clients may have one grant number. So make a voter with a
+    /// limit below 2^62, a *block* of grants; if it is lost, `above` is the end of its block. A vote that
+    /// nobody has may be dropped and begun again by this, at any time.
     pub fn reborn(id: u8, above: u64, limit: u64) -> Self
         requires id { id < max_voters }
         requires above { above ≤ limit }
@@ -67,7 +68,7 @@ impl Voter {
         }
     }
 
-    /// Returns how many grants the voter may give in all.
+    /// Returns the highest number that a grant of the voter may have.
     pub fn limit(&self) -> u64
         ensures { result ≡ self.now.limit }
     {
@@ -83,7 +84,7 @@ impl Voter {
         self.state.granted
     }
 
-    /// Raises the number of grants that the voter may give, up to 2^62.
+    /// Raises the highest number that a grant of the voter may have, up to 2^62.
     pub fn extend(&mut self, limit: u64)
         requires least { self.old.limit ≤ limit }
         requires most { limit ≤ max_limit }

@@ -1,7 +1,7 @@
 -- How long a client waits at most, in fair rounds: the numbers of the laws of `progress`.
 use Rattle.std.specs.Prelude.{ℕ, ◌+◌, ◌*◌}
 
--- the rounds of one block, for n clients: nothing stands still for as long
+-- the rounds of one block, for n clients: within so many fair rounds somebody asks, enters or gives up
 abbrev pub block : ℕ → ℕ
 block n = n + 5
 
