@@ -73,7 +73,14 @@ fn plan_of(
         Ok(sums) => sums,
         Err(fault) => return Err(fault),
     };
-    let weights = with_sums(alloc, coterie, capacities, quorum_weights, voter_weights, sums)?;
+    let weights = with_sums(
+        alloc,
+        coterie,
+        capacities,
+        quorum_weights,
+        voter_weights,
+        sums,
+    )?;
     Ok(Plan { weights })
 }
 

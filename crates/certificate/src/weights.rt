@@ -87,7 +87,14 @@ impl Weights {
             Ok(sums) => sums,
             Err(fault) => return Err(fault),
         };
-        Ok(with_sums(alloc, coterie, capacities, quorum_weights, voter_weights, sums)?)
+        Ok(with_sums(
+            alloc,
+            coterie,
+            capacities,
+            quorum_weights,
+            voter_weights,
+            sums,
+        )?)
     }
 
     /// Returns the coterie.

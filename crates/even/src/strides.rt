@@ -69,7 +69,12 @@ fn near_golden(alloc: Global, len: u64) -> Result<Vec<u64>, AllocError>
 }
 
 /// Returns the quorums of the tickets of one cycle.
-fn order_of(alloc: Global, weights: &Weights, ends: &[u64], stride: u64) -> Result<Vec<usize>, AllocError>
+fn order_of(
+    alloc: Global,
+    weights: &Weights,
+    ends: &[u64],
+    stride: u64,
+) -> Result<Vec<usize>, AllocError>
     requires ends { ends.now ≡ ends_of weights.now.quorum_weights }
     requires short { stride ≤ max_cycle }
     ensures { IfOk result (λ v. v.items

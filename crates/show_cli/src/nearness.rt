@@ -5,8 +5,8 @@ ghost use Rattle.commands.specs.Commands.{Refuses, coterie_part};
 ghost use Rattle.commands.specs.Devices.{IsOwn};
 ghost use Rattle.show_cli.specs.Failures.{HasCoterie};
 
-use commands::{Fault, coterie_of};
 use certificate::Weights;
+use commands::{Fault, coterie_of};
 use coterie_file::Named;
 use near::{is_within, near};
 use quorum_set::are_unit;
