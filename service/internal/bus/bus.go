@@ -15,13 +15,14 @@ type Bus struct {
 	mutex             sync.Mutex
 	lost, twice, late int // of 100 messages
 	boxes             map[string]chan []byte
+	also              map[string][]chan []byte // of ports that listen beside another one
 	random            *rand.Rand
 	dropped           uint64
 }
 
 // New returns a bus that loses nothing.
 func New(seed int64) *Bus {
-	return &Bus{boxes: map[string]chan []byte{}, random: rand.New(rand.NewSource(seed)), Latest: 50 * time.Millisecond}
+	return &Bus{boxes: map[string]chan []byte{}, also: map[string][]chan []byte{}, random: rand.New(rand.NewSource(seed)), Latest: 50 * time.Millisecond}
 }
 
 // Noise lets so many of 100 messages be lost, repeated, and delayed from now on.
@@ -37,10 +38,14 @@ type Port struct {
 	cut     bool
 	returns uint64
 	mine    []string
+	beside  bool
 }
 
 // Port returns a new port.
 func (b *Bus) Port() *Port { return &Port{bus: b} }
+
+// PortBeside returns a new port whose mailboxes nobody else loses.
+func (b *Bus) PortBeside() *Port { return &Port{bus: b, beside: true} }
 
 // Cut cuts a port off, so that nothing comes or leaves, or connects it again.
 func (p *Port) Cut(cut bool) {
@@ -65,6 +70,10 @@ func (p *Port) Listen(mailbox string) (<-chan []byte, error) {
 	p.bus.mutex.Lock()
 	defer p.bus.mutex.Unlock()
 	box := make(chan []byte, 1<<14)
+	if p.beside {
+		p.bus.also[mailbox] = append(p.bus.also[mailbox], box)
+		return box, nil
+	}
 	p.bus.boxes[mailbox] = box
 	p.mine = append(p.mine, mailbox)
 	return box, nil
@@ -144,14 +153,16 @@ func (b *Bus) occurs(percent int) bool { return b.random.Intn(100) < percent }
 
 // post puts a message into a mailbox. It is lost if nobody listens, or there is no room.
 func (b *Bus) post(mailbox string, message []byte) {
-	box := b.boxes[mailbox]
+	box, any := b.boxes[mailbox], mailbox[:strings.LastIndexByte(mailbox, '.')+1]+"*"
 	if box == nil {
-		box = b.boxes[mailbox[:strings.LastIndexByte(mailbox, '.')+1]+"*"]
+		box = b.boxes[any]
 	}
-	select {
-	case box <- message:
-	default:
-		b.dropped++
+	for _, one := range append(append([]chan []byte{box}, b.also[mailbox]...), b.also[any]...) {
+		select {
+		case one <- message:
+		default:
+			b.dropped++
+		}
 	}
 }
 

@@ -64,6 +64,7 @@ type Daemon struct {
 	join            joining
 	peers           [places]Peer
 	loaded          [places]Peer             // as they were at the start
+	told            [places]toldOf           // what was said to others that started
 	resting         []resting                // the votes that nobody has, the oldest first
 	levels          [qlock.MaxClients]uint64 // the newest level that a session knows, 0 until it was heard
 	gone            map[string]struct{}      // locks that are forgotten, whose rows are still there
@@ -112,7 +113,10 @@ func Open(own *config.Voter, cluster *config.Cluster, carrier transport.Transpor
 		state.db.Close()
 		return nil, err
 	}
-	d.markPlans()
+	if err := d.markPlans(); err != nil {
+		state.db.Close()
+		return nil, err
+	}
 	d.link, _ = carrier.(transport.Link)
 	d.watch()
 	d.marked.Store(d.started.UnixNano())
@@ -190,8 +194,7 @@ func (d *Daemon) Run(ctx context.Context) error {
 			next = now.Add(tick)
 		}
 		if d.start(now); d.join.refused != nil {
-			d.log.Write(event.Error, "refused", "why", d.join.refused)
-			return d.join.refused
+			return d.endRefused()
 		}
 		if err := d.commit(now); err != nil {
 			d.log.Write(event.Error, "save-failed", "why", err)
@@ -202,6 +205,17 @@ func (d *Daemon) Run(ctx context.Context) error {
 			return d.end()
 		}
 	}
+}
+
+// endRefused notes in the state that it never starts again, and returns why.
+func (d *Daemon) endRefused() error {
+	d.log.Write(event.Error, "refused", "why", d.join.refused)
+	if d.store.own.Refused != "" {
+		if err := d.store.update(d.store.saves, func(b *batch) error { return b.putOwn(d.store.own) }); err != nil {
+			d.log.Write(event.Error, "save-failed", "why", err)
+		}
+	}
+	return d.join.refused
 }
 
 // wait waits for messages until a time, and takes all that are there. It returns false when the context has ended.
@@ -301,7 +315,7 @@ func (d *Daemon) line(l *letter, speaker verdict, lock, line []byte, now time.Ti
 		d.m.refused.Inc()
 		return true
 	}
-	if string(said.Word) == "request" && !isInside && now.Before(d.quietUntil) {
+	if string(said.Word) == "request" && !isInside && d.isQuiet(now) {
 		if l.once("quiet") {
 			d.tell(l.Name, "quiet %d", d.quietUntil.Sub(now).Milliseconds()+1)
 		}
@@ -309,7 +323,7 @@ func (d *Daemon) line(l *letter, speaker verdict, lock, line []byte, now time.Ti
 	}
 	v := d.votes[string(lock)]
 	if v == nil {
-		v = d.first(l, lock, said)
+		v = d.first(l, lock, said, now)
 	}
 	if v == nil {
 		d.m.refused.Inc()
@@ -318,7 +332,7 @@ func (d *Daemon) line(l *letter, speaker verdict, lock, line []byte, now time.Ti
 	v.heard = now
 	d.step(v, said.From, now, func(out []byte) ([]byte, error) { return v.Take(line, out) })
 	d.deny(v, l.Header, said)
-	if v.held.Client == uint64(said.From) && v.held.Stamp == said.Stamp {
+	if isInside && v.held.Client == uint64(said.From) && v.held.Stamp == said.Stamp {
 		v.isOld = false // whoever has it is there
 	}
 	return true
@@ -355,11 +369,11 @@ func (d *Daemon) isHis(said wire.Line) bool {
 
 // first makes the vote for a lock, if a line is its first REQUEST and there is room. If there is
 // none, it says so.
-func (d *Daemon) first(l *letter, lock []byte, said wire.Line) *vote {
+func (d *Daemon) first(l *letter, lock []byte, said wire.Line, now time.Time) *vote {
 	if string(said.Word) != "request" {
 		return nil
 	}
-	if len(d.votes) >= d.own.MaxLocks && !d.makeRoom() {
+	if len(d.votes) >= d.own.MaxLocks && !d.makeRoom(now) {
 		d.tell(l.Name, "full %s %d", lock, said.Stamp)
 		d.m.full.Inc()
 		if !d.isFull {
@@ -372,7 +386,9 @@ func (d *Daemon) first(l *letter, lock []byte, said wire.Line) *vote {
 	if err != nil {
 		return nil
 	}
-	return d.add(string(lock), voter)
+	v := d.add(string(lock), voter)
+	d.rest(v, now) // until somebody has it
+	return v
 }
 
 // newVoter makes a vote, whose grants are above the floor.
@@ -394,7 +410,8 @@ func (d *Daemon) step(v *vote, client int, now time.Time, take func(out []byte) 
 		return
 	}
 	d.room = lines
-	if v.MustSave(&d.before) { // what was saved last differs in nothing else from the state before a step
+	if v.MustSave(&d.before) || v.isRaised { // what was saved last differs in nothing else from the state before a step
+		v.isRaised = false
 		d.silent[v] = struct{}{}
 	}
 	if err := d.noteAsk(v, client, now); err == nil {
@@ -578,9 +595,15 @@ func (d *Daemon) claim(name string, words [][]byte, now time.Time) bool {
 
 // round does what time asks for: it lets grants of dead clients go that others wait for, and reminds.
 func (d *Daemon) round(now time.Time) {
+	if !d.join.done {
+		return
+	}
 	d.endQuiet(now)
 	d.forget(now)
 	for v := range d.busy {
+		if v.isOld && d.isQuiet(now) {
+			continue // it may be somebody else's by now
+		}
 		for v.held.Number > 0 && v.isWanted() && d.isOver(v.held) {
 			held := v.held
 			if !d.letGo(v, now) {
@@ -604,7 +627,7 @@ func (d *Daemon) round(now time.Time) {
 
 // endQuiet lets the grants of before the start go of which nobody said that he is inside.
 func (d *Daemon) endQuiet(now time.Time) {
-	if d.quietUntil.IsZero() || now.Before(d.quietUntil) {
+	if d.quietUntil.IsZero() || d.isQuiet(now) {
 		return
 	}
 	d.quietUntil = time.Time{}
@@ -628,6 +651,7 @@ func (d *Daemon) letGo(v *vote, now time.Time) bool {
 	if v.held.Number == held.Number {
 		return false
 	}
+	v.letGo = now
 	d.mustSave(v) // its client hears so, or an operator
 	if row := d.table.rows[held.Client]; row.Open && held.Stamp > row.Base {
 		d.tell(row.Name, "gone %s %d", v.name, held.Stamp)

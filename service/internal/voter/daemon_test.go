@@ -77,7 +77,7 @@ func (p *post) Listen(string) (<-chan []byte, error) { return nil, nil }
 func TestSpentLock(t *testing.T) {
 	var log bytes.Buffer
 	now := time.Unix(1000, 0)
-	d := &Daemon{own: &config.Voter{}, store: &store{}, ceiling: 1, m: newMetrics(), log: event.To(&log), votes: map[string]*vote{}, busy: map[*vote]struct{}{},
+	d := &Daemon{own: &config.Voter{}, store: &store{}, ceiling: 1, join: joining{done: true}, m: newMetrics(), log: event.To(&log), votes: map[string]*vote{}, busy: map[*vote]struct{}{},
 		dirty: map[*vote]struct{}{}, silent: map[*vote]struct{}{}, out: map[string][]byte{}, table: table{ttl: time.Second, changed: map[int]Session{}, later: map[int]Session{}}}
 	voter, err := qlock.NewVoter(0, 1)
 	if err != nil {

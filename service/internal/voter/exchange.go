@@ -21,6 +21,7 @@ var (
 	ErrNumber   = errors.New("the plan is not the next one of this voter's")
 	ErrLong     = errors.New("the plan is too long to be sent")
 	ErrLag      = errors.New("clients still have requests of the old plan")
+	ErrKeepers  = errors.New("too few voters of both plans keep this one's ceiling yet")
 	ErrAnother  = errors.New("the voter has another plan of this number: another exchange was begun")
 )
 
@@ -90,6 +91,8 @@ func (g Generations) retire() Generations {
 // of before an exchange, or of after those that this voter slept through.
 func (g Generations) follow(file Generations) (_ Generations, changed bool, err error) {
 	switch {
+	case file.Number == g.Number && file.mark() == g.mark() && g.Old != nil && file.Old == nil:
+		return g.retire(), true, nil // it slept through that
 	case file.Number <= g.Number && g.knows(file.mark()):
 		return g, false, nil
 	case file.Number > g.Number:
@@ -130,9 +133,10 @@ func (g Generations) next(number uint64, texts Texts) (Generations, error) {
 }
 
 // setPlans notes which plans this voter has. They are saved before anything leaves.
-func (d *Daemon) setPlans(g Generations) {
+func (d *Daemon) setPlans(g Generations) error {
 	d.plans, d.newPlans = g, true
-	d.markPlans()
+	d.tellAll()
+	return d.markPlans()
 }
 
 // plansInUse are the plan that a voter has, and the one before it until that is retired.
@@ -184,11 +188,13 @@ func (g *Generations) read() (plans plansInUse, err error) {
 	return plans, nil
 }
 
-func (d *Daemon) markPlans() {
-	if plans, err := d.plans.read(); err == nil {
-		d.inUse = plans
+// markPlans takes the plans that a voter has into use.
+func (d *Daemon) markPlans() (err error) {
+	if d.inUse, err = d.plans.read(); err != nil {
+		return err
 	}
 	d.mark, d.oldMark, d.marks = d.cluster.Mark(d.plans.mark()), d.cluster.Mark(d.plans.oldMark()), map[string]string{}
+	return nil
 }
 
 // hears notes by which plan a session speaks, while there are two.
@@ -275,7 +281,9 @@ func (d *Daemon) takePlan(number uint64, coterie, plan string, takes bool) error
 	}
 	g, err := d.plans.next(number, Texts{string(first), string(second)})
 	if err == nil && takes && g.Number != d.plans.Number {
-		d.setPlans(g)
+		if err = d.setPlans(g); err != nil {
+			return err
+		}
 		d.log.Write(event.Info, "exchange", "generation", number)
 	}
 	return err
@@ -290,6 +298,9 @@ func (d *Daemon) isReady(number uint64, mark string) (silent []int, err error) {
 	}
 	if mark != d.plans.mark() {
 		return nil, ErrAnother
+	}
+	if d.plans.Old != nil && d.join.done && !d.inUse.haveQuorums(d.join.kept|d.bit()) {
+		return nil, ErrKeepers
 	}
 	var lag []int
 	for client, row := range d.table.rows {
@@ -317,7 +328,9 @@ func (d *Daemon) retire(number uint64, mark string) error {
 		d.table.expel(client)
 		d.recount(client)
 	}
-	d.setPlans(d.plans.retire())
+	if err := d.setPlans(d.plans.retire()); err != nil {
+		return err
+	}
 	d.log.Write(event.Info, "retire", "generation", number, "ended", len(silent))
 	return nil
 }
@@ -339,7 +352,9 @@ func (d *Daemon) settle(number uint64, mark, text string, now time.Time) error {
 	if !d.plans.Settled {
 		g := d.plans
 		g.Settled = true
-		d.setPlans(g)
+		if err := d.setPlans(g); err != nil {
+			return err
+		}
 		d.log.Write(event.Info, "settled", "generation", number)
 	}
 	return nil

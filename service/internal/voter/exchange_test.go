@@ -154,7 +154,9 @@ func TestRetire(t *testing.T) {
 	now := time.Unix(1000, 0)
 	d := &Daemon{cluster: &config.Cluster{}, plans: Generations{Now: texts(t, two), Settled: true},
 		table: *newTable(now), busy: map[*vote]struct{}{}, log: event.To(io.Discard)}
-	d.markPlans()
+	if err := d.markPlans(); err != nil {
+		t.Fatal(err)
+	}
 	first := d.plans.mark()
 	encode := base64.StdEncoding.EncodeToString
 	next := texts(t, all)

@@ -45,11 +45,19 @@ func (d *Daemon) forget(now time.Time) {
 	}
 }
 
-// makeRoom forgets the lock that rested longest, and returns whether there was one.
-func (d *Daemon) makeRoom() bool {
-	for len(d.resting) > 0 {
-		v := d.resting[0].vote
-		if d.resting, v.isResting = d.resting[1:], false; v.asks == nil {
+// makeRoom forgets the lock that rested longest, and returns whether there was one. One of which a
+// grant was let go within a TTL stays: its client may not know yet.
+func (d *Daemon) makeRoom(now time.Time) bool {
+	for n := len(d.resting); n > 0; n-- {
+		first := d.resting[0]
+		v := first.vote
+		switch d.resting = d.resting[1:]; {
+		case v.asks != nil:
+			v.isResting = false
+		case now.Sub(v.letGo) < d.table.ttl:
+			d.resting = append(d.resting, first)
+		default:
+			v.isResting = false
 			d.forgetVote(v)
 			return true
 		}

@@ -79,7 +79,7 @@ func TestWhereAMessageEnds(t *testing.T) {
 		"x y\n. hello\n":                     1,
 		"x request 0 0 1\n. hello\n":         1, // of nobody's session
 		". claim x 1\n. hello\n":             1,
-		". what\n. hello\n":                  1,
+		". what\n. hello\n":                  3,
 		". \n. hello\n":                      1,
 		strings.Repeat(". drop 1 1\n", 40):   17,
 		". drop 1 1\n. " + strings.Repeat("x", 300) + "\n. drop 1 1\n": 2,

@@ -4,6 +4,7 @@ import (
 	"context"
 	"encoding/json"
 	"errors"
+	"fmt"
 	"os"
 	"path/filepath"
 	"strings"
@@ -95,6 +96,11 @@ func TestOlderCopyOfAnEarlierRun(t *testing.T) {
 	w.Start(0)
 	if err := w.Ends(0); !errors.Is(err, voter.ErrOlder) {
 		t.Errorf("an older copy: %v", err)
+	}
+	for i := 0; i < 3; i++ { // each start counts
+		if err := w.Second(0); !errors.Is(err, voter.ErrOlder) {
+			t.Errorf("start %d of a copy that was refused: %v", i, err)
+		}
 	}
 	w.Put(0, newest)
 	w.Start(0)
@@ -197,6 +203,49 @@ func TestTwoProcesses(t *testing.T) {
 	err := w.Second(0)
 	if w.Owns[0].Data = first; !errors.Is(err, voter.ErrOlder) {
 		t.Errorf("a second process: %v", err)
+	}
+}
+
+// A process goes on until a copy of its running state is started elsewhere: the voters take the later one, and the first
+// ends.
+func TestCopyOfARunningState(t *testing.T) {
+	w := worlds.New(t, worlds.Majority, time.Second)
+	one := newCaller(t, w, 0, "one")
+	if !one.says(". claim 0 1 50\norders request 0 0 1\n", "orders locked") {
+		t.Fatal("no vote")
+	}
+	state, first := w.Copy(0), w.Owns[0].Data
+	w.Owns[0].Data = filepath.Join(t.TempDir(), "copy")
+	if err := os.MkdirAll(w.Owns[0].Data, 0o700); err != nil {
+		t.Fatal(err)
+	}
+	w.Put(0, state)
+	ended := make(chan error, 1)
+	go func() { ended <- w.Second(0) }()
+	if err := w.Ends(0); !errors.Is(err, voter.ErrOlder) {
+		t.Errorf("the first process: %v", err)
+	}
+	if err := <-ended; err != nil {
+		t.Errorf("the second one: %v", err)
+	}
+	w.Owns[0].Data = first
+	if err := w.Second(0); !errors.Is(err, voter.ErrOlder) {
+		t.Errorf("the first one starts again: %v", err)
+	}
+}
+
+// A REQUEST that the automaton refuses makes no lock that is never forgotten: with room for 100, others get theirs.
+func TestRefusedRequestsFillNothing(t *testing.T) {
+	w := worlds.New(t, worlds.Majority, time.Second)
+	one := newCaller(t, w, 0, "one")
+	if !one.says(". claim 0 1 50\norders request 0 0 1\n", "orders locked") {
+		t.Fatal("no vote")
+	}
+	for i := 0; i < 200; i++ {
+		one.send(fmt.Sprintf("junk-%d request 0 0 2 9\n", i))
+	}
+	if !one.says("stock request 0 0 3\n", "stock locked") {
+		t.Error("a voter is full of locks that nobody has")
 	}
 }
 

@@ -196,6 +196,9 @@ func (s *store) begin(folder string, want Meta) error {
 	if s.meta.owner() != want.owner() {
 		return fmt.Errorf("%w: of %s, not of %s", ErrOther, s.meta.owner(), want.owner())
 	}
+	if err := s.own.refusal(); err != nil {
+		return err
+	}
 	if s.own.level() > level.Newest {
 		return fmt.Errorf("%w: %d, and this one knows levels up to %d", ErrLevel, s.own.level(), level.Newest)
 	}

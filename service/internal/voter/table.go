@@ -247,6 +247,9 @@ func (t *table) end(number int) {
 func (t *table) learn(number int, row Session, now time.Time) bool {
 	own := t.rows[number]
 	newer := row.Epoch > own.Epoch && (row.Used || !own.Used)
+	if row.Epoch == own.Epoch && row.Name != own.Name && row.Used && own.Used {
+		row, newer = Session{Epoch: row.Epoch, Base: row.Reserved, Reserved: row.Reserved, Used: true}, true // nobody's
+	}
 	before := own
 	if newer {
 		own = row
@@ -277,5 +280,5 @@ func smallest(a, b uint64) uint64 {
 // expel ends a number's session, which an operator wants. No message of its epoch counts any more.
 func (t *table) expel(number int) {
 	row := t.rows[number]
-	t.put(number, Session{Epoch: row.Epoch + 1, Base: row.Reserved, Reserved: row.Reserved})
+	t.put(number, Session{Epoch: row.Epoch + 1, Base: row.Reserved, Reserved: row.Reserved, Used: true})
 }

@@ -76,6 +76,10 @@ func TestUpgrade(t *testing.T) {
 	}
 	defer d.store.db.Close()
 	d.start(time.Now())
+	if d.quiet(time.Now()) == 0 {
+		t.Error("it is not quiet, though nobody knows how it ended")
+	}
+	d.quietUntil = time.Time{}
 	if row := d.table.rows[0]; row.Open || row.Base != 9000 || row.Reserved != 9000 || row.Epoch != 7 {
 		t.Errorf("a session is %+v", row)
 	}

@@ -26,7 +26,9 @@ type vote struct {
 	isOld   bool   // its grant is from before the start, and nobody said that he is inside by it
 	isSpent bool   // it was logged that all grants are given
 
+	isRaised  bool      // it goes on above another number since it was saved
 	heard     time.Time // when a line of the lock came
+	letGo     time.Time // when a grant of it was let go
 	highest   uint64    // no grant of it has a greater number
 	isResting bool      // nobody has it or waits for it, and it is among those that are forgotten after a while
 }

@@ -186,11 +186,11 @@ func (w *World) Ends(i int) error {
 // Second starts a second process of a voter, and returns why it ended.
 func (w *World) Second(i int) error {
 	w.T.Helper()
-	daemon, err := voter.Open(w.Owns[i], w.Cluster, w.Bus.Port(), event.To(io.Discard))
+	daemon, err := voter.Open(w.Owns[i], w.Cluster, w.Bus.PortBeside(), event.To(io.Discard))
 	if err != nil {
 		return err
 	}
-	ctx, cancel := context.WithTimeout(context.Background(), 10*time.Second)
+	ctx, cancel := context.WithTimeout(context.Background(), 3*time.Second)
 	defer cancel()
 	return daemon.Run(ctx)
 }

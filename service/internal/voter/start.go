@@ -1,0 +1,340 @@
+package voter
+
+import (
+	"bytes"
+	"encoding/json"
+	"errors"
+	"fmt"
+	"time"
+
+	"calvundek.example/service/internal/event"
+	"calvundek.example/service/internal/wire"
+	"calvundek.example/service/qlock"
+)
+
+// word is what voters say to one another.
+type word struct {
+	Word    string `json:"word"`              // start, known, ceiling, kept or ended
+	Voter   string `json:"voter"`             // who says so, by its name
+	TTL     string `json:"ttl"`               // of its cluster's file
+	Process string `json:"process"`           // of the voter that starts, also in a reply to it
+	Start   uint64 `json:"start,omitempty"`   // in a reply: of the voter that starts
+	Ceiling uint64 `json:"ceiling,omitempty"` // that it asks for, and that is kept
+	Saves   uint64 `json:"saves,omitempty"`   // with which it ended
+	Known   *Peer  `json:"known,omitempty"`   // what was known of it
+	Why     string `json:"why,omitempty"`     // why it is refused
+	Knows   *Knows `json:"knows,omitempty"`   // all that the one who answers knows
+}
+
+// own is what a state has of its own starts.
+type own struct {
+	Start   uint64 `json:"start"`
+	Ceiling uint64 `json:"ceiling"`           // that was asked for last, 0 before it served for the first time
+	Level   uint64 `json:"level,omitempty"`   // the cluster's
+	Refused string `json:"refused,omitempty"` // why another voter refused it, and it never starts again
+	IsPlace bool   `json:"place,omitempty"`   // since another voter has its place
+}
+
+// refusal returns the error of a state that was refused, nil if it was not.
+func (o own) refusal() error {
+	switch {
+	case o.Refused == "":
+		return nil
+	case o.IsPlace:
+		return fmt.Errorf("%w: %s", ErrPlace, o.Refused)
+	}
+	return fmt.Errorf("%w: %s", ErrOlder, o.Refused)
+}
+
+// joining is how far a start is, and later which voters keep the ceiling.
+type joining struct {
+	process  string
+	began    time.Time
+	next     time.Time // when those that did not answer are asked again
+	saves    uint64    // how often the state was saved before this run
+	answered uint64    // the voters that said what they knew
+	isClean  bool      // one of them knows that the last run ended with just these saves
+	known    uint64    // the highest ceiling that one of them knew
+	asked    uint64    // the ceiling that was asked for last, 0 for none
+	kept     uint64    // the voters that keep it
+	told     uint64    // those that said so in the last TTL
+	toldAt   time.Time // when all were told
+	waits    bool      // no quorum keeps it yet
+	block    uint64    // how much it was raised last
+	done     bool      // this voter serves
+	refused  error
+}
+
+// others returns the numbers of the other voters of the plans in use.
+func (d *Daemon) others() uint64 {
+	return (uint64(1)<<d.inUse.voters() - 1) &^ d.bit()
+}
+
+// bit returns this voter's bit in a set of voters.
+func (d *Daemon) bit() uint64 { return 1 << d.store.meta.Voter }
+
+// mayServe returns whether so many answered that this voter may go on.
+func (d *Daemon) mayServe(now time.Time) bool {
+	j := &d.join
+	switch {
+	case j.answered&d.others() == d.others():
+		return true
+	case d.store.own.Ceiling == 0: // nobody else may have been here
+		return !d.inUse.haveAny(^j.answered)
+	}
+	return now.Sub(j.began) > mostPatience && d.inUse.haveQuorums(j.answered|d.bit())
+}
+
+// start asks the others until this voter may take lines, and tells each until it answers.
+func (d *Daemon) start(now time.Time) {
+	j := &d.join
+	if j.asked == 0 && d.mayServe(now) {
+		d.askCeiling(greatest(j.known, d.store.own.Ceiling), now)
+	}
+	if j.done && now.Sub(j.toldAt) > d.cluster.TTL.Duration {
+		j.told, j.toldAt = 0, now // so a process hears if a later one took its place
+	}
+	if now.Before(j.next) {
+		return
+	}
+	if j.next = now.Add(askAgain); j.done && !j.waits {
+		j.next = now.Add(tellAgain)
+	}
+	for voter := 0; voter < places; voter++ {
+		bit := d.others() & (1 << voter)
+		if bit&^j.answered != 0 {
+			d.write(voter, word{Word: "start", Process: j.process, Ceiling: d.store.own.Ceiling})
+		}
+		if j.asked > 0 && bit&^j.told != 0 {
+			d.write(voter, word{Word: "ceiling", Process: j.process, Ceiling: j.asked})
+		}
+	}
+}
+
+// askCeiling asks the others to keep a higher ceiling than this one.
+func (d *Daemon) askCeiling(above uint64, now time.Time) {
+	j := &d.join
+	if j.block = 2 * j.block; j.block < firstCeiling {
+		j.block = firstCeiling
+	} else if j.block > mostCeiling {
+		j.block = mostCeiling
+	}
+	j.asked, j.kept, j.told, j.waits, j.next = above+j.block, 0, 0, true, now
+	if !j.done {
+		d.floor = above
+	}
+	d.isKept(now)
+}
+
+// isKept raises the ceiling once voters keep it that with this one contain a quorum.
+func (d *Daemon) isKept(now time.Time) {
+	j := &d.join
+	if !j.waits || !d.inUse.haveQuorums(j.kept|d.bit()) {
+		return
+	}
+	if !j.done && j.known > d.floor { // somebody knew of a higher one
+		d.askCeiling(j.known, now)
+		return
+	}
+	isNew := d.store.own.Ceiling == 0
+	d.store.own.Ceiling, d.newOwn = j.asked, true
+	d.ceiling, j.waits = j.asked, false
+	d.m.left.Set(float64(d.ceiling - greatest(d.floor, d.m.most)))
+	if j.done {
+		return
+	}
+	j.done = true
+	d.raiseAll()
+	d.table.hearAll(now)
+	if !isNew && !j.isClean {
+		d.quietUntil = now.Add(d.cluster.TTL.Duration)
+	}
+	d.log.Write(event.Info, "serve", "start", d.store.own.Start, "ceiling", d.ceiling, "clean", j.isClean,
+		"answered", fmt.Sprintf("%b", j.answered))
+}
+
+// raiseAll lets all votes go on above what this voter may have given: they keep their grants.
+func (d *Daemon) raiseAll() {
+	for _, v := range d.votes {
+		v.limit, v.highest, v.isRaised = d.ceiling, greatest(v.highest, d.floor), true
+		_ = v.Extend(d.ceiling) // neither fails: no limit was above the ceiling
+		_ = v.Raise(d.floor)
+	}
+}
+
+// needsCeiling asks for the next ceiling if half of what was left is used.
+func (d *Daemon) needsCeiling(number uint64, now time.Time) {
+	if j := &d.join; j.done && !j.waits && number+j.block/2 > d.ceiling {
+		d.askCeiling(d.ceiling, now)
+	}
+}
+
+// tellAll lets all others keep the ceiling, once the plans in use changed.
+func (d *Daemon) tellAll() { d.join.kept, d.join.told, d.join.next = 0, 0, time.Time{} }
+
+// isQuiet returns whether only those inside get a vote.
+func (d *Daemon) isQuiet(now time.Time) bool { return now.Before(d.quietUntil) }
+
+// quiet returns for how long only those inside get a vote.
+func (d *Daemon) quiet(now time.Time) time.Duration {
+	if !d.isQuiet(now) {
+		return 0
+	}
+	return d.quietUntil.Sub(now)
+}
+
+// write puts a word to another voter with what leaves after the next save.
+func (d *Daemon) write(voter int, w word) {
+	w.Voter, w.TTL = d.own.Voter, d.cluster.TTL.String()
+	d.letters = append(d.letters, posted{voter, w})
+}
+
+// posted is a word to another voter.
+type posted struct {
+	voter int
+	word  word
+}
+
+// deliverLetters sends what leaves to other voters.
+func (d *Daemon) deliverLetters() {
+	header := d.header()
+	for _, one := range d.letters {
+		text, err := json.Marshal(one.word)
+		if err != nil {
+			continue // no word has what can't be written
+		}
+		d.post(wire.PeerBox(d.cluster.ID, one.voter, d.store.meta.Voter), append(append(header.Append(nil), text...), '\n'))
+	}
+	d.letters = nil
+}
+
+// hearPeer takes what another voter says.
+func (d *Daemon) hearPeer(message []byte, now time.Time) {
+	h, lines, err := wire.Read(message)
+	var w word
+	if err != nil || h.Cluster != d.cluster.ID || h.Kind != wire.FromVoter || h.Number == d.store.meta.Voter ||
+		len(message) > mostMessage || json.Unmarshal(bytes.TrimSpace(lines), &w) != nil || !d.isOfPlan(h.Number, w) {
+		d.m.foreign.Inc()
+		return
+	}
+	switch w.Word {
+	case "start", "ceiling":
+		d.meet(h, w)
+	case "ended":
+		if p := d.peers[h.Number]; p.Identity == h.Name && p.Start == h.Start {
+			p.Ended = w.Saves
+			d.putPeer(h.Number, p)
+		}
+	case "known", "kept":
+		d.hearAnswer(h, w, now)
+	}
+}
+
+// isOfPlan returns whether a word is of a voter with this cluster's TTL, and with the name that its place has in the plans
+// in use. Voters of later plans may have other places.
+func (d *Daemon) isOfPlan(place int, w word) bool {
+	for _, plan := range d.inUse {
+		if place < len(plan.Names) && plan.Names[place] != w.Voter {
+			return false
+		}
+	}
+	return w.TTL == d.cluster.TTL.String()
+}
+
+// hearAnswer takes what another voter says of this one.
+func (d *Daemon) hearAnswer(h wire.Header, w word, now time.Time) {
+	p, j := d.peers[h.Number], &d.join
+	isKnown := p.Identity == "" || p.Identity == h.Name || h.Run > p.Run
+	switch {
+	case w.Known == nil || !isKnown:
+		d.m.foreign.Inc() // it is not the voter that is known there
+	case w.Process != j.process && w.Why == "" && w.Start > d.store.own.Start && p.Identity == h.Name:
+		d.beRefused(ErrOlder, fmt.Sprintf("voter %d says that a later process of this voter started", h.Number))
+	case w.Process != j.process:
+		// it is of an earlier process of this voter
+	case w.Why != "":
+		d.beRefused(refusalOf(*w.Known, d.self()), fmt.Sprintf("voter %d says: %s", h.Number, w.Why))
+	case w.Word == "known" && w.Knows != nil:
+		d.learnOfItself(h, w, now)
+	case w.Word == "kept" && w.Ceiling == j.asked && p.Identity == h.Name && p.Start == h.Start:
+		j.kept |= 1 << h.Number
+		j.told |= 1 << h.Number
+		if w.Known.Identity != d.store.meta.Identity || w.Known.Process != j.process {
+			j.known = greatest(j.known, w.Known.Ceiling) // it did not hear of this start before
+		}
+		d.isKept(now)
+	}
+}
+
+// beRefused notes that another voter refuses this one.
+func (d *Daemon) beRefused(why error, says string) {
+	if d.join.refused != nil {
+		return
+	}
+	d.join.refused = fmt.Errorf("%s: %w: %s", file(d.own.Data), why, says)
+	d.store.own.Refused, d.store.own.IsPlace = says, errors.Is(why, ErrPlace)
+}
+
+// learnOfItself takes what another voter knew of this one, of others and of sessions. Also what comes late is taken, but for
+// ceilings, which are not raised any more.
+func (d *Daemon) learnOfItself(h wire.Header, w word, now time.Time) {
+	j := &d.join
+	who, err := d.peers[h.Number].meets(w.Knows.Peers[h.Number])
+	if err != nil || who.Identity != h.Name {
+		d.m.foreign.Inc()
+		return
+	}
+	if who != d.peers[h.Number] {
+		d.putPeer(h.Number, who)
+	}
+	if err := d.learnsLevel(w.Knows.Level); err != nil {
+		j.refused = fmt.Errorf("%s: %w", file(d.own.Data), err)
+		return
+	}
+	j.answered |= 1 << h.Number
+	j.known = greatest(j.known, w.Known.Ceiling)
+	if w.Known.Identity == d.store.meta.Identity && w.Known.Ended > 0 && w.Known.Ended == j.saves {
+		j.isClean = true
+	}
+	d.learnAll(*w.Knows, now)
+}
+
+// learnAll takes what another voter knows of sessions and of other voters.
+func (d *Daemon) learnAll(known Knows, now time.Time) {
+	for number, row := range known.Sessions {
+		if number < 0 || number >= qlock.MaxClients {
+			continue
+		}
+		if row.Lapses = 0; d.table.learn(number, row, now) {
+			d.recount(number)
+		}
+	}
+	for place, p := range known.Peers {
+		if place < 0 || place >= places || place == d.store.meta.Voter {
+			continue
+		}
+		if later := laterPeer(d.peers[place], p); later != d.peers[place] {
+			d.putPeer(place, later)
+		}
+	}
+}
+
+// refusalOf returns why a voter is refused of which another one knows this.
+func refusalOf(known, self Peer) error {
+	if _, err := known.meets(self); err != nil {
+		return err
+	}
+	return ErrOlder
+}
+
+// self returns what this voter is to the others.
+func (d *Daemon) self() Peer {
+	return Peer{Identity: d.store.meta.Identity, Run: d.store.meta.Run, Start: d.store.own.Start, Process: d.join.process}
+}
+
+// header begins a message of this voter.
+func (d *Daemon) header() wire.Header {
+	meta := d.store.meta
+	return wire.Header{Cluster: meta.Cluster, Coterie: d.mark, Kind: wire.FromVoter, Number: meta.Voter, Run: meta.Run,
+		Start: d.store.own.Start, Name: meta.Identity, Level: d.store.own.level()}
+}
