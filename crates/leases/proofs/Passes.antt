@@ -36,13 +36,9 @@ use Rattle.world.specs.Incidents.{Incident, Happens, Hears, IsReborn, StartsAnew
 use Rattle.world.proofs.Exclusion.{inside_busy}
 use Rattle.world.proofs.Raises.{no_inquiry, raised_by_step}
 use Rattle.leases.proofs.Numbers.{Lives, Numbered, Told, all_on, befalls_on, begin_on, count, newborn}
-use Rattle.passes.proofs.Requests.{HasOnly, ended, only_after, only_least, only_self, quiet_stays, silent_sees}
+use Rattle.passes.proofs.Requests.{HasOnly, only_after, only_anew, only_least, only_self, quiet_stays, silent_sees}
 
 -- ---- a client that is inside
-
-only_anew : (s : ℕ) (p : List ℕ) (x : ClientState) (clock : ℕ) → x.stamp ≤ clock → HasOnly s p x → HasOnly s p (anew x clock)
-only_anew s p x clock ahead (inl less) = inl (omega arith)
-only_anew s p x clock ahead (inr same) = ended s p x (anew x clock) same.0 ahead (λ e. refl)
 
 -- who is inside has a saved state that has this pass alone
 abbrev IsSavedIn : ClientState → ClientState → Type 0

@@ -22,9 +22,10 @@ use voter::{messages_finish_requests, votes_are_asked_back};
 use world::parts_keep_their_rules;
 
 /// The voters of a world with incidents are voters of `passes`: each by itself, with a life. For each list
-/// of incidents there are lives that lead to what the world has of its voters at the end, live and saved.
-/// In its life a voter says what the world has sent from it, and nothing else. So what a client shows
-/// while it is inside is a pass, and what `passes` says of passes holds of it.
+/// of incidents there are lives that lead to what the world has of its voters at the end: live, and saved
+/// up to its least. (The world's saved voter is the one of the life, or the least of it.) In its life a
+/// voter says what the world has sent from it, and nothing else. So what a client shows while it is inside
+/// is a pass, and what `passes` says of passes holds of it.
 pub fn worlds_have_voters()
     ensures { (voters clients limit : ℕ) (quorums : List (List ℕ)) (deal : Dealing) (incidents : List Incident)
         → AreLimits voters clients limit → DoMeet voters quorums → DealsFrom quorums deal
