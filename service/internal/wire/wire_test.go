@@ -27,7 +27,7 @@ func TestHeaders(t *testing.T) {
 func TestUnknownKeys(t *testing.T) {
 	h := Header{Cluster: "prod", Coterie: "0a1b", Kind: FromVoter, Number: 5, Run: 2, Start: 7, Name: "id"}
 	text := strings.TrimSuffix(string(h.Append(nil)), "\n")
-	if got, lines, err := Read([]byte(text + " caps=a,b level=2\n. hello\n")); err != nil || got != h || string(lines) != ". hello\n" {
+	if got, lines, err := Read([]byte(text + " caps=a,b later=2\n. hello\n")); err != nil || got != h || string(lines) != ". hello\n" {
 		t.Error(got, err)
 	}
 }
