@@ -48,6 +48,7 @@ else
 fi
 
 "$here/build" cmd/qlock-voter cmd/qlockctl trial attacks/session
+"$here/build" --next cmd/qlock-voter cmd/qlockctl attacks/session
 folder=$(mktemp -d "${TMPDIR:-$here/out}/trial-XXXXXX")
 setsid nice -n 10 "$here/fuzz" "$fuzz_seconds" > "$folder/fuzz" 2>&1 &
 fuzzing=$!

@@ -4,8 +4,7 @@ There is no case for what would need more than a machine and two minutes:
 
 - a clock of another rate: no program can be given one without a change of its library; `another_ttl` does it by files;
 - the margin of a lease under load, all incidents at once, and operators among them: `service/trial/hour.sh`;
-- a guest that is suspended, or copied while it runs: it needs a hypervisor. `frozen` stops the processes;
-- two builds side by side: another format has another first word, and its messages are foreign.
+- a guest that is suspended, or copied while it runs: it needs a hypervisor. `frozen` stops the processes.
 """
 
 import contextlib
@@ -48,6 +47,7 @@ from cluster import (
 from secure import Secure, authority, certificate, server_file, start_server
 
 GREAT_STAMP = (1 << 62) - 1
+NEXT = PROGRAMS.parent / "next"  # programs that know one level more: service/build --next
 FLOOD = 256 << 10
 PAGE_BYTES = 4096
 FIBMAP = 1
@@ -877,3 +877,66 @@ def renewed_certificates(room: Path) -> bool:
     is_healthy = until(lambda: all(c.health(voter) == 200 for voter in NAMES), 20)
     print("healthy:", [c.health(voter) for voter in NAMES])
     return is_healthy and c.locks(1, wait="15s") and s.has("after", 15)
+
+
+# Starts and upgrades
+
+
+def serves(c: Cluster, voter: str) -> bool:
+    """Whether the others answered a voter's start."""
+    return bool(c.status().get(voter, {}).get("serves"))
+
+
+@case(90)
+def crash_loop(room: Path) -> bool:
+    """hub is killed each 0.3 s, again and again. Others go on, and so does hub after a TTL."""
+    c = Cluster(room)
+    s = Session(c)
+    for i in range(25):
+        c.stop("hub", signal.SIGKILL)
+        c.start("hub")
+        time.sleep(0.3)
+        if i % 5 == 0 and not s.has(f"meanwhile-{i}", 10):
+            return False
+    ready = until(lambda: serves(c, "hub") and not c.status()["hub"].get("quiet_seconds"), 20)
+    status = c.status()["hub"]
+    print(f"hub serves: {ready}, after {status['start']} starts, with ceiling {status['ceiling']}")
+    return ready and status["start"] > 20 and c.locks(4)
+
+
+@case(120)
+def rolling_upgrade(room: Path) -> bool:
+    """Voters and clients are exchanged for newer programs one by one, one of them back, and the level is raised."""
+    if not (NEXT / "session").exists():
+        raise LeftOut("no newer programs: service/build --next cmd/qlock-voter cmd/qlockctl attacks/session")
+    c, goes_on = Cluster(room), True
+    held = Session(c)
+    spy = Wire(c.port)
+    spy.listen(f"qlock.{c.id}.c.>")
+    if not is_pass(held.lock("held")):
+        raise RuntimeError("the lock is not to be had")
+    for voter in NAMES:
+        for programs in (NEXT, PROGRAMS, NEXT) if voter == "rim2" else (NEXT,):
+            c.stop(voter)
+            c.start(voter, programs=programs)
+            goes_on = until(lambda voter=voter: serves(c, voter), 20) and held.has(f"during-{voter}", 10) and goes_on
+    kept = held.lost() == 0
+    early = c.ctl("level", "2", check=False)
+    newer = Session(c, programs=NEXT)
+    before = ". greeted" in spy.read(1)
+    held.tell("unlock held")
+    held.tell("close")
+    raised = again(lambda: c.ctl("level", "2", check=False))
+    print(f"level too early: {early[0]}; then: {raised[0]} {raised[1][-60:]}; the lock was kept: {kept}")
+    after = newer.has("after", 10) and ". greeted" in spy.read(1)
+    c.stop("rim4")
+    c.start("rim4")
+    older = until(lambda: ended(c.voters["rim4"]), 20) and "newer programs" in c.last("rim4")
+    c.start("rim4", programs=NEXT)
+    try:
+        Session(c)
+        client = True
+    except RuntimeError as why:
+        client = False
+        print(f"an older client: {why}")
+    return goes_on and kept and early[0] == 1 and not before and raised[0] == 0 and after and older and not client

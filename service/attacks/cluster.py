@@ -183,9 +183,9 @@ class Cluster:
         """Makes a voter's state."""
         return self.run("qlock-voter", "init", *words, "-c", self.room / f"{voter}.toml", check=check)
 
-    def start(self, voter: str, prefix: Iterable[object] = ()) -> None:
+    def start(self, voter: str, prefix: Iterable[object] = (), programs: Path = PROGRAMS) -> None:
         """Starts a voter from its state."""
-        words = [*prefix, PROGRAMS / "qlock-voter", "start", "-c", self.room / f"{voter}.toml"]
+        words = [*prefix, programs / "qlock-voter", "start", "-c", self.room / f"{voter}.toml"]
         self.voters[voter] = start(words, self.log_of(voter))
 
     def stop(self, voter: str, how: int = signal.SIGTERM) -> None:
@@ -289,8 +289,8 @@ class Cluster:
 class Session:
     """A session that obeys lines."""
 
-    def __init__(self, cluster: Cluster, file: Path | None = None) -> None:
-        words = [PROGRAMS / "session", "-c", file or cluster.file, *cluster.job_words()]
+    def __init__(self, cluster: Cluster, file: Path | None = None, programs: Path = PROGRAMS) -> None:
+        words = [programs / "session", "-c", file or cluster.file, *cluster.job_words()]
         self.process = start(words, stdin=subprocess.PIPE, stdout=subprocess.PIPE)
         self.lines: list[tuple[float, str]] = []
         self.news = threading.Condition()

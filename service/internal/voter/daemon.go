@@ -292,6 +292,9 @@ func (d *Daemon) IsLively(within time.Duration) bool {
 
 // isOurs returns whether a message is of this cluster, and of a plan that is not retired.
 func (d *Daemon) isOurs(h wire.Header) bool {
+	if h.Kind == wire.FromClient && greatest(h.Level, level.Oldest) < d.store.own.level() {
+		return false // of an older program
+	}
 	return h.Cluster == d.store.meta.Cluster && wire.IsName([]byte(h.Name)) &&
 		(h.Coterie == d.mark || h.Coterie == d.oldMark && d.oldMark != "")
 }
