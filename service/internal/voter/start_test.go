@@ -62,6 +62,20 @@ func TestFloorIsAboveAllThatIsKnown(t *testing.T) {
 	}
 }
 
+// A voter that never served waits until the silent ones and it contain no quorum, however long that takes.
+func TestNewVoterNeedsMoreAnswers(t *testing.T) {
+	d, now := pair(t), time.Now()
+	d.store.own = own{Start: 3}
+	d.hearAnswer(heard(1), answered(1, Peer{}), now)
+	if d.start(now.Add(time.Hour)); d.join.asked > 0 {
+		t.Error("a quorum of answers is enough")
+	}
+	d.hearAnswer(heard(2), answered(2, Peer{}), now)
+	if d.start(now.Add(time.Hour)); d.join.asked == 0 {
+		t.Error("all answers are not enough")
+	}
+}
+
 // A voter that serves tells its start and its ceiling to those that did not answer, until they do, and the ceiling to all
 // after its plans changed.
 func TestCeilingIsToldToAll(t *testing.T) {
