@@ -841,6 +841,7 @@ def three_servers(room: Path) -> bool:
     name_loopback(room, names)
     for name in ("ca", "routes-ca"):
         authority(room, name)
+    (room / "users.conf").write_text("")
     routes, logs = [f"{name}:{free_port()}" for name in names], []
     for name, route in zip(names, routes):
         keys = room / name
@@ -849,7 +850,7 @@ def three_servers(room: Path) -> bool:
             shutil.copy(file, keys)
         certificate(keys, "machine", "ca", names=f"DNS:{name}")
         certificate(keys, "routes", "routes-ca", names=f"DNS:{name}")
-        start_server(room, name, server_file(route, keys, free_port(), routes, "prod"))
+        start_server(room, name, server_file(route, keys, free_port(), routes))
         logs.append(room / f"{name}.log")
     time.sleep(4)
     made = [log.read_text().count("Route connection created") for log in logs]

@@ -139,8 +139,8 @@ class Cluster:
         self.file, self.port = self.room / "cluster.toml", free_port()
         self.ports: dict[str, int] = {}
         self.voters: dict[str, subprocess.Popen[bytes]] = {}
-        self.start_server()
         self.ctl("init", "--id", name, "--coterie", WHEEL, "--servers", self.url(), "--ttl", ttl, *self.init_words())
+        self.start_server()
         for voter in NAMES:
             self.add(voter)
         self.wait()

@@ -64,7 +64,7 @@ func command(ctx context.Context) *cobra.Command {
 	flags.StringVar(&s.access.Key, "key", "", "the file of the certificate's key")
 	flags.DurationVar(&s.timeout, "timeout", 3*time.Second, "how long to wait for replies of voters")
 	flags.BoolVar(&s.json, "json", false, "print JSON")
-	root.AddCommand(initCommand(s), statusCommand(ctx, s), reportCommand(ctx, s), evictCommand(ctx, s), unlockCommand(ctx, s),
+	root.AddCommand(initCommand(s), usersCommand(s), statusCommand(ctx, s), reportCommand(ctx, s), evictCommand(ctx, s), unlockCommand(ctx, s),
 		exchangeCommand(ctx, s), retireCommand(ctx, s), levelCommand(ctx, s), runCommand(ctx, s))
 	return root
 }
@@ -88,9 +88,10 @@ func readEnvironment(command *cobra.Command) (err error) {
 	return err
 }
 
-// setFlag sets a flag that is not given by the environment, if the command has it.
+// setFlag sets a flag that is not given by the environment, if the command has it. A list of users is
+// not who this process is.
 func setFlag(flag *pflag.Flag) error {
-	if flag == nil || flag.Changed {
+	if flag == nil || flag.Changed || flag.Value.Type() == "stringSlice" {
 		return nil
 	}
 	if text := config.FromEnvironment(flag.Name); text != "" {

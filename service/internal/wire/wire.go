@@ -242,11 +242,15 @@ func IsName(name []byte) bool {
 // IsID returns whether a word may name a cluster, a part of a subject: 1 to 32 of A-Z a-z 0-9 _ -
 func IsID(name []byte) bool { return len(name) > 0 && len(name) <= 32 && only(name, "_-") }
 
+// IsUser returns whether a word may name a user, a part of a subject: as that of a cluster, with a letter first.
+func IsUser(name []byte) bool { return IsID(name) && isLetter(name[0]) }
+
+func isLetter(b byte) bool { return b >= 'a' && b <= 'z' || b >= 'A' && b <= 'Z' }
+
 // only returns whether a word has letters, digits and these marks only.
 func only(word []byte, marks string) bool {
 	for _, b := range word {
-		letter := b >= 'a' && b <= 'z' || b >= 'A' && b <= 'Z' || b >= '0' && b <= '9'
-		if !letter && strings.IndexByte(marks, b) < 0 {
+		if !isLetter(b) && (b < '0' || b > '9') && strings.IndexByte(marks, b) < 0 {
 			return false
 		}
 	}
