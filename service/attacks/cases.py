@@ -101,7 +101,7 @@ def made_up_sessions(room: Path) -> bool:
     stranger = Stranger(c)
     for number in range(64):
         for voter in range(len(NAMES)):
-            stranger.say(voter, number, 1 << 32, 1 << 63, f"x.{number}", f". claim {number} {1 << 32}\n. close\n")
+            stranger.say(voter, number, 1 << 32, 1 << 63, f"x-{number}", f". claim {number} {1 << 32}\n. close\n")
     stranger.must_arrive()
     return c.locks(6)
 
@@ -161,12 +161,12 @@ def word_of_one_voter(room: Path) -> bool:
         raise RuntimeError("the lock is not to be had")
     heard = spy.read(2)
     voters = dict(re.findall(rf"qlock2 {c.id} \S+ v (\d+) (\d+ \d+ \S+)", heard))
-    names = set(re.findall(rf"qlock\.{c.id}\.c\.(\S+)", heard))
+    names = set(re.findall(rf"qlock\.{c.id}\.c\.(\S+)\.\d+ ", heard))
     own = [f"{word} {s.number} 1" for word in ("taken", "closed", "unknown", "refused")]
     header = stranger.header("v", f"0 {voters['0']} 0")
     for name in names:
         for line in (*own, "generation 9 000000000000 9"):
-            stranger.publish(f"qlock.{c.id}.c.{name}", f"{header}. {line}\n")
+            stranger.publish(f"qlock.{c.id}.c.{name}.0", f"{header}. {line}\n")
     stranger.sync()
     time.sleep(2)
     print(f"{len(names)} names were heard; locks lost, as hub let them go: {s.lost()}")

@@ -443,7 +443,7 @@ class Stranger(Wire):
     def say(self, voter: int, number: int, epoch: int, reserved: int, name: str, lines: str) -> None:
         """Sends a message of a client to a voter."""
         header = self.header("c", f"{number} {epoch} {reserved} {name} 1")
-        self.publish(f"qlock.{self.id}.v.{voter}", header + lines)
+        self.publish(f"qlock.{self.id}.v.{voter}.-", header + lines)
 
     def must_arrive(self) -> None:
         """Fails if what was said is not of this protocol, so that it shows nothing."""

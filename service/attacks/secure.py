@@ -134,7 +134,7 @@ class Secure(Cluster):
     def words(self, user: str, pair: str) -> list[object]:
         """How a user shows the server who he is."""
         seed, cert, key = (self.keys / name for name in (f"{user}.nk", f"{pair}.pem", f"{pair}.key"))
-        return ["--seed", seed, "--cert", cert, "--key", key]
+        return ["--user", user, "--seed", seed, "--cert", cert, "--key", key]
 
     def operator_words(self) -> list[object]:
         """How an operator shows the server who he is."""
@@ -142,4 +142,4 @@ class Secure(Cluster):
 
     def job_words(self) -> list[object]:
         """How a job shows the server who it is."""
-        return [*self.words("jobs", self.job_pair), "--prefix", "jobs"]
+        return self.words("jobs", self.job_pair)

@@ -172,7 +172,7 @@ func TestOneVoterRetiresNoClient(t *testing.T) {
 	c := alone(t)
 	says := func(voter int, identity string) {
 		h := wire.Header{Cluster: c.cluster.ID, Coterie: "another", Kind: wire.FromVoter, Number: voter, Name: identity}
-		c.message(append(h.Append(nil), ". generation 9 000000000000 9\n"...))
+		hear(c.Client, h, ". generation 9 000000000000 9\n")
 	}
 	for i := 0; i < 3; i++ {
 		if says(1, "x"); c.why != nil {

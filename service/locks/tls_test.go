@@ -156,13 +156,13 @@ func TestCertificatesAndUsers(t *testing.T) {
 		})
 	}
 	shop := connect(t, cluster, access(folder, "shop"))
-	client, err := open(within(t, 20*time.Second), cluster, Config{Prefix: "shop", Transport: shop})
+	client, err := open(within(t, 20*time.Second), cluster, Config{User: "shop", Transport: shop})
 	if err != nil {
 		t.Fatal(err)
 	}
 	spy := connect(t, cluster, access(folder, "spy"))
-	var heard []<-chan []byte
-	for _, box := range []string{"qlock.test.c.shop.*", "qlock.test.c.*.*", "qlock.test.v.0", "qlock.test.o.*", ">"} {
+	var heard []<-chan transport.Message
+	for _, box := range []string{"qlock.test.c.shop.>", "qlock.test.c.*.*.*", "qlock.test.v.0.*", "qlock.test.o.*", ">"} {
 		messages, err := spy.Listen(box)
 		if err != nil {
 			t.Fatal(err)
@@ -171,7 +171,7 @@ func TestCertificatesAndUsers(t *testing.T) {
 	}
 	operators := wire.Header{Cluster: "test", Coterie: cluster.Marks()[0], Kind: wire.FromOperator, Name: "spy"}
 	_ = spy.Send(wire.AdminBox("test", 0), append(operators.Append(nil), fmt.Sprintf("evict %d\n", client.Number())...))
-	_ = spy.Send(wire.SessionBox("test", client.header.Name), []byte("anything"))
+	_ = spy.Send(wire.SessionBox("test", wire.SessionName("shop", client.header.Name), 0), []byte("anything"))
 	held := take(t, client, "x")
 	time.Sleep(700 * time.Millisecond) // some heartbeats
 	console := operator.New(cluster, connect(t, cluster, access(folder, "operator")))
@@ -192,7 +192,7 @@ func TestCertificatesAndUsers(t *testing.T) {
 	for i, messages := range heard {
 		select {
 		case message := <-messages:
-			t.Errorf("%d: heard %q", i, message)
+			t.Errorf("%d: heard %q", i, message.Data)
 		default:
 		}
 	}
@@ -349,12 +349,12 @@ func TestRogueRoute(t *testing.T) {
 		t.Fatal(err)
 	}
 	soon(t, "servers with a route pass nothing on", func() bool {
-		_ = first.Send("qlock.test.v.0",
+		_ = first.Send("qlock.test.v.0.jobs",
 			[]byte("x"))
 		return len(passed) > 0
 	})
 	for i := 0; i < 20; i++ {
-		_ = first.Send("qlock.test.v.0", []byte("x"))
+		_ = first.Send("qlock.test.v.0.jobs", []byte("x"))
 		time.Sleep(50 * time.Millisecond)
 	}
 	if len(stolen) > 0 {

@@ -58,8 +58,8 @@ func command(ctx context.Context) *cobra.Command {
 	flags.StringVarP(&s.cluster, "cluster", "c", "/etc/qlock/cluster.toml", "the cluster's file")
 	flags.StringVar(&s.access.User, "user", "", "the user of NATS")
 	flags.StringVar(&s.access.Secret, "secret", "", "the file of the user's password")
-	flags.StringVar(&s.access.Seed, "seed", "", "the file of the seed of an nkey, in place of a user with a password")
-	flags.StringVar(&s.access.Creds, "creds", "", "the file of credentials, in place of a user with a password")
+	flags.StringVar(&s.access.Seed, "seed", "", "the file of the seed of an nkey, in place of a password")
+	flags.StringVar(&s.access.Creds, "creds", "", "the file of credentials, in place of a password")
 	flags.StringVar(&s.access.Cert, "cert", "", "the file of a certificate")
 	flags.StringVar(&s.access.Key, "key", "", "the file of the certificate's key")
 	flags.DurationVar(&s.timeout, "timeout", 3*time.Second, "how long to wait for replies of voters")
@@ -70,7 +70,7 @@ func command(ctx context.Context) *cobra.Command {
 }
 
 // fromEnvironment are the flags that the environment has, too: --cluster is QLOCK_CLUSTER.
-var fromEnvironment = []string{"cluster", "user", "secret", "seed", "creds", "cert", "key", "timeout", "prefix"}
+var fromEnvironment = []string{"cluster", "user", "secret", "seed", "creds", "cert", "key", "timeout"}
 
 // readEnvironment sets the flags that are not given, and are in the environment.
 func readEnvironment(command *cobra.Command) (err error) {
@@ -117,7 +117,7 @@ func (s *settings) ask(ctx context.Context, use func(ctx context.Context, cluste
 }
 
 // client returns the configuration of a client.
-func (s *settings) client(prefix string) locks.Config {
-	return locks.Config{Cluster: s.cluster, Prefix: prefix, User: s.access.User, Secret: s.access.Secret,
+func (s *settings) client() locks.Config {
+	return locks.Config{Cluster: s.cluster, User: s.access.User, Secret: s.access.Secret,
 		Seed: s.access.Seed, Creds: s.access.Creds, Cert: s.access.Cert, Key: s.access.Key}
 }

@@ -28,9 +28,11 @@ func TestUsers(t *testing.T) {
 	}
 	address := serve(t, text)
 	for _, one := range []struct{ user, publish, subscribe, notPublish, notSubscribe string }{
-		{"voter-1", "c.jobs.s p.0.1 v.1 o.q admin.0", "v.1 p.1.* admin.1 o.q", "v.0 p.0.2 p.1.0", "v.0 v.* p.0.* admin.0 c.> >"},
-		{"jobs", "v.0 v.2", "c.jobs.*", "c.jobs.s p.0.1 admin.0 o.q", "c.web.s c.*.* v.0 o.q p.0.* >"},
-		{"alice", "admin.0 admin.2", "o.q", "v.0 p.0.1 o.q c.jobs.s", "admin.0 c.jobs.s v.0 >"},
+		{"voter-1", "c.jobs.s.1 p.0.1 v.1.1 o.q admin.0", "v.1.* p.1.* admin.1 o.q",
+			"c.jobs.s.0 v.0.1 v.1.jobs p.0.2 p.1.0", "v.0.* v.> p.0.* admin.0 c.> >"},
+		{"jobs", "v.0.jobs v.2.jobs", "c.jobs.s.* c.jobs.>", "v.0.web v.0.0 v.0 c.jobs.s.0 p.0.1 admin.0 o.q",
+			"c.web.s.* c.*.*.* v.0.jobs o.q p.0.* >"},
+		{"alice", "admin.0 admin.2", "o.q", "v.0.alice v.0.jobs p.0.1 o.q c.jobs.s.0", "admin.0 c.jobs.s.0 v.0.* >"},
 	} {
 		seed, err := nats.NkeyOptionFromSeed(filepath.Join(folder, one.user+".nk"))
 		if err != nil {

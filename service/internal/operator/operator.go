@@ -26,7 +26,7 @@ type Console struct {
 	carrier transport.Transport
 	header  wire.Header
 	marks   []string // of the plans: while one is exchanged, some voters may have only the new one, others only the old one
-	replies <-chan []byte
+	replies <-chan transport.Message
 }
 
 // New returns a console over a transport.
@@ -117,7 +117,7 @@ func (c *Console) collect(ctx context.Context, wait time.Duration, voters []int,
 	for len(replies) < len(voters) {
 		select {
 		case m := <-c.replies:
-			h, body, err := wire.Read(m)
+			h, body, err := wire.Read(m.Data)
 			if err == nil && c.isOurs(h) && replies[h.Number] == nil {
 				replies[h.Number] = body
 			}

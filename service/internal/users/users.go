@@ -30,11 +30,11 @@ func Of(cluster *config.Cluster, list List) (all []User, err error) {
 		return "qlock." + cluster.ID + "." + fmt.Sprintf(format, words...)
 	}
 	for n := range cluster.Names() {
-		all = append(all, User{VoterName(n), []string{at("v.%d", n), at("p.%d.*", n), at("admin.%d", n), at("o.*")},
-			[]string{at("c.>"), at("o.*"), at("admin.*"), at("v.%d", n), at("p.*.%d", n)}})
+		all = append(all, User{VoterName(n), []string{at("v.%d.*", n), at("p.%d.*", n), at("admin.%d", n), at("o.*")},
+			[]string{at("c.*.*.%d", n), at("p.*.%d", n), at("v.%d.%d", n, n), at("o.*"), at("admin.*")}})
 	}
 	for _, name := range list.Clients {
-		all = append(all, User{name, []string{at("c.%s.*", name)}, []string{at("v.*")}})
+		all = append(all, User{name, []string{at("c.%s.>", name)}, []string{at("v.*.%s", name)}})
 	}
 	for _, name := range list.Operators {
 		all = append(all, User{name, []string{at("o.*")}, []string{at("admin.*")}})
@@ -48,8 +48,7 @@ func check(all []User) error {
 	for _, user := range all {
 		switch {
 		case !wire.IsUser([]byte(user.Name)):
-			return fmt.Errorf("%w: %q is no user: a user has 1 to 32 letters, digits, - and _, a letter first",
-				config.ErrConfig, user.Name)
+			return fmt.Errorf("%w: %q", config.ErrUser, user.Name)
 		case seen[user.Name]:
 			return fmt.Errorf("%w: two users are named %s", config.ErrConfig, user.Name)
 		}

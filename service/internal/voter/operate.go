@@ -11,6 +11,7 @@ import (
 	"calvundek.example/service/internal/event"
 	"calvundek.example/service/internal/wire"
 	"calvundek.example/service/qlock"
+	"calvundek.example/service/transport"
 )
 
 // mostShown is how many votes one reply shows, of those that somebody has or waits for.
@@ -94,9 +95,9 @@ func (a answer) text() []byte {
 }
 
 // operate does what an operator asks, and replies after the save.
-func (d *Daemon) operate(message []byte, now time.Time) {
-	h, lines, err := wire.Read(message)
-	if err != nil || !d.isOurs(h) || h.Kind != wire.FromOperator {
+func (d *Daemon) operate(m transport.Message, now time.Time) {
+	h, lines, err := wire.Read(m.Data)
+	if err != nil || !d.isOurs(h) || h.Kind != wire.FromOperator || !wire.IsID([]byte(h.Name)) {
 		d.m.foreign.Inc()
 		return
 	}

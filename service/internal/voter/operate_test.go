@@ -25,7 +25,7 @@ func TestRepeatedEvict(t *testing.T) {
 	header := wire.Header{Cluster: "test", Coterie: w.Cluster.Marks()[0], Kind: wire.FromOperator, Name: "op"}
 	ask := func(words string) string {
 		_ = port.Send(wire.AdminBox("test", 0), append(header.Append(nil), words+"\n"...))
-		_, body, _ := wire.Read(<-heard)
+		_, body, _ := wire.Read((<-heard).Data)
 		return strings.TrimSpace(string(body))
 	}
 	if got := ask("evict 0"); got != `{"let_go":1}` {

@@ -19,6 +19,7 @@ import (
 	"calvundek.example/service/internal/operator"
 	"calvundek.example/service/internal/wire"
 	"calvundek.example/service/qlock"
+	"calvundek.example/service/transport"
 	"go.etcd.io/bbolt"
 )
 
@@ -148,8 +149,8 @@ func (s *stage) again(t testing.TB) *Daemon {
 
 // hand hands a message of a client to the loop.
 func hand(d *Daemon, message []byte) {
-	box := make(chan []byte, 1)
-	box <- message
+	box := make(chan transport.Message, 1)
+	box <- transport.Message{Mailbox: wire.VoterBox("test", 0, wire.NoUser), Data: message}
 	d.messages, d.admin = box, nil
 	for i := 0; i < 3; i++ { // a long message takes several turns
 		d.wait(context.Background(), time.Now().Add(time.Duration(len(box))*time.Second))
@@ -158,8 +159,8 @@ func hand(d *Daemon, message []byte) {
 
 // order hands a message of an operator to the loop, and returns the replies.
 func order(d *Daemon, message []byte) map[string]answer {
-	box := make(chan []byte, 1)
-	box <- message
+	box := make(chan transport.Message, 1)
+	box <- transport.Message{Mailbox: wire.AdminBox("test", 0), Data: message}
 	d.messages, d.admin = nil, box
 	d.wait(context.Background(), time.Now().Add(time.Second))
 	replies := d.replies
@@ -217,7 +218,7 @@ func FuzzMessage(f *testing.F) {
 		}
 		for number, row := range d.table.rows {
 			mustGrow(t, rows[number], row, number)
-			if rows[number].Open && row != rows[number] && (!ours || h.Name != rows[number].Name) {
+			if rows[number].Open && row != rows[number] && (!ours || wire.SessionName(wire.NoUser, h.Name) != rows[number].Name) {
 				t.Fatalf("%q changes the session of number %d from %+v to %+v", h.Name, number, rows[number], row)
 			}
 		}

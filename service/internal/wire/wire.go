@@ -36,6 +36,15 @@
 //
 // A voter that ends by a signal says "leaving" to all sessions.
 //
+// The last word of a mailbox says who speaks, and a broker with users lets nobody else send to it:
+//
+//	qlock.CLUSTER.v.VOTER.USER             what a user's sessions say to a voter
+//	qlock.CLUSTER.c.USER.SESSION.VOTER     what a voter says to a session
+//	qlock.CLUSTER.p.VOTER.VOTER            what the second voter says to the first one
+//
+// A message of which the header names another voter than the mailbox is dropped. The user of a
+// session is that of the mailbox. Without users it is "-".
+//
 // A voter sends a marker to itself, from time to time: "marker NUMBER WORD". What was sent to it
 // before comes before the marker.
 //
@@ -257,8 +266,25 @@ func only(word []byte, marks string) bool {
 	return true
 }
 
-// VoterBox returns the mailbox of a voter.
-func VoterBox(cluster string, voter int) string { return fmt.Sprintf("qlock.%s.v.%d", cluster, voter) }
+// NoUser is the user where there are none, as on one machine.
+const NoUser = "-"
+
+// SessionName returns what a voter calls a session: its user, and the name in its header. So no user
+// has a session of another one.
+func SessionName(user, name string) string { return user + "." + name }
+
+// IsSession returns whether a user and a word name a session.
+func IsSession(user, name string) bool {
+	return (user == NoUser || IsUser([]byte(user))) && IsID([]byte(name))
+}
+
+// VoterBox returns the mailbox in which a voter takes what a user says, or, by its number, it itself.
+func VoterBox(cluster string, voter int, from string) string {
+	return fmt.Sprintf("qlock.%s.v.%d.%s", cluster, voter, from)
+}
+
+// VoterBoxes returns all mailboxes in which a voter takes what users say.
+func VoterBoxes(cluster string, voter int) string { return VoterBox(cluster, voter, "*") }
 
 // PeerBox returns the mailbox in which a voter takes what another one says.
 func PeerBox(cluster string, to, from int) string {
@@ -273,8 +299,13 @@ func AdminBox(cluster string, voter int) string {
 	return fmt.Sprintf("qlock.%s.admin.%d", cluster, voter)
 }
 
-// SessionBox returns the mailbox of a client's session.
-func SessionBox(cluster, session string) string { return "qlock." + cluster + ".c." + session }
+// SessionBox returns the mailbox in which a session takes what a voter says.
+func SessionBox(cluster, session string, from int) string {
+	return fmt.Sprintf("qlock.%s.c.%s.%d", cluster, session, from)
+}
+
+// SessionBoxes returns all mailboxes in which a session takes what voters say.
+func SessionBoxes(cluster, session string) string { return "qlock." + cluster + ".c." + session + ".*" }
 
 // OperatorBox returns the mailbox of an operator.
 func OperatorBox(cluster, name string) string { return "qlock." + cluster + ".o." + name }
