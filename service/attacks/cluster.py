@@ -392,9 +392,14 @@ class Wire:
 
     def __init__(self, port: int) -> None:
         self.socket = socket.create_connection(("127.0.0.1", port), 5)
-        ENDINGS.append(self.socket.close)
+        ENDINGS.append(lambda: self.socket.close())
         self.socket.recv(4096)
-        self.socket.sendall(b'CONNECT {"verbose":false}\r\n')
+
+    def connect(self, words: str = "") -> "Wire":
+        """Says who this is."""
+        more = f",{words}" if words else ""
+        self.socket.sendall(f'CONNECT {{"verbose":false{more}}}\r\n'.encode())
+        return self
 
     def publish(self, subject: str, text: str) -> None:
         """Sends a message."""
@@ -427,6 +432,7 @@ class Stranger(Wire):
 
     def __init__(self, cluster: Cluster) -> None:
         super().__init__(cluster.port)
+        self.connect()
         self.cluster, self.id = cluster, cluster.id
         self.listen(f"qlock.{self.id}.>")
         if cluster.lock("heard")[0]:

@@ -2,11 +2,12 @@
 
 import json
 import re
+import ssl
 import subprocess
 import time
 from pathlib import Path
 
-from cluster import NAMES, NATS, PROGRAMS, SERVICE, Cluster, free_port, start
+from cluster import NAMES, NATS, PROGRAMS, SERVICE, Cluster, Wire, free_port, start
 
 PAGE = (SERVICE.parent / "docs" / "service.md").read_text()
 # the file of a server, as the page has it
@@ -72,16 +73,56 @@ def server_file(own: str, keys: Path, port: int, routes: list[str]) -> str:
 
 
 def write_users(cluster: Path, keys: Path, to: Path) -> None:
-    """Writes the users by the command of the page, with their seeds."""
+    """Writes the users by the command of the page, and one more, web. Each has a seed, and for a Speaker a password, too."""
     words = re.findall(r"^qlockctl users -c cluster.toml (.*) --nkeys keys", PAGE, re.M)[0].split()
-    command = [PROGRAMS / "qlockctl", "users", "-c", cluster, *words, "--nkeys", keys]
-    to.write_text(subprocess.run(command, check=True, stdout=subprocess.PIPE, text=True).stdout)
+    command = [PROGRAMS / "qlockctl", "users", "-c", cluster, *words, "--user", "web"]
+    by_seed, by_password = (
+        subprocess.run([*command, *more], check=True, stdout=subprocess.PIPE, text=True).stdout.splitlines()
+        for more in (["--nkeys", keys], [])
+    )
+    lines = [re.sub(r'user: (\S+), password: "..."', r'user: \1, password: "\1"', line) for line in by_password]
+    to.write_text("\n".join([*by_seed[:-1], *lines[1:]]) + "\n")
 
 
 def start_server(room: Path, name: str, text: str) -> subprocess.Popen[bytes]:
     """Starts a server of NATS with a file."""
     (room / f"{name}.conf").write_text(text)
     return start([NATS, "-c", room / f"{name}.conf"], room / f"{name}.log")
+
+
+class Speaker(Wire):
+    """A plain connection of a user, by TLS."""
+
+    def __init__(self, cluster: "Secure", user: str) -> None:
+        super().__init__(cluster.port)
+        keys = cluster.keys
+        context = ssl.create_default_context(cafile=str(keys / "ca.pem"))
+        context.load_cert_chain(keys / f"{cluster.job_pair}.pem", keys / f"{cluster.job_pair}.key")
+        self.socket = context.wrap_socket(self.socket, server_hostname="localhost")
+        self.connect(f'"user":"{user}","pass":"{user}"')
+        self.user, self.id = user, cluster.id
+        self.settle()
+
+    def settle(self) -> str:
+        """What the server had to say until now."""
+        self.socket.sendall(b"PING\r\n")
+        data = b""
+        while b"PONG\r\n" not in data:
+            part = self.socket.recv(1 << 16)
+            if not part:
+                raise RuntimeError(f"the server ends the connection of {self.user}: {data!r}")
+            data += part
+        return data.decode(errors="replace")
+
+    def may_say(self, subject: str, text: str) -> bool:
+        """Sends a message, and returns whether the server lets it pass."""
+        self.publish(f"qlock.{self.id}.{subject}", text)
+        return "Permissions Violation" not in self.settle()
+
+    def may_listen(self, subject: str) -> bool:
+        """Listens to a subject, and returns whether the server lets it."""
+        self.listen(f"qlock.{self.id}.{subject}")
+        return "Permissions Violation" not in self.settle()
 
 
 class Secure(Cluster):

@@ -90,7 +90,7 @@ func secured(t *testing.T) (*config.Cluster, string) {
 	folder := t.TempDir()
 	authority(t, folder, "server", "process")
 	cluster := worlds.NewCluster(t, worlds.Majority, 2*time.Second)
-	all, err := users.Of(cluster, users.List{Clients: []string{"shop", "spy"}, Operators: []string{"operator"}})
+	all, err := users.Of(cluster, users.List{Clients: []string{"shop", "spy"}, Operators: []string{"alice"}, Readers: []string{"bob"}})
 	if err != nil {
 		t.Fatal(err)
 	}
@@ -162,7 +162,7 @@ func TestCertificatesAndUsers(t *testing.T) {
 	}
 	spy := connect(t, cluster, access(folder, "spy"))
 	var heard []<-chan transport.Message
-	for _, box := range []string{"qlock.test.c.shop.>", "qlock.test.c.*.*.*", "qlock.test.v.0.*", "qlock.test.o.*", ">"} {
+	for _, box := range []string{"qlock.test.c.shop.>", "qlock.test.c.*.*.*", "qlock.test.v.0.*", "qlock.test.o.>", ">"} {
 		messages, err := spy.Listen(box)
 		if err != nil {
 			t.Fatal(err)
@@ -170,18 +170,30 @@ func TestCertificatesAndUsers(t *testing.T) {
 		heard = append(heard, messages)
 	}
 	operators := wire.Header{Cluster: "test", Coterie: cluster.Marks()[0], Kind: wire.FromOperator, Name: "spy"}
-	_ = spy.Send(wire.AdminBox("test", 0), append(operators.Append(nil), fmt.Sprintf("evict %d\n", client.Number())...))
+	for _, name := range []string{"spy", "alice"} {
+		_ = spy.Send(wire.WriteBox("test", 0, name), append(operators.Append(nil), fmt.Sprintf("evict %d\n", client.Number())...))
+	}
 	_ = spy.Send(wire.SessionBox("test", wire.SessionName("shop", client.header.Name), 0), []byte("anything"))
 	held := take(t, client, "x")
 	time.Sleep(700 * time.Millisecond) // some heartbeats
-	console := operator.New(cluster, connect(t, cluster, access(folder, "operator")))
-	replies, err := console.Ask(within(t, 10*time.Second), "lock x", console.All()...)
-	if err != nil {
-		t.Fatal(err)
-	}
-	for _, r := range replies {
-		if r.Err != nil {
-			t.Errorf("%s: %v", r.Name, r.Err)
+	for _, one := range []struct {
+		user, words string
+		may         bool
+	}{{"bob", "lock x", true}, {"bob", "status", true}, {"bob", "sessions", false}, {"bob", "knows", false},
+		{"bob", fmt.Sprint("evict ", client.Number()), false}, {"alice", "lock x", true}, {"alice", "sessions", true}} {
+		console := operator.New(cluster, connect(t, cluster, access(folder, one.user)), one.user)
+		patience := 10 * time.Second
+		if !one.may {
+			patience = time.Second
+		}
+		replies, err := console.Ask(within(t, patience), one.words, console.All()...)
+		if err != nil {
+			t.Fatal(err)
+		}
+		for _, r := range replies {
+			if (r.Err == nil) != one.may {
+				t.Errorf("%s asks %s: %s: %v", one.user, one.words, r.Name, r.Err)
+			}
 		}
 	}
 	select {

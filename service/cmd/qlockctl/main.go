@@ -106,14 +106,27 @@ func (s *settings) ask(ctx context.Context, use func(ctx context.Context, cluste
 	if err != nil {
 		return err
 	}
-	link, err := transport.Connect(cluster, s.access, "qlockctl")
+	console, end, err := s.console(cluster)
 	if err != nil {
 		return err
 	}
-	defer link.Close()
+	defer end()
 	ctx, cancel := context.WithTimeout(ctx, s.timeout)
 	defer cancel()
-	return use(ctx, cluster, operator.New(cluster, link))
+	return use(ctx, cluster, console)
+}
+
+// console connects, and returns a console, and what ends it.
+func (s *settings) console(cluster *config.Cluster) (*operator.Console, func(), error) {
+	name, err := s.access.Speaker()
+	if err != nil {
+		return nil, nil, err
+	}
+	link, err := transport.Connect(cluster, s.access, "qlockctl")
+	if err != nil {
+		return nil, nil, err
+	}
+	return operator.New(cluster, link, name), link.Close, nil
 }
 
 // client returns the configuration of a client.

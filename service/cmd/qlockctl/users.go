@@ -28,7 +28,8 @@ func usersCommand(s *settings) *cobra.Command {
 		}}
 	flags := command.Flags()
 	flags.StringSliceVar(&list.Clients, "user", nil, "a user that takes locks; may be there again")
-	flags.StringSliceVar(&list.Operators, "operator", nil, "an operator; may be there again")
+	flags.StringSliceVar(&list.Operators, "operator", nil, "an operator, who may do all; may be there again")
+	flags.StringSliceVar(&list.Readers, "reader", nil, "an operator who may only look; may be there again")
 	flags.StringVar(&folder, "nkeys", "", "the folder of seeds, NAME.nk for each; one that is not there is made")
 	return command
 }

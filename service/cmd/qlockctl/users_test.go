@@ -17,7 +17,7 @@ import (
 	"github.com/nats-io/nats.go"
 )
 
-var list = users.List{Clients: []string{"jobs", "web"}, Operators: []string{"alice"}}
+var list = users.List{Clients: []string{"jobs", "web"}, Operators: []string{"alice"}, Readers: []string{"bob"}}
 
 // A server with the block that is printed lets each user do what it needs, and nothing in the place of another one.
 func TestUsers(t *testing.T) {
@@ -28,11 +28,14 @@ func TestUsers(t *testing.T) {
 	}
 	address := serve(t, text)
 	for _, one := range []struct{ user, publish, subscribe, notPublish, notSubscribe string }{
-		{"voter-1", "c.jobs.s.1 p.0.1 v.1.1 o.q admin.0", "v.1.* p.1.* admin.1 o.q",
-			"c.jobs.s.0 v.0.1 v.1.jobs p.0.2 p.1.0", "v.0.* v.> p.0.* admin.0 c.> >"},
-		{"jobs", "v.0.jobs v.2.jobs", "c.jobs.s.* c.jobs.>", "v.0.web v.0.0 v.0 c.jobs.s.0 p.0.1 admin.0 o.q",
-			"c.web.s.* c.*.*.* v.0.jobs o.q p.0.* >"},
-		{"alice", "admin.0 admin.2", "o.q", "v.0.alice v.0.jobs p.0.1 o.q c.jobs.s.0", "admin.0 c.jobs.s.0 v.0.* >"},
+		{"voter-1", "c.jobs.s.1 p.0.1 v.1.1 o.alice.q.1 read.0.1", "v.1.* p.1.* read.1.* write.1.* o.1.q.*",
+			"c.jobs.s.0 v.0.1 v.1.jobs p.0.2 p.1.0 o.alice.q.0 read.0.2 read.0.alice write.0.1 write.0.alice",
+			"v.0.* v.> p.0.* read.0.* write.0.* o.2.q.* o.alice.q.* c.> >"},
+		{"jobs", "v.0.jobs v.2.jobs", "c.jobs.s.* c.jobs.>", "v.0.web v.0.0 v.0 c.jobs.s.0 p.0.1 read.0.jobs write.0.jobs write.0.alice o.alice.q.0",
+			"c.web.s.* c.*.*.* v.0.jobs o.jobs.q.* o.alice.q.* p.0.* >"},
+		{"alice", "read.0.alice write.2.alice", "o.alice.q.*", "v.0.alice v.0.jobs p.0.1 read.0.bob write.0.bob o.alice.q.0 c.jobs.s.0",
+			"read.0.* write.0.alice c.jobs.s.0 v.0.* o.bob.q.* >"},
+		{"bob", "read.0.bob read.2.bob", "o.bob.q.*", "write.0.bob write.0.alice read.0.alice", "o.alice.q.* o.*.*.* >"},
 	} {
 		seed, err := nats.NkeyOptionFromSeed(filepath.Join(folder, one.user+".nk"))
 		if err != nil {
@@ -125,7 +128,7 @@ func TestSeeds(t *testing.T) {
 		t.Errorf("%v: other seeds:\n%s%s", err, first, second)
 	}
 	made, _ := filepath.Glob(filepath.Join(folder, "*"))
-	if want := len(cluster.Names()) + len(list.Clients) + len(list.Operators); len(made) != want {
+	if want := len(cluster.Names()) + 4; len(made) != want {
 		t.Errorf("%d seeds, not %d", len(made), want)
 	}
 	for _, path := range made {
@@ -147,7 +150,7 @@ func TestSeeds(t *testing.T) {
 func TestUserNames(t *testing.T) {
 	cluster := worlds.NewCluster(t, worlds.Majority, time.Second)
 	text, err := block(cluster, list, "")
-	if err != nil || strings.Count(text, `password: "..."`) != 6 || !strings.Contains(text, "user: voter-2,") {
+	if err != nil || strings.Count(text, `password: "..."`) != 7 || !strings.Contains(text, "user: voter-2,") {
 		t.Error(text, err)
 	}
 	for _, name := range []string{"", "*", ">", "a.b", "-", "0", "a b", "voter-1", "jobs"} {

@@ -2,6 +2,7 @@ package operator
 
 import (
 	"errors"
+	"fmt"
 	"testing"
 
 	"calvundek.example/service/internal/config"
@@ -25,9 +26,9 @@ func FuzzReplies(f *testing.F) {
 	h.Number = 2
 	f.Add(append(h.Append(nil), "{}"...))
 	f.Fuzz(func(t *testing.T, message []byte) {
-		c := New(cluster, nil)
+		c := New(cluster, nil, "alice")
 		h, body, err := wire.Read(message)
-		if err != nil || !c.isOurs(h) {
+		if err != nil || !c.isOurs(h, fmt.Sprint(h.Number)) {
 			return
 		}
 		if h.Number >= len(cluster.Names()) || h.Cluster != "test" || h.Kind != wire.FromVoter {

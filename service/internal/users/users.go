@@ -18,7 +18,8 @@ type User struct {
 // List names the users of a cluster besides its voters.
 type List struct {
 	Clients   []string // they take locks
-	Operators []string
+	Operators []string // they also evict, unlock, and exchange plans
+	Readers   []string // they look
 }
 
 // VoterName returns the user of the voter with this number.
@@ -30,14 +31,17 @@ func Of(cluster *config.Cluster, list List) (all []User, err error) {
 		return "qlock." + cluster.ID + "." + fmt.Sprintf(format, words...)
 	}
 	for n := range cluster.Names() {
-		all = append(all, User{VoterName(n), []string{at("v.%d.*", n), at("p.%d.*", n), at("admin.%d", n), at("o.*")},
-			[]string{at("c.*.*.%d", n), at("p.*.%d", n), at("v.%d.%d", n, n), at("o.*"), at("admin.*")}})
+		all = append(all, User{VoterName(n), []string{at("v.%d.*", n), at("p.%d.*", n), at("read.%d.*", n), at("write.%d.*", n), at("o.%d.>", n)},
+			[]string{at("c.*.*.%d", n), at("p.*.%d", n), at("v.%d.%d", n, n), at("o.*.*.%d", n), at("read.*.%d", n)}})
 	}
 	for _, name := range list.Clients {
 		all = append(all, User{name, []string{at("c.%s.>", name)}, []string{at("v.*.%s", name)}})
 	}
 	for _, name := range list.Operators {
-		all = append(all, User{name, []string{at("o.*")}, []string{at("admin.*")}})
+		all = append(all, User{name, []string{at("o.%s.>", name)}, []string{at("read.*.%s", name), at("write.*.%s", name)}})
+	}
+	for _, name := range list.Readers {
+		all = append(all, User{name, []string{at("o.%s.>", name)}, []string{at("read.*.%s", name)}})
 	}
 	return all, check(all)
 }

@@ -77,7 +77,8 @@ type Daemon struct {
 	quietUntil      time.Time         // until then only those inside get a vote
 	markers         [keyBytes]byte    // the key of this run's markers
 	done            map[string][]byte // replies to what operators let go, by their questions
-	messages, admin <-chan transport.Message
+	messages, reads <-chan transport.Message
+	writes          <-chan transport.Message // what operators want done
 	inbox           inbox
 	started         time.Time
 	granted         uint64       // grants given since then
@@ -175,7 +176,10 @@ func (d *Daemon) listen() (err error) {
 	if d.voters, err = d.carrier.Listen(wire.PeerBoxes(d.cluster.ID, d.store.meta.Voter)); err != nil {
 		return err
 	}
-	d.admin, err = d.carrier.Listen(wire.AdminBox(d.cluster.ID, d.store.meta.Voter))
+	if d.reads, err = d.carrier.Listen(wire.ReadBox(d.cluster.ID, d.store.meta.Voter, "*")); err != nil {
+		return err
+	}
+	d.writes, err = d.carrier.Listen(wire.WriteBox(d.cluster.ID, d.store.meta.Voter, "*"))
 	return err
 }
 
@@ -232,8 +236,10 @@ func (d *Daemon) wait(ctx context.Context, until time.Time) bool {
 		d.sort(m)
 	case m := <-d.voters:
 		d.hearPeer(m, time.Now())
-	case m := <-d.admin:
-		d.operate(m, time.Now())
+	case m := <-d.reads:
+		d.operate(m, false, time.Now())
+	case m := <-d.writes:
+		d.operate(m, true, time.Now())
 	case <-timer.C:
 	}
 	d.receive()

@@ -48,7 +48,7 @@ func TestStatusOutsideOfTheLoop(t *testing.T) {
 		d.busy[&vote{name: fmt.Sprintf("orders-%05d", i)}] = struct{}{}
 	}
 	header := wire.Header{Cluster: "test", Coterie: "mark", Kind: wire.FromOperator, Name: "op"}
-	d.operate(transport.Message{Data: append(header.Append(nil), "status\n"...)}, now)
+	d.operate(transport.Message{Mailbox: wire.ReadBox("test", 0, "alice"), Data: append(header.Append(nil), "status\n"...)}, false, now)
 	delivered := make(chan struct{})
 	go func() { d.deliver(); close(delivered) }()
 	select {

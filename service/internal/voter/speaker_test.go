@@ -1,11 +1,14 @@
 package voter
 
 import (
+	"bytes"
 	"fmt"
+	"strings"
 	"testing"
 	"time"
 
 	"calvundek.example/service/internal/config"
+	"calvundek.example/service/internal/event"
 	"calvundek.example/service/internal/wire"
 	"calvundek.example/service/transport"
 	"github.com/prometheus/client_golang/prometheus/testutil"
@@ -74,5 +77,46 @@ func TestVoterSpeaksAsItself(t *testing.T) {
 			heard == (testutil.ToFloat64(d.m.foreign) > before) {
 			t.Errorf("voter 1 in the mailbox of voter %d: %v", from, heard)
 		}
+	}
+}
+
+// Who may only look evicts nobody, and sees no name of a session. A voter sees what the others know. The log says who
+// evicted.
+func TestWhoMayWrite(t *testing.T) {
+	var log bytes.Buffer
+	for _, one := range []struct {
+		by, words string
+		mayWrite  bool
+		want      string
+	}{
+		{"bob", "status", false, `"sessions":[{"number":2`},
+		{"bob", "lock x", false, `"lock":"x"`},
+		{"bob", "evict 2", false, `"error"`},
+		{"bob", "status evict 2", false, `"error"`},
+		{"bob", "sessions", false, `"error"`},
+		{"bob", "knows", false, `"error"`},
+		{"99", "knows", false, ""},
+		{"01", "knows", false, ""},
+		{"1", "evict 2", false, `"error"`},
+		{"1", "knows", false, `"name":"jobs.s2"`},
+		{"alice", "sessions", true, `"name":"jobs.s2"`},
+		{"alice", "evict 2", true, `{"let_go":0}`},
+	} {
+		d := reader()
+		d.replies, d.done, d.log = map[string]answer{}, map[string][]byte{}, event.To(&log)
+		d.table.claim(2, "jobs.s2", 1, 0, time.Now())
+		h := wire.Header{Cluster: "test", Coterie: "mark", Kind: wire.FromOperator, Name: "q"}
+		box := wire.ReadBox("test", 0, one.by)
+		d.operate(transport.Message{Mailbox: box, Data: append(h.Append(nil), one.words+"\n"...)}, one.mayWrite, time.Now())
+		reply, is := d.replies[wire.ReplyBox("test", one.by+".q", 0)]
+		if is != (one.want != "") || is && !strings.Contains(string(reply.text()), one.want) {
+			t.Errorf("%s asks %s: %q", one.by, one.words, reply.text())
+		}
+		if d.table.rows[2].Open == (one.by == "alice" && one.words == "evict 2") {
+			t.Errorf("%s asks %s: %+v", one.by, one.words, d.table.rows[2])
+		}
+	}
+	if said := log.String(); strings.Count(said, "event=evicted") != 1 || !strings.Contains(said, "by=alice") {
+		t.Error(said)
 	}
 }

@@ -151,7 +151,7 @@ func (s *stage) again(t testing.TB) *Daemon {
 func hand(d *Daemon, message []byte) {
 	box := make(chan transport.Message, 1)
 	box <- transport.Message{Mailbox: wire.VoterBox("test", 0, wire.NoUser), Data: message}
-	d.messages, d.admin = box, nil
+	d.messages, d.writes = box, nil
 	for i := 0; i < 3; i++ { // a long message takes several turns
 		d.wait(context.Background(), time.Now().Add(time.Duration(len(box))*time.Second))
 	}
@@ -160,8 +160,8 @@ func hand(d *Daemon, message []byte) {
 // order hands a message of an operator to the loop, and returns the replies.
 func order(d *Daemon, message []byte) map[string]answer {
 	box := make(chan transport.Message, 1)
-	box <- transport.Message{Mailbox: wire.AdminBox("test", 0), Data: message}
-	d.messages, d.admin = nil, box
+	box <- transport.Message{Mailbox: wire.WriteBox("test", 0, "alice"), Data: message}
+	d.messages, d.writes = nil, box
 	d.wait(context.Background(), time.Now().Add(time.Second))
 	replies := d.replies
 	d.replies = map[string]answer{}
@@ -334,7 +334,7 @@ func FuzzOperator(f *testing.F) {
 		rows, plans, held := d.table.rows, d.plans, d.votes["orders"].held
 		h := wire.Header{Cluster: "test", Coterie: s.mark, Kind: wire.FromOperator, Name: "0123"}
 		replies := order(d, append(h.Append(nil), lines...))
-		reply, one := replies[wire.OperatorBox("test", "0123")]
+		reply, one := replies[wire.ReplyBox("test", "alice.0123", 0)]
 		if text := reply.text(); len(replies) != 1 || !one || !json.Valid(text) || len(text) > mostReply {
 			t.Fatalf("%q: %d replies: %q", lines, len(replies), text)
 		}
@@ -348,7 +348,7 @@ func FuzzOperator(f *testing.F) {
 		}
 		if words[0] == "evict" || words[0] == "unlock" {
 			rows := d.table.rows
-			twice := order(d, append(h.Append(nil), lines...))[wire.OperatorBox("test", "0123")]
+			twice := order(d, append(h.Append(nil), lines...))[wire.ReplyBox("test", "alice.0123", 0)]
 			if !bytes.Equal(twice.text(), reply.text()) || d.table.rows != rows {
 				t.Fatalf("%q is done twice: %q, then %q", lines, reply.text(), twice.text())
 			}
