@@ -114,7 +114,8 @@ func (c *Console) send(words string, voters []int, replies map[int][]byte) {
 func (c *Console) isOurs(h wire.Header, from string) bool {
 	for _, mark := range c.marks {
 		if h.Coterie == mark {
-			return h.Kind == wire.FromVoter && from == strconv.Itoa(h.Number) && h.Cluster == c.header.Cluster && h.Number < len(c.cluster.Names())
+			return h.Kind == wire.FromVoter && from == strconv.Itoa(h.Number) && h.Cluster == c.header.Cluster &&
+				h.Number < len(c.cluster.Names())
 		}
 	}
 	return false

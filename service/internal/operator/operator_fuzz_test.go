@@ -34,6 +34,9 @@ func FuzzReplies(f *testing.F) {
 		if h.Number >= len(cluster.Names()) || h.Cluster != "test" || h.Kind != wire.FromVoter {
 			t.Fatalf("%+v is a voter's", h)
 		}
+		if c.isOurs(h, fmt.Sprint(h.Number+1)) {
+			t.Fatalf("%+v is of another voter", h)
+		}
 		r := c.reply(h.Number, body)
 		if r.Voter != h.Number || r.Name != cluster.Names()[h.Number] || r.Err != nil && !errors.Is(r.Err,
 			ErrRefused) && len(body) > 0 {

@@ -31,7 +31,8 @@ func Of(cluster *config.Cluster, list List) (all []User, err error) {
 		return "qlock." + cluster.ID + "." + fmt.Sprintf(format, words...)
 	}
 	for n := range cluster.Names() {
-		all = append(all, User{VoterName(n), []string{at("v.%d.*", n), at("p.%d.*", n), at("read.%d.*", n), at("write.%d.*", n), at("o.%d.>", n)},
+		all = append(all, User{VoterName(n),
+			[]string{at("v.%d.*", n), at("p.%d.*", n), at("read.%d.*", n), at("write.%d.*", n), at("o.%d.>", n)},
 			[]string{at("c.*.*.%d", n), at("p.*.%d", n), at("v.%d.%d", n, n), at("o.*.*.%d", n), at("read.*.%d", n)}})
 	}
 	for _, name := range list.Clients {
