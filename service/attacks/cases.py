@@ -154,7 +154,7 @@ def great_stamp(room: Path) -> bool:
 def word_of_one_voter(room: Path) -> bool:
     """Somebody says as hub that a session is over, and that its plan is retired. The session goes on by others."""
     c = Cluster(room, ttl="4s")
-    stranger, spy = Stranger(c), Wire(c.port).connect()
+    stranger, spy = Stranger(c), Wire(c.port)
     s = Session(c)
     spy.listen(f"qlock.{c.id}.c.>")
     if not is_pass(s.lock("payroll")):
@@ -814,7 +814,7 @@ def rogue_route(room: Path) -> bool:
         start([NATS, "-c", c.room / f"{pair}.conf"], c.room / f"{pair}.log")
         until(lambda: "Server is ready" in (c.room / f"{pair}.log").read_text(), 5)
         time.sleep(1)
-        spy = Wire(port).connect()
+        spy = Wire(port)
         spy.listen("qlock.>")
         heard += spy.read(1.5)
         file = c.room / f"{pair}.toml"

@@ -394,12 +394,11 @@ class Wire:
         self.socket = socket.create_connection(("127.0.0.1", port), 5)
         ENDINGS.append(lambda: self.socket.close())
         self.socket.recv(4096)
+        self.connect()
 
-    def connect(self, words: str = "") -> "Wire":
+    def connect(self, words: str = "") -> None:
         """Says who this is."""
-        more = f",{words}" if words else ""
-        self.socket.sendall(f'CONNECT {{"verbose":false{more}}}\r\n'.encode())
-        return self
+        self.socket.sendall(f'CONNECT {{"verbose":false{words}}}\r\n'.encode())
 
     def publish(self, subject: str, text: str) -> None:
         """Sends a message."""
@@ -432,7 +431,6 @@ class Stranger(Wire):
 
     def __init__(self, cluster: Cluster) -> None:
         super().__init__(cluster.port)
-        self.connect()
         self.cluster, self.id = cluster, cluster.id
         self.listen(f"qlock.{self.id}.>")
         if cluster.lock("heard")[0]:

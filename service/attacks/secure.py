@@ -94,13 +94,16 @@ class Speaker(Wire):
     """A plain connection of a user, by TLS."""
 
     def __init__(self, cluster: "Secure", user: str) -> None:
-        super().__init__(cluster.port)
-        keys = cluster.keys
-        context = ssl.create_default_context(cafile=str(keys / "ca.pem"))
-        context.load_cert_chain(keys / f"{cluster.job_pair}.pem", keys / f"{cluster.job_pair}.key")
-        self.socket = context.wrap_socket(self.socket, server_hostname="localhost")
-        self.connect(f'"user":"{user}","pass":"{user}"')
         self.user, self.id = user, cluster.id
+        keys = cluster.keys
+        self.context = ssl.create_default_context(cafile=str(keys / "ca.pem"))
+        self.context.load_cert_chain(keys / f"{cluster.job_pair}.pem", keys / f"{cluster.job_pair}.key")
+        super().__init__(cluster.port)
+
+    def connect(self, words: str = "") -> None:
+        """Says who this is, by TLS."""
+        self.socket = self.context.wrap_socket(self.socket, server_hostname="localhost")
+        super().connect(f',"user":"{self.user}","pass":"{self.user}"{words}')
         self.settle()
 
     def settle(self) -> str:
