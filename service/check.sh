@@ -32,7 +32,7 @@ build=${QLOCK_BUILD:-$root/build}
 [ -e "$build/libqlock.a" ] && [ -e "$build/libqlock_plan.a" ] || "$root/library"
 
 packages="./qlock ./locks ./guard ./transport ./internal/bus ./internal/config ./internal/event ./internal/exchange ./internal/local ./internal/measure \
-    ./internal/operator ./internal/remind ./internal/voter ./internal/wire ./internal/worlds ./cmd/qlock-voter ./cmd/qlockctl ./trial ./attacks/session ./bench"
+    ./internal/operator ./internal/remind ./internal/users ./internal/voter ./internal/wire ./internal/worlds ./cmd/qlock-voter ./cmd/qlockctl ./trial ./attacks/session ./bench"
 laid=$(gofmt -l "$here/qlock" "$here/locks" "$here/guard" "$here/transport" "$here/internal" "$here/cmd" "$here/trial" "$here/attacks" "$here/bench")
 [ -z "$laid" ] || { echo "service: gofmt would change $laid" >&2; exit 1; }
 # shellcheck disable=SC2086

@@ -44,7 +44,7 @@ from cluster import (
     start,
     until,
 )
-from secure import Secure, authority, certificate, server_file, start_server
+from secure import Secure, Speaker, authority, certificate, server_file, start_server
 
 GREAT_STAMP = (1 << 62) - 1
 NEXT = PROGRAMS.parent / "next"  # programs that know one level more: service/build --next
@@ -101,7 +101,7 @@ def made_up_sessions(room: Path) -> bool:
     stranger = Stranger(c)
     for number in range(64):
         for voter in range(len(NAMES)):
-            stranger.say(voter, number, 1 << 32, 1 << 63, f"x.{number}", f". claim {number} {1 << 32}\n. close\n")
+            stranger.say(voter, number, 1 << 32, 1 << 63, f"x-{number}", f". claim {number} {1 << 32}\n. close\n")
     stranger.must_arrive()
     return c.locks(6)
 
@@ -161,12 +161,12 @@ def word_of_one_voter(room: Path) -> bool:
         raise RuntimeError("the lock is not to be had")
     heard = spy.read(2)
     voters = dict(re.findall(rf"qlock2 {c.id} \S+ v (\d+) (\d+ \d+ \S+)", heard))
-    names = set(re.findall(rf"qlock\.{c.id}\.c\.(\S+)", heard))
+    names = set(re.findall(rf"qlock\.{c.id}\.c\.(\S+)\.\d+ ", heard))
     own = [f"{word} {s.number} 1" for word in ("taken", "closed", "unknown", "refused")]
     header = stranger.header("v", f"0 {voters['0']} 0")
     for name in names:
         for line in (*own, "generation 9 000000000000 9"):
-            stranger.publish(f"qlock.{c.id}.c.{name}", f"{header}. {line}\n")
+            stranger.publish(f"qlock.{c.id}.c.{name}.0", f"{header}. {line}\n")
     stranger.sync()
     time.sleep(2)
     print(f"{len(names)} names were heard; locks lost, as hub let them go: {s.lost()}")
@@ -825,6 +825,66 @@ def rogue_route(room: Path) -> bool:
     return "MSG " not in heard and "let_go" not in orders and s.lost() == 0 and s.has("another")
 
 
+@case(90)
+def speaks_as_another(room: Path) -> bool:
+    """A user, a reader and a voter speak as others, with all that each may do. The server, or who hears it, drops each word."""
+    c = Secure(room)
+    s = Session(c)
+    if not is_pass(s.lock("payroll")):
+        raise RuntimeError("the lock is not to be had")
+    own = Speaker(c, "jobs")  # processes of one user trust one another: so the name of the session is known
+    own.listen(f"qlock.{c.id}.c.jobs.>")
+    time.sleep(1)
+    name, mark = re.findall(rf"c\.jobs\.(\S+)\.\d+ \d .*\r\nqlock2 {c.id} (\S+) v ", own.settle())[0]
+    begin = f"qlock2 {c.id} {mark}"
+    close = f"{begin} c {s.number} 1 64 {name} 99\n. close\n"
+    evict = f"{begin} o question\nevict {s.number}\n"
+    identity = {voter: reply["identity"] for voter, reply in c.status().items()}
+    passed, wrong = [], []
+    users = {user: Speaker(c, user) for user in ("web", "bob", "voter-1")}
+    for to, voter in enumerate(NAMES):
+        taken = f"{begin} v {to} 0 1 {identity[voter]} 0\n. taken {s.number} 1\n"
+        word = json.dumps({"word": "start", "voter": NAMES[2], "ttl": "2s", "process": "evil"})
+        start_of_2 = f"{begin} v 2 1 99 evil 0\n{word}\n"
+        # who says what to which subject; with "dropped" the server lets it pass, and who hears it drops it
+        for user, subject, text, *dropped in (
+            ("web", f"v.{to}.jobs", close),
+            ("web", f"v.{to}.{to}", close),
+            ("web", f"v.{to}.web", close, "dropped"),
+            ("web", f"c.jobs.{name}.{to}", taken),
+            ("web", f"p.{to}.2", start_of_2),
+            ("web", f"write.{to}.web", evict),
+            ("web", f"write.{to}.alice", evict),
+            ("bob", f"write.{to}.bob", evict),
+            ("bob", f"write.{to}.alice", evict),
+            ("bob", f"read.{to}.bob", evict, "dropped"),
+            ("voter-1", f"v.{to}.jobs", close),
+            ("voter-1", f"p.{to}.2", start_of_2),
+            ("voter-1", f"p.{to}.1", start_of_2, "dropped"),
+            ("voter-1", f"write.{to}.1", evict),
+            ("voter-1", f"write.{to}.alice", evict),
+            ("voter-1", f"read.{to}.1", evict, "dropped"),
+            *([("voter-1", f"c.jobs.{name}.{to}", taken), ("voter-1", f"c.jobs.{name}.1", taken, "dropped")] if to != 1 else []),
+        ):
+            if users[user].may_say(subject, text) != bool(dropped):
+                passed.append((user, subject))
+    heard = [(user, box) for user, box in (("web", "c.jobs.>"), ("web", "v.0.*"), ("bob", "o.alice.>"), ("voter-1", "p.0.*"))
+             if users[user].may_listen(box)]
+    time.sleep(2)
+    logs = "".join(c.log_of(voter).read_text() for voter in NAMES)
+    wrong = [word for word in ("event=evicted", "event=refused-voter", "evil") if word in logs]
+    print(f"passed or not, against what was said: {passed}; heard: {heard}; in the logs: {wrong}; locks lost: {s.lost()}")
+    stands = not passed and not heard and not wrong and s.lost() == 0 and s.has("another") and c.all_run()
+    # the same words of who may say them do what they say
+    other = Session(c)
+    c.ctl("evict", str(other.number))
+    for to in range(len(NAMES)):
+        own.may_say(f"v.{to}.jobs", close)
+    if not s.wait("lost payroll", 5) or "by=alice" not in c.log_of("hub").read_text():
+        raise RuntimeError("the words are none of this protocol, and show nothing")
+    return stands
+
+
 def name_loopback(room: Path, names: list[str]) -> None:
     """Gives the loopback these names, for this process and those that it starts."""
     if ctypes.CDLL(None).unshare(CLONE_NEWNS):
@@ -841,6 +901,7 @@ def three_servers(room: Path) -> bool:
     name_loopback(room, names)
     for name in ("ca", "routes-ca"):
         authority(room, name)
+    (room / "users.conf").write_text("")
     routes, logs = [f"{name}:{free_port()}" for name in names], []
     for name, route in zip(names, routes):
         keys = room / name
@@ -849,7 +910,7 @@ def three_servers(room: Path) -> bool:
             shutil.copy(file, keys)
         certificate(keys, "machine", "ca", names=f"DNS:{name}")
         certificate(keys, "routes", "routes-ca", names=f"DNS:{name}")
-        start_server(room, name, server_file(route, keys, free_port(), routes, "prod"))
+        start_server(room, name, server_file(route, keys, free_port(), routes))
         logs.append(room / f"{name}.log")
     time.sleep(4)
     made = [log.read_text().count("Route connection created") for log in logs]

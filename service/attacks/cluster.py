@@ -139,8 +139,8 @@ class Cluster:
         self.file, self.port = self.room / "cluster.toml", free_port()
         self.ports: dict[str, int] = {}
         self.voters: dict[str, subprocess.Popen[bytes]] = {}
-        self.start_server()
         self.ctl("init", "--id", name, "--coterie", WHEEL, "--servers", self.url(), "--ttl", ttl, *self.init_words())
+        self.start_server()
         for voter in NAMES:
             self.add(voter)
         self.wait()
@@ -392,9 +392,13 @@ class Wire:
 
     def __init__(self, port: int) -> None:
         self.socket = socket.create_connection(("127.0.0.1", port), 5)
-        ENDINGS.append(self.socket.close)
+        ENDINGS.append(lambda: self.socket.close())
         self.socket.recv(4096)
-        self.socket.sendall(b'CONNECT {"verbose":false}\r\n')
+        self.connect()
+
+    def connect(self, words: str = "") -> None:
+        """Says who this is."""
+        self.socket.sendall(f'CONNECT {{"verbose":false{words}}}\r\n'.encode())
 
     def publish(self, subject: str, text: str) -> None:
         """Sends a message."""
@@ -443,7 +447,7 @@ class Stranger(Wire):
     def say(self, voter: int, number: int, epoch: int, reserved: int, name: str, lines: str) -> None:
         """Sends a message of a client to a voter."""
         header = self.header("c", f"{number} {epoch} {reserved} {name} 1")
-        self.publish(f"qlock.{self.id}.v.{voter}", header + lines)
+        self.publish(f"qlock.{self.id}.v.{voter}.-", header + lines)
 
     def must_arrive(self) -> None:
         """Fails if what was said is not of this protocol, so that it shows nothing."""

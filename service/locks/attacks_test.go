@@ -11,13 +11,14 @@ import (
 	"calvundek.example/service/internal/wire"
 	"calvundek.example/service/internal/worlds"
 	"calvundek.example/service/qlock"
+	"calvundek.example/service/transport"
 )
 
 // stranger sends what it likes to voters.
 type stranger struct {
 	w *worlds.World
 	wire.Header
-	replies <-chan []byte
+	replies <-chan transport.Message
 }
 
 func newStranger(t *testing.T, w *worlds.World, name string) *stranger {
@@ -25,7 +26,7 @@ func newStranger(t *testing.T, w *worlds.World, name string) *stranger {
 	s := &stranger{w, wire.Header{Cluster: w.Cluster.ID, Coterie: w.Cluster.Marks()[0], Kind: wire.FromClient,
 		Name: name}, nil}
 	var err error
-	if s.replies, err = w.Bus.Port().Listen(wire.SessionBox(w.Cluster.ID, name)); err != nil {
+	if s.replies, err = w.Bus.Port().Listen(wire.SessionBoxes(w.Cluster.ID, wire.SessionName(wire.NoUser, name))); err != nil {
 		t.Fatal(err)
 	}
 	return s
@@ -33,7 +34,7 @@ func newStranger(t *testing.T, w *worlds.World, name string) *stranger {
 
 // send sends lines to a voter.
 func (s *stranger) send(voter int, lines string) {
-	_ = s.w.Bus.Port().Send(wire.VoterBox(s.Cluster, voter), append(s.Append(nil), lines...))
+	_ = s.w.Bus.Port().Send(wire.VoterBox(s.Cluster, voter, wire.NoUser), append(s.Append(nil), lines...))
 }
 
 // hears waits until a text comes, and returns whether it did.
@@ -41,7 +42,7 @@ func (s *stranger) hears(text string, most time.Duration) bool {
 	for end := time.After(most); ; {
 		select {
 		case m := <-s.replies:
-			if bytes.Contains(m, []byte(text)) {
+			if bytes.Contains(m.Data, []byte(text)) {
 				return true
 			}
 		case <-end:
@@ -74,7 +75,7 @@ func works(t *testing.T, w *worlds.World, names ...string) {
 func TestMadeUpSessionsSpendNoNumber(t *testing.T) {
 	w := worlds.New(t, worlds.Majority, time.Second)
 	for number := 0; number < qlock.MaxClients; number++ {
-		s := newStranger(t, w, fmt.Sprint("x.", number))
+		s := newStranger(t, w, fmt.Sprint("x-", number))
 		s.Number, s.Epoch, s.Reserved, s.Seq = number, 1<<32, 1<<41, 1
 		for voter := range w.Owns {
 			s.send(voter, ". close\n")
@@ -87,7 +88,7 @@ func TestMadeUpSessionsSpendNoNumber(t *testing.T) {
 func TestGreatClaimsSpendNoNumber(t *testing.T) {
 	w := worlds.New(t, worlds.Majority, time.Second)
 	for number := 0; number < qlock.MaxClients; number++ {
-		s := newStranger(t, w, fmt.Sprint("x.", number))
+		s := newStranger(t, w, fmt.Sprint("x-", number))
 		s.Number, s.Seq = number, 1
 		for i := uint64(1); i < 50; i++ {
 			for _, step := range []uint64{1 << 20, 1 << 18} {
@@ -112,7 +113,7 @@ func TestOneGreatStamp(t *testing.T) {
 	}
 	great := uint64(qlock.MaxStamp - 1)
 	for claims := 0; claims < 2; claims++ {
-		s := newStranger(t, w, fmt.Sprint("evil.", claims))
+		s := newStranger(t, w, fmt.Sprint("evil-", claims))
 		s.Number, s.Epoch, s.Reserved, s.Seq = 62+claims, 1000, great, 1
 		for voter := range w.Owns {
 			if claims > 0 {

@@ -17,7 +17,7 @@ func still(t *testing.T, w *worlds.World) *Client {
 	if err != nil {
 		t.Fatal(err)
 	}
-	if c.messages, err = c.carrier.Listen(wire.SessionBox(w.Cluster.ID, c.header.Name)); err != nil {
+	if c.messages, err = c.carrier.Listen(c.boxes()); err != nil {
 		t.Fatal(err)
 	}
 	if err := c.begin(within(t, 20*time.Second)); err != nil {
@@ -121,6 +121,21 @@ func TestAbandonedNumberSpeaksNoMore(t *testing.T) {
 	}
 }
 
+// A voter speaks in its own mailbox only.
+func TestVoterSpeaksAsItself(t *testing.T) {
+	c := alone(t)
+	h := wire.Header{Cluster: c.cluster.ID, Coterie: c.plan.mark, Kind: wire.FromVoter, Number: 1, Name: "identity-1"}
+	for _, from := range []int{0, 2, 11} {
+		c.message(came(c.Client, from, append(h.Append(nil), ". taken 3 5\n"...)))
+	}
+	if c.takers() != 0 || c.stats.Refused != 3 || c.peers[1].identity != "" {
+		t.Errorf("taken by %b, %d messages are refused", c.takers(), c.stats.Refused)
+	}
+	if hear(c.Client, h, ". taken 3 5\n"); c.takers() != 1<<1 {
+		t.Errorf("taken by %b", c.takers())
+	}
+}
+
 // What a message has behind the line that ends the session is not taken.
 func TestNothingIsTakenAfterTheEnd(t *testing.T) {
 	w := worlds.New(t, worlds.Majority, time.Second)
@@ -130,12 +145,12 @@ func TestNothingIsTakenAfterTheEnd(t *testing.T) {
 	}
 	c.header.Number, c.header.Epoch = 3, 5
 	h := wire.Header{Cluster: w.Cluster.ID, Coterie: c.plan.mark, Kind: wire.FromVoter, Number: 1, Name: "identity"}
-	c.message(append(h.Append(nil), ". taken 3 5\n"...))
+	hear(c, h, ". taken 3 5\n")
 	if c.why != nil {
 		t.Fatalf("one voter's word ends a session: %v", c.why)
 	}
 	h.Number, h.Name = 2, "another"
-	c.message(append(h.Append(nil), ". taken 3 5\nx nonsense\n"...))
+	hear(c, h, ". taken 3 5\nx nonsense\n")
 	if !errors.Is(c.why, ErrLost) || c.stats.Refused != 0 {
 		t.Errorf("%v, %d lines are refused", c.why, c.stats.Refused)
 	}

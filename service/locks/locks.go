@@ -31,7 +31,6 @@ var (
 	ErrClosed   = errors.New("locks: the client is closed")
 	ErrLost     = errors.New("locks: the session is over: another one has its number, or an operator ended it")
 	ErrName     = errors.New("locks: a lock's name has 1 to 64 of A-Z a-z 0-9 _ - . : and no dot first")
-	ErrPrefix   = errors.New("locks: a prefix has at most 31 of A-Z a-z 0-9 _ - . : and no dot first")
 	ErrNested   = errors.New("locks: the context is that of a holder of this lock, who would wait for himself")
 	ErrNotHeld  = errors.New("locks: the lock was given back before")
 	ErrLapsed   = errors.New("locks: the lock may have been somebody else's before it was given back")
@@ -51,11 +50,10 @@ func (b because) Unwrap() error        { return b.why }
 // Config is how to reach a cluster.
 type Config struct {
 	Cluster   string              // the cluster's file, the same for all processes
-	Prefix    string              // of the session's mailbox: with "app" it is qlock.CLUSTER.c.app.NAME, which a user may be permitted
 	User      string              // the user of NATS; none if empty
 	Secret    string              // the file of the user's password
-	Seed      string              // the file of the seed of an nkey, in place of a user
-	Creds     string              // the file of credentials (a JWT and its seed), in place of a user
+	Seed      string              // the file of the seed of an nkey, in place of a password
+	Creds     string              // the file of credentials (a JWT and its seed), in place of a password
 	Cert, Key string              // the files of a certificate and its key; none if empty
 	Heartbeat time.Duration       // a quarter of the TTL, at most 500 ms, if 0
 	DontWait  bool                // Open fails with ErrNumbers at once if all numbers are in use
@@ -63,12 +61,12 @@ type Config struct {
 	Transport transport.Transport // NATS with the cluster's servers if nil; it is not closed with the client
 }
 
-// FromEnvironment returns how to reach a cluster, by the variables QLOCK_CLUSTER, QLOCK_PREFIX, QLOCK_USER, QLOCK_SECRET,
+// FromEnvironment returns how to reach a cluster, by the variables QLOCK_CLUSTER, QLOCK_USER, QLOCK_SECRET,
 // QLOCK_SEED, QLOCK_CREDS, QLOCK_CERT and QLOCK_KEY. What has no variable is empty. Another variable QLOCK_.. is
 // an error if nothing of this project reads it.
 func FromEnvironment() (Config, error) {
 	read := config.FromEnvironment
-	return Config{Cluster: read("cluster"), Prefix: read("prefix"), User: read("user"), Secret: read("secret"),
+	return Config{Cluster: read("cluster"), User: read("user"), Secret: read("secret"),
 		Seed: read("seed"), Creds: read("creds"), Cert: read("cert"), Key: read("key")}, config.CheckEnvironment()
 }
 
@@ -92,7 +90,8 @@ type Client struct {
 	carrier transport.Transport
 	close   func() // of the carrier
 
-	messages <-chan []byte
+	user     string // as a word of mailboxes
+	messages <-chan transport.Message
 	calls    chan func()
 	ended    chan struct{} // closed at the end, and why says why
 	why      error
@@ -147,7 +146,7 @@ func open(ctx context.Context, cluster *config.Cluster, c Config) (*Client, erro
 	if err != nil {
 		return nil, err
 	}
-	if client.messages, err = client.carrier.Listen(wire.SessionBox(cluster.ID, client.header.Name)); err == nil {
+	if client.messages, err = client.carrier.Listen(client.boxes()); err == nil {
 		err = client.begin(ctx)
 	}
 	if err != nil {
@@ -171,18 +170,16 @@ func newClient(cluster *config.Cluster, c Config) (*Client, error) {
 	if err != nil {
 		return nil, err
 	}
-	if c.Prefix != "" {
-		name = c.Prefix + "." + name
+	access := config.Access{User: c.User, Secret: c.Secret, Seed: c.Seed, Creds: c.Creds, Cert: c.Cert, Key: c.Key}
+	user, err := access.Speaker()
+	if err != nil {
+		return nil, err
 	}
-	if !wire.IsName([]byte(name)) {
-		return nil, fmt.Errorf("%w: %q", ErrPrefix, c.Prefix)
-	}
-	client := &Client{cluster: cluster, watch: newWatch(cluster.TTL.Duration), plans: newPlans(cluster),
+	client := &Client{cluster: cluster, user: user, watch: newWatch(cluster.TTL.Duration), plans: newPlans(cluster),
 		waits: newWaits(), config: c, carrier: c.Transport, close: func() {},
 		calls: make(chan func()), ended: make(chan struct{}), stopped: make(chan struct{}), locks: map[string]*lock{}, busy: map[*lock]struct{}{}}
 	client.session = newSession(cluster, name)
 	if client.carrier == nil {
-		access := config.Access{User: c.User, Secret: c.Secret, Seed: c.Seed, Creds: c.Creds, Cert: c.Cert, Key: c.Key}
 		link, err := transport.Connect(cluster, access, "qlock client")
 		if err != nil {
 			return nil, err
@@ -190,6 +187,11 @@ func newClient(cluster *config.Cluster, c Config) (*Client, error) {
 		client.carrier, client.close = link, link.Close
 	}
 	return client, nil
+}
+
+// boxes returns the mailboxes of the session.
+func (c *Client) boxes() string {
+	return wire.SessionBoxes(c.cluster.ID, wire.SessionName(c.user, c.header.Name))
 }
 
 func shorter(a, b time.Duration) time.Duration {
@@ -376,7 +378,7 @@ func (c *Client) flush() {
 		if len(c.out[voter]) == 0 {
 			continue
 		}
-		box := wire.VoterBox(c.cluster.ID, voter)
+		box := wire.VoterBox(c.cluster.ID, voter, c.user)
 		header := c.header
 		header.Coterie = c.speaks(voter)
 		header.Split(c.out[voter], func(message []byte) {

@@ -45,7 +45,7 @@ func newScene(t *testing.T) *scene {
 	}
 	one := bits.TrailingZeros64(l.shown.Quorum)
 	s.missed = bits.TrailingZeros64(l.shown.Quorum &^ (1 << one))
-	s.message(s.says(one, s.locked("x", one)))
+	s.message(came(s.Client, one, s.says(one, s.locked("x", one))))
 	if bits.OnesCount64(s.votes(l)) != 1 {
 		t.Fatalf("votes of %b", s.votes(l))
 	}
@@ -137,7 +137,7 @@ func FuzzReply(f *testing.F) {
 			s = nil // the next message meets a client that heard nothing yet
 		}
 		before := at.view(sender)
-		at.message(message)
+		at.message(came(at.Client, sender, message))
 		after := at.view(sender)
 		if at.why != nil {
 			t.Fatalf("one message of voter %d ends the session: %v: %q", sender, at.why, message)

@@ -13,6 +13,7 @@ import (
 
 	"calvundek.example/service/guard"
 	"calvundek.example/service/internal/bus"
+	"calvundek.example/service/internal/config"
 	"calvundek.example/service/internal/voter"
 	"calvundek.example/service/internal/worlds"
 	"calvundek.example/service/qlock"
@@ -123,7 +124,7 @@ func TestWrongUse(t *testing.T) {
 	if _, err := c.Lock(context.Background(), "a b"); !errors.Is(err, ErrName) {
 		t.Error(err)
 	}
-	if _, err := open(context.Background(), w.Cluster, Config{Transport: w.Bus.Port(), Prefix: "*"}); !errors.Is(err, ErrPrefix) {
+	if _, err := open(context.Background(), w.Cluster, Config{Transport: w.Bus.Port(), User: "*"}); !errors.Is(err, config.ErrUser) {
 		t.Error(err)
 	}
 	held := take(t, c, "x")
@@ -510,7 +511,7 @@ func TestFullIsSaid(t *testing.T) {
 func TestNumbersInUse(t *testing.T) {
 	w := worlds.New(t, worlds.Majority, 20*time.Second)
 	for number := 0; number < qlock.MaxClients; number++ {
-		s := newStranger(t, w, fmt.Sprint("s.", number))
+		s := newStranger(t, w, fmt.Sprint("s-", number))
 		for voter := range w.Owns {
 			s.send(voter, fmt.Sprintf(". claim %d 1\n", number))
 		}

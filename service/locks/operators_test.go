@@ -28,7 +28,7 @@ func begin(t *testing.T, w *worlds.World, c *config.Cluster, coterie string) (wr
 	if err != nil {
 		t.Fatal(err)
 	}
-	_, err = exchange.Begin(within(t, 20*time.Second), c, next, operator.New(next, w.Bus.Port()), patience,
+	_, err = exchange.Begin(within(t, 20*time.Second), c, next, operator.New(next, w.Bus.Port(), wire.NoUser), patience,
 		func(c *config.Cluster) error { written = c; return nil })
 	return written, err
 }
@@ -129,7 +129,7 @@ func TestTwoOperators(t *testing.T) {
 	if err != nil {
 		t.Fatal(err)
 	}
-	console := operator.New(second, w.Bus.Port())
+	console := operator.New(second, w.Bus.Port(), wire.NoUser)
 	if _, err := exchange.Retire(within(t, 20*time.Second), second, console, patience); !errors.Is(err,
 		exchange.ErrFew) ||
 		!strings.Contains(err.Error(), voter.ErrAnother.Error()) {
@@ -144,11 +144,11 @@ func TestTwoOperators(t *testing.T) {
 			t.Errorf("%s: %s", replies[i].Name, replies[i].Body)
 		}
 	}
-	if _, err := exchange.Install(within(t, 20*time.Second), first, operator.New(first, w.Bus.Port()),
+	if _, err := exchange.Install(within(t, 20*time.Second), first, operator.New(first, w.Bus.Port(), wire.NoUser),
 		patience); err != nil {
 		t.Errorf("the third voter takes the plan of the operator who succeeded: %v", err)
 	}
-	if _, err := exchange.Retire(within(t, 20*time.Second), first, operator.New(first, w.Bus.Port()),
+	if _, err := exchange.Retire(within(t, 20*time.Second), first, operator.New(first, w.Bus.Port(), wire.NoUser),
 		patience); err != nil {
 		t.Errorf("the operator who succeeded: %v", err)
 	}
@@ -172,7 +172,7 @@ func TestOneVoterRetiresNoClient(t *testing.T) {
 	c := alone(t)
 	says := func(voter int, identity string) {
 		h := wire.Header{Cluster: c.cluster.ID, Coterie: "another", Kind: wire.FromVoter, Number: voter, Name: identity}
-		c.message(append(h.Append(nil), ". generation 9 000000000000 9\n"...))
+		hear(c.Client, h, ". generation 9 000000000000 9\n")
 	}
 	for i := 0; i < 3; i++ {
 		if says(1, "x"); c.why != nil {

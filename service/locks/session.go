@@ -27,12 +27,14 @@ import (
 	"errors"
 	"fmt"
 	"math/rand"
+	"strconv"
 	"time"
 
 	"calvundek.example/service/internal/config"
 	"calvundek.example/service/internal/level"
 	"calvundek.example/service/internal/wire"
 	"calvundek.example/service/qlock"
+	"calvundek.example/service/transport"
 	"golang.org/x/sys/unix"
 )
 
@@ -442,9 +444,10 @@ func (c *Client) avoided(now time.Time) (mask uint64) {
 }
 
 // message takes a message of a voter.
-func (c *Client) message(data []byte) {
-	h, lines, err := wire.Read(data)
-	if err != nil || h.Cluster != c.header.Cluster || h.Kind != wire.FromVoter || h.Number >= len(c.peers) {
+func (c *Client) message(m transport.Message) {
+	h, lines, err := wire.Read(m.Data)
+	if err != nil || h.Cluster != c.header.Cluster || h.Kind != wire.FromVoter || h.Number >= len(c.peers) ||
+		m.Sender() != strconv.Itoa(h.Number) {
 		c.stats.Refused++
 		return
 	}

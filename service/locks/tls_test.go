@@ -23,31 +23,17 @@ import (
 	"calvundek.example/service/internal/event"
 	"calvundek.example/service/internal/local"
 	"calvundek.example/service/internal/operator"
+	"calvundek.example/service/internal/users"
 	"calvundek.example/service/internal/voter"
 	"calvundek.example/service/internal/wire"
 	"calvundek.example/service/internal/worlds"
 	"calvundek.example/service/transport"
 )
 
-// serverFile is a server with TLS that wants certificates of its clients, and says what each user may do. docs/service.md
-// has the same for five voters.
+// serverFile is a server with TLS that wants certificates of its clients, and says what each user may do.
 const serverFile = `listen: "127.0.0.1:%d"
 tls { cert_file: "%s/server.pem", key_file: "%s/server.key", ca_file: "%s/ca.pem", verify: true }
-authorization { users: [
-  { user: voter-a, password: secret-a, permissions: {
-      subscribe: ["qlock.test.v.0", "qlock.test.p.0.*", "qlock.test.admin.0"],
-      publish: ["qlock.test.c.>", "qlock.test.o.*", "qlock.test.v.0", "qlock.test.p.*.0"] } }
-  { user: voter-b, password: secret-b, permissions: {
-      subscribe: ["qlock.test.v.1", "qlock.test.p.1.*", "qlock.test.admin.1"],
-      publish: ["qlock.test.c.>", "qlock.test.o.*", "qlock.test.v.1", "qlock.test.p.*.1"] } }
-  { user: voter-c, password: secret-c, permissions: {
-      subscribe: ["qlock.test.v.2", "qlock.test.p.2.*", "qlock.test.admin.2"],
-      publish: ["qlock.test.c.>", "qlock.test.o.*", "qlock.test.v.2", "qlock.test.p.*.2"] } }
-  { user: shop, password: secret-shop, permissions: { subscribe: ["qlock.test.c.shop.*"], publish: ["qlock.test.v.*"] } }
-  { user: spy, password: secret-spy, permissions: { subscribe: ["qlock.test.c.spy.*"], publish: ["qlock.test.v.*"] } }
-  { user: operator, password: secret-operator, permissions: { subscribe: ["qlock.test.o.*"], publish: ["qlock.test.admin.*"] } }
-] }
-`
+%s`
 
 // authority makes an authority and certificates of it in a folder: NAME.pem and NAME.key.
 func authority(t *testing.T, folder string, names ...string) {
@@ -103,26 +89,35 @@ func secured(t *testing.T) (*config.Cluster, string) {
 	}
 	folder := t.TempDir()
 	authority(t, folder, "server", "process")
-	for _, user := range []string{"a", "b", "c", "shop", "spy", "operator"} {
+	cluster := worlds.NewCluster(t, worlds.Majority, 2*time.Second)
+	all, err := users.Of(cluster, users.List{Clients: []string{"shop", "spy"}, Operators: []string{"alice"}, Readers: []string{"bob"}})
+	if err != nil {
+		t.Fatal(err)
+	}
+	block, err := users.Block(all, func(user string) (string, error) {
 		write(t, filepath.Join(folder, user+".secret"), "secret-"+user+"\n")
+		shown, err := users.ByPassword(user)
+		return strings.Replace(shown, "...", "secret-"+user, 1), err
+	})
+	if err != nil {
+		t.Fatal(err)
 	}
 	ports, err := local.FreePorts(1)
 	if err != nil {
 		t.Fatal(err)
 	}
-	write(t, filepath.Join(folder, "nats.conf"), fmt.Sprintf(serverFile, ports[0], folder, folder, folder))
+	write(t, filepath.Join(folder, "nats.conf"), fmt.Sprintf(serverFile, ports[0], folder, folder, folder, block))
 	run := exec.Command(server, "-c", filepath.Join(folder, "nats.conf"))
 	if err := run.Start(); err != nil {
 		t.Fatal(err)
 	}
 	t.Cleanup(func() { _ = run.Process.Kill(); _ = run.Wait() })
-	cluster := worlds.NewCluster(t, worlds.Majority, 2*time.Second)
 	cluster.Servers, cluster.CA = []string{fmt.Sprintf("tls://127.0.0.1:%d", ports[0])}, filepath.Join(folder, "ca.pem")
 	return cluster, folder
 }
 
-func access(folder, user, secret string) config.Access {
-	return config.Access{User: user, Secret: filepath.Join(folder, secret+".secret"),
+func access(folder, user string) config.Access {
+	return config.Access{User: user, Secret: filepath.Join(folder, user+".secret"),
 		Cert: filepath.Join(folder, "process.pem"), Key: filepath.Join(folder, "process.key")}
 }
 
@@ -146,7 +141,7 @@ func TestCertificatesAndUsers(t *testing.T) {
 		if _, err := voter.Init(own, cluster); err != nil {
 			t.Fatal(err)
 		}
-		d, err := voter.Open(own, cluster, connect(t, cluster, access(folder, "voter-"+name, name)), event.To(io.Discard))
+		d, err := voter.Open(own, cluster, connect(t, cluster, access(folder, users.VoterName(i))), event.To(io.Discard))
 		if err != nil {
 			t.Fatal(i, err)
 		}
@@ -160,14 +155,14 @@ func TestCertificatesAndUsers(t *testing.T) {
 			}
 		})
 	}
-	shop := connect(t, cluster, access(folder, "shop", "shop"))
-	client, err := open(within(t, 20*time.Second), cluster, Config{Prefix: "shop", Transport: shop})
+	shop := connect(t, cluster, access(folder, "shop"))
+	client, err := open(within(t, 20*time.Second), cluster, Config{User: "shop", Transport: shop})
 	if err != nil {
 		t.Fatal(err)
 	}
-	spy := connect(t, cluster, access(folder, "spy", "spy"))
-	var heard []<-chan []byte
-	for _, box := range []string{"qlock.test.c.shop.*", "qlock.test.c.*.*", "qlock.test.v.0", "qlock.test.o.*", ">"} {
+	spy := connect(t, cluster, access(folder, "spy"))
+	var heard []<-chan transport.Message
+	for _, box := range []string{"qlock.test.c.shop.>", "qlock.test.c.*.*.*", "qlock.test.v.0.*", "qlock.test.o.>", ">"} {
 		messages, err := spy.Listen(box)
 		if err != nil {
 			t.Fatal(err)
@@ -175,18 +170,30 @@ func TestCertificatesAndUsers(t *testing.T) {
 		heard = append(heard, messages)
 	}
 	operators := wire.Header{Cluster: "test", Coterie: cluster.Marks()[0], Kind: wire.FromOperator, Name: "spy"}
-	_ = spy.Send(wire.AdminBox("test", 0), append(operators.Append(nil), fmt.Sprintf("evict %d\n", client.Number())...))
-	_ = spy.Send(wire.SessionBox("test", client.header.Name), []byte("anything"))
+	for _, name := range []string{"spy", "alice"} {
+		_ = spy.Send(wire.WriteBox("test", 0, name), append(operators.Append(nil), fmt.Sprintf("evict %d\n", client.Number())...))
+	}
+	_ = spy.Send(wire.SessionBox("test", wire.SessionName("shop", client.header.Name), 0), []byte("anything"))
 	held := take(t, client, "x")
 	time.Sleep(700 * time.Millisecond) // some heartbeats
-	console := operator.New(cluster, connect(t, cluster, access(folder, "operator", "operator")))
-	replies, err := console.Ask(within(t, 10*time.Second), "lock x", console.All()...)
-	if err != nil {
-		t.Fatal(err)
-	}
-	for _, r := range replies {
-		if r.Err != nil {
-			t.Errorf("%s: %v", r.Name, r.Err)
+	for _, one := range []struct {
+		user, words string
+		may         bool
+	}{{"bob", "lock x", true}, {"bob", "status", true}, {"bob", "sessions", false}, {"bob", "knows", false},
+		{"bob", fmt.Sprint("evict ", client.Number()), false}, {"alice", "lock x", true}, {"alice", "sessions", true}} {
+		console := operator.New(cluster, connect(t, cluster, access(folder, one.user)), one.user)
+		patience := 10 * time.Second
+		if !one.may {
+			patience = time.Second
+		}
+		replies, err := console.Ask(within(t, patience), one.words, console.All()...)
+		if err != nil {
+			t.Fatal(err)
+		}
+		for _, r := range replies {
+			if (r.Err == nil) != one.may {
+				t.Errorf("%s asks %s: %s: %v", one.user, one.words, r.Name, r.Err)
+			}
 		}
 	}
 	select {
@@ -197,7 +204,7 @@ func TestCertificatesAndUsers(t *testing.T) {
 	for i, messages := range heard {
 		select {
 		case message := <-messages:
-			t.Errorf("%d: heard %q", i, message)
+			t.Errorf("%d: heard %q", i, message.Data)
 		default:
 		}
 	}
@@ -217,7 +224,7 @@ func TestWrongCertificatesAndUsers(t *testing.T) {
 	cluster, folder := secured(t)
 	other := t.TempDir()
 	authority(t, other, "process")
-	right := access(folder, "shop", "shop")
+	right := access(folder, "shop")
 	for what, how := range map[string]func(a *config.Access, c *config.Cluster){
 		"a wrong password":    func(a *config.Access, _ *config.Cluster) { a.Secret = filepath.Join(folder, "spy.secret") },
 		"no user":             func(a *config.Access, _ *config.Cluster) { a.User = "" },
@@ -297,7 +304,7 @@ func TestRenewedFiles(t *testing.T) {
 	}
 }
 
-// routed returns the file of a server as docs/service.md has it, without its users, with these
+// routed returns the file of a server as docs/service.md has it, without the users, with these
 // ports and folders of certificates.
 func routed(t *testing.T, port, own, first int, machines, routes string) string {
 	t.Helper()
@@ -306,7 +313,7 @@ func routed(t *testing.T, port, own, first int, machines, routes string) string 
 		t.Fatal(err)
 	}
 	_, file, found := strings.Cut(string(text), "listen: \"0.0.0.0:4222\"")
-	if file, _, _ = strings.Cut(file, "authorization {"); !found {
+	if file, _, _ = strings.Cut(file, "include "); !found {
 		t.Fatal("the page has no file of a server")
 	}
 	return fmt.Sprintf("listen: \"127.0.0.1:%d\"", port) + strings.NewReplacer("server_name: m0", "",
@@ -354,12 +361,12 @@ func TestRogueRoute(t *testing.T) {
 		t.Fatal(err)
 	}
 	soon(t, "servers with a route pass nothing on", func() bool {
-		_ = first.Send("qlock.test.v.0",
+		_ = first.Send("qlock.test.v.0.jobs",
 			[]byte("x"))
 		return len(passed) > 0
 	})
 	for i := 0; i < 20; i++ {
-		_ = first.Send("qlock.test.v.0", []byte("x"))
+		_ = first.Send("qlock.test.v.0.jobs", []byte("x"))
 		time.Sleep(50 * time.Millisecond)
 	}
 	if len(stolen) > 0 {

@@ -48,7 +48,7 @@ func lapsed(c *Client, voter int, lapses uint64, lines string) {
 	p := c.peers[voter]
 	h := wire.Header{Cluster: c.cluster.ID, Coterie: c.plan.mark, Kind: wire.FromVoter, Number: voter,
 		Name: p.identity, Run: p.run, Start: p.start, Lapses: lapses}
-	c.message(append(h.Append(nil), lines...))
+	hear(c, h, lines)
 }
 
 // A voter that let a vote go and then acknowledges a heartbeat ends what had the vote. Its words

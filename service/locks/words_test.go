@@ -13,12 +13,13 @@ import (
 	"calvundek.example/service/internal/wire"
 	"calvundek.example/service/internal/worlds"
 	"calvundek.example/service/qlock"
+	"calvundek.example/service/transport"
 )
 
 // table is a client whose voters' words a test says, and what the client sends.
 type table struct {
 	*Client
-	boxes []<-chan []byte
+	boxes []<-chan transport.Message
 }
 
 // alone returns a client that has a session of number 3 and epoch 5, of which the voters said
@@ -33,7 +34,7 @@ func alone(t *testing.T) *table {
 	c.header.Number, c.header.Epoch, c.asked, c.claimed, c.header.Reserved = 3, 5, 3, 5, mostBlock
 	one := &table{Client: c}
 	for voter := range c.peers {
-		box, err := b.Port().Listen(wire.VoterBox(cluster.ID, voter))
+		box, err := b.Port().Listen(wire.VoterBox(cluster.ID, voter, wire.NoUser))
 		if err != nil {
 			t.Fatal(err)
 		}
@@ -42,11 +43,22 @@ func alone(t *testing.T) *table {
 	return one
 }
 
+// came returns a message of a voter that came to a client.
+func came(c *Client, voter int, data []byte) transport.Message {
+	session := wire.SessionName(c.user, c.header.Name)
+	return transport.Message{Mailbox: wire.SessionBox(c.cluster.ID, session, voter), Data: data}
+}
+
+// hear lets a client take a message of a voter.
+func hear(c *Client, h wire.Header, lines string) {
+	c.message(came(c, h.Number, append(h.Append(nil), lines...)))
+}
+
 // says lets the client take lines of a voter.
 func (c *table) says(voter int, lines string) {
 	h := wire.Header{Cluster: c.cluster.ID, Coterie: c.plan.mark, Kind: wire.FromVoter, Number: voter,
 		Name: fmt.Sprint("identity-", voter)}
-	c.message(append(h.Append(nil), lines...))
+	hear(c.Client, h, lines)
 }
 
 // sent returns the lines of locks that the client sends, by voter.
@@ -54,7 +66,7 @@ func (c *table) sent() (lines [3][]string) {
 	c.flush()
 	for voter, box := range c.boxes {
 		for len(box) > 0 {
-			_, rest, _ := wire.Read(<-box)
+			_, rest, _ := wire.Read((<-box).Data)
 			for _, line := range strings.Split(strings.TrimSpace(string(rest)), "\n") {
 				if !strings.HasPrefix(line, ". ") {
 					lines[voter] = append(lines[voter], line)
@@ -114,16 +126,16 @@ func TestOneVoterGivesNoNumber(t *testing.T) {
 	voter := c.boxes[0]
 	go func() {
 		for m := range voter {
-			h, lines, _ := wire.Read(m)
+			h, lines, _ := wire.Read(m.Data)
 			if text := string(lines); strings.Contains(text, "claim 3 ") {
 				reply := wire.Header{Cluster: h.Cluster, Coterie: h.Coterie, Kind: wire.FromVoter, Name: "identity-0"}
 				epoch := strings.Fields(text[strings.Index(text, "claim 3 "):])[2]
-				_ = c.carrier.Send(wire.SessionBox(h.Cluster, h.Name), append(reply.Append(nil),
+				_ = c.carrier.Send(wire.SessionBox(h.Cluster, wire.SessionName(wire.NoUser, h.Name), 0), append(reply.Append(nil),
 					". claimed 3 "+epoch+" 0 0\n"...))
 			}
 		}
 	}()
-	messages, err := c.carrier.Listen(wire.SessionBox(c.cluster.ID, c.header.Name))
+	messages, err := c.carrier.Listen(c.Client.boxes())
 	if err != nil {
 		t.Fatal(err)
 	}
@@ -144,7 +156,7 @@ func TestNumberIsClaimedEverywhere(t *testing.T) {
 		c.flush()
 		for len(c.boxes[2]) > 0 {
 			m := <-c.boxes[2]
-			count += strings.Count(string(m), ". claim 3 5 ")
+			count += strings.Count(string(m.Data), ". claim 3 5 ")
 		}
 		return count
 	}

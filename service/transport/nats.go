@@ -43,7 +43,7 @@ type NATS struct {
 // mailbox is what comes to one subject.
 type mailbox struct {
 	subscription *nats.Subscription
-	messages     chan []byte
+	messages     chan Message
 	left         chan struct{} // closed once nobody reads it any more
 }
 
@@ -81,7 +81,7 @@ var ErrClear = fmt.Errorf("%w: a password or creds need TLS: servers as tls://HO
 	config.ErrConfig)
 
 // ErrAccess is returned if a process says in several ways who it is.
-var ErrAccess = fmt.Errorf("%w: only one of user, seed and creds can be used", config.ErrConfig)
+var ErrAccess = fmt.Errorf("%w: only one of secret, seed and creds can be used", config.ErrConfig)
 
 // hidden returns ErrClear if a password would leave this machine without TLS. With an authority or
 // a certificate all is by TLS. Credentials count as a password: their JWT is shown, and it may be one
@@ -95,7 +95,7 @@ func hidden(cluster *config.Cluster, access config.Access) error {
 		if err != nil {
 			return fmt.Errorf("%w: a server is no URL: %v", config.ErrConfig, errors.Unwrap(err))
 		}
-		if access.User == "" && access.Creds == "" && place.User == nil {
+		if access.Secret+access.Creds == "" && place.User == nil {
 			continue
 		}
 		host := net.ParseIP(place.Hostname())
@@ -138,11 +138,8 @@ func (n *NATS) identity(cluster *config.Cluster, access config.Access) (options 
 // user returns the option that says which user of NATS this process is, nil if it is none.
 func user(access config.Access) (nats.Option, error) {
 	switch {
-	case access.User != "" && access.Seed+access.Creds != "" || access.Seed != "" && access.Creds != "":
+	case access.Secret != "" && access.Seed+access.Creds != "" || access.Seed != "" && access.Creds != "":
 		return nil, ErrAccess
-	case access.User != "":
-		text, err := os.ReadFile(access.Secret)
-		return nats.UserInfo(access.User, strings.TrimSpace(string(text))), err
 	case access.Seed != "":
 		option, err := nats.NkeyOptionFromSeed(access.Seed)
 		return option, named(access.Seed, err)
@@ -156,6 +153,9 @@ func user(access config.Access) (nats.Option, error) {
 			_, err = tried.SignatureCB(nil)
 		}
 		return option, named(access.Creds, err)
+	case access.User != "":
+		text, err := os.ReadFile(access.Secret)
+		return nats.UserInfo(access.User, strings.TrimSpace(string(text))), err
 	}
 	return nil, nil
 }
@@ -271,8 +271,8 @@ func (n *NATS) Send(mailbox string, message []byte) error {
 
 // Listen returns the messages that come to a mailbox. What finds no room is dropped, and counted: a
 // reminder repeats it.
-func (n *NATS) Listen(subject string) (<-chan []byte, error) {
-	messages, left := make(chan []byte, next), make(chan struct{})
+func (n *NATS) Listen(subject string) (<-chan Message, error) {
+	messages, left := make(chan Message, next), make(chan struct{})
 	out := handed{to: messages}
 	subscription, err := n.connection.Subscribe(subject, func(m *nats.Msg) {
 		for !out.hasRoom(len(m.Data)) {
@@ -285,7 +285,7 @@ func (n *NATS) Listen(subject string) (<-chan []byte, error) {
 			}
 		}
 		select {
-		case out.to <- m.Data:
+		case out.to <- Message{m.Subject, m.Data}:
 			out.note(len(m.Data))
 		case <-left:
 		case <-n.closed:
@@ -305,7 +305,7 @@ func (n *NATS) Listen(subject string) (<-chan []byte, error) {
 
 // handed counts the bytes of the messages that were handed out, and not read yet.
 type handed struct {
-	to          chan<- []byte
+	to          chan<- Message
 	sizes       [next + 1]int // of the last ones
 	count, read int
 	bytes       int

@@ -140,7 +140,7 @@ func TestBadAccess(t *testing.T) {
 			t.Error(what)
 		}
 	}
-	for _, access := range []config.Access{{User: "u", Secret: junk, Seed: junk}, {User: "u", Secret: junk, Creds: junk},
+	for _, access := range []config.Access{{User: "u", Secret: junk, Seed: junk}, {Secret: junk, Creds: junk},
 		{Seed: junk, Creds: junk}} {
 		_, err := transport.Connect(&config.Cluster{Servers: []string{"nats://127.0.0.1:1"}}, access, "test")
 		if !errors.Is(err, transport.ErrAccess) || !errors.Is(err, config.ErrConfig) {

@@ -35,12 +35,12 @@ func (n noise) Send(mailbox string, message []byte) error {
 	return n.Transport.Send(mailbox, message)
 }
 
-func (n noise) Listen(mailbox string) (<-chan []byte, error) {
+func (n noise) Listen(mailbox string) (<-chan transport.Message, error) {
 	clean, err := n.Transport.Listen(mailbox)
 	if err != nil {
 		return nil, err
 	}
-	noisy := make(chan []byte, transport.Room)
+	noisy := make(chan transport.Message, transport.Room)
 	go func() {
 		for message := range clean {
 			if rand.Intn(100) < n.percent {

@@ -41,9 +41,8 @@ type session struct {
 func main() {
 	var c locks.Config
 	flag.StringVar(&c.Cluster, "c", "", "the cluster's file")
+	flag.StringVar(&c.Seed, "seed", "", "the file of the seed")
 	flag.StringVar(&c.User, "user", "", "the user")
-	flag.StringVar(&c.Secret, "secret", "", "the file of the password")
-	flag.StringVar(&c.Prefix, "prefix", "", "the first part of the session's name")
 	flag.StringVar(&c.Cert, "cert", "", "the file of the certificate")
 	flag.StringVar(&c.Key, "key", "", "the file of its key")
 	flag.Parse()

@@ -9,6 +9,7 @@ import (
 	"net/http"
 	"os"
 	"os/signal"
+	"strconv"
 	"syscall"
 	"time"
 
@@ -131,7 +132,7 @@ func initialiseLost(ctx context.Context, own *config.Voter, cluster *config.Clus
 	defer link.Close()
 	ctx, cancel := context.WithTimeout(ctx, patience)
 	defer cancel()
-	return voter.InitLost(ctx, own, cluster, operator.New(cluster, link))
+	return voter.InitLost(ctx, own, cluster, operator.New(cluster, link, strconv.Itoa(cluster.Number(own.Voter))))
 }
 
 // start runs the voter until a signal comes, or a save fails.

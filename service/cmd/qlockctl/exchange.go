@@ -11,7 +11,6 @@ import (
 	"calvundek.example/service/internal/exchange"
 	"calvundek.example/service/internal/operator"
 	"calvundek.example/service/internal/voter"
-	"calvundek.example/service/transport"
 	"github.com/spf13/cobra"
 )
 
@@ -65,12 +64,12 @@ func retireCommand(ctx context.Context, s *settings) *cobra.Command {
 // lead makes one step of an exchange, and prints what the voters replied.
 func (s *settings) lead(ctx context.Context, cluster *config.Cluster, step func(*operator.Console) ([]operator.Reply,
 	error)) error {
-	link, err := transport.Connect(cluster, s.access, "qlockctl")
+	console, end, err := s.console(cluster)
 	if err != nil {
 		return err
 	}
-	defer link.Close()
-	replies, err := step(operator.New(cluster, link))
+	defer end()
+	replies, err := step(console)
 	if s.json && replies != nil {
 		if printed := printJSON(replies); err == nil {
 			err = printed

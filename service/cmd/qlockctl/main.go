@@ -58,19 +58,19 @@ func command(ctx context.Context) *cobra.Command {
 	flags.StringVarP(&s.cluster, "cluster", "c", "/etc/qlock/cluster.toml", "the cluster's file")
 	flags.StringVar(&s.access.User, "user", "", "the user of NATS")
 	flags.StringVar(&s.access.Secret, "secret", "", "the file of the user's password")
-	flags.StringVar(&s.access.Seed, "seed", "", "the file of the seed of an nkey, in place of a user with a password")
-	flags.StringVar(&s.access.Creds, "creds", "", "the file of credentials, in place of a user with a password")
+	flags.StringVar(&s.access.Seed, "seed", "", "the file of the seed of an nkey, in place of a password")
+	flags.StringVar(&s.access.Creds, "creds", "", "the file of credentials, in place of a password")
 	flags.StringVar(&s.access.Cert, "cert", "", "the file of a certificate")
 	flags.StringVar(&s.access.Key, "key", "", "the file of the certificate's key")
 	flags.DurationVar(&s.timeout, "timeout", 3*time.Second, "how long to wait for replies of voters")
 	flags.BoolVar(&s.json, "json", false, "print JSON")
-	root.AddCommand(initCommand(s), statusCommand(ctx, s), reportCommand(ctx, s), evictCommand(ctx, s), unlockCommand(ctx, s),
+	root.AddCommand(initCommand(s), usersCommand(s), statusCommand(ctx, s), reportCommand(ctx, s), evictCommand(ctx, s), unlockCommand(ctx, s),
 		exchangeCommand(ctx, s), retireCommand(ctx, s), levelCommand(ctx, s), runCommand(ctx, s))
 	return root
 }
 
 // fromEnvironment are the flags that the environment has, too: --cluster is QLOCK_CLUSTER.
-var fromEnvironment = []string{"cluster", "user", "secret", "seed", "creds", "cert", "key", "timeout", "prefix"}
+var fromEnvironment = []string{"cluster", "user", "secret", "seed", "creds", "cert", "key", "timeout"}
 
 // readEnvironment sets the flags that are not given, and are in the environment.
 func readEnvironment(command *cobra.Command) (err error) {
@@ -88,9 +88,10 @@ func readEnvironment(command *cobra.Command) (err error) {
 	return err
 }
 
-// setFlag sets a flag that is not given by the environment, if the command has it.
+// setFlag sets a flag that is not given by the environment, if the command has it. A list of users is
+// not who this process is.
 func setFlag(flag *pflag.Flag) error {
-	if flag == nil || flag.Changed {
+	if flag == nil || flag.Changed || flag.Value.Type() == "stringSlice" {
 		return nil
 	}
 	if text := config.FromEnvironment(flag.Name); text != "" {
@@ -105,18 +106,31 @@ func (s *settings) ask(ctx context.Context, use func(ctx context.Context, cluste
 	if err != nil {
 		return err
 	}
-	link, err := transport.Connect(cluster, s.access, "qlockctl")
+	console, end, err := s.console(cluster)
 	if err != nil {
 		return err
 	}
-	defer link.Close()
+	defer end()
 	ctx, cancel := context.WithTimeout(ctx, s.timeout)
 	defer cancel()
-	return use(ctx, cluster, operator.New(cluster, link))
+	return use(ctx, cluster, console)
+}
+
+// console connects, and returns a console, and what ends it.
+func (s *settings) console(cluster *config.Cluster) (*operator.Console, func(), error) {
+	name, err := s.access.Speaker()
+	if err != nil {
+		return nil, nil, err
+	}
+	link, err := transport.Connect(cluster, s.access, "qlockctl")
+	if err != nil {
+		return nil, nil, err
+	}
+	return operator.New(cluster, link, name), link.Close, nil
 }
 
 // client returns the configuration of a client.
-func (s *settings) client(prefix string) locks.Config {
-	return locks.Config{Cluster: s.cluster, Prefix: prefix, User: s.access.User, Secret: s.access.Secret,
+func (s *settings) client() locks.Config {
+	return locks.Config{Cluster: s.cluster, User: s.access.User, Secret: s.access.Secret,
 		Seed: s.access.Seed, Creds: s.access.Creds, Cert: s.access.Cert, Key: s.access.Key}
 }

@@ -15,7 +15,7 @@ import (
 func TestEnvironment(t *testing.T) {
 	t.Setenv("QLOCK_CLUSTER", "/there/is/none")
 	t.Setenv("QLOCK_TIMEOUT", "7s")
-	t.Setenv("QLOCK_PREFIX", "jobs")
+	t.Setenv("QLOCK_USER", "jobs")
 	execute := func(words ...string) error {
 		root := command(context.Background())
 		root.SetArgs(words)
@@ -41,9 +41,9 @@ func TestEnvironment(t *testing.T) {
 	if err := readEnvironment(read); err != nil {
 		t.Fatal(err)
 	}
-	prefix, _ := read.Flags().GetString("prefix")
-	if timeout, _ := read.Flags().GetDuration("timeout"); timeout != 2*time.Second || prefix != "jobs" {
-		t.Error(timeout, prefix)
+	user, _ := read.Flags().GetString("user")
+	if timeout, _ := read.Flags().GetDuration("timeout"); timeout != 2*time.Second || user != "jobs" {
+		t.Error(timeout, user)
 	}
 	t.Setenv("QLOCK_TIMEOUT", "soon")
 	if err := execute("status"); !errors.Is(err, config.ErrConfig) || !strings.Contains(err.Error(), "timeout") {

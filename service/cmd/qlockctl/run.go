@@ -30,7 +30,6 @@ var errLost = errors.New("the lock may be somebody else's, and the program was e
 
 func runCommand(ctx context.Context, s *settings) *cobra.Command {
 	var wait, grace time.Duration
-	var prefix string
 	var err error
 	command := &cobra.Command{Use: "run LOCK PROGRAM [ARGUMENT..]", Args: cobra.MinimumNArgs(2), Short: "Run a program that needs a lock",
 		Long: "Takes a lock, runs a program, and gives the lock back. The program finds its pass in QLOCK_PASS, in hexadecimal: " +
@@ -43,12 +42,11 @@ func runCommand(ctx context.Context, s *settings) *cobra.Command {
 			if grace, err = graceWithin(s.cluster, grace); err != nil {
 				return status{exitSettings, err}
 			}
-			return run(ctx, s.client(prefix), wait, grace, args[0], args[1:])
+			return run(ctx, s.client(), wait, grace, args[0], args[1:])
 		}}
 	command.Flags().DurationVar(&wait, "wait", time.Minute, "how long to wait for the lock")
 	command.Flags().DurationVar(&grace, "grace", 0,
 		"how long after SIGTERM SIGKILL is sent; a tenth of the TTL, and at most 1s, if it is 0")
-	command.Flags().StringVar(&prefix, "prefix", "", "the first part of the session's name, as the user's permissions need it")
 	command.Flags().SetInterspersed(false)
 	return command
 }

@@ -6,6 +6,8 @@ import (
 	"strings"
 	"sync"
 	"time"
+
+	"calvundek.example/service/transport"
 )
 
 // Bus connects ports.
@@ -14,15 +16,15 @@ type Bus struct {
 
 	mutex             sync.Mutex
 	lost, twice, late int // of 100 messages
-	boxes             map[string]chan []byte
-	also              map[string][]chan []byte // of ports that listen beside another one
+	boxes             map[string]chan transport.Message
+	also              map[string][]chan transport.Message // of ports that listen beside another one
 	random            *rand.Rand
 	dropped           uint64
 }
 
 // New returns a bus that loses nothing.
 func New(seed int64) *Bus {
-	return &Bus{boxes: map[string]chan []byte{}, also: map[string][]chan []byte{}, random: rand.New(rand.NewSource(seed)), Latest: 50 * time.Millisecond}
+	return &Bus{boxes: map[string]chan transport.Message{}, also: map[string][]chan transport.Message{}, random: rand.New(rand.NewSource(seed)), Latest: 50 * time.Millisecond}
 }
 
 // Noise lets so many of 100 messages be lost, repeated, and delayed from now on.
@@ -65,11 +67,11 @@ func (p *Port) Cut(cut bool) {
 	}
 }
 
-// Listen returns what comes to a mailbox, or to all of which only the last word differs if that is "*". Whoever listened before hears nothing any more.
-func (p *Port) Listen(mailbox string) (<-chan []byte, error) {
+// Listen returns what comes to mailboxes. Whoever listened before hears nothing any more.
+func (p *Port) Listen(mailbox string) (<-chan transport.Message, error) {
 	p.bus.mutex.Lock()
 	defer p.bus.mutex.Unlock()
-	box := make(chan []byte, 1<<14)
+	box := make(chan transport.Message, 1<<14)
 	if p.beside {
 		p.bus.also[mailbox] = append(p.bus.also[mailbox], box)
 		return box, nil
@@ -157,9 +159,9 @@ func (b *Bus) post(mailbox string, message []byte) {
 	if box == nil {
 		box = b.boxes[any]
 	}
-	for _, one := range append(append([]chan []byte{box}, b.also[mailbox]...), b.also[any]...) {
+	for _, one := range append(append([]chan transport.Message{box}, b.also[mailbox]...), b.also[any]...) {
 		select {
-		case one <- message:
+		case one <- transport.Message{Mailbox: mailbox, Data: message}:
 		default:
 			b.dropped++
 		}

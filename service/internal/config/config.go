@@ -64,7 +64,7 @@ type Cluster struct {
 }
 
 // Access is how a process shows the servers of NATS who it is. All of it may be empty. Of a password, a
-// seed and credentials there is one at most.
+// seed and credentials there is one at most. The user is also a word of the mailboxes of clients.
 type Access struct {
 	User   string `toml:"user"`
 	Secret string `toml:"secret"` // the file of the password
@@ -72,6 +72,20 @@ type Access struct {
 	Creds  string `toml:"creds"`  // the file of credentials: a JWT, and the seed of its user
 	Cert   string `toml:"cert"`   // the files of a certificate and of its key
 	Key    string `toml:"key"`
+}
+
+// ErrUser is returned for who has no name that may be a word of a mailbox.
+var ErrUser = fmt.Errorf("%w: a user has 1 to 32 letters, digits, - and _, a letter first; a seed and creds need one", ErrConfig)
+
+// Speaker returns the user as a word of a mailbox.
+func (a Access) Speaker() (string, error) {
+	switch {
+	case a.User == "" && a.Seed+a.Creds == "":
+		return wire.NoUser, nil
+	case !wire.IsUser([]byte(a.User)):
+		return "", fmt.Errorf("%w: %q", ErrUser, a.User)
+	}
+	return a.User, nil
 }
 
 // Voter is the configuration of one voter.

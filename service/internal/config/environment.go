@@ -15,7 +15,7 @@ import (
 const prefix = "QLOCK_"
 
 // others are the variables of this project that are no settings of a voter's file.
-var others = []string{"PREFIX", "TIMEOUT", // of qlockctl
+var others = []string{"TIMEOUT", // of qlockctl
 	"PASS", // which a program finds that `qlockctl run` runs
 	"BUILD", "LIBRARY", "PLAN_LIBRARY", "WHEEL_LIBRARIES", "PROGRAMS", "PGHOST"}
 

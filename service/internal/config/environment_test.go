@@ -71,7 +71,7 @@ func TestEnvironment(t *testing.T) {
 
 // A variable that is no setting is named, unless Kubernetes made it of a service's name.
 func TestUnknownVariables(t *testing.T) {
-	for name, isKnown := range map[string]bool{"QLOCK_DATA": true, "QLOCK_PREFIX": true, "QLOCK_PASS": true,
+	for name, isKnown := range map[string]bool{"QLOCK_DATA": true, "QLOCK_TIMEOUT": true, "QLOCK_PASS": true,
 		"QLOCK_VOTER_SERVICE_HOST": true, "QLOCK_VOTER_PORT_9403_TCP_ADDR": true, "QLOCK_PORT": true,
 		"QLOCK_SERVICE_PORT_METRICS": true, "QLOCK_DATE": false, "QLOCK_MAXLOCKS": false, "QLOCK_SUPPORT": false} {
 		t.Run(name, func(t *testing.T) {

@@ -7,6 +7,7 @@ import (
 	"encoding/json"
 	"errors"
 	"fmt"
+	"strconv"
 	"time"
 
 	"calvundek.example/service/internal/config"
@@ -24,14 +25,15 @@ var (
 type Console struct {
 	cluster *config.Cluster
 	carrier transport.Transport
+	name    string // of who asks, as a word of mailboxes
 	header  wire.Header
 	marks   []string // of the plans: while one is exchanged, some voters may have only the new one, others only the old one
-	replies <-chan []byte
+	replies <-chan transport.Message
 }
 
-// New returns a console over a transport.
-func New(cluster *config.Cluster, carrier transport.Transport) *Console {
-	return &Console{cluster: cluster, carrier: carrier, marks: cluster.Marks(),
+// New returns a console over a transport, of an operator or a voter with this name.
+func New(cluster *config.Cluster, carrier transport.Transport, name string) *Console {
+	return &Console{cluster: cluster, carrier: carrier, name: name, marks: cluster.Marks(),
 		header: wire.Header{Cluster: cluster.ID, Kind: wire.FromOperator}}
 }
 
@@ -75,35 +77,45 @@ func (c *Console) listen() (err error) {
 	if c.header.Name, err = config.Nonce(); err != nil {
 		return err
 	}
-	c.replies, err = c.carrier.Listen(wire.OperatorBox(c.cluster.ID, c.header.Name))
+	c.replies, err = c.carrier.Listen(c.boxes())
 	return err
+}
+
+// boxes returns the mailboxes of a question.
+func (c *Console) boxes() string {
+	return wire.ReplyBoxes(c.cluster.ID, wire.SessionName(c.name, c.header.Name))
 }
 
 // leave forgets the mailbox of a question.
 func (c *Console) leave() {
 	if leaver, ok := c.carrier.(transport.Leaver); ok {
-		leaver.Leave(wire.OperatorBox(c.cluster.ID, c.header.Name))
+		leaver.Leave(c.boxes())
 	}
 }
 
 // send asks those that did not reply, by each plan.
 func (c *Console) send(words string, voters []int, replies map[int][]byte) {
+	box := wire.WriteBox
+	if wire.IsRead(c.name, words) {
+		box = wire.ReadBox
+	}
 	for _, mark := range c.marks {
 		c.header.Coterie = mark
 		message := append(c.header.Append(nil), words+"\n"...)
 		for _, voter := range voters {
 			if replies[voter] == nil {
-				_ = c.carrier.Send(wire.AdminBox(c.cluster.ID, voter), message)
+				_ = c.carrier.Send(box(c.cluster.ID, voter, c.name), message)
 			}
 		}
 	}
 }
 
-// isOurs returns whether a message is a voter's reply.
-func (c *Console) isOurs(h wire.Header) bool {
+// isOurs returns whether a message that came from a sender is a voter's reply.
+func (c *Console) isOurs(h wire.Header, from string) bool {
 	for _, mark := range c.marks {
 		if h.Coterie == mark {
-			return h.Kind == wire.FromVoter && h.Cluster == c.header.Cluster && h.Number < len(c.cluster.Names())
+			return h.Kind == wire.FromVoter && from == strconv.Itoa(h.Number) && h.Cluster == c.header.Cluster &&
+				h.Number < len(c.cluster.Names())
 		}
 	}
 	return false
@@ -117,8 +129,8 @@ func (c *Console) collect(ctx context.Context, wait time.Duration, voters []int,
 	for len(replies) < len(voters) {
 		select {
 		case m := <-c.replies:
-			h, body, err := wire.Read(m)
-			if err == nil && c.isOurs(h) && replies[h.Number] == nil {
+			h, body, err := wire.Read(m.Data)
+			if err == nil && c.isOurs(h, m.Sender()) && replies[h.Number] == nil {
 				replies[h.Number] = body
 			}
 		case <-timer.C:

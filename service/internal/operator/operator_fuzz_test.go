@@ -2,6 +2,7 @@ package operator
 
 import (
 	"errors"
+	"fmt"
 	"testing"
 
 	"calvundek.example/service/internal/config"
@@ -25,13 +26,16 @@ func FuzzReplies(f *testing.F) {
 	h.Number = 2
 	f.Add(append(h.Append(nil), "{}"...))
 	f.Fuzz(func(t *testing.T, message []byte) {
-		c := New(cluster, nil)
+		c := New(cluster, nil, "alice")
 		h, body, err := wire.Read(message)
-		if err != nil || !c.isOurs(h) {
+		if err != nil || !c.isOurs(h, fmt.Sprint(h.Number)) {
 			return
 		}
 		if h.Number >= len(cluster.Names()) || h.Cluster != "test" || h.Kind != wire.FromVoter {
 			t.Fatalf("%+v is a voter's", h)
+		}
+		if c.isOurs(h, fmt.Sprint(h.Number+1)) {
+			t.Fatalf("%+v is of another voter", h)
 		}
 		r := c.reply(h.Number, body)
 		if r.Voter != h.Number || r.Name != cluster.Names()[h.Number] || r.Err != nil && !errors.Is(r.Err,

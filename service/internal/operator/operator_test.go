@@ -9,12 +9,13 @@ import (
 	"calvundek.example/service/internal/operator"
 	"calvundek.example/service/internal/wire"
 	"calvundek.example/service/internal/worlds"
+	"calvundek.example/service/transport"
 )
 
 // twice is a transport whose voters reply to each question twice, and the second reply is another one.
-type twice struct{ box chan []byte }
+type twice struct{ box chan transport.Message }
 
-func (c twice) Listen(string) (<-chan []byte, error) { return c.box, nil }
+func (c twice) Listen(string) (<-chan transport.Message, error) { return c.box, nil }
 
 func (c twice) Send(mailbox string, message []byte) error {
 	asked, _, err := wire.Read(message)
@@ -22,10 +23,10 @@ func (c twice) Send(mailbox string, message []byte) error {
 		return err
 	}
 	for voter := 0; voter < 3; voter++ {
-		if mailbox == wire.AdminBox(asked.Cluster, voter) {
+		if mailbox == wire.WriteBox(asked.Cluster, voter, "alice") {
 			reply := wire.Header{Cluster: asked.Cluster, Coterie: asked.Coterie, Kind: wire.FromVoter, Number: voter, Name: "identity"}
 			for _, body := range []string{"first", "second"} {
-				c.box <- append(reply.Append(nil), body...)
+				c.box <- transport.Message{Mailbox: wire.ReplyBox("test", "alice."+asked.Name, voter), Data: append(reply.Append(nil), body...)}
 			}
 		}
 	}
@@ -36,7 +37,7 @@ func (c twice) Send(mailbox string, message []byte) error {
 func TestFirstReplyCounts(t *testing.T) {
 	ctx, cancel := context.WithTimeout(context.Background(), 5*time.Second)
 	defer cancel()
-	console := operator.New(worlds.NewCluster(t, worlds.Majority, time.Second), twice{make(chan []byte, 100)})
+	console := operator.New(worlds.NewCluster(t, worlds.Majority, time.Second), twice{make(chan transport.Message, 100)}, "alice")
 	replies, err := console.Ask(ctx, "unlock x 1", console.All()...)
 	if err != nil {
 		t.Fatal(err)

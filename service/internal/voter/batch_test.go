@@ -7,6 +7,7 @@ import (
 
 	"calvundek.example/service/internal/wire"
 	"calvundek.example/service/internal/worlds"
+	"calvundek.example/service/transport"
 )
 
 // voice is a session of a number at voter 0.
@@ -14,14 +15,14 @@ type voice struct {
 	t      *testing.T
 	w      *worlds.World
 	header wire.Header
-	heard  <-chan []byte
+	heard  <-chan transport.Message
 	last   wire.Header // of what it heard last
 }
 
 // newVoice begins a session.
 func newVoice(t *testing.T, w *worlds.World, number int, name string) *voice {
 	t.Helper()
-	heard, err := w.Bus.Port().Listen(wire.SessionBox("test", name))
+	heard, err := w.Bus.Port().Listen(wire.SessionBoxes("test", wire.SessionName(wire.NoUser, name)))
 	if err != nil {
 		t.Fatal(err)
 	}
@@ -35,7 +36,7 @@ func newVoice(t *testing.T, w *worlds.World, number int, name string) *voice {
 
 // says sends lines.
 func (v *voice) says(lines string) {
-	_ = v.w.Bus.Port().Send(wire.VoterBox("test", 0), append(v.header.Append(nil), lines...))
+	_ = v.w.Bus.Port().Send(wire.VoterBox("test", 0, wire.NoUser), append(v.header.Append(nil), lines...))
 }
 
 // within returns whether a text comes within some time.
@@ -43,8 +44,8 @@ func (v *voice) within(text string, most time.Duration) bool {
 	for end := time.After(most); ; {
 		select {
 		case m := <-v.heard:
-			v.last, _, _ = wire.Read(m)
-			if strings.Contains(string(m), text) {
+			v.last, _, _ = wire.Read(m.Data)
+			if strings.Contains(string(m.Data), text) {
 				return true
 			}
 		case <-end:

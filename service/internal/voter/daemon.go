@@ -72,12 +72,13 @@ type Daemon struct {
 	newPeers        map[int]Peer // they changed since the last save
 	newOwn          bool         // what the state has of its own starts changed
 	letters         []posted     // words to other voters that leave after the save
-	voters          <-chan []byte
+	voters          <-chan transport.Message
 	floor, ceiling  uint64            // its grants are above the floor, and up to the ceiling
 	quietUntil      time.Time         // until then only those inside get a vote
 	markers         [keyBytes]byte    // the key of this run's markers
 	done            map[string][]byte // replies to what operators let go, by their questions
-	messages, admin <-chan []byte
+	messages, reads <-chan transport.Message
+	writes          <-chan transport.Message // what operators want done
 	inbox           inbox
 	started         time.Time
 	granted         uint64       // grants given since then
@@ -169,13 +170,16 @@ func (d *Daemon) load(now time.Time) error {
 }
 
 func (d *Daemon) listen() (err error) {
-	if d.messages, err = d.carrier.Listen(wire.VoterBox(d.cluster.ID, d.store.meta.Voter)); err != nil {
+	if d.messages, err = d.carrier.Listen(wire.VoterBoxes(d.cluster.ID, d.store.meta.Voter)); err != nil {
 		return err
 	}
 	if d.voters, err = d.carrier.Listen(wire.PeerBoxes(d.cluster.ID, d.store.meta.Voter)); err != nil {
 		return err
 	}
-	d.admin, err = d.carrier.Listen(wire.AdminBox(d.cluster.ID, d.store.meta.Voter))
+	if d.reads, err = d.carrier.Listen(wire.ReadBox(d.cluster.ID, d.store.meta.Voter, "*")); err != nil {
+		return err
+	}
+	d.writes, err = d.carrier.Listen(wire.WriteBox(d.cluster.ID, d.store.meta.Voter, "*"))
 	return err
 }
 
@@ -232,8 +236,10 @@ func (d *Daemon) wait(ctx context.Context, until time.Time) bool {
 		d.sort(m)
 	case m := <-d.voters:
 		d.hearPeer(m, time.Now())
-	case m := <-d.admin:
-		d.operate(m, time.Now())
+	case m := <-d.reads:
+		d.operate(m, false, time.Now())
+	case m := <-d.writes:
+		d.operate(m, true, time.Now())
 	case <-timer.C:
 	}
 	d.receive()
@@ -295,8 +301,7 @@ func (d *Daemon) isOurs(h wire.Header) bool {
 	if h.Kind == wire.FromClient && greatest(h.Level, level.Oldest) < d.store.own.level() {
 		return false // of an older program
 	}
-	return h.Cluster == d.store.meta.Cluster && wire.IsName([]byte(h.Name)) &&
-		(h.Coterie == d.mark || h.Coterie == d.oldMark && d.oldMark != "")
+	return h.Cluster == d.store.meta.Cluster && (h.Coterie == d.mark || h.Coterie == d.oldMark && d.oldMark != "")
 }
 
 // line takes one line of a message. It returns false if the line can't be right: then the rest of
@@ -712,7 +717,7 @@ func (d *Daemon) deliver() {
 	d.outBytes = 0
 	d.deliverLetters()
 	for session, lines := range d.out {
-		box := wire.SessionBox(header.Cluster, session)
+		box := wire.SessionBox(header.Cluster, session, header.Number)
 		header.Coterie, header.Lapses = d.speaks(session), d.table.lapses(session)
 		header.Split(lines, func(message []byte) { d.post(box, message) })
 		delete(d.out, session)

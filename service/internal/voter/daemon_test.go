@@ -11,6 +11,7 @@ import (
 	"calvundek.example/service/internal/event"
 	"calvundek.example/service/internal/wire"
 	"calvundek.example/service/qlock"
+	"calvundek.example/service/transport"
 )
 
 // A status that is too long for a message shows fewer votes, and says how many it left out.
@@ -47,7 +48,7 @@ func TestStatusOutsideOfTheLoop(t *testing.T) {
 		d.busy[&vote{name: fmt.Sprintf("orders-%05d", i)}] = struct{}{}
 	}
 	header := wire.Header{Cluster: "test", Coterie: "mark", Kind: wire.FromOperator, Name: "op"}
-	d.operate(append(header.Append(nil), "status\n"...), now)
+	d.operate(transport.Message{Mailbox: wire.ReadBox("test", 0, "alice"), Data: append(header.Append(nil), "status\n"...)}, false, now)
 	delivered := make(chan struct{})
 	go func() { d.deliver(); close(delivered) }()
 	select {
@@ -71,7 +72,7 @@ type post struct{ sent [][]byte }
 
 func (p *post) Send(_ string, message []byte) error { p.sent = append(p.sent, message); return nil }
 
-func (p *post) Listen(string) (<-chan []byte, error) { return nil, nil }
+func (p *post) Listen(string) (<-chan transport.Message, error) { return nil, nil }
 
 // A lock without a grant left is logged once, and nothing is let go there.
 func TestSpentLock(t *testing.T) {

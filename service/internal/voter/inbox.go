@@ -4,10 +4,12 @@ import (
 	"crypto/hmac"
 	"crypto/sha256"
 	"fmt"
+	"strconv"
 	"time"
 
 	"calvundek.example/service/internal/wire"
 	"calvundek.example/service/qlock"
+	"calvundek.example/service/transport"
 )
 
 // What a turn of the loop takes at most: then it saves and sends, and looks for heartbeats.
@@ -101,7 +103,7 @@ func (d *Daemon) receive() {
 func (d *Daemon) sendMarker(now time.Time) {
 	if number, due := d.table.clock.isDue(now); due {
 		h := d.header()
-		d.post(wire.VoterBox(h.Cluster, h.Number), append(h.Append(nil), d.markerLine(number)...))
+		d.post(wire.VoterBox(h.Cluster, h.Number, strconv.Itoa(h.Number)), append(h.Append(nil), d.markerLine(number)...))
 	}
 }
 
@@ -124,16 +126,18 @@ func (d *Daemon) isMarker(lines string) bool {
 }
 
 // sort puts a message into the inbox. Who is of another plan is told which there are.
-func (d *Daemon) sort(message []byte) {
+func (d *Daemon) sort(m transport.Message) {
 	d.m.received.Inc()
-	h, lines, err := wire.Read(message)
+	h, lines, err := wire.Read(m.Data)
 	if err == nil && h.Kind == wire.FromVoter && h.Name == d.store.meta.Identity && d.isMarker(string(lines)) {
 		return
 	}
-	if err != nil || len(message) > mostMessage || !d.isOurs(h) || h.Kind != wire.FromClient {
+	user := m.Sender()
+	isClient := err == nil && h.Kind == wire.FromClient && h.Cluster == d.cluster.ID && wire.IsSession(user, h.Name)
+	h.Name = wire.SessionName(user, h.Name)
+	if !isClient || len(m.Data) > mostMessage || !d.isOurs(h) {
 		d.m.foreign.Inc()
-		if err == nil && h.Kind == wire.FromClient && h.Cluster == d.cluster.ID && wire.IsName([]byte(h.Name)) &&
-			d.outBytes < mostOut {
+		if isClient && d.outBytes < mostOut {
 			d.announce(h.Name) // its plan is retired, or not yet here
 		}
 		return
@@ -146,7 +150,7 @@ func (d *Daemon) sort(message []byte) {
 		queue = h.Number
 		d.table.hear(h.Number, time.Now()) // it may wait for its turn
 	}
-	if !d.inbox.put(queue, &letter{Header: h, lines: lines, size: len(message)}) {
+	if !d.inbox.put(queue, &letter{Header: h, lines: lines, size: len(m.Data)}) {
 		d.noRoom.Add(1)
 	}
 }

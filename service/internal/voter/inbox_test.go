@@ -2,12 +2,15 @@ package voter
 
 import (
 	"fmt"
+	"io"
 	"strings"
 	"testing"
 	"time"
 
 	"calvundek.example/service/internal/config"
+	"calvundek.example/service/internal/event"
 	"calvundek.example/service/internal/wire"
+	"calvundek.example/service/transport"
 	"github.com/prometheus/client_golang/prometheus/testutil"
 )
 
@@ -17,15 +20,15 @@ func reader() *Daemon {
 	d := &Daemon{cluster: &config.Cluster{ID: "test"}, store: &store{meta: Meta{Cluster: "test"}}, mark: "mark",
 		m: newMetrics(), busy: map[*vote]struct{}{},
 		table: table{ttl: time.Second, changed: map[int]Session{}, later: map[int]Session{}}, out: map[string][]byte{},
-		join: joining{done: true}, ceiling: 1 << 20}
+		join: joining{done: true}, ceiling: 1 << 20, log: event.To(io.Discard)}
 	d.table.begin(now)
 	return d
 }
 
 // message returns a message of a session.
-func message(number int, epoch uint64, name, lines string) []byte {
+func message(number int, epoch uint64, name, lines string) transport.Message {
 	h := wire.Header{Cluster: "test", Coterie: "mark", Kind: wire.FromClient, Number: number, Epoch: epoch, Name: name}
-	return append(h.Append(nil), lines...)
+	return transport.Message{Mailbox: wire.VoterBox("test", 0, "jobs"), Data: append(h.Append(nil), lines...)}
 }
 
 // Whoever sends much waits for himself alone: each turn takes a share of each session's lines, and
@@ -33,21 +36,21 @@ func message(number int, epoch uint64, name, lines string) []byte {
 func TestEachSenderHasItsTurn(t *testing.T) {
 	d := reader()
 	for number := 1; number < 4; number++ {
-		d.table.claim(number, fmt.Sprint("s.", number), 1, 0, time.Now())
+		d.table.claim(number, fmt.Sprint("jobs.s", number), 1, 0, time.Now())
 	}
 	for i := 0; i < 100; i++ {
-		d.sort(message(1, 1, "s.1", strings.Repeat("x release 1 0 0\n", 50)))
+		d.sort(message(1, 1, "s1", strings.Repeat("x release 1 0 0\n", 50)))
 		d.sort(message(0, 0, "stranger", ". hello\n"))
 	}
-	d.sort(message(2, 1, "s.2", ". open 0\n"))
-	d.sort(message(3, 1, "s.3", ". open 0\n"))
+	d.sort(message(2, 1, "s2", ". open 0\n"))
+	d.sort(message(3, 1, "s3", ". open 0\n"))
 	for i := 0; i < 4; i++ {
 		l := d.inbox.next()
 		if _, ended := d.read(l, time.Now()); ended {
 			d.inbox.done()
 		}
 	}
-	if d.out["s.2"] == nil || d.out["s.3"] == nil || d.inbox.count < 190 {
+	if d.out["jobs.s2"] == nil || d.out["jobs.s3"] == nil || d.inbox.count < 190 {
 		t.Errorf("after one round of turns %d messages wait, and these are replied to: %d", d.inbox.count, len(d.out))
 	}
 }
@@ -59,13 +62,13 @@ func TestRoomOfASender(t *testing.T) {
 	for i := 0; i < 100; i++ {
 		d.sort(message(0, 0, "stranger", long))
 	}
-	d.table.claim(2, "s.2", 1, 0, time.Now())
-	d.sort(message(2, 1, "s.2", ". open 0\n"))
+	d.table.claim(2, "jobs.s2", 1, 0, time.Now())
+	d.sort(message(2, 1, "s2", ". open 0\n"))
 	if d.noRoom.Load() < 90 || d.inbox.sizes[strangers] > mostWaiting || len(d.inbox.queues[2]) != 1 {
 		t.Errorf("%d are dropped, %d bytes wait", d.noRoom.Load(), d.inbox.sizes[strangers])
 	}
 	foreign := testutil.ToFloat64(d.m.foreign)
-	if d.sort(message(2, 1, "s.2", strings.Repeat("x",
+	if d.sort(message(2, 1, "s2", strings.Repeat("x",
 		2*wire.MostBytes))); testutil.ToFloat64(d.m.foreign) != foreign+1 {
 		t.Error("a message is taken that is too long")
 	}
@@ -97,7 +100,7 @@ func TestWhereAMessageEnds(t *testing.T) {
 func TestATurnEnds(t *testing.T) {
 	d := reader()
 	for i := 0; i < 5000; i++ {
-		d.sort(message(0, 0, fmt.Sprint("stranger.", i), ". hello\n"))
+		d.sort(message(0, 0, fmt.Sprint("stranger-", i), ". hello\n"))
 	}
 	before := d.inbox.count
 	began := time.Now()

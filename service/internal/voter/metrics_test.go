@@ -48,7 +48,7 @@ func TestNumbersOfAVoter(t *testing.T) {
 	})
 	d.measure(time.Now())
 	for i := 0; i < 3; i++ {
-		_ = port.Send("qlock.test.v.0", []byte("x"))
+		_ = port.Send("qlock.test.v.0.-", []byte("x"))
 	}
 	d.noRoom.Add(2)
 	page := httptest.NewRecorder()

@@ -14,13 +14,14 @@ import (
 	"calvundek.example/service/internal/voter"
 	"calvundek.example/service/internal/wire"
 	"calvundek.example/service/internal/worlds"
+	"calvundek.example/service/transport"
 )
 
 // caller speaks as a session to voter 0.
 type caller struct {
 	*testing.T
 	send  func(lines string)
-	heard <-chan []byte
+	heard <-chan transport.Message
 }
 
 // newCaller returns the first session of a number.
@@ -33,14 +34,14 @@ func newCaller(t *testing.T, w *worlds.World, number int, name string) caller {
 func newCallerOf(t *testing.T, w *worlds.World, number int, name string, epoch uint64) caller {
 	t.Helper()
 	port := w.Bus.Port()
-	heard, err := port.Listen(wire.SessionBox("test", name))
+	heard, err := port.Listen(wire.SessionBoxes("test", wire.SessionName(wire.NoUser, name)))
 	if err != nil {
 		t.Fatal(err)
 	}
 	header := wire.Header{Cluster: "test", Coterie: w.Cluster.Marks()[0], Kind: wire.FromClient, Number: number, Epoch: epoch,
 		Reserved: 100 * epoch, Name: name}
 	v := caller{t, func(lines string) {
-		_ = port.Send(wire.VoterBox("test", 0), append(header.Append(nil), lines...))
+		_ = port.Send(wire.VoterBox("test", 0, wire.NoUser), append(header.Append(nil), lines...))
 	}, heard}
 	return v
 }
@@ -52,7 +53,7 @@ func (v caller) says(lines, want string) bool {
 		v.send(lines)
 		select {
 		case m := <-v.heard:
-			if strings.Contains(string(m), want) {
+			if strings.Contains(string(m.Data), want) {
 				return true
 			}
 		case <-time.After(100 * time.Millisecond):

@@ -11,6 +11,7 @@ import (
 	"calvundek.example/service/internal/event"
 	"calvundek.example/service/internal/wire"
 	"calvundek.example/service/qlock"
+	"calvundek.example/service/transport"
 )
 
 // mostShown is how many votes one reply shows, of those that somebody has or waits for.
@@ -93,20 +94,25 @@ func (a answer) text() []byte {
 	return a.body
 }
 
-// operate does what an operator asks, and replies after the save.
-func (d *Daemon) operate(message []byte, now time.Time) {
-	h, lines, err := wire.Read(message)
-	if err != nil || !d.isOurs(h) || h.Kind != wire.FromOperator {
+// operate does what an operator asks, and replies after the save. Unless he may write, he only reads.
+func (d *Daemon) operate(m transport.Message, mayWrite bool, now time.Time) {
+	h, lines, err := wire.Read(m.Data)
+	by := m.Sender()
+	if err != nil || !d.isOurs(h) || h.Kind != wire.FromOperator || !wire.IsQuestion(by, h.Name) {
 		d.m.foreign.Inc()
 		return
 	}
-	question := h.Name + " " + string(lines)
+	name := wire.SessionName(by, h.Name)
+	question, box := name+" "+string(lines), wire.ReplyBox(d.cluster.ID, name, d.store.meta.Voter)
 	reply, isDone := d.done[question]
 	if !isDone {
 		words := strings.Fields(string(lines))
-		made := d.obey(words, now)
+		made := interface{}(Refused{"only who may write may ask this"})
+		if mayWrite || wire.IsRead(by, strings.Join(words, " ")) {
+			made = d.obey(words, by, now)
+		}
 		if status, is := made.(Status); is {
-			d.replies[wire.OperatorBox(d.cluster.ID, h.Name)] = answer{mark: h.Coterie, status: &status}
+			d.replies[box] = answer{mark: h.Coterie, status: &status}
 			return
 		}
 		reply = written(made)
@@ -114,7 +120,7 @@ func (d *Daemon) operate(message []byte, now time.Time) {
 			d.noteDone(question, reply)
 		}
 	}
-	d.replies[wire.OperatorBox(d.cluster.ID, h.Name)] = answer{mark: h.Coterie, body: reply}
+	d.replies[box] = answer{mark: h.Coterie, body: reply}
 }
 
 // noteDone keeps the reply to a question, which has a name of its own, so that one that comes again lets nothing else go.
@@ -143,7 +149,7 @@ func written(reply interface{}) []byte {
 }
 
 // obey does what these words say: `status`, `lock LOCK`, `sessions`, `evict NUMBER`, `unlock LOCK GRANT`, or what exchange obeys.
-func (d *Daemon) obey(words []string, now time.Time) interface{} {
+func (d *Daemon) obey(words []string, by string, now time.Time) interface{} {
 	switch {
 	case len(words) == 1 && words[0] == "status":
 		return d.status(now)
@@ -162,12 +168,12 @@ func (d *Daemon) obey(words []string, now time.Time) interface{} {
 		return VoteView{Lock: words[1], Client: -1}
 	case len(words) == 2 && words[0] == "evict":
 		if number := wire.Number([]byte(words[1])); number >= 0 && number < qlock.MaxClients {
-			return d.evict(number, now)
+			return d.evict(number, by, now)
 		}
 	case len(words) == 3 && words[0] == "unlock":
 		var grant uint64
 		if _, err := fmt.Sscan(words[2], &grant); err == nil && grant > 0 {
-			return d.unlock(words[1], grant, now)
+			return d.unlock(words[1], grant, by, now)
 		}
 	}
 	if len(words) > 1 {
@@ -177,7 +183,7 @@ func (d *Daemon) obey(words []string, now time.Time) interface{} {
 }
 
 // evict ends a client's session, and lets all go that it has. What it waits for is let go once it gets it.
-func (d *Daemon) evict(number int, now time.Time) LetGo {
+func (d *Daemon) evict(number int, by string, now time.Time) LetGo {
 	d.table.expel(number)
 	gone := 0
 	for v := range d.busy {
@@ -186,17 +192,17 @@ func (d *Daemon) evict(number int, now time.Time) LetGo {
 		}
 	}
 	d.recount(number)
-	d.log.Write(event.Warning, "evicted", "client", number, "grants", gone)
+	d.log.Write(event.Warning, "evicted", "client", number, "grants", gone, "by", by)
 	return LetGo{gone}
 }
 
 // unlock lets one grant of a lock go.
-func (d *Daemon) unlock(lock string, grant uint64, now time.Time) LetGo {
+func (d *Daemon) unlock(lock string, grant uint64, by string, now time.Time) LetGo {
 	v := d.votes[lock]
 	if v == nil || v.held.Number != grant || !d.letGo(v, now) {
 		return LetGo{0}
 	}
-	d.log.Write(event.Warning, "unlocked", "lock", lock, "grant", grant)
+	d.log.Write(event.Warning, "unlocked", "lock", lock, "grant", grant, "by", by)
 	return LetGo{1}
 }
 

@@ -18,14 +18,14 @@ func TestRepeatedEvict(t *testing.T) {
 		t.Fatal("no vote")
 	}
 	port := w.Bus.Port()
-	heard, err := port.Listen(wire.OperatorBox("test", "op"))
+	heard, err := port.Listen(wire.ReplyBoxes("test", "alice.op"))
 	if err != nil {
 		t.Fatal(err)
 	}
 	header := wire.Header{Cluster: "test", Coterie: w.Cluster.Marks()[0], Kind: wire.FromOperator, Name: "op"}
 	ask := func(words string) string {
-		_ = port.Send(wire.AdminBox("test", 0), append(header.Append(nil), words+"\n"...))
-		_, body, _ := wire.Read(<-heard)
+		_ = port.Send(wire.WriteBox("test", 0, "alice"), append(header.Append(nil), words+"\n"...))
+		_, body, _ := wire.Read((<-heard).Data)
 		return strings.TrimSpace(string(body))
 	}
 	if got := ask("evict 0"); got != `{"let_go":1}` {
@@ -39,7 +39,7 @@ func TestRepeatedEvict(t *testing.T) {
 		t.Errorf("the reply comes again: %s", got)
 	}
 	header.Name = "op2"
-	if heard, err = port.Listen(wire.OperatorBox("test", "op2")); err != nil {
+	if heard, err = port.Listen(wire.ReplyBoxes("test", "alice.op2")); err != nil {
 		t.Fatal(err)
 	}
 	if got := ask("lock orders"); !strings.Contains(got, `"client":0`) || !strings.Contains(got, `"stamp":101`) {

@@ -5,11 +5,13 @@ import (
 	"encoding/json"
 	"errors"
 	"fmt"
+	"strconv"
 	"time"
 
 	"calvundek.example/service/internal/event"
 	"calvundek.example/service/internal/wire"
 	"calvundek.example/service/qlock"
+	"calvundek.example/service/transport"
 )
 
 // word is what voters say to one another.
@@ -209,11 +211,12 @@ func (d *Daemon) deliverLetters() {
 }
 
 // hearPeer takes what another voter says.
-func (d *Daemon) hearPeer(message []byte, now time.Time) {
-	h, lines, err := wire.Read(message)
+func (d *Daemon) hearPeer(m transport.Message, now time.Time) {
+	h, lines, err := wire.Read(m.Data)
 	var w word
 	if err != nil || h.Cluster != d.cluster.ID || h.Kind != wire.FromVoter || h.Number == d.store.meta.Voter ||
-		len(message) > mostMessage || json.Unmarshal(bytes.TrimSpace(lines), &w) != nil || !d.isOfPlan(h.Number, w) {
+		m.Sender() != strconv.Itoa(h.Number) || len(m.Data) > mostMessage ||
+		json.Unmarshal(bytes.TrimSpace(lines), &w) != nil || !d.isOfPlan(h.Number, w) {
 		d.m.foreign.Inc()
 		return
 	}

@@ -8,7 +8,7 @@ import (
 
 // Session is what a voter keeps of a client's number.
 type Session struct {
-	Name     string `json:"name"`              // the session's mailbox, and its secret
+	Name     string `json:"name"`              // the session's user, and its name, which is its secret
 	Epoch    uint64 `json:"epoch"`             // grows with each session of the number
 	Base     uint64 `json:"base"`              // all stamps of the session are above it
 	Reserved uint64 `json:"reserved"`          // no stamp of the number so far is above it

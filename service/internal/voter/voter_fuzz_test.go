@@ -19,6 +19,7 @@ import (
 	"calvundek.example/service/internal/operator"
 	"calvundek.example/service/internal/wire"
 	"calvundek.example/service/qlock"
+	"calvundek.example/service/transport"
 	"go.etcd.io/bbolt"
 )
 
@@ -148,9 +149,9 @@ func (s *stage) again(t testing.TB) *Daemon {
 
 // hand hands a message of a client to the loop.
 func hand(d *Daemon, message []byte) {
-	box := make(chan []byte, 1)
-	box <- message
-	d.messages, d.admin = box, nil
+	box := make(chan transport.Message, 1)
+	box <- transport.Message{Mailbox: wire.VoterBox("test", 0, wire.NoUser), Data: message}
+	d.messages, d.writes = box, nil
 	for i := 0; i < 3; i++ { // a long message takes several turns
 		d.wait(context.Background(), time.Now().Add(time.Duration(len(box))*time.Second))
 	}
@@ -158,9 +159,9 @@ func hand(d *Daemon, message []byte) {
 
 // order hands a message of an operator to the loop, and returns the replies.
 func order(d *Daemon, message []byte) map[string]answer {
-	box := make(chan []byte, 1)
-	box <- message
-	d.messages, d.admin = nil, box
+	box := make(chan transport.Message, 1)
+	box <- transport.Message{Mailbox: wire.WriteBox("test", 0, "alice"), Data: message}
+	d.messages, d.writes = nil, box
 	d.wait(context.Background(), time.Now().Add(time.Second))
 	replies := d.replies
 	d.replies = map[string]answer{}
@@ -217,7 +218,7 @@ func FuzzMessage(f *testing.F) {
 		}
 		for number, row := range d.table.rows {
 			mustGrow(t, rows[number], row, number)
-			if rows[number].Open && row != rows[number] && (!ours || h.Name != rows[number].Name) {
+			if rows[number].Open && row != rows[number] && (!ours || wire.SessionName(wire.NoUser, h.Name) != rows[number].Name) {
 				t.Fatalf("%q changes the session of number %d from %+v to %+v", h.Name, number, rows[number], row)
 			}
 		}
@@ -333,7 +334,7 @@ func FuzzOperator(f *testing.F) {
 		rows, plans, held := d.table.rows, d.plans, d.votes["orders"].held
 		h := wire.Header{Cluster: "test", Coterie: s.mark, Kind: wire.FromOperator, Name: "0123"}
 		replies := order(d, append(h.Append(nil), lines...))
-		reply, one := replies[wire.OperatorBox("test", "0123")]
+		reply, one := replies[wire.ReplyBox("test", "alice.0123", 0)]
 		if text := reply.text(); len(replies) != 1 || !one || !json.Valid(text) || len(text) > mostReply {
 			t.Fatalf("%q: %d replies: %q", lines, len(replies), text)
 		}
@@ -347,7 +348,7 @@ func FuzzOperator(f *testing.F) {
 		}
 		if words[0] == "evict" || words[0] == "unlock" {
 			rows := d.table.rows
-			twice := order(d, append(h.Append(nil), lines...))[wire.OperatorBox("test", "0123")]
+			twice := order(d, append(h.Append(nil), lines...))[wire.ReplyBox("test", "alice.0123", 0)]
 			if !bytes.Equal(twice.text(), reply.text()) || d.table.rows != rows {
 				t.Fatalf("%q is done twice: %q, then %q", lines, reply.text(), twice.text())
 			}

@@ -15,6 +15,7 @@ import (
 	"calvundek.example/service/internal/voter"
 	"calvundek.example/service/internal/wire"
 	"calvundek.example/service/internal/worlds"
+	"calvundek.example/service/transport"
 )
 
 // change returns settings that differ in one thing.
@@ -107,20 +108,20 @@ func lastIndex(bytes []byte, text string) int {
 }
 
 // session returns what comes to a session of number 0, and a function that sends lines to one voter.
-func session(t *testing.T, w *worlds.World, to int) (<-chan []byte, func(lines string)) {
+func session(t *testing.T, w *worlds.World, to int) (<-chan transport.Message, func(lines string)) {
 	t.Helper()
 	port := w.Bus.Port()
-	heard, err := port.Listen(wire.SessionBox("test", "me"))
+	heard, err := port.Listen(wire.SessionBoxes("test", wire.SessionName(wire.NoUser, "me")))
 	if err != nil {
 		t.Fatal(err)
 	}
 	header := wire.Header{Cluster: "test", Coterie: w.Cluster.Marks()[0], Kind: wire.FromClient, Epoch: 1,
 		Reserved: 100, Name: "me"}
 	send := func(lines string) {
-		_ = port.Send(wire.VoterBox("test", to), append(header.Append(nil), lines...))
+		_ = port.Send(wire.VoterBox("test", to, wire.NoUser), append(header.Append(nil), lines...))
 	}
 	send(". claim 0 1\n")
-	if reply := <-heard; lastIndex(reply, ". claimed 0 1 0 0\n") < 0 {
+	if reply := (<-heard).Data; lastIndex(reply, ". claimed 0 1 0 0\n") < 0 {
 		t.Fatalf("no claim: %s", reply)
 	}
 	return heard, send
@@ -142,7 +143,7 @@ func TestFailedSaveEndsTheVoter(t *testing.T) {
 	go func() { ended <- d.Run(context.Background()) }()
 	heard, send := session(t, world, 0)
 	send("orders request 0 0 1\n")
-	if message := string(<-heard); lastIndex([]byte(message), "orders locked 0 0 1 1") < 0 {
+	if message := string((<-heard).Data); lastIndex([]byte(message), "orders locked 0 0 1 1") < 0 {
 		t.Fatalf("%q", message)
 	}
 	voter.FailSaves(d)
@@ -152,8 +153,8 @@ func TestFailedSaveEndsTheVoter(t *testing.T) {
 	}
 	select {
 	case message := <-heard:
-		if lastIndex(message, "locked 0 0 2") >= 0 {
-			t.Errorf("sent before it was saved: %q", message)
+		if lastIndex(message.Data, "locked 0 0 2") >= 0 {
+			t.Errorf("sent before it was saved: %q", message.Data)
 		}
 	case <-time.After(200 * time.Millisecond):
 	}
@@ -163,13 +164,13 @@ func TestFailedSaveEndsTheVoter(t *testing.T) {
 func TestForeignMessages(t *testing.T) {
 	w := worlds.New(t, worlds.Majority, time.Second)
 	port := w.Bus.Port()
-	heard, err := port.Listen(wire.SessionBox("test", "me"))
+	heard, err := port.Listen(wire.SessionBoxes("test", wire.SessionName(wire.NoUser, "me")))
 	if err != nil {
 		t.Fatal(err)
 	}
 	right := wire.Header{Cluster: "test", Coterie: w.Cluster.Marks()[0], Kind: wire.FromClient, Epoch: 1,
 		Reserved: 100, Name: "me"}
-	_ = port.Send(wire.VoterBox("test", 0), append(right.Append(nil), ". claim 0 1\n"...))
+	_ = port.Send(wire.VoterBox("test", 0, wire.NoUser), append(right.Append(nil), ". claim 0 1\n"...))
 	<-heard
 	for what, how := range map[string]func(h *wire.Header) string{
 		"another cluster":     func(h *wire.Header) string { h.Cluster = "x"; return "orders request 0 0 1\n" },
@@ -184,15 +185,15 @@ func TestForeignMessages(t *testing.T) {
 	} {
 		h := right
 		lines := how(&h)
-		_ = port.Send(wire.VoterBox("test", 0), append(h.Append(nil), lines...))
+		_ = port.Send(wire.VoterBox("test", 0, wire.NoUser), append(h.Append(nil), lines...))
 		select {
 		case message := <-heard:
-			t.Errorf("%s: %q", what, message)
+			t.Errorf("%s: %q", what, message.Data)
 		case <-time.After(50 * time.Millisecond):
 		}
 	}
-	_ = port.Send(wire.VoterBox("test", 0), append(right.Append(nil), "orders request 0 0 1\n"...))
-	if message := <-heard; lastIndex(message, "orders locked 0 0 1 1 ") < 0 {
+	_ = port.Send(wire.VoterBox("test", 0, wire.NoUser), append(right.Append(nil), "orders request 0 0 1\n"...))
+	if message := (<-heard).Data; lastIndex(message, "orders locked 0 0 1 1 ") < 0 {
 		t.Errorf("%q", message)
 	}
 }

@@ -3,7 +3,7 @@
 //
 //	qlock2 CLUSTER COTERIE c NUMBER EPOCH RESERVED SESSION SEQ     from a client's session
 //	qlock2 CLUSTER COTERIE v NUMBER RUN START IDENTITY LAPSES      from a voter
-//	qlock2 CLUSTER COTERIE o NAME                                  from an operator
+//	qlock2 CLUSTER COTERIE o NAME                                  from an operator: the name of a question
 //
 // Behind these there may be words KEY=VALUE, as level=1 of clients and voters (package level). Who does not know a key
 // ignores it, and so it is with words of control. COTERIE is a part of
@@ -35,6 +35,18 @@
 // voter, peers.go).
 //
 // A voter that ends by a signal says "leaving" to all sessions.
+//
+// The last word of a mailbox says who speaks, and a broker with users lets nobody else send to it:
+//
+//	qlock.CLUSTER.v.VOTER.USER             what a user's sessions say to a voter
+//	qlock.CLUSTER.c.USER.SESSION.VOTER     what a voter says to a session
+//	qlock.CLUSTER.p.VOTER.VOTER            what the second voter says to the first one
+//	qlock.CLUSTER.read.VOTER.OPERATOR      what an operator wants to know of a voter
+//	qlock.CLUSTER.write.VOTER.OPERATOR     what an operator wants done; few may publish to it
+//	qlock.CLUSTER.o.OPERATOR.NAME.VOTER    a voter's reply to a question with this name
+//
+// A message of which the header names another voter than the mailbox is dropped. The user of a
+// session is that of the mailbox. Without users it is "-".
 //
 // A voter sends a marker to itself, from time to time: "marker NUMBER WORD". What was sent to it
 // before comes before the marker.
@@ -83,7 +95,7 @@ type Header struct {
 	Start            uint64 // of a voter: how often its process started
 	Level            uint64 // of a voter: the cluster's level; of a client: the newest one that it knows; 0 if it says none
 	Lapses           uint64 // of a voter: how often it let a grant of the session go
-	Name             string // a session's, an operator's, or a voter's identity
+	Name             string // of a session or a question, or a voter's identity
 }
 
 // Append appends the header's line.
@@ -242,19 +254,45 @@ func IsName(name []byte) bool {
 // IsID returns whether a word may name a cluster, a part of a subject: 1 to 32 of A-Z a-z 0-9 _ -
 func IsID(name []byte) bool { return len(name) > 0 && len(name) <= 32 && only(name, "_-") }
 
+// IsUser returns whether a word may name a user, a part of a subject: as that of a cluster, with a letter first.
+func IsUser(name []byte) bool { return IsID(name) && isLetter(name[0]) }
+
+func isLetter(b byte) bool { return b >= 'a' && b <= 'z' || b >= 'A' && b <= 'Z' }
+
 // only returns whether a word has letters, digits and these marks only.
 func only(word []byte, marks string) bool {
 	for _, b := range word {
-		letter := b >= 'a' && b <= 'z' || b >= 'A' && b <= 'Z' || b >= '0' && b <= '9'
-		if !letter && strings.IndexByte(marks, b) < 0 {
+		if !isLetter(b) && (b < '0' || b > '9') && strings.IndexByte(marks, b) < 0 {
 			return false
 		}
 	}
 	return true
 }
 
-// VoterBox returns the mailbox of a voter.
-func VoterBox(cluster string, voter int) string { return fmt.Sprintf("qlock.%s.v.%d", cluster, voter) }
+// NoUser is the user where there are none, as on one machine.
+const NoUser = "-"
+
+// SessionName returns what a voter calls a session, or a question: its user, and the name in its
+// header. So no user has a session of another one.
+func SessionName(user, name string) string { return user + "." + name }
+
+// IsSession returns whether a user and a word name a session.
+func IsSession(user, name string) bool { return isSpeaker(user) && IsID([]byte(name)) }
+
+// IsQuestion returns whether an operator, or a voter by its number, and a word name a question.
+func IsQuestion(from, name string) bool {
+	return (isSpeaker(from) || IsVoter(from)) && IsID([]byte(name))
+}
+
+func isSpeaker(user string) bool { return user == NoUser || IsUser([]byte(user)) }
+
+// VoterBox returns the mailbox in which a voter takes what a user says, or, by its number, it itself.
+func VoterBox(cluster string, voter int, from string) string {
+	return fmt.Sprintf("qlock.%s.v.%d.%s", cluster, voter, from)
+}
+
+// VoterBoxes returns all mailboxes in which a voter takes what users say.
+func VoterBoxes(cluster string, voter int) string { return VoterBox(cluster, voter, "*") }
 
 // PeerBox returns the mailbox in which a voter takes what another one says.
 func PeerBox(cluster string, to, from int) string {
@@ -264,13 +302,46 @@ func PeerBox(cluster string, to, from int) string {
 // PeerBoxes returns all mailboxes in which a voter takes what others say.
 func PeerBoxes(cluster string, to int) string { return fmt.Sprintf("qlock.%s.p.%d.*", cluster, to) }
 
-// AdminBox returns the mailbox in which a voter takes what operators ask.
-func AdminBox(cluster string, voter int) string {
-	return fmt.Sprintf("qlock.%s.admin.%d", cluster, voter)
+// IsVoter returns whether a word is the number of a voter.
+func IsVoter(word string) bool {
+	number := Number([]byte(word))
+	return number >= 0 && number < 64 && fmt.Sprint(number) == word
 }
 
-// SessionBox returns the mailbox of a client's session.
-func SessionBox(cluster, session string) string { return "qlock." + cluster + ".c." + session }
+// IsRead returns whether what is asked changes nothing, and shows no name of a session to who is no voter.
+func IsRead(from, words string) bool {
+	switch word, _, _ := strings.Cut(words, " "); word {
+	case "status", "lock":
+		return true
+	case "knows":
+		return IsVoter(from)
+	}
+	return false
+}
 
-// OperatorBox returns the mailbox of an operator.
-func OperatorBox(cluster, name string) string { return "qlock." + cluster + ".o." + name }
+// ReadBox returns the mailbox in which a voter takes what somebody wants to know.
+func ReadBox(cluster string, voter int, from string) string {
+	return fmt.Sprintf("qlock.%s.read.%d.%s", cluster, voter, from)
+}
+
+// WriteBox returns the mailbox in which a voter takes what an operator wants done.
+func WriteBox(cluster string, voter int, from string) string {
+	return fmt.Sprintf("qlock.%s.write.%d.%s", cluster, voter, from)
+}
+
+// SessionBox returns the mailbox in which a session takes what a voter says.
+func SessionBox(cluster, session string, from int) string {
+	return fmt.Sprintf("qlock.%s.c.%s.%d", cluster, session, from)
+}
+
+// SessionBoxes returns all mailboxes in which a session takes what voters say.
+func SessionBoxes(cluster, session string) string { return "qlock." + cluster + ".c." + session + ".*" }
+
+// ReplyBox returns the mailbox in which an operator takes what a voter replies to a question, which has a name as a
+// session has.
+func ReplyBox(cluster, question string, from int) string {
+	return fmt.Sprintf("qlock.%s.o.%s.%d", cluster, question, from)
+}
+
+// ReplyBoxes returns all mailboxes in which an operator takes replies to a question.
+func ReplyBoxes(cluster, question string) string { return "qlock." + cluster + ".o." + question + ".*" }

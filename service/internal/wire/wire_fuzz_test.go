@@ -164,8 +164,8 @@ func FuzzNames(f *testing.F) {
 				t.Fatalf("%q is %q", name, lock)
 			}
 		}
-		box := VoterBox(string(name), 3)
-		if IsID(name) && (strings.Count(box, ".") != 3 || strings.ContainsAny(box, "*> \t\r\n")) {
+		box := SessionBox(string(name), SessionName(string(name), string(name)), 3)
+		if IsID(name) && (strings.Count(box, ".") != 5 || strings.ContainsAny(box, "*> \t\r\n")) {
 			t.Fatalf("%q is a mailbox", box)
 		}
 		if IsID(name) && !IsName(name) {

@@ -17,6 +17,7 @@ import (
 	"calvundek.example/service/internal/exchange"
 	"calvundek.example/service/internal/operator"
 	"calvundek.example/service/internal/voter"
+	"calvundek.example/service/internal/wire"
 	"calvundek.example/service/qlock"
 )
 
@@ -236,4 +237,6 @@ func (w *World) Lose(i int) {
 }
 
 // Console returns an operator's console.
-func (w *World) Console() *operator.Console { return operator.New(w.Cluster, w.Bus.Port()) }
+func (w *World) Console() *operator.Console {
+	return operator.New(w.Cluster, w.Bus.Port(), wire.NoUser)
+}
