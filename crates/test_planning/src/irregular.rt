@@ -220,8 +220,8 @@ const OF_40: [u64; 85] = [
 /// Coteries whose voters all have capacity 1: their voters and quorums, the load of a plan, and the most
 /// tickets of its cycle.
 ///
-/// No corner of the face of the best weights gives one of the last three a plan. The first has one at
-/// a corner, with a cycle of 168,483 tickets. Each gets this one from a point inside the face.
+/// Both searches end at a corner of the face of the best weights. It gives none of the last three a
+/// plan, and the first one of 168,483 tickets. Each gets this one from a point inside the face.
 const COTERIES: [(usize, &[u64], (u64, u64), u64); 4] = [
     (21, &OF_21, (11, 21), 105),
     (29, &OF_29, (15, 29), 174),
@@ -246,9 +246,8 @@ fn is_planned(alloc: Global, coterie: &Coterie, load: (u64, u64), longest: u64) 
     }
 }
 
-/// Nothing is proved of the numbers that `basis` finds, except how many there are. So this test alone
-/// refuses an `inner_weights` that never finds any, an `inverse` by another power, and a search that
-/// pivots on a row that limits less.
+/// Nothing is proved of the numbers that `basis` finds, except how many there are. It is left to this
+/// test to refuse an `inner_weights` that never finds any, and an `inverse` by another power.
 #[test]
 fn points_inside_the_face_are_found(rt: HostRuntime) -> Result<(), Fail> {
     for (voters, quorums, load, longest) in &COTERIES {
