@@ -4,8 +4,8 @@
 //! sum to more than 1,000,000. [`near`] finds weights with cycles of a wanted length for each coterie.
 //! They have a load, and a bound: no weights of the coterie have a load below it. So anybody sees how
 //! far the load is above the smallest possible one, at most. In tests with 90 random coteries of 20 to
-//! 64 voters, two thirds of them with random capacities, this was less than 0.3 % for cycles of at most
-//! 1,000 tickets, and less than 0.02 % for cycles of at most 100,000.
+//! 64 voters, two thirds of them with random capacities, this was less than 0.35 % for cycles of at
+//! most 1,000 tickets, and less than 0.02 % for cycles of at most 100,000.
 //!
 //! The bound is made of weights of the voters, by the duality of linear programs (Naor and Wool,
 //! SIAM J. Comput. 27(2), 1998).

@@ -3,9 +3,9 @@
 //!
 //! `plan` first tries all weights 1. If all voters have the same capacity, these are a certificate
 //! if and only if the coterie is uniform. If they are none, `plan` tries the weights that `basis`
-//! finds, and then those of the simplex method in exact numbers. Each attempt is checked by
-//! `certificate::check`, so a plan that is returned is optimal however it was found. Whether a plan is
-//! found for any other coterie is left to the searches.
+//! finds, and then those of the simplex method in exact numbers. With at most 20 voters these come
+//! first. Each attempt is checked by `certificate::check`, so a plan that is returned is optimal however
+//! it was found. Whether a plan is found for any other coterie is left to the searches.
 //!
 //! This crate depends on `certificate`, `basis`, `simplex`, `quorum_set` and `numbers`.
 //!

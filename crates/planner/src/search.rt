@@ -16,9 +16,12 @@ use std::alloc::Global;
 /// The number of pivots that the simplex method may make.
 const PIVOTS: u32 = 10_000;
 
-/// A plan of the basis with a cycle of at most this length is taken as it is. To look for a shorter
-/// one takes up to ten times as long as to find it.
+/// A plan with a cycle of at most this length is taken as it is. To look for a shorter one inside the
+/// face takes up to ten times as long as to find it.
 const SHORT: u64 = 3_000;
+
+/// With at most this many voters exact numbers are as quick as floating point, and come first.
+const FEW: usize = 20;
 
 /// Returns the greatest common divisor of the weights; 0 if all are 0.
 fn divisor_of(weights: &[u64]) -> u64
@@ -171,6 +174,75 @@ fn by_face(
     }
 }
 
+/// Returns the plan that the simplex method finds in exact numbers.
+fn by_simplex(alloc: Global, coterie: &Coterie, capacities: &[u64]) -> Result<Plan, PlannerFault>
+    requires capacities { AreCapacities capacities.now coterie.now.voters }
+    ensures coterie { IfOk result (λ p. p.system ≡ coterie.now) }
+    ensures capacities { IfOk result (λ p. p.capacities ≡ capacities.now) }
+    ensures certificate { IfOk result IsCertificate }
+    ensures optimal { IfOk result IsOptimal }
+    ensures lowest { IfOk result (λ p. HaveNoCommonDivisor p.quorum_weights × HaveNoCommonDivisor p.voter_weights) }
+    ensures unreachable { IfErr result (CanCome capacities.now) }
+{
+    match solve(alloc, coterie, capacities, PIVOTS) {
+        Ok(candidate) => checked(
+            alloc,
+            coterie,
+            capacities,
+            candidate.quorum_weights,
+            candidate.voter_weights,
+        ),
+        Err(fault) => Err(PlannerFault::of_simplex(fault)),
+    }
+}
+
+/// Returns the plan that the simplex method finds in exact numbers, if it finds one.
+fn by_numbers(
+    alloc: Global,
+    coterie: &Coterie,
+    capacities: &[u64],
+) -> Result<Option<Plan>, PlannerFault>
+    requires capacities { AreCapacities capacities.now coterie.now.voters }
+    ensures coterie { IfOk result (λ o. IfSome o (λ p. p.system ≡ coterie.now)) }
+    ensures capacities { IfOk result (λ o. IfSome o (λ p. p.capacities ≡ capacities.now)) }
+    ensures certificate { IfOk result (λ o. IfSome o IsCertificate) }
+    ensures optimal { IfOk result (λ o. IfSome o IsOptimal) }
+    ensures lowest { IfOk result (λ o. IfSome o (λ p.
+        HaveNoCommonDivisor p.quorum_weights × HaveNoCommonDivisor p.voter_weights)) }
+    ensures memory { IfErr result (λ fault. fault ≡ PlannerFault.OutOfMemory) }
+{
+    match by_simplex(alloc, coterie, capacities) {
+        Ok(plan) => Ok(Some(plan)),
+        Err(PlannerFault::OutOfMemory) => Err(PlannerFault::OutOfMemory),
+        Err(_) => Ok(None),
+    }
+}
+
+/// Returns the plan that the simplex method finds in exact numbers, if there are few voters and its
+/// cycle is short.
+fn by_few(
+    alloc: Global,
+    coterie: &Coterie,
+    capacities: &[u64],
+) -> Result<Option<Plan>, PlannerFault>
+    requires capacities { AreCapacities capacities.now coterie.now.voters }
+    ensures coterie { IfOk result (λ o. IfSome o (λ p. p.system ≡ coterie.now)) }
+    ensures capacities { IfOk result (λ o. IfSome o (λ p. p.capacities ≡ capacities.now)) }
+    ensures certificate { IfOk result (λ o. IfSome o IsCertificate) }
+    ensures optimal { IfOk result (λ o. IfSome o IsOptimal) }
+    ensures lowest { IfOk result (λ o. IfSome o (λ p.
+        HaveNoCommonDivisor p.quorum_weights × HaveNoCommonDivisor p.voter_weights)) }
+    ensures memory { IfErr result (λ fault. fault ≡ PlannerFault.OutOfMemory) }
+{
+    if coterie.voters() > FEW {
+        return Ok(None);
+    }
+    match by_numbers(alloc, coterie, capacities)? {
+        Some(plan) if plan.cycle_len() <= SHORT => Ok(Some(plan)),
+        _ => Ok(None),
+    }
+}
+
 /// Returns a plan by a search in floating point, if it leads to one. The basis has a plan whose cycle
 /// is short, or the shorter plan counts of the basis and of a point inside the face.
 fn by_basis(
@@ -203,29 +275,7 @@ fn by_basis(
     }
 }
 
-/// Returns the plan that the simplex method finds in exact numbers.
-fn by_simplex(alloc: Global, coterie: &Coterie, capacities: &[u64]) -> Result<Plan, PlannerFault>
-    requires capacities { AreCapacities capacities.now coterie.now.voters }
-    ensures coterie { IfOk result (λ p. p.system ≡ coterie.now) }
-    ensures capacities { IfOk result (λ p. p.capacities ≡ capacities.now) }
-    ensures certificate { IfOk result IsCertificate }
-    ensures optimal { IfOk result IsOptimal }
-    ensures lowest { IfOk result (λ p. HaveNoCommonDivisor p.quorum_weights × HaveNoCommonDivisor p.voter_weights) }
-    ensures unreachable { IfErr result (CanCome capacities.now) }
-{
-    match solve(alloc, coterie, capacities, PIVOTS) {
-        Ok(candidate) => checked(
-            alloc,
-            coterie,
-            capacities,
-            candidate.quorum_weights,
-            candidate.voter_weights,
-        ),
-        Err(fault) => Err(PlannerFault::of_simplex(fault)),
-    }
-}
-
-/// Returns the plan that one of the two searches finds, or the fault of the second.
+/// Returns the plan that one of the searches finds, or the fault of the last.
 fn search(alloc: Global, coterie: &Coterie, capacities: &[u64]) -> Result<Plan, PlannerFault>
     requires capacities { AreCapacities capacities.now coterie.now.voters }
     ensures coterie { IfOk result (λ p. p.system ≡ coterie.now) }
@@ -235,6 +285,11 @@ fn search(alloc: Global, coterie: &Coterie, capacities: &[u64]) -> Result<Plan, 
     ensures lowest { IfOk result (λ p. HaveNoCommonDivisor p.quorum_weights × HaveNoCommonDivisor p.voter_weights) }
     ensures unreachable { IfErr result (CanCome capacities.now) }
 {
+    match by_few(alloc, coterie, capacities) {
+        Ok(Some(plan)) => return Ok(plan),
+        Ok(None) => {}
+        Err(fault) => return Err(fault),
+    }
     match by_basis(alloc, coterie, capacities) {
         Ok(Some(plan)) => Ok(plan),
         Ok(None) => by_simplex(alloc, coterie, capacities),
@@ -247,8 +302,9 @@ fn search(alloc: Global, coterie: &Coterie, capacities: &[u64]) -> Result<Plan, 
 /// to be a capacity for each voter, 1 to 1000.
 ///
 /// All weights are 1 if and only if these are a certificate. They are one for uniform coteries whose
-/// voters have the same capacity. Otherwise `basis` looks for weights. If they are no certificate, the
-/// simplex method looks for some in exact numbers, with at most 10,000 pivots. In each case no number above 1 divides all weights of the quorums, or all
+/// voters have the same capacity. Otherwise the simplex method looks for weights: first in exact
+/// numbers if there are at most 20 voters, then as `basis` does, and last in exact numbers, with at
+/// most 10,000 pivots. In each case no number above 1 divides all weights of the quorums, or all
 /// weights of the voters.
 ///
 /// Fails with `NoPlan` if no search finds a plan, with the cause of the last one. That all weights 1

@@ -4,7 +4,8 @@
 //! - `coterie_texts` reads and writes coteries, and `shapes` constructs them.
 //! - `fractions` computes.
 //! - `failing` has voters fail.
-//! - `nearness` has weights near the best for irregular coteries.
+//! - `nearness` has weights near the best for irregular coteries, `irregular` has plans for them, and
+//!   `draws` draws some.
 //! - `certificates` copies a plan, `searches` solves, and `plans` finds them.
 //! - `pairs` puts two plans together, and `offices` deals.
 //!
@@ -19,9 +20,13 @@ mod certificates;
 #[cfg(test)]
 mod coterie_texts;
 #[cfg(test)]
+mod draws;
+#[cfg(test)]
 mod failing;
 #[cfg(test)]
 mod fractions;
+#[cfg(test)]
+mod irregular;
 #[cfg(test)]
 mod nearness;
 #[cfg(test)]

@@ -1,4 +1,4 @@
-use Rattle.std.proofs.Common.{rules, ◌≡◌, ◌∙◌, refl, sym, IsOkUnless, Option, None, Some, Result, Ok, Err}
+use Rattle.std.proofs.Common.{rules, ◌≡◌, ◌∙◌, sym, IsOkUnless, Option, None, Some, Result, Ok, Err}
 use Rattle.certificate.specs.Certificates.{AnswersUnless, Weighted, weights_fault}
 use Rattle.certificate.specs.declared.fault.PlanFault.{PlanFault}
 use Rattle.certificate.specs.declared.fault.PlanFault.TheVariants.{OutOfMemory}
