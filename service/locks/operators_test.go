@@ -192,15 +192,16 @@ func TestOneVoterRetiresNoClient(t *testing.T) {
 func TestNewVotersLearnWhatIsReserved(t *testing.T) {
 	w := worlds.New(t, worlds.Majority, 20*time.Second)
 	s := newStranger(t, w, "busy")
+	w.Exchange(grown)
+	w.Ready() // from now on only the exchange tells the new voters
 	s.Number, s.Epoch, s.Reserved, s.Seq = 60, 1, 1<<18, 1
-	for voter := range w.Owns {
+	for voter := 0; voter < 3; voter++ {
 		s.send(voter, ". claim 60 1\n")
 		s.send(voter, ". open 0\n")
 	}
 	if !s.hears(fmt.Sprintf("opened 60 1 0 %d ", 1<<18), 5*time.Second) {
 		t.Fatal("nothing is reserved")
 	}
-	w.Exchange(grown)
 	soon(t, "the voters do not take the plan", func() bool { return w.Install() == nil })
 	replies, err := w.Console().Ask(within(t, 5*time.Second), "status", 3, 4)
 	if err != nil {
@@ -213,10 +214,9 @@ func TestNewVotersLearnWhatIsReserved(t *testing.T) {
 	}
 }
 
-// `qlockctl retire` brings a voter up to date that was away, also where no plan was ever exchanged.
+// `qlockctl retire` brings a voter up to date that did not hear of a session, also where no plan was ever exchanged.
 func TestRetireBringsUpToDate(t *testing.T) {
 	w := worlds.New(t, worlds.Majority, 20*time.Second)
-	w.Stop(2)
 	s := newStranger(t, w, "busy")
 	s.Number, s.Epoch, s.Reserved, s.Seq = 60, 1, 1<<18, 1
 	for voter := 0; voter < 2; voter++ {
@@ -226,8 +226,6 @@ func TestRetireBringsUpToDate(t *testing.T) {
 	if !s.hears(fmt.Sprintf("opened 60 1 0 %d ", 1<<18), 5*time.Second) {
 		t.Fatal("nothing is reserved")
 	}
-	w.Start(2)
-	w.Ready()
 	soon(t, "the voters don't reply", func() bool { return w.Retire() == nil })
 	replies, err := w.Console().Ask(within(t, 5*time.Second), "status", 2)
 	if err != nil || !strings.Contains(string(replies[0].Body), fmt.Sprintf(`"reserved":%d`, 1<<18)) {
