@@ -15,7 +15,29 @@ import (
 // measureIdle passes once through each of many locks, and then measures what voters cost while nobody wants any, and how
 // long a start takes.
 func measureIdle(cluster *local.Cluster, names int) error {
-	ctx, cancel := context.WithTimeout(context.Background(), 20*time.Minute)
+	if err := passOnce(cluster, names, func(int64) {}); err != nil {
+		return err
+	}
+	return costs(cluster)
+}
+
+// soak passes once through each of many locks, and shows meanwhile what the voters keep.
+func soak(cluster *local.Cluster, names int) error {
+	return passOnce(cluster, names, func(done int64) {
+		sums, err := numbers(cluster.Listen)
+		if err != nil {
+			fmt.Println(err)
+			return
+		}
+		voters := float64(len(cluster.Listen))
+		fmt.Printf("%9d locks used; a voter keeps %.0f, in %.1f MB of memory and %.1f MB of its file\n", done, sums["locks"]/voters,
+			sums["resident_memory_bytes"]/voters/1e6, sums["file_bytes"]/voters/1e6)
+	})
+}
+
+// passOnce passes once through each of many locks, and calls a function each ten seconds.
+func passOnce(cluster *local.Cluster, names int, look func(done int64)) error {
+	ctx, cancel := context.WithTimeout(context.Background(), 3*time.Hour)
 	defer cancel()
 	clients, err := open(ctx, cluster.File, 4)
 	if err != nil {
@@ -23,7 +45,7 @@ func measureIdle(cluster *local.Cluster, names int) error {
 	}
 	began := time.Now()
 	var done atomic.Int64
-	stop := tell(&done, names)
+	stop := tell(&done, names, look)
 	const workers = 512
 	failures := make([]error, workers)
 	var group sync.WaitGroup
@@ -53,17 +75,18 @@ func measureIdle(cluster *local.Cluster, names int) error {
 		}
 	}
 	fmt.Printf("passed through %d locks in %.1f s\n", names, time.Since(began).Seconds())
-	return costs(cluster)
+	return nil
 }
 
 // tell prints every ten seconds how far it is, until the function that it returns is called.
-func tell(done *atomic.Int64, names int) (stop func()) {
+func tell(done *atomic.Int64, names int, look func(done int64)) (stop func()) {
 	ticker, ended := time.NewTicker(10*time.Second), make(chan struct{})
 	go func() {
 		for {
 			select {
 			case <-ticker.C:
 				fmt.Fprintf(os.Stderr, "%d of %d locks\n", done.Load(), names)
+				look(done.Load())
 			case <-ended:
 				return
 			}

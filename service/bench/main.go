@@ -47,18 +47,19 @@ func main() {
 	var o local.Options
 	length := flag.Duration("for", 10*time.Second, "how long each load takes")
 	idle := flag.Int("idle", 0, "measure a voter with so many locks that nobody wants, and nothing else")
+	used := flag.Int("soak", 0, "use so many locks once, show what voters keep, and nothing else; QLOCK_MAX_LOCKS is what they may keep")
 	flag.StringVar(&o.Folder, "folder", "", "a new folder for the cluster, on a disk that syncs")
 	flag.StringVar(&o.Bin, "bin", "", "the folder of qlock-voter and qlockctl")
 	flag.StringVar(&o.Coterie, "coterie", "", "the file of the coterie")
 	flag.Parse()
 	o.TTL = 10 * time.Second
-	if err := run(o, *length, *idle); err != nil {
+	if err := run(o, *length, *idle, *used); err != nil {
 		fmt.Fprintln(os.Stderr, "bench:", err)
 		os.Exit(1)
 	}
 }
 
-func run(o local.Options, length time.Duration, idle int) error {
+func run(o local.Options, length time.Duration, idle, used int) error {
 	cluster, err := local.Start(o)
 	if err != nil {
 		return err
@@ -66,6 +67,9 @@ func run(o local.Options, length time.Duration, idle int) error {
 	defer cluster.End()
 	if idle > 0 {
 		return measureIdle(cluster, idle)
+	}
+	if used > 0 {
+		return soak(cluster, used)
 	}
 	for _, load := range loads {
 		if err := measureLoad(cluster, load.name, load.clients, load.locks, load.each, length); err != nil {
@@ -146,6 +150,8 @@ func numbers(listen []string) (map[string]float64, error) {
 			var value float64
 			if _, err := fmt.Sscan(rest, &value); err == nil && strings.HasPrefix(name, "qlock_voter_") {
 				sums[strings.TrimPrefix(name, "qlock_voter_")] += value
+			} else if err == nil {
+				sums[strings.TrimPrefix(name, "process_")] += value
 			}
 		}
 		reply.Body.Close()

@@ -141,7 +141,7 @@ func (d *Daemon) isKept(now time.Time) {
 	isNew := d.store.own.Ceiling == 0
 	d.store.own.Ceiling, d.newOwn = j.asked, true
 	d.ceiling, j.waits = j.asked, false
-	d.m.left.Set(float64(d.ceiling - greatest(d.floor, d.m.most)))
+	d.m.left.Set(float64(d.ceiling) - float64(greatest(d.floor, d.m.most)))
 	if j.done {
 		return
 	}

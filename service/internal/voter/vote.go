@@ -139,7 +139,7 @@ func (d *Daemon) noteGrant(v *vote, now time.Time) error {
 			v.highest = greatest(v.highest, held.Number)
 			d.m.grants.Inc()
 			d.granted++
-			d.m.left.Set(float64(d.ceiling - d.m.highest(held.Number)))
+			d.m.left.Set(float64(d.ceiling) - float64(d.m.highest(held.Number)))
 			d.needsCeiling(d.m.most, now)
 		}
 	}
