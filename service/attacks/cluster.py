@@ -200,8 +200,10 @@ class Cluster:
         self.start(voter)
 
     def wait(self) -> None:
-        """Waits until all voters reply."""
+        """Waits until all voters reply, and the others answered their starts."""
         self.ctl("status", "--timeout", "25s")
+        if not until(lambda: all(reply.get("serves") for reply in self.status().values()), 25):
+            raise RuntimeError("some voter does not serve")
 
     def log_of(self, voter: str) -> Path:
         """What a voter wrote."""

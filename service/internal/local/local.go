@@ -327,15 +327,21 @@ func (c *Cluster) command(name string, words ...string) error {
 	return nil
 }
 
-// wait waits until all voters reply to an operator.
+// wait waits until all voters reply to an operator, and the others answered their starts.
 func (c *Cluster) wait() error {
 	ctx, cancel := context.WithTimeout(context.Background(), 30*time.Second)
 	defer cancel()
-	out, err := exec.CommandContext(ctx, filepath.Join(c.Bin, "qlockctl"), "status", "-c", c.File, "--timeout", "25s").CombinedOutput()
-	if err != nil {
-		return fmt.Errorf("%v: %s", err, bytes.TrimSpace(out))
+	for {
+		out, err := exec.CommandContext(ctx, filepath.Join(c.Bin, "qlockctl"), "status", "-c", c.File, "--json", "--timeout",
+			"25s").CombinedOutput()
+		if err != nil {
+			return fmt.Errorf("%v: %s", err, bytes.TrimSpace(out))
+		}
+		if serve := bytes.Count(out, []byte(`"serves":true`)); serve == len(c.names) {
+			return nil
+		}
+		time.Sleep(50 * time.Millisecond)
 	}
-	return nil
 }
 
 // Process starts a process of this cluster, on an island of its own if there are islands.
