@@ -205,7 +205,11 @@ func (d *Daemon) Run(ctx context.Context) error {
 			return err
 		}
 		d.lively.Store(now.UnixNano())
-		if !d.wait(ctx, next) {
+		until := next
+		if !d.join.done {
+			until = earlier(until, d.join.next)
+		}
+		if !d.wait(ctx, until) {
 			return d.end()
 		}
 	}

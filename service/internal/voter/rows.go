@@ -113,6 +113,9 @@ func verify(path string) (err error) {
 	} else if err != nil {
 		return err
 	}
+	if err := verifyPages(path); err != nil {
+		return err
+	}
 	return db.View(func(tx *bbolt.Tx) error {
 		tally := uint64(0)
 		for _, bucket := range buckets {

@@ -52,18 +52,19 @@ func (o own) refusal() error {
 type joining struct {
 	process  string
 	began    time.Time
-	next     time.Time // when those that did not answer are asked again
-	saves    uint64    // how often the state was saved before this run
-	answered uint64    // the voters that said what they knew
-	isClean  bool      // one of them knows that the last run ended with just these saves
-	known    uint64    // the highest ceiling that one of them knew
-	asked    uint64    // the ceiling that was asked for last, 0 for none
-	kept     uint64    // the voters that keep it
-	told     uint64    // those that said so in the last TTL
-	toldAt   time.Time // when all were told
-	waits    bool      // no quorum keeps it yet
-	block    uint64    // how much it was raised last
-	done     bool      // this voter serves
+	next     time.Time     // when those that did not answer are asked again
+	pause    time.Duration // before that; it doubles
+	saves    uint64        // how often the state was saved before this run
+	answered uint64        // the voters that said what they knew
+	isClean  bool          // one of them knows that the last run ended with just these saves
+	known    uint64        // the highest ceiling that one of them knew
+	asked    uint64        // the ceiling that was asked for last, 0 for none
+	kept     uint64        // the voters that keep it
+	told     uint64        // those that said so in the last TTL
+	toldAt   time.Time     // when all were told
+	waits    bool          // no quorum keeps it yet
+	block    uint64        // how much it was raised last
+	done     bool          // this voter serves
 	refused  error
 }
 
@@ -99,7 +100,10 @@ func (d *Daemon) start(now time.Time) {
 	if now.Before(j.next) {
 		return
 	}
-	if j.next = now.Add(askAgain); j.done && !j.waits {
+	if j.pause = 2*j.pause + time.Millisecond; j.pause > askAgain {
+		j.pause = askAgain
+	}
+	if j.next = now.Add(j.pause); j.done && !j.waits {
 		j.next = now.Add(tellAgain)
 	}
 	for voter := 0; voter < places; voter++ {
