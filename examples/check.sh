@@ -488,7 +488,7 @@ irregular() {
 mkdir "$work/made"
 awk 'BEGIN { print "voters = [\"a\", \"b\", \"c\"]\nquorums = ["; for (j = 0; j < 4097; j++) print "  [\"a\"],"; print "]" }' \
     > "$work/made/E4.plan"
-irregular 28 64 > "$work/made/N1-sums.plan"
+irregular 32 40 > "$work/made/N1-sums.plan"
 irregular 56 100 > "$work/made/N1-bits.plan"
 { yes '# a note' | head -n 999999; echo 'voters = ["a"'; } > "$work/made/F1-long.plan"
 {

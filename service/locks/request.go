@@ -27,6 +27,8 @@ type lock struct {
 	shown qlock.Shown
 	plan  uint64 // the number of the plan by which it asked last
 
+	unrenewed uint64 // the voters that started again since it has their votes, and did not say again that it has them
+
 	noRoom uint64 // the voters that had no room for it, and when one said so last
 	saidAt time.Time
 }
@@ -308,6 +310,7 @@ func (c *Client) note(l *lock, now time.Time) {
 	}
 	if shown.Phase != l.shown.Phase {
 		l.timer.Of(0, now)
+		l.unrenewed = 0
 	}
 	l.shown = shown
 	switch shown.Phase {
@@ -338,6 +341,9 @@ func (c *Client) take(name, line []byte) {
 	if err != nil {
 		c.stats.Refused++
 		return
+	}
+	if said := wire.ReadLine(line); string(said.Word) == "locked" && said.Stamp == l.shown.Stamp && said.From >= 0 {
+		l.unrenewed &^= 1 << said.From
 	}
 	lines, _, err := l.Take(line, c.room[:0])
 	if err != nil {

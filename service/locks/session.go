@@ -52,6 +52,7 @@ type peer struct {
 	identity string
 	run      uint64                   // how often the voter was made again
 	start    uint64                   // how often it started
+	unsure   bool                     // it started again, and some vote of it was not renewed yet
 	quiet    time.Time                // until then it takes only requests of who is inside
 	mark     string                   // of the newest plan that it has, once it said so
 	oldest   uint64                   // the number of the oldest plan that it said is not retired
@@ -509,13 +510,28 @@ func (c *Client) recognise(h wire.Header) bool {
 	return true
 }
 
-// restarted renews at a voter that started again the requests that are inside by its vote. Others that have its vote are
+// isUnsure returns whether a request is inside by the vote of a voter that started again, and did not say since that it is.
+func (c *Client) isUnsure(voter int) bool {
+	p := &c.peers[voter]
+	if p.unsure {
+		p.unsure = false
+		for l := range c.busy {
+			p.unsure = p.unsure || l.unrenewed>>voter&1 == 1
+		}
+	}
+	return p.unsure
+}
+
+// restarted renews at a voter that started again the requests that are inside by its vote. Until it says that they are,
+// its replies to heartbeats count for nothing. Others that have its vote are
 // given up: it may be somebody else's.
 func (c *Client) restarted(voter int) {
 	for l := range c.busy {
 		switch {
 		case l.shown.Phase == qlock.Idle || c.votes(l)>>voter&1 == 0:
 		case l.shown.Phase == qlock.Inside:
+			l.unrenewed |= 1 << voter
+			c.peers[voter].unsure = true
 			c.remind(l, time.Now())
 		default:
 			c.askAgain(l)
@@ -682,7 +698,7 @@ func (c *Client) claimAgain(voter int) {
 // voter heard, and how many requests of this session it has.
 func (c *Client) opened(voter int, base, reserved, seq, requests uint64) {
 	p := &c.peers[voter]
-	if left, ok := p.sent[seq]; ok && left > p.known {
+	if left, ok := p.sent[seq]; ok && left > p.known && !c.isUnsure(voter) {
 		c.acknowledge(voter, left)
 	}
 	p.requests = requests

@@ -645,6 +645,9 @@ func (d *Daemon) endQuiet(now time.Time) {
 	d.quietUntil = time.Time{}
 	for v := range d.busy {
 		if held := v.held; v.isOld && held.Number > 0 && d.letGo(v, now) {
+			if row := d.table.rows[held.Client]; row.Open && held.Stamp > row.Base {
+				d.table.lapse(int(held.Client)) // what tells its client so may be lost
+			}
 			d.log.Write(event.Warning, "not-renewed", "lock", v.name, "client", held.Client, "stamp", held.Stamp, "grant", held.Number)
 		}
 		v.isOld = false

@@ -124,4 +124,9 @@ func TestEachLineLeaves(t *testing.T) {
 		}
 		delete(d.out, one.hears)
 	}
+	// who has the vote hears so again when it says so
+	d.step(v, 1, now, func(out []byte) ([]byte, error) { return v.Take([]byte("request 1 0 105"), out) })
+	if got := string(d.out["session-1"]); got != "orders locked 0 1 105 1 107\n" {
+		t.Errorf("a renewal hears %q", got)
+	}
 }
