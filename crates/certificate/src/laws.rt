@@ -1,6 +1,5 @@
-//! Laws about plans and their texts.
+//! Laws about weights and plans.
 ghost use Rattle.std.specs.Prelude.{◌≡◌, ◌*◌, ◌↔◌, ◌<◌, ◌≤◌, ◌++◌, ℕ, List, [], true, false, None, Some, codes, length, slice_index};
-ghost use Rattle.std.specs.Fmt.{decimal};
 ghost use Rattle.std.specs.Int.{IsGcd};
 ghost use Rattle.std.specs.List.{All};
 ghost use Rattle.divisor.specs.Gcd.{lowest_terms};
@@ -11,7 +10,6 @@ ghost use Rattle.quorum_set.specs.Counts.{count_of, busiest_of};
 ghost use Rattle.certificate.specs.Bounds.{BearsBound, IsBounded, bound_of};
 ghost use Rattle.certificate.specs.Certificates.{Weighted, AreWeights, IsCertificate, IsOptimal, IsUnitCertificate, IsUnitOptimal, weights_fault, busiest_count, cycle_len, cycle_ratio, load_of, unit_load};
 ghost use Rattle.certificate.specs.Loads.{weight_on};
-ghost use Rattle.certificate.specs.PlanTexts.{HasDigits, IsShort, plan_text, number_of, load_line, cycle_line, weights_line, read_load, read_cycle, read_capacities, read_weights};
 ghost use Rattle.certificate.specs.Ratios.{IsAtMost, greatest_ratio, ratio_of};
 
 /// A list that has each quorum k times its weight uses each voter k times the weight on the voter's
@@ -83,32 +81,4 @@ pub fn unit_capacities_change_nothing()
 pub fn certificates_have_no_fault()
     ensures { (w : Weighted) → IsCoterie w.system → AreCapacities w.capacities w.system.voters
         → (weights_fault w ≡ None) ↔ IsCertificate w }
-{}
-
-/// Bytes are read as a number of at most this many digits, up to 19, if and only if they are its
-/// decimal text and it has no more digits.
-pub fn numbers_have_one_text()
-    ensures { (digits : ℕ) (bytes : List ℕ) (n : ℕ) → digits ≤ 19
-        → (number_of digits bytes ≡ Some n) ↔ ((bytes ≡ decimal n) × HasDigits digits n) }
-{}
-
-/// A line is read as a load, a cycle's length, capacities, or weights after their word if and only
-/// if it is the line that is written for these. Its numbers have at most 7 digits, and those of a
-/// load at most `digits`, which is up to 19. Capacities are 1 to 1000, and some is not 1.
-pub fn lines_are_read_as_written()
-    ensures load { (digits : ℕ) (line : List ℕ) (load : ℕ × ℕ) → digits ≤ 19
-        → (read_load digits line ≡ Some load)
-        ↔ ((line ≡ load_line load) × (HasDigits digits load.0 × HasDigits digits load.1)) }
-    ensures cycle { (line : List ℕ) (n : ℕ) → (read_cycle line ≡ Some n) ↔ ((line ≡ cycle_line n) × IsShort n) }
-    ensures capacities { (line capacities : List ℕ) → (read_capacities line ≡ Some capacities)
-        ↔ ((line ≡ weights_line (codes "capacity ") capacities)
-        × (All IsCapacity capacities × (are_unit capacities ≡ false))) }
-    ensures weights { (word line weights : List ℕ) → (read_weights word line ≡ Some weights)
-        ↔ ((line ≡ weights_line word weights) × (All IsShort weights × (0 < length weights))) }
-{}
-
-/// No text of a plan is the beginning of a longer text of a plan.
-pub fn plan_texts_end()
-    ensures { (v w : Weighted) (more : List ℕ) → IsCertificate v → IsCertificate w
-        → plan_text v ++ more ≡ plan_text w → more ≡ [] }
 {}

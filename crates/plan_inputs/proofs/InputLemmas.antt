@@ -8,7 +8,7 @@ use Rattle.coterie_file.specs.Named.{NamedSystem}
 use Rattle.coterie_file.specs.Reading.{coterie_at}
 use Rattle.coterie_file.specs.declared.fault.FileFault.{FileFault}
 use Rattle.coterie_file.specs.declared.fault.FileFault.TheVariants as file
-use Rattle.certificate.specs.PlanTexts as plan_texts
+use Rattle.plan_texts.specs.PlanTexts as plan_texts
 use Rattle.certificate.specs.declared.fault.PlanFault.{PlanFault}
 use Rattle.certificate.specs.declared.fault.PlanFault.TheVariants as plan
 use Rattle.certificate.specs.Certificates.{IsCertificate}

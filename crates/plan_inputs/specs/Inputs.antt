@@ -7,7 +7,7 @@ use Rattle.coterie_file.specs.Named.{NamedSystem}
 use Rattle.coterie_file.specs.Reading.{coterie_at}
 use Rattle.coterie_file.specs.declared.fault.FileFault.TheVariants.{NotToml}
 use Rattle.certificate.specs.Certificates.{Weighted, IsCertificate, IsOptimal}
-use Rattle.certificate.specs.PlanTexts.{plan_at, plan_text}
+use Rattle.plan_texts.specs.PlanTexts.{plan_at, plan_text}
 use Rattle.planner.specs.Causes.{CanCome}
 use Rattle.planner.specs.Uniform.{IsWarranted, all_ones}
 use Rattle.planner.specs.Weights.{HaveNoCommonDivisor}

@@ -4,7 +4,7 @@ ghost use Rattle.plan_inputs.specs.Inputs.{Plans};
 
 use crate::fault::InputFault;
 use crate::reading::coterie_of;
-use certificate::write_plan;
+use plan_texts::write_plan;
 use planner::plan;
 use std::alloc::Global;
 

@@ -5,8 +5,9 @@ ghost use Rattle.plan_inputs.specs.Inputs.{coterie_in, parts_of, plan_in, planne
 
 use crate::fault::InputFault;
 use crate::planned::Planned;
-use certificate::{Plan, read_plan};
+use certificate::Plan;
 use coterie_file::{FileFault, Named, read_coterie};
+use plan_texts::read_plan;
 use std::alloc::Global;
 
 /// Returns the coterie that a text describes. A text that is not UTF-8 fails with `NotToml`.

@@ -1,5 +1,6 @@
 //! A copy of a plan finds memory, and is written alike.
-use certificate::{Plan, write_plan};
+use certificate::Plan;
+use plan_texts::write_plan;
 use std::alloc::{AllocError, Global};
 use test_plans::wheel_plan;
 

@@ -1,5 +1,5 @@
 use Rattle.std.proofs.Common.{ap, ap₂, sym, ◌∙◌}
-use Rattle.certificate.specs.PlanTexts.{plan_at}
+use Rattle.plan_texts.specs.PlanTexts.{plan_at}
 use Rattle.plan_inputs.specs.Faults.{refused_as}
 use Rattle.plan_inputs.specs.Inputs.{plan_in}
 use Rattle.plan_inputs.specs.declared.fault.InputFault.TheVariants.{Plan}

@@ -1,0 +1,5 @@
+pub mod Numbers
+pub mod PlanLaws
+pub mod PlanLines
+pub mod WordNumbers
+pub mod Written

@@ -1,0 +1,2 @@
+pub mod PlanTexts
+pub mod ReadLines
