@@ -1,8 +1,8 @@
 //! Weights that are near the best, for coteries whose plan has too large numbers or too long cycles.
 //!
 //! The planner finds an optimal plan, or none: the exact weights of a large irregular coterie may
-//! sum to more than 1,000,000. [`near`] finds weights with cycles of a wanted length for each coterie.
-//! They have a load, and a bound: no weights of the coterie have a load below it. So anybody sees how
+//! sum to more than 1,000,000. [`near`] finds weights with cycles of a wanted length for each coterie,
+//! and [`weights`] takes those of a plan if its cycle is short enough. They have a load, and a bound: no weights of the coterie have a load below it. So anybody sees how
 //! far the load is above the smallest possible one, at most. In tests with 90 random coteries of 20 to
 //! 64 voters, two thirds of them with random capacities, this was less than 0.35 % for cycles of at
 //! most 1,000 tickets, and less than 0.02 % for cycles of at most 100,000.
@@ -19,12 +19,13 @@
 //!   asked for. By the contract of [`Weights`](certificate::Weights), no weights of them have a load
 //!   below the bound.
 //! - The load is at most that of weights 1 of all quorums, if these are not too many.
+//! - [`weights`] returns weights 1 of all quorums if these are optimal, and not too many.
 //! - [`is_within`] returns whether the load is so near the bound, exactly. [`weights_within`] returns `Ok`
 //!   for such weights alone.
 //!
 //! Not proved: how near the load is to the bound.
 //!
-//! Depends on `basis`, `certificate`, `quorum_set` and `numbers`.
+//! Depends on `planner`, `basis`, `certificate`, `quorum_set` and `numbers`.
 //!
 //! ```text
 //! let weights = near(alloc, &coterie, &capacities, 1000)?;
@@ -37,4 +38,4 @@ mod search;
 mod shares;
 mod tickets;
 
-pub use search::{is_within, near, weights_within};
+pub use search::{is_within, near, weights, weights_within};

@@ -3,14 +3,16 @@ ghost use Rattle.std.specs.Prelude.{◌≡◌, ◌<◌, ◌≤◌, ◌⊎◌, �
 ghost use Rattle.numbers.specs.Bounds.{max_cycle};
 ghost use Rattle.quorum_set.specs.Capacities.{AreCapacities};
 ghost use Rattle.certificate.specs.Bounds.{BearsBound, IsBounded};
-ghost use Rattle.certificate.specs.Certificates.{AreWeights, cycle_len, load_of, with_weights};
+ghost use Rattle.certificate.specs.Certificates.{AreWeights, IsCertificate, cycle_len, load_of, with_weights};
 ghost use Rattle.certificate.specs.Ratios.{IsAtMost};
-ghost use Rattle.near.specs.Nearness.{IsWithin, ones_of};
+ghost use Rattle.near.specs.Nearness.{HoldsOfEither, IsWithin, ones_of};
+ghost use Rattle.planner.specs.Uniform.{all_ones};
 
 use crate::shares::{rounded, shares_of};
 use crate::tickets::tickets_of;
 use certificate::Weights;
 use numbers::MAX_CYCLE;
+use planner::{PlannerFault, plan};
 use quorum_set::Coterie;
 use std::alloc::{AllocError, Global};
 
@@ -146,7 +148,43 @@ pub fn is_within(weights: &Weights, millionths: u64) -> bool
         <= u128::from(least_part) * u128::from(whole) * u128::from(1_000_000 + millionths)
 }
 
-/// Finds weights as [`near`] does. Returns `Ok` if their load is at most so many millionths of their
+/// Finds weights of a coterie's quorums for cycles of at most `most` tickets: those of an optimal plan if
+/// one is found whose cycle is so short, and else weights as [`near`] does. There has to be a capacity for
+/// each voter, 1 to 1000, and `most` has to be 1 to 1,000,000. Fails only if it runs out of memory.
+pub fn weights(
+    alloc: Global,
+    coterie: &Coterie,
+    capacities: &[u64],
+    most: u64,
+) -> Result<Weights, AllocError>
+    requires capacities { AreCapacities capacities.now coterie.now.voters }
+    requires most { (0 < most) × (most ≤ max_cycle) }
+    ensures coterie { IfOk result (λ w. w.system ≡ coterie.now) }
+    ensures capacities { IfOk result (λ w. w.capacities ≡ capacities.now) }
+    ensures weights { IfOk result AreWeights }
+    ensures short { IfOk result (λ w. cycle_len w ≤ most) }
+    // No weights of this coterie and these capacities have a load below the bound.
+    ensures bounded { IfOk result IsBounded }
+    // If weights 1 of all quorums are not too many, the load is at most theirs.
+    ensures ones { length coterie.now.quorums ≤ most → IfOk result (λ w.
+        IsAtMost (load_of w) (load_of (with_weights coterie.now capacities.now (ones_of coterie.now) w.voter_weights))) }
+    // If all weights 1 are a certificate, and not too many, they are what is found.
+    ensures certified { IsCertificate (all_ones coterie.now capacities.now) → length coterie.now.quorums ≤ most
+        → IfOk result (λ w. w ≡ all_ones coterie.now capacities.now) }
+{
+    match plan(alloc, coterie, capacities) {
+        Ok(plan) => {
+            if plan.cycle_len() <= most {
+                return Ok(plan.into_weights());
+            }
+        }
+        Err(PlannerFault::OutOfMemory) => return Err(AllocError),
+        Err(PlannerFault::NoPlan(_)) => {}
+    }
+    near(alloc, coterie, capacities, most)
+}
+
+/// Finds weights as [`weights`] does. Returns `Ok` if their load is at most so many millionths of their
 /// bound above the bound, and else `Err`, with the weights all the same.
 pub fn weights_within(
     alloc: Global,
@@ -158,10 +196,15 @@ pub fn weights_within(
     requires capacities { AreCapacities capacities.now coterie.now.voters }
     requires most { (0 < most) × (most ≤ max_cycle) }
     requires millionths { millionths ≤ 1000000 }
+    ensures coterie { IfOk result (HoldsOfEither (λ w. w.system ≡ coterie.now)) }
+    ensures capacities { IfOk result (HoldsOfEither (λ w. w.capacities ≡ capacities.now)) }
+    ensures weights { IfOk result (HoldsOfEither AreWeights) }
+    ensures short { IfOk result (HoldsOfEither (λ w. cycle_len w ≤ most)) }
+    ensures bounded { IfOk result (HoldsOfEither IsBounded) }
     ensures within { IfOk result (λ found. IfOk found (IsWithin millionths)) }
     ensures beyond { IfOk result (λ found. IfErr found (λ w. ¬ IsWithin millionths w)) }
 {
-    let weights = near(alloc, coterie, capacities, most)?;
+    let weights = weights(alloc, coterie, capacities, most)?;
     if is_within(&weights, millionths) {
         return Ok(Ok(weights));
     }

@@ -56,6 +56,7 @@ plan_line plan.WrongCycle = codes "P7 WrongCycle"
 plan_line (plan.NotOptimalRatio numerator denominator total lightest len) =
     numbered_line (codes "P8 NotOptimalRatio") (numerator ∷ denominator ∷ total ∷ lightest ∷ len ∷ [])
 plan_line plan.WrongCapacity = codes "P9 WrongCapacity"
+plan_line plan.WrongBound = codes "P10 WrongBound"
 plan_line plan.OutOfMemory = codes "O1 OutOfMemory"
 
 -- the line of a search that ended without a plan

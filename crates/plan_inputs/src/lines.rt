@@ -110,6 +110,7 @@ fn plan_line(fault: PlanFault) -> Line
             ],
         ),
         PlanFault::WrongCapacity => plain("P9 WrongCapacity"),
+        PlanFault::WrongBound => plain("P10 WrongBound"),
         PlanFault::OutOfMemory => plain("O1 OutOfMemory"),
     }
 }
