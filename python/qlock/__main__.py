@@ -1,4 +1,4 @@
-"""The command `python -m qlock import KIND FILE`: writes the coterie in a file of a running system."""
+"""The command `python3 -m qlock import KIND FILE`: writes the coterie in a file of a running system."""
 import argparse
 import sys
 from typing import Optional, Sequence
@@ -11,7 +11,7 @@ NOT_READ_OR_WRITTEN = 3
 
 def parser() -> argparse.ArgumentParser:
     """Returns what reads the command line."""
-    top = argparse.ArgumentParser(prog="python -m qlock", description=__doc__)
+    top = argparse.ArgumentParser(prog="python3 -m qlock", description=__doc__)
     commands = top.add_subparsers(dest="command", required=True, metavar="import")
     command = commands.add_parser("import", help="write the coterie in a file of a running system, for qlock plan")
     command.add_argument("kind", choices=sorted(READERS), help="the system: docs/choosing.md says what is read of each")

@@ -1,4 +1,4 @@
-"""Coteries from the files of systems that run. `python -m qlock import KIND FILE` writes one.
+"""Coteries from the files of systems that run. `python3 -m qlock import KIND FILE` writes one.
 
 A reader for each kind (`zoo`, `etcd`, `nodetool`, `zones`) takes the text of a file, and returns who votes: a `Roster`. There
 is one rule for all, `quorums_of`: a majority of the votes in each of a majority of the groups (Kumar 1991). `coterie_of` writes

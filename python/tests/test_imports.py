@@ -46,7 +46,7 @@ def coterie_in(text):
 
 
 def run(*words, stdin=b"", **given):
-    """Runs `python -m qlock` with these words."""
+    """Runs `python3 -m qlock` with these words."""
     return subprocess.run([sys.executable, "-m", "qlock", *words], input=stdin, capture_output=True, check=False, **given)
 
 
