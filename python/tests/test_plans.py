@@ -15,6 +15,10 @@ quorums = [["hub", "rim1"], ["hub", "rim2"], ["hub", "rim3"], ["rim1", "rim2", "
 """
 PLAN = "quorum-plan 1\nload 3/5\ncycle 5\nquorum 1 1 1 2\nvoter 2 1 1 1\n"
 QUORUMS = [(0, 1), (0, 2), (0, 3), (1, 2, 3)]
+# the minimal sets with more than half of the votes 3, 2, 2, 1 and 1: its two orders differ
+VOTES = """voters = ["a", "b", "c", "d", "e"]
+quorums = [["a", "b"], ["a", "c"], ["a", "d", "e"], ["b", "c", "d"], ["b", "c", "e"]]
+"""
 FAST = 'voters = ["a", "b", "c"]\nquorums = [["a", "b"], ["a", "c"], ["b", "c"]]\ncapacity = [2, 1, 1]\n'
 
 
@@ -55,7 +59,7 @@ class Plans(unittest.TestCase):
         self.assertEqual(plan.loads_after(2 * plan.cycle)[4::5], [plan.load] * 2)
 
     def test_loads_after_tickets_are_those_of_their_quorums(self):
-        for plan, order, first in product(map(Plan.find, (FAST, majority_of_5())), Order, (0, 3, 10**12)):
+        for plan, order, first in product(map(Plan.find, (FAST, VOTES)), Order, (0, 3, 10**12)):
             tickets = list(islice(plan.quorums(first, order), plan.cycle + 2))
             loads = plan.loads_after(len(tickets), first, order)
             for n in range(1, len(tickets) + 1):
@@ -150,7 +154,7 @@ class Failures(unittest.TestCase):
         self.assertEqual((plan.failures(2), plan.failures(4)), (kept, kept))
 
     def test_they_are_those_of_the_tickets_that_are_left(self):
-        for coterie in (WHEEL, FAST, majority_of_5()):
+        for coterie in (WHEEL, FAST, VOTES, majority_of_5()):
             plan = Plan.find(coterie)
             tickets = list(islice(plan.quorums(), plan.cycle))
             found = {it.down: it for it in plan.failures(3)}
