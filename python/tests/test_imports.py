@@ -1,6 +1,7 @@
 """Coteries from the files of systems that run. The folder imports has files of each kind."""
 import json
 import os
+import random
 import subprocess
 import sys
 import unittest
@@ -43,6 +44,15 @@ def coterie_in(text):
     names = json.loads(voters.partition("= ")[2])
     quorums = [json.loads(line.strip(" ,")) for line in lines if line.startswith("  [")]
     return names, sorted(sorted(names.index(name) for name in quorum) for quorum in quorums)
+
+
+def damage(content, choice):
+    """Returns a file with some bytes at random places changed, and perhaps a part taken away, or there twice."""
+    damaged = bytearray(content)
+    for _ in range(choice.randrange(4)):
+        damaged[choice.randrange(len(damaged))] = choice.choice(b'\0\n\r\t 019:;=|"[]{}-_.#aZ\xff')
+    first, last = sorted(choice.randrange(len(damaged)) for _ in range(2))
+    return bytes(damaged[: choice.choice((first, last))] + damaged[choice.choice((first, last)) :])
 
 
 def run(*words, stdin=b"", **given):
@@ -168,6 +178,20 @@ class Faults(unittest.TestCase):
             self.assertIs(type(raised.exception), getattr(imports, name))
             self.assertIn(said, str(raised.exception))
             self.assertNotIn("\n", str(raised.exception))
+
+    def test_damaged_files_give_a_coterie_or_a_fault(self):
+        choice, faults = random.Random(1), set()
+        for kind, file, _ in SAME:
+            content = content_of(file)
+            for _ in range(60):
+                damaged = damage(content, choice)
+                try:
+                    text = imported(kind, damaged)
+                except imports.ImportFault as fault:
+                    faults.add(type(fault))
+                else:
+                    self.assertEqual(qlock.names_of(text), coterie_in(text)[0], damaged)
+        self.assertGreater(len(faults), 5)
 
     def test_most_voters_and_quorums_that_are_allowed(self):
         zones = "".join(f"node-{number} zone-{min(number, 2)}\n" for number in range(15))
