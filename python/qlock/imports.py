@@ -102,6 +102,7 @@ def majorities(votes: Sequence[int]) -> Iterator[Tuple[int, ...]]:
     """Returns the minimal sets with more than half of the votes, each as ascending places. Who has most votes comes first, so
     whoever passes the half is one of those with the fewest votes in its set, and the set is minimal."""
     order = sorted(range(len(votes)), key=lambda place: -votes[place])
+    # left[seen] is the votes of all but those of so many first places of the order
     left = [*accumulate((votes[place] for place in reversed(order)), initial=0)][::-1]
 
     def grown(chosen: Tuple[int, ...], got: int, seen: int) -> Iterator[Tuple[int, ...]]:
@@ -160,11 +161,10 @@ def coterie_of(roster: Roster) -> str:
     return "\n".join([*lines, "]\n"])
 
 
-_KEYS = {
-    "server": re.compile(r"server\.([0-9]{1,18})(?:\s*[=:]\s*|\s+)(\S.*)"),
-    "group": re.compile(r"group\.([0-9]{1,18})(?:\s*[=:]\s*|\s+)([0-9]{1,18}(?::[0-9]{1,18})*)"),
-    "weight": re.compile(r"weight\.([0-9]{1,18})(?:\s*[=:]\s*|\s+)([0-9]{1,18})"),
-}
+_NUMBER = "[0-9]{1,18}"
+_VALUES = {"server": r"\S.*", "group": f"{_NUMBER}(?::{_NUMBER})*", "weight": _NUMBER}
+# a key is apart from its value as in all properties of Java
+_KEYS = {word: re.compile(rf"{word}\.({_NUMBER})(?:\s*[=:]\s*|\s+)({value})") for word, value in _VALUES.items()}
 
 
 def _zoo_keys(text: str) -> Dict[str, Dict[int, str]]:
