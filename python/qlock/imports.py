@@ -79,7 +79,7 @@ class Member(NamedTuple):
 
     name: str
     votes: int = 1
-    """how many votes it has in its group: one at least"""
+    """how many votes it has in its group"""
 
 
 class Roster(NamedTuple):
@@ -88,7 +88,7 @@ class Roster(NamedTuple):
     rule: str
     """who votes, and what a quorum is, in words"""
     groups: Sequence[Sequence[Member]]
-    """the voters, group by group: without groups all are in one"""
+    """the voters, group by group: without groups all are in one. Each has a vote at least"""
     notes: Sequence[str] = ()
     """what else the file says of them"""
 
