@@ -131,6 +131,9 @@ voter, client = qlock.Voter(0), qlock.Client(1)
 (locked,) = voter.take(ask)
 assert client.take(locked).entered
 assert qlock.Fence().admit(client.show_pass()) == 1"
+    printf 'm0 east\nm1 west\nm2 west\n' > "$work/zones"
+    # shellcheck disable=SC2016
+    holds env -i -C "$work" sh -c 'venv/bin/python -m qlock import zones zones | "$1/bin/qlock" plan | cmp - two-of-three' sh "$place"
 else
     echo "packaging: no venv here (apt-get install python3-venv), so the wheel was not tried"
 fi

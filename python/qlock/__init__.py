@@ -4,6 +4,9 @@ A `Voter` or a `Client` is a state and its calls. A call returns the lines to se
 Save, then send: a `Store` keeps the bytes in a file over crashes, and makes no state anew. A `Fence` guards what the lock
 protects. A `Plan` says which quorum to ask, ticket by ticket. Why a coterie or a plan was refused is in the module `refusals`.
 
+For planners, `python3 -m qlock import KIND FILE` writes the coterie of a system that runs (module `imports`), and the module
+`figures` draws plans. They are not loaded with the package.
+
 The libraries are found by the environment variable QLOCK_LIBRARY, the path of libqlock.so, with libqlock_plan.so beside it or
 at QLOCK_PLAN_LIBRARY; or they are in the wheel; or by their names. Each is loaded at its first call. `library_version()` is the
 version of libqlock.
@@ -42,13 +45,13 @@ from .faults import (
     TurnsSpent,
 )
 from .library import library_version
-from .plans import MAX_TICKETS, Order, Plan, Quorum, Slack, names_of
+from .plans import MAX_TICKETS, Failure, Order, Plan, Quorum, Slack, names_of
 from .store import Damaged, Exists, InUse, Missing, Store, StoreFault, WrongOwner
 
 __version__ = "0.2.0"
 
 __all__ = [
-    "BadArgument", "BadMessage", "BadState", "Busy", "CLIENT_BYTES", "Client", "Damaged", "Exists", "Fault", "Fence",
+    "BadArgument", "BadMessage", "BadState", "Busy", "CLIENT_BYTES", "Client", "Damaged", "Exists", "Failure", "Fault", "Fence",
     "Grant", "GrantsSpent", "InUse", "Known", "MAX_STAMP", "MAX_TICKETS", "Missing", "NoMemory", "NoPass", "NoRoom", "NotAsking",
     "NotInside", "OlderGrant", "Order", "PASS_BYTES", "Phase", "Plan", "Quorum", "Refused", "Slack", "StampsSpent",
     "Store", "StoreFault", "Taken", "TurnsSpent", "VOTER_BYTES", "Voter", "WrongOwner", "has_quorum", "is_bridge",

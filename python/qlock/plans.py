@@ -3,8 +3,10 @@ import ctypes
 import enum
 import sys
 from array import array
+from collections import Counter
 from fractions import Fraction
-from typing import Dict, Iterator, List, NamedTuple, Tuple, Union
+from itertools import combinations, islice
+from typing import Dict, Iterator, List, Mapping, NamedTuple, Tuple, Union
 
 from .faults import BadArgument
 from .library import call_plan
@@ -43,6 +45,17 @@ class Slack(NamedTuple):
     def value(self) -> Fraction:
         """The slack as a fraction."""
         return Fraction(self.excess, self.unit)
+
+
+class Failure(NamedTuple):
+    """What is left of a plan while some voters are down, and who draws a ticket with one of them takes the next ticket instead."""
+
+    down: Quorum
+    """the voters that are down"""
+    left: Fraction
+    """the share of the tickets whose quorum has none of them"""
+    load: Fraction
+    """the load of the tickets that are left"""
 
 
 def _voters(mask: int) -> Quorum:
@@ -176,10 +189,49 @@ class Plan:
         most = requests * self.load + processes * self.slack().value
         return [int(capacity * most) for capacity in self.capacities]
 
+    def _weights(self) -> Dict[Quorum, int]:
+        """Returns how many tickets of a cycle each quorum has, if it has any."""
+        tickets = Counter(self.masks(0, self.cycle, Order.BY_ROUNDS))
+        return {_voters(mask): weight for mask, weight in tickets.items()}
+
+    def _shares(self, weights: Mapping[Quorum, int]) -> List[Fraction]:
+        """Returns for each voter the share of the tickets that use it, if each quorum has as many as its weight."""
+        used = [0] * len(self.names)
+        for quorum, weight in weights.items():
+            for voter in quorum:
+                used[voter] += weight
+        return [Fraction(count, sum(weights.values())) for count in used]
+
+    def _loads(self, weights: Mapping[Quorum, int]) -> List[Fraction]:
+        return [share / capacity for share, capacity in zip(self._shares(weights), self.capacities)]
+
     def shares(self) -> List[Fraction]:
         """Returns for each voter the share of the requests that use it."""
-        used = [0] * len(self.names)
-        for ticket in range(self.cycle):
-            for voter in self.quorum(ticket, Order.BY_ROUNDS):
+        return self._shares(self._weights())
+
+    def loads(self) -> List[Fraction]:
+        """Returns for each voter the share of the requests that use it, divided by its capacity. The greatest is the load."""
+        return self._loads(self._weights())
+
+    def loads_after(self, count: int, first: int = 0, order: Order = Order.EVEN) -> List[Fraction]:
+        """Returns the loads of 1, 2, .. and `count` tickets in a row, from this first one on: after n tickets how often the
+        busiest voter was used, divided by its capacity and by n."""
+        used, busiest, loads = [0] * len(self.names), Fraction(0), []
+        for tickets, quorum in enumerate(islice(self.quorums(first, order), count), 1):
+            for voter in quorum:
                 used[voter] += 1
-        return [Fraction(count, self.cycle) for count in used]
+                busiest = max(busiest, Fraction(used[voter], self.capacities[voter]))
+            loads.append(busiest / tickets)
+        return loads
+
+    def failures(self, most: int = 1) -> List[Failure]:
+        """Returns what is left for each set of at most this many voters that are down, smaller sets first. A set that leaves no
+        quorum with a ticket is not there. The first set is empty: it leaves all tickets, and the load of the plan."""
+        if most < 0:
+            raise BadArgument(f"no set has {most} voters")
+        weights, failures = self._weights(), []
+        for down in (it for size in range(most + 1) for it in combinations(range(len(self.names)), size)):
+            left = {quorum: weight for quorum, weight in weights.items() if not set(down).intersection(quorum)}
+            if left:
+                failures.append(Failure(down, Fraction(sum(left.values()), self.cycle), max(self._loads(left))))
+        return failures

@@ -5,7 +5,7 @@ import sys
 import unittest
 from collections import Counter
 from fractions import Fraction
-from itertools import islice
+from itertools import combinations, islice, product
 
 import qlock
 from qlock import Order, Plan, refusals
@@ -15,6 +15,10 @@ quorums = [["hub", "rim1"], ["hub", "rim2"], ["hub", "rim3"], ["rim1", "rim2", "
 """
 PLAN = "quorum-plan 1\nload 3/5\ncycle 5\nquorum 1 1 1 2\nvoter 2 1 1 1\n"
 QUORUMS = [(0, 1), (0, 2), (0, 3), (1, 2, 3)]
+# the minimal sets with more than half of the votes 3, 2, 2, 1 and 1: its two orders differ
+VOTES = """voters = ["a", "b", "c", "d", "e"]
+quorums = [["a", "b"], ["a", "c"], ["a", "d", "e"], ["b", "c", "d"], ["b", "c", "e"]]
+"""
 FAST = 'voters = ["a", "b", "c"]\nquorums = [["a", "b"], ["a", "c"], ["b", "c"]]\ncapacity = [2, 1, 1]\n'
 
 
@@ -39,6 +43,28 @@ class Plans(unittest.TestCase):
         self.assertTrue(plan.text.startswith("quorum-plan 2\n"))
         self.assertEqual((plan.capacities, Plan.find(WHEEL).capacities), ([2, 1, 1], [1, 1, 1, 1]))
         self.assertEqual(plan.load, max(share / capacity for share, capacity in zip(plan.shares(), (2, 1, 1))))
+
+    def test_loads_are_shares_divided_by_capacities(self):
+        self.assertEqual(Plan.find(WHEEL).loads(), [Fraction(3, 5)] * 4)
+        plan = Plan.find(FAST)
+        self.assertEqual(plan.loads(), [plan.shares()[0] / 2, *plan.shares()[1:]])
+        self.assertEqual(max(plan.loads()), plan.load)
+
+    def test_loads_after_tickets(self):
+        plan = Plan.parse(WHEEL + "%%\n" + PLAN)
+        by_rounds = [Fraction(1), Fraction(1), Fraction(1), Fraction(3, 4), Fraction(3, 5)]
+        self.assertEqual(plan.loads_after(5, order=Order.BY_ROUNDS), by_rounds)
+        self.assertEqual(plan.loads_after(2, 3, Order.BY_ROUNDS), [1, 1])
+        self.assertEqual((plan.loads_after(0), plan.loads_after(1)), ([], [1]))
+        self.assertEqual(plan.loads_after(2 * plan.cycle)[4::5], [plan.load] * 2)
+
+    def test_loads_after_tickets_are_those_of_their_quorums(self):
+        for plan, order, first in product(map(Plan.find, (FAST, VOTES)), Order, (0, 3, 10**12)):
+            tickets = list(islice(plan.quorums(first, order), plan.cycle + 2))
+            loads = plan.loads_after(len(tickets), first, order)
+            for n in range(1, len(tickets) + 1):
+                counts = Counter(voter for quorum in tickets[:n] for voter in quorum)
+                self.assertEqual(loads[n - 1], max(Fraction(count, plan.capacities[v] * n) for v, count in counts.items()))
 
     def test_tickets_by_rounds_are_those_of_deal(self):
         plan = Plan.parse(WHEEL + "%%\n" + PLAN)
@@ -113,6 +139,41 @@ class Plans(unittest.TestCase):
         plan, client = Plan.find(WHEEL), qlock.Client(0)
         client.ask(plan.quorum(4))
         self.assertEqual(tuple(client.shows().quorum), plan.quorum(4))
+
+
+class Failures(unittest.TestCase):
+    """What is left of a plan while voters are down."""
+
+    def test_wheel_keeps_two_of_five_tickets(self):
+        plan = Plan.find(WHEEL)
+        kept = [qlock.Failure((), Fraction(1), Fraction(3, 5))]
+        kept += [qlock.Failure((voter,), Fraction(2, 5), Fraction(1)) for voter in range(4)]
+        self.assertEqual((plan.failures(0), plan.failures()), (kept[:1], kept))
+        # two rims leave one of the hub's quorums, and the hub and a rim leave none
+        kept += [qlock.Failure(down, Fraction(1, 5), Fraction(1)) for down in ((1, 2), (1, 3), (2, 3))]
+        self.assertEqual((plan.failures(2), plan.failures(4)), (kept, kept))
+
+    def test_they_are_those_of_the_tickets_that_are_left(self):
+        for coterie in (WHEEL, FAST, VOTES, majority_of_5()):
+            plan = Plan.find(coterie)
+            tickets = list(islice(plan.quorums(), plan.cycle))
+            found = {it.down: it for it in plan.failures(3)}
+            for down in (it for size in range(4) for it in combinations(range(len(plan.names)), size)):
+                left = [quorum for quorum in tickets if not set(quorum) & set(down)]
+                if left:
+                    counts = Counter(voter for quorum in left for voter in quorum)
+                    load = max(Fraction(count, plan.capacities[voter] * len(left)) for voter, count in counts.items())
+                    self.assertEqual(found.pop(down), (down, Fraction(len(left), plan.cycle), load))
+            self.assertEqual(found, {})
+
+    def test_one_voter_costs_at_most_the_load_if_capacities_are_1(self):
+        for coterie in (WHEEL, majority_of_5()):
+            plan = Plan.find(coterie)
+            self.assertEqual(max(1 - it.left for it in plan.failures(1)), plan.load)
+
+    def test_numbers_below_0(self):
+        with self.assertRaises(qlock.BadArgument):
+            Plan.find(WHEEL).failures(-1)
 
 
 class Refusals(unittest.TestCase):
