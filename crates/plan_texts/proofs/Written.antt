@@ -1,11 +1,10 @@
 -- What is written of a plan.
-use Rattle.std.proofs.Common.{◌≡◌, ℕ, Bool, cond, ◌+◌, ◌<◌, ◌≤◌, List, [], ◌∷◌, ◌++◌, length, get_or, take, Result, Ok, Err, sym, refl, ap, ◌∙◌, arith, append_assoc}
+use Rattle.std.proofs.Common.{◌≡◌, ℕ, ◌+◌, ◌<◌, ◌≤◌, List, [], ◌∷◌, ◌++◌, length, get_or, take, Result, Ok, Err, sym, refl, ap, ◌∙◌, arith, append_assoc}
 use Rattle.std.specs.Prelude.{codes, IfOk, IfSome, Option, None, Some, String, string_bytes}
 use Rattle.std.specs.Fmt.{decimal}
 use Rattle.std.proofs.lemmas.List.{take_more, length-take}
-use Rattle.std.proofs.lemmas.Fmt.{decimal_digit}
 use Rattle.texts.specs.Lines.{text_of_lines}
-use Rattle.plan_texts.specs.PlanTexts.{with_spaces, version_of, title_line, ratio_line, cycle_line, bound_lines, capacity_lines, is_bounded}
+use Rattle.plan_texts.specs.PlanTexts.{with_spaces, ratio_line, cycle_line, bound_lines, capacity_lines}
 use Rattle.plan_texts.proofs.PlanLines.{with_spaces-push}
 
 pub with_spaces-first : (new text before ns : List ℕ) (k : ℕ) → k ≤ 0 → k < length ns → new ≡ text ++ decimal (get_or ns k 0) → text ≡ before → before ≡ with_spaces (take k ns) → new ≡ with_spaces (take (k + 1) ns)
