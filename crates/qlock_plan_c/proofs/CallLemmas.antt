@@ -1,16 +1,17 @@
 -- Lemmas on how calls end.
-use Rattle.std.proofs.Common.{◌≡◌, ℕ, ◌+◌, ◌<◌, List, [], ◌∷◌, ◌++◌, length, get_or, take, inr, refl, sym, ap, ◌∙◌, subst}
+use Rattle.std.proofs.Common.{◌≡◌, ℕ, ◌+◌, ◌<◌, List, [], ◌∷◌, ◌++◌, length, get_or, take, Err, inr, refl, sym, ap, ◌∙◌, subst}
 use Rattle.std.specs.Bool.{OnFalse}
 use Rattle.std.proofs.lemmas.Grind.{flat_map-append}
 use Rattle.std.proofs.lemmas.List.{append-nil, take_more}
-use Rattle.qlock_plan_c.specs.Calls.{TextCall, names_text}
+use Rattle.qlock_plan_c.specs.Calls.{IsLength, TextCall, WeightsCall, names_text}
+use Rattle.plan_inputs.specs.Inputs.{IsWeightsText, coterie_in}
 use Rattle.plan_inputs.specs.Lines.{line_of}
 use Rattle.plan_inputs.specs.Faults.{is_out_of_memory}
 use Rattle.qlock_plan_c.specs.Outputs.{Output, PutsFault, PutsRefusal}
 use Rattle.plan_inputs.specs.declared.fault.InputFault.{InputFault}
 use Rattle.plan_inputs.specs.declared.fault.InputFault.TheVariants.{OutOfMemory}
 use Rattle.qlock_plan_c.specs.declared.outcome.Outcome.{Outcome}
-use Rattle.qlock_plan_c.specs.declared.outcome.Outcome.TheVariants.{NoRoom, Refused}
+use Rattle.qlock_plan_c.specs.declared.outcome.Outcome.TheVariants.{Done, BadArgument, NoRoom, Refused, NoMemory}
 
 line_written : (texts : List ℕ → Type 0) (faults : InputFault → Type 0) (o : Output) (fault : InputFault) (outcome : Outcome) → faults fault → PutsRefusal (line_of fault) o outcome
     → TextCall texts faults o outcome
@@ -33,3 +34,12 @@ names_text-more names i name before after lt at was is =
     let lines : names_text (take (i + 1) names) ≡ names_text (take i names) ++ line name =
     ap names_text more ∙ flat_map-append line (take i names) (name ∷ []) ∙ ap (λ rest. names_text (take i names) ++ rest) (append-nil (line name)) in
     is ∙ ap (λ t. t ++ line name) was ∙ sym lines
+
+-- a call of weights that has a length ends as one that writes a text
+pub WeightsCall-TextCall : (coterie : List ℕ) (most : ℕ) (o : Output) (outcome : Outcome) → IsLength most
+    → TextCall (IsWeightsText coterie most) (λ fault. coterie_in coterie ≡ Err fault) o outcome → WeightsCall coterie most o outcome
+WeightsCall-TextCall coterie most o BadArgument is h = absurd h
+WeightsCall-TextCall coterie most o Done is h = (is, h)
+WeightsCall-TextCall coterie most o NoRoom is h = (is, h)
+WeightsCall-TextCall coterie most o Refused is h = (is, h)
+WeightsCall-TextCall coterie most o NoMemory is h = (is, h)

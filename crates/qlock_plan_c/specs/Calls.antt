@@ -1,17 +1,19 @@
 -- How each call ends, and what it has written then.
-use Rattle.std.specs.Prelude.{◌≡◌, ◌⊎◌, ℕ, ◌+◌, ◌/◌, ◌%◌, ◌≤◌, ⊤, List, [], ◌∷◌, ◌++◌, Ok, Err}
+use Rattle.std.specs.Prelude.{◌≡◌, ◌⊎◌, ℕ, ◌+◌, ◌/◌, ◌%◌, ◌<◌, ◌≤◌, ⊤, List, [], ◌∷◌, ◌++◌, Ok, Err}
 use Rattle.std.specs.List.{flat_map}
-use Rattle.numbers.specs.Bounds.{max_tickets}
+use Rattle.numbers.specs.Bounds.{max_cycle, max_tickets}
 use Rattle.words.specs.WordBytes.{bytes_of}
 use Rattle.coterie_file.specs.Named.{NamedSystem}
-use Rattle.certificate.specs.Certificates.{IsCertificate, IsOptimal, cycle_len, load_of}
+use Rattle.certificate.specs.Certificates.{Weighted, IsCertificate, IsOptimal, cycle_len, load_of}
+use Rattle.certificate.specs.Bounds.{IsBounded, bound_of}
 use Rattle.even.specs.EvenCycles.{EvenOrder}
 use Rattle.even.specs.Slacks.{IsSlack}
 use Rattle.even.specs.declared.slack.Slack.{Slack}
 use Rattle.plan_inputs.specs.Lines.{line_of}
 use Rattle.qlock_plan_c.specs.Orders.{IsEvenOrder, IsOrder, masks_of}
 use Rattle.qlock_plan_c.specs.Outputs.{IsUnwritten, LacksRoom, Output, Writes}
-use Rattle.plan_inputs.specs.Inputs.{IsPlanText, PlannedSystem, RefusesToPlan, coterie_in, planned_by}
+use Rattle.qlock_plan_c.specs.Texts.{AreDescribed, AreRefused}
+use Rattle.plan_inputs.specs.Inputs.{IsPlanText, IsWeightsText, PlannedSystem, RefusesToPlan, WeighedSystem, coterie_in, planned_by, weighed_by}
 use Rattle.plan_inputs.specs.declared.fault.InputFault.{InputFault}
 use Rattle.qlock_plan_c.specs.declared.order.Order.{Order}
 use Rattle.qlock_plan_c.specs.declared.outcome.Outcome.{Outcome}
@@ -49,6 +51,17 @@ NamesCall coterie o outcome = TextCall (IsNamesText coterie) (λ fault. coterie_
 abbrev pub PlanCall : List ℕ → Output → Outcome → Type 0
 PlanCall coterie o outcome = TextCall (IsPlanText coterie) (RefusesToPlan coterie) o outcome
 
+-- there are cycles of at most so many tickets
+abbrev pub IsLength : ℕ → Type 0
+IsLength most = (0 < most) × (most ≤ max_cycle)
+
+-- the call `qlock_weights`: its text is that of weights with a cycle of at most `most` tickets, and it is
+-- refused with the fault of the coterie
+abbrev pub WeightsCall : List ℕ → ℕ → Output → Outcome → Type 0
+WeightsCall coterie most o BadArgument = ¬ IsLength most × IsUnwritten o
+WeightsCall coterie most o outcome =
+    IsLength most × TextCall (IsWeightsText coterie most) (λ fault. coterie_in coterie ≡ Err fault) o outcome
+
 -- Calls that write numbers
 
 -- A call with numbers ends. `allowed` is what it asks of its arguments. If it is done, `done` says
@@ -84,31 +97,56 @@ pub record WritesLoad (coterie plan : List ℕ) (numbers : Three) : Type 0 where
   pub denominator : numbers.second ≡ (load_of planned.plan).1
   pub cycle : numbers.third ≡ cycle_len planned.plan
 
--- The texts describe a coterie and a plan of it. The numbers are the stride of the even order, and
+-- The texts describe a coterie and weights of it. The numbers are the stride of the even order, and
 -- the numerator and the denominator of its slack.
-pub record WritesSlack (coterie plan : List ℕ) (numbers : Three) : Type 0 where
-  pub planned : PlannedSystem
-  pub texts : planned_by coterie plan ≡ Ok planned
+pub record WritesSlack (coterie weights : List ℕ) (numbers : Three) : Type 0 where
+  pub weighed : WeighedSystem
+  pub texts : weighed_by coterie weights ≡ Ok weighed
   pub order : EvenOrder
-  pub is_even : IsEvenOrder planned.plan order
+  pub is_even : IsEvenOrder weighed.weights order
   pub stride : numbers.first ≡ order.stride
   pub slack : Slack
   pub is_slack : IsSlack order slack
   pub excess : numbers.second ≡ slack.excess
   pub unit : numbers.third ≡ slack.unit
 
--- a call that writes three numbers ends, and may be refused with a fault of the two texts
-abbrev pub ThreeCall : (Three → Type 0) → (coterie plan : List ℕ) → (before after : Three) → Output → Outcome → Type 0
-ThreeCall writes coterie plan before after o outcome =
-    NumbersCall ⊤ (writes after) (after ≡ before) (λ fault. planned_by coterie plan ≡ Err fault) o outcome
-
 -- the call `qlock_check`
 abbrev pub CheckCall : (coterie plan : List ℕ) → (before after : Three) → Output → Outcome → Type 0
-CheckCall coterie plan before after o outcome = ThreeCall (WritesLoad coterie plan) coterie plan before after o outcome
+CheckCall coterie plan before after o outcome =
+    NumbersCall ⊤ (WritesLoad coterie plan after) (after ≡ before) (λ fault. planned_by coterie plan ≡ Err fault) o outcome
 
 -- the call `qlock_slack`
-abbrev pub SlackCall : (coterie plan : List ℕ) → (before after : Three) → Output → Outcome → Type 0
-SlackCall coterie plan before after o outcome = ThreeCall (WritesSlack coterie plan) coterie plan before after o outcome
+abbrev pub SlackCall : (coterie weights : List ℕ) → (before after : Three) → Output → Outcome → Type 0
+SlackCall coterie weights before after o outcome =
+    NumbersCall ⊤ (WritesSlack coterie weights after) (after ≡ before)
+    (λ fault. weighed_by coterie weights ≡ Err fault) o outcome
+
+-- the numbers that say how good weights are: load and bound, each a numerator and a denominator, and the
+-- length of a cycle
+pub record Measures : Type 0 where
+  pub load : ℕ × ℕ
+  pub bound : ℕ × ℕ
+  pub cycle : ℕ
+
+abbrev pub measures : ℕ → ℕ → ℕ → ℕ → ℕ → Measures
+measures load_p load_q bound_p bound_q cycle =
+    record { load = (load_p, load_q); bound = (bound_p, bound_q); cycle = cycle }
+
+-- The texts describe a coterie and weights of it. The numbers are their load, their bound, which no load
+-- of weights of this coterie is below, and the length of their cycle.
+pub record WritesMeasures (coterie weights : List ℕ) (numbers : Measures) : Type 0 where
+  pub weighed : WeighedSystem
+  pub texts : weighed_by coterie weights ≡ Ok weighed
+  pub load : numbers.load ≡ load_of weighed.weights
+  pub bound : numbers.bound ≡ bound_of weighed.weights
+  pub bounded : IsBounded weighed.weights
+  pub cycle : numbers.cycle ≡ cycle_len weighed.weights
+
+-- the call `qlock_check_weights`
+abbrev pub CheckWeightsCall : (coterie weights : List ℕ) → (before after : Measures) → Output → Outcome → Type 0
+CheckWeightsCall coterie weights before after o outcome =
+    NumbersCall ⊤ (WritesMeasures coterie weights after) (after ≡ before)
+    (λ fault. weighed_by coterie weights ≡ Err fault) o outcome
 
 -- which tickets are asked for: the number of an order, the first ticket, and how many bytes there
 -- are for masks
@@ -124,17 +162,17 @@ question_of order first bytes = record { order = order; first = first; bytes = b
 abbrev pub IsAllowed : Asked → Type 0
 IsAllowed a = (a.order ≤ 1) × (a.bytes % 8 ≡ 0) × (a.first + a.bytes / 8 ≤ max_tickets)
 
--- The texts describe a coterie and a plan of it. The bytes are the masks of the quorums of these
--- tickets, in this order.
-pub record WritesMasks (coterie plan : List ℕ) (a : Asked) (masks : List ℕ) : Type 0 where
-  pub planned : PlannedSystem
-  pub texts : planned_by coterie plan ≡ Ok planned
+-- The texts describe a coterie, and a plan or weights of it, as the order needs them. The bytes are the
+-- masks of the quorums of these tickets, in this order.
+pub record WritesMasks (coterie weights : List ℕ) (a : Asked) (masks : List ℕ) : Type 0 where
+  pub weighted : Weighted
+  pub texts : AreDescribed a.order coterie weights weighted
   pub order : Order
-  pub is_order : IsOrder planned.plan a.order order
+  pub is_order : IsOrder weighted a.order order
   pub masks_are : masks ≡ bytes_of (masks_of order a.first (a.bytes / 8))
 
 -- the call `qlock_quorums`
-abbrev pub QuorumsCall : (coterie plan : List ℕ) → Asked → (before after : List ℕ) → Output → Outcome → Type 0
-QuorumsCall coterie plan a before after o outcome =
-    NumbersCall (IsAllowed a) (WritesMasks coterie plan a after) (after ≡ before)
-    (λ fault. planned_by coterie plan ≡ Err fault) o outcome
+abbrev pub QuorumsCall : (coterie weights : List ℕ) → Asked → (before after : List ℕ) → Output → Outcome → Type 0
+QuorumsCall coterie weights a before after o outcome =
+    NumbersCall (IsAllowed a) (WritesMasks coterie weights a after) (after ≡ before)
+    (AreRefused a.order coterie weights) o outcome

@@ -1,4 +1,4 @@
--- The two orders of a plan's tickets, and the masks of their quorums.
+-- The two orders of tickets, and the masks of their quorums.
 use Rattle.std.specs.Prelude.{◌≡◌, ℕ, List, [], map, slice_index_or}
 use Rattle.std.specs.List.{range_with_len}
 use Rattle.quorum_set.specs.Words.{word_of}
@@ -9,7 +9,7 @@ use Rattle.even.specs.Strides.{IsFirstBest, strides_of}
 use Rattle.qlock_plan_c.specs.declared.order.Order.{Order}
 use Rattle.qlock_plan_c.specs.declared.order.Order.TheVariants.{Rounds, Even}
 
--- the even order of a plan: of the strides that are tried, its stride is the first of smallest
+-- the even order of weights: of the strides that are tried, its stride is the first of smallest
 -- slack
 abbrev pub IsEvenOrder : Weighted → EvenOrder → Type 0
 IsEvenOrder w o = (o.weights ≡ w) × IsFirstBest (strides_of (cycle_len w)) o
@@ -19,7 +19,7 @@ abbrev pub IsOrder : Weighted → ℕ → Order → Type 0
 IsOrder w number (Rounds plan) = (number ≡ 0) × (plan ≡ w)
 IsOrder w number (Even o) = (number ≡ 1) × IsEvenOrder w o
 
--- the plan of an order
+-- the weights of an order
 abbrev pub plan_of : Order → Weighted
 plan_of (Rounds plan) = plan
 plan_of (Even o) = o.weights

@@ -1,9 +1,9 @@
-//! The planning library for C: plans of coteries, and the quorums of their tickets.
+//! The planning library for C: plans and weights of coteries, and the quorums of their tickets.
 //!
 //! A call reads texts by `plan_inputs`, as the program `qlock` does, and writes a text or numbers. Memory
 //! comes from `malloc`. There is nothing else that one call leaves to the next.
 //!
-//! - `src/planning_calls.rt`: the names of voters, a plan of a coterie, and the check of a plan.
+//! - `src/planning_calls.rt`: the names of voters, a plan or weights of a coterie, and the check of these.
 //! - `src/dealing_calls.rt`: the quorums of tickets in two orders, and how even the second is.
 //! - `src/order.rt`: the order of tickets.
 //! - `src/outcome.rt`, `src/output.rt`: how a call ends, and what it writes to `out`.

@@ -1,34 +1,23 @@
-//! The order of a plan's tickets.
+//! The order of tickets.
 ghost use Rattle.std.specs.Prelude.{◌≡◌, ◌<◌, ◌+◌, ◌≤◌, IfOk, length};
 ghost use Rattle.numbers.specs.Bounds.{max_tickets};
-ghost use Rattle.qlock_plan_c.specs.Orders.{IsOrder, mask_of, masks_of, plan_of, quorum_by};
+ghost use Rattle.qlock_plan_c.specs.Orders.{mask_of, masks_of, plan_of, quorum_by};
 
-use certificate::{Plan, Weights};
+use certificate::Weights;
 use dealer::Cycle;
 use even::EvenCycle;
 use std::alloc::{AllocError, Global};
 
-/// An order of a plan's tickets.
+/// An order of tickets.
 #[derive(Drop)]
 pub enum Order {
-    /// By rounds: the cycle of `dealer`.
+    /// By rounds, of a plan: the cycle of `dealer`.
     Rounds(Cycle),
-    /// The even cycle.
+    /// The even cycle, of any weights.
     Even(EvenCycle),
 }
 
 impl Order {
-    /// Returns the order with this number: 0 by rounds, 1 even.
-    pub fn of(alloc: Global, number: u32, plan: Plan) -> Result<Order, AllocError>
-        requires { number ≤ 1 }
-        ensures { IfOk result (IsOrder plan number) }
-    {
-        if number == 1 {
-            return Ok(Order::Even(EvenCycle::of(alloc, plan.into_weights())?));
-        }
-        Ok(Order::Rounds(Cycle::from_plan(alloc, plan)?))
-    }
-
     /// Returns the mask of a ticket's quorum: bit i is 1 if voter i is a member.
     fn mask(&self, ticket: u64) -> u64
         ensures { result ≡ mask_of (plan_of self.now) (quorum_by self.now ticket) }
