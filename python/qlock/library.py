@@ -56,7 +56,8 @@ _TEXTS = [*_LINE, *_LINE]
 _PLAN_CALLS: Dict[str, List[Any]] = {
     "names": [*_LINE, *_OUT],
     "plan": [*_LINE, *_OUT],
-    "check": [*_TEXTS, _U64_OUT, _U64_OUT, _U64_OUT, *_OUT],
+    "weights": [*_LINE, _U64, *_OUT],
+    "check_weights": [*_TEXTS, _U64_OUT, _U64_OUT, _U64_OUT, _U64_OUT, _U64_OUT, *_OUT],
     "quorums": [*_TEXTS, _U32, _U64, _BUFFER, _SIZE, *_OUT],
     "slack": [*_TEXTS, _U64_OUT, _U64_OUT, _U64_OUT, *_OUT],
 }

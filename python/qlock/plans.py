@@ -6,12 +6,13 @@ from array import array
 from collections import Counter
 from fractions import Fraction
 from itertools import combinations, islice
-from typing import Dict, Iterator, List, Mapping, NamedTuple, Tuple, Union
+from typing import Dict, Iterator, List, Mapping, NamedTuple, Optional, Tuple, Union
 
 from .faults import BadArgument
 from .library import call_plan
 
 MAX_TICKETS = 1 << 63
+MAX_CYCLE = 1_000_000
 _FAULT_OUT = 128
 _NAMES_OUT = 4160
 _PLAN_OUT = 34816
@@ -25,7 +26,7 @@ class Order(enum.IntEnum):
     """An order of a plan's tickets. In both, the tickets of whole cycles use each quorum as often as the plan says."""
 
     BY_ROUNDS = 0
-    """as `qlock deal`: each quorum of weight 1 or more once, then those of weight 2 or more once more, and so on"""
+    """of an optimal plan alone, as `qlock deal`: each quorum of weight 1 or more once, then those of weight 2 or more once more, and so on"""
     EVEN = 1
     """even from the first ticket, whichever it is: `Plan.slack` says how even"""
 
@@ -87,10 +88,11 @@ def names_of(coterie: Union[str, bytes]) -> List[str]:
 
 
 class Plan:
-    """An optimal plan of a coterie: how often to use each quorum, so that the busiest voter is asked as seldom as possible.
+    """A plan of a coterie: how often to use each quorum, so that the busiest voter is asked as seldom as possible, or nearly.
 
-    `Plan.find(coterie)` finds one, `Plan(coterie, text)` reads and checks the text of one, and `Plan.parse(planned)` reads both
-    from one text. Ticket n has the quorum `plan.quorum(n)`. A process begins at a ticket of its own, and keeps its place:
+    `Plan.find(coterie)` finds an optimal one, and `Plan.find(coterie, cycle=1000)` one with a cycle of at most so many tickets,
+    whose load may be above its bound. `Plan(coterie, text)` reads and checks the text of one, and `Plan.parse(planned)` reads
+    both from one text. Ticket n has the quorum `plan.quorum(n)`. A process begins at a ticket of its own, and keeps its place:
 
         plan = Plan.find(open("coterie.toml").read())
         for quorum in plan.quorums(first=place):
@@ -105,9 +107,11 @@ class Plan:
         self.text = text
         """the text of the plan"""
         self._texts = (_bytes_of(coterie), _bytes_of(text))
-        load_p, load_q, cycle = self._three("check")
+        load_p, load_q, bound_p, bound_q, cycle = self._numbers("check_weights", 5)
         self.load = Fraction(load_p, load_q)
         """the share of the requests that use the busiest voter, divided by its capacity"""
+        self.bound = Fraction(bound_p, bound_q)
+        """no plan of the coterie has a load below it"""
         self.cycle = cycle
         """how many tickets one cycle has"""
         self.names = names_of(coterie)
@@ -118,10 +122,26 @@ class Plan:
         self._quorums: Dict[int, Quorum] = {}
 
     @classmethod
-    def find(cls, coterie: Union[str, bytes]) -> "Plan":
-        """Returns a plan of a coterie, the same each time. Raises the fault of a text that describes no coterie, or `NoPlan`."""
+    def find(cls, coterie: Union[str, bytes], cycle: Optional[int] = None) -> "Plan":
+        """Returns an optimal plan of a coterie, the same each time. Raises the fault of a text that describes no coterie, or
+        `NoPlan`. With `cycle` it returns a plan with a cycle of at most so many tickets, 1 to 1,000,000: an optimal one if one
+        with so short a cycle is found, else one whose load is near its bound."""
         text = _bytes_of(_text_of(coterie))
-        return cls(coterie, call_plan("plan", _PLAN_OUT, text, len(text)).decode("ascii"))
+        if cycle is None:
+            return cls(coterie, call_plan("plan", _PLAN_OUT, text, len(text)).decode("ascii"))
+        if not 1 <= cycle <= MAX_CYCLE:
+            raise BadArgument(f"a cycle has 1 to {MAX_CYCLE} tickets, and not {cycle}")
+        return cls(coterie, call_plan("weights", _PLAN_OUT, text, len(text), cycle).decode("ascii"))
+
+    @property
+    def gap(self) -> Optional[Fraction]:
+        """By which share of the bound the load is above it: 0 of an optimal plan, and `None` if the bound is 0."""
+        return self.load / self.bound - 1 if self.bound else None
+
+    @property
+    def is_optimal(self) -> bool:
+        """Whether no plan of the coterie has a smaller load."""
+        return self.load == self.bound
 
     @classmethod
     def parse(cls, planned: Union[str, bytes]) -> "Plan":
@@ -132,18 +152,20 @@ class Plan:
         return cls((coterie + "\n")[1:], text)
 
     def _capacities(self) -> List[int]:
-        words = self.text.splitlines()[3].split()
-        return [int(word) for word in words[1:]] if words[0] == "capacity" else [1] * len(self.names)
+        for line in self.text.splitlines():
+            word, *numbers = line.split(" ")
+            if word == "capacity":
+                return [int(number) for number in numbers]
+        return [1] * len(self.names)
 
     def _given(self) -> Tuple[bytes, int, bytes, int]:
         coterie, text = self._texts
         return coterie, len(coterie), text, len(text)
 
-    def _three(self, name: str) -> Tuple[int, int, int]:
-        numbers = [ctypes.c_uint64() for _ in range(3)]
+    def _numbers(self, name: str, count: int) -> List[int]:
+        numbers = [ctypes.c_uint64() for _ in range(count)]
         call_plan(name, _FAULT_OUT, *self._given(), *(ctypes.byref(number) for number in numbers))
-        first, second, third = (number.value for number in numbers)
-        return first, second, third
+        return [number.value for number in numbers]
 
     def masks(self, first: int, count: int, order: Order = Order.EVEN) -> "array[int]":
         """Returns the masks of the quorums of tickets in a row, from the library: bit i is 1 if voter i is a member. Each call
@@ -181,7 +203,7 @@ class Plan:
 
     def slack(self) -> Slack:
         """Returns how even `Order.EVEN` is."""
-        return Slack(*self._three("slack"))
+        return Slack(*self._numbers("slack", 3))
 
     def most_uses(self, requests: int, processes: int = 1) -> List[int]:
         """Returns for each voter how often it is used at most by this many requests, if each of the processes used tickets of
@@ -191,7 +213,8 @@ class Plan:
 
     def _weights(self) -> Dict[Quorum, int]:
         """Returns how many tickets of a cycle each quorum has, if it has any."""
-        tickets = Counter(self.masks(0, self.cycle, Order.BY_ROUNDS))
+        order = Order.BY_ROUNDS if self.text.startswith("quorum-plan") else Order.EVEN
+        tickets = Counter(self.masks(0, self.cycle, order))
         return {_voters(mask): weight for mask, weight in tickets.items()}
 
     def _shares(self, weights: Mapping[Quorum, int]) -> List[Fraction]:

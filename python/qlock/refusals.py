@@ -133,7 +133,7 @@ class NotOptimal(PlanRefused):
 
 
 class BadText(PlanRefused):
-    """This line is missing or not in the format of a plan, or there is text after the last line."""
+    """This line is missing or not in the format, or there is text after the last line."""
 
     code = "P5"
 
@@ -162,8 +162,14 @@ class WrongCapacity(PlanRefused):
     code = "P9"
 
 
+class WrongBound(PlanRefused):
+    """The bound in the text is not the weights' bound in lowest terms."""
+
+    code = "P10"
+
+
 class NoPlan(Refused):
-    """No plan of the coterie was found. `docs/planning.md` says what to do then."""
+    """No optimal plan of the coterie was found. `Plan.find(coterie, cycle=1000)` finds one whose load is near its bound."""
 
     code = "N1"
 
@@ -178,7 +184,7 @@ KINDS: Dict[str, Type[Refused]] = {
     for kind in (
         NotToml, Keys, BadName, RepeatedName, UnknownName, RepeatedMember, CapacityCount, BadCapacity, NoVoters, TooManyVoters,
         NoQuorums, TooManyQuorums, EmptyQuorum, VoterOutOfRange, Disjoint, Contained, WrongLength, TooLarge, Empty, NotOptimal,
-        BadText, WrongLoad, WrongCycle, NotOptimalRatio, WrongCapacity, NoPlan,
+        BadText, WrongLoad, WrongCycle, NotOptimalRatio, WrongCapacity, WrongBound, NoPlan,
     )
 }
 

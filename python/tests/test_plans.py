@@ -14,6 +14,8 @@ WHEEL = """voters = ["hub", "rim1", "rim2", "rim3"]
 quorums = [["hub", "rim1"], ["hub", "rim2"], ["hub", "rim3"], ["rim1", "rim2", "rim3"]]
 """
 PLAN = "quorum-plan 1\nload 3/5\ncycle 5\nquorum 1 1 1 2\nvoter 2 1 1 1\n"
+# with a cycle of at most 4 tickets
+NEAR = "quorum-weights 1\nload 2/3\nbound 3/5\ncycle 3\nquorum 0 1 1 1\nvoter 400000 200000 200000 200000\n"
 QUORUMS = [(0, 1), (0, 2), (0, 3), (1, 2, 3)]
 # the minimal sets with more than half of the votes 3, 2, 2, 1 and 1: its two orders differ
 VOTES = """voters = ["a", "b", "c", "d", "e"]
@@ -37,6 +39,26 @@ class Plans(unittest.TestCase):
         for again in (plan, Plan(WHEEL, PLAN), Plan.parse(WHEEL + "%%\n" + PLAN)):
             self.assertEqual((again.load, again.cycle, again.names), (Fraction(3, 5), 5, ["hub", "rim1", "rim2", "rim3"]))
             self.assertEqual(again.shares(), [Fraction(3, 5)] * 4)
+
+    def test_short_cycle_has_a_load_above_its_bound(self):
+        plan = Plan.find(WHEEL, cycle=4)
+        self.assertEqual((plan.load, plan.bound, plan.gap), (Fraction(2, 3), Fraction(3, 5), Fraction(1, 9)))
+        self.assertEqual((plan.is_optimal, plan.cycle, plan.text), (False, 3, NEAR))
+        self.assertEqual(Plan(WHEEL, NEAR).loads(), plan.loads())
+        self.assertEqual(max(plan.loads()), plan.load)
+        with self.assertRaises(refusals.BadText):
+            plan.mask(0, Order.BY_ROUNDS)
+
+    def test_optimal_plan_comes_if_its_cycle_is_short_enough(self):
+        plan = Plan.find(WHEEL, cycle=5)
+        self.assertEqual((plan.text, plan.is_optimal, plan.gap), (PLAN, True, 0))
+        for cycle in (0, -1, qlock.plans.MAX_CYCLE + 1):
+            with self.assertRaises(qlock.BadArgument):
+                Plan.find(WHEEL, cycle=cycle)
+
+    def test_bound_of_0_shows_nothing(self):
+        plan = Plan(WHEEL, "quorum-weights 1\nload 1/1\nbound 0/1\ncycle 1\nquorum 1 0 0 0\nvoter 0 1 0 0\n")
+        self.assertIsNone(plan.gap)
 
     def test_capacities_count(self):
         plan = Plan.find(FAST)
@@ -214,6 +236,8 @@ class Refusals(unittest.TestCase):
             (PLAN.replace("cycle 5", "cycle 6"), "WrongCycle", ()),
             (Plan.find(FAST).text, "WrongLength", ()),
             (PLAN.replace("plan 1", "plan 2").replace("cycle 5\n", "cycle 5\ncapacity 2 1 1 1\n"), "WrongCapacity", ()),
+            (NEAR.replace("bound 3/5", "bound 6/10"), "WrongBound", ()),
+            (NEAR.replace("weights 1", "weights 3"), "BadText", (1,)),
         ]
         for text, name, numbers in cases:
             with self.subTest(fault=name), self.assertRaises(qlock.Refused) as raised:

@@ -21,13 +21,16 @@ import (
 	"strings"
 )
 
-// Plan is an optimal plan of a coterie: how often to use each quorum, so that the busiest voter is asked as seldom as
-// possible. Its quorums are in the even order of their tickets.
+// Plan is how often to use each quorum of a coterie, so that the busiest voter is asked as seldom as possible, or nearly: no
+// weights of the quorums have a load below the bound, and of an optimal plan it is the load. Its quorums are in the even order
+// of their tickets.
 type Plan struct {
 	Coterie, Text string   // the two texts that it was read from
 	Names         []string // the voters' names, by their numbers
 	Quorums       []uint64 // the quorums of one cycle: ticket n has the one at n modulo their number
 	LoadP, LoadQ  uint64   // the load is LoadP / LoadQ
+	BoundP        uint64   // the bound is BoundP / BoundQ, in lowest terms as the load
+	BoundQ        uint64
 	distinct      []uint64 // each of the quorums once
 }
 
@@ -49,7 +52,22 @@ func FindPlan(coterie string) (*Plan, error) {
 	return ReadPlan(coterie, plan)
 }
 
-// ReadPlan checks a plan of a coterie, wherever it is from. It returns a Fault if it is none, or not optimal.
+// FindWeights returns a plan of a coterie with a cycle of at most so many tickets: an optimal one if one with so short a cycle is
+// found, else one whose load is near its bound.
+func FindWeights(coterie string, most uint64) (*Plan, error) {
+	in, out, n := []byte(coterie), make([]byte, C.QLOCK_PLAN_OUT), C.size_t(0)
+	weights, err := text(C.qlock_weights(at(in), C.size_t(len(in)), C.uint64_t(most), at(out), C.QLOCK_PLAN_OUT, &n), out, n)
+	if err != nil {
+		return nil, err
+	}
+	return ReadPlan(coterie, weights)
+}
+
+// IsOptimal returns whether no plan of the coterie has a smaller load: the load is the bound.
+func (p *Plan) IsOptimal() bool { return p.LoadP == p.BoundP && p.LoadQ == p.BoundQ }
+
+// ReadPlan checks a plan of a coterie, wherever it is from: the text of an optimal plan, or of weights. It returns a Fault if
+// it is none.
 func ReadPlan(coterie, plan string) (*Plan, error) {
 	p := &Plan{Coterie: coterie, Text: plan}
 	names, err := p.names()
@@ -86,11 +104,12 @@ func (p *Plan) names() (string, error) {
 
 func (p *Plan) check() (cycle uint64, err error) {
 	coterie, plan, out := []byte(p.Coterie), []byte(p.Text), make([]byte, C.QLOCK_FAULT_OUT)
-	var loadP, loadQ, length C.uint64_t
+	var loadP, loadQ, boundP, boundQ, length C.uint64_t
 	var n C.size_t
-	_, err = text(C.qlock_check(at(coterie), C.size_t(len(coterie)), at(plan), C.size_t(len(plan)),
-		&loadP, &loadQ, &length, at(out), C.QLOCK_FAULT_OUT, &n), out, n)
+	_, err = text(C.qlock_check_weights(at(coterie), C.size_t(len(coterie)), at(plan), C.size_t(len(plan)),
+		&loadP, &loadQ, &boundP, &boundQ, &length, at(out), C.QLOCK_FAULT_OUT, &n), out, n)
 	p.LoadP, p.LoadQ = uint64(loadP), uint64(loadQ)
+	p.BoundP, p.BoundQ = uint64(boundP), uint64(boundQ)
 	return uint64(length), err
 }
 

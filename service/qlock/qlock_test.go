@@ -108,6 +108,34 @@ func TestPlan(t *testing.T) {
 	}
 }
 
+// Weights with a short cycle have a load above their bound, and an optimal plan comes if its cycle is short enough.
+func TestWeights(t *testing.T) {
+	wheel := "voters = [\"a\", \"b\", \"c\", \"d\"]\nquorums = [[\"a\", \"b\"], [\"a\", \"c\"], [\"a\", \"d\"], [\"b\", \"c\", \"d\"]]\n"
+	near, err := FindWeights(wheel, 4)
+	if err != nil {
+		t.Fatal(err)
+	}
+	if near.IsOptimal() || near.LoadP != 2 || near.LoadQ != 3 || near.BoundP != 3 || near.BoundQ != 5 || len(near.Quorums) > 4 {
+		t.Error(near)
+	}
+	again, err := ReadPlan(wheel, near.Text)
+	if err != nil || len(again.Quorums) != len(near.Quorums) {
+		t.Error(again, err)
+	}
+	plan, err := FindWeights(wheel, 5)
+	if err != nil || !plan.IsOptimal() || len(plan.Quorums) != 5 {
+		t.Error(plan, err)
+	}
+	for _, most := range []uint64{0, 1000001} {
+		if _, err := FindWeights(wheel, most); !errors.Is(err, BadArgument) {
+			t.Error(most, err)
+		}
+	}
+	if _, err := FindWeights("", 4); !errors.Is(err, Refused) {
+		t.Error(err)
+	}
+}
+
 // A voter has to be saved if its grant or its number of grants changed, and not for a request that waits.
 func TestMustSave(t *testing.T) {
 	voter, err := NewVoter(0, MaxStamp)
