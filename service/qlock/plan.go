@@ -18,6 +18,9 @@ import "C"
 
 import (
 	"encoding/binary"
+	"errors"
+	"fmt"
+	"math"
 	"strings"
 )
 
@@ -63,8 +66,32 @@ func FindWeights(coterie string, most uint64) (*Plan, error) {
 	return ReadPlan(coterie, weights)
 }
 
+// UsualCycle is how many tickets a cycle has at most where no optimal plan is found.
+const UsualCycle = 1000
+
+// BestPlan returns an optimal plan of a coterie if one is found, else one with a cycle of at most UsualCycle tickets whose load
+// is near its bound.
+func BestPlan(coterie string) (*Plan, error) {
+	plan, err := FindPlan(coterie)
+	var fault Fault
+	if errors.As(err, &fault) && strings.HasPrefix(string(fault), "N1 ") {
+		return FindWeights(coterie, UsualCycle)
+	}
+	return plan, err
+}
+
 // IsOptimal returns whether no plan of the coterie has a smaller load: the load is the bound.
 func (p *Plan) IsOptimal() bool { return p.LoadP == p.BoundP && p.LoadQ == p.BoundQ }
+
+// LoadText returns the load as a fraction, and how far above the best it is at most, if it is not the bound.
+func (p *Plan) LoadText() string {
+	load := fmt.Sprintf("%d/%d", p.LoadP, p.LoadQ)
+	if p.IsOptimal() {
+		return load
+	}
+	gap := float64(p.LoadP)*float64(p.BoundQ)/(float64(p.BoundP)*float64(p.LoadQ)) - 1
+	return fmt.Sprintf("%s, at most %.2f %% above the best", load, math.Ceil(10000*gap)/100)
+}
 
 // ReadPlan checks a plan of a coterie, wherever it is from: the text of an optimal plan, or of weights. It returns a Fault if
 // it is none.

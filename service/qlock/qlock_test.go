@@ -3,6 +3,7 @@ package qlock
 import (
 	"bytes"
 	"errors"
+	"os"
 	"testing"
 )
 
@@ -132,6 +133,31 @@ func TestWeights(t *testing.T) {
 		}
 	}
 	if _, err := FindWeights("", 4); !errors.Is(err, Refused) {
+		t.Error(err)
+	}
+}
+
+// Where no optimal plan is found, the best one has a short cycle, and says how far its load is above the best.
+func TestBestPlan(t *testing.T) {
+	coterie, err := os.ReadFile("../../examples/twenty-eight.toml")
+	if err != nil {
+		t.Fatal(err)
+	}
+	if _, err := FindPlan(string(coterie)); !errors.Is(err, Refused) {
+		t.Error("there is an optimal plan", err)
+	}
+	plan, err := BestPlan(string(coterie))
+	if err != nil || plan.IsOptimal() || len(plan.Quorums) > UsualCycle {
+		t.Fatal(plan, err)
+	}
+	if want := "467/910, at most 0.08 % above the best"; plan.LoadText() != want {
+		t.Error(plan.LoadText(), "and not", want)
+	}
+	plan, err = BestPlan(majority)
+	if err != nil || !plan.IsOptimal() || plan.LoadText() != "2/3" {
+		t.Error(plan.LoadText(), err)
+	}
+	if _, err := BestPlan(""); !errors.Is(err, Refused) {
 		t.Error(err)
 	}
 }

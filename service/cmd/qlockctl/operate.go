@@ -53,7 +53,7 @@ func initialise(path, coterieFile string, c *config.Cluster) error {
 	if err != nil {
 		return err
 	}
-	plan, err := qlock.FindPlan(string(coterie))
+	plan, err := qlock.BestPlan(string(coterie))
 	if err != nil {
 		return fmt.Errorf("%s: %w", coterieFile, err)
 	}
@@ -74,7 +74,7 @@ func initialise(path, coterieFile string, c *config.Cluster) error {
 		err = closed
 	}
 	if err == nil {
-		fmt.Printf("%s: %d voters, load %d/%d\n", path, len(plan.Names), plan.LoadP, plan.LoadQ)
+		fmt.Printf("%s: %d voters, load %s\n", path, len(plan.Names), plan.LoadText())
 	}
 	return err
 }
@@ -299,9 +299,12 @@ type holding struct {
 type report struct {
 	Cluster string    `json:"cluster"`
 	Load    string    `json:"load"`
+	Bound   string    `json:"bound"` // no plan has a load below it
 	Use     []use     `json:"use"`
 	Votes   []holding `json:"votes"`
 	Silent  []string  `json:"silent,omitempty"`
+
+	loadText string
 }
 
 func reportCommand(ctx context.Context, s *settings) *cobra.Command {
@@ -329,7 +332,8 @@ func reportCommand(ctx context.Context, s *settings) *cobra.Command {
 // newReport collects what the voters replied.
 func newReport(cluster *config.Cluster, replies []operator.Reply) report {
 	plan := cluster.Planned
-	r := report{Cluster: cluster.ID, Load: fmt.Sprintf("%d/%d", plan.LoadP, plan.LoadQ), Votes: []holding{}}
+	r := report{Cluster: cluster.ID, Load: fmt.Sprintf("%d/%d", plan.LoadP, plan.LoadQ),
+		Bound: fmt.Sprintf("%d/%d", plan.BoundP, plan.BoundQ), Votes: []holding{}, loadText: plan.LoadText()}
 	planned, grants := 0, uint64(0)
 	for number, name := range cluster.Names() {
 		one := use{Voter: name}
@@ -362,7 +366,7 @@ func newReport(cluster *config.Cluster, replies []operator.Reply) report {
 }
 
 func (r report) print() {
-	fmt.Printf("cluster %s, load %s; grants since each voter's start\n\nvoter        planned   share   grants\n", r.Cluster, r.Load)
+	fmt.Printf("cluster %s, load %s; grants since each voter's start\n\nvoter        planned   share   grants\n", r.Cluster, r.loadText)
 	for _, one := range r.Use {
 		fmt.Printf("%-12s %5.1f %%  %5.1f %%  %d\n", one.Voter, 100*one.Planned, 100*one.Share, one.Grants)
 	}

@@ -35,7 +35,7 @@ func Next(c *config.Cluster, coterie string) (*config.Cluster, error) {
 	case coterie == c.Coterie:
 		return nil, ErrSame
 	}
-	plan, err := qlock.FindPlan(coterie)
+	plan, err := qlock.BestPlan(coterie)
 	if err != nil {
 		return nil, err
 	}
