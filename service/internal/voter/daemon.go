@@ -327,13 +327,13 @@ func (d *Daemon) line(l *letter, speaker verdict, lock, line []byte, now time.Ti
 		d.m.refused.Inc()
 		return true
 	}
-	if string(said.Word) == "request" && !isInside && d.isQuiet(now) {
+	v := d.votes[string(lock)]
+	if left := d.quietOf(v, now); left > 0 && string(said.Word) == "request" && !isInside {
 		if l.once("quiet") {
-			d.tell(l.Name, "quiet %d", d.quietUntil.Sub(now).Milliseconds()+1)
+			d.tell(l.Name, "quiet %d", left.Milliseconds()+1)
 		}
 		return true
 	}
-	v := d.votes[string(lock)]
 	if v == nil {
 		v = d.first(l, lock, said, now)
 	}
@@ -344,8 +344,8 @@ func (d *Daemon) line(l *letter, speaker verdict, lock, line []byte, now time.Ti
 	v.heard = now
 	d.step(v, said.From, now, func(out []byte) ([]byte, error) { return v.Take(line, out) })
 	d.deny(v, l.Header, said)
-	if isInside && v.held.Client == uint64(said.From) && v.held.Stamp == said.Stamp {
-		v.isOld = false // whoever has it is there
+	if isInside {
+		d.noteInside(v, said, now)
 	}
 	return true
 }
@@ -616,6 +616,7 @@ func (d *Daemon) round(now time.Time) {
 		if v.isOld && d.isQuiet(now) {
 			continue // it may be somebody else's by now
 		}
+		d.endInside(v)
 		for v.held.Number > 0 && v.isWanted() && d.isOver(v.held) {
 			held := v.held
 			if !d.letGo(v, now) {

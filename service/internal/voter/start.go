@@ -189,6 +189,38 @@ func (d *Daemon) quiet(now time.Time) time.Duration {
 	return d.quietUntil.Sub(now)
 }
 
+// quietOf returns for how long only those inside get the vote of a lock, if there is one. It stays quiet while one waits who
+// said in the quiet time that he is inside.
+func (d *Daemon) quietOf(v *vote, now time.Time) time.Duration {
+	left := d.quiet(now)
+	if v != nil && len(v.insiders) > 0 && left < stillQuiet {
+		left = stillQuiet
+	}
+	return left
+}
+
+// noteInside notes that a client said that he is inside by a request.
+func (d *Daemon) noteInside(v *vote, said wire.Line, now time.Time) {
+	switch {
+	case v.held.Client == uint64(said.From) && v.held.Stamp == said.Stamp:
+		v.isOld = false // whoever has it is there
+	case v.asks[said.From].stamp == said.Stamp && d.quietOf(v, now) > 0:
+		if v.insiders == nil {
+			v.insiders = map[int]uint64{}
+		}
+		v.insiders[said.From] = said.Stamp
+	}
+}
+
+// endInside forgets those who said that they are inside, and whose session is over.
+func (d *Daemon) endInside(v *vote) {
+	for client, stamp := range v.insiders {
+		if d.isOver(qlock.Grant{Client: uint64(client), Stamp: stamp}) {
+			delete(v.insiders, client)
+		}
+	}
+}
+
 // write puts a word to another voter with what leaves after the next save.
 func (d *Daemon) write(voter int, w word) {
 	w.Voter, w.TTL = d.own.Voter, d.cluster.TTL.String()

@@ -26,6 +26,8 @@ type vote struct {
 	isOld   bool   // its grant is from before the start, and nobody said that he is inside by it
 	isSpent bool   // it was logged that all grants are given
 
+	insiders map[int]uint64 // by client: the stamp by which he said in the quiet time that he is inside, and waits
+
 	isRaised  bool      // it goes on above another number since it was saved
 	heard     time.Time // when a line of the lock came
 	letGo     time.Time // when a grant of it was let go
@@ -90,6 +92,7 @@ func (d *Daemon) noteAsk(v *vote, client int, now time.Time) error {
 	if asked {
 		d.count(client, before, -1)
 		delete(v.asks, client)
+		delete(v.insiders, client)
 	}
 	if known.Stamp > 0 {
 		if v.asks == nil {
@@ -137,6 +140,7 @@ func (d *Daemon) noteGrant(v *vote, now time.Time) error {
 		v.held, v.since = held, now
 		if held.Number > 0 {
 			v.highest = greatest(v.highest, held.Number)
+			delete(v.insiders, int(held.Client))
 			d.m.grants.Inc()
 			d.granted++
 			d.m.left.Set(float64(d.ceiling) - float64(d.m.highest(held.Number)))

@@ -29,7 +29,7 @@
 //
 // A client that is inside has the word "inside" behind its REQUEST. A voter that starts, and may not
 // know whom it granted its votes, is quiet for a TTL: it takes no REQUEST but of who is inside, and
-// says "quiet MS" to others.
+// says "quiet MS" to others. A vote stays quiet while one waits for it who said then that he is inside.
 //
 // Voters speak to one another in mailboxes of their own, a line of JSON behind the header (package
 // voter, peers.go).
