@@ -41,6 +41,7 @@ type Daemon struct {
 
 	votes    map[string]*vote
 	busy     map[*vote]struct{} // votes that somebody has or waits for
+	users    map[string]*usage  // of the users that have some vote or wait for one
 	table    table
 	requests [qlock.MaxClients]int    // requests of a session that have a vote here, or wait for one
 	asksBy   [qlock.MaxClients]uint64 // the oldest plan of which a session has a request, as it said; 0 before
@@ -103,7 +104,7 @@ func Open(own *config.Voter, cluster *config.Cluster, carrier transport.Transpor
 		return nil, err
 	}
 	d := &Daemon{cluster: cluster, own: own, store: state, carrier: carrier, log: log, m: newMetrics(),
-		votes: map[string]*vote{}, busy: map[*vote]struct{}{}, dirty: map[*vote]struct{}{}, silent: map[*vote]struct{}{},
+		votes: map[string]*vote{}, busy: map[*vote]struct{}{}, users: map[string]*usage{}, dirty: map[*vote]struct{}{}, silent: map[*vote]struct{}{},
 		table: table{ttl: cluster.TTL.Duration, changed: map[int]Session{}, later: map[int]Session{}},
 		out:   map[string][]byte{}, replies: map[string]answer{}, started: time.Now(), away: time.Now(),
 		done: map[string][]byte{}, newPeers: map[int]Peer{}, gone: map[string]struct{}{}, restsFor: shortestRest}
@@ -334,6 +335,10 @@ func (d *Daemon) line(l *letter, speaker verdict, lock, line []byte, now time.Ti
 		}
 		return true
 	}
+	if string(said.Word) == "request" && d.isAtBound(v, userOf(l.Name)) {
+		d.fullForUser(l, lock, said)
+		return true
+	}
 	if v == nil {
 		v = d.first(l, lock, said, now)
 	}
@@ -386,12 +391,7 @@ func (d *Daemon) first(l *letter, lock []byte, said wire.Line, now time.Time) *v
 		return nil
 	}
 	if len(d.votes) >= d.own.MaxLocks && !d.makeRoom(now) {
-		d.tell(l.Name, "full %s %d", lock, said.Stamp)
-		d.m.full.Inc()
-		if !d.isFull {
-			d.isFull = true
-			d.log.Write(event.Warning, "full", "locks", len(d.votes), "lock", string(lock))
-		}
+		d.full(l, lock, said, d.m.full, &d.isFull, "locks", len(d.votes))
 		return nil
 	}
 	voter, err := d.newVoter()

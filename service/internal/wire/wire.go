@@ -23,7 +23,7 @@
 //	close         closed N EPOCH
 //
 // A voter also sends "gone LOCK STAMP" when it let a request go, "full LOCK STAMP" if it has no
-// room for the lock of a REQUEST, "taken N EPOCH" to a session that is over, and "unknown N EPOCH"
+// room for the lock of a REQUEST, or for another one of its user, "taken N EPOCH" to a session that is over, and "unknown N EPOCH"
 // to one that has to claim its number there. It takes no other line of these two. A REQUEST's stamp
 // is above BASE and at most RESERVED, and no line of a lock has one above RESERVED.
 //
