@@ -158,8 +158,10 @@ func (d *Daemon) load(now time.Time) error {
 	err := d.store.load(func(name string, state []byte) error {
 		votes = append(votes, saved{name, state})
 		return nil
-	}, func(number int, row Session) error {
-		d.table.rows[number] = row
+	}, func(number int, row Session, isOld bool) error {
+		if d.table.rows[number] = row; isOld {
+			d.table.later[number] = row
+		}
 		return nil
 	}, func(place int, p Peer) { d.peers[place], d.loaded[place] = p, p })
 	for i := 0; err == nil && i < len(votes); i++ {
@@ -257,9 +259,9 @@ func (d *Daemon) wait(ctx context.Context, until time.Time) bool {
 // ask others at once.
 func (d *Daemon) end() error {
 	d.savedAll = time.Time{}
-	for _, row := range d.table.rows {
+	for number, row := range d.table.rows {
 		if row.Open {
-			d.tell(row.Name, "leaving")
+			d.tellNumber(number, "leaving")
 		}
 	}
 	if err := d.commit(time.Now()); err != nil {
@@ -470,7 +472,7 @@ func (d *Daemon) send(v *vote, lines []byte) {
 	for len(lines) > 0 {
 		end := bytes.IndexByte(lines, '\n') + 1
 		if said := wire.ReadLine(lines[:end]); said.To >= 0 && said.To < qlock.MaxClients && d.mayHear(v, said) {
-			name := d.table.rows[said.To].Name
+			name := d.table.names[said.To]
 			out := append(append(d.out[name], v.name...), ' ')
 			d.out[name] = append(out, lines[:end]...)
 			d.outBytes += len(v.name) + 1 + end
@@ -480,13 +482,14 @@ func (d *Daemon) send(v *vote, lines []byte) {
 }
 
 // mayHear returns whether a line of a vote is for the session that a number has now: its stamp is
-// above that session's base. Only whoever has the vote gets an INQUIRE, which names the grant.
+// above that session's base. Only whoever has the vote gets an INQUIRE, which names the grant. Who was
+// not heard in this run hears nothing: a reminder, or the reply to what he says next, repeats it.
 func (d *Daemon) mayHear(v *vote, said wire.Line) bool {
 	stamp := said.Stamp
 	if string(said.Word) == "inquire" {
 		stamp = v.held.Stamp
 	}
-	return d.table.rows[said.To].Open && !d.table.isEarlier(said.To, stamp)
+	return d.table.rows[said.To].Open && d.table.names[said.To] != "" && !d.table.isEarlier(said.To, stamp)
 }
 
 // tell puts a control line with those that leave after the save.
@@ -494,6 +497,13 @@ func (d *Daemon) tell(name, text string, words ...interface{}) {
 	line := fmt.Sprintf(". "+text+"\n", words...)
 	d.out[name] = append(d.out[name], line...)
 	d.outBytes += len(line)
+}
+
+// tellNumber tells the session that a number has now, if it was heard in this run.
+func (d *Daemon) tellNumber(number int, text string, words ...interface{}) {
+	if name := d.table.names[number]; name != "" {
+		d.tell(name, text, words...)
+	}
 }
 
 // control takes a control line of a client, and returns whether it is one. Who has no number here
@@ -596,7 +606,7 @@ func (d *Daemon) claim(name string, words [][]byte, now time.Time) bool {
 		return true
 	}
 	row := d.table.rows[number]
-	if before.Name != name || before.Epoch != epoch {
+	if before.Hash != row.Hash || before.Epoch != epoch {
 		d.asksBy[number] = 0
 		d.recount(number)
 		d.log.Write(event.Debug, "session-claimed", "client", number, "epoch", epoch)
@@ -670,7 +680,7 @@ func (d *Daemon) letGo(v *vote, now time.Time) bool {
 	v.letGo = now
 	d.mustSave(v) // its client hears so, or an operator
 	if row := d.table.rows[held.Client]; row.Open && held.Stamp > row.Base {
-		d.tell(row.Name, "gone %s %d", v.name, held.Stamp)
+		d.tellNumber(int(held.Client), "gone %s %d", v.name, held.Stamp)
 	}
 	return true
 }

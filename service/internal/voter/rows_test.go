@@ -65,7 +65,7 @@ func read(folder string, meta Meta) (content, error) {
 func contentOf(s *store) (content, error) {
 	c := content{meta: s.meta, saves: s.saves, votes: map[string]string{}, rows: map[int]Session{}, peers: map[int]Peer{}}
 	err := s.load(func(name string, state []byte) error { c.votes[name] = string(state); return nil },
-		func(number int, row Session) error { c.rows[number] = row; return nil },
+		func(number int, row Session, _ bool) error { c.rows[number] = row; return nil },
 		func(place int, p Peer) { c.peers[place] = p })
 	return c, err
 }

@@ -1,6 +1,7 @@
 package voter
 
 import (
+	"bytes"
 	"encoding/json"
 	"errors"
 	"fmt"
@@ -254,8 +255,9 @@ func (s *store) read(tx *bbolt.Tx) (err error) {
 	return err
 }
 
-// load hands each vote, each session and what is known of each place to a function.
-func (s *store) load(vote func(name string, state []byte) error, session func(number int, row Session) error,
+// load hands each vote, each session and what is known of each place to a function. A session is old if it would be saved
+// in another form.
+func (s *store) load(vote func(name string, state []byte) error, session func(number int, row Session, isOld bool) error,
 	peer func(place int, p Peer)) error {
 	return s.db.View(func(tx *bbolt.Tx) error {
 		err := each(tx, voteBucket, func(key, value []byte) error {
@@ -273,7 +275,11 @@ func (s *store) load(vote func(name string, state []byte) error, session func(nu
 			if err := json.Unmarshal(value, &row); err != nil || len(key) != 1 || key[0] >= qlock.MaxClients {
 				return fmt.Errorf("session %x: %w", key, ErrDamaged)
 			}
-			return session(int(key[0]), row)
+			again, err := json.Marshal(row)
+			if err != nil {
+				return err
+			}
+			return session(int(key[0]), row, !bytes.Equal(again, value))
 		})
 		if err != nil {
 			return err

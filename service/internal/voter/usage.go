@@ -14,7 +14,7 @@ type usage struct {
 	isFull bool // it was logged that it may have no more
 }
 
-// userOf returns the user of a session, by its name here.
+// userOf returns the user of a session, by its name here or the hash of that.
 func userOf(session string) string {
 	user, _, _ := strings.Cut(session, ".")
 	return user
@@ -25,7 +25,7 @@ func (d *Daemon) asker(client int, stamp uint64) string {
 	if d.table.isEarlier(client, stamp) {
 		return ""
 	}
-	return userOf(d.table.rows[client].Name)
+	return userOf(d.table.rows[client].Hash)
 }
 
 // countUser counts the requests of a user that have a vote or wait for it, and its votes.

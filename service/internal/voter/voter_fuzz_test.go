@@ -218,7 +218,7 @@ func FuzzMessage(f *testing.F) {
 		}
 		for number, row := range d.table.rows {
 			mustGrow(t, rows[number], row, number)
-			if rows[number].Open && row != rows[number] && (!ours || wire.SessionName(wire.NoUser, h.Name) != rows[number].Name) {
+			if rows[number].Open && row != rows[number] && (!ours || hashed(wire.SessionName(wire.NoUser, h.Name)) != rows[number].Hash) {
 				t.Fatalf("%q changes the session of number %d from %+v to %+v", h.Name, number, rows[number], row)
 			}
 		}
@@ -440,11 +440,11 @@ func rowsOf(f *testing.F, db *bbolt.DB) (places [][3][]byte) {
 // stamp as high as any of them; of each place the last run, and the highest ceiling.
 func FuzzMerge(f *testing.F) {
 	one := Knows{Peers: map[int]Peer{2: {Identity: "v", Run: 1, Start: 4, Ceiling: 900}}, Sessions: map[int]Session{
-		3:  {Name: "x", Epoch: 4, Base: 9, Reserved: 100, Open: true, Used: true},
+		3:  {Hash: "x", Epoch: 4, Base: 9, Reserved: 100, Open: true, Used: true},
 		63: {Epoch: 1, Reserved: 7}}}
 	first, _ := json.Marshal(one)
 	second, _ := json.Marshal(Knows{Peers: map[int]Peer{2: {Identity: "w", Ceiling: 950}}, Sessions: map[int]Session{
-		3: {Name: "y", Epoch: 4, Base: 9, Reserved: 50, Open: true}}})
+		3: {Hash: "y", Epoch: 4, Base: 9, Reserved: 50, Open: true}}})
 	f.Add(first, second)
 	f.Add(first, []byte("{}"))
 	f.Add([]byte("{\"error\":\"no\"}"), second)

@@ -308,7 +308,7 @@ func IsVoter(word string) bool {
 	return number >= 0 && number < 64 && fmt.Sprint(number) == word
 }
 
-// IsRead returns whether what is asked changes nothing, and shows no name of a session to who is no voter.
+// IsRead returns whether what is asked changes nothing, and shows nothing of sessions that only voters need.
 func IsRead(from, words string) bool {
 	switch word, _, _ := strings.Cut(words, " "); word {
 	case "status", "lock":
