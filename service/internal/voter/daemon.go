@@ -93,7 +93,7 @@ type Daemon struct {
 
 // Owner returns whose state a voter has to have.
 func Owner(own *config.Voter, cluster *config.Cluster) Meta {
-	return Meta{Format: format, Cluster: cluster.ID, Coterie: config.Mark(cluster.Generation, cluster.Coterie),
+	return Meta{Format: formatOf(level.Oldest), Cluster: cluster.ID, Coterie: config.Mark(cluster.Generation, cluster.Coterie),
 		Voter: cluster.Number(own.Voter)}
 }
 

@@ -25,7 +25,7 @@ type content struct {
 // aState makes a state with votes and sessions, and returns its folder and its owner.
 func aState(t *testing.T, votes int) (folder string, meta Meta) {
 	t.Helper()
-	folder, meta = filepath.Join(t.TempDir(), "a"), Meta{Format: format, Cluster: "test", Identity: "identity"}
+	folder, meta = filepath.Join(t.TempDir(), "a"), Meta{Format: firstFormat, Cluster: "test", Identity: "identity"}
 	if err := Create(folder, meta, Generations{Now: texts(t, two)}, Knows{}, 0); err != nil {
 		t.Fatal(err)
 	}

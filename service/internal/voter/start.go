@@ -33,6 +33,7 @@ type own struct {
 	Start   uint64 `json:"start"`
 	Ceiling uint64 `json:"ceiling"`           // that was asked for last, 0 before it served for the first time
 	Level   uint64 `json:"level,omitempty"`   // the cluster's
+	Raised  uint64 `json:"raised,omitempty"`  // the start in which the level was raised last, from raisedFormat on
 	Refused string `json:"refused,omitempty"` // why another voter refused it, and it never starts again
 	IsPlace bool   `json:"place,omitempty"`   // since another voter has its place
 }
