@@ -972,12 +972,11 @@ def crash_loop(room: Path) -> bool:
 
 @case(120)
 def rolling_upgrade(room: Path) -> bool:
-    """Voters and clients are exchanged for newer programs one by one, one of them back, and the level is raised.
-
-    The states have the older format until then, so the older program goes on with one. From then on it refuses them."""
+    """Voters and clients are exchanged for newer programs one by one, one of them back, and the level is raised. Until then
+    states have the older format, and from then on the older program refuses them."""
     if not (NEXT / "session").exists():
         raise LeftOut("no newer programs: service/build --next cmd/qlock-voter cmd/qlockctl attacks/session")
-    c, goes_on = Cluster(room), True
+    c = Cluster(room)
     held = Session(c)
     spy = Wire(c.port)
     spy.listen(f"qlock.{c.id}.c.>")
@@ -988,7 +987,9 @@ def rolling_upgrade(room: Path) -> bool:
         for programs in (NEXT, PROGRAMS, NEXT) if voter == "rim2" else (NEXT,):
             c.stop(voter)
             c.start(voter, programs=programs)
-            goes_on = until(lambda voter=voter: serves(c, voter), 20) and held.has(f"during-{voter}", 10) and goes_on
+            if not until(lambda voter=voter: serves(c, voter), 20) or not held.has(f"during-{voter}", 10):
+                print(f"{voter} by {programs}: {c.last(voter)}")
+                return False
     kept = held.lost() == 0 and len(first) == 1 and formats(c) == first
     early = c.ctl("level", "2", check=False)
     newer = Session(c, programs=NEXT)
@@ -1006,11 +1007,11 @@ def rolling_upgrade(room: Path) -> bool:
     older = older and c.voters["rim4"].returncode == 78
     print(f"an older voter: {c.last('rim4')}")
     c.start("rim4", programs=NEXT)
-    goes_on = until(lambda: serves(c, "rim4"), 20) and goes_on
+    is_back = until(lambda: serves(c, "rim4"), 20)
     try:
         Session(c)
         client = True
     except RuntimeError as why:
         client = False
         print(f"an older client: {why}")
-    return goes_on and kept and early[0] == 1 and not before and raised[0] == 0 and after and older and not client
+    return is_back and kept and early[0] == 1 and not before and raised[0] == 0 and after and older and not client
