@@ -288,9 +288,35 @@ func FuzzSessions(f *testing.F) {
 						d.table.rows[v.held.Client].Reserved)
 				}
 			}
+			mustCount(t, d)
 			d.out = map[string][]byte{}
 		}
 	})
+}
+
+// mustCount fails unless each user is counted to have the votes that its sessions have or wait for.
+func mustCount(t *testing.T, d *Daemon) {
+	t.Helper()
+	votes := map[string]int{}
+	for _, v := range d.votes {
+		asks := map[string]int{}
+		for _, one := range v.asks {
+			asks[one.user]++
+		}
+		for user, count := range asks {
+			if votes[user]++; v.users[user] != count {
+				t.Fatalf("%s: %v, of %v", v.name, v.users, v.asks)
+			}
+		}
+		if len(v.users) != len(asks) {
+			t.Fatalf("%s: %v, of %v", v.name, v.users, v.asks)
+		}
+	}
+	for user, u := range d.users {
+		if u.votes != votes[user] || len(d.users) != len(votes) {
+			t.Fatalf("%q has %d votes, and is counted to have %d", user, votes[user], u.votes)
+		}
+	}
 }
 
 // noteReply notes who is told to have an epoch of a number, and who gets a grant for a stamp of it.
