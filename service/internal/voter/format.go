@@ -10,11 +10,11 @@ import (
 // How the form of a state changes.
 //
 // The format of a state is that of the cluster's level, as the voter knows it. A program reads the
-// formats of the levels that it knows, and writes that of the level: so the program of before may be put
+// formats of the levels that it knows, and writes that of the level. So the older program may be put
 // back until the level is raised. Then the file changes in the transaction that saves the new level. From
-// then on the program of before says that the state is of a newer one.
+// then on the older program says that a newer one made the state.
 
-// The formats. Format 1, which had checksums of votes alone, is read by Upgrade only.
+// The formats. Format 1 had checksums of votes alone. Only Upgrade reads it.
 const (
 	firstFormat  = 2
 	raisedFormat = 3 // has own.Raised. As level.Greets it is for trials of an upgrade alone

@@ -67,8 +67,8 @@ func formatIn(t *testing.T, d *Daemon) (format, transaction int) {
 	return format, transaction
 }
 
-// A state has the format of before until the level is raised, also by a program that knows the next one. It changes in the
-// transaction that saves the level. From then on a program of before refuses it.
+// A state keeps the older format until the level is raised, also in a program that knows the next one. It changes in the
+// transaction that saves the level. From then on an older program refuses it.
 func TestFormatFollowsTheLevel(t *testing.T) {
 	first, says := alone(t, 10)
 	says("orders request 0 0 1\n")
@@ -89,7 +89,7 @@ func TestFormatFollowsTheLevel(t *testing.T) {
 	again, err := Open(own, cluster, &post{}, event.To(io.Discard))
 	switch {
 	case level.Newest < level.Greets && !errors.Is(err, ErrNewer):
-		t.Errorf("a program of before: %v", err)
+		t.Errorf("an older program: %v", err)
 	case level.Newest >= level.Greets && err != nil:
 		t.Error(err)
 	case err == nil:
@@ -100,7 +100,7 @@ func TestFormatFollowsTheLevel(t *testing.T) {
 	}
 }
 
-// Formats of before those that this program reads, and of after them, are refused by name.
+// Older and newer formats than those that this program reads are refused by name.
 func TestFormatsThatAreRefused(t *testing.T) {
 	d, _ := alone(t, 10)
 	for format, want := range map[int]error{firstFormat - 1: ErrFormat, firstFormat: nil, raisedFormat + 1: ErrNewer} {

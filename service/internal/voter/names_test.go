@@ -11,6 +11,7 @@ import (
 
 	"calvundek.example/service/internal/event"
 	"calvundek.example/service/internal/wire"
+	"go.etcd.io/bbolt"
 )
 
 // reopened returns a voter that starts again from the state of one that was killed, and is not quiet.
@@ -86,8 +87,8 @@ func TestWhoWasNotHeardSinceTheStart(t *testing.T) {
 	}
 }
 
-// A row of before has the session's name. It is read as its hash, in a state and in what another voter says, and the state
-// has the name no longer after the next save.
+// An older row has the session's name. It is read as its hash, in a state and in what another voter says. After the next
+// save no row has the name.
 func TestRowsWithNames(t *testing.T) {
 	first, _ := alone(t, 10)
 	row := []byte(`{"name":"jobs.session-1","epoch":1,"base":0,"reserved":100,"open":true,"used":true}`)
@@ -100,6 +101,16 @@ func TestRowsWithNames(t *testing.T) {
 		t.Errorf("the session is not known: %+v", d.table.rows[1])
 	}
 	if err := d.save(time.Now()); err != nil {
+		t.Fatal(err)
+	}
+	if err := d.store.db.View(func(tx *bbolt.Tx) error {
+		return each(tx, sessionBucket, func(_, value []byte) error {
+			if bytes.Contains(value, []byte("session-1")) {
+				t.Errorf("saved: %s", value)
+			}
+			return nil
+		})
+	}); err != nil {
 		t.Fatal(err)
 	}
 	again := reopened(t, d)

@@ -186,7 +186,7 @@ func (v caller) lives() (end func()) {
 }
 
 // After the quiet time a vote stays quiet while one waits who said that he is inside: until he gets it, gives up, ends, or
-// is silent for a TTL. Requests with lesser stamps are not taken either.
+// is silent for a TTL. Requests with smaller stamps are not taken either.
 func TestVoteStaysQuiet(t *testing.T) {
 	w := worlds.New(t, worlds.Majority, time.Second)
 	locks := []struct {
