@@ -330,8 +330,8 @@ func (s *store) save(c changes) error {
 		}
 		return b.putSessions(c.sessions)
 	})
-	if err == nil {
-		s.meta = meta
+	if err == nil && meta.Format != s.meta.Format {
+		s.meta.Format = meta.Format // the rest of it is read outside of the loop, too
 	}
 	return err
 }
