@@ -47,6 +47,9 @@ else
     echo "service: the guard was not tried in PostgreSQL; apt-get install postgresql"
 fi
 
+# of a program that knows the next level of a cluster
+"$go" test -race -count=1 -tags nextlevel -run 'Format|Level' ./internal/voter
+
 "$here/build" cmd/qlock-voter cmd/qlockctl trial attacks/session
 "$here/build" --next cmd/qlock-voter cmd/qlockctl attacks/session
 folder=$(mktemp -d "${TMPDIR:-$here/out}/trial-XXXXXX")

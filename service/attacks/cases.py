@@ -943,6 +943,11 @@ def renewed_certificates(room: Path) -> bool:
 # Starts and upgrades
 
 
+def formats(c: Cluster) -> set[int]:
+    """The formats of the voters' states."""
+    return {reply["format"] for reply in c.status().values()}
+
+
 def serves(c: Cluster, voter: str) -> bool:
     """Whether the others answered a voter's start."""
     return bool(c.status().get(voter, {}).get("serves"))
@@ -967,21 +972,25 @@ def crash_loop(room: Path) -> bool:
 
 @case(120)
 def rolling_upgrade(room: Path) -> bool:
-    """Voters and clients are exchanged for newer programs one by one, one of them back, and the level is raised."""
+    """Voters and clients are exchanged for newer programs one by one, one of them back, and the level is raised. Until then
+    states have the older format, and from then on the older program refuses them."""
     if not (NEXT / "session").exists():
         raise LeftOut("no newer programs: service/build --next cmd/qlock-voter cmd/qlockctl attacks/session")
-    c, goes_on = Cluster(room), True
+    c = Cluster(room)
     held = Session(c)
     spy = Wire(c.port)
     spy.listen(f"qlock.{c.id}.c.>")
     if not is_pass(held.lock("held")):
         raise RuntimeError("the lock is not to be had")
+    first = formats(c)
     for voter in NAMES:
         for programs in (NEXT, PROGRAMS, NEXT) if voter == "rim2" else (NEXT,):
             c.stop(voter)
             c.start(voter, programs=programs)
-            goes_on = until(lambda voter=voter: serves(c, voter), 20) and held.has(f"during-{voter}", 10) and goes_on
-    kept = held.lost() == 0
+            if not until(lambda voter=voter: serves(c, voter), 20) or not held.has(f"during-{voter}", 10):
+                print(f"{voter} by {programs}: {c.last(voter)}")
+                return False
+    kept = held.lost() == 0 and len(first) == 1 and formats(c) == first
     early = c.ctl("level", "2", check=False)
     newer = Session(c, programs=NEXT)
     before = ". greeted" in spy.read(1)
@@ -990,14 +999,19 @@ def rolling_upgrade(room: Path) -> bool:
     raised = again(lambda: c.ctl("level", "2", check=False))
     print(f"level too early: {early[0]}; then: {raised[0]} {raised[1][-60:]}; the lock was kept: {kept}")
     after = newer.has("after", 10) and ". greeted" in spy.read(1)
+    after = after and len(formats(c)) == 1 and formats(c) != first
+    print(f"formats: {first}, then {formats(c)}")
     c.stop("rim4")
     c.start("rim4")
-    older = until(lambda: ended(c.voters["rim4"]), 20) and "newer programs" in c.last("rim4")
+    older = until(lambda: ended(c.voters["rim4"]), 20) and "made by a newer program" in c.last("rim4")
+    older = older and c.voters["rim4"].returncode == 78
+    print(f"an older voter: {c.last('rim4')}")
     c.start("rim4", programs=NEXT)
+    is_back = until(lambda: serves(c, "rim4"), 20)
     try:
         Session(c)
         client = True
     except RuntimeError as why:
         client = False
         print(f"an older client: {why}")
-    return goes_on and kept and early[0] == 1 and not before and raised[0] == 0 and after and older and not client
+    return is_back and kept and early[0] == 1 and not before and raised[0] == 0 and after and older and not client

@@ -506,6 +506,41 @@ func TestFullIsSaid(t *testing.T) {
 	}
 }
 
+// Where a user has as many locks as voters let it have, calls for other ones fail with ErrFull. Once it gives one back there
+// is room.
+func TestUserIsFull(t *testing.T) {
+	w := worlds.New(t, worlds.Majority, time.Second)
+	for i, own := range w.Owns {
+		w.Stop(i)
+		own.MaxLocksUser = 2
+		w.Start(i)
+	}
+	w.Ready()
+	c, _ := start(t, w)
+	var holds []*Held
+	for i := 0; i < 3; i++ { // two votes of each of three voters are three quorums at most
+		held, err := c.Lock(within(t, 5*time.Second), fmt.Sprint("lock-", i))
+		if errors.Is(err, ErrFull) {
+			break
+		} else if err != nil {
+			t.Fatal(err)
+		}
+		holds = append(holds, held)
+	}
+	if _, err := c.Lock(within(t, 5*time.Second), "another"); !errors.Is(err, ErrFull) || len(holds) < 2 {
+		t.Fatalf("%d are held, and another one: %v", len(holds), err)
+	}
+	for _, held := range holds {
+		if err := held.Unlock(); err != nil {
+			t.Error(err)
+		}
+	}
+	time.Sleep(time.Second) // for a TTL other quorums were asked
+	if _, err := c.Lock(within(t, 5*time.Second), "another"); err != nil {
+		t.Error(err)
+	}
+}
+
 // Who does not wait hears at once that all numbers are in use, and who waits hears why his time is
 // over.
 func TestNumbersInUse(t *testing.T) {

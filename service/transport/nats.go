@@ -63,6 +63,7 @@ func Connect(cluster *config.Cluster, access config.Access, name string) (*NATS,
 		nats.PingInterval(time.Second), nats.MaxPingsOutstanding(2),
 		nats.FlusherTimeout(time.Second), // else a server that reads nothing holds whoever sends, and no ping leaves
 		nats.ReconnectHandler(func(*nats.Conn) { n.returns.Add(1) }),
+		nats.ErrorHandler(newRefusals(os.Stderr).handle),
 	}
 	more, err := n.identity(cluster, access)
 	if err != nil {

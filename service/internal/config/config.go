@@ -90,13 +90,14 @@ func (a Access) Speaker() (string, error) {
 
 // Voter is the configuration of one voter.
 type Voter struct {
-	Cluster  string   `toml:"cluster"` // the cluster's file
-	Voter    string   `toml:"voter"`   // its name in the coterie
-	Data     string   `toml:"data"`    // the folder of its state
-	Listen   string   `toml:"listen"`  // the address of /metrics and /healthz, none if it is empty
-	MaxLocks int      `toml:"max_locks"`
-	First    Duration `toml:"remind_first"`
-	Most     Duration `toml:"remind_most"`
+	Cluster      string   `toml:"cluster"` // the cluster's file
+	Voter        string   `toml:"voter"`   // its name in the coterie
+	Data         string   `toml:"data"`    // the folder of its state
+	Listen       string   `toml:"listen"`  // the address of /metrics and /healthz, none if it is empty
+	MaxLocks     int      `toml:"max_locks"`
+	MaxLocksUser int      `toml:"max_locks_user"` // 0 for as many as MaxLocks
+	First        Duration `toml:"remind_first"`
+	Most         Duration `toml:"remind_most"`
 
 	Log event.Level `toml:"log"` // the least level of what is logged
 	Access
@@ -240,6 +241,14 @@ func ReadVoter(path string) (*Voter, *Cluster, error) {
 	return v, cluster, nil
 }
 
+// LocksOfUser returns how many locks of a voter one user may have or wait for.
+func (v *Voter) LocksOfUser() int {
+	if v.MaxLocksUser == 0 {
+		return v.MaxLocks
+	}
+	return v.MaxLocksUser
+}
+
 // fault returns what is wrong with a voter's settings, "" if nothing is.
 func (v *Voter) fault() string {
 	switch {
@@ -251,6 +260,8 @@ func (v *Voter) fault() string {
 		return "data is not set"
 	case v.MaxLocks < 1:
 		return "max_locks has to be 1 or more"
+	case v.MaxLocksUser < 0:
+		return "max_locks_user may not be below 0"
 	case v.First.Duration <= 0 || v.Most.Duration < v.First.Duration:
 		return "remind_first has to be above 0, and remind_most may not be shorter"
 	}

@@ -97,7 +97,7 @@ func FuzzReadVoter(f *testing.F) {
 		"voter = \"c\"\ndata = \"/x\"\nlost = 3\nlisten = \"127.0.0.1:9403\"\nmax_locks = 7\n" +
 			"remind_first = \"1s\"\nremind_most = \"2s\"\n",
 		"voter = \"b\"\ndata = \"/x\"\nuser = \"u\"\nsecret = \"/s\"\ncert = \"/c\"\nkey = \"/k\"\n",
-		"max_locks = -1\n"} {
+		"max_locks = -1\n", "voter = \"b\"\ndata = \"/x\"\nmax_locks_user = 2\n"} {
 		f.Add(text)
 	}
 	f.Fuzz(func(t *testing.T, text string) {
@@ -108,7 +108,7 @@ func FuzzReadVoter(f *testing.F) {
 		if err != nil {
 			return
 		}
-		if c.Number(v.Voter) < 0 || v.Data == "" || v.MaxLocks < 1 || v.First.Duration <= 0 ||
+		if c.Number(v.Voter) < 0 || v.Data == "" || v.MaxLocks < 1 || v.LocksOfUser() < 1 || v.First.Duration <= 0 ||
 			v.Most.Duration < v.First.Duration {
 			t.Fatalf("%+v", v)
 		}

@@ -74,6 +74,7 @@ func TestVoterFile(t *testing.T) {
 		"an unknown key":        "voter = \"b\"\ndata = \"d\"\nuser_name = \"u\"\n",
 		"no such level":         "voter = \"b\"\ndata = \"d\"\nlog = \"loud\"\n",
 		"no locks":              "voter = \"b\"\ndata = \"d\"\nmax_locks = 0\n",
+		"fewer than no locks":   "voter = \"b\"\ndata = \"d\"\nmax_locks_user = -1\n",
 		"reminders that shrink": "voter = \"b\"\ndata = \"d\"\nremind_first = \"10s\"\n",
 	} {
 		if err := read(text); !errors.Is(err, ErrConfig) {

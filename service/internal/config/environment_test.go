@@ -34,11 +34,11 @@ func TestEnvironment(t *testing.T) {
 		t.Error(err)
 	}
 	for name, value := range map[string]string{"CLUSTER": cluster, "VOTER": "b", "DATA": "d", "LISTEN": ":1",
-		"MAX_LOCKS": "7", "REMIND_FIRST": "1s", "REMIND_MOST": "2s", "USER": "u", "SECRET": "s", "SEED": "n",
+		"MAX_LOCKS": "7", "MAX_LOCKS_USER": "3", "REMIND_FIRST": "1s", "REMIND_MOST": "2s", "USER": "u", "SECRET": "s", "SEED": "n",
 		"CREDS": "j", "CERT": "c", "KEY": "k", "LOG": "warning"} {
 		t.Setenv("QLOCK_"+name, value)
 	}
-	want := Voter{Cluster: cluster, Voter: "b", Data: "d", Listen: ":1", MaxLocks: 7,
+	want := Voter{Cluster: cluster, Voter: "b", Data: "d", Listen: ":1", MaxLocks: 7, MaxLocksUser: 3,
 		First: Duration{time.Second}, Most: Duration{2 * time.Second}, Log: event.Warning,
 		Access: Access{User: "u", Secret: "s", Seed: "n", Creds: "j", Cert: "c", Key: "k"}}
 	if v, _, err := ReadVoter(""); err != nil || *v != want {

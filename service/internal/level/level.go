@@ -6,6 +6,6 @@ package level
 // Oldest and Newest are the levels that this program knows. A program knows the level of the release before.
 const Oldest = 1
 
-// Greets is the level from which voters take the word "greet". It is for trials of an upgrade alone: only programs that are
-// built with the tag "nextlevel" know it.
+// Greets is the level from which voters take the word "greet", and states have another format. It is for trials of an upgrade
+// alone: only programs that are built with the tag "nextlevel" know it.
 const Greets = 2

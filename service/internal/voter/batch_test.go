@@ -133,6 +133,8 @@ func TestStartForgetsWhoWaits(t *testing.T) {
 	w.Stop(0)
 	w.Start(0)
 	w.Ready()
+	three.says(". open 0\n") // it is heard, so it could be written to
+	three.hears(". opened 2 1 ")
 	two.says("orders release 1 0 2\n")
 	if three.within("orders locked", 300*time.Millisecond) {
 		t.Error("a voter that was started again remembers who waited")

@@ -41,6 +41,7 @@ type Daemon struct {
 
 	votes    map[string]*vote
 	busy     map[*vote]struct{} // votes that somebody has or waits for
+	users    map[string]*usage  // of the users that have some vote or wait for one
 	table    table
 	requests [qlock.MaxClients]int    // requests of a session that have a vote here, or wait for one
 	asksBy   [qlock.MaxClients]uint64 // the oldest plan of which a session has a request, as it said; 0 before
@@ -92,7 +93,7 @@ type Daemon struct {
 
 // Owner returns whose state a voter has to have.
 func Owner(own *config.Voter, cluster *config.Cluster) Meta {
-	return Meta{Format: format, Cluster: cluster.ID, Coterie: config.Mark(cluster.Generation, cluster.Coterie),
+	return Meta{Format: formatOf(level.Oldest), Cluster: cluster.ID, Coterie: config.Mark(cluster.Generation, cluster.Coterie),
 		Voter: cluster.Number(own.Voter)}
 }
 
@@ -103,7 +104,7 @@ func Open(own *config.Voter, cluster *config.Cluster, carrier transport.Transpor
 		return nil, err
 	}
 	d := &Daemon{cluster: cluster, own: own, store: state, carrier: carrier, log: log, m: newMetrics(),
-		votes: map[string]*vote{}, busy: map[*vote]struct{}{}, dirty: map[*vote]struct{}{}, silent: map[*vote]struct{}{},
+		votes: map[string]*vote{}, busy: map[*vote]struct{}{}, users: map[string]*usage{}, dirty: map[*vote]struct{}{}, silent: map[*vote]struct{}{},
 		table: table{ttl: cluster.TTL.Duration, changed: map[int]Session{}, later: map[int]Session{}},
 		out:   map[string][]byte{}, replies: map[string]answer{}, started: time.Now(), away: time.Now(),
 		done: map[string][]byte{}, newPeers: map[int]Peer{}, gone: map[string]struct{}{}, restsFor: shortestRest}
@@ -157,8 +158,10 @@ func (d *Daemon) load(now time.Time) error {
 	err := d.store.load(func(name string, state []byte) error {
 		votes = append(votes, saved{name, state})
 		return nil
-	}, func(number int, row Session) error {
-		d.table.rows[number] = row
+	}, func(number int, row Session, isOld bool) error {
+		if d.table.rows[number] = row; isOld {
+			d.table.later[number] = row
+		}
 		return nil
 	}, func(place int, p Peer) { d.peers[place], d.loaded[place] = p, p })
 	for i := 0; err == nil && i < len(votes); i++ {
@@ -256,9 +259,9 @@ func (d *Daemon) wait(ctx context.Context, until time.Time) bool {
 // ask others at once.
 func (d *Daemon) end() error {
 	d.savedAll = time.Time{}
-	for _, row := range d.table.rows {
+	for number, row := range d.table.rows {
 		if row.Open {
-			d.tell(row.Name, "leaving")
+			d.tellNumber(number, "leaving")
 		}
 	}
 	if err := d.commit(time.Now()); err != nil {
@@ -327,13 +330,17 @@ func (d *Daemon) line(l *letter, speaker verdict, lock, line []byte, now time.Ti
 		d.m.refused.Inc()
 		return true
 	}
-	if string(said.Word) == "request" && !isInside && d.isQuiet(now) {
+	v := d.votes[string(lock)]
+	if left := d.quietOf(v, now); left > 0 && string(said.Word) == "request" && !isInside {
 		if l.once("quiet") {
-			d.tell(l.Name, "quiet %d", d.quietUntil.Sub(now).Milliseconds()+1)
+			d.tell(l.Name, "quiet %d", left.Milliseconds()+1)
 		}
 		return true
 	}
-	v := d.votes[string(lock)]
+	if string(said.Word) == "request" && d.isAtBound(v, userOf(l.Name)) {
+		d.fullForUser(l, lock, said)
+		return true
+	}
 	if v == nil {
 		v = d.first(l, lock, said, now)
 	}
@@ -344,8 +351,8 @@ func (d *Daemon) line(l *letter, speaker verdict, lock, line []byte, now time.Ti
 	v.heard = now
 	d.step(v, said.From, now, func(out []byte) ([]byte, error) { return v.Take(line, out) })
 	d.deny(v, l.Header, said)
-	if isInside && v.held.Client == uint64(said.From) && v.held.Stamp == said.Stamp {
-		v.isOld = false // whoever has it is there
+	if isInside {
+		d.noteInside(v, said, now)
 	}
 	return true
 }
@@ -386,12 +393,7 @@ func (d *Daemon) first(l *letter, lock []byte, said wire.Line, now time.Time) *v
 		return nil
 	}
 	if len(d.votes) >= d.own.MaxLocks && !d.makeRoom(now) {
-		d.tell(l.Name, "full %s %d", lock, said.Stamp)
-		d.m.full.Inc()
-		if !d.isFull {
-			d.isFull = true
-			d.log.Write(event.Warning, "full", "locks", len(d.votes), "lock", string(lock))
-		}
+		d.full(l, lock, said, d.m.full, &d.isFull, "locks", len(d.votes))
 		return nil
 	}
 	voter, err := d.newVoter()
@@ -470,7 +472,7 @@ func (d *Daemon) send(v *vote, lines []byte) {
 	for len(lines) > 0 {
 		end := bytes.IndexByte(lines, '\n') + 1
 		if said := wire.ReadLine(lines[:end]); said.To >= 0 && said.To < qlock.MaxClients && d.mayHear(v, said) {
-			name := d.table.rows[said.To].Name
+			name := d.table.names[said.To]
 			out := append(append(d.out[name], v.name...), ' ')
 			d.out[name] = append(out, lines[:end]...)
 			d.outBytes += len(v.name) + 1 + end
@@ -480,13 +482,14 @@ func (d *Daemon) send(v *vote, lines []byte) {
 }
 
 // mayHear returns whether a line of a vote is for the session that a number has now: its stamp is
-// above that session's base. Only whoever has the vote gets an INQUIRE, which names the grant.
+// above that session's base. Only whoever has the vote gets an INQUIRE, which names the grant. Who was
+// not heard in this run hears nothing: a reminder, or the reply to what he says next, repeats it.
 func (d *Daemon) mayHear(v *vote, said wire.Line) bool {
 	stamp := said.Stamp
 	if string(said.Word) == "inquire" {
 		stamp = v.held.Stamp
 	}
-	return d.table.rows[said.To].Open && !d.table.isEarlier(said.To, stamp)
+	return d.table.rows[said.To].Open && d.table.names[said.To] != "" && !d.table.isEarlier(said.To, stamp)
 }
 
 // tell puts a control line with those that leave after the save.
@@ -494,6 +497,13 @@ func (d *Daemon) tell(name, text string, words ...interface{}) {
 	line := fmt.Sprintf(". "+text+"\n", words...)
 	d.out[name] = append(d.out[name], line...)
 	d.outBytes += len(line)
+}
+
+// tellNumber tells the session that a number has now, if it was heard in this run.
+func (d *Daemon) tellNumber(number int, text string, words ...interface{}) {
+	if name := d.table.names[number]; name != "" {
+		d.tell(name, text, words...)
+	}
 }
 
 // control takes a control line of a client, and returns whether it is one. Who has no number here
@@ -596,7 +606,7 @@ func (d *Daemon) claim(name string, words [][]byte, now time.Time) bool {
 		return true
 	}
 	row := d.table.rows[number]
-	if before.Name != name || before.Epoch != epoch {
+	if before.Hash != row.Hash || before.Epoch != epoch {
 		d.asksBy[number] = 0
 		d.recount(number)
 		d.log.Write(event.Debug, "session-claimed", "client", number, "epoch", epoch)
@@ -616,6 +626,7 @@ func (d *Daemon) round(now time.Time) {
 		if v.isOld && d.isQuiet(now) {
 			continue // it may be somebody else's by now
 		}
+		d.endInside(v)
 		for v.held.Number > 0 && v.isWanted() && d.isOver(v.held) {
 			held := v.held
 			if !d.letGo(v, now) {
@@ -669,7 +680,7 @@ func (d *Daemon) letGo(v *vote, now time.Time) bool {
 	v.letGo = now
 	d.mustSave(v) // its client hears so, or an operator
 	if row := d.table.rows[held.Client]; row.Open && held.Stamp > row.Base {
-		d.tell(row.Name, "gone %s %d", v.name, held.Stamp)
+		d.tellNumber(int(held.Client), "gone %s %d", v.name, held.Stamp)
 	}
 	return true
 }

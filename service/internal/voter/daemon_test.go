@@ -101,7 +101,7 @@ func TestSpentLock(t *testing.T) {
 func TestEachLineLeaves(t *testing.T) {
 	now := time.Unix(1000, 0)
 	d := &Daemon{own: &config.Voter{}, store: &store{}, ceiling: 10, m: newMetrics(), votes: map[string]*vote{}, busy: map[*vote]struct{}{},
-		dirty: map[*vote]struct{}{}, silent: map[*vote]struct{}{}, out: map[string][]byte{}, table: *newTable(now)}
+		users: map[string]*usage{}, dirty: map[*vote]struct{}{}, silent: map[*vote]struct{}{}, out: map[string][]byte{}, table: *newTable(now)}
 	voter, err := qlock.NewVoter(0, 10)
 	if err != nil {
 		t.Fatal(err)
@@ -112,11 +112,12 @@ func TestEachLineLeaves(t *testing.T) {
 		stamp       uint64
 		hears, line string
 	}{
-		{1, 105, "session-1", "orders locked 0 1 105 1 105\n"},
-		{2, 107, "session-2", "orders fail 0 2 107 107\n"},
-		{3, 103, "session-1", "orders inquire 0 1 1 107\n"},
+		{1, 105, "jobs.session-1", "orders locked 0 1 105 1 105\n"},
+		{2, 107, "jobs.session-2", "orders fail 0 2 107 107\n"},
+		{3, 103, "jobs.session-1", "orders inquire 0 1 1 107\n"},
 	} {
-		d.table.rows[one.client] = of(fmt.Sprint("session-", one.client), 1, 100, 200)
+		name := fmt.Sprint("jobs.session-", one.client)
+		d.table.rows[one.client], d.table.names[one.client] = of(name, 1, 100, 200), name
 		line := []byte(fmt.Sprintf("request %d 0 %d", one.client, one.stamp))
 		d.step(v, one.client, now, func(out []byte) ([]byte, error) { return v.Take(line, out) })
 		if got := string(d.out[one.hears]); got != one.line {
@@ -126,7 +127,7 @@ func TestEachLineLeaves(t *testing.T) {
 	}
 	// who has the vote hears so again when it says so
 	d.step(v, 1, now, func(out []byte) ([]byte, error) { return v.Take([]byte("request 1 0 105"), out) })
-	if got := string(d.out["session-1"]); got != "orders locked 0 1 105 1 107\n" {
+	if got := string(d.out["jobs.session-1"]); got != "orders locked 0 1 105 1 107\n" {
 		t.Errorf("a renewal hears %q", got)
 	}
 }

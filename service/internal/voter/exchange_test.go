@@ -102,13 +102,13 @@ func TestWhichFilesAreFollowed(t *testing.T) {
 
 // of returns a session in use.
 func of(name string, epoch, base, reserved uint64) Session {
-	return Session{Name: name, Epoch: epoch, Base: base, Reserved: reserved, Open: true, Used: true}
+	return Session{Hash: hashed(name), Epoch: epoch, Base: base, Reserved: reserved, Open: true, Used: true}
 }
 
 // A voter that lost its state takes of two sessions the one in use, and begins it above what the
 // other one reserved.
 func TestNewer(t *testing.T) {
-	claim := Session{Name: "c", Epoch: 6, Base: 50, Reserved: 50, Open: true}
+	claim := Session{Hash: hashed("c"), Epoch: 6, Base: 50, Reserved: 50, Open: true}
 	for _, one := range []struct {
 		what       string
 		a, b, want Session
@@ -135,9 +135,9 @@ func TestLearn(t *testing.T) {
 		row  Session
 		want Session
 	}{
-		{"an older session that reserved more", Session{Name: "b", Epoch: 4, Reserved: 300}, of("a", 5, 0, 300)},
-		{"one that is over elsewhere", Session{Name: "x", Epoch: 5, Reserved: 200}, of("a", 5, 0, 300)},
-		{"a newer one that only claimed", Session{Name: "c", Epoch: 6, Base: 250, Reserved: 310, Open: true}, of("a",
+		{"an older session that reserved more", Session{Hash: hashed("b"), Epoch: 4, Reserved: 300}, of("a", 5, 0, 300)},
+		{"one that is over elsewhere", Session{Hash: hashed("x"), Epoch: 5, Reserved: 200}, of("a", 5, 0, 300)},
+		{"a newer one that only claimed", Session{Hash: hashed("c"), Epoch: 6, Base: 250, Reserved: 310, Open: true}, of("a",
 			5, 0, 310)},
 		{"a newer one", of("c", 6, 250, 260), of("c", 6, 310, 310)},
 		{"one that is newer still", of("d", 7, 400, 410), of("d", 7, 400, 410)},
@@ -200,7 +200,7 @@ func TestRetire(t *testing.T) {
 	if d.table.admit(3, "a", 1, now) != taken {
 		t.Error("a session that was ended goes on")
 	}
-	rows, err := json.Marshal(map[int]Session{7: {Name: "c", Epoch: 2, Reserved: 50}})
+	rows, err := json.Marshal(map[int]Session{7: {Hash: hashed("c"), Epoch: 2, Reserved: 50}})
 	if err != nil {
 		t.Fatal(err)
 	}

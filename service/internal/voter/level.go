@@ -9,7 +9,7 @@ import (
 	"calvundek.example/service/internal/level"
 )
 
-// ErrLevel is returned where the cluster is at a level that this program does not know.
+// ErrLevel is returned where other voters are at a level that this program does not know.
 var ErrLevel = errors.New("the cluster is at a level of newer programs")
 
 // level returns the cluster's level, as this voter knows it.
@@ -63,9 +63,12 @@ func (d *Daemon) mayLevel(wanted uint64) error {
 	return nil
 }
 
-// setLevel notes the cluster's level. It is saved before anything leaves.
+// setLevel notes the cluster's level. It is saved before anything leaves, in the format of the level.
 func (d *Daemon) setLevel(now uint64) {
 	d.store.own.Level, d.newOwn = now, true
+	if formatOf(now) >= raisedFormat {
+		d.store.own.Raised = d.store.own.Start
+	}
 	d.log.Write(event.Info, "level", "level", now)
 }
 

@@ -1,6 +1,7 @@
 package voter
 
 import (
+	"encoding/json"
 	"errors"
 	"io"
 	"testing"
@@ -8,6 +9,7 @@ import (
 
 	"calvundek.example/service/internal/event"
 	"calvundek.example/service/internal/level"
+	"go.etcd.io/bbolt"
 )
 
 // A level is raised by one, and only if this program and all sessions know it. A program that does not
@@ -42,8 +44,74 @@ func TestLevels(t *testing.T) {
 	}
 	own, cluster := d.own, d.cluster
 	d.store.db.Close()
-	if _, err := Open(own, cluster, &post{}, event.To(io.Discard)); !errors.Is(err, ErrLevel) {
+	if _, err := Open(own, cluster, &post{}, event.To(io.Discard)); !errors.Is(err, ErrNewer) {
 		t.Errorf("a state of a newer level: %v", err)
+	}
+}
+
+// formatIn returns the format of a voter's file, and the number of its last transaction.
+func formatIn(t *testing.T, d *Daemon) (format, transaction int) {
+	t.Helper()
+	if err := d.store.db.View(func(tx *bbolt.Tx) error {
+		var meta Meta
+		value, err := get(tx, metaBucket, metaBucket)
+		if err != nil {
+			return err
+		}
+		err = json.Unmarshal(value, &meta)
+		format, transaction = meta.Format, tx.ID()
+		return err
+	}); err != nil {
+		t.Fatal(err)
+	}
+	return format, transaction
+}
+
+// A state keeps the older format until the level is raised, also in a program that knows the next one. It changes in the
+// transaction that saves the level. From then on an older program refuses it.
+func TestFormatFollowsTheLevel(t *testing.T) {
+	first, says := alone(t, 10)
+	says("orders request 0 0 1\n")
+	d := reopened(t, first)
+	before, was := formatIn(t, d)
+	if before != firstFormat || d.store.own.Raised != 0 {
+		t.Fatalf("format %d, %+v", before, d.store.own)
+	}
+	d.setLevel(level.Greets)
+	if err := d.save(time.Now()); err != nil {
+		t.Fatal(err)
+	}
+	if after, is := formatIn(t, d); after != raisedFormat || is != was+1 || d.store.meta.Format != raisedFormat {
+		t.Errorf("format %d, and %d transactions", after, is-was)
+	}
+	own, cluster := d.own, d.cluster
+	d.store.db.Close()
+	again, err := Open(own, cluster, &post{}, event.To(io.Discard))
+	switch {
+	case level.Newest < level.Greets && !errors.Is(err, ErrNewer):
+		t.Errorf("an older program: %v", err)
+	case level.Newest >= level.Greets && err != nil:
+		t.Error(err)
+	case err == nil:
+		defer again.store.db.Close()
+		if v := again.votes["orders"]; v == nil || v.held.Stamp != 1 || again.store.own.Raised != d.store.own.Start {
+			t.Errorf("%+v, %+v", v, again.store.own)
+		}
+	}
+}
+
+// Older and newer formats than those that this program reads are refused by name.
+func TestFormatsThatAreRefused(t *testing.T) {
+	d, _ := alone(t, 10)
+	for format, want := range map[int]error{firstFormat - 1: ErrFormat, firstFormat: nil, raisedFormat + 1: ErrNewer} {
+		meta := d.store.meta
+		meta.Format = format
+		if err := d.store.update(d.store.saves, func(b *batch) error { return b.putMeta(meta) }); err != nil {
+			t.Fatal(err)
+		}
+		if err := d.store.db.View((&store{}).read); !errors.Is(err, want) {
+			t.Errorf("format %d: %v", format, err)
+		}
 	}
 }
 

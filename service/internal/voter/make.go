@@ -117,7 +117,7 @@ func newer(a, b Session) Session {
 		a, b = b, a
 	}
 	switch {
-	case a.Epoch == b.Epoch && a.Name == b.Name: // over for one is over
+	case a.Epoch == b.Epoch && a.Hash == b.Hash: // over for one is over
 		b.Open, b.Dropped = a.Open && b.Open, a.Dropped && b.Dropped
 		b.Base = greatest(a.Base, b.Base)
 	case a.Epoch == b.Epoch && a.Used == b.Used:

@@ -16,10 +16,11 @@ import (
 
 // metrics are a voter's numbers for Prometheus.
 type metrics struct {
-	registry                                                                               *prometheus.Registry
-	received, foreign, refused, unsent, reminders, expired, grants, spent, full, forgotten prometheus.Counter
-	commit, batch                                                                          prometheus.Histogram
-	locks, busy, held, sessions, numbers, plan, left                                       prometheus.Gauge
+	registry                                                                         *prometheus.Registry
+	received, foreign, refused, unsent, reminders, expired, grants, spent, forgotten prometheus.Counter
+	full, fullUser                                                                   prometheus.Counter
+	commit, batch                                                                    prometheus.Histogram
+	locks, busy, held, userLocks, sessions, numbers, plan, left                      prometheus.Gauge
 
 	lasting, waiting oldest // of the grants that last, and of the requests that wait
 	most             uint64 // the highest number of a grant that was noted
@@ -68,12 +69,14 @@ func newMetrics() *metrics {
 	m.grants = m.counter("grants_total", "Grants given.")
 	m.spent = m.counter("grants_spent_total", "Messages that needed a grant of a lock which has none left.")
 	m.full = m.counter("requests_full_total", "Requests for locks for which there was no room (max_locks).")
+	m.fullUser = m.counter("requests_full_user_total", "Requests for locks beyond what their user may have (max_locks_user).")
 	m.forgotten = m.counter("locks_forgotten_total", "Locks that were forgotten, as nobody used them.")
 	m.commit = m.histogram("commit_seconds", "Time of one save.", prometheus.ExponentialBuckets(0.0002, 2, 14))
 	m.batch = m.histogram("commit_votes", "Votes of one save.", prometheus.ExponentialBuckets(1, 2, 12))
 	m.locks = m.gauge("locks", "Locks that this voter knows.")
 	m.busy = m.gauge("locks_busy", "Locks that somebody has or waits for.")
 	m.held = m.gauge("locks_held", "Locks whose vote somebody has.")
+	m.userLocks = m.gauge("user_locks", "Locks that one user has or waits for: those of the user who has most.")
 	m.sessions = m.gauge("sessions", "Sessions that are open.")
 	m.numbers = m.gauge("numbers_free", "Client numbers that are free, or whose session was silent for the TTL.")
 	m.plan = m.gauge("plan", "How often the plan was exchanged.")
@@ -104,6 +107,8 @@ func (d *Daemon) watch() {
 	d.m.registry.MustRegister(info)
 	most := float64(d.own.MaxLocks)
 	d.m.read("locks_most", "Locks that this voter may know (max_locks).", func() float64 { return most })
+	ofUser := float64(d.own.LocksOfUser())
+	d.m.read("user_locks_most", "Locks that one user may have or wait for (max_locks_user).", func() float64 { return ofUser })
 	if own, is := link.(interface{ CertificateEnd() time.Time }); is && !own.CertificateEnd().IsZero() {
 		d.m.read("certificate_end_timestamp_seconds",
 			"When the certificate in this voter's files ends, in seconds since 1970.",
@@ -178,6 +183,13 @@ func (d *Daemon) measure(now time.Time) {
 			free++
 		}
 	}
+	ofUser := 0
+	for _, u := range d.users {
+		if u.votes > ofUser {
+			ofUser = u.votes
+		}
+	}
+	d.m.userLocks.Set(float64(ofUser))
 	d.m.lasting.note(lasting, now)
 	d.m.waiting.note(waiting, now)
 	d.m.busy.Set(float64(len(d.busy)))

@@ -27,7 +27,7 @@ func TestNumbersOfAVoter(t *testing.T) {
 	if err := cluster.Check(); err != nil {
 		t.Fatal(err)
 	}
-	own := &config.Voter{Voter: "a", Data: filepath.Join(t.TempDir(), "a"), MaxLocks: 77}
+	own := &config.Voter{Voter: "a", Data: filepath.Join(t.TempDir(), "a"), MaxLocks: 77, MaxLocksUser: 7}
 	if _, err := Init(own, cluster); err != nil {
 		t.Fatal(err)
 	}
@@ -54,13 +54,13 @@ func TestNumbersOfAVoter(t *testing.T) {
 	page := httptest.NewRecorder()
 	d.Handler().ServeHTTP(page, httptest.NewRequest("GET", "/metrics", nil))
 	for _, line := range []string{"qlock_voter_queue_messages 3", "qlock_voter_messages_dropped_total 2",
-		"qlock_voter_locks_most 77", "qlock_voter_numbers_free 64",
+		"qlock_voter_locks_most 77", "qlock_voter_user_locks_most 7", "qlock_voter_user_locks 0", "qlock_voter_numbers_free 64",
 		"qlock_voter_plan 0", "qlock_voter_file_bytes ", "qlock_voter_build_info{", "go_goroutines ",
 		"process_open_fds ", "qlock_voter_certificate_end_timestamp_seconds 1.9e+09",
 		"qlock_voter_grants_left 99",
 		"qlock_voter_held_oldest_seconds 3600.", "qlock_voter_waiting_oldest_seconds 0",
 		fmt.Sprintf("qlock_voter_locks_busy %d", d.status(time.Now()).Busy), "qlock_voter_locks_held 1",
-		"qlock_voter_requests_full_total 0", "qlock_voter_broker_reconnects_total 0"} {
+		"qlock_voter_requests_full_total 0", "qlock_voter_requests_full_user_total 0", "qlock_voter_broker_reconnects_total 0"} {
 		if !strings.Contains(page.Body.String(), "\n"+line) {
 			t.Errorf("there is no %q", line)
 		}

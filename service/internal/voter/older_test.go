@@ -172,6 +172,77 @@ func TestUnrenewedGrant(t *testing.T) {
 	}
 }
 
+// lives sends heartbeats of a session until the test or the session ends.
+func (v caller) lives() (end func()) {
+	ctx, cancel := context.WithCancel(context.Background())
+	v.Cleanup(cancel)
+	go func() {
+		for ctx.Err() == nil {
+			v.send(". open 0\n")
+			time.Sleep(100 * time.Millisecond)
+		}
+	}()
+	return cancel
+}
+
+// After the quiet time a vote stays quiet while one waits who said that he is inside: until he gets it, gives up, ends, or
+// is silent for a TTL. Requests with smaller stamps are not taken either.
+func TestVoteStaysQuiet(t *testing.T) {
+	w := worlds.New(t, worlds.Majority, time.Second)
+	locks := []struct {
+		name   string
+		waiter int
+	}{{"gets", 1}, {"leaves", 1}, {"closes", 2}, {"dies", 3}}
+	var callers [5]caller
+	var ends [5]func()
+	for number := range callers {
+		callers[number] = newCaller(t, w, number, fmt.Sprint("s", number))
+		if !callers[number].says(fmt.Sprintf(". claim %d 1 50\n", number), "claimed") {
+			t.Fatal("no session")
+		}
+		ends[number] = callers[number].lives()
+	}
+	one, two, other := callers[0], callers[1], callers[4]
+	w.Kill(0)
+	w.Start(0)
+	for i, lock := range locks {
+		if !one.says(fmt.Sprintf("%s request 0 0 %d inside\n", lock.name, 1+i), lock.name+" locked") {
+			t.Fatal(lock.name)
+		}
+		waits := fmt.Sprintf("%s request %d 0 %d inside\n", lock.name, lock.waiter, 11+i)
+		if !callers[lock.waiter].says(waits, lock.name+" fail ") {
+			t.Fatal(lock.name)
+		}
+	}
+	if !other.says("free request 4 0 9\n", "free locked") {
+		t.Fatal("it stays quiet for all")
+	}
+	for i, lock := range locks {
+		if !other.says(fmt.Sprintf("%s request 4 0 %d\n", lock.name, 1+i), ". quiet ") {
+			t.Errorf("%s: it is not quiet", lock.name)
+		}
+	}
+	one.send("gets release 0 0 1\n")
+	two.send("leaves release 1 0 12\n")
+	callers[2].send(". close\n")
+	ends[3]()
+	if !two.says("gets request 1 0 11 inside\n", "gets locked") {
+		t.Error("another one gets the vote of who is inside")
+	}
+	for i, lock := range locks[1:] {
+		if !other.says(fmt.Sprintf("%s request 4 0 %d\n", lock.name, 2+i), lock.name+" fail ") {
+			t.Errorf("%s: it stays quiet", lock.name)
+		}
+	}
+	two.send("gets release 1 0 11\n")
+	for i, lock := range locks {
+		one.send(fmt.Sprintf("%s release 0 0 %d\n", lock.name, 1+i))
+		if !other.says(fmt.Sprintf("%s request 4 0 %d\n", lock.name, 1+i), lock.name+" locked") {
+			t.Errorf("%s: the vote is not to be had", lock.name)
+		}
+	}
+}
+
 // A voter that ended cleanly serves at once.
 func TestCleanEnd(t *testing.T) {
 	w := worlds.New(t, worlds.Majority, 30*time.Second)

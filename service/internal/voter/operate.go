@@ -7,7 +7,6 @@ import (
 	"strings"
 	"time"
 
-	"calvundek.example/service/internal/config"
 	"calvundek.example/service/internal/event"
 	"calvundek.example/service/internal/wire"
 	"calvundek.example/service/qlock"
@@ -42,7 +41,7 @@ type Status struct {
 	Dropped  int           `json:"dropped,omitempty"` // votes for which the reply has no room
 }
 
-// SessionView is what an operator sees of an open session. Its name is a secret, so a hash of it is shown.
+// SessionView is what an operator sees of an open session. Its name is a secret, so its user and a hash of it are shown.
 type SessionView struct {
 	Number   int     `json:"number"`
 	Epoch    uint64  `json:"epoch"`
@@ -212,7 +211,7 @@ func (d *Daemon) status(now time.Time) Status {
 		Planned: Planned{d.plans.Number, d.plans.oldest(), d.plans.Settled}, Sessions: []SessionView{}, Votes: []VoteView{}}
 	for number, row := range d.table.rows {
 		if row.Open {
-			s.Sessions = append(s.Sessions, SessionView{number, row.Epoch, row.Reserved, config.Hash(row.Name),
+			s.Sessions = append(s.Sessions, SessionView{number, row.Epoch, row.Reserved, row.Hash,
 				d.table.silent(number).Seconds(), d.requests[number]})
 		}
 	}

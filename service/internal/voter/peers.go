@@ -25,7 +25,7 @@ import (
 //     its ceiling, and asks them to keep it. If they with it contain a quorum, it takes lines. The
 //     rest are told until they answer.
 //  3. Unless it is new, or somebody knows that it ended cleanly with just these saves, it is quiet
-//     for a TTL.
+//     for a TTL. A vote stays quiet while one waits for it who said then that he is inside.
 //  4. Before half of what is left below the ceiling is used, it asks for the next one.
 //
 // A new voter, which never served, needs more answers: the silent ones and it may contain no quorum.
@@ -45,6 +45,7 @@ const (
 	mostPatience = 10 * time.Second       // after which a quorum of answers is enough
 	firstCeiling = uint64(1) << 16        // how many grants a voter may give above what is known
 	mostCeiling  = uint64(1) << 24        // each block is twice the one before, up to this
+	stillQuiet   = 250 * time.Millisecond // for which others are asked while one who said that he is inside waits for a vote
 )
 
 // Peer is what a voter keeps of the voter of a place, for good.

@@ -25,7 +25,7 @@ type content struct {
 // aState makes a state with votes and sessions, and returns its folder and its owner.
 func aState(t *testing.T, votes int) (folder string, meta Meta) {
 	t.Helper()
-	folder, meta = filepath.Join(t.TempDir(), "a"), Meta{Format: format, Cluster: "test", Identity: "identity"}
+	folder, meta = filepath.Join(t.TempDir(), "a"), Meta{Format: firstFormat, Cluster: "test", Identity: "identity"}
 	if err := Create(folder, meta, Generations{Now: texts(t, two)}, Knows{}, 0); err != nil {
 		t.Fatal(err)
 	}
@@ -65,7 +65,7 @@ func read(folder string, meta Meta) (content, error) {
 func contentOf(s *store) (content, error) {
 	c := content{meta: s.meta, saves: s.saves, votes: map[string]string{}, rows: map[int]Session{}, peers: map[int]Peer{}}
 	err := s.load(func(name string, state []byte) error { c.votes[name] = string(state); return nil },
-		func(number int, row Session) error { c.rows[number] = row; return nil },
+		func(number int, row Session, _ bool) error { c.rows[number] = row; return nil },
 		func(place int, p Peer) { c.peers[place] = p })
 	return c, err
 }

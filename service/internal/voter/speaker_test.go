@@ -80,8 +80,7 @@ func TestVoterSpeaksAsItself(t *testing.T) {
 	}
 }
 
-// Who may only look evicts nobody, and sees no name of a session. A voter sees what the others know. The log says who
-// evicted.
+// Who may only look evicts nobody. A voter sees what the others know. The log says who evicted.
 func TestWhoMayWrite(t *testing.T) {
 	var log bytes.Buffer
 	for _, one := range []struct {
@@ -98,8 +97,8 @@ func TestWhoMayWrite(t *testing.T) {
 		{"99", "knows", false, ""},
 		{"01", "knows", false, ""},
 		{"1", "evict 2", false, `"error"`},
-		{"1", "knows", false, `"name":"jobs.s2"`},
-		{"alice", "sessions", true, `"name":"jobs.s2"`},
+		{"1", "knows", false, fmt.Sprintf(`"hash":%q`, hashed("jobs.s2"))},
+		{"alice", "sessions", true, fmt.Sprintf(`"hash":%q`, hashed("jobs.s2"))},
 		{"alice", "evict 2", true, `{"let_go":0}`},
 	} {
 		d := reader()

@@ -33,6 +33,7 @@ type own struct {
 	Start   uint64 `json:"start"`
 	Ceiling uint64 `json:"ceiling"`           // that was asked for last, 0 before it served for the first time
 	Level   uint64 `json:"level,omitempty"`   // the cluster's
+	Raised  uint64 `json:"raised,omitempty"`  // the start in which the level was raised last, from raisedFormat on
 	Refused string `json:"refused,omitempty"` // why another voter refused it, and it never starts again
 	IsPlace bool   `json:"place,omitempty"`   // since another voter has its place
 }
@@ -187,6 +188,38 @@ func (d *Daemon) quiet(now time.Time) time.Duration {
 		return 0
 	}
 	return d.quietUntil.Sub(now)
+}
+
+// quietOf returns for how long only those inside get the vote of a lock, if there is one. It stays quiet while one waits who
+// said in the quiet time that he is inside.
+func (d *Daemon) quietOf(v *vote, now time.Time) time.Duration {
+	left := d.quiet(now)
+	if v != nil && len(v.insiders) > 0 && left < stillQuiet {
+		left = stillQuiet
+	}
+	return left
+}
+
+// noteInside notes that a client said that he is inside by a request.
+func (d *Daemon) noteInside(v *vote, said wire.Line, now time.Time) {
+	switch {
+	case v.held.Client == uint64(said.From) && v.held.Stamp == said.Stamp:
+		v.isOld = false // whoever has it is there
+	case v.asks[said.From].stamp == said.Stamp && d.quietOf(v, now) > 0:
+		if v.insiders == nil {
+			v.insiders = map[int]uint64{}
+		}
+		v.insiders[said.From] = said.Stamp
+	}
+}
+
+// endInside forgets those who said that they are inside, and whose session is over.
+func (d *Daemon) endInside(v *vote) {
+	for client, stamp := range v.insiders {
+		if d.isOver(qlock.Grant{Client: uint64(client), Stamp: stamp}) {
+			delete(v.insiders, client)
+		}
+	}
 }
 
 // write puts a word to another voter with what leaves after the next save.

@@ -1,6 +1,7 @@
 package voter
 
 import (
+	"bytes"
 	"encoding/json"
 	"errors"
 	"fmt"
@@ -8,7 +9,6 @@ import (
 	"path/filepath"
 	"time"
 
-	"calvundek.example/service/internal/level"
 	"calvundek.example/service/qlock"
 	"go.etcd.io/bbolt"
 )
@@ -19,17 +19,15 @@ var (
 	ErrMissing = errors.New("there is no state; a new voter needs `qlock-voter init`, one whose state is lost must not be made as if it were new")
 	ErrOther   = errors.New("the state is another voter's")
 	ErrInUse   = errors.New("the state is in use by another process")
-	ErrFormat  = errors.New("the state is of another version of this program")
+	ErrFormat  = errors.New("the state is of an older version of this program")
+	ErrNewer   = errors.New("the state was made by a newer program")
 	ErrDamaged = errors.New("the state is damaged; it forgot what it granted")
 )
-
-// format is the version of the file. Version 1 had checksums of votes alone.
-const format = 2
 
 // lockTimeout is how long a file may be in use by another process.
 const lockTimeout = time.Second
 
-// Meta says whose state a file is. It is written once.
+// Meta says whose state a file is. Only its format ever changes.
 type Meta struct {
 	Format   int       `json:"format"`
 	Cluster  string    `json:"cluster"`
@@ -103,11 +101,7 @@ func write(path string, meta Meta, plans Generations, known Knows, ceiling uint6
 				return err
 			}
 		}
-		value, err := json.Marshal(meta)
-		if err != nil {
-			return err
-		}
-		if err := b.put(metaBucket, metaBucket, value); err != nil {
+		if err := b.putMeta(meta); err != nil {
 			return err
 		}
 		if err := b.putOwn(own{Ceiling: ceiling}); err != nil {
@@ -199,9 +193,6 @@ func (s *store) begin(folder string, want Meta) error {
 	if err := s.own.refusal(); err != nil {
 		return err
 	}
-	if s.own.level() > level.Newest {
-		return fmt.Errorf("%w: %d, and this one knows levels up to %d", ErrLevel, s.own.level(), level.Newest)
-	}
 	if err := s.db.View(check); err != nil {
 		return err
 	}
@@ -233,7 +224,7 @@ func isOldFormat(tx *bbolt.Tx) bool {
 // read reads whose state it is, and what there is but votes and sessions.
 func (s *store) read(tx *bbolt.Tx) (err error) {
 	if isOldFormat(tx) {
-		return fmt.Errorf("%w: it has format 1, and this one has format %d", ErrFormat, format)
+		return fmt.Errorf("%w: it has format 1, which `qlock-voter upgrade` takes over", ErrFormat)
 	}
 	var meta, plans, own []byte
 	for _, one := range []struct {
@@ -247,15 +238,16 @@ func (s *store) read(tx *bbolt.Tx) (err error) {
 	if json.Unmarshal(meta, &s.meta) != nil || json.Unmarshal(plans, &s.plans) != nil || json.Unmarshal(own, &s.own) != nil {
 		return fmt.Errorf("%w: it does not say whose it is", ErrDamaged)
 	}
-	if s.meta.Format != format {
-		return fmt.Errorf("%w: it has format %d, and this one has format %d", ErrFormat, s.meta.Format, format)
+	if err := s.checkFormat(); err != nil {
+		return err
 	}
 	s.saves, s.tally, err = counts(tx)
 	return err
 }
 
-// load hands each vote, each session and what is known of each place to a function.
-func (s *store) load(vote func(name string, state []byte) error, session func(number int, row Session) error,
+// load hands each vote, each session and what is known of each place to a function. A session is old if it would be saved
+// in another form.
+func (s *store) load(vote func(name string, state []byte) error, session func(number int, row Session, isOld bool) error,
 	peer func(place int, p Peer)) error {
 	return s.db.View(func(tx *bbolt.Tx) error {
 		err := each(tx, voteBucket, func(key, value []byte) error {
@@ -273,7 +265,11 @@ func (s *store) load(vote func(name string, state []byte) error, session func(nu
 			if err := json.Unmarshal(value, &row); err != nil || len(key) != 1 || key[0] >= qlock.MaxClients {
 				return fmt.Errorf("session %x: %w", key, ErrDamaged)
 			}
-			return session(int(key[0]), row)
+			again, err := json.Marshal(row)
+			if err != nil {
+				return err
+			}
+			return session(int(key[0]), row, !bytes.Equal(again, value))
 		})
 		if err != nil {
 			return err
@@ -299,9 +295,11 @@ type changes struct {
 	own      *own
 }
 
-// save saves what changed in one transaction, and counts it. When it returns nil all is on the disk.
+// save saves what changed in one transaction, and counts it. When it returns nil all is on the disk. With a new level the
+// format changes, too.
 func (s *store) save(c changes) error {
-	return s.update(s.saves+1, func(b *batch) error {
+	meta := s.meta
+	err := s.update(s.saves+1, func(b *batch) error {
 		for v := range c.votes {
 			if err := b.put(voteBucket, []byte(v.name), pack(v.State())); err != nil {
 				return err
@@ -321,12 +319,21 @@ func (s *store) save(c changes) error {
 			if err := b.putOwn(*c.own); err != nil {
 				return err
 			}
+			if meta.Format = formatOf(c.own.level()); meta.Format != s.meta.Format {
+				if err := b.putMeta(meta); err != nil {
+					return err
+				}
+			}
 		}
 		if err := b.putPeers(c.peers); err != nil {
 			return err
 		}
 		return b.putSessions(c.sessions)
 	})
+	if err == nil && meta.Format != s.meta.Format {
+		s.meta.Format = meta.Format // the rest of it is read outside of the loop, too
+	}
+	return err
 }
 
 // update writes rows in one transaction, and with them how often the state was saved.

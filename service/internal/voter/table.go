@@ -1,14 +1,19 @@
 package voter
 
 import (
+	"crypto/sha256"
+	"encoding/hex"
+	"encoding/json"
+	"strings"
 	"time"
 
+	"calvundek.example/service/internal/wire"
 	"calvundek.example/service/qlock"
 )
 
-// Session is what a voter keeps of a client's number.
+// Session is what a voter keeps of a client's number. Others see it, too.
 type Session struct {
-	Name     string `json:"name"`              // the session's user, and its name, which is its secret
+	Hash     string `json:"hash,omitempty"`    // the session's user, and a hash of its name, which is its secret
 	Epoch    uint64 `json:"epoch"`             // grows with each session of the number
 	Base     uint64 `json:"base"`              // all stamps of the session are above it
 	Reserved uint64 `json:"reserved"`          // no stamp of the number so far is above it
@@ -16,6 +21,29 @@ type Session struct {
 	Used     bool   `json:"used"`              // messages of it came, so a quorum accepted it
 	Dropped  bool   `json:"dropped,omitempty"` // it took its claim back, so another session may claim the epoch
 	Lapses   uint64 `json:"lapses,omitempty"`  // how often this voter let a grant of it go, as it was silent
+}
+
+// UnmarshalJSON reads a row. An older one has the session's name, and here its hash.
+func (s *Session) UnmarshalJSON(text []byte) error {
+	type row Session // it has no such method
+	var read struct {
+		row
+		Name string `json:"name"`
+	}
+	if err := json.Unmarshal(text, &read); err != nil {
+		return err
+	}
+	if *s = Session(read.row); s.Hash == "" && read.Name != "" {
+		s.Hash = hashed(read.Name)
+	}
+	return nil
+}
+
+// hashed returns what a voter keeps and shows of a session: its user, and a part of the SHA-256 of its name.
+func hashed(session string) string {
+	user, name, _ := strings.Cut(session, ".")
+	sum := sha256.Sum256([]byte(name))
+	return wire.SessionName(user, hex.EncodeToString(sum[:16]))
 }
 
 // The bounds of what a claim or a header may name. A session of a number that was idle follows the
@@ -35,6 +63,7 @@ const (
 type table struct {
 	ttl     time.Duration
 	rows    [qlock.MaxClients]Session
+	names   [qlock.MaxClients]string    // of the sessions of these rows that were heard in this run; nothing can be sent to others
 	heard   [qlock.MaxClients]time.Time // on the lease clock
 	clock   leaseClock
 	changed map[int]Session // to be saved before anything leaves
@@ -93,12 +122,25 @@ func (t *table) lapse(number int) {
 
 // lapses returns the count of a session, 0 if it has no number here.
 func (t *table) lapses(name string) uint64 {
+	hash := "" // once a row needs it
 	for i := range t.rows {
-		if row := &t.rows[i]; row.Open && row.Name == name {
+		row := &t.rows[i]
+		if t.names[i] == "" && hash == "" {
+			hash = hashed(name)
+		}
+		if row.Open && (t.names[i] == name || t.names[i] == "" && row.Hash == hash) {
 			return row.Lapses
 		}
 	}
 	return 0
+}
+
+// isOf returns whether a number's row is that of a session.
+func (t *table) isOf(number int, name string) bool {
+	if t.names[number] != "" {
+		return t.names[number] == name
+	}
+	return t.rows[number].Hash == hashed(name)
 }
 
 // isEarlier returns whether a stamp of a number is that of an earlier session than the one that it
@@ -118,6 +160,9 @@ func (t *table) state(number int) int {
 
 // put changes a row. It is saved before anything leaves.
 func (t *table) put(number int, row Session) {
+	if row.Hash != t.rows[number].Hash {
+		t.names[number] = ""
+	}
 	t.rows[number] = row
 	t.changed[number] = row
 	delete(t.later, number)
@@ -159,7 +204,7 @@ func (t *table) judge(number int, name string, epoch uint64) verdict {
 	switch {
 	case epoch > row.Epoch || epoch == row.Epoch && row.Dropped:
 		return unknown
-	case epoch < row.Epoch || name != row.Name || !row.Open:
+	case epoch < row.Epoch || !row.Open || !t.isOf(number, name):
 		return taken
 	}
 	return known
@@ -172,6 +217,7 @@ func (t *table) admit(number int, name string, epoch uint64, now time.Time) verd
 		return judged
 	}
 	t.hear(number, now)
+	t.names[number] = name
 	if row := t.rows[number]; !row.Used {
 		row.Used = true
 		t.note(number, row)
@@ -218,7 +264,8 @@ func (t *table) claim(number int, name string, epoch, stamps uint64, now time.Ti
 		return false
 	}
 	t.epochs[number].spend(growth)
-	t.put(number, Session{Name: name, Epoch: epoch, Base: row.Reserved, Reserved: row.Reserved, Open: true})
+	t.put(number, Session{Hash: hashed(name), Epoch: epoch, Base: row.Reserved, Reserved: row.Reserved, Open: true})
+	t.names[number] = name
 	t.hear(number, now)
 	t.reserve(number, row.Reserved+smallest(stamps, mostClaimed), now)
 	return true
@@ -227,7 +274,7 @@ func (t *table) claim(number int, name string, epoch, stamps uint64, now time.Ti
 // drop frees a number that was claimed here, and that the claimer did not get from a quorum. It
 // claims this epoch never again.
 func (t *table) drop(number int, name string, epoch uint64) {
-	if row := t.rows[number]; row.Epoch == epoch && row.Name == name && row.Open && !row.Used {
+	if row := t.rows[number]; row.Epoch == epoch && row.Open && !row.Used && t.isOf(number, name) {
 		row.Open, row.Dropped = false, true
 		t.put(number, row)
 	}
@@ -247,7 +294,7 @@ func (t *table) end(number int) {
 func (t *table) learn(number int, row Session, now time.Time) bool {
 	own := t.rows[number]
 	newer := row.Epoch > own.Epoch && (row.Used || !own.Used)
-	if row.Epoch == own.Epoch && row.Name != own.Name && row.Used && own.Used {
+	if row.Epoch == own.Epoch && row.Hash != own.Hash && row.Used && own.Used {
 		row, newer = Session{Epoch: row.Epoch, Base: row.Reserved, Reserved: row.Reserved, Used: true}, true // nobody's
 	}
 	before := own

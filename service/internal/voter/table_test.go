@@ -62,7 +62,7 @@ func TestClaims(t *testing.T) {
 		{"the old session", admits(table, 3, "a", 1, 0, later) == taken, true},
 		{"what it reserved is kept", row().Base == 100 && row().Reserved == 100, true},
 		{"a later session that did not claim here", admits(table, 3, "c", 4, 500, later) == unknown, true},
-		{"it takes nothing over", row().Name == "b" && row().Reserved == 100, true},
+		{"it takes nothing over", row().Hash == hashed("b") && row().Reserved == 100, true},
 		{"a claim far above the epoch", claimAt(table, 5, "x", 1<<20+1, now), false},
 		{"one that is not", claimAt(table, 5, "x", 1<<18, now), true},
 	} {

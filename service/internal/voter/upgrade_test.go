@@ -33,7 +33,7 @@ func TestUpgrade(t *testing.T) {
 	if err != nil {
 		t.Fatal(err)
 	}
-	row, _ := json.Marshal(Session{Name: "old", Epoch: 7, Base: 100, Reserved: 9000, Open: true, Used: true})
+	row := []byte(`{"name":"old","epoch":7,"base":100,"reserved":9000,"open":true,"used":true}`)
 	plans, _ := json.Marshal(NewGenerations(cluster))
 	if err := db.Update(func(tx *bbolt.Tx) error {
 		for _, name := range []string{"meta", "votes", "sessions"} {

@@ -11,6 +11,7 @@ import (
 type ask struct {
 	stamp uint64
 	since time.Time
+	user  string // whose it is, "" if it is of an earlier session of its number
 }
 
 // vote is the vote for one lock, and beside the proved voter what the loop looks at often.
@@ -18,13 +19,16 @@ type vote struct {
 	*qlock.Voter
 	name  string
 	held  qlock.Grant
-	since time.Time    // when it was granted
-	asks  map[int]ask  // by client: who has it, and who waits
-	timer remind.Timer // for the reminder of whoever has it
+	since time.Time      // when it was granted
+	asks  map[int]ask    // by client: who has it, and who waits
+	users map[string]int // how many of these are a user's
+	timer remind.Timer   // for the reminder of whoever has it
 
 	limit   uint64 // how many grants it may give
 	isOld   bool   // its grant is from before the start, and nobody said that he is inside by it
 	isSpent bool   // it was logged that all grants are given
+
+	insiders map[int]uint64 // by client: the stamp by which he said in the quiet time that he is inside, and waits
 
 	isRaised  bool      // it goes on above another number since it was saved
 	heard     time.Time // when a line of the lock came
@@ -89,18 +93,22 @@ func (d *Daemon) noteAsk(v *vote, client int, now time.Time) error {
 	}
 	if asked {
 		d.count(client, before, -1)
+		d.countUser(v, before.user, -1)
 		delete(v.asks, client)
+		delete(v.insiders, client)
 	}
 	if known.Stamp > 0 {
 		if v.asks == nil {
 			v.asks = map[int]ask{}
 		}
-		v.asks[client] = ask{known.Stamp, now}
-		d.count(client, v.asks[client], 1)
+		one := ask{known.Stamp, now, d.asker(client, known.Stamp)}
+		v.asks[client] = one
+		d.count(client, one, 1)
+		d.countUser(v, one.user, 1)
 		v.timer.Sooner(now)
 	}
 	if len(v.asks) == 0 {
-		v.asks = nil
+		v.asks, v.users = nil, nil
 		delete(d.busy, v)
 		d.rest(v, now)
 	} else {
@@ -137,6 +145,7 @@ func (d *Daemon) noteGrant(v *vote, now time.Time) error {
 		v.held, v.since = held, now
 		if held.Number > 0 {
 			v.highest = greatest(v.highest, held.Number)
+			delete(v.insiders, int(held.Client))
 			d.m.grants.Inc()
 			d.granted++
 			d.m.left.Set(float64(d.ceiling) - float64(d.m.highest(held.Number)))

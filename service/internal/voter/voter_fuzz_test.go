@@ -218,7 +218,7 @@ func FuzzMessage(f *testing.F) {
 		}
 		for number, row := range d.table.rows {
 			mustGrow(t, rows[number], row, number)
-			if rows[number].Open && row != rows[number] && (!ours || wire.SessionName(wire.NoUser, h.Name) != rows[number].Name) {
+			if rows[number].Open && row != rows[number] && (!ours || hashed(wire.SessionName(wire.NoUser, h.Name)) != rows[number].Hash) {
 				t.Fatalf("%q changes the session of number %d from %+v to %+v", h.Name, number, rows[number], row)
 			}
 		}
@@ -288,9 +288,35 @@ func FuzzSessions(f *testing.F) {
 						d.table.rows[v.held.Client].Reserved)
 				}
 			}
+			mustCount(t, d)
 			d.out = map[string][]byte{}
 		}
 	})
+}
+
+// mustCount fails unless each user is counted to have the votes that its sessions have or wait for.
+func mustCount(t *testing.T, d *Daemon) {
+	t.Helper()
+	votes := map[string]int{}
+	for _, v := range d.votes {
+		asks := map[string]int{}
+		for _, one := range v.asks {
+			asks[one.user]++
+		}
+		for user, count := range asks {
+			if votes[user]++; v.users[user] != count {
+				t.Fatalf("%s: %v, of %v", v.name, v.users, v.asks)
+			}
+		}
+		if len(v.users) != len(asks) {
+			t.Fatalf("%s: %v, of %v", v.name, v.users, v.asks)
+		}
+	}
+	for user, u := range d.users {
+		if u.votes != votes[user] || len(d.users) != len(votes) {
+			t.Fatalf("%q has %d votes, and is counted to have %d", user, votes[user], u.votes)
+		}
+	}
 }
 
 // noteReply notes who is told to have an epoch of a number, and who gets a grant for a stamp of it.
@@ -440,11 +466,11 @@ func rowsOf(f *testing.F, db *bbolt.DB) (places [][3][]byte) {
 // stamp as high as any of them; of each place the last run, and the highest ceiling.
 func FuzzMerge(f *testing.F) {
 	one := Knows{Peers: map[int]Peer{2: {Identity: "v", Run: 1, Start: 4, Ceiling: 900}}, Sessions: map[int]Session{
-		3:  {Name: "x", Epoch: 4, Base: 9, Reserved: 100, Open: true, Used: true},
+		3:  {Hash: "x", Epoch: 4, Base: 9, Reserved: 100, Open: true, Used: true},
 		63: {Epoch: 1, Reserved: 7}}}
 	first, _ := json.Marshal(one)
 	second, _ := json.Marshal(Knows{Peers: map[int]Peer{2: {Identity: "w", Ceiling: 950}}, Sessions: map[int]Session{
-		3: {Name: "y", Epoch: 4, Base: 9, Reserved: 50, Open: true}}})
+		3: {Hash: "y", Epoch: 4, Base: 9, Reserved: 50, Open: true}}})
 	f.Add(first, second)
 	f.Add(first, []byte("{}"))
 	f.Add([]byte("{\"error\":\"no\"}"), second)

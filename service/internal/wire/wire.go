@@ -23,13 +23,13 @@
 //	close         closed N EPOCH
 //
 // A voter also sends "gone LOCK STAMP" when it let a request go, "full LOCK STAMP" if it has no
-// room for the lock of a REQUEST, "taken N EPOCH" to a session that is over, and "unknown N EPOCH"
+// room for the lock of a REQUEST, or for another one of its user, "taken N EPOCH" to a session that is over, and "unknown N EPOCH"
 // to one that has to claim its number there. It takes no other line of these two. A REQUEST's stamp
 // is above BASE and at most RESERVED, and no line of a lock has one above RESERVED.
 //
 // A client that is inside has the word "inside" behind its REQUEST. A voter that starts, and may not
 // know whom it granted its votes, is quiet for a TTL: it takes no REQUEST but of who is inside, and
-// says "quiet MS" to others.
+// says "quiet MS" to others. A vote stays quiet while one waits for it who said then that he is inside.
 //
 // Voters speak to one another in mailboxes of their own, a line of JSON behind the header (package
 // voter, peers.go).
@@ -308,7 +308,7 @@ func IsVoter(word string) bool {
 	return number >= 0 && number < 64 && fmt.Sprint(number) == word
 }
 
-// IsRead returns whether what is asked changes nothing, and shows no name of a session to who is no voter.
+// IsRead returns whether what is asked changes nothing, and shows nothing of sessions that only voters need.
 func IsRead(from, words string) bool {
 	switch word, _, _ := strings.Cut(words, " "); word {
 	case "status", "lock":

@@ -1,0 +1,127 @@
+package voter
+
+import (
+	"bytes"
+	"encoding/json"
+	"io"
+	"os"
+	"strings"
+	"testing"
+	"time"
+
+	"calvundek.example/service/internal/event"
+	"calvundek.example/service/internal/wire"
+	"go.etcd.io/bbolt"
+)
+
+// reopened returns a voter that starts again from the state of one that was killed, and is not quiet.
+func reopened(t *testing.T, d *Daemon) *Daemon {
+	t.Helper()
+	d.store.db.Close()
+	again, err := Open(d.own, d.cluster, &post{}, event.To(io.Discard))
+	if err != nil {
+		t.Fatal(err)
+	}
+	t.Cleanup(func() { again.store.db.Close() })
+	again.start(time.Now())
+	again.quietUntil = time.Time{}
+	return again
+}
+
+// A session's name is said to nobody, and is not stored. Its hash is, and nobody speaks by it.
+func TestNameOfASessionIsSecret(t *testing.T) {
+	d, _ := alone(t, 10)
+	d.repliesTo("jobs", 1, ". claim 1 1 100\n")
+	const name = "session-1"
+	hash := hashed("jobs." + name)
+	d.meet(wire.Header{Number: 1, Name: "other", Start: 1}, word{Word: "start", Process: "other"})
+	letter, err := json.Marshal(d.letters[0].word)
+	if err != nil {
+		t.Fatal(err)
+	}
+	seen := map[string][]byte{"another voter": letter}
+	for _, question := range []string{"status", "sessions", "knows"} {
+		seen[question] = written(d.obey([]string{question}, "alice", time.Now()))
+	}
+	if err := d.save(time.Now()); err != nil {
+		t.Fatal(err)
+	}
+	if seen["the file"], err = os.ReadFile(file(d.own.Data)); err != nil {
+		t.Fatal(err)
+	}
+	for who, text := range seen {
+		if bytes.Contains(text, []byte(name)) || !bytes.Contains(text, []byte(hash)) {
+			t.Errorf("%s does not see the hash alone", who)
+		}
+	}
+	_, by, _ := strings.Cut(hash, ".")
+	for _, one := range []*Daemon{d, reopened(t, d)} {
+		if one.table.judge(1, wire.SessionName("jobs", by), 1) != taken || one.table.judge(1, "jobs."+name, 1) != known ||
+			one.table.judge(1, "web."+name, 1) != taken {
+			t.Error("another one is taken for the session")
+		}
+	}
+}
+
+// After a start a voter can write to no session that it did not hear since. A reminder repeats what it would have written.
+func TestWhoWasNotHeardSinceTheStart(t *testing.T) {
+	first, _ := alone(t, 10)
+	first.repliesTo("jobs", 1, ". claim 1 1 100\n")
+	first.repliesTo("jobs", 1, "orders request 1 0 5\n")
+	first.table.lapse(1)
+	if err := first.save(time.Now()); err != nil {
+		t.Fatal(err)
+	}
+	d := reopened(t, first)
+	d.repliesTo("web", 2, ". claim 2 1 100\n")
+	d.repliesTo("web", 2, "orders request 2 0 3\n")
+	if len(d.out) != 0 || d.table.lapses("jobs.session-1") != 1 {
+		t.Errorf("%d sessions are written to, and the lapses are %d", len(d.out), d.table.lapses("jobs.session-1"))
+	}
+	if reply := d.repliesTo("jobs", 1, ". open 0\n"); !strings.Contains(reply, ". opened 1 1 ") {
+		t.Errorf("the session: %q", reply)
+	}
+	d.round(time.Now().Add(2 * time.Second))
+	if reply := string(d.out["jobs.session-1"]); !strings.Contains(reply, "orders inquire ") {
+		t.Errorf("the reminder: %q", reply)
+	}
+}
+
+// An older row has the session's name. It is read as its hash, in a state and in what another voter says. After the next
+// save no row has the name.
+func TestRowsWithNames(t *testing.T) {
+	first, _ := alone(t, 10)
+	row := []byte(`{"name":"jobs.session-1","epoch":1,"base":0,"reserved":100,"open":true,"used":true}`)
+	err := first.store.update(first.store.saves, func(b *batch) error { return b.put(sessionBucket, []byte{1}, row) })
+	if err != nil {
+		t.Fatal(err)
+	}
+	d := reopened(t, first)
+	if d.table.judge(1, "jobs.session-1", 1) != known {
+		t.Errorf("the session is not known: %+v", d.table.rows[1])
+	}
+	if err := d.save(time.Now()); err != nil {
+		t.Fatal(err)
+	}
+	if err := d.store.db.View(func(tx *bbolt.Tx) error {
+		return each(tx, sessionBucket, func(_, value []byte) error {
+			if bytes.Contains(value, []byte("session-1")) {
+				t.Errorf("saved: %s", value)
+			}
+			return nil
+		})
+	}); err != nil {
+		t.Fatal(err)
+	}
+	again := reopened(t, d)
+	if len(again.table.later) != 0 || again.table.judge(1, "jobs.session-1", 1) != known {
+		t.Errorf("after a save: %+v", again.table.later)
+	}
+	var theirs Knows
+	if err := json.Unmarshal([]byte(`{"sessions":{"1":`+string(row)+`}}`), &theirs); err != nil {
+		t.Fatal(err)
+	}
+	if again.learnAll(theirs, time.Now()); again.table.judge(1, "jobs.session-1", 1) != known {
+		t.Errorf("a word of another voter ends the session: %+v", again.table.rows[1])
+	}
+}

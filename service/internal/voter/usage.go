@@ -1,0 +1,78 @@
+package voter
+
+import (
+	"strings"
+
+	"calvundek.example/service/internal/event"
+	"calvundek.example/service/internal/wire"
+	"github.com/prometheus/client_golang/prometheus"
+)
+
+// usage is what a voter counts of a user: the votes that a session of it has or waits for.
+type usage struct {
+	votes  int
+	isFull bool // it was logged that it may have no more
+}
+
+// userOf returns the user of a session, by its name here or the hash of that.
+func userOf(session string) string {
+	user, _, _ := strings.Cut(session, ".")
+	return user
+}
+
+// asker returns the user who asks under a stamp of a number, "" if an earlier session of the number did.
+func (d *Daemon) asker(client int, stamp uint64) string {
+	if d.table.isEarlier(client, stamp) {
+		return ""
+	}
+	return userOf(d.table.rows[client].Hash)
+}
+
+// countUser counts the requests of a user that have a vote or wait for it, and its votes.
+func (d *Daemon) countUser(v *vote, user string, by int) {
+	if user == "" {
+		return
+	}
+	before := v.users[user]
+	switch now := before + by; {
+	case before == 0:
+		if v.users == nil {
+			v.users = map[string]int{}
+		}
+		if d.users[user] == nil {
+			d.users[user] = &usage{}
+		}
+		v.users[user] = now
+		d.users[user].votes++
+	case now == 0:
+		delete(v.users, user)
+		if d.users[user].votes--; d.users[user].votes == 0 {
+			delete(d.users, user)
+		}
+	default:
+		v.users[user] = now
+	}
+}
+
+// isAtBound returns whether a user may get no vote besides those that it has or waits for, and this is none of them.
+func (d *Daemon) isAtBound(v *vote, user string) bool {
+	u := d.users[user]
+	return u != nil && u.votes >= d.own.LocksOfUser() && (v == nil || v.users[user] == 0)
+}
+
+// fullForUser refuses a REQUEST of a user that is at its bound.
+func (d *Daemon) fullForUser(l *letter, lock []byte, said wire.Line) {
+	user := userOf(l.Name)
+	u := d.users[user]
+	d.full(l, lock, said, d.m.fullUser, &u.isFull, "user", user, "locks", u.votes)
+}
+
+// full tells a session that there is no room for the lock of a REQUEST, counts that, and logs it the first time.
+func (d *Daemon) full(l *letter, lock []byte, said wire.Line, count prometheus.Counter, isLogged *bool, words ...interface{}) {
+	d.tell(l.Name, "full %s %d", lock, said.Stamp)
+	count.Inc()
+	if !*isLogged {
+		*isLogged = true
+		d.log.Write(event.Warning, "full", append(words, "lock", string(lock))...)
+	}
+}

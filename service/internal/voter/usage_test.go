@@ -1,0 +1,85 @@
+package voter
+
+import (
+	"fmt"
+	"io"
+	"strings"
+	"testing"
+	"time"
+
+	"calvundek.example/service/internal/event"
+	"calvundek.example/service/internal/wire"
+	"calvundek.example/service/transport"
+	"github.com/prometheus/client_golang/prometheus/testutil"
+)
+
+// repliesTo hands lines of a number's first session to a voter, and returns what it replies.
+func (d *Daemon) repliesTo(user string, number int, lines string) string {
+	h := wire.Header{Cluster: "test", Coterie: d.mark, Kind: wire.FromClient, Number: number, Epoch: 1, Reserved: 1000,
+		Name: fmt.Sprint("session-", number)}
+	d.sort(transport.Message{Mailbox: wire.VoterBox("test", 0, user), Data: append(h.Append(nil), lines...)})
+	d.takeAll()
+	session := wire.SessionName(user, h.Name)
+	reply := string(d.out[session])
+	delete(d.out, session)
+	return reply
+}
+
+// A user gets as many votes as it may have, by any number of sessions. It may ask again for a lock that it has or waits for,
+// and others get theirs.
+func TestLocksOfAUser(t *testing.T) {
+	d, _ := alone(t, 100)
+	d.own.MaxLocksUser = 3
+	for number, user := range []string{"", "jobs", "jobs", "web"} {
+		if number > 0 {
+			d.repliesTo(user, number, fmt.Sprintf(". claim %d 1 1000\n", number))
+		}
+	}
+	for i, one := range []struct {
+		user   string
+		number int
+		lines  string
+		isFull bool
+		votes  int // of jobs, afterwards
+	}{
+		{"jobs", 1, "a request 1 0 1\nb request 1 0 2\nc request 1 0 3\n", false, 3},
+		{"jobs", 1, "d request 1 0 4\n", true, 3},
+		{"jobs", 1, "a request 1 0 1\nb request 1 0 2\n", false, 3},
+		{"jobs", 2, "d request 2 0 4\n", true, 3},
+		{"jobs", 2, "a request 2 0 11\n", false, 3},
+		{"web", 3, "d request 3 0 4\ne request 3 0 5\n", false, 3},
+		{"web", 3, "a request 3 0 12\nf request 3 0 13\n", true, 3},
+		{"jobs", 1, "a release 1 0 1\n", false, 3},
+		{"jobs", 2, "a release 2 0 11\n", false, 2},
+		{"jobs", 1, "d request 1 0 14\n", false, 3},
+		{"jobs", 1, "g request 1 0 15\n", true, 3},
+	} {
+		reply := d.repliesTo(one.user, one.number, one.lines)
+		if isFull := strings.Contains(reply, ". full "); isFull != one.isFull || d.users["jobs"].votes != one.votes {
+			t.Errorf("%d: %q, and jobs has %d votes", i, reply, d.users["jobs"].votes)
+		}
+	}
+	if d.votes["g"] != nil || d.votes["f"] != nil || testutil.ToFloat64(d.m.fullUser) != 4 || testutil.ToFloat64(d.m.full) != 0 {
+		t.Errorf("%d locks, and %v requests are refused", len(d.votes), testutil.ToFloat64(d.m.fullUser))
+	}
+	if d.measure(time.Now()); testutil.ToFloat64(d.m.userLocks) != 3 {
+		t.Errorf("the user with most has %v", testutil.ToFloat64(d.m.userLocks))
+	}
+	if err := d.save(time.Now()); err != nil {
+		t.Fatal(err)
+	}
+	d.store.db.Close()
+	again, err := Open(d.own, d.cluster, &post{}, event.To(io.Discard))
+	if err != nil {
+		t.Fatal(err)
+	}
+	defer again.store.db.Close()
+	if again.users["jobs"].votes != 2 || again.users["web"].votes != 3 { // who waits asks again
+		t.Errorf("after a start jobs has %v, web %v", again.users["jobs"], again.users["web"])
+	}
+	again.start(time.Now())
+	again.repliesTo("jobs", 1, "b release 1 0 2\nc release 1 0 3\n")
+	if again.users["jobs"] != nil {
+		t.Errorf("jobs has %v", again.users["jobs"])
+	}
+}
