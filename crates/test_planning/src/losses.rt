@@ -1,0 +1,80 @@
+//! What is left of weights when voters are down.
+use certificate::{Plan, Weights};
+use losses::{load_left, tickets_left};
+use quorum_set::QSet;
+use std::alloc::Global;
+use test_plans::{plan_with, wheel_plan};
+
+/// The hub 0 with each of three rims, and the rims.
+const SPOKES: [&[u8]; 4] = [&[0, 1], &[0, 2], &[0, 3], &[1, 2, 3]];
+
+/// A set of voters as bits, how many tickets are left without them, and their load as a numerator and a
+/// denominator, which are 0 if no ticket is left.
+type Left = (u64, u64, u64, u64);
+
+/// What is left of the plan of the wheel, whose cycle has 5 tickets: the hub with each rim once, and the
+/// rims twice.
+const OF_WHEEL: [Left; 6] = [
+    (0b0000, 5, 3, 5),
+    (0b0001, 2, 1, 1),
+    (0b0010, 2, 1, 1),
+    (0b0110, 1, 1, 1),
+    (0b0011, 0, 0, 0),
+    (0b1110, 0, 0, 0),
+];
+
+/// What is left of the plan for a hub of capacity 2, whose cycle has 7 tickets: the hub with each rim twice,
+/// and the rims once.
+const OF_HEAVY_HUB: [Left; 5] = [
+    (0b0000, 7, 3, 7),
+    (0b0001, 1, 1, 1),
+    (0b1000, 4, 1, 2),
+    (0b1100, 2, 1, 1),
+    (0b1001, 0, 0, 0),
+];
+
+/// What is left of a plan for a hub of capacity 3, which does not use the quorum of all rims: the hub with each
+/// rim once.
+const OF_HUB_ALONE: [Left; 4] = [
+    (0b0000, 3, 1, 3),
+    (0b0001, 0, 0, 0),
+    (0b0100, 2, 1, 2),
+    (0b0110, 1, 1, 1),
+];
+
+/// Returns whether this is left of the weights, for each of the sets.
+fn is_left(weights: &Weights, wanted: &[Left]) -> bool {
+    let mut is_so = true;
+    for (down, tickets, numerator, denominator) in wanted {
+        let down = QSet::of_bits(*down);
+        let load = load_left(weights, &down).unwrap_or((0, 0));
+        is_so &= tickets_left(weights, &down) == *tickets;
+        is_so &= load == (*numerator, *denominator);
+    }
+    is_so
+}
+
+/// Returns whether this is left of the plan, if there is one.
+fn is_left_of(plan: Option<Plan>, wanted: &[Left]) -> bool {
+    match plan {
+        Some(plan) => is_left(&plan.into_weights(), wanted),
+        None => false,
+    }
+}
+
+/// Returns the plan of the wheel whose hub has capacity 2.
+fn heavy_hub(alloc: Global) -> Option<Plan> {
+    plan_with(alloc, &SPOKES, &[2, 1, 1, 1], &[2, 2, 2, 1], &[2, 1, 1, 1])
+}
+
+/// Returns a plan of the wheel whose hub has capacity 3.
+fn hub_alone(alloc: Global) -> Option<Plan> {
+    plan_with(alloc, &SPOKES, &[3, 1, 1, 1], &[1, 1, 1, 0], &[0, 1, 1, 1])
+}
+
+#[test]
+fn what_is_left_of_weights_is_as_by_hand(rt: HostRuntime) {
+    assert!(rt; is_left_of(wheel_plan(rt.alloc()), &OF_WHEEL));
+    assert!(rt; is_left_of(heavy_hub(rt.alloc()), &OF_HEAVY_HUB));
+    assert!(rt; is_left_of(hub_alone(rt.alloc()), &OF_HUB_ALONE));
+}
