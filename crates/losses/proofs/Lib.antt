@@ -1,2 +1,4 @@
 pub mod LossLemmas
 pub mod OneLoss
+pub mod RegretLemmas
+pub mod Totals

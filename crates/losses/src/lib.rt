@@ -25,6 +25,8 @@
 
 mod figures;
 mod laws;
+mod regret;
 
 pub use figures::{load_left, tickets_left};
 pub use laws::one_loss_costs_at_most_the_load;
+pub use regret::{Failure, regret_bound};
