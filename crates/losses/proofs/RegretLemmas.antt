@@ -20,7 +20,7 @@ use Rattle.certificate.proofs.Duality.{quorum-Ascends}
 use Rattle.certificate.proofs.RatioLemmas.{greatest_ratio-bound, greatest_ratio-some}
 use Rattle.losses.specs.Losses.{each_left, is_left, load_left, ratio_left, tickets_left}
 use Rattle.losses.specs.Regrets.{AreMultipliers, IsFraction, IsRegretBound, IsUsable, Regrets, bound_at, gain_at, million, price_at, price_of, regret_bound, total_of}
-use Rattle.losses.specs.declared.regret.Failure.{Failure}
+use Rattle.losses.specs.declared.failure.Failure.{Failure}
 use Rattle.losses.proofs.LossLemmas.{length-each_left}
 use Rattle.losses.proofs.Totals.{total, total-add, total-each_left, total-le, total-level, total-same, total-sum_by, weighed-total}
 

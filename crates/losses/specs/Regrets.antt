@@ -1,7 +1,8 @@
 -- Regret: what voters that are down cost weights, next to the best weights for what is left.
-use Rattle.std.specs.Prelude.{◌≡◌, ◌⊎◌, ℕ, ◌+◌, ◌-◌, ◌*◌, ◌/◌, ◌<◌, ◌≤◌, if◌then◌else◌, List, length, sum, sum_by}
+use Rattle.std.specs.Prelude.{◌≡◌, ◌⊎◌, ℕ, ◌+◌, ◌-◌, ◌*◌, ◌/◌, ◌<◌, ◌≤◌, if◌then◌else◌, List, length, sum, sum_by, fold}
 use Rattle.std.specs.Int.{div_ceil}
 use Rattle.std.specs.List.{All, Any}
+use Rattle.divisor.specs.Gcd.{lowest_terms}
 use Rattle.numbers.specs.Bounds.{max_cycle}
 use Rattle.numbers.specs.Counts.{least_of}
 use Rattle.quorum_set.specs.Coteries.{QuorumSystem}
@@ -9,9 +10,36 @@ use Rattle.failures.specs.Failures.{Bears}
 use Rattle.certificate.specs.Bounds.{IsRival}
 use Rattle.certificate.specs.Certificates.{Weighted, capacity_total, load_of, with_weights}
 use Rattle.certificate.specs.Loads.{weight_within}
-use Rattle.certificate.specs.Ratios.{IsAtMost}
+use Rattle.certificate.specs.Ratios.{IsAtMost, greater_of}
 use Rattle.losses.specs.Losses.{is_left, load_left, tickets_left}
-use Rattle.losses.specs.declared.regret.Failure.{Failure}
+use Rattle.losses.specs.declared.failure.Failure.{Failure}
+
+-- the greatest number of a best load or a limit
+abbrev pub max_part : ℕ
+max_part = 1000000000
+
+-- a fraction above 0 whose parts are small
+pub record IsFraction (load : ℕ × ℕ) : Type 0 where
+  pub some : 0 < load.0
+  pub small : load.0 ≤ max_part
+  pub parts : 0 < load.1
+  pub small_parts : load.1 ≤ max_part
+
+-- the best load is a fraction above 0 with small parts, and some ticket is left
+pub record IsBorne (w : Weighted) (failure : Failure) : Type 0 where
+  pub best : IsFraction failure.best
+  pub left : 0 < tickets_left failure.down w
+
+-- the load that a failure leaves, divided by the best one, in lowest terms
+abbrev pub regret_at : Weighted → Failure → ℕ × ℕ
+regret_at w failure =
+    lowest_terms ((load_left failure.down w).0 * failure.best.1) ((load_left failure.down w).1 * failure.best.0)
+
+-- the regret of weights: this quotient for the failure of which it is greatest, or 0/1
+abbrev pub regret_of : Weighted → List Failure → ℕ × ℕ
+regret_of w failures = fold (λ r f. greater_of r (regret_at w f)) (0, 1) failures
+
+-- Bounds
 
 -- The failure leaves a quorum, and costs the weights at least r times the best load: no ticket is left,
 -- or the load of the tickets that are left is at least so great.
@@ -35,17 +63,6 @@ IsRegretBound r w limit failures =
 -- one million: there are so many millionths in 1
 abbrev pub million : ℕ
 million = 1000000
-
--- the greatest number of a best load or a limit
-abbrev pub max_part : ℕ
-max_part = 1000000000
-
--- a fraction above 0 whose parts are small
-pub record IsFraction (load : ℕ × ℕ) : Type 0 where
-  pub some : 0 < load.0
-  pub small : load.0 ≤ max_part
-  pub parts : 0 < load.1
-  pub small_parts : load.1 ≤ max_part
 
 -- a multiplier for each of n voters, and these sum to at most 1,000,000
 pub record AreMultipliers (n : ℕ) (multipliers : List ℕ) : Type 0 where

@@ -23,10 +23,14 @@
 //! ```
 #![tactic(auto)]
 
+mod bound;
+mod failure;
 mod figures;
 mod laws;
 mod regret;
 
+pub use bound::regret_bound;
+pub use failure::Failure;
 pub use figures::{load_left, tickets_left};
-pub use laws::one_loss_costs_at_most_the_load;
-pub use regret::{Failure, regret_bound};
+pub use laws::{no_regret_is_below_the_bound, one_loss_costs_at_most_the_load};
+pub use regret::regret_of;

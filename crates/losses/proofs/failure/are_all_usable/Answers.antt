@@ -2,7 +2,7 @@ use Rattle.std.proofs.Common.{◌≡◌, ◌<◌, ap, inl, inr, subst, sym, ◌�
 use Rattle.std.proofs.lemmas.Bool.{cases_eq}
 use Rattle.std.proofs.lemmas.List.{get_or_default}
 use Rattle.losses.specs.Regrets.{IsUsable}
-use Rattle.losses.proofs.regret.are_all_usable.Goals as goal
+use Rattle.losses.proofs.failure.are_all_usable.Goals as goal
 
 pub loop-failure-preserved : goal.loop-failure-preserved
 loop-failure-preserved c = λ k d lt.

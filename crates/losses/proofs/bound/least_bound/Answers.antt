@@ -2,7 +2,7 @@ use Rattle.std.proofs.Common.{◌≡◌, [], ap, subst, sym, ◌∙◌, arith, g
 use Rattle.std.proofs.lemmas.Option.{get_or_from_slice_get}
 use Rattle.losses.specs.Regrets.{bound_at}
 use Rattle.numbers.proofs.CountLemmas.{least_of-more}
-use Rattle.losses.proofs.regret.least_bound.Goals as goal
+use Rattle.losses.proofs.bound.least_bound.Goals as goal
 
 pub loop-j-preserved : goal.loop-j-preserved
 loop-j-preserved c =

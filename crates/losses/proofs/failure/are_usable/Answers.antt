@@ -1,4 +1,4 @@
-use Rattle.losses.proofs.regret.are_usable.Goals as goal
+use Rattle.losses.proofs.failure.are_usable.Goals as goal
 
 pub returns-then-is_limit : goal.returns-then-is_limit
 returns-then-is_limit c =

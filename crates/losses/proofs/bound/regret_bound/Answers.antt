@@ -1,7 +1,7 @@
 use Rattle.std.proofs.Common.{sym, subst}
 use Rattle.losses.specs.Regrets.{AreUsable, IsRegretBound, million}
 use Rattle.losses.proofs.RegretLemmas.{IsRegretBound-regret_bound}
-use Rattle.losses.proofs.regret.regret_bound.Goals as goal
+use Rattle.losses.proofs.bound.regret_bound.Goals as goal
 
 pub returns-clause-bound : goal.returns-clause-bound
 returns-clause-bound c =

@@ -1,4 +1,4 @@
-use Rattle.losses.proofs.regret.are_failures.Goals as goal
+use Rattle.losses.proofs.failure.are_failures.Goals as goal
 
 pub returns-then-are_few : goal.returns-then-are_few
 returns-then-are_few c =
