@@ -1,9 +1,9 @@
 -- The regret of weights is at least that of each failure.
-use Rattle.std.proofs.Common.{◌≡◌, ◌⊎◌, inl, inr, ℕ, ◌*◌, ◌<◌, ◌≤◌, List, [], ◌∷◌, length, get_or, zero, suc, sym, ap, subst, ◌∙◌, arith}
+use Rattle.std.proofs.Common.{◌≡◌, inl, inr, ℕ, ◌*◌, ◌<◌, List, [], ◌∷◌, length, get_or, zero, suc, sym, subst, arith}
 use Rattle.std.specs.Prelude.{fold}
 use Rattle.std.specs.List.{All, Any}
 use Rattle.std.proofs.lemmas.List.Elements.{All-head, All-tail}
-use Rattle.std.proofs.Math.Nat.{le_of_mul-le-mul_right, mul-le-mul_right, mul-pos}
+use Rattle.std.proofs.Math.Nat.{mul-pos}
 use Rattle.divisor.specs.Gcd.{lowest_terms}
 use Rattle.divisor.proofs.GcdLemmas.{lowest_terms-exact, lowest_terms-some}
 use Rattle.quorum_set.specs.Capacities.{AreCapacities}

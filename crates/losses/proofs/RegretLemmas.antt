@@ -12,17 +12,16 @@ use Rattle.numbers.specs.Sums.{sum_below}
 use Rattle.numbers.proofs.CountLemmas.{least_of-le}
 use Rattle.numbers.proofs.SumsBelow.{sum_below-cross}
 use Rattle.quorum_set.specs.Coteries.{QuorumSystem}
-use Rattle.certificate.specs.Bounds.{IsRival}
-use Rattle.certificate.specs.Certificates.{Weighted, AreWeights, cycle_count, cycle_len, cycle_ratio, load_of, with_weights}
+use Rattle.certificate.specs.Certificates.{Weighted, AreWeights, cycle_ratio, load_of, with_weights}
 use Rattle.certificate.specs.Loads.{weight_on, weight_within}
 use Rattle.certificate.specs.Ratios.{IsAtMost}
 use Rattle.certificate.proofs.Duality.{quorum-Ascends}
 use Rattle.certificate.proofs.RatioLemmas.{greatest_ratio-bound, greatest_ratio-some}
 use Rattle.losses.specs.Losses.{each_left, is_left, load_left, ratio_left, tickets_left}
-use Rattle.losses.specs.Regrets.{AreMultipliers, IsFraction, IsRegretBound, IsUsable, Regrets, bound_at, gain_at, million, price_at, price_of, regret_bound, total_of}
+use Rattle.losses.specs.Regrets.{IsRegretBound, IsUsable, Regrets, bound_at, gain_at, million, price_at, price_of, regret_bound, total_of}
 use Rattle.losses.specs.declared.failure.Failure.{Failure}
 use Rattle.losses.proofs.LossLemmas.{length-each_left}
-use Rattle.losses.proofs.Totals.{total, total-add, total-each_left, total-le, total-level, total-same, total-sum_by, weighed-total}
+use Rattle.losses.proofs.Totals.{total, total-add, total-each_left, total-le, total-level, total-sum_by, weighed-total}
 
 -- Products
 
@@ -169,6 +168,7 @@ module _ (w : Weighted) (h : AreWeights w) (weights others : List ℕ) (long : l
                     inr (most, strict)
               ]
         ]
+
     failures-below : (fs : List Failure) → All (IsUsable w.system) fs → Any (Regrets (r, million) rival) fs ⊎ Below (sum_by gain_of fs) (sum_by cost_of fs)
     failures-below [] usable = inr (omega arith, λ some. absurd (omega (arith, some)))
     failures-below (f ∷ fs) usable =
@@ -183,11 +183,14 @@ module _ (w : Weighted) (h : AreWeights w) (weights others : List ℕ) (long : l
                     let costs = sum_by-cons cost_of f fs in
                     let most : million * million * sum_by gain_of (f ∷ fs) ≤ r * sum_by cost_of (f ∷ fs) =
                     added (gain_of f) (cost_of f) (sum_by gain_of fs) (sum_by cost_of fs) (sum_by gain_of (f ∷ fs)) (sum_by cost_of (f ∷ fs)) gains costs one.0 rest.0 in
-                    inr (most, λ some. elim (cases_lt 0 (cost_of f)) [
-                      | inl first ↦ strict (gain_of f) (cost_of f) (sum_by gain_of fs) (sum_by cost_of fs) (sum_by gain_of (f ∷ fs)) (sum_by cost_of (f ∷ fs)) gains costs (one.1 first) rest.0
-                      | inr none ↦ strict (sum_by gain_of fs) (sum_by cost_of fs) (gain_of f) (cost_of f) (sum_by gain_of (f ∷ fs)) (sum_by cost_of (f ∷ fs)) (omega (arith, gains)) (omega (arith, costs))
-                          (rest.1 (omega (arith, some, none, costs))) one.0
-                    ])
+                    inr (
+                      most,
+                      λ some. elim (cases_lt 0 (cost_of f)) [
+                        | inl first ↦ strict (gain_of f) (cost_of f) (sum_by gain_of fs) (sum_by cost_of fs) (sum_by gain_of (f ∷ fs)) (sum_by cost_of (f ∷ fs)) gains costs (one.1 first) rest.0
+                        | inr none ↦ strict (sum_by gain_of fs) (sum_by cost_of fs) (gain_of f) (cost_of f) (sum_by gain_of (f ∷ fs)) (sum_by cost_of (f ∷ fs)) (omega (arith, gains)) (omega (arith, costs))
+                            (rest.1 (omega (arith, some, none, costs))) one.0
+                      ],
+                    )
               ]
         ]
       where

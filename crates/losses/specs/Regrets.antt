@@ -8,7 +8,7 @@ use Rattle.numbers.specs.Counts.{least_of}
 use Rattle.quorum_set.specs.Coteries.{QuorumSystem}
 use Rattle.failures.specs.Failures.{Bears}
 use Rattle.certificate.specs.Bounds.{IsRival}
-use Rattle.certificate.specs.Certificates.{Weighted, capacity_total, load_of, with_weights}
+use Rattle.certificate.specs.Certificates.{Weighted, capacity_total, load_of}
 use Rattle.certificate.specs.Loads.{weight_within}
 use Rattle.certificate.specs.Ratios.{IsAtMost, greater_of}
 use Rattle.losses.specs.Losses.{is_left, load_left, tickets_left}

@@ -68,8 +68,9 @@ fn bound_at(
 {
     let gain = gain_at(weights.coterie(), failures, quorum) + weight_within(quorum, multipliers);
     let due = capacity_total(weights.capacities(), multipliers);
-    let shown = (u128::from(gain) * u128::from(limit.1))
-        .saturating_sub(u128::from(due) * u128::from(limit.0));
+    let shown = (u128::from(gain) * u128::from(limit.1)).saturating_sub(
+        u128::from(due) * u128::from(limit.0),
+    );
     let price = price_at(weights, failures, quorum) * u128::from(limit.1);
     if price == 0 {
         return 0;

@@ -1,4 +1,4 @@
-use Rattle.std.proofs.Common.{◌≡◌, [], ap, subst, sym, ◌∙◌, arith, get_or}
+use Rattle.std.proofs.Common.{[], ap, arith}
 use Rattle.std.proofs.lemmas.Option.{get_or_from_slice_get}
 use Rattle.losses.specs.Regrets.{bound_at}
 use Rattle.numbers.proofs.CountLemmas.{least_of-more}
