@@ -1,3 +1,4 @@
+pub mod BearingLemmas
 pub mod Greatest
 pub mod LossLemmas
 pub mod OneLoss

@@ -5,6 +5,7 @@
 //!
 //! - [`tickets_left`] returns how many tickets of a cycle are left.
 //! - [`load_left`] returns the load of these tickets.
+//! - [`bears_losses`] returns whether some ticket is left whichever voters are down, if a quorum is.
 //! - [`regret_of`] compares it with the best load without the same voters, for a list of [`Failure`]s.
 //! - [`regret_bound`] returns what the regret of all weights is at least, if their load is at most a limit.
 //!   Multipliers show it, by the duality of linear programs.
@@ -28,12 +29,14 @@
 //! ```
 #![tactic(auto)]
 
+mod bearing;
 mod bound;
 mod failure;
 mod figures;
 mod laws;
 mod regret;
 
+pub use bearing::bears_losses;
 pub use bound::regret_bound;
 pub use failure::Failure;
 pub use figures::{load_left, tickets_left};

@@ -1,6 +1,6 @@
 //! What is left of weights when voters are down.
 use certificate::{Plan, Weights};
-use losses::{Failure, load_left, regret_bound, regret_of, tickets_left};
+use losses::{Failure, bears_losses, load_left, regret_bound, regret_of, tickets_left};
 use quorum_set::QSet;
 use std::alloc::{AllocError, Global};
 use test_plans::{plan_with, wheel_plan};
@@ -127,6 +127,22 @@ fn bound_of(
 ) -> Option<u128> {
     let failures = failures_of(alloc, rows).ok()?;
     regret_bound(&plan?.into_weights(), limit, multipliers, &failures)
+}
+
+/// Returns whether a plan bears the loss of any so many voters.
+fn bears(plan: Option<Plan>, most: usize) -> bool {
+    match plan {
+        Some(plan) => bears_losses(&plan.into_weights(), most),
+        None => false,
+    }
+}
+
+#[test]
+fn losses_are_borne_if_a_used_quorum_is_left(rt: HostRuntime) {
+    let alloc = rt.alloc();
+    assert!(rt; bears(wheel_plan(alloc), 4));
+    assert!(rt; bears(hub_alone(alloc), 0));
+    assert!(rt; !bears(hub_alone(alloc), 1));
 }
 
 #[test]
