@@ -22,7 +22,7 @@ IsAtMost-trans r s t some low high =
 
 -- The greatest of fractions
 
-greater_of-cases : (r s : ℕ × ℕ) → ((greater_of r s ≡ s) × IsAtMost r s) ⊎ ((greater_of r s ≡ r) × IsAtMost s r)
+pub greater_of-cases : (r s : ℕ × ℕ) → ((greater_of r s ≡ s) × IsAtMost r s) ⊎ ((greater_of r s ≡ r) × IsAtMost s r)
 greater_of-cases r s =
     elim (cases_lt (r.0 * s.1) (s.0 * r.1)) [
       | inl less ↦ inl (ap (λ b. cond b s r) (lt-ltb (r.0 * s.1) (s.0 * r.1) less), omega (arith, less))

@@ -11,7 +11,7 @@ use numbers::MAX_CYCLE;
 use quorum_set::{Coterie, QSet};
 
 /// Returns the sum of the weights, or `None` if it is above 1,000,000.
-pub(crate) fn total(weights: &[u64]) -> Option<u64>
+pub fn total(weights: &[u64]) -> Option<u64>
     ensures { SomeIff result (sum weights.now ≤ max_cycle) (sum weights.now) }
 {
     let mut total = 0;
@@ -55,8 +55,9 @@ pub(crate) fn busiest_count(coterie: &Coterie, weights: &[u64]) -> u64
     most
 }
 
-/// Returns the sum of the weights of a quorum's members.
-fn weight_within(quorum: &QSet, weights: &[u64]) -> u64
+/// Returns the sum of the weights of a quorum's members. There has to be a weight for each member, and
+/// the sum of all weights has to be at most 1,000,000.
+pub fn weight_within(quorum: &QSet, weights: &[u64]) -> u64
     requires members { All (λ i. i < length weights.now) quorum.now }
     requires small { sum weights.now ≤ max_cycle }
     ensures weight { result ≡ weight_within weights.now quorum.now }
@@ -85,8 +86,9 @@ pub(crate) fn lightest_quorum(coterie: &Coterie, weights: &[u64]) -> u64
     least
 }
 
-/// Returns the sum of the voters' weights, each times the voter's capacity.
-pub(crate) fn capacity_total(capacities: &[u64], weights: &[u64]) -> u64
+/// Returns the sum of the voters' weights, each times the voter's capacity. There has to be a capacity for
+/// each weight, 1 to 1000, and the sum of the weights has to be at most 1,000,000.
+pub fn capacity_total(capacities: &[u64], weights: &[u64]) -> u64
     requires capacities { AreCapacities capacities.now (length weights.now) }
     requires small { sum weights.now ≤ max_cycle }
     ensures total { result

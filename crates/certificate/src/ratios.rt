@@ -5,8 +5,9 @@ ghost use Rattle.certificate.specs.Ratios.{greater_of, greatest_ratio};
 
 use divisor::lowest_terms;
 
-/// Returns the greater of two fractions; the first if they are equal.
-fn greater_of(first: (u64, u64), second: (u64, u64)) -> (u64, u64)
+/// Returns the greater of two fractions, each a numerator and a denominator. Returns the first if they are
+/// equal.
+pub fn greater_of(first: (u64, u64), second: (u64, u64)) -> (u64, u64)
     ensures { result ≡ greater_of first second }
 {
     if u128::from(first.0) * u128::from(second.1) < u128::from(second.0) * u128::from(first.1) {

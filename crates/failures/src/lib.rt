@@ -21,5 +21,5 @@
 mod transversal;
 mod without;
 
-pub use transversal::{Transversal, transversal_of};
+pub use transversal::{Transversal, transversal_of, with_voter};
 pub use without::{bears, coterie_without};

@@ -16,10 +16,11 @@ pub struct Transversal {
     pub is_smallest: bool,
 }
 
-/// Returns the set with one more voter.
-fn with_voter(set: &QSet, voter: u8) -> QSet
+/// Returns the set with one more voter. The voter's number has to be below 64.
+pub fn with_voter(set: &QSet, voter: u8) -> QSet
     requires { voter < 64 }
     ensures set { IsSet result }
+    ensures before { IsSet set.now }
     ensures members { (i : ℕ) → i < 64 → has result i ≡ ((i == voter) || has set.now i) }
     ensures voters { (n : ℕ) → voter < n → All (λ i. i < n) set.now → All (λ i. i < n) result }
 {

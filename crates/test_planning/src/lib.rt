@@ -3,7 +3,7 @@
 //!
 //! - `coterie_texts` reads and writes coteries, and `shapes` constructs them.
 //! - `fractions` computes.
-//! - `failing` has voters fail.
+//! - `failing` has voters fail, and `losses` has weights with voters down.
 //! - `nearness` has weights near the best for irregular coteries, `irregular` has plans for them, and
 //!   `draws` draws some.
 //! - `certificates` copies a plan, `searches` solves, and `plans` finds them.
@@ -27,6 +27,8 @@ mod failing;
 mod fractions;
 #[cfg(test)]
 mod irregular;
+#[cfg(test)]
+mod losses;
 #[cfg(test)]
 mod nearness;
 #[cfg(test)]

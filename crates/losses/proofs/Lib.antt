@@ -1,0 +1,6 @@
+pub mod BearingLemmas
+pub mod Greatest
+pub mod LossLemmas
+pub mod OneLoss
+pub mod RegretLemmas
+pub mod Totals
