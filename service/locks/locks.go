@@ -36,7 +36,7 @@ var (
 	ErrLapsed   = errors.New("locks: the lock may have been somebody else's before it was given back")
 	ErrNoQuorum = errors.New("locks: no quorum of voters replied")
 	ErrNumbers  = errors.New("locks: all client numbers are in use")
-	ErrFull     = errors.New("locks: no quorum of voters has room for another lock, or for one of this user; raise max_locks or max_locks_user of the voters")
+	ErrFull     = errors.New("locks: no quorum of voters has room for another lock, or for one of this user: max_locks, max_locks_user")
 	ErrRetired  = errors.New("locks: the plan of the cluster's file is retired; take the newest file")
 )
 

@@ -104,7 +104,8 @@ func Open(own *config.Voter, cluster *config.Cluster, carrier transport.Transpor
 		return nil, err
 	}
 	d := &Daemon{cluster: cluster, own: own, store: state, carrier: carrier, log: log, m: newMetrics(),
-		votes: map[string]*vote{}, busy: map[*vote]struct{}{}, users: map[string]*usage{}, dirty: map[*vote]struct{}{}, silent: map[*vote]struct{}{},
+		votes: map[string]*vote{}, busy: map[*vote]struct{}{}, users: map[string]*usage{},
+		dirty: map[*vote]struct{}{}, silent: map[*vote]struct{}{},
 		table: table{ttl: cluster.TTL.Duration, changed: map[int]Session{}, later: map[int]Session{}},
 		out:   map[string][]byte{}, replies: map[string]answer{}, started: time.Now(), away: time.Now(),
 		done: map[string][]byte{}, newPeers: map[int]Peer{}, gone: map[string]struct{}{}, restsFor: shortestRest}

@@ -101,7 +101,8 @@ func TestSpentLock(t *testing.T) {
 func TestEachLineLeaves(t *testing.T) {
 	now := time.Unix(1000, 0)
 	d := &Daemon{own: &config.Voter{}, store: &store{}, ceiling: 10, m: newMetrics(), votes: map[string]*vote{}, busy: map[*vote]struct{}{},
-		users: map[string]*usage{}, dirty: map[*vote]struct{}{}, silent: map[*vote]struct{}{}, out: map[string][]byte{}, table: *newTable(now)}
+		users: map[string]*usage{}, dirty: map[*vote]struct{}{}, silent: map[*vote]struct{}{}, out: map[string][]byte{},
+		table: *newTable(now)}
 	voter, err := qlock.NewVoter(0, 10)
 	if err != nil {
 		t.Fatal(err)
