@@ -150,6 +150,9 @@ func open(ctx context.Context, cluster *config.Cluster, c Config) (*Client, erro
 		err = client.begin(ctx)
 	}
 	if err != nil {
+		if link, ok := client.carrier.(*transport.NATS); ok {
+			err = link.Explain(err)
+		}
 		client.close()
 		return nil, err
 	}

@@ -541,6 +541,32 @@ func TestUserIsFull(t *testing.T) {
 	}
 }
 
+// A lock waits for a quiet voter, if the quorums without it have no room. It asks a few times, and not for as long as nobody
+// has room.
+func TestQuietWhereOthersAreFull(t *testing.T) {
+	w := worlds.New(t, worlds.Majority, 2*time.Second)
+	w.Stop(0)
+	w.Owns[0].MaxLocksUser = 1
+	w.Start(0)
+	w.Ready()
+	c, _ := start(t, w)
+	for i, found := 0, false; !found; i++ { // voters 0 and 2 have a lock, so voter 0 has no room
+		held := take(t, c, fmt.Sprint("lock-", i))
+		if found = held.quorum == 0b101; !found {
+			if err := held.Unlock(); err != nil {
+				t.Fatal(err)
+			}
+		}
+	}
+	w.Kill(1)
+	w.Start(1)
+	before := c.Stats().Requests
+	take(t, c, "another")
+	if asked := c.Stats().Requests - before; asked > 20 {
+		t.Errorf("%d requests", asked)
+	}
+}
+
 // Who does not wait hears at once that all numbers are in use, and who waits hears why his time is
 // over.
 func TestNumbersInUse(t *testing.T) {

@@ -188,11 +188,11 @@ func (c *Client) ask(l *lock) {
 		c.refuse(l, fmt.Errorf("%s: %w", l.name, ErrFull))
 		return
 	}
-	quorum := c.nextQuorum(c.avoided(now) | full)
+	quorum := c.nextQuorum(c.avoided(now), full)
 	stamp, lines, err := c.begins(l, quorum)
 	if err == nil && !c.mayAsk(quorum, stamp) {
 		*l.Client = before // these voters may lag behind others
-		quorum = c.nextQuorum(c.avoided(now) | full | ^c.owners(stamp))
+		quorum = c.nextQuorum(c.avoided(now)|^c.owners(stamp), full)
 		stamp, lines, err = c.begins(l, quorum)
 	}
 	switch {
@@ -252,15 +252,16 @@ func (c *Client) tries(l *lock, quorum uint64) (stamp uint64, lines []byte, err 
 	return shown.Stamp, lines, err
 }
 
-// nextQuorum returns the quorum of the next ticket that has none of these voters, or of the next
-// one if there is none.
-func (c *Client) nextQuorum(avoided uint64) uint64 {
-	quorums := c.plan.Quorums
-	for i := 0; i < len(quorums); i++ {
-		if quorum := quorums[(c.ticket+i)%len(quorums)]; quorum&avoided == 0 {
-			c.ticket += i
-			return quorum
-		}
+// nextQuorum returns the quorum of the next ticket that has none of these voters. If there is none
+// it returns that of the next one without those that have no room: the others may give a vote later.
+// Some quorum has room.
+func (c *Client) nextQuorum(avoided, full uint64) uint64 {
+	quorums, without := c.plan.Quorums, avoided|full
+	if !c.plan.HasQuorum(^without) {
+		without = full
+	}
+	for quorums[c.ticket%len(quorums)]&without != 0 {
+		c.ticket++
 	}
 	return quorums[c.ticket%len(quorums)]
 }
@@ -443,12 +444,13 @@ func (c *Client) hasGap(now time.Time) bool {
 
 // isStuck returns whether a request waits for a silent voter, and others would do.
 func (c *Client) isStuck(l *lock, silent uint64, now time.Time) bool {
-	return now.Sub(l.asked) > c.config.FailOver && c.waitsFor(l, silent)
+	return now.Sub(l.asked) > c.config.FailOver && c.waitsFor(l, silent, now)
 }
 
-// waitsFor returns whether a request waits for one of these voters, and others would do.
-func (c *Client) waitsFor(l *lock, silent uint64) bool {
-	return l.shown.Phase == qlock.Asking && l.shown.Quorum&silent&^c.votes(l) != 0 && c.plan.HasQuorum(^silent)
+// waitsFor returns whether a request waits for one of these voters, and others would do, which have room.
+func (c *Client) waitsFor(l *lock, silent uint64, now time.Time) bool {
+	return l.shown.Phase == qlock.Asking && l.shown.Quorum&silent&^c.votes(l) != 0 &&
+		c.plan.HasQuorum(^(silent | c.without(l, now)))
 }
 
 // remind repeats the requests that wait for a vote, or shows that the holder is there.

@@ -653,7 +653,7 @@ func (c *Client) leaves(voter int) {
 func (c *Client) avoid() {
 	now := time.Now()
 	for l := range c.busy {
-		if c.waitsFor(l, c.avoided(now)) {
+		if c.waitsFor(l, c.avoided(now), now) {
 			c.stats.FailOvers++
 			c.askAgain(l)
 		}

@@ -32,6 +32,7 @@ type NATS struct {
 	connection *nats.Conn
 	current    atomic.Pointer[nats.Conn] // the connection, once Connect returned it
 	returns    atomic.Uint64
+	dialed     atomic.Pointer[error] // why the last server was not to be had, which the library does not keep
 	closed     chan struct{}
 
 	certificate func() (*tls.Certificate, error) // reads this process's certificate, nil if it has none
@@ -192,7 +193,9 @@ func (d *dialer) Dial(network, address string) (net.Conn, error) {
 	if !isListed(d.cluster, address) {
 		return nil, fmt.Errorf("%w: %s", errUnlisted, address)
 	}
-	return net.DialTimeout(network, address, time.Second)
+	connection, err := net.DialTimeout(network, address, time.Second)
+	d.dialed.Store(&err)
+	return connection, err
 }
 
 // errUnlisted is returned for a server that another one named, and the cluster's file does not.
@@ -263,7 +266,21 @@ func (n *NATS) CertificateEnd() time.Time {
 }
 
 // Why returns why there is no connection, as far as it is known.
-func (n *NATS) Why() error { return n.connection.LastError() }
+func (n *NATS) Why() error {
+	why := n.connection.LastError()
+	if dialed := n.dialed.Load(); why == nil && dialed != nil {
+		why = *dialed
+	}
+	return why
+}
+
+// Explain returns an error, with why there is no connection if there is none.
+func (n *NATS) Explain(err error) error {
+	if err == nil || n.Connected() {
+		return err
+	}
+	return fmt.Errorf("%w: no server of NATS is there: %v", err, n.Why())
+}
 
 // Send sends a message.
 func (n *NATS) Send(mailbox string, message []byte) error {

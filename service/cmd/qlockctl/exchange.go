@@ -64,11 +64,11 @@ func retireCommand(ctx context.Context, s *settings) *cobra.Command {
 // lead makes one step of an exchange, and prints what the voters replied.
 func (s *settings) lead(ctx context.Context, cluster *config.Cluster, step func(*operator.Console) ([]operator.Reply,
 	error)) error {
-	console, end, err := s.console(cluster)
+	console, link, err := s.console(cluster)
 	if err != nil {
 		return err
 	}
-	defer end()
+	defer link.Close()
 	replies, err := step(console)
 	if s.json && replies != nil {
 		if printed := printJSON(replies); err == nil {
@@ -80,7 +80,7 @@ func (s *settings) lead(ctx context.Context, cluster *config.Cluster, step func(
 	if err == nil {
 		err = verdict(replies, cluster.HasQuorums)
 	}
-	return err
+	return link.Explain(err)
 }
 
 // planned returns the line of a reply to a step of an exchange.

@@ -106,18 +106,18 @@ func (s *settings) ask(ctx context.Context, use func(ctx context.Context, cluste
 	if err != nil {
 		return err
 	}
-	console, end, err := s.console(cluster)
+	console, link, err := s.console(cluster)
 	if err != nil {
 		return err
 	}
-	defer end()
+	defer link.Close()
 	ctx, cancel := context.WithTimeout(ctx, s.timeout)
 	defer cancel()
-	return use(ctx, cluster, console)
+	return link.Explain(use(ctx, cluster, console))
 }
 
-// console connects, and returns a console, and what ends it.
-func (s *settings) console(cluster *config.Cluster) (*operator.Console, func(), error) {
+// console connects, and returns a console and its connection.
+func (s *settings) console(cluster *config.Cluster) (*operator.Console, *transport.NATS, error) {
 	name, err := s.access.Speaker()
 	if err != nil {
 		return nil, nil, err
@@ -126,7 +126,7 @@ func (s *settings) console(cluster *config.Cluster) (*operator.Console, func(), 
 	if err != nil {
 		return nil, nil, err
 	}
-	return operator.New(cluster, link, name), link.Close, nil
+	return operator.New(cluster, link, name), link, nil
 }
 
 // client returns the configuration of a client.

@@ -186,15 +186,29 @@ func printLines(replies []operator.Reply, line func(r operator.Reply) (string, e
 
 func statusCommand(ctx context.Context, s *settings) *cobra.Command {
 	command := &cobra.Command{Use: "status", Args: cobra.NoArgs, Short: "Show each voter"}
-	return simple(ctx, s, command, func([]string) (string, error) { return "status", nil }, func(r operator.Reply) (string, error) {
-		var one voter.Status
-		if err := json.Unmarshal(r.Body, &one); err != nil {
-			return "", err
-		}
-		return fmt.Sprintf("locks=%d busy=%d sessions=%d granted=%d runs=%s start=%d run=%d identity=%.8s", one.Locks, one.Busy,
-			len(one.Sessions), one.Granted, time.Duration(one.Runs*float64(time.Second)).Round(time.Second), one.Start, one.Run, one.Identity) +
-			plans(one.Planned), nil
-	})
+	return simple(ctx, s, command, func([]string) (string, error) { return "status", nil }, shown)
+}
+
+// shown returns the line of a reply to `status`. It says whether the voter gives no votes yet.
+func shown(r operator.Reply) (string, error) {
+	var one voter.Status
+	if err := json.Unmarshal(r.Body, &one); err != nil {
+		return "", err
+	}
+	text := fmt.Sprintf("locks=%d busy=%d sessions=%d granted=%d runs=%s start=%d run=%d identity=%.8s", one.Locks, one.Busy,
+		len(one.Sessions), one.Granted, seconds(one.Runs), one.Start, one.Run, one.Identity) + plans(one.Planned)
+	if !one.Serves {
+		text += " serves=false"
+	}
+	if one.Quiet > 0 {
+		text += fmt.Sprintf(" quiet=%s", seconds(one.Quiet))
+	}
+	return text, nil
+}
+
+// seconds returns a time in whole seconds.
+func seconds(s float64) time.Duration {
+	return time.Duration(s * float64(time.Second)).Round(time.Second)
 }
 
 func evictCommand(ctx context.Context, s *settings) *cobra.Command {

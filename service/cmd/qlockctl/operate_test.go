@@ -54,6 +54,36 @@ func TestVerdict(t *testing.T) {
 	}
 }
 
+// The line of a voter says whether it gives no votes yet.
+func TestShown(t *testing.T) {
+	line := "locks=1 busy=0 sessions=0 granted=2 runs=3s start=4 run=0 identity=01234567 plan=0"
+	for more, want := range map[string]string{`"serves":true`: "", `"serves":false`: " serves=false",
+		`"serves":true,"quiet_seconds":8.7`: " quiet=9s"} {
+		got, err := shown(operator.Reply{Body: []byte(`{"locks":1,"granted":2,"runs_seconds":3.2,"start":4,` +
+			`"identity":"0123456789",` + more + `}`)})
+		if got != line+want || err != nil {
+			t.Errorf("%s: %q, %v", more, got, err)
+		}
+	}
+}
+
+// Where no server is there, the error says so.
+func TestNoServer(t *testing.T) {
+	w := worlds.New(t, worlds.Majority, time.Second)
+	w.Cluster.Servers = []string{"nats://127.0.0.1:1"}
+	s := &settings{cluster: fileOf(t, w), timeout: 300 * time.Millisecond}
+	said := statusCommand(context.Background(), s).RunE(nil, nil)
+	if !errors.Is(said, errSilent) || !strings.Contains(said.Error(), "no server of NATS is there: dial tcp 127.0.0.1:1: connect: connection refused") {
+		t.Error(said)
+	}
+	limit, cancel := context.WithTimeout(context.Background(), 300*time.Millisecond)
+	defer cancel()
+	if _, err := locks.Open(limit, s.client()); !errors.Is(err, locks.ErrNoQuorum) ||
+		!strings.Contains(err.Error(), "no server of NATS is there: dial tcp 127.0.0.1:1: connect: connection refused") {
+		t.Error(err)
+	}
+}
+
 // The line of a reply to a step of an exchange says which plans there are. One with sessions says
 // nothing.
 func TestPlanned(t *testing.T) {

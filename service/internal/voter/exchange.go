@@ -6,6 +6,7 @@ import (
 	"errors"
 	"fmt"
 	"strconv"
+	"strings"
 	"time"
 
 	"calvundek.example/service/internal/config"
@@ -143,13 +144,27 @@ func (d *Daemon) setPlans(g Generations) error {
 type plansInUse []*qlock.Plan
 
 // voters returns how many places they have.
-func (p plansInUse) voters() (most int) {
+func (p plansInUse) voters() int { return len(p.places()) }
+
+// places returns the names of all places: the list of one plan begins with that of the other.
+func (p plansInUse) places() (most []string) {
 	for _, plan := range p {
-		if len(plan.Names) > most {
-			most = len(plan.Names)
+		if len(plan.Names) > len(most) {
+			most = plan.Names
 		}
 	}
 	return most
+}
+
+// names returns the names of voters, with commas.
+func (p plansInUse) names(voters uint64) string {
+	var names []string
+	for place, name := range p.places() {
+		if voters>>place&1 == 1 {
+			names = append(names, name)
+		}
+	}
+	return strings.Join(names, ",")
 }
 
 // haveQuorums returns whether voters contain a quorum of each plan.

@@ -7,6 +7,7 @@ import (
 	"fmt"
 	"os"
 	"path/filepath"
+	"regexp"
 	"strings"
 	"testing"
 	"time"
@@ -95,8 +96,13 @@ func TestOlderCopyOfAnEarlierRun(t *testing.T) {
 	newest := w.Copy(0)
 	w.Put(0, older)
 	w.Start(0)
-	if err := w.Ends(0); !errors.Is(err, voter.ErrOlder) {
+	err := w.Ends(0)
+	if !errors.Is(err, voter.ErrOlder) {
 		t.Errorf("an older copy: %v", err)
+	}
+	_, why, _ := strings.Cut(fmt.Sprint(err), voter.ErrOlder.Error())
+	if !regexp.MustCompile(`^: voter [bc] says: start=2 run=0 identity=[0-9a-f]{8} is known$`).MatchString(why) {
+		t.Errorf("why it is refused:%s", why)
 	}
 	for i := 0; i < 3; i++ { // each start counts
 		if err := w.Second(0); !errors.Is(err, voter.ErrOlder) {

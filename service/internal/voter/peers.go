@@ -87,8 +87,7 @@ func (d *Daemon) meet(h wire.Header, w word) {
 		reply = word{Word: "known", Process: w.Process, Start: h.Start, Known: &shown, Knows: &all}
 	}
 	if err != nil {
-		reply.Why = fmt.Sprintf("%v (voter %d, run %d, start %d are known of %.8s)", err, h.Number, known.Run, known.Start,
-			known.Identity)
+		reply.Why = fmt.Sprintf("start=%d run=%d identity=%.8s is known", known.Start, known.Run, known.Identity)
 		d.log.Write(event.Warning, "refused-voter", "voter", h.Number, "identity", h.Name, "run", h.Run, "start", h.Start, "why", err)
 	} else if next.Ceiling = greatest(next.Ceiling, d.peers[h.Number].Ceiling); next != d.peers[h.Number] {
 		d.putPeer(h.Number, next)

@@ -157,7 +157,7 @@ func (d *Daemon) isKept(now time.Time) {
 		d.quietUntil = now.Add(d.cluster.TTL.Duration)
 	}
 	d.log.Write(event.Info, "serve", "start", d.store.own.Start, "ceiling", d.ceiling, "clean", j.isClean,
-		"answered", fmt.Sprintf("%b", j.answered))
+		"answered", d.inUse.names(j.answered))
 }
 
 // raiseAll lets all votes go on above what this voter may have given: they keep their grants.
@@ -289,11 +289,11 @@ func (d *Daemon) hearAnswer(h wire.Header, w word, now time.Time) {
 	case w.Known == nil || !isKnown:
 		d.m.foreign.Inc() // it is not the voter that is known there
 	case w.Process != j.process && w.Why == "" && w.Start > d.store.own.Start && p.Identity == h.Name:
-		d.beRefused(ErrOlder, fmt.Sprintf("voter %d says that a later process of this voter started", h.Number))
+		d.beRefused(ErrOlder, fmt.Sprintf("voter %s says that a later process of this voter started", w.Voter))
 	case w.Process != j.process:
 		// it is of an earlier process of this voter
 	case w.Why != "":
-		d.beRefused(refusalOf(*w.Known, d.self()), fmt.Sprintf("voter %d says: %s", h.Number, w.Why))
+		d.beRefused(refusalOf(*w.Known, d.self()), fmt.Sprintf("voter %s says: %s", w.Voter, w.Why))
 	case w.Word == "known" && w.Knows != nil:
 		d.learnOfItself(h, w, now)
 	case w.Word == "kept" && w.Ceiling == j.asked && p.Identity == h.Name && p.Start == h.Start:

@@ -115,6 +115,16 @@ func TestCeilingIsToldToAll(t *testing.T) {
 	}
 }
 
+// Voters are named, also those that only one of two plans has.
+func TestNames(t *testing.T) {
+	plans := plansInUse{{Names: []string{"a", "b"}}, {Names: []string{"a", "b", "c"}}}
+	for voters, want := range map[uint64]string{0: "", 0b10: "b", 0b101: "a,c"} {
+		if got := plans.names(voters); got != want {
+			t.Errorf("%b: %q", voters, got)
+		}
+	}
+}
+
 // A voter that is starting itself does not forget what it keeps of another one, whatever process of that comes.
 func TestWhoStartsKeepsItsWord(t *testing.T) {
 	d := pair(t)

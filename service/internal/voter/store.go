@@ -15,7 +15,7 @@ import (
 
 // The errors of a voter's state.
 var (
-	ErrExists  = errors.New("there is a state already, and a voter is made once")
+	ErrExists  = errors.New("there is a state already, and a voter is made once: move what is left of a lost one away before `init --lost`")
 	ErrMissing = errors.New("there is no state; a new voter needs `qlock-voter init`, one whose state is lost must not be made as if it were new")
 	ErrOther   = errors.New("the state is another voter's")
 	ErrInUse   = errors.New("the state is in use by another process")

@@ -6,6 +6,7 @@ import (
 	"io"
 	"os"
 	"path/filepath"
+	"strings"
 	"testing"
 	"time"
 
@@ -43,7 +44,7 @@ func TestWrongStarts(t *testing.T) {
 	if _, err := voter.Init(own, cluster); err != nil {
 		t.Fatal(err)
 	}
-	if _, err := voter.Init(own, cluster); !errors.Is(err, voter.ErrExists) {
+	if _, err := voter.Init(own, cluster); !errors.Is(err, voter.ErrExists) || !strings.Contains(err.Error(), "init --lost") {
 		t.Errorf("a second init: %v", err)
 	}
 	if err := open(own, cluster); err != nil {
