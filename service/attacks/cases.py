@@ -976,7 +976,7 @@ def rolling_upgrade(room: Path) -> bool:
     states have the older format, and from then on the older program refuses them."""
     if not (NEXT / "session").exists():
         raise LeftOut("no newer programs: service/build --next cmd/qlock-voter cmd/qlockctl attacks/session")
-    c = Cluster(room)
+    c = Cluster(room, ttl="5s")  # a busy machine may not lose the lock
     held = Session(c)
     spy = Wire(c.port)
     spy.listen(f"qlock.{c.id}.c.>")
