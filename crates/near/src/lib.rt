@@ -38,3 +38,4 @@ mod shares;
 mod tickets;
 
 pub use search::{is_within, near, weights_within};
+pub use tickets::tickets_in;
