@@ -28,9 +28,15 @@ const MOST_WORK: u64 = 300_000_000;
 /// The longest cycle of the weights that are taken for the best without a voter.
 const BEST_TICKETS: u64 = 1000;
 
-/// How many parts are tried of the weights near the best that are mixed into what a game finds, in hundredths:
-/// those below this. The more is mixed in, the smaller is the load, and the greater the regret.
-const PARTS: u32 = 50;
+/// How many parts are tried of the weights near the best that are mixed into what a game finds. The more is
+/// mixed in, the smaller is the load, and the greater the regret.
+const PARTS: u32 = 25;
+
+/// The part that is mixed in more each time.
+const PART: f64 = 0.02;
+
+/// How many lengths of a cycle are tried, each a fortieth of the longest one shorter than the one before.
+const LENGTHS: u64 = 8;
 
 /// What was found.
 #[derive(Drop)]
@@ -233,19 +239,21 @@ fn shown_by(
     Ok((with, limits))
 }
 
-/// Returns the weights with these shares in whole tickets, if their load is at most the limit.
+/// Returns the weights with these shares in so many whole tickets, if these are at most `most` and their load is
+/// at most the limit.
 fn candidate(
     alloc: Global,
     weights: &Weights,
     shares: &[f64],
+    tickets: u64,
     most: u64,
     limit: (u64, u64),
 ) -> Result<Option<Weights>, AllocError>
     requires shares { length shares.now ≡ length weights.now.system.quorums }
-    requires most { most ≤ max_cycle }
+    requires tickets { tickets ≤ max_cycle }
     ensures { IfOk result (λ found. IfSome found (AreWithin weights.now.system weights.now.capacities most limit)) }
 {
-    let tickets = tickets_in(alloc, weights.coterie(), shares, most)?;
+    let tickets = tickets_in(alloc, weights.coterie(), shares, tickets)?;
     let voters = weights.voter_weights().to_vec(alloc)?;
     let Ok(found) = Weights::of(
         alloc,
@@ -284,9 +292,30 @@ fn better_of(first: Weights, second: Weights, failures: &[Failure]) -> Weights
     }
 }
 
-/// Returns these weights, or those with the shares in whole tickets, if their load is at most the limit and
-/// their regret smaller.
+/// Returns these weights, or those with the shares in so many whole tickets, if their load is at most the limit
+/// and their regret smaller.
 fn improved(
+    alloc: Global,
+    weights: Weights,
+    failures: &[Failure],
+    shares: &[f64],
+    tickets: u64,
+    most: u64,
+    limit: (u64, u64),
+) -> Result<Weights, AllocError>
+    requires shares { length shares.now ≡ length weights.system.quorums }
+    requires tickets { tickets ≤ max_cycle }
+    requires within { AreWithin weights.system weights.capacities most limit weights }
+    ensures { IfOk result (AreWithin weights.system weights.capacities most limit) }
+{
+    match candidate(alloc, &weights, shares, tickets, most, limit)? {
+        Some(found) => Ok(better_of(weights, found, failures)),
+        None => Ok(weights),
+    }
+}
+
+/// Returns these weights, or better ones with the shares, in cycles of some lengths.
+fn rounded(
     alloc: Global,
     weights: Weights,
     failures: &[Failure],
@@ -294,15 +323,18 @@ fn improved(
     most: u64,
     limit: (u64, u64),
 ) -> Result<Weights, AllocError>
-    requires shares { length shares.now ≡ length weights.system.quorums }
     requires most { most ≤ max_cycle }
     requires within { AreWithin weights.system weights.capacities most limit weights }
     ensures { IfOk result (AreWithin weights.system weights.capacities most limit) }
 {
-    match candidate(alloc, &weights, shares, most, limit)? {
-        Some(found) => Ok(better_of(weights, found, failures)),
-        None => Ok(weights),
+    let mut best = weights;
+    for shorter in 0..LENGTHS {
+        let tickets = most - most * shorter / 40;
+        if shares.len() == best.coterie().count() {
+            best = improved(alloc, best, failures, shares, tickets, most, limit)?;
+        }
     }
+    Ok(best)
 }
 
 /// Returns these weights, or better ones that the board has found.
@@ -319,24 +351,19 @@ fn mixed(
     ensures { IfOk result (AreWithin weights.system weights.capacities most limit) }
 {
     let mut best = weights;
-    for hundredths in 0..PARTS {
-        let part = f64::from(hundredths) / 100.0;
+    for more in 0..PARTS {
+        let part = f64::from(more) * PART;
         let shares = mixed_shares(alloc, board.columns.as_slice(), &board.base, part)?;
-        if shares.len() == best.coterie().count() {
-            best = improved(alloc, best, failures, &shares, most, limit)?;
-        }
+        best = rounded(alloc, best, failures, &shares, most, limit)?;
     }
     Ok(best)
 }
 
-/// Returns the regret that the next game is played for.
+/// Returns the regret that the next game is played for: a quarter of the way from the smallest that may be
+/// possible to one that is.
 fn next_regret(low: f64, high: f64) -> f64 {
-    let most = 2.0 * low;
-    if high < most {
-        (low + high) / 2.0
-    } else {
-        (low + most) / 2.0
-    }
+    let way = if high < 2.0 * low { high - low } else { low };
+    low + way / 4.0
 }
 
 /// Notes the regret of the weights, and the bound that the board shows, if it is better.
