@@ -1,7 +1,5 @@
 -- The limit of the load is at least the load.
-use Rattle.std.proofs.Common.{◌≡◌, ℕ, ◌+◌, ◌*◌, ◌<◌, ◌≤◌, arith}
-use Rattle.std.proofs.Math.Nat.{mul-pos}
-use Rattle.divisor.specs.Gcd.{lowest_terms}
+use Rattle.std.proofs.Common.{ℕ, ◌+◌, ◌*◌, ◌<◌, arith}
 use Rattle.divisor.proofs.GcdLemmas.{lowest_terms-exact, lowest_terms-some}
 use Rattle.certificate.specs.Certificates.{Weighted, AreWeights, cycle_len, cycle_ratio, load_of}
 use Rattle.certificate.specs.Ratios.{IsAtMost}

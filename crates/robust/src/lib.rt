@@ -1,8 +1,8 @@
 //! Weights for when voters are down: their load stays near the best load without any one voter.
 //!
 //! A plan has the smallest load while all voters are up. If one is down, the tickets that are left may load
-//! the busiest voter up to 1.8 times as much as a new plan would. [`weights_for_losses`] finds weights whose
-//! load is a little above the best, and that keep this *regret* small.
+//! the busiest voter far more than a new plan would. [`weights_for_losses`] finds weights whose load is a
+//! little above the best, and that keep this *regret* small.
 //!
 //! The regret is at most r if the weights satisfy a linear program. It has a row for each voter that is down
 //! and each other voter, and a row for each voter that keeps the load at a limit. The search plays this

@@ -360,10 +360,15 @@ fn mixed(
 }
 
 /// Returns the regret that the next game is played for: a quarter of the way from the smallest that may be
-/// possible to one that is.
+/// possible to one that is. None is below 1.
 fn next_regret(low: f64, high: f64) -> f64 {
-    let way = if high < 2.0 * low { high - low } else { low };
-    low + way / 4.0
+    let least = if low < 1.0 { 1.0 } else { low };
+    let way = if high < 2.0 * least {
+        high - least
+    } else {
+        least
+    };
+    least + way / 4.0
 }
 
 /// Notes the regret of the weights, and the bound that the board shows, if it is better.
@@ -416,7 +421,7 @@ pub fn weights_for_losses(
     let mut shown = Shown {
         failures,
         multipliers: Vec::new(alloc),
-        low: 1.0,
+        low: 0.0,
         high: f64::INFINITY,
     };
     for _ in 0..GAMES {
