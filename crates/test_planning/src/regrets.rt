@@ -28,7 +28,7 @@ fn is_small(alloc: Global, row: (Shape, u64, u64, u128)) -> Result<bool, Fail> {
         &found.failures,
     );
     let is_low = u128::from(regret.0) * 1000 <= u128::from(regret.1) * u128::from(most);
-    Ok(is_low & (bound.unwrap_or(0) >= least * 1000))
+    Ok(is_low & (bound.unwrap_or(0) / 1000 >= least))
 }
 
 #[test]
