@@ -100,8 +100,8 @@ fn least_bound(
 /// capacities whose load is at most the limit, some failure leaves a quorum, but no ticket, or the load
 /// that is left is at least this bound times the best load without these voters.
 ///
-/// The multipliers may be any numbers. How great the bound is depends on them: with those that solve the
-/// linear program it is the smallest regret that weights can have. If they show nothing, it is 0.
+/// The multipliers may be any numbers: they make the bound great or small, and never wrong. If they show
+/// nothing, it is 0.
 ///
 /// Returns `None` if and only if:
 ///

@@ -39,3 +39,4 @@ mod shares;
 mod tickets;
 
 pub use search::{is_within, near, weights, weights_within};
+pub use tickets::tickets_in;

@@ -149,6 +149,36 @@ fn best_length(used: &mut [Used], total: f64, capacities: &[u64], most: u64) -> 
     best
 }
 
+/// Returns how many tickets stand for each of so many quorums.
+fn laid_out(alloc: Global, used: &[Used], quorums: usize) -> Result<Vec<u64>, AllocError>
+    ensures { IfOk result (λ v. vec_len v ≡ quorums) }
+{
+    let mut tickets = vec![in alloc; 0u64; quorums]?;
+    for one in used {
+        if one.number < tickets.len() {
+            tickets[one.number] = one.tickets;
+        }
+    }
+    Ok(tickets)
+}
+
+/// Returns how many of so many tickets stand for each quorum, in proportion to the shares, by largest
+/// remainders. There has to be a share for each quorum, and at most 1,000,000 tickets.
+pub fn tickets_in(
+    alloc: Global,
+    coterie: &Coterie,
+    shares: &[f64],
+    tickets: u64,
+) -> Result<Vec<u64>, AllocError>
+    requires shares { length shares.now ≡ length coterie.now.quorums }
+    requires tickets { tickets ≤ max_cycle }
+    ensures { IfOk result (λ v. vec_len v ≡ length coterie.now.quorums) }
+{
+    let mut used = used_of(alloc, coterie, shares)?;
+    give(&mut used, total_of(shares), tickets);
+    laid_out(alloc, &used, coterie.count())
+}
+
 /// Returns how many tickets of a cycle stand for each quorum, in proportion to the shares. The cycle has
 /// at most `most` tickets. Of the lengths that are tried it has the one with the smallest load.
 pub(crate) fn tickets_of(
@@ -166,11 +196,5 @@ pub(crate) fn tickets_of(
     let mut used = used_of(alloc, coterie, shares)?;
     let best = best_length(&mut used, total, capacities, most);
     give(&mut used, total, best);
-    let mut tickets = vec![in alloc; 0u64; coterie.count()]?;
-    for one in &used {
-        if one.number < tickets.len() {
-            tickets[one.number] = one.tickets;
-        }
-    }
-    Ok(tickets)
+    laid_out(alloc, &used, coterie.count())
 }

@@ -4,6 +4,7 @@
 //! - `coterie_texts` reads and writes coteries, and `shapes` constructs them.
 //! - `fractions` computes.
 //! - `failing` has voters fail, and `losses` has weights with voters down.
+//! - `regrets` has weights for when voters are down.
 //! - `nearness` has weights near the best for irregular coteries, `irregular` has plans for them, and
 //!   `draws` draws some.
 //! - `certificates` copies a plan, `searches` solves, and `plans` finds them.
@@ -37,6 +38,8 @@ mod offices;
 mod pairs;
 #[cfg(test)]
 mod plans;
+#[cfg(test)]
+mod regrets;
 #[cfg(test)]
 mod searches;
 #[cfg(test)]
