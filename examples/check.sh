@@ -452,7 +452,7 @@ shapes() {
 # an example
 "$show" explain | shapes > "$work/listed"
 {
-    grep -o '"[A-Z][0-9] [^"]*"' "$here/../crates/test_faults/src/faults.rt" | tr -d '"'
+    grep -o '"[A-Z][0-9]* [^"]*"' "$here/../crates/test_faults/src/faults.rt" | tr -d '"'
     cat "$here/expected/grid-of-one-number.err"
 } | shapes > "$work/tested"
 if diff -u "$work/tested" "$work/listed"; then passed=$((passed + 1)); else failed=$((failed + 1)); fi
@@ -460,7 +460,7 @@ if diff -u "$work/tested" "$work/listed"; then passed=$((passed + 1)); else fail
 # the completions have the codes of all faults, in their order
 "$show" explain | cut -d ' ' -f 1 > "$work/wanted"
 for completion in _qlock-show qlock-show.bash; do
-    sed -n '/codes=[("]/,/[)"]$/p' "$here/../completions/$completion" | grep -o '[A-Z][0-9]' > "$work/out"
+    sed -n '/codes=[("]/,/[)"]$/p' "$here/../completions/$completion" | grep -o '[A-Z][0-9][0-9]*' > "$work/out"
     if diff -u "$work/wanted" "$work/out"; then passed=$((passed + 1)); else failed=$((failed + 1)); fi
 done
 
