@@ -7,12 +7,12 @@ _qlock_show() {
     [ "${COMP_WORDS[COMP_CWORD - 1]}" = -f ] && return
     [ "${COMP_WORDS[1]}" = compare ] && [ "$COMP_CWORD" -gt 2 ] && return
     case $COMP_CWORD in
-        1) COMPREPLY=($(compgen -W "plan deal near compare coterie report without resilience bridge world waiting explain fault picture" -- "$word")) ;;
+        1) COMPREPLY=($(compgen -W "plan check deal near compare coterie report without resilience bridge world waiting explain fault picture" -- "$word")) ;;
         2)
             case ${COMP_WORDS[1]} in
                 deal) COMPREPLY=($(compgen -W "--even --names --json" -- "$word")) ;;
                 plan | resilience) COMPREPLY=($(compgen -W "--json" -- "$word")) ;;
-                near) COMPREPLY=($(compgen -W "--cycle --deal --json" -- "$word")) ;;
+                near) COMPREPLY=($(compgen -W "--cycle --deal --text --json" -- "$word")) ;;
                 compare) COMPREPLY=($(compgen -f -W "--json" -- "$word")) ;;
                 coterie) COMPREPLY=($(compgen -W "racks centres votes any" -- "$word")) ;;
                 waiting) COMPREPLY=($(compgen -W "--round" -- "$word")) ;;
