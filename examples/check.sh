@@ -144,6 +144,7 @@ example replay-wheel-3 replay-wheel-3.txt 0 replay
 example two-disjoint-quorums refused-disjoint.toml 1 plan
 example plan-that-is-not-optimal refused-plan.txt 1 check
 example plan-for-other-capacities refused-capacity.txt 1 check
+example weights-in-place-of-a-plan wheel-3-near.txt 1 check
 example ticket-drawn-twice refused-record.txt 1 replay
 example script-without-world refused-script.txt 1 world
 example no-plan-at-all wheel-3.toml 1 check
@@ -215,6 +216,7 @@ shown explain-list /dev/null explain
 shown fault-disjoint refused-disjoint.toml fault plan
 shown fault-plan refused-plan.txt fault check
 shown fault-capacity refused-capacity.txt fault check
+shown fault-weights wheel-3-near.txt fault check
 shown fault-record refused-record.txt fault replay
 shown fault-script refused-script.txt fault world
 shown fault-missing-part wheel-3.toml fault check
@@ -288,6 +290,35 @@ for coterie in wheel-3 wheel-3-fast-hub three-racks; do
         compare "$work/report" "show-report-$coterie.html"
     fi
 done
+
+# weights near the best: their text, which is a plan's if they are one, its check, and the pages that take it in place of a plan
+shown near-text-wheel-3 wheel-3.toml near --text
+shown near-text-cycle-wheel-3 wheel-3.toml near --cycle 4 --text
+shown near-text-wheel-3-fast-hub wheel-3-fast-hub.toml near --cycle 4 --text
+"$show" near --text < twenty-eight.toml > "$work/weights" || true
+shown check-twenty-eight /dev/null check -f twenty-eight.toml -f "$work/weights"
+shown check-wheel-3 wheel-3-planned.txt check
+shown check-wheel-3-near wheel-3-near.txt check
+shown plan-wheel-3-near wheel-3-near.txt plan
+shown deal-wheel-3-near wheel-3-near.txt deal 5
+shown deal-names-wheel-3-near wheel-3-near.txt deal --names 5
+shown resilience-wheel-3-near wheel-3-near.txt resilience
+shown json-plan-wheel-3-near wheel-3-near.txt plan --json
+shown json-deal-wheel-3-near wheel-3-near.txt deal 2 --json
+for words in report "picture load"; do
+    name=$(echo "$words" | tr ' ' '-')
+    # shellcheck disable=SC2086
+    "$show" $words < wheel-3-near.txt > "$work/page" || true
+    if command -v xmllint > /dev/null && ! xmllint --noout "$work/page"; then
+        failed=$((failed + 1))
+    else
+        compare "$work/page" "show-$name-wheel-3-near.xml"
+    fi
+done
+sed 's,^bound .*,bound 6/10,' wheel-3-near.txt > "$work/input"
+program=$show
+example show-wrong-bound "$work/input" 1 check
+program=$qlock
 
 # what is left of a coterie, what it bears, and bridges: from five voters to nine over any seven of nine, and from three centres
 # to the two that are left when one fails
@@ -380,6 +411,7 @@ if command -v python3 > /dev/null; then
     {
         "$here/terminal.py" refused-disjoint.toml "$qlock" plan
         "$here/terminal.py" twenty-eight.toml "$qlock" plan
+        "$here/terminal.py" wheel-3-near.txt "$qlock" check
         "$here/terminal.py" wheel-3.toml "$show" resilience
         "$here/terminal.py" /dev/null "$qlock" make wheel 2
         "$here/terminal.py" /dev/null "$qlock" make wheel
@@ -452,7 +484,7 @@ shapes() {
 # an example
 "$show" explain | shapes > "$work/listed"
 {
-    grep -o '"[A-Z][0-9] [^"]*"' "$here/../crates/test_faults/src/faults.rt" | tr -d '"'
+    grep -o '"[A-Z][0-9]* [^"]*"' "$here/../crates/test_faults/src/faults.rt" | tr -d '"'
     cat "$here/expected/grid-of-one-number.err"
 } | shapes > "$work/tested"
 if diff -u "$work/tested" "$work/listed"; then passed=$((passed + 1)); else failed=$((failed + 1)); fi
@@ -460,7 +492,7 @@ if diff -u "$work/tested" "$work/listed"; then passed=$((passed + 1)); else fail
 # the completions have the codes of all faults, in their order
 "$show" explain | cut -d ' ' -f 1 > "$work/wanted"
 for completion in _qlock-show qlock-show.bash; do
-    sed -n '/codes=[("]/,/[)"]$/p' "$here/../completions/$completion" | grep -o '[A-Z][0-9]' > "$work/out"
+    sed -n '/codes=[("]/,/[)"]$/p' "$here/../completions/$completion" | grep -o '[A-Z][0-9][0-9]*' > "$work/out"
     if diff -u "$work/wanted" "$work/out"; then passed=$((passed + 1)); else failed=$((failed + 1)); fi
 done
 

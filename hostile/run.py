@@ -222,6 +222,8 @@ def cases_of_show(room):
     yield case("deal --even 5, JSON", "deal --even --json 5", examples / "wheel-3-planned.txt")
     yield case("near", "near", examples / "wheel-3.toml")
     yield case("near, cycles of 3", "near --cycle 3", examples / "wheel-3.toml")
+    yield case("near, as a text", "near --cycle 3 --text", examples / "wheel-3.toml")
+    yield case("check of weights", "check", examples / "wheel-3-near.txt")
     yield case("coterie", "coterie votes 3 2 2 1 1 --capacity 3 2 2 1 1")
     yield case("fault check", "fault check", examples / "refused-plan.txt")
     cycle = re.sub(r"(?m)^cycle .*$", "cycle 05", (room / "plan").read_text())

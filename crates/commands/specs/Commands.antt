@@ -19,7 +19,7 @@ use Rattle.coterie_file.specs.Writing.{coterie_text}
 use Rattle.coterie_file.specs.Names.{name_at}
 use Rattle.certificate.specs.Certificates.{Weighted, cycle_len, load_of}
 use Rattle.plan_inputs.specs.Faults.{refused_as}
-use Rattle.plan_inputs.specs.Inputs.{IsPlanText, PlannedSystem, RefusesToPlan, coterie_in, planned_by}
+use Rattle.plan_inputs.specs.Inputs.{IsPlanText, PlannedSystem, RefusesToPlan, WeighedSystem, coterie_in, planned_by, weighed_by}
 use Rattle.dealer.specs.Cycles.{quorum_of_ticket}
 use Rattle.dealer.specs.Accounts.{account_of}
 use Rattle.dealer.specs.declared.account.Account.{Account}
@@ -77,6 +77,16 @@ unfoldable pub planned_in : List ℕ → Result PlannedSystem Fault
 planned_in input = do
   parts ← split 2 input
   planned_parts parts.0 parts.1
+
+-- what two parts describe: a coterie, and weights of it
+abbrev pub weighed_from : List ℕ → List ℕ → Result WeighedSystem Fault
+weighed_from coterie weights = refused_as Input (weighed_by coterie weights)
+
+-- what an input of two parts describes: a coterie, and weights of it
+unfoldable pub weighed_in : List ℕ → Result WeighedSystem Fault
+weighed_in input = do
+  parts ← split 2 input
+  weighed_from parts.0 parts.1
 
 -- what an input of three parts describes: a coterie, a plan of it, and a text after them
 unfoldable pub staged_in : List ℕ → Result (PlannedSystem × List ℕ) Fault

@@ -5,8 +5,8 @@ ghost use Rattle.construct.specs.Answers as construct_answers;
 ghost use Rattle.certificate.specs.Certificates.{cycle_len};
 ghost use Rattle.dealer.specs.Accounts.{account_of};
 ghost use Rattle.replay.specs.Records.{IsFirstFault, IsSoundRecord, entries_of, tickets_of};
-ghost use Rattle.plan_inputs.specs.Inputs.{parts_of};
-ghost use Rattle.commands.specs.Commands.{Gives, IsAnswered, IsBadRecordText, IsReplayedText, IsServed, check_answer_of, check_text, coterie_part, deal_answer_of, deal_text, make_answer_of, numbered_text, planned_in, planned_parts, shape_at, staged_in};
+ghost use Rattle.plan_inputs.specs.Inputs.{parts_of, weighed_parts};
+ghost use Rattle.commands.specs.Commands.{Gives, IsAnswered, IsBadRecordText, IsReplayedText, IsServed, check_answer_of, check_text, coterie_part, deal_answer_of, deal_text, make_answer_of, numbered_text, planned_in, planned_parts, shape_at, staged_in, weighed_from, weighed_in};
 ghost use Rattle.commands.specs.Devices.{IsOwn};
 ghost use Rattle.commands.specs.Faults.{IsBeforeScript, IsOfFile};
 
@@ -19,7 +19,7 @@ use command_line::{Command, Shape};
 use construct::{ConstructFault, cyclic, grid, majority, tree, wheel};
 use coterie_file::{Named, write_coterie};
 use dealer::Account;
-use plan_inputs::{Planned, plan_text_of};
+use plan_inputs::{Planned, Weighed, plan_text_of};
 use quorum_set::{Coterie, Side};
 use replay::{ReplayFault, check_record, read_record, run_script};
 use run_outcome::RunRecord;
@@ -59,6 +59,30 @@ pub fn planned_of(alloc: Global, input: &[u8]) -> Result<Planned, Fault>
 {
     match split_part(input, 2) {
         Ok((coterie, plan)) => planned_parts(alloc, coterie, plan),
+        Err(fault) => Err(fault),
+    }
+}
+
+/// Returns what two parts describe: a coterie, and weights of it, which may be a plan's.
+fn weighed_from(alloc: Global, coterie: &[u8], weights: &[u8]) -> Result<Weighed, Fault>
+    ensures exact { Gives weighed_parts result (weighed_from coterie.now weights.now) }
+    ensures own { IfErr result IsOwn }
+{
+    match plan_inputs::weighed_of(alloc, coterie, weights) {
+        Ok(weighed) => Ok(weighed),
+        Err(fault) => Err(Fault::from(fault)),
+    }
+}
+
+/// Returns what an input of two parts describes: a coterie, and weights of it, which may be a plan's. No
+/// command of `qlock` reads such an input.
+#[tactic(auto, unfolding(crate::specs::Commands::weighed_in))]
+pub fn weighed_of(alloc: Global, input: &[u8]) -> Result<Weighed, Fault>
+    ensures exact { Gives weighed_parts result (weighed_in input.now) }
+    ensures own { IfErr result IsOwn }
+{
+    match split_part(input, 2) {
+        Ok((coterie, weights)) => weighed_from(alloc, coterie, weights),
         Err(fault) => Err(fault),
     }
 }

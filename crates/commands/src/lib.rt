@@ -16,7 +16,8 @@
 //! beginning of the output was written.
 //!
 //! `qlock_cli` has these calls too. Programs that show more of the same inputs read them by
-//! [`coterie_of`], [`planned_of`], [`staged_of`], [`parts_of`] and [`split_part`], and deal by [`dealt`].
+//! [`coterie_of`], [`planned_of`], [`weighed_of`], [`staged_of`], [`parts_of`] and [`split_part`], and deal
+//! by [`dealt`].
 //!
 //! ```
 //! let command = read_words(alloc, words)?; // of `qlock plan`: Command::Plan
@@ -36,14 +37,14 @@ mod serving;
 mod statuses;
 mod words;
 
-pub use answer::{coterie_of, planned_of, staged_of};
+pub use answer::{coterie_of, planned_of, staged_of, weighed_of};
 pub use command_line::{Command, Shape, Usage};
 pub use dealing::dealt;
 pub use fault::Fault;
 pub use laws::{named_commands_are_in_range, refusals_come_of_the_input};
 pub use lines::{push_account, push_ratio};
 pub use parts::{parts_of, split_part};
-pub use plan_inputs::{InputFault, Planned};
+pub use plan_inputs::{InputFault, Planned, Weighed};
 pub use serving::{execute, input_for, reads_input, write_answer};
 pub use statuses::{status_of, usage_status};
 pub use whole_io::{DeviceFault, Watched};

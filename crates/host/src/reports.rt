@@ -6,6 +6,7 @@ ghost use Rattle.commands.specs.Statuses.{status_of, usage_status};
 
 use crate::files::Unread;
 use crate::line::{END, MARK};
+use certificate::PlanFault;
 use clap::error::ErrorKind;
 use commands::{DeviceFault, Fault, InputFault, Usage, status_of, usage_status};
 use planner::PlannerFault;
@@ -107,12 +108,16 @@ pub fn tell_of_reading<R: Eprint, I: IsTerminal>(rt: &R, input: &I) {
     }
 }
 
-/// Returns what helps after an input was refused with this fault: where it is wrong, or, if it has no
-/// fault and no plan was found, what there is in place of a plan.
+/// Returns what helps after an input was refused with this fault: where it is wrong, and what reads it if
+/// it is a text of weights. If it has no fault and no plan was found, it is what there is in place of a
+/// plan.
 fn advice_on(fault: &Fault) -> &'static str {
     match fault {
         Fault::Input(InputFault::Planner(PlannerFault::NoPlan(_))) => {
             "qlock-show near, with the same input, finds weights that are near the best."
+        }
+        Fault::Input(InputFault::Plan(PlanFault::BadText { line: 1 })) => {
+            "qlock-show fault, with the same words and the same input, says where. Weights, which begin with quorum-weights, are read by qlock-show check."
         }
         _ => "qlock-show fault, with the same words and the same input, says where.",
     }

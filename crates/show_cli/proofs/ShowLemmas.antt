@@ -1,13 +1,17 @@
 -- Lemmas on what is shown for what was read, and on faults.
-use Rattle.std.proofs.Common.{◌≡◌, ℕ, ◌≤◌, Bool, true, false, cond, length, List, [], Option, None, Some, subst, refl}
-use Rattle.std.specs.Prelude.{IfSome}
+use Rattle.std.proofs.Common.{◌≡◌, ℕ, ◌≤◌, Bool, true, false, cond, length, List, [], Option, None, Some, ap, subst, refl}
+use Rattle.std.specs.Prelude.{Err, IfSome}
+use Rattle.std.specs.Bool.{OnFalse}
 use Rattle.std.specs.Io.KnownBytes.{Appends}
 use Rattle.whole_io.specs.Devices.{AppendsBeginning}
 use Rattle.whole_io.specs.declared.fault.DeviceFault.TheVariants.{ReadFault, TooLong, WriteFault}
+use Rattle.plan_inputs.specs.Faults.{is_out_of_memory, refused_as}
+use Rattle.plan_inputs.specs.Inputs.{coterie_in}
+use Rattle.plan_inputs.specs.declared.fault.InputFault.{InputFault}
 use Rattle.plan_inputs.specs.declared.fault.InputFault.TheVariants as inputs
 use Rattle.commands.specs.Commands.{Refuses, coterie_part}
 use Rattle.commands.specs.Devices.{IsOfReading, IsOwn}
-use Rattle.commands.specs.Faults.{IsOfFile}
+use Rattle.commands.specs.Faults.{IsOfFile, input_refusal}
 use Rattle.commands.specs.declared.fault.Fault.{Fault}
 use Rattle.commands.specs.declared.fault.Fault.TheVariants.{Device, Input, OutOfMemory}
 use Rattle.show_cli.specs.Failures.{RefusesWithout}
@@ -73,3 +77,8 @@ pub no_coterie_left : (words : List (List ℕ)) (input : List ℕ) (fault : Faul
 no_coterie_left words input OutOfMemory of_file h = h
 no_coterie_left words input (Input (inputs.File fault)) of_file h = h
 no_coterie_left words input fault of_file h = absurd of_file
+
+-- an input for which no weights are found is refused for its coterie
+pub unfound_refused : (input : List ℕ) (fault : InputFault) → OnFalse (is_out_of_memory fault) (coterie_in input ≡ Err fault) → Refuses (input_refusal fault) (coterie_part input)
+unfound_refused input inputs.OutOfMemory h = tt
+unfound_refused input fault h = ap (refused_as Input) h

@@ -1,10 +1,10 @@
 -- Pages of coteries: what is left when voters fail, what may fail, and bridges; and their faults.
 use Rattle.std.specs.Prelude.{◌≡◌, ℕ, ◌+◌, ◌-◌, List, [], ◌∷◌, None, Some, Result, Ok, Err, zero, suc}
 use Rattle.coterie_file.specs.Named.{NamedSystem}
-use Rattle.plan_inputs.specs.Inputs.{PlannedSystem}
+use Rattle.plan_inputs.specs.Inputs.{WeighedSystem}
 use Rattle.show_failures.specs.Names.{first_unknown, voters_named}
 use Rattle.show_failures.specs.Without.{without_text}
-use Rattle.commands.specs.Commands.{◌>>=◌, Refuses, coterie_part, planned_in}
+use Rattle.commands.specs.Commands.{◌>>=◌, Refuses, coterie_part, weighed_in}
 use Rattle.commands.specs.Parts.{split}
 use Rattle.commands.specs.declared.fault.Fault.{Fault}
 use Rattle.commands.specs.declared.fault.Fault.TheVariants.{UnknownVoter}
@@ -46,20 +46,20 @@ pub record HasPair (input : List ℕ) : Type 0 where
   pub pair : NamedSystem × NamedSystem
   pub parts : pair_in input ≡ Ok pair
 
--- the input is a coterie and a plan of it
-pub record HasPlan (input : List ℕ) : Type 0 where
-  pub planned : PlannedSystem
-  pub parts : planned_in input ≡ Ok planned
+-- the input is a coterie and weights of it, which may be a plan's
+pub record HasWeights (input : List ℕ) : Type 0 where
+  pub weighed : WeighedSystem
+  pub parts : weighed_in input ≡ Ok weighed
 
--- What an input is whose parts are these: a coterie and a plan of it, if a line `%%` is there, and else a
+-- What an input is whose parts are these: a coterie and weights of it, if a line `%%` is there, and else a
 -- coterie alone.
 abbrev pub HasParts : Result (List ℕ × List ℕ) Fault → List ℕ → Type 0
-HasParts (Ok parts) input = HasPlan input
+HasParts (Ok parts) input = HasWeights input
 HasParts (Err fault) input = HasCoterie input
 
 -- the fault is out of memory, or such an input has it
 abbrev pub RefusesParts : Result (List ℕ × List ℕ) Fault → List ℕ → Fault → Type 0
-RefusesParts (Ok parts) input fault = Refuses fault (planned_in input)
+RefusesParts (Ok parts) input fault = Refuses fault (weighed_in input)
 RefusesParts (Err none) input fault = Refuses fault (coterie_part input)
 
 -- What an input describes that has so many lines `%%`: one coterie more. Its first part has this number.

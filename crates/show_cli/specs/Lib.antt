@@ -1,4 +1,5 @@
 pub mod Failures
+pub mod Found
 pub mod Pages
 pub mod Shapes
 pub mod Stories

@@ -6,14 +6,15 @@ use Rattle.show_faults.specs.Texts.{text_of}
 use Rattle.show_waiting.specs.Waiting.{waiting_text}
 use Rattle.show_svg.specs.Pictures.{IsEnded}
 use Rattle.plan_inputs.specs.Inputs.{PlannedSystem}
-use Rattle.commands.specs.Commands.{Refuses, coterie_part, planned_in, reads_input}
+use Rattle.commands.specs.Commands.{Refuses, coterie_part, planned_in, reads_input, weighed_in}
 use Rattle.commands.specs.declared.fault.Fault.{Fault}
 use Rattle.commands.specs.declared.fault.Fault.TheVariants.{Device, OutOfMemory}
 use Rattle.whole_io.specs.Devices.{AppendsBeginning}
 use Rattle.whole_io.specs.declared.fault.DeviceFault.TheVariants.{ReadFault, TooLong, WriteFault}
 use Rattle.show_refusals.specs.Pages.{IsFaultPage}
 use Rattle.commands.specs.Parts.{split}
-use Rattle.show_cli.specs.Failures.{HasCoterie, HasCoteries, HasPair, HasParts, HasPlan, IsWithoutOf, RefusesParts, RefusesWithout, files_in, pair_in}
+use Rattle.show_cli.specs.Failures.{HasCoterie, HasCoteries, HasPair, HasParts, HasWeights, IsWithoutOf, RefusesParts, RefusesWithout, files_in, pair_in}
+use Rattle.show_cli.specs.Found.{IsFoundPage}
 use Rattle.show_cli.specs.Shapes.{RefusesShape}
 use Rattle.show_cli.specs.Stories.{IsStory, RefusesStory}
 use Rattle.show_coteries.specs.Shapes.{text_at}
@@ -22,6 +23,10 @@ use Rattle.show_command_line.specs.declared.command.ShowCommand.{ShowCommand}
 use Rattle.show_command_line.specs.declared.command.ShowCommand.TheVariants as show
 
 -- Pages
+
+-- the input is a coterie and weights of it, and the page ends as a picture does
+abbrev pub IsWeightsPicture : List ℕ → List ℕ → Type 0
+IsWeightsPicture input page = HasWeights input × IsEnded page
 
 -- the input is a coterie and a plan of it, and the page ends as a picture does
 pub record IsPlanPicture (input page : List ℕ) : Type 0 where
@@ -34,12 +39,13 @@ abbrev pub IsStoryPicture : List ℕ → List ℕ → Type 0
 IsStoryPicture input page = IsStory input × IsEnded page
 
 -- The page is one of the command for the input. Of a page of words only the parts of the input are
--- determined, except for `without`, `waiting`, `explain` and `fault`.
+-- determined, except for `without`, `waiting`, `explain`, `fault`, and the text of `near`.
 abbrev pub IsPage : ShowCommand → List ℕ → List ℕ → Type 0
-IsPage (show.Plan form) input page = HasPlan input
-IsPage show.Report input page = HasPlan input
-IsPage (show.Deal dealing) input page = HasPlan input
-IsPage (show.Near page_of) input page = HasCoterie input
+IsPage (show.Plan form) input page = HasWeights input
+IsPage show.Check input page = HasWeights input
+IsPage show.Report input page = HasWeights input
+IsPage (show.Deal dealing) input page = HasWeights input
+IsPage (show.Near page_of) input page = IsFoundPage page_of input page
 IsPage (show.Coterie shape capacities) input page = text_at shape (option_map (λ list. list.items) capacities) ≡ Ok page
 IsPage (show.Compare files form) input page = HasCoteries (length files.items) input
 IsPage (show.Without words) input page = IsWithoutOf (map string_bytes words.items) input page
@@ -51,7 +57,7 @@ IsPage (show.Explain explanation) input page = page ≡ text_of explanation.now
 IsPage show.ExplainAll input page = IsFaultsPage page
 IsPage show.ListFaults input page = IsFaultsList page
 IsPage (show.Fault command) input page = IsFaultPage command input page
-IsPage (show.Picture pictures.Load) input page = IsPlanPicture input page
+IsPage (show.Picture pictures.Load) input page = IsWeightsPicture input page
 IsPage (show.Picture pictures.Cycle) input page = IsPlanPicture input page
 IsPage (show.Picture pictures.World) input page = IsStoryPicture input page
 
@@ -70,8 +76,9 @@ RefusesPage (show.Explain explanation) input fault = fault ≡ OutOfMemory
 RefusesPage show.ExplainAll input fault = fault ≡ OutOfMemory
 RefusesPage show.ListFaults input fault = fault ≡ OutOfMemory
 RefusesPage (show.Fault command) input fault = fault ≡ OutOfMemory
+RefusesPage (show.Picture pictures.Cycle) input fault = Refuses fault (planned_in input)
 RefusesPage (show.Picture pictures.World) input fault = RefusesStory input fault
-RefusesPage command input fault = Refuses fault (planned_in input)
+RefusesPage command input fault = Refuses fault (weighed_in input)
 
 -- the result is a page of the command for the input, or its fault for the input, or out of memory
 abbrev pub IsShownBy : {X : Type 0} → (X → List ℕ) → ShowCommand → List ℕ → Result X Fault → Type 0

@@ -10,9 +10,11 @@
 //!
 //! The input is read to its end, and what is written is a page of the command for what was read:
 //!
-//! - the input has the parts that the command needs: a plan of a coterie, one coterie or two, or a story
-//!   whose coteries go together;
+//! - the input has the parts that the command needs: a coterie with a plan or other weights of it, one
+//!   coterie or two, or a story whose coteries go together;
 //! - of `without`, `waiting` and `coterie` the whole page is determined;
+//! - `near --text` writes the text of weights of the coterie, with a cycle of at most the wanted length;
+//!   it is a plan's if and only if the weights are a plan;
 //! - of `explain` the code is, but not what the text says; the page of all faults and the list of their
 //!   lines have each code once, in order;
 //! - a `fault` page ends with the code of a fault with which `qlock` may refuse the input, or it says

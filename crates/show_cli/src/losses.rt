@@ -6,8 +6,8 @@ ghost use Rattle.commands.specs.declared.fault.Fault.TheVariants.{OutOfMemory};
 ghost use Rattle.show_cli.specs.Failures.{IsWithoutOf, RefusesWithout, pair_in};
 ghost use Rattle.show_cli.specs.Pages.{IsShownBy};
 
-use certificate::Plan;
-use commands::{Fault, coterie_of, planned_of, split_part};
+use certificate::Weights;
+use commands::{Fault, coterie_of, split_part, weighed_of};
 use coterie_file::Named;
 use show_command_line::{Form, ShowCommand};
 use show_failures::{bridge_page, first_unknown, resilience_page, without_page};
@@ -35,14 +35,19 @@ pub(crate) fn left_page(alloc: Global, words: &[String], input: &[u8]) -> Result
     }
 }
 
-/// Returns what a coterie bears, and, if a plan is given, what the plan's own quorums bear.
-fn borne(alloc: Global, form: Form, named: &Named, plan: Option<&Plan>) -> Result<String, Fault>
-    requires plan { IfSome plan (λ p. p.now.system ≡ named.now.system) }
+/// Returns what a coterie bears, and, if weights are given, what their own quorums bear.
+fn borne(
+    alloc: Global,
+    form: Form,
+    named: &Named,
+    weights: Option<&Weights>,
+) -> Result<String, Fault>
+    requires weights { IfSome weights (λ w. w.now.system ≡ named.now.system) }
     ensures memory { IfErr result (λ fault. fault ≡ OutOfMemory) }
 {
     let page = match form {
-        Form::Words => resilience_page(alloc, named, plan),
-        Form::Json => resilience_json(alloc, named, plan),
+        Form::Words => resilience_page(alloc, named, weights),
+        Form::Json => resilience_json(alloc, named, weights),
     };
     match page {
         Ok(page) => Ok(page),
@@ -50,14 +55,14 @@ fn borne(alloc: Global, form: Form, named: &Named, plan: Option<&Plan>) -> Resul
     }
 }
 
-/// Returns the page of what the coterie in an input bears, and its plan, if there is one.
+/// Returns the page of what the coterie in an input bears, and its weights, if there are any.
 pub(crate) fn borne_page(alloc: Global, form: Form, input: &[u8]) -> Result<String, Fault>
     ensures shown { IsShownBy string_bytes (ShowCommand.Resilience form) input.now result }
     ensures own { IfErr result IsOwn }
 {
     match split_part(input, 2) {
-        Ok(_) => match planned_of(alloc, input) {
-            Ok(planned) => borne(alloc, form, &planned.named, Some(&planned.plan)),
+        Ok(_) => match weighed_of(alloc, input) {
+            Ok(weighed) => borne(alloc, form, &weighed.named, Some(&weighed.weights)),
             Err(fault) => Err(fault),
         },
         Err(_) => match coterie_of(alloc, input) {

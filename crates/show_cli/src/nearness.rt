@@ -1,19 +1,20 @@
-//! Weights that are near the best: how near they are, whom to ask how often, and tickets dealt by them.
-ghost use Rattle.std.specs.Prelude.{◌≤◌, IfErr, IfOk, IfSome};
+//! Weights that are near the best: pages about them, tickets dealt by them, and their text.
+ghost use Rattle.std.specs.Prelude.{◌≡◌, ◌≤◌, ◌<◌, IfErr, IfOk, IfSome, string_bytes, unwrap_or};
 ghost use Rattle.numbers.specs.Bounds.{max_cycle, max_dealt};
+ghost use Rattle.plan_inputs.specs.Inputs.{IsWeightsText};
 ghost use Rattle.commands.specs.Commands.{Refuses, coterie_part};
 ghost use Rattle.commands.specs.Devices.{IsOwn};
 ghost use Rattle.show_cli.specs.Failures.{HasCoterie};
+ghost use Rattle.show_cli.specs.Found.{IsFoundPage, most_of};
 
 use certificate::Weights;
-use commands::{Fault, coterie_of};
+use commands::{Fault, Weighed, coterie_of};
 use coterie_file::Named;
-use near::{is_within, near};
-use quorum_set::are_unit;
-use show_command_line::{Form, NearPage};
-use show_figures::{evenly_dealt, loads_of_weights};
-use show_json::near_json;
-use show_words::{push_excess, push_percent, push_quorum_members, push_quotient};
+use near::weights_within;
+use plan_inputs::weights_text_of;
+use show_command_line::{NearForm, NearPage};
+use show_json::found_json;
+use show_words::{tickets_page, weights_words};
 use std::alloc::{AllocError, Global};
 
 /// How long a cycle is at most if no length was asked for.
@@ -22,142 +23,66 @@ const CYCLE: u64 = 1000;
 /// By how many millionths of the bound the load of weights is above it at most that are called near.
 const NEAR: u64 = 10_000;
 
-/// Appends the load as a fraction, and whether it is near the best, and in percent if all capacities are 1.
-fn push_fraction(text: &mut String, weights: &Weights) -> Result<(), AllocError> {
-    let (part, whole) = weights.load();
-    if is_within(weights, NEAR) {
-        text.push_str("near ")?;
-    }
-    write!(text, "load {part}/{whole}")?;
-    if are_unit(weights.capacities()) {
-        text.push_str(", ")?;
-        push_percent(text, part, whole)?;
-    }
-    Ok(())
+/// Weights of a named coterie that were found.
+#[derive(Drop)]
+struct Found {
+    weighed: Weighed,
+    /// Whether they are near the best.
+    is_near: bool,
 }
 
-/// Appends the load, and how near it is to that of the best weights.
-fn push_load(text: &mut String, weights: &Weights) -> Result<(), AllocError> {
-    let loads = loads_of_weights(weights);
-    let (part, whole) = loads.bound;
-    push_fraction(text, weights)?;
-    if loads.load == loads.bound {
-        return text.push_str(": no weights of these quorums have a smaller load\n");
+/// Finds weights of a coterie, with a cycle of at most `most` tickets.
+fn found_of(alloc: Global, named: Named, most: u64) -> Result<Found, AllocError>
+    requires most { (0 < most) × (most ≤ max_cycle) }
+{
+    let found = weights_within(alloc, named.coterie(), named.capacities(), most, NEAR)?;
+    Ok(match found {
+        Ok(weights) => Found {
+            weighed: Weighed { named, weights },
+            is_near: true,
+        },
+        Err(weights) => Found {
+            weighed: Weighed { named, weights },
+            is_near: false,
+        },
+    })
+}
+
+/// Appends that a longer cycle may be nearer to the best, unless the weights are near it.
+fn push_distance(text: &mut String, is_near: bool) -> Result<(), AllocError> {
+    if is_near {
+        return Ok(());
     }
-    text.push_str(": at most ")?;
-    push_excess(text, loads)?;
-    write!(
-        text,
-        " above the best possible, as no weights of these quorums have a load below {part}/{whole}\n"
+    text.push_str(
+        "\nThe load is more than 1 % above the bound. A longer cycle may come nearer: --cycle N.\n",
     )
 }
 
-/// Appends the throughput, if some capacity is not 1: 1 divided by the load.
-fn push_throughput(text: &mut String, weights: &Weights) -> Result<(), AllocError> {
-    if are_unit(weights.capacities()) {
-        return Ok(());
-    }
-    let (part, whole) = weights.load();
-    text.push_str("throughput ")?;
-    push_quotient(text, whole, part)?;
-    text.push_str(", in the unit of the capacities\n")
+/// Returns the page about weights that were found.
+fn found_words(alloc: Global, found: &Found) -> Result<String, AllocError> {
+    let Weighed { named, weights, .. } = &found.weighed;
+    let mut text = weights_words(alloc, named, weights)?;
+    push_distance(&mut text, found.is_near)?;
+    Ok(text)
 }
 
-/// Appends a quorum, if it is one of the coterie: its number, and the names of the voters to ask.
-fn push_quorum(text: &mut String, named: &Named, quorum: usize) -> Result<(), AllocError> {
-    write!(text, "{quorum:>7}  ")?;
-    push_quorum_members(text, named, quorum)?;
-    text.push('\n')
-}
-
-/// Appends the quorums of positive weight: the share of the requests, and how often a cycle uses each.
-fn push_quorums(text: &mut String, named: &Named, weights: &Weights) -> Result<(), AllocError> {
-    let len = weights.cycle_len();
-    write!(
-        text,
-        "\n  share     uses  quorum  ask these voters, in a cycle of {len}\n"
-    )?;
-    for (quorum, weight) in weights.quorum_weights().iter().enumerate() {
-        if *weight > 0 {
-            push_percent(text, *weight, len)?;
-            write!(text, " {weight:>8} ")?;
-            push_quorum(text, named, quorum)?;
+/// Returns what is shown of weights that were found: JSON, tickets, or a page in words.
+fn shown(alloc: Global, page: &NearPage, found: Found) -> Result<String, AllocError>
+    requires { IfSome page.now.tickets (λ n. n ≤ max_dealt) }
+{
+    match (page.form, page.tickets) {
+        (NearForm::Json, tickets) => {
+            found_json(alloc, &found.weighed.named, &found.weighed.weights, tickets)
         }
-    }
-    Ok(())
-}
-
-/// Appends that the weights are no plan, unless their load is the bound.
-fn push_no_plan(text: &mut String, weights: &Weights) -> Result<(), AllocError> {
-    if weights.load() == weights.bound() {
-        return Ok(());
-    }
-    text.push_str(
-        "\nThese weights are no plan: qlock check refuses them. Where qlock plan finds a plan, its load is the smallest.\n",
-    )
-}
-
-/// Appends that a longer cycle may be nearer to the best, unless the load is near the bound.
-fn push_distance(text: &mut String, weights: &Weights) -> Result<(), AllocError> {
-    if is_within(weights, NEAR) {
-        return Ok(());
-    }
-    text.push_str(
-        "They are more than 1 % above the bound. A longer cycle may come nearer: --cycle N.\n",
-    )
-}
-
-/// Returns the page about these weights.
-fn weights_words(alloc: Global, named: &Named, weights: &Weights) -> Result<String, AllocError> {
-    let mut text = String::new(alloc);
-    push_load(&mut text, weights)?;
-    push_throughput(&mut text, weights)?;
-    push_quorums(&mut text, named, weights)?;
-    push_no_plan(&mut text, weights)?;
-    push_distance(&mut text, weights)?;
-    Ok(text)
-}
-
-/// Returns the first tickets that are dealt by these weights.
-fn dealt_words(
-    alloc: Global,
-    named: &Named,
-    weights: &Weights,
-    count: u64,
-) -> Result<String, AllocError> {
-    let mut text = String::new(alloc);
-    push_load(&mut text, weights)?;
-    let dealt = evenly_dealt(alloc, weights.copy(alloc)?, count)?;
-    for receipt in &dealt.receipts {
-        let ticket = receipt.ticket;
-        write!(text, "{ticket}")?;
-        push_quorum(&mut text, named, receipt.quorum)?;
-    }
-    Ok(text)
-}
-
-/// Returns what is shown of weights near the best.
-fn shown(
-    alloc: Global,
-    page: &NearPage,
-    named: &Named,
-    weights: &Weights,
-) -> Result<String, AllocError> {
-    match (page.tickets, page.form) {
-        (tickets, Form::Json) => near_json(alloc, named, weights, tickets),
-        (Some(count), Form::Words) => dealt_words(alloc, named, weights, count),
-        (None, Form::Words) => weights_words(alloc, named, weights),
+        (_, Some(count)) => tickets_page(alloc, found.weighed, count, true),
+        (_, None) => found_words(alloc, &found),
     }
 }
 
 /// Returns the page of weights near the best for the coterie in an input.
-pub(crate) fn near_weights_page(
-    alloc: Global,
-    page: &NearPage,
-    input: &[u8],
-) -> Result<String, Fault>
+fn near_page(alloc: Global, page: &NearPage, most: u64, input: &[u8]) -> Result<String, Fault>
     requires tickets { IfSome page.now.tickets (λ n. n ≤ max_dealt) }
-    requires cycle { IfSome page.now.cycle (λ n. (1 ≤ n) × (n ≤ max_cycle)) }
+    requires most { (0 < most) × (most ≤ max_cycle) }
     ensures parts { IfOk result (λ _. HasCoterie input.now) }
     ensures refused { IfErr result (λ fault. Refuses fault (coterie_part input.now)) }
     ensures own { IfErr result IsOwn }
@@ -166,13 +91,53 @@ pub(crate) fn near_weights_page(
         Ok(named) => named,
         Err(fault) => return Err(fault),
     };
-    let most = page.cycle.unwrap_or(CYCLE);
-    let weights = match near(alloc, named.coterie(), named.capacities(), most) {
-        Ok(weights) => weights,
-        Err(_) => return Err(Fault::OutOfMemory),
+    let Ok(found) = found_of(alloc, named, most) else {
+        return Err(Fault::OutOfMemory);
     };
-    match shown(alloc, page, &named, &weights) {
+    match shown(alloc, page, found) {
         Ok(page) => Ok(page),
         Err(_) => Err(Fault::OutOfMemory),
+    }
+}
+
+/// Returns the text of weights near the best for the coterie in an input: that of a plan if they are one.
+#[tactic(auto, using(crate::proofs::ShowLemmas::unfound_refused))]
+fn near_text(alloc: Global, most: u64, input: &[u8]) -> Result<String, Fault>
+    requires most { (0 < most) × (most ≤ max_cycle) }
+    ensures text { IfOk result (λ text. IsWeightsText input.now most (string_bytes text)) }
+    ensures refused { IfErr result (λ fault. Refuses fault (coterie_part input.now)) }
+    ensures own { IfErr result IsOwn }
+{
+    match weights_text_of(alloc, input, most) {
+        Ok(text) => Ok(text),
+        Err(fault) => Err(Fault::from(fault)),
+    }
+}
+
+/// Returns how many tickets a cycle has at most.
+fn most_of(page: &NearPage) -> u64
+    requires { IfSome page.now.cycle (λ n. (1 ≤ n) × (n ≤ max_cycle)) }
+    ensures value { result ≡ most_of page.now }
+    ensures range { (0 < result) × (result ≤ max_cycle) }
+{
+    page.cycle.unwrap_or(CYCLE)
+}
+
+/// Returns what `near` writes for the coterie in an input.
+pub(crate) fn near_weights_page(
+    alloc: Global,
+    page: &NearPage,
+    input: &[u8],
+) -> Result<String, Fault>
+    requires tickets { IfSome page.now.tickets (λ n. n ≤ max_dealt) }
+    requires cycle { IfSome page.now.cycle (λ n. (1 ≤ n) × (n ≤ max_cycle)) }
+    ensures found { IfOk result (λ text. IsFoundPage page.now input.now (string_bytes text)) }
+    ensures refused { IfErr result (λ fault. Refuses fault (coterie_part input.now)) }
+    ensures own { IfErr result IsOwn }
+{
+    let most = most_of(page);
+    match page.form {
+        NearForm::Text => near_text(alloc, most, input),
+        NearForm::Words | NearForm::Json => near_page(alloc, page, most, input),
     }
 }

@@ -3,11 +3,11 @@ ghost use Rattle.std.specs.Prelude.{◌≡◌, ◌≤◌, IfErr, IfOk, string_by
 ghost use Rattle.numbers.specs.Bounds.{max_dealt};
 ghost use Rattle.show_faults.specs.Pages.{IsFaultsList, IsFaultsPage};
 ghost use Rattle.show_faults.specs.Texts.{text_of};
-ghost use Rattle.commands.specs.Commands.{IsInRange, Refuses, planned_in};
+ghost use Rattle.commands.specs.Commands.{IsInRange, Refuses, weighed_in};
 ghost use Rattle.commands.specs.Devices.{IsOwn};
 ghost use Rattle.show_command_line.specs.Commands.{IsShown};
 ghost use Rattle.show_refusals.specs.Pages.{IsFaultPage};
-ghost use Rattle.show_cli.specs.Failures.{HasPlan};
+ghost use Rattle.show_cli.specs.Failures.{HasWeights};
 ghost use Rattle.show_cli.specs.Pages.{IsShownBy};
 ghost use Rattle.show_waiting.specs.Waiting.{IsInRange as IsAnswered, waiting_text};
 
@@ -16,27 +16,27 @@ use crate::losses::{borne_page, left_page, pair_page};
 use crate::nearness::near_weights_page;
 use crate::scenes::{Scene, scene_of};
 use crate::shapes::shape_page;
-use commands::{Command, Fault, Planned, planned_of};
+use commands::{Command, Fault, Weighed, planned_of, weighed_of};
 use show_command_line::{Dealing, Form, Picture, ShowCommand, TicketForm};
 use show_faults::{Explanation, explanation_text, faults_list, faults_page};
-use show_json::{deal_json, plan_json};
+use show_json::{deal_json, weights_json};
 use show_plans::{cycle_picture, load_picture};
 use show_refusals::fault_page;
 use show_report::report_page;
 use show_waiting::{Waiting, waiting_page};
-use show_words::{names_page, plan_words, tickets_page, world_words};
+use show_words::{check_words, names_page, tickets_page, weights_words, world_words};
 use show_worlds::world_picture;
 use std::alloc::{AllocError, Global};
 
 /// Returns dealt tickets.
-fn tickets_of(alloc: Global, dealing: &Dealing, planned: Planned) -> Result<String, AllocError>
+fn tickets_of(alloc: Global, dealing: &Dealing, weighed: Weighed) -> Result<String, AllocError>
     requires { dealing.now.count ≤ max_dealt }
 {
     let count = u64::from(dealing.count);
     match dealing.form {
-        TicketForm::Words => tickets_page(alloc, planned, count, dealing.is_even),
-        TicketForm::Names => names_page(alloc, planned, count, dealing.is_even),
-        TicketForm::Json => deal_json(alloc, planned, count, dealing.is_even),
+        TicketForm::Words => tickets_page(alloc, weighed, count, dealing.is_even),
+        TicketForm::Names => names_page(alloc, weighed, count, dealing.is_even),
+        TicketForm::Json => deal_json(alloc, weighed, count, dealing.is_even),
     }
 }
 
@@ -48,43 +48,44 @@ fn first_of(files: &[String]) -> Option<&str> {
     }
 }
 
-/// Returns the words of a plan, or what else a command shows of it: JSON, a report, or dealt tickets.
-/// A report names the first of these files.
+/// Returns the words of weights, or what else a command shows of them: JSON, a check, a report, or dealt
+/// tickets. A report names the first of these files.
 fn words_of(
     alloc: Global,
     command: &ShowCommand,
-    planned: Planned,
+    weighed: Weighed,
     files: &[String],
 ) -> Result<String, AllocError>
     requires { IsShown command.now }
 {
     match command {
+        ShowCommand::Check => check_words(alloc, &weighed.weights),
         ShowCommand::Report => {
-            report_page(alloc, &planned.named, &planned.plan, first_of(files))
+            report_page(alloc, &weighed.named, &weighed.weights, first_of(files))
         }
-        ShowCommand::Deal(dealing) => tickets_of(alloc, dealing, planned),
-        ShowCommand::Plan(Form::Json) => plan_json(alloc, &planned.named, &planned.plan),
-        _ => plan_words(alloc, &planned.named, &planned.plan),
+        ShowCommand::Deal(dealing) => tickets_of(alloc, dealing, weighed),
+        ShowCommand::Plan(Form::Json) => weights_json(alloc, &weighed.named, &weighed.weights),
+        _ => weights_words(alloc, &weighed.named, &weighed.weights),
     }
 }
 
-/// Returns the page of words of a plan for an input, which comes from these files, if there are any.
-fn plan_page(
+/// Returns the page of words of weights for an input, which comes from these files, if there are any.
+fn weights_page(
     alloc: Global,
     command: &ShowCommand,
     input: &[u8],
     files: &[String],
 ) -> Result<String, Fault>
     requires { IsShown command.now }
-    ensures parts { IfOk result (λ _. HasPlan input.now) }
-    ensures refused { IfErr result (λ fault. Refuses fault (planned_in input.now)) }
+    ensures parts { IfOk result (λ _. HasWeights input.now) }
+    ensures refused { IfErr result (λ fault. Refuses fault (weighed_in input.now)) }
     ensures own { IfErr result IsOwn }
 {
-    let planned = match planned_of(alloc, input) {
-        Ok(planned) => planned,
+    let weighed = match weighed_of(alloc, input) {
+        Ok(weighed) => weighed,
         Err(fault) => return Err(fault),
     };
-    match words_of(alloc, command, planned, files) {
+    match words_of(alloc, command, weighed, files) {
         Ok(page) => Ok(page),
         Err(_) => Err(Fault::OutOfMemory),
     }
@@ -95,11 +96,11 @@ fn load_page(alloc: Global, input: &[u8]) -> Result<String, Fault>
     ensures shown { IsShownBy string_bytes (ShowCommand.Picture Picture.Load) input.now result }
     ensures own { IfErr result IsOwn }
 {
-    let planned = match planned_of(alloc, input) {
-        Ok(planned) => planned,
+    let weighed = match weighed_of(alloc, input) {
+        Ok(weighed) => weighed,
         Err(fault) => return Err(fault),
     };
-    match load_picture(alloc, &planned.named, &planned.plan) {
+    match load_picture(alloc, &weighed.named, &weighed.weights) {
         Ok(drawing) => Ok(drawing.into_text()),
         Err(_) => Err(Fault::OutOfMemory),
     }
@@ -233,9 +234,8 @@ pub(crate) fn page_of(
     ensures own { IfErr result IsOwn }
 {
     match command {
-        ShowCommand::Plan(_) | ShowCommand::Report | ShowCommand::Deal(_) => {
-            plan_page(alloc, command, input, files)
-        }
+        ShowCommand::Plan(_) | ShowCommand::Check | ShowCommand::Report | ShowCommand::Deal(_) =>
+            weights_page(alloc, command, input, files),
         ShowCommand::Near(page) => near_weights_page(alloc, page, input),
         ShowCommand::Coterie(shape, capacities) => shape_page(alloc, shape, capacities),
         ShowCommand::Compare(files, form) => compared_page(alloc, files.as_slice(), *form, input),

@@ -29,6 +29,7 @@ pub fn reads_page_input(command: &ShowCommand) -> bool
         | ShowCommand::ListFaults => false,
         ShowCommand::Fault(command) => reads_input(command),
         ShowCommand::Plan(_)
+        | ShowCommand::Check
         | ShowCommand::Report
         | ShowCommand::Deal(_)
         | ShowCommand::Near(_)

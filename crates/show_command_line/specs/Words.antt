@@ -15,6 +15,8 @@ use Rattle.show_coteries.specs.Names.{IsShapeOf}
 use Rattle.show_coteries.specs.declared.shape.CoterieShape.{CoterieShape}
 use Rattle.show_command_line.specs.declared.command.Form.{Form}
 use Rattle.show_command_line.specs.declared.command.Form.TheVariants as form
+use Rattle.show_command_line.specs.declared.command.NearForm.{NearForm}
+use Rattle.show_command_line.specs.declared.command.NearForm.TheVariants as near
 use Rattle.show_command_line.specs.declared.command.TicketForm.{TicketForm}
 use Rattle.show_command_line.specs.declared.command.TicketForm.TheVariants as tickets
 use Rattle.command_line.specs.declared.usage.Usage.{Usage}
@@ -22,7 +24,7 @@ use Rattle.command_line.specs.declared.usage.Usage.TheVariants.{Arguments, OutOf
 use Rattle.show_command_line.specs.declared.command.Picture.{Picture}
 use Rattle.show_command_line.specs.declared.command.Picture.TheVariants.{Cycle, Load, World as Messages}
 use Rattle.show_command_line.specs.declared.command.ShowCommand.{ShowCommand}
-use Rattle.show_command_line.specs.declared.command.ShowCommand.TheVariants.{Bridge, Compare, Coterie, Deal, Explain, ExplainAll, Fault, ListFaults, Near, Picture as Show, Plan, Report, Resilience, Waiting, Without, World}
+use Rattle.show_command_line.specs.declared.command.ShowCommand.TheVariants.{Bridge, Check, Compare, Coterie, Deal, Explain, ExplainAll, Fault, ListFaults, Near, Picture as Show, Plan, Report, Resilience, Waiting, Without, World}
 
 -- The command lines of the program.
 
@@ -98,9 +100,11 @@ near_deal_rule = record (optional_rule (codes "deal") 0 max_dealt) { long = Some
 abbrev pub near_cycle_rule : Rule
 near_cycle_rule = record (optional_rule (codes "cycle") 1 max_cycle) { long = Some (codes "cycle"); value_names = 1 }
 
--- qlock-show near, with --cycle, --deal and --json
+-- qlock-show near, with --cycle, --deal, --text and --json
 abbrev pub near_app : App
-near_app = with_rules (new_app (codes "near")) (near_cycle_rule ∷ near_deal_rule ∷ flag_rule (codes "json") ∷ [])
+near_app =
+    with_rules (new_app (codes "near"))
+    (near_cycle_rule ∷ near_deal_rule ∷ flag_rule (codes "text") ∷ flag_rule (codes "json") ∷ [])
 
 -- --capacity NUMBERS.., for `coterie`
 abbrev pub capacity_rule : Rule
@@ -116,11 +120,11 @@ capacity_rule =
 abbrev pub coterie_app : App
 coterie_app = with_rules (new_app (codes "coterie")) (word_rule (codes "SHAPE") ∷ sizes_rule ∷ capacity_rule ∷ [])
 
--- qlock-show with `plan`, `deal`, `world` and `report`
+-- qlock-show with `plan`, `check`, `deal`, `world` and `report`
 abbrev pub pages_app : App
 pages_app =
     with_subcommands (required_subcommand (with_version (new_app (codes "qlock-show"))))
-    (plan_app ∷ tickets_app ∷ new_app (codes "world") ∷ new_app (codes "report") ∷ [])
+    (plan_app ∷ new_app (codes "check") ∷ tickets_app ∷ new_app (codes "world") ∷ new_app (codes "report") ∷ [])
 
 -- and with `without`, `resilience` and `bridge`
 abbrev pub coteries_app : App
@@ -158,6 +162,12 @@ IsTicketForm rows tickets.Words = HasFlag (codes "json") rows false × HasFlag (
 IsTicketForm rows tickets.Names = HasFlag (codes "json") rows false × HasFlag (codes "names") rows true
 IsTicketForm rows tickets.Json = HasFlag (codes "json") rows true
 
+-- the weights are JSON if the flag --json is there, a text if only the flag --text is, and else words
+abbrev pub IsNearForm : List Row → NearForm → Type 0
+IsNearForm rows near.Words = HasFlag (codes "json") rows false × HasFlag (codes "text") rows false
+IsNearForm rows near.Text = HasFlag (codes "json") rows false × HasFlag (codes "text") rows true
+IsNearForm rows near.Json = HasFlag (codes "json") rows true
+
 -- these texts are the values of the argument with this name
 abbrev pub HasTexts : Text → List Row → List (String Global) → Type 0
 HasTexts name rows texts = all_of name rows ≡ Some (map string_bytes texts)
@@ -192,6 +202,7 @@ picture_word Messages = codes "world"
 abbrev pub IsNamedBy : Option (Text × List Row) → ShowCommand → Type 0
 IsNamedBy None command = ⊥
 IsNamedBy (Some used) (Plan form) = (used.0 ≡ codes "plan") × IsForm used.1 form
+IsNamedBy (Some used) Check = used.0 ≡ codes "check"
 IsNamedBy (Some used) (Deal dealing) =
     (used.0 ≡ codes "deal")
     × HasNumber (codes "N") 0 max_dealt used.1 dealing.count
@@ -201,7 +212,7 @@ IsNamedBy (Some used) (Near page) =
     (used.0 ≡ codes "near")
     × MayHaveNumber (codes "cycle") 1 max_cycle used.1 page.cycle
     × MayHaveNumber (codes "deal") 0 max_dealt used.1 page.tickets
-    × IsForm used.1 page.form
+    × IsNearForm used.1 page.form
 IsNamedBy (Some used) (Coterie shape capacities) =
     (used.0 ≡ codes "coterie") × HasShape used.1 shape × MayHaveCapacities used.1 capacities
 IsNamedBy (Some used) (Compare files form) =

@@ -7,7 +7,7 @@ use show_waiting::Waiting;
 /// What a picture shows.
 #[derive(Clone, Copy)]
 pub enum Picture {
-    /// How often a plan uses each voter and each quorum.
+    /// How often a plan, or other weights, use each voter and each quorum.
     Load,
     /// The first cycle of a plan, and how evenly it uses the voters.
     Cycle,
@@ -46,23 +46,37 @@ pub struct Dealing {
     pub form: TicketForm,
 }
 
+/// How weights that were found are written.
+#[derive(Clone, Copy)]
+pub enum NearForm {
+    /// In words, for people.
+    Words,
+    /// As their text, which other commands read.
+    Text,
+    /// As JSON, for programs.
+    Json,
+}
+
 /// What is shown of weights that are near the best.
 #[derive(Clone, Copy)]
 pub struct NearPage {
     /// How they are written.
-    pub form: Form,
+    pub form: NearForm,
     /// How many tickets a cycle has at most, 1 to 1,000,000, if a length was asked for.
     pub cycle: Option<u64>,
-    /// How many tickets are dealt by them, 0 to 100,000, in place of a page about them.
+    /// How many tickets are dealt by them, 0 to 100,000, in place of a page about them. Their text has no
+    /// tickets.
     pub tickets: Option<u64>,
 }
 
 /// A command, with the words and numbers from the command line.
 #[derive(Drop)]
 pub enum ShowCommand {
-    /// Show a plan: whom to ask how often, and why no plan is better.
+    /// Show a plan, or other weights: whom to ask how often, and why no plan is better.
     Plan(Form),
-    /// Report on a plan as one HTML document.
+    /// Check a plan, or other weights, and write their load and its bound.
+    Check,
+    /// Report on a plan, or on other weights, as one HTML document.
     Report,
     /// Deal tickets, with the names of the voters to ask.
     Deal(Dealing),

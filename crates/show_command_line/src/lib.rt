@@ -16,5 +16,5 @@
 mod command;
 mod words;
 
-pub use command::{Dealing, Form, NearPage, Picture, ShowCommand, TicketForm};
+pub use command::{Dealing, Form, NearForm, NearPage, Picture, ShowCommand, TicketForm};
 pub use words::read_show_words;

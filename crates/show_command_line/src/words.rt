@@ -6,9 +6,9 @@ ghost use Rattle.command_line.specs.Words.{IsLocal, used_as};
 ghost use Rattle.command_line.specs.declared.usage.Usage.TheVariants.{Arguments, OutOfMemory};
 ghost use Rattle.show_command_line.specs.Commands.{IsShown};
 ghost use Rattle.show_command_line.specs.declared.command.Picture.{Picture};
-ghost use Rattle.show_command_line.specs.Words.{HasFlag, HasTexts, IsForm, MayHaveCapacities, capacity_rule, coterie_app, planners_app, IsNamedBy, IsTicketForm, MayHaveNumber, Names, Refuses, RefusesUse, compare_app, coteries_app, explain_app, fault_app, files_rule, flag_rule, near_app, near_cycle_rule, near_deal_rule, optional_rule, pages_app, plan_app, picture_app, picture_word, qlock_words, resilience_app, round_rule, show_app, tickets_app, waiting_app, without_app, words_rule};
+ghost use Rattle.show_command_line.specs.Words.{HasFlag, HasTexts, IsForm, IsNearForm, MayHaveCapacities, capacity_rule, coterie_app, planners_app, IsNamedBy, IsTicketForm, MayHaveNumber, Names, Refuses, RefusesUse, compare_app, coteries_app, explain_app, fault_app, files_rule, flag_rule, near_app, near_cycle_rule, near_deal_rule, optional_rule, pages_app, plan_app, picture_app, picture_word, qlock_words, resilience_app, round_rule, show_app, tickets_app, waiting_app, without_app, words_rule};
 
-use crate::command::{Dealing, Form, NearPage, Picture, ShowCommand, TicketForm};
+use crate::command::{Dealing, Form, NearForm, NearPage, Picture, ShowCommand, TicketForm};
 use clap::builder::ValueParser;
 use clap::{Arg, ArgAction, ArgMatches};
 use command_line::{
@@ -65,7 +65,7 @@ fn plan_command<'a>(alloc: Global) -> Result<clap::Command<'a>, AllocError>
     bare_command(
         alloc,
         "plan",
-        "Show a plan: whom to ask how often, and why no plan is better: a coterie, a line %%, and a plan",
+        "Show a plan: whom to ask how often, and why no plan is better: a coterie, a line %%, and a plan or weights",
     )
     .arg(json_argument(alloc))
 }
@@ -86,12 +86,12 @@ fn deal_command<'a>(alloc: Global) -> Result<clap::Command<'a>, AllocError>
     let command = bare_command(
         alloc,
         "deal",
-        "Deal tickets with the names of the voters to ask: a coterie, a line %%, and a plan",
+        "Deal tickets with the names of the voters to ask: a coterie, a line %%, and a plan or weights",
     );
     let even = flag_argument(
         alloc,
         "even",
-        "Deal in the order that is even from the first ticket",
+        "Deal in the order that is even from the first ticket, as is always done by weights that are no plan",
     );
     let names = flag_argument(
         alloc,
@@ -125,7 +125,7 @@ fn resilience_command<'a>(alloc: Global) -> Result<clap::Command<'a>, AllocError
     bare_command(
         alloc,
         "resilience",
-        "Show how many voters may fail, and which groups of them: a coterie, or a coterie, a line %%, and a plan",
+        "Show how many voters may fail, and which groups of them: a coterie, or a coterie, a line %%, and a plan or weights",
     )
     .arg(json_argument(alloc))
 }
@@ -203,7 +203,8 @@ fn near_cycle_argument<'a>(alloc: Global) -> Arg<'a>
     .value_name("N")
 }
 
-/// Returns the subcommand `near`, with the options `--cycle` and `--deal` and the flag `--json`.
+/// Returns the subcommand `near`, with the options `--cycle` and `--deal` and the flags `--text` and
+/// `--json`.
 fn near_command<'a>(alloc: Global) -> Result<clap::Command<'a>, AllocError>
     ensures app { IfOk result (λ c. app_of c ≡ near_app) }
     ensures local { IfOk result IsLocal }
@@ -213,8 +214,14 @@ fn near_command<'a>(alloc: Global) -> Result<clap::Command<'a>, AllocError>
         "near",
         "Find weights near the best where qlock plan finds no plan, with a bound below which no plan's load is: a coterie",
     );
+    let text = flag_argument(
+        alloc,
+        "text",
+        "Write the text of the weights, for check, plan, deal, report, resilience and picture load",
+    );
     let command = with_argument(Ok(command), near_cycle_argument(alloc));
     let command = with_argument(command, near_deal_argument(alloc));
+    let command = with_argument(command, text);
     with_argument(command, json_argument(alloc))
 }
 
@@ -337,11 +344,11 @@ fn picture_command<'a>(alloc: Global) -> Result<clap::Command<'a>, AllocError>
     bare_command(alloc, "picture", "Draw a picture, as SVG").arg(word_argument(
         alloc,
         "KIND",
-        "load or cycle (a coterie, a line %%, a plan), or world (and a line %%, a script)",
+        "load or cycle (a coterie, a line %%, a plan; for load also weights), or world (and a line %%, a script)",
     ))
 }
 
-/// Returns the command line with `plan`, `deal`, `world` and `report`.
+/// Returns the command line with `plan`, `check`, `deal`, `world` and `report`.
 fn pages_command<'a>(alloc: Global) -> Result<clap::Command<'a>, AllocError>
     ensures { IfOk result (λ c. app_of c ≡ pages_app) }
 {
@@ -351,6 +358,11 @@ fn pages_command<'a>(alloc: Global) -> Result<clap::Command<'a>, AllocError>
         "Show plans, coteries, faults and scripts of qlock, with names, in words and as pictures",
         VERSION,
     );
+    let check = bare_command(
+        alloc,
+        "check",
+        "Check a plan or weights, and write the load and the bound: a coterie, a line %%, and a plan or weights",
+    );
     let world = bare_command(
         alloc,
         "world",
@@ -359,9 +371,10 @@ fn pages_command<'a>(alloc: Global) -> Result<clap::Command<'a>, AllocError>
     let report = bare_command(
         alloc,
         "report",
-        "Report on a plan as one HTML page: load, quorums, failures borne, evenness, certificate: a coterie, a line %%, and a plan",
+        "Report on a plan as one HTML page: load, quorums, failures borne, evenness, certificate: a coterie, a line %%, and a plan or weights",
     );
     let parser = with_command(Ok(parser), plan_command(alloc));
+    let parser = with_command(parser, Ok(check));
     let parser = with_command(parser, deal_command(alloc));
     let parser = with_command(parser, Ok(world));
     with_command(parser, Ok(report))
@@ -445,6 +458,19 @@ fn ticket_form_of(used: &ArgMatches) -> TicketForm
     }
 }
 
+/// Returns how weights are written: as JSON with `--json`, as a text with `--text`, else in words.
+fn near_form_of(used: &ArgMatches) -> NearForm
+    ensures form { IsNearForm (rows_of (found_of used.now)) result }
+{
+    if has_flag(used, "json") {
+        NearForm::Json
+    } else if has_flag(used, "text") {
+        NearForm::Text
+    } else {
+        NearForm::Words
+    }
+}
+
 /// Returns `deal` with its number of tickets, and in the order and the form that its flags say.
 fn deal_of(used: &ArgMatches) -> Result<ShowCommand, Usage>
     ensures named { IfOk result (IsNamedBy (used_as (codes "deal") used.now)) }
@@ -482,7 +508,8 @@ fn number_if_given(
     }
 }
 
-/// Returns `near` with how long a cycle is at most, how many tickets are dealt, if any, and the form that its flag says.
+/// Returns `near` with how long a cycle is at most, how many tickets are dealt, if any, and the form that
+/// its flags say.
 fn near_of(used: &ArgMatches) -> Result<ShowCommand, Usage>
     ensures named { IfOk result (IsNamedBy (used_as (codes "near") used.now)) }
     ensures refused { IfErr result (RefusesUse (used_as (codes "near") used.now)) }
@@ -498,7 +525,7 @@ fn near_of(used: &ArgMatches) -> Result<ShowCommand, Usage>
         Err(usage) => return Err(usage),
     };
     Ok(ShowCommand::Near(NearPage {
-        form: form_of(used),
+        form: near_form_of(used),
         cycle,
         tickets,
     }))
@@ -705,6 +732,7 @@ fn command_named(alloc: Global, name: &str, used: &ArgMatches) -> Result<ShowCom
 {
     match name {
         "plan" => Ok(ShowCommand::Plan(form_of(used))),
+        "check" => Ok(ShowCommand::Check),
         "world" => Ok(ShowCommand::World),
         "report" => Ok(ShowCommand::Report),
         "resilience" => Ok(ShowCommand::Resilience(form_of(used))),

@@ -1,4 +1,4 @@
--- The quorums of a plan that a cycle uses are a coterie.
+-- The quorums that a cycle of weights uses are a coterie.
 use Rattle.std.proofs.Common.{◌≡◌, ℕ, zero, suc, ◌+◌, ◌<◌, ◌≤◌, cond, true, false, List, [], ◌∷◌, ◌++◌, length, get_or, map, slice_get, sym, subst, ap, ◌∙◌, arith, Some, Err}
 use Rattle.std.specs.Prelude.{All, AllPairs, filter, slice_index, sum}
 use Rattle.std.specs.List.{range_with_len}
@@ -13,7 +13,7 @@ use Rattle.numbers.specs.Sets.{IsSet, meet, within}
 use Rattle.quorum_set.specs.Coteries.{IsCoterie, coterie_of, coterie_or}
 use Rattle.quorum_set.specs.declared.fault.CoterieFault.{CoterieFault}
 use Rattle.quorum_set.proofs.FaultLaws.{first_fault-IsCoterie}
-use Rattle.certificate.specs.Certificates.{IsCertificate, Weighted}
+use Rattle.certificate.specs.Certificates.{AreWeights, Weighted}
 use Rattle.show_failures.specs.Used.{is_used, used_below, used_system}
 
 abbrev quorum_at : Weighted → ℕ → List ℕ
@@ -71,7 +71,7 @@ pairs_used w R all i j d lt inner =
     let here : j < length numbers = omega (arith, inner, length-map numbers (quorum_at w)) in
     rw (get_or-map (quorum_at w) numbers i 0 d (omega (arith, lt, here)), get_or-map (quorum_at w) numbers j 0 d here) (kept i j 0 lt here)
 
-some_used : (w : Weighted) → IsCertificate w → 0 < length (used_system w).quorums
+some_used : (w : Weighted) → AreWeights w → 0 < length (used_system w).quorums
 some_used w is =
     let n = length w.system.quorums in
     let numbers = range_with_len 0 n in
@@ -84,7 +84,7 @@ some_used w is =
     let least = get_or-le-sum_by (λ j. cond {A = ℕ} (is_used w j) 1 0) numbers found.0 0 (omega (arith, in_it, length-range_with_len 0 n)) in
     omega (arith, at, least, length-map (filter (is_used w) numbers) (quorum_at w), length-filter (is_used w) numbers)
 
-pub IsCoterie-used : (w : Weighted) → IsCertificate w → IsCoterie (used_system w)
+pub IsCoterie-used : (w : Weighted) → AreWeights w → IsCoterie (used_system w)
 IsCoterie-used w is =
     let s = is.coterie in
     let n = length w.system.quorums in
@@ -109,7 +109,7 @@ IsCoterie-used w is =
     }
 
 -- the quorums that a cycle uses have no fault
-pub no_used_fault : (w : Weighted) (e : CoterieFault) → IsCertificate w → coterie_of w.system.voters (used_below w (length w.system.quorums)) ≡ Err e → ⊥
+pub no_used_fault : (w : Weighted) (e : CoterieFault) → AreWeights w → coterie_of w.system.voters (used_below w (length w.system.quorums)) ≡ Err e → ⊥
 no_used_fault w e is refused =
     let none = first_fault-IsCoterie w.system.voters (used_below w (length w.system.quorums)) (IsCoterie-used w is) in
     let made = ap (λ f. coterie_or f (used_system w)) none in

@@ -1,9 +1,10 @@
 -- What a page says of the voters that may fail.
-use Rattle.std.specs.Prelude.{◌≡◌, ◌-◌, ◌||◌, ℕ, Bool, true, if◌then◌else◌, nat_lt, nat_le, List, [], ◌++◌, Option, None, Some, length, codes, decimal}
+use Rattle.std.specs.Prelude.{◌≡◌, ◌-◌, ◌||◌, ◌&&◌, ◌==◌, ℕ, Bool, true, if◌then◌else◌, nat_lt, nat_le, List, [], ◌++◌, Option, None, Some, length, codes, decimal}
 use Rattle.std.specs.List.{flat_map}
 use Rattle.failures.specs.Failures.{IsSmallest, IsTransversal}
 use Rattle.quorum_set.specs.Coteries.{QuorumSystem}
-use Rattle.certificate.specs.Certificates.{Weighted}
+use Rattle.certificate.specs.Bounds.{bound_of}
+use Rattle.certificate.specs.Certificates.{Weighted, load_of}
 use Rattle.coterie_file.specs.Named.{NamedSystem}
 use Rattle.show_failures.specs.Groups.{groups_of}
 use Rattle.show_failures.specs.Names.{names_text}
@@ -79,13 +80,18 @@ SaysBorne quorums names system text =
     (found : Resilience) × IsFound system found
     × (text ≡ resilience_text quorums names found ++ groups_text quorums names system (groups_of names))
 
--- how many of all quorums a plan uses
-abbrev pub used_text : Weighted → List ℕ
-used_text plan =
-    codes "\nthe plan's own quorums: " ++ (decimal (length (used_system plan).quorums) ++ (codes " of "
-    ++ (decimal (length plan.system.quorums) ++ codes ", those of positive weight\n")))
+-- whose the quorums are that a cycle uses: a plan's if the load is the bound, else the weights'
+abbrev pub owner_words : Weighted → List ℕ
+owner_words w =
+    if (load_of w).0 == (bound_of w).0 && (load_of w).1 == (bound_of w).1 then codes "the plan's" else codes "the weights'"
 
--- the text says the same of the quorums that the plan uses
+-- how many of all quorums a cycle uses
+abbrev pub used_text : Weighted → List ℕ
+used_text w =
+    codes "\n" ++ (owner_words w ++ (codes " own quorums: " ++ (decimal (length (used_system w).quorums) ++ (codes " of "
+    ++ (decimal (length w.system.quorums) ++ codes ", those of positive weight\n")))))
+
+-- the text says the same of the quorums that a cycle uses
 abbrev pub SaysPlan : List (List ℕ) → Weighted → List ℕ → Type 0
 SaysPlan names plan text =
     (rest : List ℕ) × SaysBorne OfPlan names (used_system plan) rest × (text ≡ used_text plan ++ rest)

@@ -1,4 +1,4 @@
--- The quorums of a plan that a cycle uses.
+-- The quorums that a cycle of weights uses.
 use Rattle.std.specs.Prelude.{ℕ, Bool, nat_lt, List, [], length, map, filter, slice_index, slice_index_or}
 use Rattle.std.specs.List.{range_with_len}
 use Rattle.quorum_set.specs.Coteries.{QuorumSystem}

@@ -3,7 +3,7 @@
 //!
 //! - [`without_page`] writes the coterie that is left when voters fail, so that it can be planned.
 //! - [`resilience_page`] says how many voters may fail, and which groups of them, such as racks. With a
-//!   plan it says the same of the quorums that the plan uses.
+//!   plan, or other weights, it says the same of the quorums that these use.
 //! - [`bridge_page`] says whether each quorum of one coterie meets each quorum of another.
 //!
 //! Voters are given by their names. In [`bridge_page`] voters of the two coteries are the same if
@@ -17,16 +17,16 @@
 //! [`first_quorums_apart`] returns the first two quorums without a common voter, or there is a bridge.
 //! The set of [`resilience_of`] meets every quorum. If it is a smallest one, none is smaller, and any
 //! voters that are fewer leave a quorum. That the search ends within a million steps is only tested.
-//! [`groups_of`] returns the groups of voters by name, and [`used_coterie`] the quorums of positive weight
-//! of a plan: they are a coterie.
+//! [`groups_of`] returns the groups of voters by name, and [`used_coterie`] the quorums of positive
+//! weight: they are a coterie.
 //!
 //! The page of [`resilience_page`] says how many voters may fail, and names a set whose failure leaves no
 //! quorum. If it does not call the number an upper bound, the set is a smallest one. It says for each
-//! group whether a quorum is left, and its second part is about the quorums that the plan uses.
+//! group whether a quorum is left, and its second part is about the quorums that the weights use.
 //! What the page of [`bridge_page`] says is only tested.
 //!
 //! Depends on `failures`, which finds what is left, on `quorum_set`, on `coterie_file` for names and
-//! texts, and on `certificate` for plans.
+//! texts, and on `certificate` for weights.
 //!
 //! ```
 //! // three racks a, b and c of three: a quorum is two of three voters in two of three racks

@@ -3,14 +3,14 @@ ghost use Rattle.std.specs.Prelude.{◌≡◌, ◌<◌, ◌≤◌, ◌-◌, ◌+
 ghost use Rattle.std.specs.List.{flat_map};
 ghost use Rattle.numbers.specs.Sets.{IsSet};
 ghost use Rattle.failures.specs.Failures.{Bears, IsSmallest, IsTransversal};
-ghost use Rattle.show_failures.specs.Resilience.{IsResiliencePage, SaysBorne, SaysPlan, answer_words, are_plain, blocking_words, borne_words, group_text, group_words, groups_text, most_words, resilience_text, search_words, set_words, used_text};
+ghost use Rattle.show_failures.specs.Resilience.{IsResiliencePage, SaysBorne, SaysPlan, answer_words, are_plain, blocking_words, borne_words, group_text, group_words, groups_text, most_words, owner_words, resilience_text, search_words, set_words, used_text};
 ghost use Rattle.show_failures.specs.Used.{used_system};
 ghost use Rattle.show_failures.specs.Without.{is_borne};
 
 use crate::groups::groups_of;
 use crate::names::names_text;
 use crate::used::used_coterie;
-use certificate::Plan;
+use certificate::Weights;
 use coterie_file::Named;
 use failures::{bears, transversal_of};
 use quorum_set::{Coterie, QSet};
@@ -56,7 +56,7 @@ pub fn resilience_of(coterie: &Coterie) -> Resilience
 pub(crate) enum Quorums {
     /// All quorums of a coterie.
     OfCoterie,
-    /// Those that a plan uses.
+    /// Those that a plan, or other weights, use.
     OfPlan,
 }
 
@@ -235,39 +235,51 @@ fn borne_text(
     Ok(text)
 }
 
-/// Appends how many of all quorums a plan uses.
-fn push_used(text: &mut String, plan: &Plan, used: &Coterie) -> Result<(), AllocError>
-    requires { used.now ≡ used_system plan.now }
-    ensures { OnOk result (string_bytes text.new ≡ string_bytes text.old ++ used_text plan.now) }
+/// Returns whose the quorums are that a cycle uses: a plan's if the load is the bound, else the weights'.
+fn owner_words(weights: &Weights) -> &'static str
+    ensures { result.now ≡ owner_words weights.now }
 {
+    if weights.load() == weights.bound() {
+        "the plan's"
+    } else {
+        "the weights'"
+    }
+}
+
+/// Appends how many of all quorums a plan, or other weights, use.
+fn push_used(text: &mut String, weights: &Weights, used: &Coterie) -> Result<(), AllocError>
+    requires { used.now ≡ used_system weights.now }
+    ensures { OnOk result (string_bytes text.new ≡ string_bytes text.old ++ used_text weights.now) }
+{
+    let owner = owner_words(weights);
     let count = used.count();
-    let all = plan.coterie().count();
+    let all = weights.coterie().count();
     write!(
         text,
-        "\nthe plan's own quorums: {count} of {all}, those of positive weight\n"
+        "\n{owner} own quorums: {count} of {all}, those of positive weight\n"
     )
 }
 
-/// Returns what the quorums bear that a plan uses.
-fn plan_text(alloc: Global, named: &Named, plan: &Plan) -> Result<String, AllocError>
-    requires { plan.now.system ≡ named.now.system }
-    ensures { IfOk result (λ text. SaysPlan named.now.names plan.now (string_bytes text)) }
+/// Returns what the quorums bear that a plan, or other weights, use.
+fn plan_text(alloc: Global, named: &Named, weights: &Weights) -> Result<String, AllocError>
+    requires { weights.now.system ≡ named.now.system }
+    ensures { IfOk result (λ text. SaysPlan named.now.names weights.now (string_bytes text)) }
 {
-    let used = used_coterie(alloc, plan)?;
+    let used = used_coterie(alloc, weights)?;
     let rest = borne_text(alloc, named, &used, Quorums::OfPlan)?;
     let mut text = String::new(alloc);
-    push_used(&mut text, plan, &used)?;
+    push_used(&mut text, weights, &used)?;
     text.push_str(rest.as_str())?;
     Ok(text)
 }
 
-/// Returns what all quorums bear, and those that a plan uses.
-fn both_texts(alloc: Global, named: &Named, plan: &Plan) -> Result<String, AllocError>
-    requires { plan.now.system ≡ named.now.system }
-    ensures { IfOk result (λ page. IsResiliencePage named.now (Some plan.now) (string_bytes page)) }
+/// Returns what all quorums bear, and those that a plan, or other weights, use.
+fn both_texts(alloc: Global, named: &Named, weights: &Weights) -> Result<String, AllocError>
+    requires { weights.now.system ≡ named.now.system }
+    ensures { IfOk result (λ page. IsResiliencePage named.now (Some weights.now) (string_bytes page)) }
 {
     let mut text = borne_text(alloc, named, named.coterie(), Quorums::OfCoterie)?;
-    let second = plan_text(alloc, named, plan)?;
+    let second = plan_text(alloc, named, weights)?;
     text.push_str(second.as_str())?;
     Ok(text)
 }
@@ -276,8 +288,8 @@ fn both_texts(alloc: Global, named: &Named, plan: &Plan) -> Result<String, Alloc
 /// for each group of voters whether all of it may fail. The names of a group differ only in the
 /// digits at their ends, and in marks right before these: `a1`, `a2` and `a3`.
 ///
-/// With a plan of the coterie a second part says the same of the plan's own quorums, those of
-/// positive weight. When all of these are lost, the plan deals no quorum that can be taken, though
+/// With a plan or other weights of the coterie a second part says the same of the plan's own quorums, those
+/// of positive weight. When all of these are lost, the plan deals no quorum that can be taken, though
 /// another plan may.
 ///
 /// Each set is a smallest one if the search for it ends within a million steps. Otherwise the page
@@ -285,16 +297,16 @@ fn both_texts(alloc: Global, named: &Named, plan: &Plan) -> Result<String, Alloc
 pub fn resilience_page(
     alloc: Global,
     named: &Named,
-    plan: Option<&Plan>,
+    weights: Option<&Weights>,
 ) -> Result<String, AllocError>
-    requires plan { IfSome plan (λ p. p.now.system ≡ named.now.system) }
-    // An upper bound is called one, and the second part is about the quorums that the plan uses.
+    requires weights { IfSome weights (λ w. w.now.system ≡ named.now.system) }
+    // An upper bound is called one, and the second part is about the quorums that the weights use.
     ensures said { IfOk result (λ page.
-        MatchOption plan.entry (IsResiliencePage named.now None (string_bytes page))
-        (λ p. IsResiliencePage named.now (Some p.now) (string_bytes page))) }
+        MatchOption weights.entry (IsResiliencePage named.now None (string_bytes page))
+        (λ w. IsResiliencePage named.now (Some w.now) (string_bytes page))) }
 {
-    match plan {
+    match weights {
         None => borne_text(alloc, named, named.coterie(), Quorums::OfCoterie),
-        Some(plan) => both_texts(alloc, named, plan),
+        Some(weights) => both_texts(alloc, named, weights),
     }
 }

@@ -31,7 +31,7 @@ coterie_codes =
 abbrev pub plan_codes : List (List ℕ)
 plan_codes =
     codes "P1" ∷ codes "P2" ∷ codes "P3" ∷ codes "P4" ∷ codes "P5" ∷ codes "P6" ∷ codes "P7" ∷ codes "P8" ∷ codes "P9" ∷
-    codes "N1" ∷
+    codes "P10" ∷ codes "N1" ∷
     []
 
 -- the codes of the faults of scripts and records

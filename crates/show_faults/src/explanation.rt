@@ -3,7 +3,7 @@
 /// What a fault means, how to get it, and what usually leads to it.
 #[derive(Clone, Copy)]
 pub struct Explanation {
-    /// The code, a letter and a digit, as in `E7`.
+    /// The code, a letter and a number, as in `E7`.
     pub code: &'static str,
     /// The name, as in `Disjoint`.
     pub name: &'static str,

@@ -67,7 +67,8 @@ const P5: Explanation = Explanation {
         P5 BadText 3",
     mistakes: "Carriage returns, no newline at the end, a leading zero, or two spaces.\n\
         An empty line before or after the plan. Or version 2 with capacities\n\
-        that are all 1: that is version 1, without the line `capacity`.",
+        that are all 1: that is version 1, without the line `capacity`. Or\n\
+        `./qlock` was given a text of weights, which `qlock-show` alone reads.",
 };
 
 const P6: Explanation = Explanation {
@@ -89,7 +90,8 @@ const P7: Explanation = Explanation {
     name: "WrongCycle",
     arguments: "",
     meaning: "The plan is optimal and has the right load, and its third line is not the\n\
-        sum of the quorums' weights.",
+        sum of the quorums' weights. Of a text of weights it is the fourth line, which\n\
+        is tested after the bound.",
     example: "$ sed 's/^cycle 5/cycle 10/' examples/wheel-3-planned.txt | ./qlock check\n\
         P7 WrongCycle",
     mistakes: "All weights were multiplied by a number, and the cycle was not. Write\n\
@@ -132,6 +134,19 @@ const P9: Explanation = Explanation {
         again. Or it is the plan of another coterie.",
 };
 
+const P10: Explanation = Explanation {
+    code: "P10",
+    name: "WrongBound",
+    arguments: "",
+    meaning: "The text of weights has their load, and its third line is not their bound. The\n\
+        bound is written in lowest terms.",
+    example: "$ sed 's,^bound 3/5,bound 6/10,' examples/wheel-3-near.txt | ./qlock-show check\n\
+        P10 WrongBound",
+    mistakes: "The voters' weights were changed, and the bound was not. Or it is not in\n\
+        lowest terms. It is the least weight of a quorum's members, divided by\n\
+        the sum of the voters' weights, each times the capacity.",
+};
+
 const N1: Explanation = Explanation {
     code: "N1",
     name: "NoPlan",
@@ -157,5 +172,5 @@ const N1: Explanation = Explanation {
 pub(crate) fn plans() -> &'static [Explanation]
     ensures { codes_of result.now ≡ plan_codes }
 {
-    &[P1, P2, P3, P4, P5, P6, P7, P8, P9, N1]
+    &[P1, P2, P3, P4, P5, P6, P7, P8, P9, P10, N1]
 }

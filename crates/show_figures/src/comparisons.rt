@@ -2,6 +2,8 @@
 ghost use Rattle.std.specs.Prelude.{◌≡◌, ◌-◌, ◌<◌, ◌≤◌, ℕ, All, List, length, map, true, IfNone, IfOk, IfSome};
 ghost use Rattle.numbers.specs.Sets.{IsSet};
 ghost use Rattle.quorum_set.specs.Capacities.{AreCapacities, are_unit};
+ghost use Rattle.certificate.specs.Bounds.{bound_of};
+ghost use Rattle.certificate.specs.Certificates.{load_of};
 ghost use Rattle.failures.specs.Failures.{Bears, IsSmallest, IsTransversal, MeetsEach, system_without};
 ghost use Rattle.known_loads.specs.SmallestQuorums.{smallest_size};
 ghost use Rattle.show_failures.specs.Groups.{groups_of};
@@ -63,7 +65,9 @@ pub struct Comparison {
 
 /// Returns the load of weights, and its bound.
 pub fn loads_of_weights(weights: &Weights) -> Loads
-    ensures { AreLoads weights.now.system weights.now.capacities result }
+    ensures load { result.load ≡ load_of weights.now }
+    ensures bound { result.bound ≡ bound_of weights.now }
+    ensures loads { AreLoads weights.now.system weights.now.capacities result }
 {
     Loads {
         load: weights.load(),

@@ -2,6 +2,7 @@
 ghost use Rattle.std.specs.Prelude.{◌≡◌, ◌≤◌, false, true, length, map, IfOk};
 ghost use Rattle.std.specs.List.{range_with_len};
 ghost use Rattle.numbers.specs.Bounds.{max_dealt};
+ghost use Rattle.certificate.specs.Certificates.{IsCertificate};
 ghost use Rattle.show_figures.specs.Deals.{IsEvenDeal, IsRoundsDeal, even_receipt};
 
 use crate::even_order::account_below;
@@ -74,22 +75,25 @@ fn dealt_by_rounds(alloc: Global, plan: Plan, count: u64) -> Result<Dealt, Alloc
     })
 }
 
-/// Deals the tickets below `count`, 100,000 at most, in the even order or by rounds. Fails only if it
-/// runs out of memory.
+/// Deals the tickets below `count`, 100,000 at most: in the even order, or by rounds if the weights are a
+/// plan and this order is not asked for. Fails only if it runs out of memory.
 pub fn dealt_tickets(
     alloc: Global,
-    plan: Plan,
+    weights: Weights,
     count: u64,
     is_even: bool,
 ) -> Result<Dealt, AllocError>
     requires count { count ≤ max_dealt }
-    ensures even { IfOk result (λ d. is_even ≡ true → IsEvenDeal plan count d) }
-    ensures rounds { IfOk result (λ d. is_even ≡ false → IsRoundsDeal plan count d) }
-    ensures one_each { IfOk result (λ d. length d.account.voters ≡ plan.system.voters) }
+    ensures even { IfOk result (λ d. is_even ≡ true → IsEvenDeal weights count d) }
+    ensures rounds { IfOk result (λ d. is_even ≡ false → IsCertificate weights → IsRoundsDeal weights count d) }
+    ensures near { IfOk result (λ d. ¬ IsCertificate weights → IsEvenDeal weights count d) }
+    ensures one_each { IfOk result (λ d. length d.account.voters ≡ weights.system.voters) }
 {
     if is_even {
-        evenly_dealt(alloc, plan.into_weights(), count)
-    } else {
-        dealt_by_rounds(alloc, plan, count)
+        return evenly_dealt(alloc, weights, count);
+    }
+    match weights.into_plan() {
+        Ok(plan) => dealt_by_rounds(alloc, plan, count),
+        Err(weights) => evenly_dealt(alloc, weights, count),
     }
 }

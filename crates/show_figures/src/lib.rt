@@ -1,29 +1,27 @@
-//! The figures that pages show: of plans, coteries, dealt tickets and weights near the best.
+//! The figures that pages show: of plans and other weights, of coteries, and of dealt tickets.
 //!
 //! The crates of words, tables, JSON and pictures take their figures from here, and promise safety alone.
 //!
-//! - [`plan_figures`] has the load of a plan, its cycle, the sums of its certificate, and the sizes that
-//!   bound its load. [`quorum_figures`], [`voter_figures`] and [`weight_figures`] say how often a cycle
-//!   uses each quorum and each voter, and what the voters weigh, [`busy_part`] how busy a voter is, and
-//!   [`slack_of`] how even the even order is.
-//! - [`near_voter`] says how often weights near the best use a voter, and its weight.
+//! - [`totals_of`] has the load of weights and its bound, their cycle, the sums by which the load is
+//!   bounded, and the sizes that bound any load. [`quorum_figures`], [`voter_figures`] and
+//!   [`weight_figures`] say how often a cycle uses each quorum and each voter, and what the voters weigh,
+//!   [`busy_part`] how busy a voter is, and [`slack_of`] how even the even order is.
 //! - [`comparison_of`] has the figures of a coterie: how many voters and quorums there are, how many
 //!   members the quorums have, the load, how many voters may fail, and the load of what is left when a
 //!   group of voters fails, such as a rack ([`losses_of`]). The load is that of the plan that `planner`
 //!   finds: it is the smallest possible one. If it finds none, the load is that of the weights that `near`
 //!   finds, with a bound.
-//! - [`dealt_tickets`] deals tickets by rounds, as `qlock deal` does, or in the even order;
-//!   [`evenly_dealt`] deals those of any weights in the even order.
+//! - [`dealt_tickets`] deals tickets of a plan by rounds, as `qlock deal` does, or those of any weights in
+//!   the even order, as [`evenly_dealt`] does.
 //! - [`share`], [`tenths`] and [`parts_above`] round parts of a whole, and [`name_of`] has the
 //!   name of a voter.
 //!
 //! # What is proved
 //!
-//! The figures of a plan are those of the definitions in `certificate` and `known_loads`: each quorum
+//! The figures of weights are those of the definitions in `certificate` and `known_loads`: each quorum
 //! that a cycle uses is there, with its weight, the most used first, of equally used ones the smaller
-//! number first. Each voter is there with its count and its capacity, and each voter that has a weight
-//! with its weight. The slack is that of the even order of the plan. Of weights near the best the count
-//! and the weight of a voter are exact too.
+//! number first. Each voter is there with its count, its capacity and its weight, and once more if it has
+//! a weight. The slack is that of the even order of the weights.
 //!
 //! Of a coterie the numbers of voters and of quorums, the least and the greatest number of members, and
 //! the groups are exact. Each load is that of some weights of the coterie, or of what is left of it, and
@@ -39,8 +37,8 @@
 //!
 //! ```
 //! // Of the wheel with three rims:
-//! plan_figures(&plan).load                      // 3/5
-//! let figures = quorum_figures(alloc, &plan)?;
+//! totals_of(plan.weights()).loads.load          // 3/5
+//! let figures = quorum_figures(alloc, plan.weights())?;
 //! figures[0]                                    // quorum 3, of weight 2
 //! comparison_of(alloc, &named)?.loads.load      // 3/5
 //! ```
@@ -53,7 +51,6 @@ mod deal;
 mod even_order;
 mod figures;
 mod names;
-mod near_voters;
 mod shares;
 mod sizes;
 mod slacks;
@@ -66,7 +63,6 @@ pub use figures::{
     weight_figures,
 };
 pub use names::name_of;
-pub use near_voters::{NearVoter, near_voter};
 pub use shares::{parts_above, share, tenths};
 pub use slacks::slack_of;
-pub use totals::{PlanFigures, plan_figures};
+pub use totals::{Totals, totals_of};

@@ -14,6 +14,8 @@ pub enum Kind {
     Coterie,
     /// A plan.
     Plan,
+    /// Weights that need not be a plan.
+    Weights,
     /// A script.
     Script,
     /// A record.
@@ -26,6 +28,7 @@ impl Kind {
         match self {
             Kind::Coterie => "the coterie",
             Kind::Plan => "the plan",
+            Kind::Weights => "the weights",
             Kind::Script => "the script",
             Kind::Record => "the record",
         }
@@ -36,6 +39,7 @@ impl Kind {
         match self {
             Kind::Coterie => "a coterie",
             Kind::Plan => "a plan",
+            Kind::Weights => "a text of weights",
             Kind::Script => "a script",
             Kind::Record => "a record",
         }
@@ -70,6 +74,9 @@ fn kind_of(alloc: Global, text: &[u8]) -> Result<Option<Kind>, AllocError> {
     if text.starts_with(b"quorum-plan ") {
         return Ok(Some(Kind::Plan));
     }
+    if text.starts_with(b"quorum-weights ") {
+        return Ok(Some(Kind::Weights));
+    }
     if text.starts_with(b"quorum-record ") {
         return Ok(Some(Kind::Record));
     }
@@ -96,6 +103,14 @@ fn push_order(text: &mut String, command: &Command) -> Result<(), AllocError> {
     }
 }
 
+/// Appends which program reads weights, if a text is of that kind.
+fn push_reader(text: &mut String, kind: Kind) -> Result<(), AllocError> {
+    if kind == Kind::Weights {
+        text.push_str("  qlock-show reads weights: its commands check, plan and deal show them\n")?;
+    }
+    Ok(())
+}
+
 /// Appends that a part looks like another kind of text, if it does.
 fn push_other_kind(
     alloc: Global,
@@ -111,7 +126,8 @@ fn push_other_kind(
     }
     write!(text, "  this looks like {}: ", kind.one())?;
     push_order(text, refused.command)?;
-    text.push('\n')
+    text.push('\n')?;
+    push_reader(text, kind)
 }
 
 /// Appends that a part begins with a byte order mark, if it does.

@@ -7,7 +7,7 @@ use certificate::lowest_terms;
 use coterie_file::Named;
 use dealer::{Account, Receipt};
 use even::Slack;
-use plan_inputs::Planned;
+use plan_inputs::Weighed;
 use serde::Serialize;
 use show_figures::{Dealt, Evenness, dealt_tickets};
 use std::alloc::{AllocError, Global};
@@ -31,6 +31,10 @@ struct EvenPart {
 /// Dealt tickets.
 #[derive(Drop, Serialize)]
 struct DealPage<'a> {
+    /// The load of the weights that they are dealt by.
+    load: Fraction,
+    /// No weights have a load below this.
+    bound: Fraction,
     tickets: Vec<Ticket<'a>>,
     counts: Vec<Count<'a>>,
     /// How often the tickets use the voter that is busiest for its capacity, divided by this capacity.
@@ -40,7 +44,7 @@ struct DealPage<'a> {
 }
 
 /// Returns the tickets of these receipts.
-fn tickets_of<'a>(
+pub(crate) fn tickets_of<'a>(
     alloc: Global,
     named: &'a Named,
     receipts: &[Receipt],
@@ -79,24 +83,28 @@ fn even_part(evenness: Evenness) -> EvenPart {
     }
 }
 
-/// Returns the tickets below `count`, dealt in the even order or by rounds, as one line of JSON: for
-/// each its quorum and the voters to ask, then how often they use each voter, and in the even order its
-/// stride and its slack. Fails only if it runs out of memory.
+/// Returns the tickets below `count`, dealt in the even order, or by rounds if the weights are a plan and
+/// this order is not asked for, as one line of JSON: the load and its bound, for each ticket its quorum and
+/// the voters to ask, then how often they use each voter, and in the even order its stride and its slack.
+/// Fails only if it runs out of memory.
 pub fn deal_json(
     alloc: Global,
-    planned: Planned,
+    weighed: Weighed,
     count: u64,
     is_even: bool,
 ) -> Result<String, AllocError>
     requires count { count ≤ max_dealt }
 {
-    let Planned { named, plan } = planned;
+    let Weighed { named, weights } = weighed;
+    let (load, bound) = (weights.load(), weights.bound());
     let Dealt {
         account,
         receipts,
         evenness,
-    } = dealt_tickets(alloc, plan, count, is_even)?;
+    } = dealt_tickets(alloc, weights, count, is_even)?;
     let page = DealPage {
+        load: fraction_of(load),
+        bound: fraction_of(bound),
         tickets: tickets_of(alloc, &named, &receipts)?,
         counts: counts_of(alloc, &named, &account)?,
         busiest: fraction_of(account.ratio),

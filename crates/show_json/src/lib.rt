@@ -1,10 +1,12 @@
-//! Pages for programs: plans, dealt tickets, what coteries bear, and comparisons, as JSON.
+//! Pages for programs, as JSON: plans and other weights, dealt tickets, what coteries bear, and
+//! comparisons.
 //!
 //! Each page is one object on one line, with a newline at the end. Keys are in `snake_case`. Numbers
 //! are whole: a load is an object of a numerator and a denominator, in lowest terms. Quorums and
 //! tickets are numbered from 0, and voters have their names.
 //!
-//! - [`plan_json`] has a plan, and [`near_json`] weights that are near the best, and tickets by them.
+//! - [`weights_json`] has a plan, or other weights, and [`found_json`] weights that were found, and tickets
+//!   by them.
 //! - [`deal_json`] has dealt tickets with their quorums, how often each voter is used, and how even the
 //!   even order is.
 //! - [`resilience_json`] says how many voters may fail, and which groups of them.
@@ -17,19 +19,17 @@
 //!
 //! ```
 //! // Of the wheel with three rims:
-//! plan_json(alloc, &named, &plan)?; // {"load":{"numerator":3,"denominator":5},"cycle":5,..
+//! weights_json(alloc, &named, plan.weights())?; // {"load":{"numerator":3,"denominator":5},"bound":..
 //! ```
 #![tactic(auto)]
 
 mod compared;
 mod dealt;
-mod near_plans;
 mod parts;
-mod plans;
 mod resilience;
+mod weights;
 
 pub use compared::compare_json;
 pub use dealt::deal_json;
-pub use near_plans::near_json;
-pub use plans::plan_json;
 pub use resilience::resilience_json;
+pub use weights::{found_json, weights_json};

@@ -24,7 +24,7 @@ pub(crate) struct Quorum<'a> {
     pub(crate) voters: Vec<&'a str>,
 }
 
-/// A voter of a plan.
+/// A voter.
 #[derive(Drop, Serialize)]
 pub(crate) struct Voter<'a> {
     pub(crate) name: &'a str,
@@ -32,7 +32,7 @@ pub(crate) struct Voter<'a> {
     pub(crate) capacity: u64,
     /// How often a cycle uses it.
     pub(crate) count: u64,
-    /// Its weight in the certificate.
+    /// Its weight, by which the load is bounded.
     pub(crate) weight: u64,
 }
 

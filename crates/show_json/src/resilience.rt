@@ -1,7 +1,7 @@
 //! What a coterie bears, as JSON.
 
 use crate::parts::{line_of, names_of};
-use certificate::Plan;
+use certificate::Weights;
 use coterie_file::Named;
 use failures::bears;
 use quorum_set::{Coterie, QSet};
@@ -17,7 +17,7 @@ struct Group<'a> {
     may_fail: bool,
 }
 
-/// What the quorums of a plan bear.
+/// What the quorums bear that a cycle uses.
 #[derive(Drop, Serialize)]
 struct Borne<'a> {
     /// How many quorums there are.
@@ -31,7 +31,7 @@ struct Borne<'a> {
     groups: Vec<Group<'a>>,
 }
 
-/// What a coterie bears, and what the quorums of a plan bear if there is a plan.
+/// What a coterie bears, and what the quorums bear that a plan, or other weights, use if there are any.
 #[derive(Drop, Serialize)]
 struct ResiliencePage<'a> {
     quorums: usize,
@@ -77,15 +77,15 @@ fn borne_by<'a>(
     })
 }
 
-/// Returns what the quorums bear that a plan uses, if there is a plan.
-fn borne_by_plan<'a>(
+/// Returns what the quorums bear that a plan, or other weights, use if there are any.
+fn borne_by_used<'a>(
     alloc: Global,
     named: &'a Named,
-    plan: Option<&Plan>,
+    weights: Option<&Weights>,
 ) -> Result<Option<Borne<'a>>, AllocError> {
-    match plan {
-        Some(plan) => {
-            let used = used_coterie(alloc, plan)?;
+    match weights {
+        Some(weights) => {
+            let used = used_coterie(alloc, weights)?;
             Ok(Some(borne_by(alloc, named, &used)?))
         }
         None => Ok(None),
@@ -93,12 +93,13 @@ fn borne_by_plan<'a>(
 }
 
 /// Returns as one line of JSON how many voters of a coterie may fail, voters without which no quorum
-/// is left, and for each group of voters whether all of it may fail. With a plan of the coterie `plan`
-/// has the same of the plan's own quorums, those of positive weight. Fails only if it runs out of memory.
+/// is left, and for each group of voters whether all of it may fail. With a plan or other weights of the
+/// coterie `plan` has the same of their own quorums, those of positive weight. Fails only if it runs out of
+/// memory.
 pub fn resilience_json(
     alloc: Global,
     named: &Named,
-    plan: Option<&Plan>,
+    weights: Option<&Weights>,
 ) -> Result<String, AllocError> {
     let Borne {
         quorums,
@@ -113,7 +114,7 @@ pub fn resilience_json(
         is_exact,
         blocking,
         groups,
-        plan: borne_by_plan(alloc, named, plan)?,
+        plan: borne_by_used(alloc, named, weights)?,
     };
     line_of(alloc, &page)
 }

@@ -1,14 +1,14 @@
-//! A bar for each voter, and the line below which no plan can go.
+//! A bar for each voter, and the line below which no load is.
 use crate::columns::Columns;
-use certificate::Plan;
+use certificate::Weights;
 use coterie_file::Named;
 use quorum_set::are_unit;
-use show_figures::{VoterFigure, name_of, share};
+use show_figures::{Loads, VoterFigure, loads_of_weights, name_of, parts_above, share};
 use show_svg::{
     Area, Point, close_group, close_text, close_title, line, open_text, open_titled, push_escaped,
     rect,
 };
-use show_words::{push_percent, push_quotient, push_tenths};
+use show_words::{push_mark, push_percent, push_quotient, push_tenths};
 use std::alloc::AllocError;
 
 /// How high the room for the bars is.
@@ -19,6 +19,9 @@ const LABELLED: u64 = 42;
 
 /// How wide it is at least so that there is room for a sign behind the label.
 const ROOMY: u64 = 60;
+
+/// Of how many parts a bound is made, to which a load is compared.
+const PARTS: u64 = 100_000;
 
 /// An axis for shares of the whole.
 #[derive(Clone, Copy)]
@@ -61,7 +64,7 @@ const AXES: [Axis; 7] = [
     },
 ];
 
-/// The bars of a plan.
+/// The bars of a plan or of other weights.
 #[derive(Clone, Copy)]
 pub struct Bars {
     /// How far the lower ends of the bars are from the upper edge.
@@ -92,26 +95,36 @@ fn axis_for(part: u64, whole: u64) -> Axis {
     best
 }
 
-/// Returns the axis of a plan: for its load, or for parts of the busiest voter if some capacity is
+/// Returns the axis of weights: for their load, or for parts of the busiest voter if some capacity is
 /// not 1.
-fn axis_of(plan: &Plan) -> Axis {
-    if are_unit(plan.capacities()) {
-        let (part, whole) = plan.load();
+fn axis_of(weights: &Weights) -> Axis {
+    if are_unit(weights.capacities()) {
+        let (part, whole) = weights.load();
         axis_for(part, whole)
     } else {
         axis_for(1, 1)
     }
 }
 
+/// Appends the load, and how far it is above the bound at most. Appends nothing if it is the bound.
+fn push_load(out: &mut String, loads: Loads) -> Result<(), AllocError> {
+    if loads.load == loads.bound {
+        return Ok(());
+    }
+    let (part, whole) = loads.load;
+    write!(out, "; these weights have {part}/{whole}")?;
+    push_mark(out, loads)
+}
+
 impl Bars {
-    /// Returns the bars of a plan, with their lower ends at this height.
-    pub fn of(plan: &Plan, base: u64) -> Bars {
+    /// Returns the bars of weights, with their lower ends at this height.
+    pub fn of(weights: &Weights, base: u64) -> Bars {
         Bars {
             base,
-            axis: axis_of(plan),
-            len: plan.cycle_len(),
-            unit: are_unit(plan.capacities()),
-            ratio: plan.ratio(),
+            axis: axis_of(weights),
+            len: weights.cycle_len(),
+            unit: are_unit(weights.capacities()),
+            ratio: weights.ratio(),
         }
     }
 
@@ -245,36 +258,41 @@ impl Bars {
         Ok(())
     }
 
-    /// Returns how far the line below which no plan can go is from the upper edge.
-    fn limit(&self, load: (u64, u64)) -> u64 {
+    /// Returns how far the line below which no load is is from the upper edge. If some capacity is not 1,
+    /// the axis is for parts of the load.
+    fn limit(&self, loads: Loads) -> u64 {
         if self.unit {
-            self.top(load.0, load.1)
-        } else {
-            self.top(1, 1)
+            let (part, whole) = loads.bound;
+            return self.top(part, whole);
         }
+        let above = parts_above(loads.load, loads.bound, PARTS).min(u128::from(u32::MAX)) as u64;
+        self.top(PARTS, above.saturating_add(PARTS))
     }
 
-    /// Appends the load below which no plan can go, in percent or with its throughput.
-    fn push_load(&self, out: &mut String, load: (u64, u64)) -> Result<(), AllocError> {
-        let (part, whole) = load;
+    /// Appends the bound below which no load is, in percent or with its throughput, and how far the load
+    /// is above it at most.
+    fn push_bound(&self, out: &mut String, loads: Loads) -> Result<(), AllocError> {
+        let (part, whole) = loads.bound;
         write!(out, "no plan is below {part}/{whole}")?;
         if self.unit {
             out.push_str(",")?;
-            return push_percent(out, part, whole);
+            push_percent(out, part, whole)?;
+        } else {
+            out.push_str(": throughput ")?;
+            push_quotient(out, whole, part)?;
         }
-        out.push_str(": throughput ")?;
-        push_quotient(out, whole, part)
+        push_load(out, loads)
     }
 
-    /// Appends the line at the plan's load, below which no plan can go.
+    /// Appends the line at the bound, below which no load is.
     pub fn push_limit(
         &self,
         out: &mut String,
         columns: &Columns,
-        plan: &Plan,
+        weights: &Weights,
     ) -> Result<(), AllocError> {
-        let load = plan.load();
-        let y = self.limit(load);
+        let loads = loads_of_weights(weights);
+        let y = self.limit(loads);
         let left = columns.left();
         let to = Point::at(columns.right().saturating_add(8), y);
         line(
@@ -285,7 +303,7 @@ impl Bars {
         )?;
         let place = Point::at(left.saturating_add(4), y.saturating_sub(5));
         open_text(out, place, "fill=\"#b22222\" font-weight=\"bold\"")?;
-        self.push_load(out, load)?;
+        self.push_bound(out, loads)?;
         close_text(out)
     }
 }

@@ -24,7 +24,7 @@ const LEAST_WIDTH: u64 = 680;
 /// Returns how the count of the busiest voter grows in the even order of a plan, and the order's slack.
 fn even_samples(alloc: Global, plan: &Plan) -> Result<(Vec<Sample>, Slack), AllocError> {
     let even = EvenCycle::of(alloc, plan.weights().copy(alloc)?)?;
-    let samples = samples_of(alloc, plan, Order::Even(&even), POINTS)?;
+    let samples = samples_of(alloc, plan.weights(), Order::Even(&even), POINTS)?;
     Ok((samples, even.slack()))
 }
 
@@ -36,9 +36,9 @@ fn push_growth(
     plan: &Plan,
     cycle: &Cycle,
 ) -> Result<(), AllocError> {
-    let rounds = samples_of(alloc, plan, Order::Rounds(cycle), POINTS)?;
+    let rounds = samples_of(alloc, plan.weights(), Order::Rounds(cycle), POINTS)?;
     let (even, slack) = even_samples(alloc, plan)?;
-    growth.push_graph(out, plan, &rounds, &even, slack)
+    growth.push_graph(out, plan.weights(), &rounds, &even, slack)
 }
 
 /// Appends the heading, which says what the strip is.
@@ -73,7 +73,7 @@ fn push_cycle(
     cycle: &Cycle,
 ) -> Result<(), AllocError> {
     let strip = Strip::of(named, voters, plan.cycle_len());
-    let growth = Growth::of(&strip, plan, BETWEEN);
+    let growth = Growth::of(&strip, plan.weights(), BETWEEN);
     let width = strip.right().saturating_add(60).max(LEAST_WIDTH);
     let height = growth.base().saturating_add(50);
     open_picture(out, width, height, "The first cycle, ticket by ticket")?;
@@ -89,7 +89,7 @@ fn push_cycle(
 /// whole cycle, beside the least that is possible, and the same in the even order of the crate
 /// `even`. The plan is one of the named coterie. Fails only if memory runs out.
 pub fn cycle_picture(alloc: Global, named: &Named, plan: &Plan) -> Result<Drawing, AllocError> {
-    let voters = voter_figures(alloc, plan)?;
+    let voters = voter_figures(alloc, plan.weights())?;
     let cycle = Cycle::from_plan(alloc, plan.copy(alloc)?)?;
     let mut out = String::new(alloc);
     push_cycle(alloc, &mut out, named, plan, &voters, &cycle)?;

@@ -3,7 +3,7 @@ ghost use Rattle.std.specs.Prelude.{◌<◌, ◌≤◌, ◌+◌, ◌*◌, min};
 ghost use Rattle.show_figures.specs.Shares.{share_of};
 
 use crate::columns::Columns;
-use certificate::Plan;
+use certificate::Weights;
 use coterie_file::Named;
 use quorum_set::QSet;
 use show_figures::{QuorumFigure, name_of, share};
@@ -57,13 +57,13 @@ fn shown_rows(quorums: usize) -> u64 {
 }
 
 impl Dots {
-    /// Returns the grid of a plan's quorums, the most used first, from this height on.
-    pub fn of(plan: &Plan, columns: &Columns, quorums: &[QuorumFigure], top: u64) -> Dots {
+    /// Returns the grid of the quorums that a cycle uses, the most used first, from this height on.
+    pub fn of(weights: &Weights, columns: &Columns, quorums: &[QuorumFigure], top: u64) -> Dots {
         Dots {
             top,
             greatest: columns.width.min(12).saturating_mul(5).saturating_sub(2),
             most: quorums.first().map_or(1, |figure| figure.weight),
-            len: plan.cycle_len(),
+            len: weights.cycle_len(),
         }
     }
 

@@ -1,7 +1,7 @@
 //! How the count of the busiest voter grows over a whole cycle.
 use crate::strip::Strip;
 use crate::tally::Sample;
-use certificate::Plan;
+use certificate::Weights;
 use even::Slack;
 use quorum_set::are_unit;
 use show_svg::{
@@ -94,14 +94,14 @@ fn counts_words(unit: bool) -> &'static str {
 
 impl Growth {
     /// Returns the graph below a strip, with this space between them.
-    pub fn of(strip: &Strip, plan: &Plan, space: u64) -> Growth {
+    pub fn of(strip: &Strip, weights: &Weights, space: u64) -> Growth {
         Growth {
             left: strip.left,
             width: strip.right().saturating_sub(strip.left),
             base: strip.foot().saturating_add(space).saturating_add(HEIGHT),
-            len: plan.cycle_len().max(1),
+            len: weights.cycle_len().max(1),
             shown: strip.tickets,
-            ratio: plan.ratio(),
+            ratio: weights.ratio(),
         }
     }
 
@@ -211,13 +211,18 @@ impl Growth {
     }
 
     /// Appends a dot for a sample, with a title.
-    fn push_dot(&self, out: &mut String, plan: &Plan, sample: &Sample) -> Result<(), AllocError> {
+    fn push_dot(
+        &self,
+        out: &mut String,
+        weights: &Weights,
+        sample: &Sample,
+    ) -> Result<(), AllocError> {
         let Sample {
             tickets,
             count,
             capacity,
         } = *sample;
-        let (part, whole) = plan.load();
+        let (part, whole) = weights.load();
         open_titled(out)?;
         write!(out, "after {tickets} tickets: the busiest voter ")?;
         push_ratio(out, count, capacity)?;
@@ -232,13 +237,13 @@ impl Growth {
     fn push_dots(
         &self,
         out: &mut String,
-        plan: &Plan,
+        weights: &Weights,
         samples: &[Sample],
     ) -> Result<(), AllocError> {
         let every = (samples.len() / DOTS).max(1);
         for (number, sample) in samples.iter().enumerate() {
             if number % every == every - 1 {
-                self.push_dot(out, plan, sample)?;
+                self.push_dot(out, weights, sample)?;
             }
         }
         Ok(())
@@ -248,12 +253,12 @@ impl Growth {
     fn push_curves(
         &self,
         out: &mut String,
-        plan: &Plan,
+        weights: &Weights,
         rounds: &[Sample],
         even: &[Sample],
     ) -> Result<(), AllocError> {
         self.push_steps(out, rounds, COUNTS)?;
-        self.push_dots(out, plan, rounds)?;
+        self.push_dots(out, weights, rounds)?;
         self.push_steps(out, even, EVEN)
     }
 
@@ -293,9 +298,14 @@ impl Growth {
     }
 
     /// Appends what the lines are, above the graph.
-    fn push_legend(&self, out: &mut String, plan: &Plan, slack: Slack) -> Result<(), AllocError> {
-        let (part, whole) = plan.load();
-        self.push_keys(out, are_unit(plan.capacities()), slack)?;
+    fn push_legend(
+        &self,
+        out: &mut String,
+        weights: &Weights,
+        slack: Slack,
+    ) -> Result<(), AllocError> {
+        let (part, whole) = weights.load();
+        self.push_keys(out, are_unit(weights.capacities()), slack)?;
         self.open_key(out, 2, LIMIT)?;
         write!(
             out,
@@ -327,17 +337,17 @@ impl Growth {
     pub fn push_graph(
         &self,
         out: &mut String,
-        plan: &Plan,
+        weights: &Weights,
         rounds: &[Sample],
         even: &[Sample],
         slack: Slack,
     ) -> Result<(), AllocError> {
-        self.push_legend(out, plan, slack)?;
+        self.push_legend(out, weights, slack)?;
         self.push_band(out)?;
         self.push_counts(out)?;
         self.push_numbers(out)?;
         self.push_limit(out)?;
-        self.push_curves(out, plan, rounds, even)?;
+        self.push_curves(out, weights, rounds, even)?;
         self.push_end(out)
     }
 }

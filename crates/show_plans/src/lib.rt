@@ -21,7 +21,7 @@
 //!
 //! ```
 //! // Of the wheel with three rims:
-//! let drawing = load_picture(alloc, &named, &plan)?; // <svg xmlns=..
+//! let drawing = load_picture(alloc, &named, plan.weights())?; // <svg xmlns=..
 //! ```
 #![tactic(auto)]
 

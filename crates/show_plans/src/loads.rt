@@ -3,7 +3,7 @@
 use crate::bars::{Bars, ROOM};
 use crate::columns::Columns;
 use crate::dots::Dots;
-use certificate::Plan;
+use certificate::Weights;
 use coterie_file::Named;
 use quorum_set::are_unit;
 use show_figures::{QuorumFigure, VoterFigure, quorum_figures, voter_figures};
@@ -80,35 +80,39 @@ fn width_of(columns: &Columns) -> u64 {
 fn push_load(
     out: &mut String,
     named: &Named,
-    plan: &Plan,
+    weights: &Weights,
     voters: &[VoterFigure],
     quorums: &[QuorumFigure],
 ) -> Result<(), AllocError> {
     let columns = Columns::of(named, voters);
-    let bars = Bars::of(plan, BASE);
+    let bars = Bars::of(weights, BASE);
     let top = columns.name_height().saturating_add(BASE + HEADS);
-    let dots = Dots::of(plan, &columns, quorums, top);
+    let dots = Dots::of(weights, &columns, quorums, top);
     let height = dots.foot(quorums.len());
-    let unit = are_unit(plan.capacities());
+    let unit = are_unit(weights.capacities());
     open_picture(out, width_of(&columns), height, title_of(unit))?;
     push_heading(out, unit)?;
     bars.push_axis(out, &columns)?;
     bars.push_voters(out, named, &columns, voters)?;
-    bars.push_limit(out, &columns, plan)?;
+    bars.push_limit(out, &columns, weights)?;
     columns.push_names(out, named, voters, BASE)?;
     dots.push_heads(out, &columns)?;
     dots.push_rows(out, named, &columns, quorums)?;
     dots.push_rest(out, &columns, quorums.len())
 }
 
-/// Returns a picture of how much a plan uses each voter: a bar for each voter's load, the line
-/// below which no plan can go, and the quorums that a cycle uses as rows of dots, the most used
+/// Returns a picture of how much a plan, or other weights, use each voter: a bar for each voter's load, the
+/// line below which no load is, and the quorums that a cycle uses as rows of dots, the most used
 /// first. If some capacity is not 1, a bar is how busy the voter is for its capacity, beside the
-/// busiest voter. The plan is one of the named coterie. Fails only if memory runs out.
-pub fn load_picture(alloc: Global, named: &Named, plan: &Plan) -> Result<Drawing, AllocError> {
-    let voters = voter_figures(alloc, plan)?;
-    let quorums = quorum_figures(alloc, plan)?;
+/// busiest voter. The weights are of the named coterie. Fails only if memory runs out.
+pub fn load_picture(
+    alloc: Global,
+    named: &Named,
+    weights: &Weights,
+) -> Result<Drawing, AllocError> {
+    let voters = voter_figures(alloc, weights)?;
+    let quorums = quorum_figures(alloc, weights)?;
     let mut out = String::new(alloc);
-    push_load(&mut out, named, plan, &voters, &quorums)?;
+    push_load(&mut out, named, weights, &voters, &quorums)?;
     Drawing::finish(out)
 }

@@ -1,6 +1,6 @@
 //! How often the first tickets of a cycle use the busiest voter.
 use crate::order::Order;
-use certificate::Plan;
+use certificate::Weights;
 use numbers::MAX_VOTERS;
 use std::alloc::{AllocError, Global};
 
@@ -27,8 +27,8 @@ pub struct Sample {
 }
 
 /// Returns the capacity of a voter.
-fn capacity_of(plan: &Plan, voter: u8) -> u64 {
-    match plan.capacities().get(usize::from(voter)) {
+fn capacity_of(weights: &Weights, voter: u8) -> u64 {
+    match weights.capacities().get(usize::from(voter)) {
         Some(capacity) => *capacity,
         None => 1,
     }
@@ -65,20 +65,20 @@ impl Tally {
     }
 
     /// Counts a ticket of a quorum.
-    fn add(&mut self, plan: &Plan, quorum: usize) {
-        if quorum >= plan.coterie().count() {
+    fn add(&mut self, weights: &Weights, quorum: usize) {
+        if quorum >= weights.coterie().count() {
             return;
         }
-        let members = plan.coterie().quorum(quorum).members();
+        let members = weights.coterie().quorum(quorum).members();
         for voter in members.as_slice() {
-            self.add_voter(*voter, capacity_of(plan, *voter));
+            self.add_voter(*voter, capacity_of(weights, *voter));
         }
     }
 
     /// Counts the tickets from the first to the one before the last.
-    fn add_tickets(&mut self, plan: &Plan, order: Order, first: u64, last: u64) {
+    fn add_tickets(&mut self, weights: &Weights, order: Order, first: u64, last: u64) {
         for ticket in first..last {
-            self.add(plan, order.quorum_at(ticket));
+            self.add(weights, order.quorum_at(ticket));
         }
     }
 
@@ -96,18 +96,18 @@ impl Tally {
 /// is at its end.
 pub fn samples_of(
     alloc: Global,
-    plan: &Plan,
+    weights: &Weights,
     order: Order,
     most: u64,
 ) -> Result<Vec<Sample>, AllocError> {
-    let len = plan.cycle_len();
+    let len = weights.cycle_len();
     let points = len.min(most).max(1);
     let mut samples = Vec::new(alloc);
     let mut tally = Tally::new();
     let mut drawn: u64 = 0;
     for point in 0..points {
         let until = point.saturating_add(1).saturating_mul(len) / points;
-        tally.add_tickets(plan, order, drawn, until);
+        tally.add_tickets(weights, order, drawn, until);
         drawn = until;
         samples.push(tally.sample(until))?;
     }

@@ -52,6 +52,7 @@ plan_code (plan.BadText a) = codes "P5"
 plan_code plan.WrongCapacity = codes "P9"
 plan_code plan.WrongLoad = codes "P6"
 plan_code plan.WrongCycle = codes "P7"
+plan_code plan.WrongBound = codes "P10"
 plan_code plan.OutOfMemory = codes "O1"
 
 -- of a fault of the planner

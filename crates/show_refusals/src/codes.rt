@@ -58,6 +58,7 @@ fn plan_code(fault: PlanFault) -> &'static str
         PlanFault::WrongCapacity => "P9",
         PlanFault::WrongLoad => "P6",
         PlanFault::WrongCycle => "P7",
+        PlanFault::WrongBound => "P10",
         PlanFault::OutOfMemory => "O1",
     }
 }

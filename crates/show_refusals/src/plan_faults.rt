@@ -219,7 +219,7 @@ pub(crate) fn push_plan_values(
         PlanFault::WrongCapacity => push_capacities(alloc, text, parts),
         PlanFault::WrongLoad => push_right_load(alloc, text, parts),
         PlanFault::WrongCycle => push_right_cycle(alloc, text, parts),
-        PlanFault::BadText { .. } | PlanFault::OutOfMemory => Ok(()),
+        PlanFault::BadText { .. } | PlanFault::WrongBound | PlanFault::OutOfMemory => Ok(()),
     }
 }
 

@@ -3,7 +3,7 @@
 use coterie_file::Named;
 use failures::bears;
 use quorum_set::Coterie;
-use show_figures::Loss;
+use show_figures::{Loss, Totals};
 use show_words::{push_gap, push_members, push_percent, push_tenths};
 use std::alloc::AllocError;
 
@@ -24,27 +24,32 @@ fn push_left(text: &mut String, loss: &Loss, is_unit: bool) -> Result<(), AllocE
 }
 
 /// Appends the table of these losses, if there are several groups and one has several voters. `used` are
-/// the quorums that the plan uses, and `is_unit` says whether all capacities are 1.
+/// the quorums that a cycle uses.
 pub(crate) fn push_groups(
     text: &mut String,
     named: &Named,
     used: &Coterie,
     losses: &[Loss],
-    is_unit: bool,
+    totals: &Totals,
 ) -> Result<(), AllocError> {
     if losses.len() < 2 || losses.len() >= named.coterie().voters() {
         return Ok(());
     }
-    let figure = if is_unit { "Load" } else { "Throughput" };
+    let figure = if totals.is_unit { "Load" } else { "Throughput" };
+    let question = if totals.is_plan() {
+        "This plan goes on"
+    } else {
+        "These weights go on"
+    };
     write!(
         text,
-        "<h2>When a whole group fails</h2>\n<div class=\"wide\"><table>\n<tr><th>Group, by names</th><th class=\"n\">{figure} of a new plan</th><th>This plan goes on</th></tr>\n"
+        "<h2>When a whole group fails</h2>\n<div class=\"wide\"><table>\n<tr><th>Group, by names</th><th class=\"n\">{figure} of a new plan</th><th>{question}</th></tr>\n"
     )?;
     for loss in losses {
         text.push_str("<tr><td>")?;
         push_members(text, named, &loss.group, " ")?;
         text.push_str("</td><td class=\"n\">")?;
-        push_left(text, loss, is_unit)?;
+        push_left(text, loss, totals.is_unit)?;
         let goes_on = if bears(used, &loss.group) {
             "with fewer quorums"
         } else {

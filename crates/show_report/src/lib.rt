@@ -1,6 +1,6 @@
-//! A report of a plan on one page: an HTML document for people who decide.
+//! A report of a plan, or of other weights, on one page: an HTML document for people who decide.
 //!
-//! [`report_page`] has the load of a plan, or its throughput if some capacity is not 1, how many
+//! [`report_page`] has the load, or the throughput if some capacity is not 1, how many
 //! failures its coterie and its own quorums bear, how even it is, whom to ask how often, how busy each
 //! voter is, what the loss of a group of voters does, such as a rack, a picture, and the certificate that
 //! a person can add up. The document has no script and no outside
@@ -16,7 +16,7 @@
 //!
 //! ```
 //! // Of the wheel with three rims:
-//! let text = report_page(alloc, &named, &plan, None)?; // <!DOCTYPE html>..
+//! let text = report_page(alloc, &named, plan.weights(), None)?; // <!DOCTYPE html>..
 //! ```
 #![tactic(auto)]
 

@@ -6,24 +6,26 @@ ghost use Rattle.show_failures.specs.Used.{used_system};
 use crate::groups::push_groups;
 use crate::summary::{Borne, push_summary};
 use crate::tables::{push_certificate, push_quorums, push_voters};
-use certificate::Plan;
+use certificate::Weights;
 use coterie_file::Named;
 use quorum_set::Coterie;
 use show_failures::{resilience_of, used_coterie};
 use show_figures::{
-    losses_of, plan_figures, quorum_figures, slack_of, voter_figures, weight_figures,
+    Totals, losses_of, quorum_figures, slack_of, totals_of, voter_figures, weight_figures,
 };
 use show_plans::load_picture;
 use std::alloc::{AllocError, Global};
 
-/// The beginning of the document, with its head and its styles.
-const HEAD: &str = "<!DOCTYPE html>
+/// The beginning of the document.
+const BEGINNING: &str = "<!DOCTYPE html>
 <html lang=\"en\" xmlns=\"http://www.w3.org/1999/xhtml\">
 <head>
 <meta charset=\"utf-8\"/>
 <meta name=\"viewport\" content=\"width=device-width, initial-scale=1\"/>
-<title>A plan for quorums</title>
-<style>
+";
+
+/// The styles, and the end of the head.
+const STYLES: &str = "<style>
 :root{color-scheme:light dark;--ink:#1d1f23;--paper:#ffffff;--soft:#f2f4f7;--line:#d3d9e0;--quiet:#59626d;--mark:#2b65a5;--cover:var(--paper)}
 @media (prefers-color-scheme:dark){:root{--ink:#e6e8eb;--paper:#16191d;--soft:#20252b;--line:#3a424c;--quiet:#a3adb8;--mark:#83b4e8}}
 *{box-sizing:border-box}
@@ -53,6 +55,17 @@ ol{padding-left:1.25rem}
 <body>
 ";
 
+/// Appends the head, with the title that a browser shows.
+fn push_head(text: &mut String, totals: &Totals) -> Result<(), AllocError> {
+    text.push_str(BEGINNING)?;
+    text.push_str(if totals.is_plan() {
+        "<title>A plan for quorums</title>\n"
+    } else {
+        "<title>Weights for quorums</title>\n"
+    })?;
+    text.push_str(STYLES)
+}
+
 /// Appends the picture.
 fn push_picture(text: &mut String, picture: &str) -> Result<(), AllocError> {
     write!(
@@ -61,49 +74,51 @@ fn push_picture(text: &mut String, picture: &str) -> Result<(), AllocError> {
     )
 }
 
-/// Returns how many failures the coterie of a plan bears, and how many the quorums that the plan uses.
-fn borne_by(plan: &Plan, used: &Coterie) -> Borne
-    requires { used.now ≡ used_system plan.now }
-    ensures of_all { IsTransversal plan.now.system result.of_all.blocking }
+/// Returns how many failures the coterie of weights bears, and how many the quorums that a cycle uses.
+fn borne_by(weights: &Weights, used: &Coterie) -> Borne
+    requires { used.now ≡ used_system weights.now }
+    ensures of_all { IsTransversal weights.now.system result.of_all.blocking }
     ensures all_borne { result.of_all.borne ≡ length result.of_all.blocking - 1 }
-    ensures all_smallest { result.of_all.is_smallest ≡ true → IsSmallest plan.now.system.quorums result.of_all.blocking }
+    ensures all_smallest { result.of_all.is_smallest ≡ true → IsSmallest weights.now.system.quorums result.of_all.blocking }
     ensures of_plan { IsTransversal used.now result.of_plan.blocking }
     ensures borne { result.of_plan.borne ≡ length result.of_plan.blocking - 1 }
     ensures smallest { result.of_plan.is_smallest ≡ true → IsSmallest used.now.quorums result.of_plan.blocking }
 {
     Borne {
-        of_all: resilience_of(plan.coterie()),
+        of_all: resilience_of(weights.coterie()),
         of_plan: resilience_of(used),
     }
 }
 
-/// Returns a report of a plan as one HTML document, without a script and without an outside file: its
-/// load, or its throughput if some capacity is not 1, how many failures its coterie and its own quorums
-/// bear, how even it is, whom to ask how often, how busy each voter is, what the loss of each group of
-/// voters does, a picture, and the certificate. The plan is one of the named coterie. The title has the
-/// name of the file that the coterie comes from, if there is one. Fails only if memory runs out.
+/// Returns a report of a plan, or of other weights, as one HTML document, without a script and without an
+/// outside file: its load, or its throughput if some capacity is not 1, how many failures its coterie and
+/// its own quorums bear, how even it is, whom to ask how often, how busy each voter is, what the loss of
+/// each group of voters does, a picture, and the certificate. A load above its bound is marked. The weights
+/// are of the named coterie. The title has the name of the file that the coterie comes from, if there is
+/// one. Fails only if memory runs out.
 pub fn report_page(
     alloc: Global,
     named: &Named,
-    plan: &Plan,
+    weights: &Weights,
     file: Option<&str>,
 ) -> Result<String, AllocError> {
-    let figures = plan_figures(plan);
-    let used = used_coterie(alloc, plan)?;
-    let borne = borne_by(plan, &used);
+    let totals = totals_of(weights);
+    let used = used_coterie(alloc, weights)?;
+    let borne = borne_by(weights, &used);
     let losses = losses_of(alloc, named)?;
-    let slack = slack_of(alloc, plan.weights())?;
-    let quorums = quorum_figures(alloc, plan)?;
-    let voters = voter_figures(alloc, plan)?;
-    let weights = weight_figures(alloc, plan)?;
-    let picture = load_picture(alloc, named, plan)?;
-    let mut text = String::from_str(alloc, HEAD)?;
-    push_summary(&mut text, named, &figures, &borne, slack, file)?;
-    push_quorums(&mut text, named, plan, quorums.as_slice())?;
-    push_voters(&mut text, named, &figures, voters.as_slice())?;
-    push_groups(&mut text, named, &used, losses.as_slice(), figures.is_unit)?;
+    let slack = slack_of(alloc, weights)?;
+    let quorums = quorum_figures(alloc, weights)?;
+    let voters = voter_figures(alloc, weights)?;
+    let weighing = weight_figures(alloc, weights)?;
+    let picture = load_picture(alloc, named, weights)?;
+    let mut text = String::new(alloc);
+    push_head(&mut text, &totals)?;
+    push_summary(&mut text, named, &totals, &borne, slack, file)?;
+    push_quorums(&mut text, named, weights, quorums.as_slice())?;
+    push_voters(&mut text, named, &totals, voters.as_slice())?;
+    push_groups(&mut text, named, &used, losses.as_slice(), &totals)?;
     push_picture(&mut text, picture.text())?;
-    push_certificate(&mut text, named, &figures, weights.as_slice())?;
+    push_certificate(&mut text, named, &totals, weighing.as_slice())?;
     text.push_str("</body>\n</html>\n")?;
     Ok(text)
 }

@@ -1,28 +1,32 @@
-//! The figures of a plan at a glance.
+//! The figures of a plan, or of other weights, at a glance.
 
 use certificate::lowest_terms;
 use coterie_file::Named;
 use even::Slack;
 use show_failures::Resilience;
-use show_figures::PlanFigures;
+use show_figures::Totals;
 use show_svg::push_escaped;
-use show_words::{push_members, push_percent, push_quotient};
+use show_words::{push_mark, push_members, push_percent, push_quotient};
 use std::alloc::AllocError;
 
 /// Appends the load, and before it the throughput if some capacity is not 1: 1 divided by the load.
-fn push_load(text: &mut String, plan: &PlanFigures) -> Result<(), AllocError> {
-    let (part, whole) = plan.load;
-    if plan.is_unit {
+fn push_load(text: &mut String, totals: &Totals) -> Result<(), AllocError> {
+    let (part, whole) = totals.loads.load;
+    if totals.is_unit {
         write!(text, "<div><dt>Load</dt><dd><b>{part}/{whole}</b>, ")?;
         push_percent(text, part, whole)?;
-        return text.push_str(" of the requests use the busiest voter</dd></div>\n");
+        text.push_str(" of the requests use the busiest voter")?;
+        push_mark(text, totals.loads)?;
+        return text.push_str("</dd></div>\n");
     }
     text.push_str("<div><dt>Throughput</dt><dd><b>")?;
     push_quotient(text, whole, part)?;
     write!(
         text,
-        "</b> requests, in the unit of the capacities</dd></div>\n<div><dt>Load</dt><dd><b>{part}/{whole}</b>, the inverse of the throughput</dd></div>\n"
-    )
+        "</b> requests, in the unit of the capacities</dd></div>\n<div><dt>Load</dt><dd><b>{part}/{whole}</b>, the inverse of the throughput"
+    )?;
+    push_mark(text, totals.loads)?;
+    text.push_str("</dd></div>\n")
 }
 
 /// How many voters may fail.
@@ -30,7 +34,7 @@ fn push_load(text: &mut String, plan: &PlanFigures) -> Result<(), AllocError> {
 pub(crate) struct Borne {
     /// Until no quorum of the coterie is left.
     pub(crate) of_all: Resilience,
-    /// Until none of the quorums is left that the plan uses.
+    /// Until none of the quorums is left that a cycle uses.
     pub(crate) of_plan: Resilience,
 }
 
@@ -67,8 +71,14 @@ fn push_evenness(text: &mut String, slack: Slack) -> Result<(), AllocError> {
 }
 
 /// Appends the title: how many voters there are, and the file that the coterie comes from.
-fn push_title(text: &mut String, voters: usize, file: Option<&str>) -> Result<(), AllocError> {
-    write!(text, "<h1>A plan for {voters} voters")?;
+fn push_title(text: &mut String, totals: &Totals, file: Option<&str>) -> Result<(), AllocError> {
+    let subject = if totals.is_plan() {
+        "A plan"
+    } else {
+        "Weights"
+    };
+    let voters = totals.voters;
+    write!(text, "<h1>{subject} for {voters} voters")?;
     if let Some(file) = file {
         text.push_str(": ")?;
         push_escaped(text, file)?;
@@ -76,21 +86,41 @@ fn push_title(text: &mut String, voters: usize, file: Option<&str>) -> Result<()
     text.push_str("</h1>\n")
 }
 
-/// Appends the title and the figures of a plan at a glance.
+/// Returns what a plan, or what other weights, say.
+fn purpose_of(totals: &Totals) -> &'static str {
+    if totals.is_plan() {
+        "The plan says how often to use each quorum, so that the busiest voter gets as few requests as possible."
+    } else {
+        "The weights say how often to use each quorum. They are no plan: their load may be above the smallest possible one."
+    }
+}
+
+/// Returns what bears failures beside the coterie: a plan, or other weights.
+fn bearer_of(totals: &Totals) -> &'static str {
+    if totals.is_plan() {
+        "Failures borne by this plan"
+    } else {
+        "Failures borne by these weights"
+    }
+}
+
+/// Appends the title and the figures of a plan, or of other weights, at a glance.
 pub(crate) fn push_summary(
     text: &mut String,
     named: &Named,
-    plan: &PlanFigures,
+    totals: &Totals,
     borne: &Borne,
     slack: Slack,
     file: Option<&str>,
 ) -> Result<(), AllocError> {
-    let len = plan.cycle_len;
-    push_title(text, plan.voters, file)?;
-    text.push_str(
-        "<p>A client takes the lock with the votes of all voters of one quorum. The plan says how often to use each quorum, so that the busiest voter gets as few requests as possible.</p>\n<dl>\n",
+    let len = totals.cycle_len;
+    let purpose = purpose_of(totals);
+    push_title(text, totals, file)?;
+    write!(
+        text,
+        "<p>A client takes the lock with the votes of all voters of one quorum. {purpose}</p>\n<dl>\n"
     )?;
-    push_load(text, plan)?;
+    push_load(text, totals)?;
     write!(
         text,
         "<div><dt>Cycle</dt><dd><b>{len}</b> requests: over whole cycles the shares below are exact</dd></div>\n"
@@ -105,7 +135,7 @@ pub(crate) fn push_summary(
     push_failures(
         text,
         named,
-        "Failures borne by this plan",
+        bearer_of(totals),
         &borne.of_plan,
         "none of its own quorums is left, and a new plan is needed",
     )?;

@@ -2,17 +2,17 @@
 //! Names have no sign that means something in HTML
 //! ([`names_are_plain_in_html`](crate::names_are_plain_in_html)).
 
-use certificate::Plan;
+use certificate::Weights;
 use coterie_file::Named;
-use show_figures::{PlanFigures, QuorumFigure, VoterFigure, WeightFigure, busy_part, name_of};
-use show_words::{push_percent, push_quorum_members};
+use show_figures::{QuorumFigure, Totals, VoterFigure, WeightFigure, busy_part, name_of};
+use show_words::{push_mark, push_percent, push_quorum_members};
 use std::alloc::AllocError;
 
 /// Appends the table of these quorums: whom to ask, and how often.
 pub(crate) fn push_quorums(
     text: &mut String,
     named: &Named,
-    plan: &Plan,
+    weights: &Weights,
     figures: &[QuorumFigure],
 ) -> Result<(), AllocError> {
     text.push_str(
@@ -21,7 +21,7 @@ pub(crate) fn push_quorums(
     for figure in figures {
         let QuorumFigure { quorum, weight } = *figure;
         text.push_str("<tr><td class=\"n\">")?;
-        push_percent(text, weight, plan.cycle_len())?;
+        push_percent(text, weight, weights.cycle_len())?;
         write!(
             text,
             "</td><td class=\"n\">{weight}</td><td class=\"n\">{quorum}</td><td>"
@@ -36,18 +36,19 @@ pub(crate) fn push_quorums(
 fn push_voter(
     text: &mut String,
     named: &Named,
-    plan: &PlanFigures,
+    totals: &Totals,
     figure: VoterFigure,
 ) -> Result<(), AllocError> {
     let VoterFigure {
         voter,
         count,
         capacity,
+        ..
     } = figure;
-    let (part, whole) = busy_part(plan.ratio, figure);
+    let (part, whole) = busy_part(totals.ratio, figure);
     let name = name_of(named, voter);
     write!(text, "<tr><td>{name}</td><td class=\"n\">")?;
-    push_percent(text, count, plan.cycle_len)?;
+    push_percent(text, count, totals.cycle_len)?;
     write!(
         text,
         "</td><td class=\"n\">{count}</td><td class=\"n\">{capacity}</td><td><meter max=\"{whole}\" value=\"{part}\"></meter>"
@@ -60,21 +61,32 @@ fn push_voter(
 pub(crate) fn push_voters(
     text: &mut String,
     named: &Named,
-    plan: &PlanFigures,
+    totals: &Totals,
     figures: &[VoterFigure],
 ) -> Result<(), AllocError> {
     text.push_str(
         "<h2>How busy each voter is for its capacity</h2>\n<div class=\"wide\"><table>\n<tr><th>Voter</th><th class=\"n\">Share</th><th class=\"n\">Uses</th><th class=\"n\">Capacity</th><th>Beside the busiest</th></tr>\n",
     )?;
     for figure in figures {
-        push_voter(text, named, plan, *figure)?;
+        push_voter(text, named, totals, *figure)?;
     }
     text.push_str("</table></div>\n")
 }
 
-/// Appends the steps from the weights of the voters to the load.
-fn push_steps(text: &mut String, plan: &PlanFigures) -> Result<(), AllocError> {
-    let (weights, share) = if plan.is_unit {
+/// Appends that the bound is the load of the plan, or how far the load of the weights is above it at most.
+fn push_end(text: &mut String, totals: &Totals) -> Result<(), AllocError> {
+    if totals.is_plan() {
+        return text.push_str("That is the load of this plan.</li>\n");
+    }
+    let (part, whole) = totals.loads.load;
+    write!(text, "The load of these weights is {part}/{whole}")?;
+    push_mark(text, totals.loads)?;
+    text.push_str(".</li>\n")
+}
+
+/// Appends the steps from the weights of the voters to the bound.
+fn push_steps(text: &mut String, totals: &Totals) -> Result<(), AllocError> {
+    let (weights, share) = if totals.is_unit {
         ("The weights", "of N requests")
     } else {
         (
@@ -82,9 +94,9 @@ fn push_steps(text: &mut String, plan: &PlanFigures) -> Result<(), AllocError> {
             "of N requests for its capacity",
         )
     };
-    let total = plan.weight_total;
-    let least = plan.lightest_quorum;
-    let (part, whole) = plan.load;
+    let total = totals.weight_total;
+    let least = totals.lightest_quorum;
+    let (part, whole) = totals.loads.bound;
     write!(text, "<li>{weights} add up to <b>{total}</b>.</li>\n")?;
     write!(
         text,
@@ -92,19 +104,26 @@ fn push_steps(text: &mut String, plan: &PlanFigures) -> Result<(), AllocError> {
     )?;
     write!(
         text,
-        "<li>So some voter gets at least <b>{part}/{whole}</b> {share}, whichever quorums they use. That is the load of this plan.</li>\n"
-    )
+        "<li>So some voter gets at least <b>{part}/{whole}</b> {share}, whichever quorums they use. "
+    )?;
+    push_end(text, totals)
 }
 
 /// Appends the certificate: the weights of these voters, and the steps.
 pub(crate) fn push_certificate(
     text: &mut String,
     named: &Named,
-    plan: &PlanFigures,
+    totals: &Totals,
     figures: &[WeightFigure],
 ) -> Result<(), AllocError> {
-    text.push_str(
-        "<h2>Why no plan has a smaller load</h2>\n<div class=\"wide\"><table>\n<tr><th>Voter</th><th class=\"n\">Weight</th></tr>\n",
+    let heading = if totals.is_plan() {
+        "Why no plan has a smaller load"
+    } else {
+        "How far the load is from the smallest at most"
+    };
+    write!(
+        text,
+        "<h2>{heading}</h2>\n<div class=\"wide\"><table>\n<tr><th>Voter</th><th class=\"n\">Weight</th></tr>\n"
     )?;
     for figure in figures {
         let WeightFigure { voter, weight } = *figure;
@@ -115,6 +134,6 @@ pub(crate) fn push_certificate(
         )?;
     }
     text.push_str("</table></div>\n<ol>\n")?;
-    push_steps(text, plan)?;
+    push_steps(text, totals)?;
     text.push_str("</ol>\n")
 }

@@ -1,7 +1,7 @@
-//! Why no plan has a smaller load.
+//! Why no load is below the bound.
 
 use coterie_file::Named;
-use show_figures::{PlanFigures, WeightFigure, name_of};
+use show_figures::{Totals, WeightFigure, name_of};
 use std::alloc::AllocError;
 
 /// Appends the names and weights of these voters, with commas between them.
@@ -21,9 +21,9 @@ fn push_weights(
     Ok(())
 }
 
-/// Appends the sums of the certificate.
-fn push_sums(text: &mut String, plan: &PlanFigures) -> Result<(), AllocError> {
-    let (sum, share) = if plan.is_unit {
+/// Appends the sums by which the load is bounded.
+fn push_sums(text: &mut String, totals: &Totals) -> Result<(), AllocError> {
+    let (sum, share) = if totals.is_unit {
         (". That is ", " of the N requests")
     } else {
         (
@@ -31,9 +31,9 @@ fn push_sums(text: &mut String, plan: &PlanFigures) -> Result<(), AllocError> {
             " of N times its capacity",
         )
     };
-    let total = plan.weight_total;
-    let least = plan.lightest_quorum;
-    let (part, whole) = plan.load;
+    let total = totals.weight_total;
+    let least = totals.lightest_quorum;
+    let (part, whole) = totals.loads.bound;
     write!(text, "{sum}{total} in all.\n")?;
     write!(
         text,
@@ -46,12 +46,12 @@ fn push_sums(text: &mut String, plan: &PlanFigures) -> Result<(), AllocError> {
 }
 
 /// Appends the loads below which no coterie of these sizes can go.
-fn push_bounds(text: &mut String, plan: &PlanFigures) -> Result<(), AllocError> {
-    let voters = plan.voters;
-    let size = plan.smallest_size;
-    let all = plan.capacity_sum;
-    let least = plan.smallest_capacity;
-    if plan.is_unit {
+fn push_bounds(text: &mut String, totals: &Totals) -> Result<(), AllocError> {
+    let voters = totals.voters;
+    let size = totals.smallest_size;
+    let all = totals.capacity_sum;
+    let least = totals.smallest_capacity;
+    if totals.is_unit {
         write!(
             text,
             "\nNo coterie of {voters} voters whose smallest quorum has {size} has a load below {size}/{voters} or 1/{size}.\n"
@@ -64,16 +64,29 @@ fn push_bounds(text: &mut String, plan: &PlanFigures) -> Result<(), AllocError> 
     }
 }
 
-/// Appends why no plan has a smaller load: the certificate in sentences, and what holds of every
-/// coterie of these sizes.
+/// Appends what the sums are for: why no plan has a smaller load, or why no load is below the bound.
+fn push_heading(text: &mut String, totals: &Totals) -> Result<(), AllocError> {
+    if totals.is_plan() {
+        return text.push_str("\nWhy no plan has a smaller load:\n");
+    }
+    let (part, whole) = totals.loads.bound;
+    write!(
+        text,
+        "\nThese weights are no plan. Why no weights of these quorums have a load below {part}/{whole}:\n"
+    )
+}
+
+/// Appends why no load is below the bound: the sums in sentences, and what holds of every coterie of these
+/// sizes.
 pub(crate) fn push_reasons(
     text: &mut String,
     named: &Named,
-    plan: &PlanFigures,
+    totals: &Totals,
     weights: &[WeightFigure],
 ) -> Result<(), AllocError> {
-    text.push_str("\nWhy no plan has a smaller load:\n  Weigh the voters: ")?;
+    push_heading(text, totals)?;
+    text.push_str("  Weigh the voters: ")?;
     push_weights(text, named, weights)?;
-    push_sums(text, plan)?;
-    push_bounds(text, plan)
+    push_sums(text, totals)?;
+    push_bounds(text, totals)
 }

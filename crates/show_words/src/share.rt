@@ -63,6 +63,17 @@ pub fn push_gap(text: &mut String, loads: Loads, is_throughput: bool) -> Result<
     })
 }
 
+/// Appends behind a load, in brackets, how far it is above its bound at most. Appends nothing if the load
+/// is its bound.
+pub fn push_mark(text: &mut String, loads: Loads) -> Result<(), AllocError> {
+    if loads.load == loads.bound {
+        return Ok(());
+    }
+    text.push_str(" (at most ")?;
+    push_excess(text, loads)?;
+    text.push_str(" above the best)")
+}
+
 /// Appends a bar for a part of a whole: of the whole it has 40 characters.
 pub(crate) fn push_bar(text: &mut String, part: u64, whole: u64) -> Result<(), AllocError> {
     let filled = share(part, whole, BAR);

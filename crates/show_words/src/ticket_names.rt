@@ -3,22 +3,23 @@ ghost use Rattle.std.specs.Prelude.{◌≤◌};
 ghost use Rattle.numbers.specs.Bounds.{max_dealt};
 
 use crate::names::push_quorum_members;
-use commands::Planned;
+use commands::Weighed;
 use show_figures::dealt_tickets;
 use std::alloc::{AllocError, Global};
 
-/// Returns a line for each ticket below `count`, dealt in the even order or by rounds: the names of
-/// the voters to ask, with spaces between them, and nothing else. Fails only if it runs out of memory.
+/// Returns a line for each ticket below `count`, dealt in the even order, or by rounds if the weights are a
+/// plan and this order is not asked for: the names of the voters to ask, with spaces between them, and
+/// nothing else. Fails only if it runs out of memory.
 pub fn names_page(
     alloc: Global,
-    planned: Planned,
+    weighed: Weighed,
     count: u64,
     is_even: bool,
 ) -> Result<String, AllocError>
     requires count { count ≤ max_dealt }
 {
-    let Planned { named, plan } = planned;
-    let dealt = dealt_tickets(alloc, plan, count, is_even)?;
+    let Weighed { named, weights } = weighed;
+    let dealt = dealt_tickets(alloc, weights, count, is_even)?;
     let mut text = String::new(alloc);
     for receipt in &dealt.receipts {
         push_quorum_members(&mut text, &named, receipt.quorum)?;

@@ -3,29 +3,30 @@ ghost use Rattle.std.specs.Prelude.{◌≡◌, ◌≤◌, length};
 ghost use Rattle.numbers.specs.Bounds.{max_dealt};
 
 use crate::names::push_quorum_members;
-use certificate::Plan;
-use commands::{Planned, push_account, push_ratio};
+use crate::share::push_mark;
+use certificate::Weights;
+use commands::{Weighed, push_account, push_ratio};
 use coterie_file::Named;
 use dealer::Receipt;
 use even::Slack;
 use quorum_set::are_unit;
-use show_figures::{Dealt, Evenness, dealt_tickets};
+use show_figures::{Dealt, Evenness, Loads, dealt_tickets, loads_of_weights};
 use std::alloc::{AllocError, Global};
 
-/// The figures of a plan's cycle.
+/// The figures of a cycle of weights.
 #[derive(Clone, Copy)]
 struct CycleFigures {
     /// How many tickets it has.
     len: u64,
-    /// The plan's load: a numerator and a denominator.
-    load: (u64, u64),
+    /// The load and its bound.
+    loads: Loads,
 }
 
-/// Returns the figures of a plan's cycle.
-fn figures_of(plan: &Plan) -> CycleFigures {
+/// Returns the figures of a cycle of weights.
+fn figures_of(weights: &Weights) -> CycleFigures {
     CycleFigures {
-        len: plan.cycle_len(),
-        load: plan.load(),
+        len: weights.cycle_len(),
+        loads: loads_of_weights(weights),
     }
 }
 
@@ -39,17 +40,27 @@ fn push_ticket(text: &mut String, named: &Named, receipt: &Receipt) -> Result<()
     text.push('\n')
 }
 
-/// Appends the lines of the stride and the slack of an even order, of voters with these capacities.
+/// Appends the line of a load that is above its bound. Appends nothing if it is its bound.
+fn push_load(text: &mut String, loads: Loads) -> Result<(), AllocError> {
+    if loads.load == loads.bound {
+        return Ok(());
+    }
+    let (part, whole) = loads.load;
+    write!(text, "load {part}/{whole}")?;
+    push_mark(text, loads)?;
+    text.push('\n')
+}
+
+/// Appends the lines of the stride and the slack of an even order, of voters with these capacities, and
+/// that of a load above its bound.
 fn push_evenness(
     text: &mut String,
     capacities: &[u64],
     figures: CycleFigures,
     evenness: Evenness,
 ) -> Result<(), AllocError> {
-    let CycleFigures {
-        len,
-        load: (part, whole),
-    } = figures;
+    let CycleFigures { len, loads } = figures;
+    let (part, whole) = loads.load;
     let Evenness {
         stride,
         slack: Slack { excess, unit },
@@ -66,7 +77,8 @@ fn push_evenness(
     write!(
         text,
         "slack {excess}/{unit}: any n tickets in a row use no voter more often{for_capacity} than n * {part}/{whole} + {excess}/{unit}\n"
-    )
+    )?;
+    push_load(text, loads)
 }
 
 /// Appends the lines of these tickets, of their account, and of the order if it is the even one.
@@ -90,20 +102,21 @@ fn push_page(
     }
 }
 
-/// Returns the page of the tickets below `count`, dealt in the even order or by rounds: for each its
-/// quorum and the names of the voters to ask, then the account of these tickets, and in the even order
-/// its stride and its slack. Fails only if it runs out of memory.
+/// Returns the page of the tickets below `count`, dealt in the even order, or by rounds if the weights are
+/// a plan and this order is not asked for: for each its quorum and the names of the voters to ask, then
+/// the account of these tickets, and in the even order its stride and its slack, and a load above its
+/// bound. Fails only if it runs out of memory.
 pub fn tickets_page(
     alloc: Global,
-    planned: Planned,
+    weighed: Weighed,
     count: u64,
     is_even: bool,
 ) -> Result<String, AllocError>
     requires count { count ≤ max_dealt }
 {
-    let Planned { named, plan } = planned;
-    let figures = figures_of(&plan);
-    let dealt = dealt_tickets(alloc, plan, count, is_even)?;
+    let Weighed { named, weights } = weighed;
+    let figures = figures_of(&weights);
+    let dealt = dealt_tickets(alloc, weights, count, is_even)?;
     let mut text = String::new(alloc);
     push_page(&mut text, &named, figures, &dealt)?;
     Ok(text)

@@ -112,6 +112,7 @@ const INPUTS: [(InputFault, &str); 34] = [
         InputFault::Plan(PlanFault::WrongCapacity),
         "P9 WrongCapacity",
     ),
+    (InputFault::Plan(PlanFault::WrongBound), "P10 WrongBound"),
     (no_plan!(Overflow), "N1 NoPlan S1"),
     (no_plan!(PivotLimit), "N1 NoPlan S2"),
     (no_plan!(NoRow), "N1 NoPlan S3"),

@@ -13,6 +13,6 @@ returns c =
       subst P c.in_ok-used.ensures c.in_ok-rest.ensures,
       c.in_ok-push_str.ensures.bytes
           ∙ ap₂ (λ (a b : List ℕ). a ++ b)
-          (c.in_ok-push_used.ensures ∙ ap (λ (o : List ℕ). o ++ used_text c.args.plan.now) c.new-text.ensures.bytes)
+          (c.in_ok-push_used.ensures ∙ ap (λ (o : List ℕ). o ++ used_text c.args.weights.now) c.new-text.ensures.bytes)
           c.as_str.ensures.value,
     )

@@ -5,7 +5,7 @@ use Rattle.show_failures.proofs.used.used_quorums.Goals.{then-weight-gt0+in_ok-p
 
 pub loop-number-preserved : goal.loop-number-preserved
 loop-number-preserved c =
-    let w = c.args.plan.now in
+    let w = c.args.weights.now in
     let n = c.loop-number.number in
     elim c.if-weight-gt0.branch [
       | then-weight-gt0+in_ok-push k ↦ with_used w n _ k.quorum.result.now c.loop-number.used.items c.if-weight-gt0.used.items c.loop-number.invariant c.weight.ensures.value k.if-weight-gt0.true

@@ -1,8 +1,8 @@
 use Rattle.std.proofs.Common.{refl}
 use Rattle.show_figures.proofs.comparisons.loads_of_weights.Goals as goal
 
-pub returns : goal.returns
-returns c = record {
+pub returns-clause-loads : goal.returns-clause-loads
+returns-clause-loads c = record {
   weights = c.args.weights.now;
   system = refl;
   capacities = refl;
