@@ -1,9 +1,9 @@
-use Rattle.progress.proofs.Making.{grants_left, rounds_of}
+use Rattle.progress.proofs.Making.{are_timely, grants_left, made_rounds}
 use Rattle.progress.proofs.Sure.{IsSure-reached, course_of}
 use Rattle.progress.proofs.laws.fair_rounds_can_be_made.Goals as goal
 
 pub returns-clause-made : goal.returns-clause-made
-returns-clause-made c = rounds_of
+returns-clause-made c deal w k = (made_rounds deal w k, are_timely deal w k)
 
 pub returns-clause-left : goal.returns-clause-left
 returns-clause-left c w steps n reached left =
