@@ -33,6 +33,7 @@ pub mod Outstanding
 pub mod Overdue
 pub mod Patient
 pub mod Placed
+pub mod Spending
 pub mod Stages
 pub mod Steady
 pub mod Still
@@ -43,4 +44,5 @@ pub mod Together
 pub mod Turns
 pub mod Waiting
 pub mod Ways
+pub mod WaysIn
 pub mod Winning

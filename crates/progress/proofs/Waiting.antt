@@ -146,19 +146,19 @@ still_by laws p steps x r none =
 
 -- k blocks of rounds, in which the client c asks on, have k turns of clients, late REQUESTs or old
 -- grants that are given back
-abbrev HasTurns : Course → ℕ → ℕ → ℕ → ℕ → WorldState → List Event → ℕ → List (List Step) → Type 0
+abbrev pub HasTurns : Course → ℕ → ℕ → ℕ → ℕ → WorldState → List Event → ℕ → List (List Step) → Type 0
 HasTurns p c n m k x more old rounds =
     AreFairRounds p.deal x rounds → HasGrants 1 (run_of p.deal (steps_of rounds) x) → (run_of p.deal (steps_of rounds) x).visible ≡ x.visible ++ more
     → own_give_ups c (steps_of rounds) ≡ 0
     → k + olds_of p m (run_of p.deal (steps_of rounds) x) ≤ all_turns p.deal n (steps_of rounds) x + late_in p.deal old x rounds + olds_of p m x
 
 -- so many clients and voters, and the client c asks
-record Waits (p : Course) (c n m : ℕ) (x : WorldState) : Type 0 where
-  clients : length x.clients ≡ n
-  voters : length x.voters ≡ m
-  few : AreOld p x
-  sure : IsSure p x
-  asks : asks_at x c ≡ true
+pub record Waits (p : Course) (c n m : ℕ) (x : WorldState) : Type 0 where
+  pub clients : length x.clients ≡ n
+  pub voters : length x.voters ≡ m
+  pub few : AreOld p x
+  pub sure : IsSure p x
+  pub asks : asks_at x c ≡ true
 
 one_block : (laws : Laws) (p : Course) (c n m k : ℕ) (a b : List (List Step)) (x : WorldState) (more : List Event) (old : ℕ) → Waits p c n m x
     → entries_of c more ≡ 0 → length a ≡ block n
@@ -213,7 +213,7 @@ one_block laws p c n m k a b x more old waits none long then_rest fair left visi
       ]
     ]
 
-blocks_turn : (laws : Laws) (p : Course) (c n m k : ℕ) (rounds : List (List Step)) (x : WorldState) (more : List Event) (old : ℕ) → Waits p c n m x
+pub blocks_turn : (laws : Laws) (p : Course) (c n m k : ℕ) (rounds : List (List Step)) (x : WorldState) (more : List Event) (old : ℕ) → Waits p c n m x
     → entries_of c more ≡ 0 → k * block n ≤ length rounds → HasTurns p c n m k x more old rounds
 blocks_turn laws p c n m zero rounds x more old waits none long fair left visible stays =
     (let fewer = olds_fall p m x (run_of p.deal (steps_of rounds) x) (Goes-run laws p (steps_of rounds) x waits.few waits.sure) in omega arith)
@@ -244,7 +244,7 @@ entered_or (suc n) more = elim (cases_lt 0 (entries_of n more)) [
   ]
 ]
 
-one_most : (b : Bool) → one_if b ≤ 1
+pub one_most : (b : Bool) → one_if b ≤ 1
 one_most true = omega arith
 one_most false = omega arith
 
