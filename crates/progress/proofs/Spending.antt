@@ -1,11 +1,11 @@
 -- how many grants of a voter the rounds take that are made
-use Rattle.std.proofs.Common.{◌≡◌, ◌≢◌, ℕ, zero, suc, ◌+◌, ◌*◌, ◌-◌, ◌<◌, ◌≤◌, Bool, true, false, cond, eqb, List, [], ◌∷◌, ◌++◌, length, map, Option, Some, None, Result, Ok, Err, refl, sym, ap, subst, ◌∙◌, inl, inr, arith, append_assoc, length-append}
+use Rattle.std.proofs.Common.{◌≡◌, ℕ, zero, suc, ◌+◌, ◌*◌, ◌-◌, ◌<◌, ◌≤◌, Bool, true, false, cond, eqb, List, [], ◌∷◌, ◌++◌, length, map, Option, Some, None, Ok, refl, sym, ap, subst, ◌∙◌, inl, inr, arith, append_assoc, length-append}
 use Rattle.std.specs.Prelude.{nat_lt, slice_get}
-use Rattle.std.specs.List.{AllByRecursion, flat_map, range_with_len}
+use Rattle.std.specs.List.{AllByRecursion, flat_map}
 use Rattle.std.proofs.Math.Nat.{suc-mul}
 use Rattle.std.proofs.lemmas.Bool.{cases_eq, false≢true}
 use Rattle.std.proofs.lemmas.Bool.Decides.{nat_tests}
-use Rattle.std.proofs.lemmas.List.{append-nil, length-map, map-append}
+use Rattle.std.proofs.lemmas.List.{append-nil, map-append}
 use Rattle.std.proofs.lemmas.Option.{same_Some}
 use Rattle.numbers.specs.Sets.{Ascends}
 use Rattle.numbers.proofs.Lists.{AllByRecursion-append}
@@ -19,7 +19,7 @@ use Rattle.requester.specs.declared.state.ClientState.{ClientState}
 use Rattle.requester.specs.declared.state.Phase.{Phase}
 use Rattle.requester.specs.declared.state.Phase.TheVariants.{Asking, Idle, Inside}
 use Rattle.requester.specs.Steps as requester
-use Rattle.requester.specs.Words.{holds, is_covered, is_current, is_hindered, is_relinquished, members}
+use Rattle.requester.specs.Words.{holds, is_covered, is_relinquished, members}
 use Rattle.voter.specs.declared.state.Grant.{Grant}
 use Rattle.voter.specs.declared.state.VoterState.{VoterState}
 use Rattle.voter.specs.Steps as voter
@@ -36,7 +36,7 @@ use Rattle.progress.proofs.Arrivals.{client_takes, message_stays}
 use Rattle.progress.proofs.Exchanges.{get_next}
 use Rattle.progress.proofs.Longer.{Grows-run}
 use Rattle.progress.proofs.Making.{answer, answer_all, each, few_by, made_rounds, remind, remind_all, round_of}
-use Rattle.progress.proofs.Moves.{Moved, MovedBy, MovedBy-step, Moved-step, VoterMoved, each_voter}
+use Rattle.progress.proofs.Moves.{Moved, MovedBy-step, Moved-step, VoterMoved, each_voter}
 use Rattle.progress.proofs.Sure.{Course, IsSure, IsSure-after, IsSure-run}
 
 -- ---- grants of one voter
@@ -76,11 +76,11 @@ hits_in v (m ∷ ms) = hits v m + hits_in v ms
 
 voter_gives : (laws : Laws) (x y : WorldState) (k : VoterMoved x y) (v : ℕ) → ((u : ℕ) → voter.IsSound (voter_at x.voters u)) → Spent (one_at v k.message.voter) v x y
 voter_gives laws x y k v sound = each_voter (λ q z. Spends (one_at q k.message.voter) (voter_at x.voters q) z) x y k (
-  let w = voter_at x.voters k.message.voter in
-  let own : one_at k.message.voter k.message.voter ≡ 1 = ap (λ b. cond b 1 0) (let e : eqb k.message.voter k.message.voter ≡ true = grind (arith, nat_tests) in e) in
-  let few = few_by _ w k.outcome.state (laws.voter.numbers w k.message k.outcome (sound k.message.voter) k.step) in
-  record { granted = omega arith; limit = (laws.voter.carries w k.message k.outcome k.step).limit }
-) (λ q. Spends-self (one_at q k.message.voter) (voter_at x.voters q)) v
+    let w = voter_at x.voters k.message.voter in
+    let own : one_at k.message.voter k.message.voter ≡ 1 = ap (λ b. cond b 1 0) (let e : eqb k.message.voter k.message.voter ≡ true = grind (arith, nat_tests) in e) in
+    let few = few_by _ w k.outcome.state (laws.voter.numbers w k.message k.outcome (sound k.message.voter) k.step) in
+    record { granted = omega arith; limit = (laws.voter.carries w k.message k.outcome k.step).limit }
+    ) (λ q. Spends-self (one_at q k.message.voter) (voter_at x.voters q)) v
 
 place_in : Step → ℕ
 place_in (Ask c) = 0
@@ -345,6 +345,7 @@ reminds_voter p x u v r within = said (nat_lt u (length x.voters))
   where
     id : (voter_at x.voters u).id ≡ u
     id = (r []).coherent.numbered.voters u within
+
     said : (b : Bool) → Reminds (2 * one_at v u) v x (after x (if_voter b u (Ok (say x (map kinds.ToClient (voter.remind (voter_at x.voters u)))))))
     said true =
         let both = voter_meets v (voter_at x.voters u) (voter_at x.voters u).held in

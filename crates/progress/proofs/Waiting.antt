@@ -34,14 +34,13 @@ use Rattle.progress.proofs.Always.{Heeds, heeds}
 use Rattle.progress.proofs.Blocks.{block_moves}
 use Rattle.progress.proofs.Counting.{entries_of-append, overtakes_twice}
 use Rattle.progress.proofs.Kept.{IsKept-reached}
-use Rattle.progress.proofs.Known.{known_after}
+use Rattle.progress.proofs.Known.{asks_within, known_after}
 use Rattle.progress.proofs.Longer.{Grows-run}
 use Rattle.progress.proofs.Moves.{Moved-by, MovedBy, MovedBy-step, kept-by}
 use Rattle.progress.proofs.Olds.{AreOld, keeps_olds, no_olds, olds_fall, olds_of}
 use Rattle.progress.proofs.Placed.{Heeds-moved}
 use Rattle.progress.proofs.Still.{Goes-run, Lasts-moved, RunsOn, SameAsk, left_before}
 use Rattle.progress.proofs.Sure.{Course, IsSure, IsSure-after, IsSure-reached, IsSure-run, course_of, stays_coherent}
-use Rattle.progress.proofs.Together.{asks_within}
 use Rattle.progress.proofs.Turns.{all_give_ups, all_turns, all_turns-append, asks_at, gives_up_never, none_of_all, no_turn, none_turned, one_if, own_give_ups, own_give_ups-append, shown, stamp_stays, sum_has, turn, turns, turns_most}
 
 -- ---- rounds in two parts

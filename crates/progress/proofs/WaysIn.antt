@@ -4,7 +4,6 @@ use Rattle.std.specs.Prelude.{if◌then◌else◌, nat_lt}
 use Rattle.std.specs.List.{AllByRecursion}
 use Rattle.std.proofs.lemmas.Bool.{cases_eq, cases_lt, false≢true}
 use Rattle.std.proofs.lemmas.List.{append-nil}
-use Rattle.numbers.specs.Sums.{sum_below}
 use Rattle.numbers.proofs.SumsBelow.{sum_below-add, sum_below-le, sum_below-one, sum_below-zero}
 use Rattle.requester.specs.declared.fault.ClientFault.TheVariants.{NotInside}
 use Rattle.requester.specs.declared.state.ClientState.{ClientState}
@@ -27,7 +26,7 @@ use Rattle.world.specs.Runs.{after, run_of}
 use Rattle.world.specs.Visible.{entries_of}
 use Rattle.world.specs.Waiting.{block}
 use Rattle.world.specs.WayIn.{Asks, AsksAlone, GetsIn, HasGrants, Helps, IsFree, IsWayIn, Serves}
-use Rattle.progress.specs.Rounds.{give_ups_in, grants_for, steps_of}
+use Rattle.progress.specs.Rounds.{grants_for, steps_of}
 use Rattle.progress.specs.Rules.{Laws}
 use Rattle.progress.proofs.Along.{next}
 use Rattle.progress.proofs.Behind.{meets}
@@ -37,7 +36,7 @@ use Rattle.progress.proofs.Olds.{AreOld, olds_of}
 use Rattle.progress.proofs.Spending.{rounds_leave}
 use Rattle.progress.proofs.Sure.{Course, IsSure, IsSure-after}
 use Rattle.progress.proofs.Turns.{all_give_ups, all_turns, asks_at, one_if, own_give_ups, shown, sum_has, turn, turns}
-use Rattle.progress.proofs.Waiting.{Waits, asks_on, blocks_turn, one_most}
+use Rattle.progress.proofs.Waiting.{asks_on, blocks_turn, one_most}
 
 -- ---- by steps that serve nobody begins to ask
 
@@ -290,7 +289,7 @@ everybody_gets_in laws p w c k few r asks enough has =
           let no_entry : entries_of c seen.0 ≡ 0 = omega arith in
           let some = m.turns c seen.0 asks seen.1 no_entry in
           let each = sum_below-le n (λ d. turns p.deal d steps w + one_if (asks_at z d)) (λ d. 1) (λ d within.
-              (let once = turns_once laws p d (length w.sent) steps w r m.serve in let one = one_most (asks_at w d) in omega arith)) in
+          (let once = turns_once laws p d (length w.sent) steps w r m.serve in let one = one_most (asks_at w d) in omega arith)) in
           let both = sum_below-add n (λ d. turns p.deal d steps w) (λ d. one_if (asks_at z d)) in
           let ones = sum_below-one n in
           let last = sum_has n c (λ d. one_if (asks_at z d)) asks.client in
