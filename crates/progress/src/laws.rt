@@ -96,8 +96,8 @@ pub fn returned_votes_go_on()
 /// A client that asks while all others are idle gets in by reminders and by messages that are sent after
 /// them, whatever was lost, late or repeated before. Nobody else enters meanwhile.
 ///
-/// Each voter has to have grants left for n + 5 fair rounds as [`fair_rounds_can_be_made`] makes them, for n
-/// clients: 2 n + 2 for each, and one. The way ends with the first entry in these rounds.
+/// Each voter has to have (n + 5) * (2 n + 2) grants left and one, for n clients: for n + 5 fair rounds as
+/// [`fair_rounds_can_be_made`] makes them. The way ends with the first entry in these rounds.
 pub fn who_asks_alone_gets_in()
     ensures { (w : Planned) (c : ℕ) → IsReached w → AsksAlone w.state c
         → HasGrants (grants_for (length w.state.clients) 1) w.state → (steps : List Step) × IsWayIn (dealing_of w.plans) w.state c steps }
@@ -108,8 +108,8 @@ pub fn who_asks_alone_gets_in()
 /// Whenever clients ask and nobody is inside, some client gets in by reminders and by messages that are
 /// sent after them, whatever was lost, late or repeated before. Nobody else enters meanwhile.
 ///
-/// So requests never block one another for good. Each voter has to have grants left for n + 5 fair rounds
-/// that are made, for n clients: (n + 5) * (2 n + 2) and one.
+/// So requests never block one another for good. Each voter has to have (n + 5) * (2 n + 2) grants left and
+/// one, for n clients, as in [`who_asks_alone_gets_in`].
 pub fn somebody_can_enter()
     ensures { (w : Planned) (c : ℕ) → IsReached w → Asks w.state c → IsFree w.state
         → HasGrants (grants_for (length w.state.clients) 1) w.state
@@ -122,7 +122,8 @@ pub fn somebody_can_enter()
 /// clients that leave. Nobody has to ask anew, and nobody has to give up.
 ///
 /// This holds in every world that was reached, whoever asks or is inside. Other clients may get in before.
-/// Each voter has to have grants left for n * (n + 5) fair rounds that are made, for n clients.
+/// Each voter has to have n * (n + 5) * (2 n + 2) grants left and one, for n clients: n times as many rounds
+/// as in [`somebody_can_enter`] are made.
 pub fn everybody_can_enter()
     ensures { (w : Planned) (c : ℕ) → IsReached w → Asks w.state c
         → HasGrants (grants_for (length w.state.clients) (length w.state.clients)) w.state
@@ -134,8 +135,8 @@ pub fn everybody_can_enter()
 /// There are any number of fair rounds in every world, one after the other, in which no REQUEST is late
 /// and nobody gives up.
 ///
-/// Each of these rounds takes at most 2 n + 2 grants of a voter, for n clients, and any steps at most one
-/// each. So all that the laws on rounds ask for can be met together.
+/// If steps led to the world, each of these rounds takes at most 2 n + 2 grants of a voter, for n clients, and
+/// any step at most one. So all that the laws on rounds ask for can be met together.
 pub fn fair_rounds_can_be_made()
     ensures made { (deal : Dealing) (w : WorldState) (k : ℕ) → (rounds : List (List Step)) × IsTimely deal 0 w k rounds }
     ensures granted { (w : Planned) (k n : ℕ) → IsReached w → HasGrants (k * (2 * length w.state.clients + 2) + n) w.state
