@@ -88,9 +88,9 @@ IsGrant b G v c s g = Gave (voters_of b G) v c s g × (v < b.voters)
 abbrev pub IsNamed : Bounds → (ℕ → ℕ) → ℕ → ClientBody → Type 0
 IsNamed b N v (to_client.Locked s g) = (g ≤ N v) × IsWithin b.limit s
 IsNamed b N v (to_client.Fail s) = Unit {0}
-IsNamed b N v (to_client.Inquire g) = Unit {0}
+IsNamed b N v (to_client.Inquire g) = g ≤ N v
 
--- a LOCKED that was ever sent names a saved grant
+-- a LOCKED or INQUIRE that was ever sent names a saved grant
 abbrev pub Told : Bounds → (ℕ → ℕ) → Message → Type 0
 Told b N (kinds.ToVoter m) = (m.client < b.clients) × (m.voter < b.voters) × AsksInRange b.limit m.body
 Told b N (kinds.ToClient m) = (m.client < b.clients) × (m.voter < b.voters) × IsNamed b N m.voter m.body
@@ -126,7 +126,7 @@ Further b G H = (v c t g : ℕ) → Gave (voters_of b G) v c t g → Gave (voter
 named_on : (b : Bounds) (N M : ℕ → ℕ) → ((v : ℕ) → N v ≤ M v) → (v : ℕ) (body : ClientBody) → IsNamed b N v body → IsNamed b M v body
 named_on b N M f v (to_client.Locked s g) is = let few = is.0 in let more = f v in (omega arith, is.1)
 named_on b N M f v (to_client.Fail s) is = tt
-named_on b N M f v (to_client.Inquire g) is = tt
+named_on b N M f v (to_client.Inquire g) is = (let more = f v in omega arith)
 
 told_on : (b : Bounds) (N M : ℕ → ℕ) → ((v : ℕ) → N v ≤ M v) → (m : Message) → Told b N m → Told b M m
 told_on b N M f (kinds.ToVoter m) is = is
@@ -170,12 +170,15 @@ knows_after laws b G c x cause o k accepts draws came is =
 
 -- ---- what a voter says
 
-named_by : (b : Bounds) (M : ℕ → ℕ) (v : ℕ) (z : VoterState) → Votes b v z → z.granted ≤ M v → (c : ℕ) (body : ClientBody) → ReportsVote z.held c body → IsNamed b M v body
-named_by b M v z votes most c (to_client.Locked s g) vote =
+named_by : (b : Bounds) (M : ℕ → ℕ) (v : ℕ) (z : VoterState) → Votes b v z → z.granted ≤ M v → (c : ℕ) (body : ClientBody) → ReportsVote z.held c body → ReportsPlace z c body → IsNamed b M v body
+named_by b M v z votes most c (to_client.Locked s g) vote place =
     let number = votes.sound.numbered (grant_of c s g) vote in
     (omega arith, (votes.entries c s (inl (grant_of c s g, vote, refl, refl))).1)
-named_by b M v z votes most c (to_client.Fail s) vote = tt
-named_by b M v z votes most c (to_client.Inquire g) vote = tt
+named_by b M v z votes most c (to_client.Fail s) vote place = tt
+named_by b M v z votes most c (to_client.Inquire g) vote place =
+    let number = votes.sound.numbered place.0 place.1 in
+    let same = place.3 in
+    omega arith
 
 replied_to : (b : Bounds) (v : ℕ) (z : VoterState) → Votes b v z → (c : ℕ) (body : ClientBody) → ReportsVote z.held c body → ReportsPlace z c body → c < b.clients
 replied_to b v z votes c (to_client.Locked s g) vote place = (votes.entries c s (inl (grant_of c s g, vote, refl, refl))).0
@@ -189,7 +192,7 @@ replies_told b M v seen z within votes most (r ∷ rs) report place carry = (
   (
     replied_to b v z votes r.client r.body report.0 place.0,
     subst (λ n. n < b.voters) (sym carry.0.0) within,
-    subst (λ n. IsNamed b M n r.body) (sym carry.0.0) (named_by b M v z votes most r.client r.body report.0),
+    subst (λ n. IsNamed b M n r.body) (sym carry.0.0) (named_by b M v z votes most r.client r.body report.0 place.0),
   ),
   replies_told b M v seen z within votes most rs report.1 place.1 carry.1,
 )

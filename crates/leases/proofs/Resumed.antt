@@ -1,6 +1,6 @@
 -- requests get on after incidents, once all clients were idle
-use Rattle.std.proofs.Common.{◌≡◌, ℕ, ◌≤◌, true, List, sym, subst, ◌∙◌, arith}
-use Rattle.std.proofs.lemmas.Bool.{false≢true}
+use Rattle.std.proofs.Common.{◌≡◌, ℕ, suc, ◌≤◌, true, List, [], sym, subst, ◌∙◌, arith}
+use Rattle.std.proofs.lemmas.Bool.{false≢true, false_from_ne_true}
 use Rattle.numbers.proofs.Lists.{AllByRecursion-weaker}
 use Rattle.message.specs.declared.message.Message.{Message}
 use Rattle.message.specs.declared.message.Message.TheVariants as kinds
@@ -8,14 +8,22 @@ use Rattle.message.specs.declared.message.ClientBody.{ClientBody}
 use Rattle.message.specs.declared.message.ClientBody.TheVariants as to_client
 use Rattle.voter.specs.declared.state.VoterState.{VoterState}
 use Rattle.requester.proofs.SoundSteps.{is_asking-busy}
-use Rattle.requester.specs.Words.{is_idle}
+use Rattle.requester.specs.Soundness.{IsSound}
+use Rattle.requester.specs.Words.{is_idle, is_inquired}
+use Rattle.requester.specs.declared.state.ClientState.{ClientState}
 use Rattle.world.specs.Restarts.{Saved, begin}
 use Rattle.world.specs.Rules.{ClientLaws, VoterLaws}
 use Rattle.world.specs.Runs.{run_of}
 use Rattle.world_state.specs.Steps.{Dealing, WorldState, client_at, voter_at}
+use Rattle.world_state.specs.declared.step.Step.{Step}
 use Rattle.world.proofs.Claims.{Bounds}
 use Rattle.world.proofs.EveryRun.{coherent_by, run_from}
 use Rattle.world.proofs.Reached.{Given, RunOk}
+use Rattle.progress.proofs.Losses.{course_at}
+use Rattle.progress.proofs.Olds.{AreOld}
+use Rattle.progress.proofs.Outstanding.{IsNoted, IsNotedAt, Outstanding}
+use Rattle.progress.proofs.Still.{Goes-run}
+use Rattle.progress.proofs.Sure.{IsSure, IsSure-first, IsSure-run}
 use Rattle.progress.specs.Rules.{Laws}
 use Rattle.progress.proofs.Always.{IsUpTo, WasGiven}
 use Rattle.progress.proofs.Fitting.{current_busy}
@@ -67,9 +75,32 @@ keeps_idle b G s num st idle = record {
   };
 }
 
--- what the laws of `progress` rest on
-pub kept_again : Laws → ClientLaws → VoterLaws → (deal : Dealing) (w : WorldState) → IsReachedAgain deal w → IsKept deal w
-kept_again rules cs vs deal w r =
+-- an INQUIRE that was ever sent names a grant that is old
+named_old : (b : Bounds) (N : ℕ → ℕ) (v : ℕ) (y : VoterState) (body : ClientBody) → N v ≤ y.granted → IsNamed b N v body → IsNoted (suc y.granted) y body
+named_old b N v y (to_client.Locked t g) most named = tt
+named_old b N v y (to_client.Fail t) most named = tt
+named_old b N v y (to_client.Inquire g) most named = (omega arith, λ h held same new. absurd (omega arith))
+
+told_old : (b : Bounds) (N : ℕ → ℕ) (u : WorldState) → ((v : ℕ) → N v ≤ (voter_at u.voters v).granted) → (deal : Dealing) (m : Message) → Told b N m → IsNotedAt (course_at deal u).old u.voters m
+told_old b N u most deal (kinds.ToVoter m) told = tt
+told_old b N u most deal (kinds.ToClient m) told = named_old b N m.voter (voter_at u.voters m.voter) m.body (most m.voter) told.2
+
+-- who is idle has marked no voter
+no_mark : (x : ClientState) (v : ℕ) → IsSound x → is_idle x.phase ≡ true → is_inquired x v ≡ true → ⊥
+no_mark x v sound idle marked = false≢true (sym (sound.held v (sound.inquired v marked)).busy ∙ idle)
+
+-- A world in which all clients were idle, and the steps that led from there to this one. All grants that were
+-- given before are old.
+record Begun (deal : Dealing) (w : WorldState) : Type 0 where
+  first : WorldState
+  coherent : StaysCoherent deal first
+  keeps : Keeps first
+  out : Outstanding (course_at deal first).old first
+  steps : List Step
+  state : w ≡ run_of deal steps first
+
+begun : Laws → ClientLaws → VoterLaws → (deal : Dealing) (w : WorldState) → IsReachedAgain deal w → Begun deal w
+begun rules cs vs deal w r =
     let b : Bounds = record { voters = r.voters; clients = r.clients; limit = r.limit; quorums = r.quorums } in
     let given : Given b = record { client = cs; voter = vs; limits = r.limits; meet = r.meet } in
     let s = all_befall deal r.incidents (begin r.voters r.clients r.limit) in
@@ -83,4 +114,40 @@ kept_again rules cs vs deal w r =
       walked = record { list = tt; inside = λ c. idle_out (client_at s.live.clients c).phase (r.idle c) };
     } in
     let coherent : StaysCoherent deal first = λ steps. coherent_by b given (run_of deal steps first) (run_from b given deal r.deals steps first ok) in
-    subst (IsKept deal) (sym r.state) (IsKept-run deal r.steps first (IsKept-first rules deal first coherent (keeps_idle b t.lives s t.num t.settled r.idle)))
+    let sound : (d : ℕ) → IsSound (client_at s.live.clients d) = (coherent []).clients in
+    record {
+      first = first;
+      coherent = coherent;
+      keeps = keeps_idle b t.lives s t.num t.settled r.idle;
+      out = record {
+        noted = AllByRecursion-weaker (Told b (count s.voters)) (IsNotedAt (course_at deal first).old s.live.voters) (told_old b (count s.voters) first t.num.behind deal) s.live.sent t.num.told;
+        marks = λ d v marked new. absurd (no_mark (client_at s.live.clients d) v (sound d) (r.idle d) marked);
+        clear = λ d hindered v below. false_from_ne_true (is_inquired (client_at s.live.clients d) v) (no_mark (client_at s.live.clients d) v (sound d) (r.idle d));
+      };
+      steps = r.steps;
+      state = r.state;
+    }
+
+-- what the laws of `progress` that name no rounds rest on
+pub kept_again : Laws → ClientLaws → VoterLaws → (deal : Dealing) (w : WorldState) → IsReachedAgain deal w → IsKept deal w
+kept_again rules cs vs deal w r =
+    let g = begun rules cs vs deal w r in
+    subst (IsKept deal) (sym g.state) (IsKept-run deal g.steps g.first (IsKept-first rules deal g.first g.coherent g.keeps))
+
+-- what its laws on rounds rest on
+pub record Resumes (deal : Dealing) (w : WorldState) : Type 0 where
+  pub old : ℕ → ℕ
+  pub few : AreOld (record { deal = deal; old = old }) w
+  pub sure : IsSure (record { deal = deal; old = old }) w
+
+pub resumes : Laws → ClientLaws → VoterLaws → (deal : Dealing) (w : WorldState) → IsReachedAgain deal w → Resumes deal w
+resumes rules cs vs deal w r =
+    let g = begun rules cs vs deal w r in
+    let p = course_at deal g.first in
+    let sure = IsSure-first rules p g.first g.coherent (record { fits = g.keeps.fits; placed = g.keeps.placed; out = g.out }) in
+    let goes = Goes-run rules p g.steps g.first (λ v. omega arith) sure in
+    record {
+      old = p.old;
+      few = subst (AreOld p) (sym g.state) (λ v. (let rises = (goes.outlasts v).granted in omega arith));
+      sure = subst (IsSure p) (sym g.state) (IsSure-run p g.steps g.first sure);
+    }

@@ -2,6 +2,7 @@
 ghost use Rattle.std.specs.Prelude.{◌≡◌, ◌≢◌, ◌≤◌, ◌+◌, ◌*◌, ◌++◌, ℕ, List, length};
 ghost use Rattle.leases.specs.Again.{IsReachedAgain};
 ghost use Rattle.progress.specs.LostVotes.{ComesBack, GoesOn, HasLostVote, HasReturnedVote};
+ghost use Rattle.progress.specs.Rounds.{grants_for};
 ghost use Rattle.progress.specs.Overtaking.{IsKnownEverywhere, StillRuns};
 ghost use Rattle.world.specs.Visible.{entries_of};
 ghost use Rattle.world.specs.WayIn.{Asks, AsksAlone, GetsIn, HasGrants, IsFree, IsWayIn};
@@ -25,7 +26,8 @@ use world::parts_keep_their_rules;
 /// - Whenever clients ask and nobody is inside, reminders and new messages let one in.
 /// - A client that asks gets in by reminders, by new messages, and by clients that leave.
 ///
-/// All but the first are for voters with grants left, as many as in `progress`.
+/// All but the first are for voters with grants left. The second and the third need one, as in `progress`. The
+/// last three need v * (n + 5) * (2 n + 2) more than in `progress`, for v voters and n clients.
 pub fn progress_comes_back()
     ensures overtaken { (deal : Dealing) (w : WorldState) (client other : ℕ) (steps : List Step) (more : List Event)
         → IsReachedAgain deal w → IsKnownEverywhere w client → other ≢ client → StillRuns w (run_of deal steps w) client
@@ -35,11 +37,11 @@ pub fn progress_comes_back()
     ensures returned { (deal : Dealing) (w : WorldState) (voter : ℕ) (grant : Grant)
         → IsReachedAgain deal w → HasReturnedVote w voter grant → GoesOn deal w voter grant }
     ensures alone { (deal : Dealing) (w : WorldState) (client : ℕ) → IsReachedAgain deal w → AsksAlone w client
-        → HasGrants (length w.clients + 2) w → (steps : List Step) × IsWayIn deal w client steps }
+        → HasGrants (grants_for (length w.clients) (length w.voters + 1)) w → (steps : List Step) × IsWayIn deal w client steps }
     ensures somebody { (deal : Dealing) (w : WorldState) (client : ℕ) → IsReachedAgain deal w → Asks w client → IsFree w
-        → HasGrants (length w.voters + length w.clients + 3) w → (steps : List Step) × (who : ℕ) × IsWayIn deal w who steps }
+        → HasGrants (grants_for (length w.clients) (length w.voters + 1)) w → (steps : List Step) × (who : ℕ) × IsWayIn deal w who steps }
     ensures everybody { (deal : Dealing) (w : WorldState) (client : ℕ) → IsReachedAgain deal w → Asks w client
-        → HasGrants (length w.clients * (length w.voters + length w.clients + 3)) w
+        → HasGrants (grants_for (length w.clients) (length w.clients + length w.voters)) w
         → (steps : List Step) × GetsIn deal w client steps }
 {
     worlds_keep_their_rules();

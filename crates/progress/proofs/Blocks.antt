@@ -1,5 +1,5 @@
 -- nothing stands still for a block of fair rounds
-use Rattle.std.proofs.Common.{append_assoc, ◌≡◌, ℕ, zero, suc, ◌<◌, ◌≤◌, Bool, true, false, List, [], ◌∷◌, ◌++◌, length, Some, refl, sym, ap, subst, ◌∙◌, ◌⊎◌, inl, inr, arith}
+use Rattle.std.proofs.Common.{append_assoc, ◌≡◌, ◌≢◌, ℕ, zero, suc, ◌<◌, ◌≤◌, Bool, true, false, List, [], ◌∷◌, ◌++◌, length, Some, refl, sym, ap, subst, ◌∙◌, ◌⊎◌, inl, inr, arith}
 use Rattle.std.specs.Prelude.{if◌then◌else◌, nat_lt, slice_get}
 use Rattle.std.specs.List.{range_with_len}
 use Rattle.std.proofs.lemmas.Bool.{cases_eq, cases_lt, false≢true}
@@ -8,10 +8,13 @@ use Rattle.std.proofs.lemmas.List.{append-nil}
 use Rattle.std.proofs.lemmas.List.FromFn.{length-range_with_len}
 use Rattle.std.proofs.lemmas.Option.{same_Some}
 use Rattle.numbers.specs.Sets.{has}
+use Rattle.message.specs.Requests.{precedes}
 use Rattle.message.specs.declared.message.Message.{Message}
 use Rattle.message.specs.declared.message.Message.TheVariants as kinds
 use Rattle.message.specs.declared.message.ToVoter.{ToVoter}
 use Rattle.message.specs.declared.message.VoterBody.TheVariants as asks
+use Rattle.message.specs.declared.request.Request.{Request}
+use Rattle.voter.proofs.Front.{precedes-trans}
 use Rattle.voter.specs.declared.state.Grant.{Grant}
 use Rattle.voter.specs.declared.state.VoterState.{VoterState}
 use Rattle.voter.specs.Steps as voter
@@ -25,17 +28,19 @@ use Rattle.world_state.specs.declared.step.Step.TheVariants.{Deliver, RemindClie
 use Rattle.world.specs.Runs.{IsReached, run_of}
 use Rattle.world_state.specs.Steps.{Planned, WorldState, client_at, dealing_of, voter_at}
 use Rattle.world.proofs.Plans.{run_then}
+use Rattle.progress.proofs.Behind.{the_request}
 use Rattle.progress.specs.Rounds.{AreFairRounds, IsReminded, IsStill, late_body, late_in, late_message, late_step, late_steps, steps_of}
 use Rattle.progress.specs.Rules.{Laws}
 use Rattle.world.specs.WayIn.{Asks, HasGrants}
 use Rattle.world.specs.Waiting.{block}
+use Rattle.progress.proofs.Fitting.{held_grant}
+use Rattle.progress.proofs.Lists.{all_hold, has_range, remove_from, shorter, still_there}
 use Rattle.progress.proofs.Steady.{GivenBack, GivenBack-lasting, HasMarked, HasVote, Marked, Marked-lasting, Never, Never-lasting, Told, Told-lasting}
 use Rattle.progress.proofs.Along.{Along, along-first, along-kept, along-last, along-or, along-split, along-weaker, next, reminded_at}
 use Rattle.progress.proofs.Arrivals.{get_after}
 use Rattle.progress.proofs.Falls.{With, asked, told}
-use Rattle.progress.proofs.Hindering.{all_hold, held_grant}
 use Rattle.progress.proofs.Inquiries.{orderly}
-use Rattle.progress.proofs.Known.{entry_kept, idle_after, idle_kept, known_after, within_by}
+use Rattle.progress.proofs.Known.{asks_within, entry_kept, idle_after, idle_kept, known_after, within_by}
 use Rattle.progress.proofs.Leftover.{AreOver, IsFirsts, Won, firsts_on, nearer, won_on}
 use Rattle.progress.proofs.Falls.{not_given_back, not_marked}
 use Rattle.progress.proofs.Moves.{Moved, Moved-by, MovedBy}
@@ -44,8 +49,6 @@ use Rattle.progress.proofs.Stages.{Calm, Calmly, First, Stage, asks_now, calm_ok
 use Rattle.progress.proofs.Stages.{stage_by, stage_from, stage_kept, stage_over, voter_below, voter_within}
 use Rattle.progress.proofs.Still.{Early, IsLiveAt, LiveBody, early_along, is_live, live_asks, live_is, RunsOn, runs_on}
 use Rattle.progress.proofs.Sure.{Course, IsSure, IsSure-reached, course_of}
-use Rattle.progress.proofs.Together.{asks_within, first_below}
-use Rattle.progress.proofs.Ways.{has_range, remove_from, shorter, still_there}
 
 -- ---- from the second round on each REQUEST that comes runs
 
@@ -361,6 +364,58 @@ wins_all laws p w m v f a b c d rest x all fair long =
     run_then deal a (b ++ (c ++ (d ++ steps_of rest))) x ∙ run_then deal b (c ++ (d ++ steps_of rest)) x1 ∙ run_then deal c (d ++ steps_of rest) x2 ∙ run_then deal d (steps_of rest) x3 in
     ap (λ (u : WorldState). holds (client_at u.clients m) v) goes
     ∙ wins_rounds laws p w m v f rest x4 (remove_from m (range_with_len 0 (length w.clients))) all.1.1.1.1 fair.1.1.1.1 (omega arith) fourth (over_others laws p w x4 m v f calm)
+
+precedes-one : (a b : Request) → a.client ≢ b.client → precedes a b ≡ false → precedes b a ≡ true
+precedes-one a b other not = grind (arith, nat_tests)
+
+-- the client precedes those below n that ask
+abbrev pub Precedes : WorldState → ℕ → ℕ → Type 0
+Precedes u c n = (d : ℕ) → d < n → d ≢ c → is_asking (client_at u.clients d).phase ≡ true → precedes (the_request u c) (the_request u d) ≡ true
+
+pub first_below : (u : WorldState) (n : ℕ) → ((d : ℕ) → d < n → is_asking (client_at u.clients d).phase ≡ false) ⊎ ((c : ℕ) × (is_asking (client_at u.clients c).phase ≡ true) × Precedes u c n)
+first_below u zero = inl (λ d below. absurd (omega arith))
+first_below u (suc n) = elim (is_asking (client_at u.clients n).phase) as (λ b. is_asking (client_at u.clients n).phase ≡ b
+    → ((d : ℕ) → d < suc n → is_asking (client_at u.clients d).phase ≡ false) ⊎ ((c : ℕ) × (is_asking (client_at u.clients c).phase ≡ true) × Precedes u c (suc n))) [
+      | false ↦ λ quiet. elim (first_below u n) [
+        | inl none ↦ inl (λ d below. elim (cases_eq d n) [
+          | inl same ↦ ap (λ i. is_asking (client_at u.clients i).phase) same ∙ quiet
+          | inr other ↦ none d (omega arith)
+        ])
+        | inr best ↦ inr (
+          best.0,
+          best.1,
+          λ d below other asks. elim (cases_eq d n) [
+            | inl same ↦ absurd (false≢true (sym quiet ∙ ap (λ i. is_asking (client_at u.clients i).phase) (sym same) ∙ asks))
+            | inr unlike ↦ best.2 d (omega arith) other asks
+          ],
+        )
+      ]
+      | true ↦ λ loud. elim (first_below u n) [
+        | inl none ↦ inr (n, loud, λ d below other asks. absurd (false≢true (sym (none d (omega arith)) ∙ asks)))
+        | inr best ↦ elim (cases_eq n best.0) [
+          | inl same ↦ inr (best.0, best.1, λ d below other asks. best.2 d (omega arith) other asks)
+          | inr apart ↦ elim (precedes (the_request u best.0) (the_request u n)) as (λ b. precedes (the_request u best.0) (the_request u n) ≡ b
+              → ((d : ℕ) → d < suc n → is_asking (client_at u.clients d).phase ≡ false) ⊎ ((c : ℕ) × (is_asking (client_at u.clients c).phase ≡ true) × Precedes u c (suc n))) [
+                | true ↦ λ first. inr (
+                  best.0,
+                  best.1,
+                  λ d below other asks. elim (cases_eq d n) [
+                    | inl same ↦ subst (λ i. precedes (the_request u best.0) (the_request u i) ≡ true) (sym same) first
+                    | inr unlike ↦ best.2 d (omega arith) other asks
+                  ],
+                )
+                | false ↦ λ later. (let ahead = precedes-one (the_request u best.0) (the_request u n) (λ same. apart (sym same)) later in inr (
+                  n,
+                  loud,
+                  λ d below other asks. elim (cases_eq d best.0) [
+                    | inl same ↦ subst (λ i. precedes (the_request u n) (the_request u i) ≡ true) (sym same) ahead
+                    | inr unlike ↦ precedes-trans (the_request u n) (the_request u best.0) (the_request u d) ahead (best.2 d (omega arith) unlike asks)
+                  ],
+                ))
+              ] refl
+        ]
+      ]
+    ] refl
 
 -- the first client that asks
 pub first_asker : (w : WorldState) (c : ℕ) → Asks w c

@@ -1,5 +1,5 @@
 -- what reminders and deliveries make of a world
-use Rattle.std.proofs.Common.{false, Option, ◌≤◌, ◌+◌, ◌≡◌, ℕ, ◌<◌, true, List, [], ◌∷◌, ◌++◌, map, length, Some, Ok, refl, sym, ap, subst, ◌∙◌, inl, inr, arith}
+use Rattle.std.proofs.Common.{false, Option, ◌≤◌, ◌+◌, ◌≡◌, ℕ, ◌<◌, true, List, [], ◌∷◌, ◌++◌, map, length, set, Some, Ok, refl, sym, ap, subst, ◌∙◌, inl, inr, arith, length-append}
 use Rattle.std.specs.Prelude.{zero, suc, slice_get, slice_index_or}
 use Rattle.std.specs.List.{Contains}
 use Rattle.std.proofs.lemmas.Bool.Decides.{nat_tests}
@@ -24,7 +24,7 @@ use Rattle.requester.specs.Words.{held_of, holds, holds_under, last_of}
 use Rattle.world_state.specs.declared.step.Step.TheVariants.{Deliver, RemindClient, RemindVoter}
 use Rattle.world.specs.Runs.{after, run_of}
 use Rattle.world_state.specs.Steps.{Dealing, WorldState, after_voter, client_at, client_did, come, if_client, if_voter, say, step, voter_at, voter_did}
-use Rattle.progress.specs.LostVotes.{GoesOn, HasLostVote, HasReturnedVote, reminder_and_one}
+use Rattle.progress.specs.LostVotes.{ComesBack, GoesOn, HasLostVote, HasReturnedVote, reminder_and_one, reminder_and_two}
 use Rattle.world.specs.Coherence.{Names}
 use Rattle.progress.proofs.Kept.{IsKept}
 use Rattle.progress.specs.Rules.{Laws}
@@ -64,13 +64,13 @@ get_next (x ∷ xs) y ys = get_next xs y ys
 abbrev again : WorldState → ℕ → Grant → ToClient
 again w v g = voter.reply (voter_at w.voters v) g.client (to_client.Locked g.stamp g.grant)
 
-abbrev pub answer : WorldState → ℕ → Grant → ToVoter
+abbrev answer : WorldState → ℕ → Grant → ToVoter
 answer w v g = requester.tell (client_at w.clients g.client) (voter_at w.voters v).id (asks.Release g.stamp)
 
-abbrev pub answered : WorldState → ℕ → Grant → WorldState
+abbrev answered : WorldState → ℕ → Grant → WorldState
 answered w v g = (client_did (reminded w v) g.client (record { out = answer w v g ∷ []; seen = Nothing; state = requester.see (client_at w.clients g.client) (voter_at w.voters v).seen })).state
 
-pub after-answer : (laws : Laws) (deal : Dealing) (w : WorldState) (v : ℕ) (g : Grant) → HasLostVote w v g
+after-answer : (laws : Laws) (deal : Dealing) (w : WorldState) (v : ℕ) (g : Grant) → HasLostVote w v g
     → after (reminded w v) (step deal (reminded w v) (Deliver (length w.sent))) ≡ answered w v g
 unfolding reminded
 after-answer laws deal w v g lost =
@@ -80,10 +80,40 @@ after-answer laws deal w v g lost =
     after-deliver_client deal (reminded w v) (length w.sent) (again w v g) next
     ∙ ap (λ o. (client_did (reminded w v) g.client o).state) (laws.client.released (client_at w.clients g.client) (again w v g) g.stamp g.grant refl lost.over)
 
-pub after-release : (laws : Laws) (deal : Dealing) (w : WorldState) (v : ℕ) (g : Grant) (o : voter.Outcome) → voter.step (voter_at w.voters (voter_at w.voters v).id) (answer w v g) ≡ Some o
+after-release : (laws : Laws) (deal : Dealing) (w : WorldState) (v : ℕ) (g : Grant) (o : voter.Outcome) → voter.step (voter_at w.voters (voter_at w.voters v).id) (answer w v g) ≡ Some o
     → after (answered w v g) (step deal (answered w v g) (Deliver (length (reminded w v).sent))) ≡ (voter_did (answered w v g) (voter_at w.voters v).id o).state
 unfolding reminded
 after-release laws deal w v g o takes = after-deliver_voter deal (answered w v g) (length (reminded w v).sent) (answer w v g) o (get_next (reminded w v).sent (kinds.ToVoter (answer w v g)) []) takes
+
+pub comes_back : Laws → (deal : Dealing) (w : WorldState) (v : ℕ) (g : Grant) → IsKept deal w → HasLostVote w v g → ComesBack deal w v g
+unfolding reminded
+comes_back laws deal w v g r lost =
+    let ok = (r []).coherent in
+    let y = voter_at w.voters v in
+    let id : y.id ≡ v = ok.numbered.voters v lost.voter in
+    let m = answer w v g in
+    let taken = laws.voter.takes y m (ok.voters v) lost.left in
+    let o = taken.0 in
+    let takes : voter.step (voter_at w.voters y.id) m ≡ Some o = subst (λ n. voter.step (voter_at w.voters n) m ≡ Some o) (sym id) taken.1 in
+    let second = length (reminded w v).sent in
+    let steps = reminder_and_two v (length w.sent) second in
+    let own : m.client ≡ g.client = ok.numbered.clients g.client (ok.made v g.client g.stamp (inl (g, lost.held, refl, refl))).client in
+    let run : run_of deal steps w ≡ (voter_did (answered w v g) y.id o).state =
+    ap (λ (u : WorldState). after (after u (step deal u (Deliver (length w.sent)))) (step deal (after u (step deal u (Deliver (length w.sent)))) (Deliver second))) (after-remind_voter deal w v lost.voter)
+    ∙ ap (λ (u : WorldState). after u (step deal u (Deliver second))) (after-answer laws deal w v g lost) ∙ after-release laws deal w v g o takes in
+    let here : voter_at (run_of deal steps w).voters v ≡ o.state =
+    ap (λ (u : WorldState). voter_at u.voters v) run ∙ ap (λ n. voter_at (set w.voters n o.state) v) id ∙ voter_here w.voters v o.state lost.voter in
+    record {
+      first = length w.sent;
+      second = second;
+      first_is_new = omega arith;
+      second_is_new = omega (arith, length-append w.sent (map kinds.ToClient (voter.remind y)));
+      gone = subst (λ (z : VoterState). (s : ℕ) → IsEntry z g.client s → ⊥) (sym here) (laws.voter.ends y m o g g.stamp (ok.voters v) lost.held own refl (omega arith) taken.1);
+      others = λ d s other entry. subst (λ (z : VoterState). IsEntry z d s) (sym here) (elim (laws.voter.stays y m o d s (ok.voters v) taken.1 entry) [
+        | inl stays ↦ stays
+        | inr finishes ↦ absurd (other (finishes.0 ∙ own))
+      ]);
+    }
 
 -- ---- a client's reminder
 

@@ -21,7 +21,7 @@ use Rattle.progress.specs.Rules.{Laws}
 use Rattle.progress.proofs.Along.{Reminded, next, reminded-into, spot_after, spot_before, spot_end, spot_through}
 use Rattle.progress.proofs.Arrivals.{client_takes, message_stays, reminds_second}
 use Rattle.progress.proofs.Behind.{the_request}
-use Rattle.progress.proofs.Hindering.{held_grant}
+use Rattle.progress.proofs.Fitting.{entry_waits, held_grant}
 use Rattle.progress.proofs.Moves.{MovedBy}
 use Rattle.progress.proofs.Stages.{AsksIn, Calm, Calmly, First, IsSettled, Stage, calm_ok, calmly_by, calmly_moved, steadily}
 use Rattle.progress.proofs.Steady as steady
@@ -29,7 +29,6 @@ use Rattle.progress.proofs.Steady.{GivenBack, HasMarked, HasVote, IsOf, Marked, 
 use Rattle.progress.proofs.Stages.{mark_goes, stage_by, stage_kept, voter_below, voter_within}
 use Rattle.progress.proofs.Still.{is_live, live_asks, live_stamp}
 use Rattle.progress.proofs.Sure.{Course}
-use Rattle.progress.proofs.Ways.{entry_waits}
 
 -- calm, and besides
 abbrev pub With : Course → WorldState → (WorldState → Type 0) → WorldState → Type 0

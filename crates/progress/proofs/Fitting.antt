@@ -1,6 +1,10 @@
 -- what clients gave back and what voters finished fit together, after every run
-use Rattle.std.proofs.Common.{◌≡◌, ℕ, ◌+◌, ◌<◌, ◌≤◌, Bool, true, false, List, [], ◌∷◌, length, Option, Some, Ok, refl, sym, ap, subst, ◌∙◌, ◌⊎◌, inl, inr, arith}
-use Rattle.std.specs.Prelude.{slice_index}
+use Rattle.std.specs.FinMap.{get}
+use Rattle.voter.specs.VoterContract.{IsEntry}
+use Rattle.requester.specs.declared.state.Phase.TheVariants.{Asking, Idle, Inside}
+use Rattle.requester.specs.declared.state.Phase.{Phase}
+use Rattle.std.proofs.Common.{◌≡◌, ◌≢◌, ℕ, ◌+◌, ◌<◌, ◌≤◌, Bool, true, false, List, [], ◌∷◌, length, Option, Some, None, Ok, refl, sym, ap, subst, ◌∙◌, ◌⊎◌, inl, inr, arith}
+use Rattle.std.specs.Prelude.{slice_index, ◌&&◌, ◌==◌, not}
 use Rattle.std.specs.List.{filter, list_all}
 use Rattle.std.specs.Result.{result_ok}
 use Rattle.std.proofs.lemmas.Bool.{cases_lt, false≢true, false_from_ne_true}
@@ -70,6 +74,17 @@ current_busy x s is = grind (arith, nat_tests)
 pub current_stamp : (x : ClientState) (s : ℕ) → is_current x s ≡ true → s ≡ x.stamp
 current_stamp x s is = grind (arith, nat_tests)
 
+pub current_is : (x : ClientState) (s : ℕ) → is_asking x.phase ≡ true → s ≡ x.stamp → is_current x s ≡ true
+current_is x s asks same = by_phase x.phase (let e : (s == x.stamp) ≡ true = grind (arith, nat_tests) in e) asks
+  where
+    by_phase : (q : Phase) → (s == x.stamp) ≡ true → is_asking q ≡ true → (not (is_idle q) && (s == x.stamp)) ≡ true
+    by_phase Idle e a = absurd (false≢true a)
+    by_phase Asking e a = e
+    by_phase Inside e a = absurd (false≢true a)
+
+pub not_current : (x : ClientState) (s : ℕ) → is_idle x.phase ≡ true → is_current x s ≡ false
+not_current x s idle = grind (arith, nat_tests)
+
 pub take-Ok : (x : ClientState) (m : ToClient) (o : requester.Outcome) → requester.step x (requester.Takes m) ≡ Ok o → requester.take x m ≡ o
 unfolding requester.step
 take-Ok x m o e = same_Some _ o (ap result_ok e)
@@ -98,6 +113,33 @@ record Vote (c v : ℕ) (x z : ClientState) (y : VoterState) : Type 0 where
 
 pub grant_is : (o : Option Grant) (g : Grant) (c s n : ℕ) → o ≡ Some g → Names o c s n → g.grant ≡ n
 grant_is o g c s n held names = ap (λ (h : Grant). h.grant) (same_Some g (record { client = c; stamp = s; grant = n }) (sym held ∙ names))
+
+-- the grant by which a client holds a vote is the one that has it
+pub held_grant : (u : WorldState) → IsCoherent u → (d v : ℕ) (g : Grant) → (voter_at u.voters v).held ≡ Some g → holds (client_at u.clients d) v ≡ true
+    → g.grant ≡ held_of (client_at u.clients d) v
+held_grant u ok d v g held has =
+    let x = client_at u.clients d in
+    grant_is (voter_at u.voters v).held g d x.stamp (held_of x v) held (ok.held d v (held_of x v) (held_under x v has))
+
+pub held_some : (y : VoterState) (c s : ℕ) → voter.IsSound y → IsEntry y c s → (o : Option Grant) → y.held ≡ o → (g : Grant) × (y.held ≡ Some g)
+held_some y c s ok entry None is = elim entry [
+  | inl held ↦ (held.0, held.1)
+  | inr waits ↦ absurd (none-some s (sym (ok.free is c) ∙ waits))
+]
+held_some y c s ok entry (Some g) is = (g, is)
+
+pub own_stamp : (y : VoterState) (c s : ℕ) (g : Grant) → voter.IsSound y → IsEntry y c s → y.held ≡ Some g → g.client ≡ c → g.stamp ≡ s
+own_stamp y c s g ok entry held own = elim entry [
+  | inl has ↦ ap (λ (k : Grant). k.stamp) (same_Some g has.0 (sym held ∙ has.1)) ∙ has.3
+  | inr waits ↦ absurd (none-some s (sym (ok.apart g held) ∙ ap (get y.waiting) own ∙ waits))
+]
+
+-- a request waits, if another client has the vote
+pub entry_waits : (y : VoterState) (c s : ℕ) (g : Grant) → IsEntry y c s → y.held ≡ Some g → g.client ≢ c → get y.waiting c ≡ Some s
+entry_waits y c s g entry held other = elim entry [
+  | inl has ↦ absurd (other (ap (λ (k : Grant). k.client) (same_Some g has.0 (sym held ∙ has.1)) ∙ has.2))
+  | inr waits ↦ waits
+]
 
 given_by : (c v : ℕ) (x z : ClientState) (y : VoterState) → Vote c v x z y → KeepsMark x z v → z.stamp ≡ x.stamp → is_asking x.phase ≡ true → GivenBack x c v y → GivenBack z c v y
 given_by c v x z y st marks stamp asked was g held own asks same few = elim marks [

@@ -1,9 +1,9 @@
 -- when an INQUIRE is outstanding, and what voters reply to requests that they know
 use Rattle.std.proofs.Common.{◌≡◌, ◌≢◌, ℕ, ◌+◌, ◌<◌, ◌≤◌, Bool, true, false, List, [], ◌∷◌, Option, Some, None, refl, sym, ap, subst, ◌∙◌, ◌⊎◌, inl, inr, arith}
-use Rattle.std.specs.Prelude.{nat_le, ◌==◌, if◌then◌else◌, slice_index}
+use Rattle.std.specs.Prelude.{nat_le, ◌==◌, if◌then◌else◌, slice_index, nat_lt}
 use Rattle.std.specs.FinMap.{get}
 use Rattle.std.specs.List.{AllByRecursion}
-use Rattle.std.proofs.lemmas.Bool.{false≢true, lt-leb}
+use Rattle.std.proofs.lemmas.Bool.{false≢true, lt-leb, false_from_ne_true}
 use Rattle.std.proofs.lemmas.Bool.Decides.{nat_tests}
 use Rattle.std.proofs.lemmas.Option.{none-some, same_Some}
 use Rattle.numbers.proofs.Lists.{AllByRecursion-append}
@@ -23,7 +23,6 @@ use Rattle.voter.proofs.Cases.{by_admit, by_release, by_relinquish, by_request}
 use Rattle.voter.proofs.Effects.{step-Some}
 use Rattle.voter.proofs.Soundness.{IsOrderly, get-removed_self}
 use Rattle.voter.proofs.Staying.{current_stamp-entry}
-use Rattle.progress.proofs.Hindering.{beside_same, eq_false, requested_not}
 use Rattle.progress.specs.Rules.{VoterLaws}
 
 -- ---- an INQUIRE stays outstanding as long as the grant stays
@@ -189,6 +188,23 @@ unfolding voter.remind
 Inquired-remind v = inquired-remind_of v.held v
 
 -- ---- a REQUEST that is known gets its reply again, and changes nothing else
+
+compared_same : (less same : Bool) (v : VoterState) (client s t : ℕ) → less ≡ false → same ≡ true
+    → voter.compare_by less same v client s t ≡ record { replies = voter.again v v.held client s; state = v }
+compared_same true same v client s t e f = absurd (false≢true (sym e))
+compared_same false true v client s t e f = refl
+compared_same false false v client s t e f = absurd (false≢true f)
+
+beside_same : (v : VoterState) (client s : ℕ) (o : Option ℕ) → o ≡ Some s → voter.take_request_beside v client s o ≡ record { replies = voter.again v v.held client s; state = v }
+unfolding voter.take_request_beside
+beside_same v client s o is = ap (voter.take_request_beside v client s) is ∙ compared_same (nat_lt s s) (s == s) v client s s (grind (arith, nat_tests)) (grind (arith, nat_tests))
+
+requested_not : (b : Bool) (v : VoterState) (client s : ℕ) → b ≡ false → voter.take_request_by b v client s ≡ voter.take_request_beside v client s (voter.current_stamp v client)
+requested_not true v client s e = absurd (false≢true (sym e))
+requested_not false v client s e = refl
+
+eq_false : (a b : ℕ) → a ≢ b → (a == b) ≡ false
+eq_false a b other = false_from_ne_true (a == b) (λ is. other (grind (arith, nat_tests)))
 
 pub orderly : (v : VoterState) → voter.IsSound v → IsOrderly v
 orderly v ok = record { numbered = ok.numbered; apart = ok.apart; free = ok.free }

@@ -43,6 +43,9 @@ within_by x d busy = elim (cases_lt d (length x.clients)) [
   | inr beyond ↦ absurd (false≢true (sym busy ∙ ap (λ (z : ClientState). is_idle z.phase) (get_or_past x.clients d (requester.start 0 1) beyond)))
 ]
 
+pub asks_within : (x : WorldState) (d : ℕ) → is_asking (client_at x.clients d).phase ≡ true → d < length x.clients
+asks_within x d asks = within_by x d (is_asking-busy (client_at x.clients d).phase asks)
+
 -- what a voter's step does to one voter
 pub voter_after : (P : ℕ → VoterState → Type 0) (x y : WorldState) (k : VoterMoved x y) (v : ℕ) → (P k.message.voter (voter_at x.voters k.message.voter) → P k.message.voter k.outcome.state)
     → P v (voter_at x.voters v) → P v (voter_at y.voters v)

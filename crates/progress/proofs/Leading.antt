@@ -26,7 +26,7 @@ use Rattle.progress.specs.Rules.{Laws}
 use Rattle.progress.proofs.Ahead.{asks_no_vote, grant_step}
 use Rattle.progress.proofs.Along.{Along, along-first, along-kept, along-last, along-or, along-split, next, reminded_at}
 use Rattle.progress.proofs.Behind.{the_request}
-use Rattle.progress.proofs.Hindering.{held_grant}
+use Rattle.progress.proofs.Fitting.{held_grant, own_stamp}
 use Rattle.progress.proofs.Moves.{Came, ClientMoved, Makes, MovedBy, Moved-by, OnlySent, VoterMoved}
 use Rattle.progress.proofs.Known.{within_by}
 use Rattle.progress.proofs.Olds.{Outlasts-moved}
@@ -36,7 +36,6 @@ use Rattle.progress.proofs.Stages.{IsSettled}
 use Rattle.progress.proofs.Steady.{AskedFor, GivenBack, GivenBack-lasting, HasVote, IsLasting, IsOf, Marked, Marked-lasting, Never, Never-lasting, Seeks, Steady, Told, Told-lasting, With, asked, asks_now, fate_goes, held_exists, not_given_back, steady_ok, told, voter_below, voter_within}
 use Rattle.progress.proofs.Sure.{Course, Sure}
 use Rattle.progress.proofs.Taking.{Returns}
-use Rattle.progress.proofs.Ways.{own_stamp}
 
 -- ---- worlds in which the request leads
 

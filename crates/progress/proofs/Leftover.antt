@@ -23,17 +23,17 @@ use Rattle.world_state.specs.declared.step.Step.TheVariants.{Deliver, RemindVote
 use Rattle.world.specs.Coherence.{AskOk}
 use Rattle.world_state.specs.Steps.{WorldState, client_at, voter_at}
 use Rattle.progress.specs.Rules.{Laws}
+use Rattle.progress.proofs.Fitting.{held_grant, not_current, own_stamp}
+use Rattle.progress.proofs.Lists.{remove_from, still_there}
 use Rattle.progress.proofs.Steady.{HasVote, Never, Never-lasting, locked_to}
 use Rattle.progress.proofs.Along.{Reminded, next, spot_after, spot_before, spot_end, spot_through}
 use Rattle.progress.proofs.Always.{asked_by}
 use Rattle.progress.proofs.Arrivals.{answered, client_takes, message_stays, reminds_first, voter_takes}
-use Rattle.progress.proofs.Hindering.{held_grant}
 use Rattle.progress.proofs.Inquiries.{ends_up_to}
 use Rattle.progress.proofs.Known.{voter_after}
 use Rattle.progress.proofs.Stages.{Calm, Calmly, First, IsSettled, Stage, asks_now, calm_ok, calmly_moved, fate_goes, held_exists, settled_kept, stage_kept, voter_below, voter_within}
 use Rattle.progress.proofs.Still.{is_live, live_asks, live_stamp}
 use Rattle.progress.proofs.Sure.{Course}
-use Rattle.progress.proofs.Ways.{not_current, own_stamp, remove_from, still_there}
 
 -- ---- requests that are over
 

@@ -27,19 +27,17 @@ use Rattle.progress.proofs.Ahead.{NotBehind}
 use Rattle.progress.proofs.Along.{Along, along-first, along-kept, along-last, along-split, along-weaker, next}
 use Rattle.progress.proofs.Arrivals.{get_after}
 use Rattle.progress.proofs.Behind.{the_request}
-use Rattle.progress.proofs.Blocks.{grown_on, since}
+use Rattle.progress.proofs.Blocks.{first_below, grown_on, since}
 use Rattle.progress.proofs.Fitting.{current_busy, current_stamp}
-use Rattle.progress.proofs.Hindering.{all_hold}
-use Rattle.progress.proofs.Known.{entry_kept, known_after}
+use Rattle.progress.proofs.Known.{asks_within, entry_kept, known_after}
 use Rattle.progress.proofs.Leading.{Clear, NotAhead, OwnStage, Quietly, along-quiet, four_settle, own_stage_kept}
+use Rattle.progress.proofs.Lists.{all_hold, has_range, remove_from, shorter}
 use Rattle.progress.proofs.Moves.{Moved-by, MovedBy}
 use Rattle.progress.proofs.Overdue.{Only, along-all, catches_up}
 use Rattle.progress.proofs.Steady.{Never, Never-lasting, Seeks, Steady}
 use Rattle.progress.proofs.Still.{RunsOn, SameAsk}
 use Rattle.progress.proofs.Sure.{Course, IsSure}
 use Rattle.progress.proofs.Tame.{FitBody, IsAway, IsFitAt, Tame, asks_up_to, away_after, away_kept, tame_along, turns_up_to, up_to_asks, up_to_is, up_to_stamp}
-use Rattle.progress.proofs.Together.{asks_within, first_below}
-use Rattle.progress.proofs.Ways.{has_range, remove_from, shorter}
 use Rattle.progress.proofs.Winning.{ClearRounds, olds_others, wins}
 
 -- ---- the first request

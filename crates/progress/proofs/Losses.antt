@@ -533,7 +533,7 @@ lives_after laws clients voters deal w r =
     })
 
 -- each grant that was given so far is old
-abbrev course_at : Dealing → WorldState → Course
+abbrev pub course_at : Dealing → WorldState → Course
 course_at deal w = record { deal = deal; old = λ v. suc (voter_at w.voters v).granted }
 
 sure_after : (laws : Laws) (deal : Dealing) (w : WorldState) → Lives deal w → IsSure (course_at deal w) w

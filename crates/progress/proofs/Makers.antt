@@ -1,9 +1,9 @@
 -- who makes a step, and what it changes; and when a world is coherent
-use Rattle.std.proofs.Common.{◌≡◌, ℕ, ◌<◌, ◌≤◌, Bool, true, false, List, [], ◌∷◌, ◌++◌, length, map, eqb, Ok, Err, refl, sym, ap, subst, ◌∙◌, ◌⊎◌, inl, inr, arith}
+use Rattle.std.proofs.Common.{◌≡◌, ℕ, zero, suc, ◌<◌, ◌≤◌, Bool, true, false, List, [], ◌∷◌, ◌++◌, length, map, eqb, Ok, Err, refl, sym, ap, subst, ◌∙◌, ◌⊎◌, inl, inr, arith}
 use Rattle.std.specs.Prelude.{Result, nat_lt, slice_get, Option, Some, None}
 use Rattle.std.proofs.lemmas.Bool.{cases_eq, false_from_ne_true, ltb-true}
 use Rattle.std.proofs.lemmas.Bool.Decides.{nat_tests}
-use Rattle.std.proofs.lemmas.List.{append-nil}
+use Rattle.std.proofs.lemmas.List.{append-nil, get_or_past}
 use Rattle.numbers.proofs.Lists.{AllByRecursion-get, AllByRecursion-weaker}
 use Rattle.message.specs.declared.message.Message.{Message}
 use Rattle.message.specs.declared.message.Message.TheVariants as kinds
@@ -12,6 +12,7 @@ use Rattle.voter.specs.Steps as voter
 use Rattle.requester.specs.declared.fault.ClientFault.{ClientFault}
 use Rattle.requester.specs.Steps as requester
 use Rattle.requester.specs.Words.{is_inside}
+use Rattle.requester.specs.declared.state.ClientState.{ClientState}
 use Rattle.quorum_set.specs.declared.bridge.Side.{Side}
 use Rattle.quorum_set.specs.declared.bridge.Side.TheVariants.{First, Second}
 use Rattle.world_state.specs.declared.fault.WorldFault.{WorldFault}
@@ -27,10 +28,27 @@ use Rattle.world.proofs.Claims.{Bounds, WorldOk}
 use Rattle.world.proofs.EveryRun.{coherent_by}
 use Rattle.world.proofs.Exclusion.{Walked, one_inside}
 use Rattle.world.proofs.Reached.{Given, RunOk}
-use Rattle.progress.proofs.Everybody.{inside_below, outside_beyond}
 use Rattle.progress.proofs.Moves.{Came, ClientMoved, VoterMoved, client_made, voter_made}
 
 -- ---- a world that is so is coherent
+
+inside_below : (u : WorldState) (n : ℕ) → ((d : ℕ) → d < n → is_inside (client_at u.clients d).phase ≡ false) ⊎ ((d : ℕ) × (d < n) × (is_inside (client_at u.clients d).phase ≡ true))
+inside_below u zero = inl (λ d less. absurd (omega arith))
+inside_below u (suc n) = elim (is_inside (client_at u.clients n).phase) as (λ b. is_inside (client_at u.clients n).phase ≡ b
+    → ((d : ℕ) → d < suc n → is_inside (client_at u.clients d).phase ≡ false) ⊎ ((d : ℕ) × (d < suc n) × (is_inside (client_at u.clients d).phase ≡ true))) [
+      | true ↦ λ is. inr (n, omega arith, is)
+      | false ↦ λ not. elim (inside_below u n) [
+        | inl none ↦ inl (λ d less. elim (cases_eq d n) [
+          | inl same ↦ ap (λ i. is_inside (client_at u.clients i).phase) same ∙ not
+          | inr other ↦ none d (omega arith)
+        ])
+        | inr one ↦ inr (one.0, (let less = one.1 in omega arith), one.2)
+      ]
+    ] refl
+
+outside_beyond : (u : WorldState) (d : ℕ) → length u.clients ≤ d → is_inside (client_at u.clients d).phase ≡ false
+unfolding client_at
+outside_beyond u d beyond = ap (λ (x : ClientState). is_inside x.phase) (get_or_past u.clients d (requester.start 0 1) beyond)
 
 -- somebody may have entered: then it is inside
 shows_inside : (b : Bounds) → Given b → (w : WorldState) → WorldOk b (client_at w.clients) (voter_at w.voters) w.sent → (es : List Event) × Walked es (client_at w.clients)

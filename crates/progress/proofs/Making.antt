@@ -1,16 +1,17 @@
 -- how to make fair rounds
-use Rattle.std.proofs.Common.{◌≡◌, ℕ, zero, suc, ◌+◌, ◌-◌, ◌<◌, ◌≤◌, false, List, [], ◌∷◌, ◌++◌, length, map, Option, None, Some, Ok, Err, refl, sym, ap, subst, ◌∙◌, inl, inr, arith, append_assoc, length-append}
+use Rattle.std.proofs.Common.{◌≡◌, ℕ, zero, suc, ◌+◌, ◌-◌, ◌<◌, ◌≤◌, Bool, true, false, List, [], ◌∷◌, ◌++◌, length, map, Option, None, Some, Ok, Err, refl, sym, ap, subst, ◌∙◌, inl, inr, arith, append_assoc, length-append}
 use Rattle.std.specs.Prelude.{if◌then◌else◌, nat_lt, slice_get, slice_index_or}
 use Rattle.std.specs.List.{AllByRecursion, Contains, range_with_len}
 use Rattle.std.proofs.lemmas.Bool.{cases_eq}
 use Rattle.std.proofs.lemmas.Bool.Decides.{nat_tests}
 use Rattle.std.proofs.lemmas.List.{append-nil}
 use Rattle.std.proofs.lemmas.List.Elements.{Contains-append_cases, Contains-append_left, Contains-append_right}
-use Rattle.numbers.proofs.Lists.{AllByRecursion-append}
+use Rattle.numbers.proofs.Lists.{AllByRecursion-append, AllByRecursion-weaker}
 use Rattle.message.specs.declared.message.Message.{Message}
 use Rattle.message.specs.declared.message.Message.TheVariants as kinds
 use Rattle.message.specs.declared.message.VoterBody.{VoterBody}
 use Rattle.message.specs.declared.message.VoterBody.TheVariants as asks
+use Rattle.voter.specs.VoteMoves.{VoteMoves}
 use Rattle.voter.specs.declared.state.VoterState.{VoterState}
 use Rattle.requester.proofs.RangeLemmas.{is_inside-busy}
 use Rattle.world_state.specs.declared.step.Step.{Step}
@@ -28,11 +29,10 @@ use Rattle.progress.proofs.Known.{within_by}
 use Rattle.progress.proofs.Longer.{IsAnswered-more, IsReminded-more, contains_here, contains_next}
 use Rattle.progress.proofs.Moves.{Moved, Moved-step, each_voter}
 use Rattle.progress.proofs.Sure.{Course, IsSure, IsSure-after}
-use Rattle.progress.proofs.Ways.{few_by}
 
 -- ---- the same step for each of some numbers
 
-each : (ℕ → Step) → ℕ → ℕ → List Step
+unfoldable pub each : (ℕ → Step) → ℕ → ℕ → List Step
 each f low n = map f (range_with_len low n)
 
 contains_each : (f : ℕ → Step) (low n k : ℕ) → low ≤ k → k < low + n → Contains (each f low n) (f k)
@@ -45,7 +45,7 @@ contains_each f low (suc n) k least less = elim (cases_eq low k) [
 
 -- ---- a message arrives, and then the replies to it
 
-answer : Dealing → WorldState → ℕ → List Step
+unfoldable pub answer : Dealing → WorldState → ℕ → List Step
 answer deal u k = Deliver k ∷ each Deliver (length u.sent) (length (next deal u (Deliver k)).sent - length u.sent)
 
 is_answered : (deal : Dealing) (u : WorldState) (k : ℕ) → IsAnswered deal u (answer deal u k) k
@@ -58,7 +58,7 @@ is_answered deal u k = record {
 }
 
 -- the n messages from this one on arrive, each with the replies to it
-answer_all : Dealing → WorldState → ℕ → ℕ → List Step
+unfoldable pub answer_all : Dealing → WorldState → ℕ → ℕ → List Step
 answer_all deal u low zero = []
 answer_all deal u low (suc n) = answer deal u low ++ answer_all deal (run_of deal (answer deal u low) u) (low + 1) n
 
@@ -88,7 +88,7 @@ all_answered deal u low (suc n) k least less =
 
 -- ---- reminders
 
-remind : Dealing → WorldState → Step → List Step
+unfoldable pub remind : Dealing → WorldState → Step → List Step
 remind deal x s = s ∷ answer_all deal (next deal x s) (length x.sent) (length (next deal x s).sent - length x.sent)
 
 is_reminded : (deal : Dealing) (x : WorldState) (s : Step) → IsReminded deal x (remind deal x s) s
@@ -101,7 +101,7 @@ is_reminded deal x s = record {
 }
 
 -- all of these reminders, one after the other
-remind_all : Dealing → WorldState → List Step → List Step
+unfoldable pub remind_all : Dealing → WorldState → List Step → List Step
 remind_all deal x [] = []
 remind_all deal x (s ∷ ss) = remind deal x s ++ remind_all deal (run_of deal (remind deal x s) x) ss
 
@@ -224,53 +224,94 @@ no_give_ups low (s ∷ steps) more serve none =
 
 -- ---- a round
 
-fair_round : (deal : Dealing) (w : WorldState) → (round : List Step) × IsFairRound deal w round × AllByRecursion (Serves (length w.sent)) round
-fair_round deal w =
+-- everybody is reminded, and then everybody leaves who is inside
+unfoldable pub round_of : Dealing → WorldState → List Step
+round_of deal w =
+    remind_all deal w (each RemindClient 0 (length w.clients) ++ each RemindVoter 0 (length w.voters)) ++ each Leave 0 (length w.clients)
+
+round_serves : (deal : Dealing) (w : WorldState) → AllByRecursion (Serves (length w.sent)) (round_of deal w)
+unfolding round_of
+round_serves deal w =
     let n = length w.clients in
     let m = length w.voters in
     let all = each RemindClient 0 n ++ each RemindVoter 0 m in
     let sent = length w.sent in
+    AllByRecursion-append (Serves sent) (remind_all deal w all) (each Leave 0 n)
+    (remind_all_serves deal w all sent
+    (AllByRecursion-append (Serves sent) (each RemindClient 0 n) (each RemindVoter 0 m) (each_serves sent RemindClient 0 n (λ k least. tt)) (each_serves sent RemindVoter 0 m (λ k least. tt)))
+    (omega arith))
+    (each_serves sent Leave 0 n (λ k least. tt))
+
+round_is_fair : (deal : Dealing) (w : WorldState) → IsFairRound deal w (round_of deal w)
+unfolding round_of
+round_is_fair deal w =
+    let n = length w.clients in
+    let m = length w.voters in
+    let all = each RemindClient 0 n ++ each RemindVoter 0 m in
     let reminders = remind_all deal w all in
-    let leaves = each Leave 0 n in (
-      reminders ++ leaves,
-      record {
-        clients = λ c within. IsReminded-more deal w [] reminders leaves (RemindClient c)
-            (all_reminded deal w all (RemindClient c) (Contains-append_left (each RemindClient 0 n) (each RemindVoter 0 m) (RemindClient c) (contains_each RemindClient 0 n c (omega arith) (omega arith))));
-        voters = λ v within. IsReminded-more deal w [] reminders leaves (RemindVoter v)
-            (all_reminded deal w all (RemindVoter v) (Contains-append_right (each RemindClient 0 n) (each RemindVoter 0 m) (RemindVoter v) (contains_each RemindVoter 0 m v (omega arith) (omega arith))));
-        leaves = λ c inside.
-            let within = within_by w c (is_inside-busy (client_at w.clients c).phase inside) in
-            Contains-append_right reminders leaves (Leave c) (contains_each Leave 0 n c (omega arith) (omega arith));
-      },
-      AllByRecursion-append (Serves sent) reminders leaves
-          (remind_all_serves deal w all sent
-          (AllByRecursion-append (Serves sent) (each RemindClient 0 n) (each RemindVoter 0 m) (each_serves sent RemindClient 0 n (λ k least. tt)) (each_serves sent RemindVoter 0 m (λ k least. tt)))
-          (omega arith))
-          (each_serves sent Leave 0 n (λ k least. tt)),
-    )
+    let leaves = each Leave 0 n in
+    record {
+      clients = λ c within. IsReminded-more deal w [] reminders leaves (RemindClient c)
+          (all_reminded deal w all (RemindClient c) (Contains-append_left (each RemindClient 0 n) (each RemindVoter 0 m) (RemindClient c) (contains_each RemindClient 0 n c (omega arith) (omega arith))));
+      voters = λ v within. IsReminded-more deal w [] reminders leaves (RemindVoter v)
+          (all_reminded deal w all (RemindVoter v) (Contains-append_right (each RemindClient 0 n) (each RemindVoter 0 m) (RemindVoter v) (contains_each RemindVoter 0 m v (omega arith) (omega arith))));
+      leaves = λ c inside.
+          let within = within_by w c (is_inside-busy (client_at w.clients c).phase inside) in
+          Contains-append_right reminders leaves (Leave c) (contains_each Leave 0 n c (omega arith) (omega arith));
+    }
 
--- k rounds, one after the other; `old` messages were sent before the round before the first
-rounds_after : (deal : Dealing) (old : ℕ) (w : WorldState) (k : ℕ) → old ≤ length w.sent → (rounds : List (List Step)) × IsTimely deal old w k rounds
-rounds_after deal old w zero most = ([], record { fair = tt; count = refl; in_time = refl; kept_up = refl })
-rounds_after deal old w (suc k) most =
-    let first = fair_round deal w in
-    let u = run_of deal first.0 w in
-    let rest = rounds_after deal (length w.sent) u k (sent_run deal first.0 w) in
-    let now = in_time old (length w.sent) w.sent first.0 most first.2 in
-    let later = rest.1.in_time in (
-      first.0 ∷ rest.0,
-      record {
-        fair = (first.1, rest.1.fair);
-        count = ap suc rest.1.count;
-        in_time = omega (arith, now, later);
-        kept_up = no_give_ups (length w.sent) first.0 (steps_of rest.0) first.2 rest.1.kept_up;
-      },
-    )
+-- k rounds, one after the other
+unfoldable pub made_rounds : Dealing → WorldState → ℕ → List (List Step)
+made_rounds deal w zero = []
+made_rounds deal w (suc k) = round_of deal w ∷ made_rounds deal (run_of deal (round_of deal w) w) k
 
-pub rounds_of : (deal : Dealing) (w : WorldState) (k : ℕ) → (rounds : List (List Step)) × IsTimely deal 0 w k rounds
-rounds_of deal w k = rounds_after deal 0 w k (omega arith)
+-- `old` messages were sent before the round before the first
+timely_after : (deal : Dealing) (old : ℕ) (w : WorldState) (k : ℕ) → old ≤ length w.sent → IsTimely deal old w k (made_rounds deal w k)
+unfolding made_rounds
+timely_after deal old w zero most = record { fair = tt; count = refl; in_time = refl; kept_up = refl }
+timely_after deal old w (suc k) most =
+    let first = round_of deal w in
+    let u = run_of deal first w in
+    let rest = timely_after deal (length w.sent) u k (sent_run deal first w) in
+    let serves = round_serves deal w in
+    let now = in_time old (length w.sent) w.sent first most serves in
+    let later = rest.in_time in
+    record {
+      fair = (round_is_fair deal w, rest.fair);
+      count = ap suc rest.count;
+      in_time = omega (arith, now, later);
+      kept_up = no_give_ups (length w.sent) first (steps_of (made_rounds deal u k)) serves rest.kept_up;
+    }
+
+pub are_timely : (deal : Dealing) (w : WorldState) (k : ℕ) → IsTimely deal 0 w k (made_rounds deal w k)
+are_timely deal w k = timely_after deal 0 w k (omega arith)
+
+serves_later : (m n : ℕ) (s : Step) → m ≤ n → Serves n s → Serves m s
+serves_later m n (Ask c) most h = h
+serves_later m n (Deliver k) most h = omega arith
+serves_later m n (Leave c) most h = h
+serves_later m n (GiveUp c) most h = h
+serves_later m n (RemindClient c) most h = h
+serves_later m n (RemindVoter v) most h = h
+serves_later m n Exchange most h = h
+
+pub rounds_serve : (deal : Dealing) (w : WorldState) (k : ℕ) → AllByRecursion (Serves (length w.sent)) (steps_of (made_rounds deal w k))
+unfolding made_rounds
+rounds_serve deal w zero = tt
+rounds_serve deal w (suc k) =
+    let first = round_of deal w in
+    let u = run_of deal first w in
+    let later = steps_of (made_rounds deal u k) in
+    AllByRecursion-append (Serves (length w.sent)) first later (round_serves deal w)
+    (AllByRecursion-weaker (Serves (length u.sent)) (Serves (length w.sent)) (λ s. serves_later (length w.sent) (length u.sent) s (sent_run deal first w)) later (rounds_serve deal u k))
 
 -- ---- a step gives at most one grant
+
+pub few_by : (frees : Bool) (y z : VoterState) → VoteMoves frees y z → z.granted ≤ y.granted + 1
+few_by true y z (inl ends) = let same = ends.granted in omega arith
+few_by true y z (inr new) = let more = new.granted in omega arith
+few_by false y z (inl stays) = let same = stays.granted in omega arith
+few_by false y z (inr new) = let more = new.1.granted in omega arith
 
 one_left : (laws : VoterLaws) (w u : WorldState) → IsCoherent w → Moved w u → (n : ℕ) → HasGrants (suc n) w → HasGrants n u
 one_left laws w u ok (inl k) n left v within =

@@ -31,7 +31,7 @@ use Rattle.progress.proofs.Ahead.{NotBehind, not_behind_kept, own_not, vote_or_a
 use Rattle.progress.proofs.Along.{Along, Reminded, along-first, along-kept, along-last, along-or, along-split, along-weaker, next, reminded_at, spot_after, spot_before, spot_end, spot_in}
 use Rattle.progress.proofs.Arrivals.{answered, client_takes, message_stays, reminds_first, voter_takes}
 use Rattle.progress.proofs.Behind.{the_request}
-use Rattle.progress.proofs.Hindering.{held_grant}
+use Rattle.progress.proofs.Fitting.{entry_waits, held_grant, not_current, own_stamp}
 use Rattle.progress.proofs.Inquiries.{ends_up_to}
 use Rattle.world.proofs.Exclusion.{inside_busy}
 use Rattle.progress.proofs.Known.{entry_kept, idle_by, known_after, left_idle, within_by}
@@ -40,7 +40,6 @@ use Rattle.progress.proofs.Moves.{Moved-by, MovedBy}
 use Rattle.progress.proofs.Steady.{AskedFor, GivenBack, GivenBack-lasting, HasMarked, HasVote, IsOf, Seeks, Steady, With, asked, fate_goes, held_exists, locked_to, mark_goes, not_given_back, not_marked, steady_ok, told, voter_below, voter_within}
 use Rattle.progress.proofs.Still.{Lasts, Lasts-moved, Lasts-run, Lasts-self, Lasts-then, RunsOn, SameAsk, same_between}
 use Rattle.progress.proofs.Sure.{Course, IsSure}
-use Rattle.progress.proofs.Ways.{entry_waits, not_current, own_stamp}
 
 -- the client m alone; the clients m and d
 abbrev pub Only : ℕ → ℕ → Type 0

@@ -26,13 +26,13 @@ use Rattle.progress.proofs.Behind.{stamp_of}
 use Rattle.progress.proofs.Counted.{three_turns, turns_up_to-append}
 use Rattle.progress.proofs.Hearing.{trails_along}
 use Rattle.progress.proofs.Kept.{IsKept-reached}
+use Rattle.progress.proofs.Known.{asks_within}
 use Rattle.progress.proofs.LongBlocks.{long_block_moves}
 use Rattle.progress.proofs.Longer.{Grows-moved, Grows-run}
 use Rattle.progress.proofs.Moves.{Moved-by, MovedBy-step}
 use Rattle.progress.proofs.Still.{Lasts-run, left_before}
 use Rattle.progress.proofs.Sure.{Course, IsSure, IsSure-after, IsSure-reached, IsSure-run, course_of}
 use Rattle.progress.proofs.Tame.{asks_up_to, turns_up_to}
-use Rattle.progress.proofs.Together.{asks_within}
 use Rattle.progress.proofs.Turns.{asks_at, gives_up_never, no_turn, none_turned, own_give_ups, stamp_stays, sum_has, turn, turns, turns-append}
 use Rattle.progress.proofs.Waiting.{asks_after, fair-split, late-more, late-split, split_rounds, split_total, steps-append}
 

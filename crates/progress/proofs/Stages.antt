@@ -25,9 +25,9 @@ use Rattle.world.specs.Coherence.{IsCoherent}
 use Rattle.world_state.specs.Steps.{WorldState, client_at, voter_at}
 use Rattle.progress.specs.Rules.{Laws}
 use Rattle.progress.proofs.Behind.{grant_moved, the_request}
+use Rattle.progress.proofs.Fitting.{current_is, entry_waits, held_grant, held_some}
 use Rattle.progress.proofs.Inquiries.{asks_no_more}
 use Rattle.progress.proofs.Known.{voter_after}
-use Rattle.progress.proofs.Hindering.{held_grant}
 use Rattle.progress.proofs.Moves.{Came, ClientMoved, Makes, Moved, Moved-by, MovedBy, OnlySent, VoterMoved}
 use Rattle.progress.proofs.Outstanding.{came_noted}
 use Rattle.progress.proofs.Placed.{AskedAt, AskedBy}
@@ -36,7 +36,6 @@ use Rattle.progress.proofs.Steady.{IsLasting, Never, Steady}
 use Rattle.progress.proofs.Still.{Early, is_live, live_asks, live_stamp}
 use Rattle.progress.proofs.Sure.{Course}
 use Rattle.progress.proofs.Taking.{Fate, Returns}
-use Rattle.progress.proofs.Ways.{current_is, entry_waits, held_some}
 
 -- ---- calm worlds
 

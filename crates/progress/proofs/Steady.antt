@@ -1,13 +1,13 @@
 -- what a stretch does to the votes of some clients that ask all along: the voter's reminder shows a client
--- its vote and marks it, and the client's own reminder gives it back. Others may ask, enter and give up.
-use Rattle.std.proofs.Common.{◌≡◌, ℕ, ◌+◌, ◌<◌, ◌≤◌, true, false, List, [], ◌∷◌, length, Some, Ok, refl, sym, ap, subst, ◌∙◌, ◌⊎◌, inl, inr, arith}
-use Rattle.std.specs.Prelude.{◌&&◌, nat_lt, slice_get, slice_index, slice_set}
-use Rattle.std.specs.List.{Contains}
+use Rattle.std.proofs.Common.{◌≡◌, ℕ, ◌+◌, ◌<◌, ◌≤◌, true, false, List, [], ◌∷◌, length, Some, Ok, refl, sym, ap, subst, ◌∙◌, ◌⊎◌, inl, inr, arith, Bool}
+use Rattle.std.specs.Prelude.{◌&&◌, nat_lt, slice_get, slice_index, slice_set, ◌||◌}
+use Rattle.std.specs.List.{Contains, list_any}
 use Rattle.std.proofs.lemmas.Bool.{cases_eq, cases_lt, false≢true, false_from_ne_true}
 use Rattle.std.proofs.lemmas.Bool.Decides.{nat_tests}
 use Rattle.std.proofs.lemmas.List.{get_or-set_same}
 use Rattle.std.proofs.lemmas.Option.{same_Some}
 use Rattle.numbers.specs.Sets.{has}
+-- its vote and marks it, and the client's own reminder gives it back. Others may ask, enter and give up.
 use Rattle.message.specs.declared.message.ClientBody.TheVariants as to_client
 use Rattle.message.specs.declared.message.Message.{Message}
 use Rattle.message.specs.declared.message.Message.TheVariants as kinds
@@ -21,7 +21,7 @@ use Rattle.voter.specs.VoterContract.{IsEntry}
 use Rattle.requester.specs.declared.state.ClientState.{ClientState}
 use Rattle.requester.specs.RequesterContract.{KeepsQuorum}
 use Rattle.requester.specs.Steps as requester
-use Rattle.requester.specs.Words.{holds, is_asking, is_current, is_hindered, is_idle, is_inquired, is_member, last_of, held_of, members}
+use Rattle.requester.specs.Words.{holds, is_asking, is_current, is_hindered, is_idle, is_inquired, is_member, last_of, held_of, members, is_relinquished, is_failed}
 use Rattle.requester.proofs.SoundSteps.{is_asking-busy}
 use Rattle.requester.proofs.VoteLemmas.{HoldsBesides-take}
 use Rattle.world.specs.Coherence.{IsCoherent}
@@ -33,15 +33,14 @@ use Rattle.progress.proofs.Along.{Reminded, next, spot_after, spot_before, spot_
 use Rattle.progress.proofs.Arrivals.{client_takes, message_stays, reminds_first, reminds_second, replied, says, voter_takes}
 use Rattle.progress.proofs.Behind.{ask-Ok, meets}
 use Rattle.progress.proofs.Exchanges.{not_held}
-use Rattle.progress.proofs.Fitting.{take-Ok}
-use Rattle.progress.proofs.Hindering.{all_hold, held_grant, hindered_by}
+use Rattle.progress.proofs.Fitting.{current_is, held_grant, held_some, own_stamp, take-Ok}
 use Rattle.progress.proofs.Inquiries.{again_fails, again_locks, replies_again}
 use Rattle.progress.proofs.Known.{asks_for, request_to, within_by}
+use Rattle.progress.proofs.Lists.{all_hold}
 use Rattle.progress.proofs.Moves.{Came, ClientMoved, Moved-by, MovedBy}
 use Rattle.progress.proofs.Still.{RunsOn, SameAsk}
 use Rattle.progress.proofs.Sure.{Course, IsSure}
 use Rattle.progress.proofs.Taking.{Fate, Fate-take, marks-take}
-use Rattle.progress.proofs.Ways.{current_is, fresh_is, held_some, own_stamp}
 
 -- ---- grants
 
@@ -126,6 +125,19 @@ abbrev pub With : Course → WorldState → (ℕ → Type 0) → (WorldState →
 With p w D K x = Steady p w D x × K x
 
 -- ---- words
+
+fresh_is : (x : ClientState) (v g : ℕ) → is_member x v ≡ true → holds x v ≡ false → last_of x v < g → requester.is_fresh x v g ≡ true
+fresh_is x v g member free newer = grind (arith, nat_tests)
+
+any_member : (f : ℕ → Bool) (l : List ℕ) (q : ℕ) → has l q ≡ true → f q ≡ true → list_any f l ≡ true
+any_member f [] q there is = absurd (false≢true there)
+any_member f (x ∷ xs) q there is = elim (cases_eq x q) [
+  | inl same ↦ (let here = ap f same ∙ is in grind (arith, nat_tests))
+  | inr other ↦ (let rest = any_member f xs q (grind (arith, nat_tests)) is in grind (arith, nat_tests))
+]
+
+hindered_by : (x : ClientState) (q : ℕ) → is_member x q ≡ true → is_relinquished x q ≡ true → is_hindered x ≡ true
+hindered_by x q member given = any_member (λ v. is_failed x v || is_relinquished x v) (members x) q member (grind (arith, nat_tests))
 
 pub steady_ok : (laws : Laws) (p : Course) (w : WorldState) (D : ℕ → Type 0) (x : WorldState) → Steady p w D x → IsCoherent x
 steady_ok laws p w D x calm = (calm.reached []).coherent

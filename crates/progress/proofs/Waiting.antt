@@ -34,14 +34,13 @@ use Rattle.progress.proofs.Always.{Heeds, heeds}
 use Rattle.progress.proofs.Blocks.{block_moves}
 use Rattle.progress.proofs.Counting.{entries_of-append, overtakes_twice}
 use Rattle.progress.proofs.Kept.{IsKept-reached}
-use Rattle.progress.proofs.Known.{known_after}
+use Rattle.progress.proofs.Known.{asks_within, known_after}
 use Rattle.progress.proofs.Longer.{Grows-run}
 use Rattle.progress.proofs.Moves.{Moved-by, MovedBy, MovedBy-step, kept-by}
 use Rattle.progress.proofs.Olds.{AreOld, keeps_olds, no_olds, olds_fall, olds_of}
 use Rattle.progress.proofs.Placed.{Heeds-moved}
 use Rattle.progress.proofs.Still.{Goes-run, Lasts-moved, RunsOn, SameAsk, left_before}
 use Rattle.progress.proofs.Sure.{Course, IsSure, IsSure-after, IsSure-reached, IsSure-run, course_of, stays_coherent}
-use Rattle.progress.proofs.Together.{asks_within}
 use Rattle.progress.proofs.Turns.{all_give_ups, all_turns, all_turns-append, asks_at, gives_up_never, none_of_all, no_turn, none_turned, one_if, own_give_ups, own_give_ups-append, shown, stamp_stays, sum_has, turn, turns, turns_most}
 
 -- ---- rounds in two parts
@@ -146,19 +145,19 @@ still_by laws p steps x r none =
 
 -- k blocks of rounds, in which the client c asks on, have k turns of clients, late REQUESTs or old
 -- grants that are given back
-abbrev HasTurns : Course → ℕ → ℕ → ℕ → ℕ → WorldState → List Event → ℕ → List (List Step) → Type 0
+abbrev pub HasTurns : Course → ℕ → ℕ → ℕ → ℕ → WorldState → List Event → ℕ → List (List Step) → Type 0
 HasTurns p c n m k x more old rounds =
     AreFairRounds p.deal x rounds → HasGrants 1 (run_of p.deal (steps_of rounds) x) → (run_of p.deal (steps_of rounds) x).visible ≡ x.visible ++ more
     → own_give_ups c (steps_of rounds) ≡ 0
     → k + olds_of p m (run_of p.deal (steps_of rounds) x) ≤ all_turns p.deal n (steps_of rounds) x + late_in p.deal old x rounds + olds_of p m x
 
 -- so many clients and voters, and the client c asks
-record Waits (p : Course) (c n m : ℕ) (x : WorldState) : Type 0 where
-  clients : length x.clients ≡ n
-  voters : length x.voters ≡ m
-  few : AreOld p x
-  sure : IsSure p x
-  asks : asks_at x c ≡ true
+pub record Waits (p : Course) (c n m : ℕ) (x : WorldState) : Type 0 where
+  pub clients : length x.clients ≡ n
+  pub voters : length x.voters ≡ m
+  pub few : AreOld p x
+  pub sure : IsSure p x
+  pub asks : asks_at x c ≡ true
 
 one_block : (laws : Laws) (p : Course) (c n m k : ℕ) (a b : List (List Step)) (x : WorldState) (more : List Event) (old : ℕ) → Waits p c n m x
     → entries_of c more ≡ 0 → length a ≡ block n
@@ -213,7 +212,7 @@ one_block laws p c n m k a b x more old waits none long then_rest fair left visi
       ]
     ]
 
-blocks_turn : (laws : Laws) (p : Course) (c n m k : ℕ) (rounds : List (List Step)) (x : WorldState) (more : List Event) (old : ℕ) → Waits p c n m x
+pub blocks_turn : (laws : Laws) (p : Course) (c n m k : ℕ) (rounds : List (List Step)) (x : WorldState) (more : List Event) (old : ℕ) → Waits p c n m x
     → entries_of c more ≡ 0 → k * block n ≤ length rounds → HasTurns p c n m k x more old rounds
 blocks_turn laws p c n m zero rounds x more old waits none long fair left visible stays =
     (let fewer = olds_fall p m x (run_of p.deal (steps_of rounds) x) (Goes-run laws p (steps_of rounds) x waits.few waits.sure) in omega arith)
@@ -244,7 +243,7 @@ entered_or (suc n) more = elim (cases_lt 0 (entries_of n more)) [
   ]
 ]
 
-one_most : (b : Bool) → one_if b ≤ 1
+pub one_most : (b : Bool) → one_if b ≤ 1
 one_most true = omega arith
 one_most false = omega arith
 

@@ -37,17 +37,17 @@ use Rattle.progress.proofs.Always.{asked_by}
 use Rattle.progress.proofs.Arrivals.{answered, client_takes, message_stays, reminds_first, voter_takes}
 use Rattle.progress.proofs.Behind.{the_request}
 use Rattle.progress.proofs.Blocks.{one_entry}
-use Rattle.progress.proofs.Hindering.{held_grant}
+use Rattle.progress.proofs.Fitting.{held_grant, own_stamp}
 use Rattle.progress.proofs.Inquiries.{ends_up_to}
 use Rattle.progress.proofs.Known.{voter_after}
 use Rattle.progress.proofs.Leading.{Clear, NotAhead, OwnStage, Quietly, along-quiet, is_own, own_stage_kept, quietly_moved, settled_kept}
 use Rattle.progress.proofs.Leftover.{release_to}
+use Rattle.progress.proofs.Lists.{has_range, remove_from, shorter, still_there}
 use Rattle.progress.proofs.Moves.{Moved-by, MovedBy}
 use Rattle.progress.proofs.Overdue.{Only}
 use Rattle.progress.proofs.Stages.{IsSettled}
 use Rattle.progress.proofs.Steady.{HasVote, Never, Never-lasting, Seeks, Steady, With, asks_now, fate_goes, held_exists, locked_to, steady_ok, told, voter_below, voter_within}
 use Rattle.progress.proofs.Sure.{Course}
-use Rattle.progress.proofs.Ways.{has_range, own_stamp, remove_from, shorter, still_there}
 
 -- ---- requests that are over
 

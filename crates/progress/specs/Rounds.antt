@@ -1,5 +1,5 @@
 -- Fair rounds: what has to happen in a stretch of steps. All else is up to an adversary.
-use Rattle.std.specs.Prelude.{ℕ, ◌≡◌, ◌≢◌, ◌+◌, ◌<◌, ◌≤◌, nat_lt, if◌then◌else◌, true, List, [], ◌∷◌, ◌++◌, length, Option, None, Some, slice_get}
+use Rattle.std.specs.Prelude.{ℕ, ◌≡◌, ◌≢◌, ◌+◌, ◌*◌, ◌<◌, ◌≤◌, nat_lt, if◌then◌else◌, true, List, [], ◌∷◌, ◌++◌, length, Option, None, Some, slice_get}
 use Rattle.std.specs.List.{AllByRecursion, Contains}
 use Rattle.message.specs.declared.message.Message.{Message}
 use Rattle.message.specs.declared.message.Message.TheVariants as kinds
@@ -9,6 +9,7 @@ use Rattle.requester.specs.Words.{is_asking, is_inside}
 use Rattle.world_state.specs.declared.step.Step.{Step}
 use Rattle.world_state.specs.declared.step.Step.TheVariants.{Ask, Deliver, Leave, GiveUp, RemindClient, RemindVoter, Exchange}
 use Rattle.world.specs.Runs.{run_of}
+use Rattle.world.specs.Waiting.{block}
 use Rattle.world_state.specs.Steps.{Dealing, WorldState, client_at}
 
 -- Message k arrives in these steps, and each message that is sent on its arrival arrives after it.
@@ -109,3 +110,8 @@ pub record IsTimely (deal : Dealing) (old : ℕ) (w : WorldState) (k : ℕ) (rou
   pub count : length rounds ≡ k
   pub in_time : late_in deal old w rounds ≡ 0
   pub kept_up : give_ups_in (steps_of rounds) ≡ 0
+
+-- Grants of each voter that are enough for k blocks of rounds, for n clients: the rounds of
+-- `fair_rounds_can_be_made` take at most 2 n + 2 grants each, and one is left.
+abbrev pub grants_for : ℕ → ℕ → ℕ
+grants_for n k = k * block n * (2 * n + 2) + 1

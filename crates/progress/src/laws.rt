@@ -4,7 +4,7 @@ ghost use Rattle.progress.specs.LostVotes.{ComesBack, GoesOn, HasLostVote, HasRe
 ghost use Rattle.progress.specs.Overtaking.{IsKnownEverywhere, StillRuns};
 ghost use Rattle.world.specs.Visible.{entries_of};
 ghost use Rattle.progress.specs.Patience.{ArePatient};
-ghost use Rattle.progress.specs.Rounds.{AreFairRounds, DoesNotGiveUp, IsFairRound, IsStill, IsTimely, give_ups_in, late_in, steps_of};
+ghost use Rattle.progress.specs.Rounds.{AreFairRounds, DoesNotGiveUp, IsFairRound, IsStill, IsTimely, give_ups_in, grants_for, late_in, steps_of};
 ghost use Rattle.progress.specs.Rules.{Laws};
 ghost use Rattle.world.specs.WayIn.{Asks, AsksAlone, GetsIn, HasGrants, IsFree, IsWayIn};
 ghost use Rattle.voter.specs.declared.state.Grant.{Grant};
@@ -96,11 +96,11 @@ pub fn returned_votes_go_on()
 /// A client that asks while all others are idle gets in by reminders and by messages that are sent after
 /// them, whatever was lost, late or repeated before. Nobody else enters meanwhile.
 ///
-/// Each voter has to have two grants more left than there are clients: one for each old request that it
-/// still knows, one for the new request, and one if the client gave its vote back.
+/// Each voter has to have (n + 5) * (2 n + 2) grants left and one, for n clients: for n + 5 fair rounds as
+/// [`fair_rounds_can_be_made`] makes them. The way ends with the first entry in these rounds.
 pub fn who_asks_alone_gets_in()
     ensures { (w : Planned) (c : ℕ) → IsReached w → AsksAlone w.state c
-        → HasGrants (length w.state.clients + 2) w.state → (steps : List Step) × IsWayIn (dealing_of w.plans) w.state c steps }
+        → HasGrants (grants_for (length w.state.clients) 1) w.state → (steps : List Step) × IsWayIn (dealing_of w.plans) w.state c steps }
 {
     worlds_keep_their_rules();
 }
@@ -108,11 +108,11 @@ pub fn who_asks_alone_gets_in()
 /// Whenever clients ask and nobody is inside, some client gets in by reminders and by messages that are
 /// sent after them, whatever was lost, late or repeated before. Nobody else enters meanwhile.
 ///
-/// So requests never block one another for good. Each voter has to have three grants more left than there
-/// are voters and clients.
+/// So requests never block one another for good. Each voter has to have (n + 5) * (2 n + 2) grants left and
+/// one, for n clients, as in [`who_asks_alone_gets_in`].
 pub fn somebody_can_enter()
     ensures { (w : Planned) (c : ℕ) → IsReached w → Asks w.state c → IsFree w.state
-        → HasGrants (length w.state.voters + length w.state.clients + 3) w.state
+        → HasGrants (grants_for (length w.state.clients) 1) w.state
         → (steps : List Step) × (d : ℕ) × IsWayIn (dealing_of w.plans) w.state d steps }
 {
     worlds_keep_their_rules();
@@ -122,10 +122,11 @@ pub fn somebody_can_enter()
 /// clients that leave. Nobody has to ask anew, and nobody has to give up.
 ///
 /// This holds in every world that was reached, whoever asks or is inside. Other clients may get in before.
-/// Each voter has to have grants left for each client, as many as for one of them to get in.
+/// Each voter has to have n * (n + 5) * (2 n + 2) grants left and one, for n clients: n times as many rounds
+/// as in [`somebody_can_enter`] are made.
 pub fn everybody_can_enter()
     ensures { (w : Planned) (c : ℕ) → IsReached w → Asks w.state c
-        → HasGrants (length w.state.clients * (length w.state.voters + length w.state.clients + 3)) w.state
+        → HasGrants (grants_for (length w.state.clients) (length w.state.clients)) w.state
         → (steps : List Step) × GetsIn (dealing_of w.plans) w.state c steps }
 {
     worlds_keep_their_rules();
@@ -134,10 +135,12 @@ pub fn everybody_can_enter()
 /// There are any number of fair rounds in every world, one after the other, in which no REQUEST is late
 /// and nobody gives up.
 ///
-/// After any steps each voter has as many grants left as it had before, less the number of steps. So all
-/// that the laws on rounds ask for can be met together.
+/// If steps led to the world, each of these rounds takes at most 2 n + 2 grants of a voter, for n clients, and
+/// any step at most one. So all that the laws on rounds ask for can be met together.
 pub fn fair_rounds_can_be_made()
     ensures made { (deal : Dealing) (w : WorldState) (k : ℕ) → (rounds : List (List Step)) × IsTimely deal 0 w k rounds }
+    ensures granted { (w : Planned) (k n : ℕ) → IsReached w → HasGrants (k * (2 * length w.state.clients + 2) + n) w.state
+        → (rounds : List (List Step)) × IsTimely (dealing_of w.plans) 0 w.state k rounds × HasGrants n (run_of (dealing_of w.plans) (steps_of rounds) w.state) }
     ensures left { (w : Planned) (steps : List Step) (n : ℕ) → IsReached w → HasGrants (length steps + n) w.state
         → HasGrants n (run_of (dealing_of w.plans) steps w.state) }
 {

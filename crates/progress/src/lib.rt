@@ -29,13 +29,14 @@
 //!   [`patient_rounds_are_enough`]): these are the two bounds without late REQUESTs.
 //! - **Fair rounds need not be neighbours** ([`rounds_may_be_longer`]): steps before a fair round and after
 //!   it may be counted to it. Any number can be made in every world, in which no REQUEST is late and
-//!   nobody gives up ([`fair_rounds_can_be_made`]).
+//!   nobody gives up ([`fair_rounds_can_be_made`]). If steps led to the world, each takes at most
+//!   2 n + 2 grants of a voter.
 //!
 //! In a fair round everybody is reminded, the messages of the reminders and the replies to them arrive,
 //! and who was inside when it began leaves. All else is up to an adversary.
 //!
 //! The two ways in are freedom from deadlock, in every world that was reached. They say that a way
-//! exists, and not that a run takes it. The laws on fair rounds are bounded waiting: they hold of every
+//! exists, and not that a run takes it: fair rounds that are made, up to the first entry. The laws on fair rounds are bounded waiting: they hold of every
 //! run that has these rounds.
 //!
 //! A law speaks of lists of steps, and not of time, threads or endless runs. Its premises say all that it

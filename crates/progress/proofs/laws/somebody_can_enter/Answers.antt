@@ -1,7 +1,12 @@
-use Rattle.progress.proofs.Together.{gets_in}
-use Rattle.progress.proofs.Kept.{IsKept-reached}
-use Rattle.world_state.specs.Steps.{dealing_of}
+use Rattle.std.proofs.Common.{length, refl, arith}
+use Rattle.progress.proofs.Olds.{no_olds}
+use Rattle.progress.proofs.Sure.{IsSure-reached, course_of}
+use Rattle.progress.proofs.WaysIn.{somebody_gets_in}
 use Rattle.progress.proofs.laws.somebody_can_enter.Goals as goal
 
 pub returns : goal.returns
-returns c w client r = gets_in c.worlds_keep_their_rules.ensures (dealing_of w.plans) w.state client (IsKept-reached c.worlds_keep_their_rules.ensures w r)
+returns c w client reached asks free left =
+    let laws = c.worlds_keep_their_rules.ensures in
+    let p = course_of w in
+    let none = no_olds p (length w.state.voters) w.state (λ v. refl) in
+    somebody_gets_in laws p w.state client 1 (λ v. omega arith) (IsSure-reached laws w reached) asks free (omega arith) left

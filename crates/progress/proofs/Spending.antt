@@ -1,0 +1,509 @@
+-- how many grants of a voter the rounds take that are made
+use Rattle.std.proofs.Common.{◌≡◌, ℕ, zero, suc, ◌+◌, ◌*◌, ◌-◌, ◌<◌, ◌≤◌, Bool, true, false, cond, eqb, List, [], ◌∷◌, ◌++◌, length, map, Option, Some, None, Ok, refl, sym, ap, subst, ◌∙◌, inl, inr, arith, append_assoc, length-append}
+use Rattle.std.specs.Prelude.{nat_lt, slice_get}
+use Rattle.std.specs.List.{AllByRecursion, flat_map}
+use Rattle.std.proofs.Math.Nat.{suc-mul}
+use Rattle.std.proofs.lemmas.Bool.{cases_eq, false≢true}
+use Rattle.std.proofs.lemmas.Bool.Decides.{nat_tests}
+use Rattle.std.proofs.lemmas.List.{append-nil, map-append}
+use Rattle.std.proofs.lemmas.Option.{same_Some}
+use Rattle.numbers.specs.Sets.{Ascends}
+use Rattle.numbers.proofs.Lists.{AllByRecursion-append}
+use Rattle.message.specs.declared.message.ClientBody.{ClientBody}
+use Rattle.message.specs.declared.message.ClientBody.TheVariants as to_client
+use Rattle.message.specs.declared.message.Message.{Message}
+use Rattle.message.specs.declared.message.Message.TheVariants as kinds
+use Rattle.message.specs.declared.message.ToClient.{ToClient}
+use Rattle.message.specs.declared.message.ToVoter.{ToVoter}
+use Rattle.requester.specs.declared.state.ClientState.{ClientState}
+use Rattle.requester.specs.declared.state.Phase.{Phase}
+use Rattle.requester.specs.declared.state.Phase.TheVariants.{Asking, Idle, Inside}
+use Rattle.requester.specs.Steps as requester
+use Rattle.requester.specs.Words.{holds, is_covered, is_relinquished, members}
+use Rattle.voter.specs.declared.state.Grant.{Grant}
+use Rattle.voter.specs.declared.state.VoterState.{VoterState}
+use Rattle.voter.specs.Steps as voter
+use Rattle.world_state.specs.declared.step.Step.{Step}
+use Rattle.world_state.specs.declared.step.Step.TheVariants.{Ask, Deliver, Exchange, GiveUp, Leave, RemindClient, RemindVoter}
+use Rattle.world.specs.Runs.{after, run_of}
+use Rattle.world.specs.WayIn.{HasGrants}
+use Rattle.world_state.specs.Steps.{Dealing, WorldState, after_voter, client_at, come, if_client, if_voter, say, step, voter_at}
+use Rattle.world.proofs.Plans.{run_then}
+use Rattle.progress.specs.Rounds.{steps_of}
+use Rattle.progress.specs.Rules.{Laws}
+use Rattle.progress.proofs.Along.{next}
+use Rattle.progress.proofs.Arrivals.{client_takes, message_stays}
+use Rattle.progress.proofs.Exchanges.{get_next}
+use Rattle.progress.proofs.Longer.{Grows-run}
+use Rattle.progress.proofs.Making.{answer, answer_all, each, few_by, made_rounds, remind, remind_all, round_of}
+use Rattle.progress.proofs.Moves.{Moved, MovedBy-step, Moved-step, VoterMoved, each_voter}
+use Rattle.progress.proofs.Sure.{Course, IsSure, IsSure-after, IsSure-run}
+
+-- ---- grants of one voter
+
+-- the voter gave at most n grants more, and has the same limit
+record Spends (n : ℕ) (y z : VoterState) : Type 0 where
+  granted : z.granted ≤ y.granted + n
+  limit : z.limit ≡ y.limit
+
+Spends-self : (n : ℕ) (y : VoterState) → Spends n y y
+Spends-self n y = record { granted = omega arith; limit = refl }
+
+Spends-then : (n m k : ℕ) (x y z : VoterState) → n + m ≤ k → Spends n x y → Spends m y z → Spends k x z
+Spends-then n m k x y z most a b = record { granted = (let first = a.granted in let rest = b.granted in omega arith); limit = b.limit ∙ a.limit }
+
+-- so it was between these worlds
+abbrev Spent : ℕ → ℕ → WorldState → WorldState → Type 0
+Spent n v x z = Spends n (voter_at x.voters v) (voter_at z.voters v)
+
+Spent-same : (n v : ℕ) (x z : WorldState) → z.voters ≡ x.voters → Spent n v x z
+Spent-same n v x z same = subst (λ (vs : List VoterState). Spends n (voter_at x.voters v) (voter_at vs v)) (sym same) (Spends-self n (voter_at x.voters v))
+
+-- ---- a message arrives
+
+-- 1 if these are the same, else 0
+abbrev one_at : ℕ → ℕ → ℕ
+one_at v u = cond (eqb u v) 1 0
+
+-- 1 if the message is to this voter, else 0
+abbrev hits : ℕ → Message → ℕ
+hits v (kinds.ToVoter m) = one_at v m.voter
+hits v (kinds.ToClient m) = 0
+
+abbrev hits_in : ℕ → List Message → ℕ
+hits_in v [] = 0
+hits_in v (m ∷ ms) = hits v m + hits_in v ms
+
+voter_gives : (laws : Laws) (x y : WorldState) (k : VoterMoved x y) (v : ℕ) → ((u : ℕ) → voter.IsSound (voter_at x.voters u)) → Spent (one_at v k.message.voter) v x y
+voter_gives laws x y k v sound = each_voter (λ q z. Spends (one_at q k.message.voter) (voter_at x.voters q) z) x y k (
+    let w = voter_at x.voters k.message.voter in
+    let own : one_at k.message.voter k.message.voter ≡ 1 = ap (λ b. cond b 1 0) (let e : eqb k.message.voter k.message.voter ≡ true = grind (arith, nat_tests) in e) in
+    let few = few_by _ w k.outcome.state (laws.voter.numbers w k.message k.outcome (sound k.message.voter) k.step) in
+    record { granted = omega arith; limit = (laws.voter.carries w k.message k.outcome k.step).limit }
+    ) (λ q. Spends-self (one_at q k.message.voter) (voter_at x.voters q)) v
+
+place_in : Step → ℕ
+place_in (Ask c) = 0
+place_in (Deliver k) = k
+place_in (Leave c) = 0
+place_in (GiveUp c) = 0
+place_in (RemindClient c) = 0
+place_in (RemindVoter v) = 0
+place_in Exchange = 0
+
+delivers : (laws : Laws) (p : Course) (x : WorldState) (k v : ℕ) (m : Message) → IsSure p x → slice_get x.sent k ≡ Some m → Spent (hits v m) v x (next p.deal x (Deliver k))
+unfolding place_in
+delivers laws p x k v m r is =
+    let ok = (r []).coherent in
+    let y = next p.deal x (Deliver k) in
+    elim (MovedBy-step p.deal x ok.numbered (Deliver k)) [
+      | inl client ↦ Spent-same (hits v m) v x y client.0.voters
+      | inr (inl voter) ↦
+          let j = voter.0 in
+          let place : k ≡ j.place = ap place_in voter.1 in
+          let same : m ≡ kinds.ToVoter j.message = same_Some m (kinds.ToVoter j.message) (sym is ∙ subst (λ i. slice_get x.sent i ≡ Some (kinds.ToVoter j.message)) (sym place) j.came) in
+          subst (λ n. Spent (hits v n) v x y) (sym same) (voter_gives laws x y j v ok.voters)
+      | inr (inr sent) ↦ Spent-same (hits v m) v x y sent.voters
+    ]
+
+-- ---- messages arrive, one after the other
+
+-- these messages have the places from this one on
+abbrev Are : List Message → ℕ → List Message → Type 0
+Are sent low [] = Unit {0}
+Are sent low (m ∷ ms) = (slice_get sent low ≡ Some m) × Are sent (low + 1) ms
+
+are_new : (xs ms : List Message) → Are (xs ++ ms) (length xs) ms
+are_new xs [] = tt
+are_new xs (m ∷ ms) =
+    let rest = are_new (xs ++ m ∷ []) ms in (
+      get_next xs m ms,
+      subst (λ l. Are l (length xs + 1) ms) (append_assoc xs (m ∷ []) ms) (subst (λ n. Are ((xs ++ m ∷ []) ++ ms) n ms) (length-append xs (m ∷ [])) rest),
+    )
+
+are_there : (x y : WorldState) (low : ℕ) (ms : List Message) → Moved x y → Are x.sent low ms → Are y.sent low ms
+are_there x y low [] moved are = tt
+are_there x y low (m ∷ ms) moved are = (message_stays low m x y moved are.0, are_there x y (low + 1) ms moved are.1)
+
+are_still : (p : Course) (steps : List Step) (x : WorldState) (low : ℕ) (ms : List Message) → IsSure p x → Are x.sent low ms → Are (run_of p.deal steps x).sent low ms
+are_still p [] x low ms r are = are
+are_still p (s ∷ steps) x low ms r are =
+    are_still p steps (next p.deal x s) low ms (IsSure-after p x r s) (are_there x (next p.deal x s) low ms (Moved-step p.deal x ((r []).coherent).numbered s) are)
+
+each_gives : (laws : Laws) (p : Course) (v low : ℕ) (ms : List Message) (x : WorldState) → IsSure p x → Are x.sent low ms
+    → Spent (hits_in v ms) v x (run_of p.deal (each Deliver low (length ms)) x)
+unfolding each
+each_gives laws p v low [] x r are = Spends-self 0 (voter_at x.voters v)
+each_gives laws p v low (m ∷ ms) x r are =
+    let y = next p.deal x (Deliver low) in
+    let z = run_of p.deal (each Deliver (low + 1) (length ms)) y in
+    Spends-then (hits v m) (hits_in v ms) (hits_in v (m ∷ ms)) (voter_at x.voters v) (voter_at y.voters v) (voter_at z.voters v) (omega arith)
+    (delivers laws p x low v m r are.0)
+    (each_gives laws p v (low + 1) ms y (IsSure-after p x r (Deliver low)) (are_still p (Deliver low ∷ []) x (low + 1) ms r are.1))
+
+-- ---- a message arrives, and then the replies to it
+
+-- a message of a reminder: no FAIL
+abbrev IsPlainBody : ClientBody → Type 0
+IsPlainBody (to_client.Locked stamp grant) = Unit {0}
+IsPlainBody (to_client.Fail stamp) = ⊥
+IsPlainBody (to_client.Inquire grant) = Unit {0}
+
+abbrev IsPlain : Message → Type 0
+IsPlain (kinds.ToVoter m) = Unit {0}
+IsPlain (kinds.ToClient m) = IsPlainBody m.body
+
+-- 1 if the message is to this voter or from it, else 0
+abbrev meets : ℕ → Message → ℕ
+meets v (kinds.ToVoter m) = one_at v m.voter
+meets v (kinds.ToClient m) = one_at v m.voter
+
+abbrev meets_in : ℕ → List Message → ℕ
+meets_in v [] = 0
+meets_in v (m ∷ ms) = meets v m + meets_in v ms
+
+meets-append : (v : ℕ) (a b : List Message) → meets_in v (a ++ b) ≡ meets_in v a + meets_in v b
+meets-append v [] b = omega arith
+meets-append v (m ∷ a) b = (let rest = meets-append v a b in omega arith)
+
+no_hits : (v : ℕ) (rs : List ToClient) → hits_in v (map kinds.ToClient rs) ≡ 0
+no_hits v [] = refl
+no_hits v (m ∷ rs) = (let rest = no_hits v rs in omega arith)
+
+-- what the step sends hits the voter at most n times
+record Sends (n v : ℕ) (x y : WorldState) : Type 0 where
+  more : List Message
+  sent : y.sent ≡ x.sent ++ more
+  few : hits_in v more ≤ n
+
+voter_sends : (x : WorldState) (m : ToVoter) (v : ℕ) (r : Option voter.Outcome) → Sends 0 v x (after x (after_voter x m.voter r))
+voter_sends x m v (Some o) = record { more = map kinds.ToClient o.replies; sent = refl; few = (let none = no_hits v o.replies in omega arith) }
+voter_sends x m v None = record { more = []; sent = sym (append-nil x.sent); few = omega arith }
+
+sends_voter : (deal : Dealing) (x : WorldState) (k v : ℕ) (m : ToVoter) → slice_get x.sent k ≡ Some (kinds.ToVoter m) → Sends 0 v x (next deal x (Deliver k))
+unfolding step
+sends_voter deal x k v m is =
+    subst (Sends 0 v x) (sym (ap (λ o. after x (come x k o)) is)) (voter_sends x m v (voter.step (voter_at x.voters m.voter) m))
+
+locked_hits : (w v : ℕ) (x : ClientState) (current fresh : Bool) (s g : ℕ) → hits_in w (map kinds.ToVoter (requester.take_locked_by current fresh x v s g).out) ≤ one_at w v
+locked_hits w v x false fresh s g = omega arith
+locked_hits w v x true false s g = omega arith
+locked_hits w v x true true s g = enter (is_covered (requester.hold x v g))
+  where
+    enter : (b : Bool) → hits_in w (map kinds.ToVoter (requester.enter_if b (requester.hold x v g)).out) ≤ one_at w v
+    enter false = omega arith
+    enter true = omega arith
+
+inquire_hits : (w v : ℕ) (x : ClientState) (counts hindered : Bool) → hits_in w (map kinds.ToVoter (requester.take_inquire_by counts hindered x v).out) ≤ one_at w v
+unfolding requester.relinquish
+inquire_hits w v x false hindered = omega arith
+inquire_hits w v x true false = omega arith
+inquire_hits w v x true true = gives (holds x v)
+  where
+    gives : (b : Bool) → hits_in w (map kinds.ToVoter (requester.relinquish_if b x v).out) ≤ one_at w v
+    gives false = omega arith
+    gives true = omega arith
+
+body_hits : (w v : ℕ) (x : ClientState) (b : ClientBody) → IsPlainBody b → hits_in w (map kinds.ToVoter (requester.take_body x v b).out) ≤ one_at w v
+unfolding requester.take_locked requester.take_inquire
+body_hits w v x (to_client.Locked s g) plain = locked_hits w v x _ _ s g
+body_hits w v x (to_client.Fail s) plain = absurd plain
+body_hits w v x (to_client.Inquire g) plain = inquire_hits w v x _ _
+
+sends_client : (p : Course) (x : WorldState) (k v : ℕ) (m : ToClient) → IsSure p x → slice_get x.sent k ≡ Some (kinds.ToClient m) → IsPlainBody m.body
+    → Sends (one_at v m.voter) v x (next p.deal x (Deliver k))
+unfolding requester.take
+sends_client p x k v m r is plain =
+    let takes = client_takes p.deal x k m (r []).coherent is in
+    record {
+      more = map kinds.ToVoter (requester.take (client_at x.clients m.client) m).out;
+      sent = takes.sent;
+      few = body_hits v m.voter (requester.see (client_at x.clients m.client) m.seen) m.body plain;
+    }
+
+-- the messages that were sent arrive
+replies_give : (laws : Laws) (p : Course) (n v : ℕ) (x y : WorldState) → IsSure p y → Sends n v x y → Spent n v y (run_of p.deal (each Deliver (length x.sent) (length y.sent - length x.sent)) y)
+replies_give laws p n v x y r s =
+    let count : length s.more ≡ length y.sent - length x.sent = (let long = ap length s.sent in let both = length-append x.sent s.more in omega arith) in
+    let are : Are y.sent (length x.sent) s.more = subst (λ l. Are l (length x.sent) s.more) (sym s.sent) (are_new x.sent s.more) in
+    let gives = each_gives laws p v (length x.sent) s.more y r are in
+    let z = run_of p.deal (each Deliver (length x.sent) (length s.more)) y in
+    subst (λ k. Spent n v y (run_of p.deal (each Deliver (length x.sent) k) y)) count
+    (record { granted = (let few = s.few in let most = gives.granted in omega arith); limit = gives.limit })
+
+answer_gives : (laws : Laws) (p : Course) (x : WorldState) (k v : ℕ) (m : Message) → IsSure p x → slice_get x.sent k ≡ Some m → IsPlain m
+    → Spent (meets v m) v x (run_of p.deal (answer p.deal x k) x)
+unfolding answer
+answer_gives laws p x k v (kinds.ToVoter m) r is plain =
+    let y = next p.deal x (Deliver k) in
+    Spends-then (meets v (kinds.ToVoter m)) 0 (meets v (kinds.ToVoter m)) _ _ _ (omega arith) (delivers laws p x k v (kinds.ToVoter m) r is)
+    (replies_give laws p 0 v x y (IsSure-after p x r (Deliver k)) (sends_voter p.deal x k v m is))
+answer_gives laws p x k v (kinds.ToClient m) r is plain =
+    let y = next p.deal x (Deliver k) in
+    Spends-then 0 (meets v (kinds.ToClient m)) (meets v (kinds.ToClient m)) _ _ _ (omega arith) (delivers laws p x k v (kinds.ToClient m) r is)
+    (replies_give laws p (one_at v m.voter) v x y (IsSure-after p x r (Deliver k)) (sends_client p x k v m r is plain))
+
+answers_give : (laws : Laws) (p : Course) (v low : ℕ) (ms : List Message) (x : WorldState) → IsSure p x → Are x.sent low ms → AllByRecursion IsPlain ms
+    → Spent (meets_in v ms) v x (run_of p.deal (answer_all p.deal x low (length ms)) x)
+unfolding answer_all
+answers_give laws p v low [] x r are plain = Spends-self 0 (voter_at x.voters v)
+answers_give laws p v low (m ∷ ms) x r are plain =
+    let first = answer p.deal x low in
+    let y = run_of p.deal first x in
+    let rest = answer_all p.deal y (low + 1) (length ms) in
+    subst (λ (z : WorldState). Spent (meets_in v (m ∷ ms)) v x z) (sym (run_then p.deal first rest x))
+    (Spends-then (meets v m) (meets_in v ms) (meets_in v (m ∷ ms)) _ _ _ (omega arith) (answer_gives laws p x low v m r are.0 plain.0)
+    (answers_give laws p v (low + 1) ms y (IsSure-run p first x r) (are_still p first x (low + 1) ms r are.1) plain.1))
+
+-- ---- a reminder
+
+-- how many grants of this voter the reminder takes
+abbrev cost : ℕ → Step → ℕ
+cost v (Ask c) = 0
+cost v (Deliver k) = 0
+cost v (Leave c) = 0
+cost v (GiveUp c) = 0
+cost v (RemindClient c) = 2
+cost v (RemindVoter u) = 2 * one_at v u
+cost v Exchange = 0
+
+-- what the reminder sends
+record Reminds (n v : ℕ) (x y : WorldState) : Type 0 where
+  more : List Message
+  sent : y.sent ≡ x.sent ++ more
+  voters : y.voters ≡ x.voters
+  plain : AllByRecursion IsPlain more
+  few : meets_in v more ≤ n
+
+nothing : (n v : ℕ) (x : WorldState) → Reminds n v x x
+nothing n v x = record { more = []; sent = sym (append-nil x.sent); voters = refl; plain = tt; few = omega arith }
+
+all_plain : (out : List ToVoter) → AllByRecursion IsPlain (map kinds.ToVoter out)
+all_plain [] = tt
+all_plain (m ∷ out) = (tt, all_plain out)
+
+member_meets : (v u : ℕ) (x : ClientState) (held given_back : Bool) → meets_in v (map kinds.ToVoter (requester.remind_by held given_back x u)) ≤ 2 * one_at v u
+member_meets v u x true given_back = omega arith
+member_meets v u x false false = omega arith
+member_meets v u x false true = omega arith
+
+-- each member of the quorum is reminded once
+members_meet : (v low : ℕ) (x : ClientState) (q : List ℕ) → Ascends low 64 q
+    → (meets_in v (map kinds.ToVoter (flat_map (requester.remind_member x) q)) ≤ 2) × (v < low → meets_in v (map kinds.ToVoter (flat_map (requester.remind_member x) q)) ≤ 0)
+members_meet v low x [] set = (omega arith, λ less. omega arith)
+members_meet v low x (u ∷ q) set =
+    let own = requester.remind_member x u in
+    let others = flat_map (requester.remind_member x) q in
+    let both = ap (meets_in v) (map-append kinds.ToVoter own others) ∙ meets-append v (map kinds.ToVoter own) (map kinds.ToVoter others) in
+    let here = member_meets v u x (holds x u) (is_relinquished x u) in
+    let rest = members_meet v (u + 1) x q set.2 in
+    elim (cases_eq u v) [
+      | inl same ↦
+          let one : one_at v u ≡ 1 = ap (λ b. cond b 1 0) (let e : eqb u v ≡ true = grind (arith, nat_tests) in e) in
+          let none = rest.1 (omega arith) in
+          (omega arith, λ less. absurd (let least = set.0 in omega arith))
+      | inr other ↦
+          let zero_here : one_at v u ≡ 0 = ap (λ b. cond b 1 0) (let e : eqb u v ≡ false = grind (arith, nat_tests) in e) in
+          let few = rest.0 in
+          (omega arith, λ less. (let least = set.0 in let none = rest.1 (omega arith) in omega arith))
+    ]
+
+client_meets : (v : ℕ) (x : ClientState) (phase : Phase) → Ascends 0 64 (members x) → meets_in v (map kinds.ToVoter (requester.remind_in phase x)) ≤ 2
+client_meets v x Idle set = omega arith
+client_meets v x Asking set = (members_meet v 0 x (members x) set).0
+client_meets v x Inside set = omega arith
+
+reminds_client : (p : Course) (x : WorldState) (c v : ℕ) → IsSure p x → Reminds 2 v x (next p.deal x (RemindClient c))
+unfolding step requester.remind
+reminds_client p x c v r = said (nat_lt c (length x.clients))
+  where
+    said : (b : Bool) → Reminds 2 v x (after x (if_client b c (Ok (say x (map kinds.ToVoter (requester.remind (client_at x.clients c)))))))
+    said true = record {
+      more = map kinds.ToVoter (requester.remind (client_at x.clients c));
+      sent = refl;
+      voters = refl;
+      plain = all_plain (requester.remind (client_at x.clients c));
+      few = client_meets v (client_at x.clients c) (client_at x.clients c).phase ((r []).coherent.clients c).quorum;
+    }
+    said false = nothing 2 v x
+
+-- what a voter's reminder sends, by whether an INQUIRE is outstanding
+abbrev said_again : Bool → VoterState → Grant → List Message
+said_again inquiring y g = map kinds.ToClient (voter.reply y g.client (to_client.Locked g.stamp g.grant) ∷ voter.inquiry_again inquiring y g)
+
+again_meets : (v : ℕ) (y : VoterState) (g : Grant) (inquiring : Bool) → AllByRecursion IsPlain (said_again inquiring y g) × (meets_in v (said_again inquiring y g) ≤ 2 * one_at v y.id)
+again_meets v y g true = ((tt, (tt, tt)), omega arith)
+again_meets v y g false = ((tt, tt), omega arith)
+
+voter_meets : (v : ℕ) (y : VoterState) (held : Option Grant) → AllByRecursion IsPlain (map kinds.ToClient (voter.remind_of held y)) × (meets_in v (map kinds.ToClient (voter.remind_of held y)) ≤ 2 * one_at v y.id)
+voter_meets v y None = (tt, omega arith)
+voter_meets v y (Some g) = again_meets v y g y.inquiring
+
+reminds_voter : (p : Course) (x : WorldState) (u v : ℕ) → IsSure p x → u < length x.voters → Reminds (2 * one_at v u) v x (next p.deal x (RemindVoter u))
+unfolding step voter.remind
+reminds_voter p x u v r within = said (nat_lt u (length x.voters))
+  where
+    id : (voter_at x.voters u).id ≡ u
+    id = (r []).coherent.numbered.voters u within
+
+    said : (b : Bool) → Reminds (2 * one_at v u) v x (after x (if_voter b u (Ok (say x (map kinds.ToClient (voter.remind (voter_at x.voters u)))))))
+    said true =
+        let both = voter_meets v (voter_at x.voters u) (voter_at x.voters u).held in
+        record {
+          more = map kinds.ToClient (voter.remind (voter_at x.voters u));
+          sent = refl;
+          voters = refl;
+          plain = both.0;
+          few = subst (λ i. meets_in v (map kinds.ToClient (voter.remind (voter_at x.voters u))) ≤ 2 * one_at v i) id both.1;
+        }
+    said false = nothing (2 * one_at v u) v x
+
+remind_gives : (laws : Laws) (p : Course) (n v : ℕ) (x : WorldState) (s : Step) → IsSure p x → Reminds n v x (next p.deal x s) → Spent n v x (run_of p.deal (remind p.deal x s) x)
+unfolding remind
+remind_gives laws p n v x s r said =
+    let y = next p.deal x s in
+    let count : length said.more ≡ length y.sent - length x.sent = (let long = ap length said.sent in let both = length-append x.sent said.more in omega arith) in
+    let are : Are y.sent (length x.sent) said.more = subst (λ l. Are l (length x.sent) said.more) (sym said.sent) (are_new x.sent said.more) in
+    let gives = answers_give laws p v (length x.sent) said.more y (IsSure-after p x r s) are said.plain in
+    let few = said.few in
+    let z = run_of p.deal (answer_all p.deal y (length x.sent) (length said.more)) y in
+    let all : Spent n v y z = record { granted = (let most = gives.granted in omega arith); limit = gives.limit } in
+    subst (λ (vs : List VoterState). Spends n (voter_at vs v) (voter_at (run_of p.deal (answer_all p.deal y (length x.sent) (length y.sent - length x.sent)) y).voters v)) said.voters
+    (subst (λ k. Spent n v y (run_of p.deal (answer_all p.deal y (length x.sent) k) y)) count all)
+
+-- ---- reminders, one after the other
+
+-- the step is a reminder of a client, or of one of so many voters
+abbrev Reminder : ℕ → Step → Type 0
+Reminder voters (Ask c) = ⊥
+Reminder voters (Deliver k) = ⊥
+Reminder voters (Leave c) = ⊥
+Reminder voters (GiveUp c) = ⊥
+Reminder voters (RemindClient c) = Unit {0}
+Reminder voters (RemindVoter v) = v < voters
+Reminder voters Exchange = ⊥
+
+one_reminder : (laws : Laws) (p : Course) (v : ℕ) (x : WorldState) (s : Step) → IsSure p x → Reminder (length x.voters) s → Spent (cost v s) v x (run_of p.deal (remind p.deal x s) x)
+one_reminder laws p v x (Ask c) r is = absurd is
+one_reminder laws p v x (Deliver k) r is = absurd is
+one_reminder laws p v x (Leave c) r is = absurd is
+one_reminder laws p v x (GiveUp c) r is = absurd is
+one_reminder laws p v x (RemindClient c) r is = remind_gives laws p 2 v x (RemindClient c) r (reminds_client p x c v r)
+one_reminder laws p v x (RemindVoter u) r is = remind_gives laws p (2 * one_at v u) v x (RemindVoter u) r (reminds_voter p x u v r is)
+one_reminder laws p v x Exchange r is = absurd is
+
+abbrev costs : ℕ → List Step → ℕ
+costs v [] = 0
+costs v (s ∷ ss) = cost v s + costs v ss
+
+reminders_give : (laws : Laws) (p : Course) (v : ℕ) (ss : List Step) (x : WorldState) → IsSure p x → AllByRecursion (Reminder (length x.voters)) ss
+    → Spent (costs v ss) v x (run_of p.deal (remind_all p.deal x ss) x)
+unfolding remind_all
+reminders_give laws p v [] x r are = Spends-self 0 (voter_at x.voters v)
+reminders_give laws p v (s ∷ ss) x r are =
+    let first = remind p.deal x s in
+    let y = run_of p.deal first x in
+    let rest = remind_all p.deal y ss in
+    let grows = Grows-run laws p first x r in
+    subst (λ (z : WorldState). Spent (costs v (s ∷ ss)) v x z) (sym (run_then p.deal first rest x))
+    (Spends-then (cost v s) (costs v ss) (costs v (s ∷ ss)) _ _ _ (omega arith) (one_reminder laws p v x s r are.0)
+    (reminders_give laws p v ss y (IsSure-run p first x r) (subst (λ n. AllByRecursion (Reminder n) ss) (sym grows.voters) are.1)))
+
+-- ---- a round
+
+clients_cost : (v low n : ℕ) → costs v (each RemindClient low n) ≡ 2 * n
+unfolding each
+clients_cost v low zero = refl
+clients_cost v low (suc n) = (let rest = clients_cost v (low + 1) n in omega arith)
+
+voters_cost : (v low n : ℕ) → (costs v (each RemindVoter low n) ≤ 2) × (v < low → costs v (each RemindVoter low n) ≤ 0)
+unfolding each
+voters_cost v low zero = (omega arith, λ less. omega arith)
+voters_cost v low (suc n) =
+    let rest = voters_cost v (low + 1) n in
+    elim (cases_eq low v) [
+      | inl same ↦
+          let one : one_at v low ≡ 1 = ap (λ b. cond b 1 0) (let e : eqb low v ≡ true = grind (arith, nat_tests) in e) in
+          let none = rest.1 (omega arith) in
+          (omega arith, λ less. absurd (omega arith))
+      | inr other ↦
+          let zero_here : one_at v low ≡ 0 = ap (λ b. cond b 1 0) (let e : eqb low v ≡ false = grind (arith, nat_tests) in e) in
+          let few = rest.0 in
+          (omega arith, λ less. (let none = rest.1 (omega arith) in omega arith))
+    ]
+
+costs-append : (v : ℕ) (a b : List Step) → costs v (a ++ b) ≡ costs v a + costs v b
+costs-append v [] b = omega arith
+costs-append v (s ∷ a) b = (let rest = costs-append v a b in omega arith)
+
+clients_remind : (voters low n : ℕ) → AllByRecursion (Reminder voters) (each RemindClient low n)
+unfolding each
+clients_remind voters low zero = tt
+clients_remind voters low (suc n) = (tt, clients_remind voters (low + 1) n)
+
+voters_remind : (voters low n : ℕ) → low + n ≤ voters → AllByRecursion (Reminder voters) (each RemindVoter low n)
+unfolding each
+voters_remind voters low zero most = tt
+voters_remind voters low (suc n) most = (omega arith, voters_remind voters (low + 1) n (omega arith))
+
+is_arrival : Step → Bool
+is_arrival (Ask c) = false
+is_arrival (Deliver k) = true
+is_arrival (Leave c) = false
+is_arrival (GiveUp c) = false
+is_arrival (RemindClient c) = false
+is_arrival (RemindVoter v) = false
+is_arrival Exchange = false
+
+leaves_give : (p : Course) (v low n : ℕ) (x : WorldState) → IsSure p x → Spent 0 v x (run_of p.deal (each Leave low n) x)
+unfolding each is_arrival
+leaves_give p v low zero x r = Spends-self 0 (voter_at x.voters v)
+leaves_give p v low (suc n) x r =
+    let y = next p.deal x (Leave low) in
+    let same : y.voters ≡ x.voters = elim (MovedBy-step p.deal x ((r []).coherent).numbered (Leave low)) [
+      | inl client ↦ client.0.voters
+      | inr (inl voter) ↦ absurd (false≢true (ap is_arrival voter.1))
+      | inr (inr sent) ↦ sent.voters
+    ] in
+    Spends-then 0 0 0 _ _ _ (omega arith) (Spent-same 0 v x y same) (leaves_give p v (low + 1) n y (IsSure-after p x r (Leave low)))
+
+round_gives : (laws : Laws) (p : Course) (v : ℕ) (x : WorldState) → IsSure p x → Spent (2 * length x.clients + 2) v x (run_of p.deal (round_of p.deal x) x)
+unfolding round_of
+round_gives laws p v x r =
+    let n = length x.clients in
+    let m = length x.voters in
+    let clients = each RemindClient 0 n in
+    let voters = each RemindVoter 0 m in
+    let reminders = remind_all p.deal x (clients ++ voters) in
+    let leaves = each Leave 0 n in
+    let y = run_of p.deal reminders x in
+    let both = costs-append v clients voters in
+    let first = clients_cost v 0 n in
+    let second = (voters_cost v 0 m).0 in
+    subst (λ (z : WorldState). Spent (2 * n + 2) v x z) (sym (run_then p.deal reminders leaves x))
+    (Spends-then (costs v (clients ++ voters)) 0 (2 * n + 2) _ _ _ (omega arith)
+    (reminders_give laws p v (clients ++ voters) x r (AllByRecursion-append (Reminder m) clients voters (clients_remind m 0 n) (voters_remind m 0 m (omega arith))))
+    (leaves_give p v 0 n y (IsSure-run p reminders x r)))
+
+rounds_give : (laws : Laws) (p : Course) (n k v : ℕ) (x : WorldState) → IsSure p x → length x.clients ≡ n → Spent (k * (2 * n + 2)) v x (run_of p.deal (steps_of (made_rounds p.deal x k)) x)
+unfolding made_rounds
+rounds_give laws p n zero v x r count = Spends-self (0 * (2 * n + 2)) (voter_at x.voters v)
+rounds_give laws p n (suc k) v x r count =
+    let first = round_of p.deal x in
+    let y = run_of p.deal first x in
+    let rest = steps_of (made_rounds p.deal y k) in
+    let product = suc-mul k (2 * n + 2) in
+    subst (λ (z : WorldState). Spent (suc k * (2 * n + 2)) v x z) (sym (run_then p.deal first rest x))
+    (Spends-then (2 * n + 2) (k * (2 * n + 2)) (suc k * (2 * n + 2)) _ _ _ (omega arith)
+    (subst (λ i. Spent (2 * i + 2) v x y) count (round_gives laws p v x r))
+    (rounds_give laws p n k v y (IsSure-run p first x r) ((Grows-run laws p first x r).clients ∙ count)))
+
+-- k rounds take at most k * (2 * n + 2) grants of each voter, for n clients
+pub rounds_leave : (laws : Laws) (p : Course) (w : WorldState) (k left : ℕ) → IsSure p w → HasGrants (k * (2 * length w.clients + 2) + left) w
+    → HasGrants left (run_of p.deal (steps_of (made_rounds p.deal w k)) w)
+rounds_leave laws p w k left r has = λ v within.
+    let gives = rounds_give laws p (length w.clients) k v w r refl in
+    let few = gives.granted in
+    let limit = gives.limit in
+    let some = has v (subst (λ n. v < n) (Grows-run laws p (steps_of (made_rounds p.deal w k)) w r).voters within) in
+    omega arith
