@@ -3,7 +3,7 @@
 //!
 //! - `coterie_texts` reads and writes coteries, and `shapes` constructs them.
 //! - `fractions` computes.
-//! - `failing` has voters fail, and `losses` has weights with voters down.
+//! - `failing` has voters fail, and `voters_down` has weights with voters down.
 //! - `regrets` has weights for when voters are down.
 //! - `nearness` has weights near the best for irregular coteries, `irregular` has plans for them, and
 //!   `draws` draws some.
@@ -29,8 +29,6 @@ mod fractions;
 #[cfg(test)]
 mod irregular;
 #[cfg(test)]
-mod losses;
-#[cfg(test)]
 mod nearness;
 #[cfg(test)]
 mod offices;
@@ -44,3 +42,5 @@ mod regrets;
 mod searches;
 #[cfg(test)]
 mod shapes;
+#[cfg(test)]
+mod voters_down;

@@ -1,0 +1,99 @@
+//! The page of weights and their losses.
+
+use crate::rows::{Row, rows_of, thousandths};
+use certificate::Weights;
+use coterie_file::Named;
+use losses::{Failure, regret_bound};
+use robust::Found;
+use show_words::{push_members, push_percent, weights_words};
+use std::alloc::{AllocError, Global};
+
+/// Appends thousandths as a number with three digits after the point, as `1.173`.
+fn push_thousandths(text: &mut String, thousandths: u64) -> Result<(), AllocError> {
+    let ones = thousandths / 1000;
+    let rest = thousandths % 1000;
+    write!(text, "{ones}.{rest:03}")
+}
+
+/// Appends a fraction with three digits after the point.
+fn push_decimal(text: &mut String, fraction: (u64, u64)) -> Result<(), AllocError> {
+    push_thousandths(text, thousandths(fraction.0, fraction.1))
+}
+
+/// Appends what the worst loss costs.
+fn push_worst(text: &mut String, rows: &[Row], losses: usize) -> Result<(), AllocError> {
+    text.push_str("\nIf one voter is down, the load of the tickets that are left is at most ")?;
+    match rows.first() {
+        Some(worst) if rows.len() == losses => push_thousandths(text, worst.times)?,
+        _ => return text.push_str("any number of times that of new weights: some loss leaves no ticket.\n"),
+    }
+    text.push_str(" times that of new weights.\n")
+}
+
+/// Appends below which quotient no weights with a load up to the limit are, if something is shown of that.
+fn push_bound(text: &mut String, found: &Found) -> Result<(), AllocError> {
+    let bound = regret_bound(
+        &found.weights,
+        found.limit,
+        &found.multipliers,
+        &found.failures,
+    );
+    match bound {
+        Some(millionths) if millionths > 0 => {
+            text.push_str("No weights with a load of at most ")?;
+            push_decimal(text, found.limit)?;
+            text.push_str(" keep it below ")?;
+            push_thousandths(text, (millionths / 1000).min(1_000_000_000) as u64)?;
+            text.push_str(" times for each voter.\n")
+        }
+        _ => Ok(()),
+    }
+}
+
+/// Appends the line of a loss.
+fn push_row(
+    text: &mut String,
+    named: &Named,
+    weights: &Weights,
+    failure: &Failure,
+    row: &Row,
+) -> Result<(), AllocError> {
+    push_percent(text, row.tickets, weights.cycle_len())?;
+    text.push_str("   ")?;
+    push_decimal(text, row.load)?;
+    text.push_str("        ")?;
+    push_decimal(text, row.best)?;
+    text.push_str("  ")?;
+    push_thousandths(text, row.times)?;
+    text.push_str("  ")?;
+    push_members(text, named, &failure.down, " ")?;
+    text.push('\n')
+}
+
+/// Appends the table of losses.
+fn push_rows(
+    text: &mut String,
+    named: &Named,
+    found: &Found,
+    rows: &[Row],
+) -> Result<(), AllocError> {
+    text.push_str("\n   left    load  new weights  times  down\n")?;
+    for row in rows {
+        if let Some(failure) = found.failures.get(row.place) {
+            push_row(text, named, &found.weights, failure, row)?;
+        }
+    }
+    Ok(())
+}
+
+/// Returns weights that were found for when a voter is down, in words: the page of the weights, what the
+/// worst loss costs, a bound of that, and what each loss leaves. The weights are of the named coterie.
+/// Fails only if memory runs out.
+pub fn losses_words(alloc: Global, named: &Named, found: &Found) -> Result<String, AllocError> {
+    let rows = rows_of(alloc, &found.weights, &found.failures)?;
+    let mut text = weights_words(alloc, named, &found.weights)?;
+    push_worst(&mut text, &rows, found.failures.len())?;
+    push_bound(&mut text, found)?;
+    push_rows(&mut text, named, found, &rows)?;
+    Ok(text)
+}
