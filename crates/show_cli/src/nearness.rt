@@ -12,8 +12,11 @@ use commands::{Fault, Weighed, coterie_of};
 use coterie_file::Named;
 use near::weights_within;
 use plan_inputs::weights_text_of;
+use plan_texts::write_weights;
+use robust::{Found as Robust, weights_for_losses};
 use show_command_line::{NearForm, NearPage};
 use show_json::found_json;
+use show_losses::losses_words;
 use show_words::{tickets_page, weights_words};
 use std::alloc::{AllocError, Global};
 
@@ -22,6 +25,10 @@ const CYCLE: u64 = 1000;
 
 /// By how many millionths of the bound the load of weights is above it at most that are called near.
 const NEAR: u64 = 10_000;
+
+/// By how many percent the load of weights that bear a loss may be above the smallest one if no other number
+/// was asked for.
+const ABOVE: u64 = 2;
 
 /// Weights of a named coterie that were found.
 #[derive(Drop)]
@@ -100,6 +107,52 @@ fn near_page(alloc: Global, page: &NearPage, most: u64, input: &[u8]) -> Result<
     }
 }
 
+/// Returns what is shown of weights that bear the loss of a voter: JSON, their text, tickets, or a page in
+/// words.
+fn robust_shown(
+    alloc: Global,
+    page: &NearPage,
+    named: Named,
+    found: Robust,
+) -> Result<String, AllocError>
+    requires { IfSome page.now.tickets (λ n. n ≤ max_dealt) }
+    requires { found.weights.system ≡ named.system }
+{
+    match (page.form, page.tickets) {
+        (NearForm::Json, tickets) => found_json(alloc, &named, &found.weights, tickets),
+        (NearForm::Text, _) => write_weights(alloc, &found.weights),
+        (NearForm::Words, Some(count)) => {
+            let Robust { weights, .. } = found;
+            tickets_page(alloc, Weighed { named, weights }, count, true)
+        }
+        (NearForm::Words, None) => losses_words(alloc, &named, &found),
+    }
+}
+
+/// Returns what is shown of weights that bear the loss of a voter for the coterie in an input.
+fn robust_page(alloc: Global, page: &NearPage, most: u64, input: &[u8]) -> Result<String, Fault>
+    requires tickets { IfSome page.now.tickets (λ n. n ≤ max_dealt) }
+    requires above { IfSome page.now.above (λ n. n ≤ 100) }
+    requires most { (0 < most) × (most ≤ max_cycle) }
+    ensures parts { IfOk result (λ _. HasCoterie input.now) }
+    ensures refused { IfErr result (λ fault. Refuses fault (coterie_part input.now)) }
+    ensures own { IfErr result IsOwn }
+{
+    let named = match coterie_of(alloc, input) {
+        Ok(named) => named,
+        Err(fault) => return Err(fault),
+    };
+    let thousandths = 10 * page.above.unwrap_or(ABOVE);
+    let Ok(found) = weights_for_losses(alloc, named.coterie(), named.capacities(), most, thousandths)
+    else {
+        return Err(Fault::OutOfMemory);
+    };
+    match robust_shown(alloc, page, named, found) {
+        Ok(page) => Ok(page),
+        Err(_) => Err(Fault::OutOfMemory),
+    }
+}
+
 /// Returns the text of weights near the best for the coterie in an input: that of a plan if they are one.
 #[tactic(auto, using(crate::proofs::ShowLemmas::unfound_refused))]
 fn near_text(alloc: Global, most: u64, input: &[u8]) -> Result<String, Fault>
@@ -131,11 +184,15 @@ pub(crate) fn near_weights_page(
 ) -> Result<String, Fault>
     requires tickets { IfSome page.now.tickets (λ n. n ≤ max_dealt) }
     requires cycle { IfSome page.now.cycle (λ n. (1 ≤ n) × (n ≤ max_cycle)) }
+    requires above { IfSome page.now.above (λ n. n ≤ 100) }
     ensures found { IfOk result (λ text. IsFoundPage page.now input.now (string_bytes text)) }
     ensures refused { IfErr result (λ fault. Refuses fault (coterie_part input.now)) }
     ensures own { IfErr result IsOwn }
 {
     let most = most_of(page);
+    if page.down.is_some() {
+        return robust_page(alloc, page, most, input);
+    }
     match page.form {
         NearForm::Text => near_text(alloc, most, input),
         NearForm::Words | NearForm::Json => near_page(alloc, page, most, input),

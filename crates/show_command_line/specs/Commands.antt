@@ -12,6 +12,7 @@ IsShown (Deal dealing) = dealing.count ≤ max_dealt
 IsShown (Compare files form) = length files.items ≤ 64
 IsShown (Near page) =
     IfSome page.cycle (λ n. (1 ≤ n) × (n ≤ max_cycle)) × IfSome page.tickets (λ n. n ≤ max_dealt)
+    × IfSome page.above (λ n. n ≤ 100)
 IsShown (Fault command) = IsInRange command
 IsShown (Waiting w) = waiting.IsInRange w
 IsShown command = ⊤

@@ -100,11 +100,20 @@ near_deal_rule = record (optional_rule (codes "deal") 0 max_dealt) { long = Some
 abbrev pub near_cycle_rule : Rule
 near_cycle_rule = record (optional_rule (codes "cycle") 1 max_cycle) { long = Some (codes "cycle"); value_names = 1 }
 
--- qlock-show near, with --cycle, --deal, --text and --json
+-- --down N, for `near`
+abbrev pub near_down_rule : Rule
+near_down_rule = record (optional_rule (codes "down") 1 1) { long = Some (codes "down"); value_names = 1 }
+
+-- --above PERCENT, for `near`
+abbrev pub near_above_rule : Rule
+near_above_rule = record (optional_rule (codes "above") 0 100) { long = Some (codes "above"); value_names = 1 }
+
+-- qlock-show near, with --cycle, --deal, --down, --above, --text and --json
 abbrev pub near_app : App
 near_app =
     with_rules (new_app (codes "near"))
-    (near_cycle_rule ∷ near_deal_rule ∷ flag_rule (codes "text") ∷ flag_rule (codes "json") ∷ [])
+    (near_cycle_rule ∷ near_deal_rule ∷ near_down_rule ∷ near_above_rule ∷ flag_rule (codes "text")
+    ∷ flag_rule (codes "json") ∷ [])
 
 -- --capacity NUMBERS.., for `coterie`
 abbrev pub capacity_rule : Rule
@@ -212,6 +221,8 @@ IsNamedBy (Some used) (Near page) =
     (used.0 ≡ codes "near")
     × MayHaveNumber (codes "cycle") 1 max_cycle used.1 page.cycle
     × MayHaveNumber (codes "deal") 0 max_dealt used.1 page.tickets
+    × MayHaveNumber (codes "down") 1 1 used.1 page.down
+    × MayHaveNumber (codes "above") 0 100 used.1 page.above
     × IsNearForm used.1 page.form
 IsNamedBy (Some used) (Coterie shape capacities) =
     (used.0 ≡ codes "coterie") × HasShape used.1 shape × MayHaveCapacities used.1 capacities

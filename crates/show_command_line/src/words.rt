@@ -6,7 +6,7 @@ ghost use Rattle.command_line.specs.Words.{IsLocal, used_as};
 ghost use Rattle.command_line.specs.declared.usage.Usage.TheVariants.{Arguments, OutOfMemory};
 ghost use Rattle.show_command_line.specs.Commands.{IsShown};
 ghost use Rattle.show_command_line.specs.declared.command.Picture.{Picture};
-ghost use Rattle.show_command_line.specs.Words.{HasFlag, HasTexts, IsForm, IsNearForm, MayHaveCapacities, capacity_rule, coterie_app, planners_app, IsNamedBy, IsTicketForm, MayHaveNumber, Names, Refuses, RefusesUse, compare_app, coteries_app, explain_app, fault_app, files_rule, flag_rule, near_app, near_cycle_rule, near_deal_rule, optional_rule, pages_app, plan_app, picture_app, picture_word, qlock_words, resilience_app, round_rule, show_app, tickets_app, waiting_app, without_app, words_rule};
+ghost use Rattle.show_command_line.specs.Words.{HasFlag, HasTexts, IsForm, IsNearForm, MayHaveCapacities, capacity_rule, coterie_app, planners_app, IsNamedBy, IsTicketForm, MayHaveNumber, Names, Refuses, RefusesUse, compare_app, coteries_app, explain_app, fault_app, files_rule, flag_rule, near_app, near_above_rule, near_cycle_rule, near_deal_rule, near_down_rule, optional_rule, pages_app, plan_app, picture_app, picture_word, qlock_words, resilience_app, round_rule, show_app, tickets_app, waiting_app, without_app, words_rule};
 
 use crate::command::{Dealing, Form, NearForm, NearPage, Picture, ShowCommand, TicketForm};
 use clap::builder::ValueParser;
@@ -37,6 +37,12 @@ const MOST_WITHDRAWALS: u64 = 1_000_000;
 
 /// The longest round of `waiting`, in seconds: a day.
 const LONGEST_ROUND: u64 = 86_400;
+
+/// How many voters weights may have to bear the loss of.
+const MOST_DOWN: u64 = 1;
+
+/// By how many percent the load of weights that bear a loss may be above the smallest one.
+const MOST_ABOVE: u64 = 100;
 
 /// Returns a flag.
 fn flag_argument<'a>(alloc: Global, name: &'a str, help: &'a str) -> Arg<'a>
@@ -203,8 +209,40 @@ fn near_cycle_argument<'a>(alloc: Global) -> Arg<'a>
     .value_name("N")
 }
 
-/// Returns the subcommand `near`, with the options `--cycle` and `--deal` and the flags `--text` and
-/// `--json`.
+/// Returns the option `--down N` of `near`.
+fn near_down_argument<'a>(alloc: Global) -> Arg<'a>
+    ensures rule { rule_of result ≡ near_down_rule }
+    ensures local { result.global ≡ false }
+{
+    optional_argument(
+        alloc,
+        "down",
+        "Find weights whose load stays small when so many voters are down, 1",
+        1,
+        MOST_DOWN,
+    )
+    .long("down")
+    .value_name("N")
+}
+
+/// Returns the option `--above PERCENT` of `near`.
+fn near_above_argument<'a>(alloc: Global) -> Arg<'a>
+    ensures rule { rule_of result ≡ near_above_rule }
+    ensures local { result.global ≡ false }
+{
+    optional_argument(
+        alloc,
+        "above",
+        "With --down, by how many percent the load may be above the smallest one, 0 to 100; without it 2",
+        0,
+        MOST_ABOVE,
+    )
+    .long("above")
+    .value_name("PERCENT")
+}
+
+/// Returns the subcommand `near`, with the options `--cycle`, `--deal`, `--down` and `--above` and the flags
+/// `--text` and `--json`.
 fn near_command<'a>(alloc: Global) -> Result<clap::Command<'a>, AllocError>
     ensures app { IfOk result (λ c. app_of c ≡ near_app) }
     ensures local { IfOk result IsLocal }
@@ -221,6 +259,8 @@ fn near_command<'a>(alloc: Global) -> Result<clap::Command<'a>, AllocError>
     );
     let command = with_argument(Ok(command), near_cycle_argument(alloc));
     let command = with_argument(command, near_deal_argument(alloc));
+    let command = with_argument(command, near_down_argument(alloc));
+    let command = with_argument(command, near_above_argument(alloc));
     let command = with_argument(command, text);
     with_argument(command, json_argument(alloc))
 }
@@ -508,8 +548,8 @@ fn number_if_given(
     }
 }
 
-/// Returns `near` with how long a cycle is at most, how many tickets are dealt, if any, and the form that
-/// its flags say.
+/// Returns `near` with how long a cycle is at most, how many tickets are dealt, how many voters may be down,
+/// and how much that may cost, if these were said, and the form that its flags say.
 fn near_of(used: &ArgMatches) -> Result<ShowCommand, Usage>
     ensures named { IfOk result (IsNamedBy (used_as (codes "near") used.now)) }
     ensures refused { IfErr result (RefusesUse (used_as (codes "near") used.now)) }
@@ -524,10 +564,20 @@ fn near_of(used: &ArgMatches) -> Result<ShowCommand, Usage>
         Ok(tickets) => tickets,
         Err(usage) => return Err(usage),
     };
+    let down = match number_if_given(used, "down", 1, MOST_DOWN) {
+        Ok(down) => down,
+        Err(usage) => return Err(usage),
+    };
+    let above = match number_if_given(used, "above", 0, MOST_ABOVE) {
+        Ok(above) => above,
+        Err(usage) => return Err(usage),
+    };
     Ok(ShowCommand::Near(NearPage {
         form: near_form_of(used),
         cycle,
         tickets,
+        down,
+        above,
     }))
 }
 
