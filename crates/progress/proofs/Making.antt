@@ -1,5 +1,5 @@
 -- how to make fair rounds
-use Rattle.std.proofs.Common.{◌≡◌, ℕ, zero, suc, ◌+◌, ◌-◌, ◌<◌, ◌≤◌, Bool, true, false, List, [], ◌∷◌, ◌++◌, length, map, Option, None, Some, Ok, Err, refl, sym, ap, subst, ◌∙◌, inl, inr, arith, append_assoc, length-append}
+use Rattle.std.proofs.Common.{◌≡◌, ℕ, zero, suc, ◌+◌, ◌-◌, ◌<◌, ◌≤◌, false, List, [], ◌∷◌, ◌++◌, length, map, Option, None, Some, Ok, Err, refl, sym, ap, subst, ◌∙◌, inl, inr, arith, append_assoc, length-append}
 use Rattle.std.specs.Prelude.{if◌then◌else◌, nat_lt, slice_get, slice_index_or}
 use Rattle.std.specs.List.{AllByRecursion, Contains, range_with_len}
 use Rattle.std.proofs.lemmas.Bool.{cases_eq}
@@ -11,24 +11,18 @@ use Rattle.message.specs.declared.message.Message.{Message}
 use Rattle.message.specs.declared.message.Message.TheVariants as kinds
 use Rattle.message.specs.declared.message.VoterBody.{VoterBody}
 use Rattle.message.specs.declared.message.VoterBody.TheVariants as asks
-use Rattle.voter.specs.VoteMoves.{VoteMoves}
-use Rattle.voter.specs.declared.state.VoterState.{VoterState}
 use Rattle.requester.proofs.RangeLemmas.{is_inside-busy}
 use Rattle.world_state.specs.declared.step.Step.{Step}
 use Rattle.world_state.specs.declared.step.Step.TheVariants.{Ask, Deliver, Exchange, GiveUp, Leave, RemindClient, RemindVoter}
-use Rattle.world.specs.Coherence.{IsCoherent}
 use Rattle.world.specs.Runs.{after, run_of}
-use Rattle.world_state.specs.Steps.{Dealing, WorldState, client_at, step, voter_at}
+use Rattle.world_state.specs.Steps.{Dealing, WorldState, client_at, step}
 use Rattle.world.proofs.Added.{Adds-step}
 use Rattle.world.proofs.Plans.{run_then}
 use Rattle.progress.specs.Rounds.{IsAnswered, IsFairRound, IsReminded, IsTimely, give_up, give_ups_in, late_body, late_message, late_step, late_steps, steps_of}
-use Rattle.progress.specs.Rules.{Laws, VoterLaws}
-use Rattle.world.specs.WayIn.{HasGrants, Serves}
+use Rattle.world.specs.WayIn.{Serves}
 use Rattle.progress.proofs.Along.{next}
 use Rattle.progress.proofs.Known.{within_by}
 use Rattle.progress.proofs.Longer.{IsAnswered-more, IsReminded-more, contains_here, contains_next}
-use Rattle.progress.proofs.Moves.{Moved, Moved-step, each_voter}
-use Rattle.progress.proofs.Sure.{Course, IsSure, IsSure-after}
 
 -- ---- the same step for each of some numbers
 
@@ -304,33 +298,3 @@ rounds_serve deal w (suc k) =
     let later = steps_of (made_rounds deal u k) in
     AllByRecursion-append (Serves (length w.sent)) first later (round_serves deal w)
     (AllByRecursion-weaker (Serves (length u.sent)) (Serves (length w.sent)) (λ s. serves_later (length w.sent) (length u.sent) s (sent_run deal first w)) later (rounds_serve deal u k))
-
--- ---- a step gives at most one grant
-
-pub few_by : (frees : Bool) (y z : VoterState) → VoteMoves frees y z → z.granted ≤ y.granted + 1
-few_by true y z (inl ends) = let same = ends.granted in omega arith
-few_by true y z (inr new) = let more = new.granted in omega arith
-few_by false y z (inl stays) = let same = stays.granted in omega arith
-few_by false y z (inr new) = let more = new.1.granted in omega arith
-
-one_left : (laws : VoterLaws) (w u : WorldState) → IsCoherent w → Moved w u → (n : ℕ) → HasGrants (suc n) w → HasGrants n u
-one_left laws w u ok (inl k) n left v within =
-    let some = subst (λ (vs : List VoterState). (voter_at vs v).granted + suc n ≤ (voter_at vs v).limit) (sym k.voters) (left v (let same = ap length k.voters in omega arith)) in
-    omega arith
-one_left laws w u ok (inr (inl k)) n left v within =
-    let y = voter_at w.voters k.message.voter in
-    let few = few_by _ y k.outcome.state (laws.numbers y k.message k.outcome (ok.voters k.message.voter) k.step) in
-    let same = (laws.carries y k.message k.outcome k.step).limit in
-    each_voter (λ q z. q < length w.voters → z.granted + n ≤ z.limit) w u k
-    (λ there. (let some = left k.message.voter there in omega (arith, few, same)))
-    (λ q there. (let some = left q there in omega arith)) v (let count = k.count in omega arith)
-one_left laws w u ok (inr (inr k)) n left v within =
-    let some = subst (λ (vs : List VoterState). (voter_at vs v).granted + suc n ≤ (voter_at vs v).limit) (sym k.voters) (left v (let same = ap length k.voters in omega arith)) in
-    omega arith
-
-pub grants_left : (laws : Laws) (p : Course) (steps : List Step) (x : WorldState) → IsSure p x → (n : ℕ) → HasGrants (length steps + n) x → HasGrants n (run_of p.deal steps x)
-grants_left laws p [] x r n left = λ v within. (let some = left v within in omega arith)
-grants_left laws p (s ∷ steps) x r n left =
-    let ok = (r []).coherent in
-    grants_left laws p steps (next p.deal x s) (IsSure-after p x r s) n
-    (one_left laws.voter x (next p.deal x s) ok (Moved-step p.deal x ok.numbered s) (length steps + n) (λ v within. (let some = left v within in omega arith)))

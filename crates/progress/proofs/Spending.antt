@@ -23,8 +23,10 @@ use Rattle.requester.specs.Words.{holds, is_covered, is_relinquished, members}
 use Rattle.voter.specs.declared.state.Grant.{Grant}
 use Rattle.voter.specs.declared.state.VoterState.{VoterState}
 use Rattle.voter.specs.Steps as voter
+use Rattle.voter.specs.VoteMoves.{VoteMoves}
 use Rattle.world_state.specs.declared.step.Step.{Step}
 use Rattle.world_state.specs.declared.step.Step.TheVariants.{Ask, Deliver, Exchange, GiveUp, Leave, RemindClient, RemindVoter}
+use Rattle.world.specs.Coherence.{IsCoherent}
 use Rattle.world.specs.Runs.{after, run_of}
 use Rattle.world.specs.WayIn.{HasGrants}
 use Rattle.world_state.specs.Steps.{Dealing, WorldState, after_voter, client_at, come, if_client, if_voter, say, step, voter_at}
@@ -35,7 +37,7 @@ use Rattle.progress.proofs.Along.{next}
 use Rattle.progress.proofs.Arrivals.{client_takes, message_stays}
 use Rattle.progress.proofs.Exchanges.{get_next}
 use Rattle.progress.proofs.Longer.{Grows-run}
-use Rattle.progress.proofs.Making.{answer, answer_all, each, few_by, made_rounds, remind, remind_all, round_of}
+use Rattle.progress.proofs.Making.{answer, answer_all, each, made_rounds, remind, remind_all, round_of}
 use Rattle.progress.proofs.Moves.{Moved, MovedBy-step, Moved-step, VoterMoved, each_voter}
 use Rattle.progress.proofs.Sure.{Course, IsSure, IsSure-after, IsSure-run}
 
@@ -51,6 +53,12 @@ Spends-self n y = record { granted = omega arith; limit = refl }
 
 Spends-then : (n m k : ℕ) (x y z : VoterState) → n + m ≤ k → Spends n x y → Spends m y z → Spends k x z
 Spends-then n m k x y z most a b = record { granted = (let first = a.granted in let rest = b.granted in omega arith); limit = b.limit ∙ a.limit }
+
+few_by : (frees : Bool) (y z : VoterState) → VoteMoves frees y z → z.granted ≤ y.granted + 1
+few_by true y z (inl ends) = let same = ends.granted in omega arith
+few_by true y z (inr new) = let more = new.granted in omega arith
+few_by false y z (inl stays) = let same = stays.granted in omega arith
+few_by false y z (inr new) = let more = new.1.granted in omega arith
 
 -- so it was between these worlds
 abbrev Spent : ℕ → ℕ → WorldState → WorldState → Type 0
@@ -498,12 +506,41 @@ rounds_give laws p n (suc k) v x r count =
     (subst (λ i. Spent (2 * i + 2) v x y) count (round_gives laws p v x r))
     (rounds_give laws p n k v y (IsSure-run p first x r) ((Grows-run laws p first x r).clients ∙ count)))
 
+-- ---- grants that are left
+
+left_by : (laws : Laws) (p : Course) (w : WorldState) (steps : List Step) (n left : ℕ) → IsSure p w → ((v : ℕ) → Spent n v w (run_of p.deal steps w)) → HasGrants (n + left) w
+    → HasGrants left (run_of p.deal steps w)
+left_by laws p w steps n left r spent has = λ v within.
+    let few = (spent v).granted in
+    let limit = (spent v).limit in
+    let some = has v (subst (λ m. v < m) (Grows-run laws p steps w r).voters within) in
+    omega arith
+
 -- k rounds take at most k * (2 * n + 2) grants of each voter, for n clients
 pub rounds_leave : (laws : Laws) (p : Course) (w : WorldState) (k left : ℕ) → IsSure p w → HasGrants (k * (2 * length w.clients + 2) + left) w
     → HasGrants left (run_of p.deal (steps_of (made_rounds p.deal w k)) w)
-rounds_leave laws p w k left r has = λ v within.
-    let gives = rounds_give laws p (length w.clients) k v w r refl in
-    let few = gives.granted in
-    let limit = gives.limit in
-    let some = has v (subst (λ n. v < n) (Grows-run laws p (steps_of (made_rounds p.deal w k)) w r).voters within) in
-    omega arith
+rounds_leave laws p w k left r = left_by laws p w (steps_of (made_rounds p.deal w k)) (k * (2 * length w.clients + 2)) left r (λ v. rounds_give laws p (length w.clients) k v w r refl)
+
+-- any step takes at most one
+step_gives : (laws : Laws) (x y : WorldState) → IsCoherent x → Moved x y → (v : ℕ) → Spent 1 v x y
+step_gives laws x y ok moved v = elim moved [
+  | inl client ↦ Spent-same 1 v x y client.voters
+  | inr (inl voter) ↦
+      let gives = voter_gives laws x y voter v ok.voters in
+      record { granted = (let few = gives.granted in let one = at_most_one (eqb voter.message.voter v) in omega arith); limit = gives.limit }
+  | inr (inr sent) ↦ Spent-same 1 v x y sent.voters
+]
+  where
+    at_most_one : (b : Bool) → cond {A = ℕ} b 1 0 ≤ 1
+    at_most_one true = omega arith
+    at_most_one false = omega arith
+
+steps_give : (laws : Laws) (p : Course) (v : ℕ) (steps : List Step) (x : WorldState) → IsSure p x → Spent (length steps) v x (run_of p.deal steps x)
+steps_give laws p v [] x r = Spends-self 0 (voter_at x.voters v)
+steps_give laws p v (s ∷ steps) x r =
+    let ok = (r []).coherent in
+    Spends-then 1 (length steps) (length (s ∷ steps)) _ _ _ (omega arith) (step_gives laws x (next p.deal x s) ok (Moved-step p.deal x ok.numbered s) v)
+    (steps_give laws p v steps (next p.deal x s) (IsSure-after p x r s))
+
+pub steps_leave : (laws : Laws) (p : Course) (w : WorldState) (steps : List Step) (left : ℕ) → IsSure p w → HasGrants (length steps + left) w → HasGrants left (run_of p.deal steps w)
+steps_leave laws p w steps left r = left_by laws p w steps (length steps) left r (λ v. steps_give laws p v steps w r)
