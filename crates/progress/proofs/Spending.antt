@@ -3,10 +3,10 @@ use Rattle.std.proofs.Common.{◌≡◌, ℕ, zero, suc, ◌+◌, ◌*◌, ◌-�
 use Rattle.std.specs.Prelude.{nat_lt, slice_get}
 use Rattle.std.specs.List.{AllByRecursion, flat_map}
 use Rattle.std.proofs.Math.Nat.{suc-mul}
-use Rattle.std.proofs.lemmas.Bool.{cases_eq, false≢true}
+use Rattle.std.proofs.lemmas.Bool.{cases_eq}
 use Rattle.std.proofs.lemmas.Bool.Decides.{nat_tests}
 use Rattle.std.proofs.lemmas.List.{append-nil, map-append}
-use Rattle.std.proofs.lemmas.Option.{same_Some}
+use Rattle.std.proofs.lemmas.Option.{none-some, same_Some}
 use Rattle.numbers.specs.Sets.{Ascends}
 use Rattle.numbers.proofs.Lists.{AllByRecursion-append}
 use Rattle.message.specs.declared.message.ClientBody.{ClientBody}
@@ -90,17 +90,18 @@ voter_gives laws x y k v sound = each_voter (λ q z. Spends (one_at q k.message.
     record { granted = omega arith; limit = (laws.voter.carries w k.message k.outcome k.step).limit }
     ) (λ q. Spends-self (one_at q k.message.voter) (voter_at x.voters q)) v
 
-place_in : Step → ℕ
-place_in (Ask c) = 0
-place_in (Deliver k) = k
-place_in (Leave c) = 0
-place_in (GiveUp c) = 0
-place_in (RemindClient c) = 0
-place_in (RemindVoter v) = 0
-place_in Exchange = 0
+-- which message arrives by the step, if one does
+arrives : Step → Option ℕ
+arrives (Ask c) = None
+arrives (Deliver k) = Some k
+arrives (Leave c) = None
+arrives (GiveUp c) = None
+arrives (RemindClient c) = None
+arrives (RemindVoter v) = None
+arrives Exchange = None
 
 delivers : (laws : Laws) (p : Course) (x : WorldState) (k v : ℕ) (m : Message) → IsSure p x → slice_get x.sent k ≡ Some m → Spent (hits v m) v x (next p.deal x (Deliver k))
-unfolding place_in
+unfolding arrives
 delivers laws p x k v m r is =
     let ok = (r []).coherent in
     let y = next p.deal x (Deliver k) in
@@ -108,7 +109,7 @@ delivers laws p x k v m r is =
       | inl client ↦ Spent-same (hits v m) v x y client.0.voters
       | inr (inl voter) ↦
           let j = voter.0 in
-          let place : k ≡ j.place = ap place_in voter.1 in
+          let place : k ≡ j.place = same_Some k j.place (ap arrives voter.1) in
           let same : m ≡ kinds.ToVoter j.message = same_Some m (kinds.ToVoter j.message) (sym is ∙ subst (λ i. slice_get x.sent i ≡ Some (kinds.ToVoter j.message)) (sym place) j.came) in
           subst (λ n. Spent (hits v n) v x y) (sym same) (voter_gives laws x y j v ok.voters)
       | inr (inr sent) ↦ Spent-same (hits v m) v x y sent.voters
@@ -454,23 +455,14 @@ unfolding each
 voters_remind voters low zero most = tt
 voters_remind voters low (suc n) most = (omega arith, voters_remind voters (low + 1) n (omega arith))
 
-is_arrival : Step → Bool
-is_arrival (Ask c) = false
-is_arrival (Deliver k) = true
-is_arrival (Leave c) = false
-is_arrival (GiveUp c) = false
-is_arrival (RemindClient c) = false
-is_arrival (RemindVoter v) = false
-is_arrival Exchange = false
-
 leaves_give : (p : Course) (v low n : ℕ) (x : WorldState) → IsSure p x → Spent 0 v x (run_of p.deal (each Leave low n) x)
-unfolding each is_arrival
+unfolding each arrives
 leaves_give p v low zero x r = Spends-self 0 (voter_at x.voters v)
 leaves_give p v low (suc n) x r =
     let y = next p.deal x (Leave low) in
     let same : y.voters ≡ x.voters = elim (MovedBy-step p.deal x ((r []).coherent).numbered (Leave low)) [
       | inl client ↦ client.0.voters
-      | inr (inl voter) ↦ absurd (false≢true (ap is_arrival voter.1))
+      | inr (inl voter) ↦ absurd (none-some voter.0.place (ap arrives voter.1))
       | inr (inr sent) ↦ sent.voters
     ] in
     Spends-then 0 0 0 _ _ _ (omega arith) (Spent-same 0 v x y same) (leaves_give p v (low + 1) n y (IsSure-after p x r (Leave low)))
