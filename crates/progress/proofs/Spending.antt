@@ -1,5 +1,5 @@
 -- how many grants of a voter the rounds take that are made
-use Rattle.std.proofs.Common.{◌≡◌, ℕ, zero, suc, ◌+◌, ◌*◌, ◌-◌, ◌<◌, ◌≤◌, Bool, true, false, cond, eqb, List, [], ◌∷◌, ◌++◌, length, map, Option, Some, None, Ok, refl, sym, ap, subst, ◌∙◌, inl, inr, arith, append_assoc, length-append}
+use Rattle.std.proofs.Common.{◌≡◌, ◌≢◌, ℕ, zero, suc, ◌+◌, ◌*◌, ◌-◌, ◌<◌, ◌≤◌, Bool, true, false, cond, eqb, List, [], ◌∷◌, ◌++◌, length, map, Option, Some, None, Ok, refl, sym, ap, subst, ◌∙◌, inl, inr, arith, append_assoc, length-append}
 use Rattle.std.specs.Prelude.{nat_lt, slice_get}
 use Rattle.std.specs.List.{AllByRecursion, flat_map}
 use Rattle.std.proofs.Math.Nat.{suc-mul}
@@ -19,7 +19,7 @@ use Rattle.requester.specs.declared.state.ClientState.{ClientState}
 use Rattle.requester.specs.declared.state.Phase.{Phase}
 use Rattle.requester.specs.declared.state.Phase.TheVariants.{Asking, Idle, Inside}
 use Rattle.requester.specs.Steps as requester
-use Rattle.requester.specs.Words.{holds, is_covered, is_relinquished, members}
+use Rattle.requester.specs.Words.{holds, is_asking, is_covered, is_relinquished, members}
 use Rattle.voter.specs.declared.state.Grant.{Grant}
 use Rattle.voter.specs.declared.state.VoterState.{VoterState}
 use Rattle.voter.specs.Steps as voter
@@ -28,7 +28,7 @@ use Rattle.world_state.specs.declared.step.Step.{Step}
 use Rattle.world_state.specs.declared.step.Step.TheVariants.{Ask, Deliver, Exchange, GiveUp, Leave, RemindClient, RemindVoter}
 use Rattle.world.specs.Coherence.{IsCoherent}
 use Rattle.world.specs.Runs.{after, run_of}
-use Rattle.world.specs.WayIn.{HasGrants}
+use Rattle.world.specs.WayIn.{HasGrants, Serves}
 use Rattle.world_state.specs.Steps.{Dealing, WorldState, after_voter, client_at, come, if_client, if_voter, say, step, voter_at}
 use Rattle.world.proofs.Plans.{run_then}
 use Rattle.progress.specs.Rounds.{steps_of}
@@ -37,9 +37,11 @@ use Rattle.progress.proofs.Along.{next}
 use Rattle.progress.proofs.Arrivals.{client_takes, message_stays}
 use Rattle.progress.proofs.Exchanges.{get_next}
 use Rattle.progress.proofs.Longer.{Grows-run}
-use Rattle.progress.proofs.Making.{answer, answer_all, each, made_rounds, remind, remind_all, round_of}
+use Rattle.progress.proofs.Making.{AskAmong, among_still, answer, answer_all, each, made_rounds, remind, remind_all, remind_serves, round_of, round_serves}
 use Rattle.progress.proofs.Moves.{Moved, MovedBy-step, Moved-step, VoterMoved, each_voter}
 use Rattle.progress.proofs.Sure.{Course, IsSure, IsSure-after, IsSure-run}
+use Rattle.progress.proofs.Turns.{asks_at, one_if}
+use Rattle.progress.proofs.Waiting.{one_most}
 
 -- ---- grants of one voter
 
@@ -266,15 +268,15 @@ answers_give laws p v low (m ∷ ms) x r are plain =
 
 -- ---- a reminder
 
--- how many grants of this voter the reminder takes
-abbrev cost : ℕ → Step → ℕ
-cost v (Ask c) = 0
-cost v (Deliver k) = 0
-cost v (Leave c) = 0
-cost v (GiveUp c) = 0
-cost v (RemindClient c) = 2
-cost v (RemindVoter u) = 2 * one_at v u
-cost v Exchange = 0
+-- how many grants of this voter the reminder takes, if only some of these clients ask
+abbrev cost : (ℕ → Bool) → ℕ → Step → ℕ
+cost among v (Ask c) = 0
+cost among v (Deliver k) = 0
+cost among v (Leave c) = 0
+cost among v (GiveUp c) = 0
+cost among v (RemindClient c) = 2 * one_if (among c)
+cost among v (RemindVoter u) = 2 * one_at v u
+cost among v Exchange = 0
 
 -- what the reminder sends
 record Reminds (n v : ℕ) (x y : WorldState) : Type 0 where
@@ -317,24 +319,28 @@ members_meet v low x (u ∷ q) set =
           (omega arith, λ less. (let least = set.0 in let none = rest.1 (omega arith) in omega arith))
     ]
 
-client_meets : (v : ℕ) (x : ClientState) (phase : Phase) → Ascends 0 64 (members x) → meets_in v (map kinds.ToVoter (requester.remind_in phase x)) ≤ 2
+client_meets : (v : ℕ) (x : ClientState) (phase : Phase) → Ascends 0 64 (members x) → meets_in v (map kinds.ToVoter (requester.remind_in phase x)) ≤ 2 * one_if (is_asking phase)
 client_meets v x Idle set = omega arith
 client_meets v x Asking set = (members_meet v 0 x (members x) set).0
 client_meets v x Inside set = omega arith
 
-reminds_client : (p : Course) (x : WorldState) (c v : ℕ) → IsSure p x → Reminds 2 v x (next p.deal x (RemindClient c))
+fewer_if : (a b : Bool) → (a ≡ true → b ≡ true) → one_if a ≤ one_if b
+fewer_if true b then = (let one : one_if b ≡ 1 = ap one_if (then refl) in omega arith)
+fewer_if false b then = omega arith
+
+reminds_client : (p : Course) (among : ℕ → Bool) (x : WorldState) (c v : ℕ) → IsSure p x → AskAmong among x → Reminds (2 * one_if (among c)) v x (next p.deal x (RemindClient c))
 unfolding step requester.remind
-reminds_client p x c v r = said (nat_lt c (length x.clients))
+reminds_client p among x c v r ask = said (nat_lt c (length x.clients))
   where
-    said : (b : Bool) → Reminds 2 v x (after x (if_client b c (Ok (say x (map kinds.ToVoter (requester.remind (client_at x.clients c)))))))
+    said : (b : Bool) → Reminds (2 * one_if (among c)) v x (after x (if_client b c (Ok (say x (map kinds.ToVoter (requester.remind (client_at x.clients c)))))))
     said true = record {
       more = map kinds.ToVoter (requester.remind (client_at x.clients c));
       sent = refl;
       voters = refl;
       plain = all_plain (requester.remind (client_at x.clients c));
-      few = client_meets v (client_at x.clients c) (client_at x.clients c).phase ((r []).coherent.clients c).quorum;
+      few = (let most = client_meets v (client_at x.clients c) (client_at x.clients c).phase ((r []).coherent.clients c).quorum in let fewer = fewer_if (asks_at x c) (among c) (ask c) in omega arith);
     }
-    said false = nothing 2 v x
+    said false = nothing (2 * one_if (among c)) v x
 
 -- what a voter's reminder sends, by whether an INQUIRE is outstanding
 abbrev said_again : Bool → VoterState → Grant → List Message
@@ -392,44 +398,82 @@ Reminder voters (RemindClient c) = Unit {0}
 Reminder voters (RemindVoter v) = v < voters
 Reminder voters Exchange = ⊥
 
-one_reminder : (laws : Laws) (p : Course) (v : ℕ) (x : WorldState) (s : Step) → IsSure p x → Reminder (length x.voters) s → Spent (cost v s) v x (run_of p.deal (remind p.deal x s) x)
-one_reminder laws p v x (Ask c) r is = absurd is
-one_reminder laws p v x (Deliver k) r is = absurd is
-one_reminder laws p v x (Leave c) r is = absurd is
-one_reminder laws p v x (GiveUp c) r is = absurd is
-one_reminder laws p v x (RemindClient c) r is = remind_gives laws p 2 v x (RemindClient c) r (reminds_client p x c v r)
-one_reminder laws p v x (RemindVoter u) r is = remind_gives laws p (2 * one_at v u) v x (RemindVoter u) r (reminds_voter p x u v r is)
-one_reminder laws p v x Exchange r is = absurd is
+one_reminder : (laws : Laws) (p : Course) (among : ℕ → Bool) (v : ℕ) (x : WorldState) (s : Step) → IsSure p x → AskAmong among x → Reminder (length x.voters) s
+    → Spent (cost among v s) v x (run_of p.deal (remind p.deal x s) x)
+one_reminder laws p among v x (Ask c) r ask is = absurd is
+one_reminder laws p among v x (Deliver k) r ask is = absurd is
+one_reminder laws p among v x (Leave c) r ask is = absurd is
+one_reminder laws p among v x (GiveUp c) r ask is = absurd is
+one_reminder laws p among v x (RemindClient c) r ask is = remind_gives laws p (2 * one_if (among c)) v x (RemindClient c) r (reminds_client p among x c v r ask)
+one_reminder laws p among v x (RemindVoter u) r ask is = remind_gives laws p (2 * one_at v u) v x (RemindVoter u) r (reminds_voter p x u v r is)
+one_reminder laws p among v x Exchange r ask is = absurd is
 
-abbrev costs : ℕ → List Step → ℕ
-costs v [] = 0
-costs v (s ∷ ss) = cost v s + costs v ss
+reminder_serves : (low voters : ℕ) (s : Step) → Reminder voters s → Serves low s
+reminder_serves low voters (Ask c) is = is
+reminder_serves low voters (Deliver k) is = absurd is
+reminder_serves low voters (Leave c) is = tt
+reminder_serves low voters (GiveUp c) is = is
+reminder_serves low voters (RemindClient c) is = is
+reminder_serves low voters (RemindVoter v) is = tt
+reminder_serves low voters Exchange is = is
 
-reminders_give : (laws : Laws) (p : Course) (v : ℕ) (ss : List Step) (x : WorldState) → IsSure p x → AllByRecursion (Reminder (length x.voters)) ss
-    → Spent (costs v ss) v x (run_of p.deal (remind_all p.deal x ss) x)
+abbrev costs : (ℕ → Bool) → ℕ → List Step → ℕ
+costs among v [] = 0
+costs among v (s ∷ ss) = cost among v s + costs among v ss
+
+reminders_give : (laws : Laws) (p : Course) (among : ℕ → Bool) (v : ℕ) (ss : List Step) (x : WorldState) → IsSure p x → AskAmong among x → AllByRecursion (Reminder (length x.voters)) ss
+    → Spent (costs among v ss) v x (run_of p.deal (remind_all p.deal x ss) x)
 unfolding remind_all
-reminders_give laws p v [] x r are = Spends-self 0 (voter_at x.voters v)
-reminders_give laws p v (s ∷ ss) x r are =
+reminders_give laws p among v [] x r ask are = Spends-self 0 (voter_at x.voters v)
+reminders_give laws p among v (s ∷ ss) x r ask are =
     let first = remind p.deal x s in
     let y = run_of p.deal first x in
     let rest = remind_all p.deal y ss in
+    let low = length x.sent in
     let grows = Grows-run laws p first x r in
-    subst (λ (z : WorldState). Spent (costs v (s ∷ ss)) v x z) (sym (run_then p.deal first rest x))
-    (Spends-then (cost v s) (costs v ss) (costs v (s ∷ ss)) _ _ _ (omega arith) (one_reminder laws p v x s r are.0)
-    (reminders_give laws p v ss y (IsSure-run p first x r) (subst (λ n. AllByRecursion (Reminder n) ss) (sym grows.voters) are.1)))
+    let ask_y = among_still laws p among low first x r (remind_serves p.deal x s low (reminder_serves low (length x.voters) s are.0) (omega arith)) ask in
+    subst (λ (z : WorldState). Spent (costs among v (s ∷ ss)) v x z) (sym (run_then p.deal first rest x))
+    (Spends-then (cost among v s) (costs among v ss) (costs among v (s ∷ ss)) _ _ _ (omega arith) (one_reminder laws p among v x s r ask are.0)
+    (reminders_give laws p among v ss y (IsSure-run p first x r) ask_y (subst (λ n. AllByRecursion (Reminder n) ss) (sym grows.voters) are.1)))
 
 -- ---- a round
 
-clients_cost : (v low n : ℕ) → costs v (each RemindClient low n) ≡ 2 * n
-unfolding each
-clients_cost v low zero = refl
-clients_cost v low (suc n) = (let rest = clients_cost v (low + 1) n in omega arith)
+-- how many of the n clients from this one on are among these
+abbrev count_from : (ℕ → Bool) → ℕ → ℕ → ℕ
+count_from among low zero = 0
+count_from among low (suc n) = one_if (among low) + count_from among (low + 1) n
 
-voters_cost : (v low n : ℕ) → (costs v (each RemindVoter low n) ≤ 2) × (v < low → costs v (each RemindVoter low n) ≤ 0)
+-- how many clients ask
+abbrev pub askers : WorldState → ℕ
+askers w = count_from (asks_at w) 0 (length w.clients)
+
+pub askers_most : (among : ℕ → Bool) (low n : ℕ) → count_from among low n ≤ n
+askers_most among low zero = omega arith
+askers_most among low (suc n) = (let here = one_most (among low) in let rest = askers_most among (low + 1) n in omega arith)
+
+pub askers_one : (among : ℕ → Bool) (c low n : ℕ) → ((d : ℕ) → d ≢ c → among d ≡ false) → (count_from among low n ≤ 1) × (c < low → count_from among low n ≤ 0)
+askers_one among c low zero others = (omega arith, λ less. omega arith)
+askers_one among c low (suc n) others =
+    let here = one_most (among low) in
+    let rest = askers_one among c (low + 1) n others in
+    elim (cases_eq low c) [
+      | inl same ↦ (let none = rest.1 (omega arith) in (omega arith, λ less. absurd (omega arith)))
+      | inr other ↦
+          let not : one_if (among low) ≡ 0 = ap one_if (others low other) in
+          let few = rest.0 in
+          (omega arith, λ less. (let none = rest.1 (omega arith) in omega arith))
+    ]
+
+clients_cost : (among : ℕ → Bool) (v low n : ℕ) → costs among v (each RemindClient low n) ≡ 2 * count_from among low n
 unfolding each
-voters_cost v low zero = (omega arith, λ less. omega arith)
-voters_cost v low (suc n) =
-    let rest = voters_cost v (low + 1) n in
+clients_cost among v low zero = refl
+clients_cost among v low (suc n) = (let rest = clients_cost among v (low + 1) n in omega arith)
+
+voters_cost : (among : ℕ → Bool) (v low n : ℕ) → (costs among v (each RemindVoter low n) ≤ 2) × (v < low → costs among v (each RemindVoter low n) ≤ 0)
+unfolding each
+voters_cost among v low zero = (omega arith, λ less. omega arith)
+voters_cost among v low (suc n) =
+    let rest = voters_cost among v (low + 1) n in
     elim (cases_eq low v) [
       | inl same ↦
           let one : one_at v low ≡ 1 = ap (λ b. cond b 1 0) (let e : eqb low v ≡ true = grind (arith, nat_tests) in e) in
@@ -441,9 +485,9 @@ voters_cost v low (suc n) =
           (omega arith, λ less. (let none = rest.1 (omega arith) in omega arith))
     ]
 
-costs-append : (v : ℕ) (a b : List Step) → costs v (a ++ b) ≡ costs v a + costs v b
-costs-append v [] b = omega arith
-costs-append v (s ∷ a) b = (let rest = costs-append v a b in omega arith)
+costs-append : (among : ℕ → Bool) (v : ℕ) (a b : List Step) → costs among v (a ++ b) ≡ costs among v a + costs among v b
+costs-append among v [] b = omega arith
+costs-append among v (s ∷ a) b = (let rest = costs-append among v a b in omega arith)
 
 clients_remind : (voters low n : ℕ) → AllByRecursion (Reminder voters) (each RemindClient low n)
 unfolding each
@@ -467,9 +511,10 @@ leaves_give p v low (suc n) x r =
     ] in
     Spends-then 0 0 0 _ _ _ (omega arith) (Spent-same 0 v x y same) (leaves_give p v (low + 1) n y (IsSure-after p x r (Leave low)))
 
-round_gives : (laws : Laws) (p : Course) (v : ℕ) (x : WorldState) → IsSure p x → Spent (2 * length x.clients + 2) v x (run_of p.deal (round_of p.deal x) x)
+round_gives : (laws : Laws) (p : Course) (among : ℕ → Bool) (v : ℕ) (x : WorldState) → IsSure p x → AskAmong among x
+    → Spent (2 * count_from among 0 (length x.clients) + 2) v x (run_of p.deal (round_of p.deal x) x)
 unfolding round_of
-round_gives laws p v x r =
+round_gives laws p among v x r ask =
     let n = length x.clients in
     let m = length x.voters in
     let clients = each RemindClient 0 n in
@@ -477,26 +522,30 @@ round_gives laws p v x r =
     let reminders = remind_all p.deal x (clients ++ voters) in
     let leaves = each Leave 0 n in
     let y = run_of p.deal reminders x in
-    let both = costs-append v clients voters in
-    let first = clients_cost v 0 n in
-    let second = (voters_cost v 0 m).0 in
-    subst (λ (z : WorldState). Spent (2 * n + 2) v x z) (sym (run_then p.deal reminders leaves x))
-    (Spends-then (costs v (clients ++ voters)) 0 (2 * n + 2) _ _ _ (omega arith)
-    (reminders_give laws p v (clients ++ voters) x r (AllByRecursion-append (Reminder m) clients voters (clients_remind m 0 n) (voters_remind m 0 m (omega arith))))
+    let most = 2 * count_from among 0 n + 2 in
+    let both = costs-append among v clients voters in
+    let first = clients_cost among v 0 n in
+    let second = (voters_cost among v 0 m).0 in
+    subst (λ (z : WorldState). Spent most v x z) (sym (run_then p.deal reminders leaves x))
+    (Spends-then (costs among v (clients ++ voters)) 0 most _ _ _ (omega arith)
+    (reminders_give laws p among v (clients ++ voters) x r ask (AllByRecursion-append (Reminder m) clients voters (clients_remind m 0 n) (voters_remind m 0 m (omega arith))))
     (leaves_give p v 0 n y (IsSure-run p reminders x r)))
 
-rounds_give : (laws : Laws) (p : Course) (n k v : ℕ) (x : WorldState) → IsSure p x → length x.clients ≡ n → Spent (k * (2 * n + 2)) v x (run_of p.deal (steps_of (made_rounds p.deal x k)) x)
+rounds_give : (laws : Laws) (p : Course) (among : ℕ → Bool) (a k v : ℕ) (x : WorldState) → IsSure p x → AskAmong among x → count_from among 0 (length x.clients) ≤ a
+    → Spent (k * (2 * a + 2)) v x (run_of p.deal (steps_of (made_rounds p.deal x k)) x)
 unfolding made_rounds
-rounds_give laws p n zero v x r count = Spends-self (0 * (2 * n + 2)) (voter_at x.voters v)
-rounds_give laws p n (suc k) v x r count =
+rounds_give laws p among a zero v x r ask most = Spends-self (0 * (2 * a + 2)) (voter_at x.voters v)
+rounds_give laws p among a (suc k) v x r ask most =
+    let n = length x.clients in
     let first = round_of p.deal x in
     let y = run_of p.deal first x in
     let rest = steps_of (made_rounds p.deal y k) in
-    let product = suc-mul k (2 * n + 2) in
-    subst (λ (z : WorldState). Spent (suc k * (2 * n + 2)) v x z) (sym (run_then p.deal first rest x))
-    (Spends-then (2 * n + 2) (k * (2 * n + 2)) (suc k * (2 * n + 2)) _ _ _ (omega arith)
-    (subst (λ i. Spent (2 * i + 2) v x y) count (round_gives laws p v x r))
-    (rounds_give laws p n k v y (IsSure-run p first x r) ((Grows-run laws p first x r).clients ∙ count)))
+    let product = suc-mul k (2 * a + 2) in
+    let grows = Grows-run laws p first x r in
+    subst (λ (z : WorldState). Spent (suc k * (2 * a + 2)) v x z) (sym (run_then p.deal first rest x))
+    (Spends-then (2 * count_from among 0 n + 2) (k * (2 * a + 2)) (suc k * (2 * a + 2)) _ _ _ (omega arith) (round_gives laws p among v x r ask)
+    (rounds_give laws p among a k v y (IsSure-run p first x r) (among_still laws p among (length x.sent) first x r (round_serves p.deal x) ask)
+    (subst (λ i. count_from among 0 i ≤ a) (sym grows.clients) most)))
 
 -- ---- grants that are left
 
@@ -508,10 +557,10 @@ left_by laws p w steps n left r spent has = λ v within.
     let some = has v (subst (λ m. v < m) (Grows-run laws p steps w r).voters within) in
     omega arith
 
--- k rounds take at most k * (2 * n + 2) grants of each voter, for n clients
-pub rounds_leave : (laws : Laws) (p : Course) (w : WorldState) (k left : ℕ) → IsSure p w → HasGrants (k * (2 * length w.clients + 2) + left) w
+-- k rounds take at most k * (2 * a + 2) grants of each voter, if a clients ask
+pub rounds_leave : (laws : Laws) (p : Course) (w : WorldState) (a k left : ℕ) → IsSure p w → askers w ≤ a → HasGrants (k * (2 * a + 2) + left) w
     → HasGrants left (run_of p.deal (steps_of (made_rounds p.deal w k)) w)
-rounds_leave laws p w k left r = left_by laws p w (steps_of (made_rounds p.deal w k)) (k * (2 * length w.clients + 2)) left r (λ v. rounds_give laws p (length w.clients) k v w r refl)
+rounds_leave laws p w a k left r most = left_by laws p w (steps_of (made_rounds p.deal w k)) (k * (2 * a + 2)) left r (λ v. rounds_give laws p (asks_at w) a k v w r (λ d asks. asks) most)
 
 -- any step takes at most one
 step_gives : (laws : Laws) (x y : WorldState) → IsCoherent x → Moved x y → (v : ℕ) → Spent 1 v x y
