@@ -1,5 +1,5 @@
 -- how many grants of a voter the rounds take that are made
-use Rattle.std.proofs.Common.{◌≡◌, ◌≢◌, ℕ, zero, suc, ◌+◌, ◌*◌, ◌-◌, ◌<◌, ◌≤◌, Bool, true, false, cond, eqb, List, [], ◌∷◌, ◌++◌, length, map, Option, Some, None, Ok, refl, sym, ap, subst, ◌∙◌, inl, inr, arith, append_assoc, length-append}
+use Rattle.std.proofs.Common.{◌≡◌, ◌≢◌, ℕ, zero, suc, ◌+◌, ◌*◌, ◌-◌, ◌<◌, ◌≤◌, Bool, true, false, eqb, List, [], ◌∷◌, ◌++◌, length, map, Option, Some, None, Ok, refl, sym, ap, subst, ◌∙◌, inl, inr, arith, append_assoc, length-append}
 use Rattle.std.specs.Prelude.{nat_lt, slice_get}
 use Rattle.std.specs.List.{AllByRecursion, flat_map}
 use Rattle.std.proofs.Math.Nat.{suc-mul}
@@ -8,7 +8,6 @@ use Rattle.std.proofs.lemmas.Bool.Decides.{nat_tests}
 use Rattle.std.proofs.lemmas.List.{append-nil, map-append}
 use Rattle.std.proofs.lemmas.Option.{none-some, same_Some}
 use Rattle.numbers.specs.Sets.{Ascends}
-use Rattle.numbers.proofs.Lists.{AllByRecursion-append}
 use Rattle.message.specs.declared.message.ClientBody.{ClientBody}
 use Rattle.message.specs.declared.message.ClientBody.TheVariants as to_client
 use Rattle.message.specs.declared.message.Message.{Message}
@@ -28,7 +27,7 @@ use Rattle.world_state.specs.declared.step.Step.{Step}
 use Rattle.world_state.specs.declared.step.Step.TheVariants.{Ask, Deliver, Exchange, GiveUp, Leave, RemindClient, RemindVoter}
 use Rattle.world.specs.Coherence.{IsCoherent}
 use Rattle.world.specs.Runs.{after, run_of}
-use Rattle.world.specs.WayIn.{HasGrants, Serves}
+use Rattle.world.specs.WayIn.{HasGrants}
 use Rattle.world_state.specs.Steps.{Dealing, WorldState, after_voter, client_at, come, if_client, if_voter, say, step, voter_at}
 use Rattle.world.proofs.Plans.{run_then}
 use Rattle.progress.specs.Rounds.{steps_of}
@@ -73,7 +72,7 @@ Spent-same n v x z same = subst (λ (vs : List VoterState). Spends n (voter_at x
 
 -- 1 if these are the same, else 0
 abbrev one_at : ℕ → ℕ → ℕ
-one_at v u = cond (eqb u v) 1 0
+one_at v u = one_if (eqb u v)
 
 -- 1 if the message is to this voter, else 0
 abbrev hits : ℕ → Message → ℕ
@@ -87,7 +86,7 @@ hits_in v (m ∷ ms) = hits v m + hits_in v ms
 voter_gives : (laws : Laws) (x y : WorldState) (k : VoterMoved x y) (v : ℕ) → ((u : ℕ) → voter.IsSound (voter_at x.voters u)) → Spent (one_at v k.message.voter) v x y
 voter_gives laws x y k v sound = each_voter (λ q z. Spends (one_at q k.message.voter) (voter_at x.voters q) z) x y k (
     let w = voter_at x.voters k.message.voter in
-    let own : one_at k.message.voter k.message.voter ≡ 1 = ap (λ b. cond b 1 0) (let e : eqb k.message.voter k.message.voter ≡ true = grind (arith, nat_tests) in e) in
+    let own : one_at k.message.voter k.message.voter ≡ 1 = ap one_if (let e : eqb k.message.voter k.message.voter ≡ true = grind (arith, nat_tests) in e) in
     let few = few_by _ w k.outcome.state (laws.voter.numbers w k.message k.outcome (sound k.message.voter) k.step) in
     record { granted = omega arith; limit = (laws.voter.carries w k.message k.outcome k.step).limit }
     ) (λ q. Spends-self (one_at q k.message.voter) (voter_at x.voters q)) v
@@ -268,16 +267,6 @@ answers_give laws p v low (m ∷ ms) x r are plain =
 
 -- ---- a reminder
 
--- how many grants of this voter the reminder takes, if only some of these clients ask
-abbrev cost : (ℕ → Bool) → ℕ → Step → ℕ
-cost among v (Ask c) = 0
-cost among v (Deliver k) = 0
-cost among v (Leave c) = 0
-cost among v (GiveUp c) = 0
-cost among v (RemindClient c) = 2 * one_if (among c)
-cost among v (RemindVoter u) = 2 * one_at v u
-cost among v Exchange = 0
-
 -- what the reminder sends
 record Reminds (n v : ℕ) (x y : WorldState) : Type 0 where
   more : List Message
@@ -310,11 +299,11 @@ members_meet v low x (u ∷ q) set =
     let rest = members_meet v (u + 1) x q set.2 in
     elim (cases_eq u v) [
       | inl same ↦
-          let one : one_at v u ≡ 1 = ap (λ b. cond b 1 0) (let e : eqb u v ≡ true = grind (arith, nat_tests) in e) in
+          let one : one_at v u ≡ 1 = ap one_if (let e : eqb u v ≡ true = grind (arith, nat_tests) in e) in
           let none = rest.1 (omega arith) in
           (omega arith, λ less. absurd (let least = set.0 in omega arith))
       | inr other ↦
-          let zero_here : one_at v u ≡ 0 = ap (λ b. cond b 1 0) (let e : eqb u v ≡ false = grind (arith, nat_tests) in e) in
+          let zero_here : one_at v u ≡ 0 = ap one_if (let e : eqb u v ≡ false = grind (arith, nat_tests) in e) in
           let few = rest.0 in
           (omega arith, λ less. (let least = set.0 in let none = rest.1 (omega arith) in omega arith))
     ]
@@ -388,56 +377,6 @@ remind_gives laws p n v x s r said =
 
 -- ---- reminders, one after the other
 
--- the step is a reminder of a client, or of one of so many voters
-abbrev Reminder : ℕ → Step → Type 0
-Reminder voters (Ask c) = ⊥
-Reminder voters (Deliver k) = ⊥
-Reminder voters (Leave c) = ⊥
-Reminder voters (GiveUp c) = ⊥
-Reminder voters (RemindClient c) = Unit {0}
-Reminder voters (RemindVoter v) = v < voters
-Reminder voters Exchange = ⊥
-
-one_reminder : (laws : Laws) (p : Course) (among : ℕ → Bool) (v : ℕ) (x : WorldState) (s : Step) → IsSure p x → AskAmong among x → Reminder (length x.voters) s
-    → Spent (cost among v s) v x (run_of p.deal (remind p.deal x s) x)
-one_reminder laws p among v x (Ask c) r ask is = absurd is
-one_reminder laws p among v x (Deliver k) r ask is = absurd is
-one_reminder laws p among v x (Leave c) r ask is = absurd is
-one_reminder laws p among v x (GiveUp c) r ask is = absurd is
-one_reminder laws p among v x (RemindClient c) r ask is = remind_gives laws p (2 * one_if (among c)) v x (RemindClient c) r (reminds_client p among x c v r ask)
-one_reminder laws p among v x (RemindVoter u) r ask is = remind_gives laws p (2 * one_at v u) v x (RemindVoter u) r (reminds_voter p x u v r is)
-one_reminder laws p among v x Exchange r ask is = absurd is
-
-reminder_serves : (low voters : ℕ) (s : Step) → Reminder voters s → Serves low s
-reminder_serves low voters (Ask c) is = is
-reminder_serves low voters (Deliver k) is = absurd is
-reminder_serves low voters (Leave c) is = tt
-reminder_serves low voters (GiveUp c) is = is
-reminder_serves low voters (RemindClient c) is = is
-reminder_serves low voters (RemindVoter v) is = tt
-reminder_serves low voters Exchange is = is
-
-abbrev costs : (ℕ → Bool) → ℕ → List Step → ℕ
-costs among v [] = 0
-costs among v (s ∷ ss) = cost among v s + costs among v ss
-
-reminders_give : (laws : Laws) (p : Course) (among : ℕ → Bool) (v : ℕ) (ss : List Step) (x : WorldState) → IsSure p x → AskAmong among x → AllByRecursion (Reminder (length x.voters)) ss
-    → Spent (costs among v ss) v x (run_of p.deal (remind_all p.deal x ss) x)
-unfolding remind_all
-reminders_give laws p among v [] x r ask are = Spends-self 0 (voter_at x.voters v)
-reminders_give laws p among v (s ∷ ss) x r ask are =
-    let first = remind p.deal x s in
-    let y = run_of p.deal first x in
-    let rest = remind_all p.deal y ss in
-    let low = length x.sent in
-    let grows = Grows-run laws p first x r in
-    let ask_y = among_still laws p among low first x r (remind_serves p.deal x s low (reminder_serves low (length x.voters) s are.0) (omega arith)) ask in
-    subst (λ (z : WorldState). Spent (costs among v (s ∷ ss)) v x z) (sym (run_then p.deal first rest x))
-    (Spends-then (cost among v s) (costs among v ss) (costs among v (s ∷ ss)) _ _ _ (omega arith) (one_reminder laws p among v x s r ask are.0)
-    (reminders_give laws p among v ss y (IsSure-run p first x r) ask_y (subst (λ n. AllByRecursion (Reminder n) ss) (sym grows.voters) are.1)))
-
--- ---- a round
-
 -- how many of the n clients from this one on are among these
 abbrev count_from : (ℕ → Bool) → ℕ → ℕ → ℕ
 count_from among low zero = 0
@@ -451,11 +390,11 @@ pub askers_most : (among : ℕ → Bool) (low n : ℕ) → count_from among low 
 askers_most among low zero = omega arith
 askers_most among low (suc n) = (let here = one_most (among low) in let rest = askers_most among (low + 1) n in omega arith)
 
-pub askers_one : (among : ℕ → Bool) (c low n : ℕ) → ((d : ℕ) → d ≢ c → among d ≡ false) → (count_from among low n ≤ 1) × (c < low → count_from among low n ≤ 0)
-askers_one among c low zero others = (omega arith, λ less. omega arith)
-askers_one among c low (suc n) others =
+pub one_from : (among : ℕ → Bool) (c low n : ℕ) → ((d : ℕ) → d ≢ c → among d ≡ false) → (count_from among low n ≤ 1) × (c < low → count_from among low n ≤ 0)
+one_from among c low zero others = (omega arith, λ less. omega arith)
+one_from among c low (suc n) others =
     let here = one_most (among low) in
-    let rest = askers_one among c (low + 1) n others in
+    let rest = one_from among c (low + 1) n others in
     elim (cases_eq low c) [
       | inl same ↦ (let none = rest.1 (omega arith) in (omega arith, λ less. absurd (omega arith)))
       | inr other ↦
@@ -464,40 +403,47 @@ askers_one among c low (suc n) others =
           (omega arith, λ less. (let none = rest.1 (omega arith) in omega arith))
     ]
 
-clients_cost : (among : ℕ → Bool) (v low n : ℕ) → costs among v (each RemindClient low n) ≡ 2 * count_from among low n
-unfolding each
-clients_cost among v low zero = refl
-clients_cost among v low (suc n) = (let rest = clients_cost among v (low + 1) n in omega arith)
+clients_give : (laws : Laws) (p : Course) (among : ℕ → Bool) (v low n : ℕ) (x : WorldState) → IsSure p x → AskAmong among x
+    → Spent (2 * count_from among low n) v x (run_of p.deal (remind_all p.deal x (each RemindClient low n)) x)
+unfolding remind_all each
+clients_give laws p among v low zero x r ask = Spends-self 0 (voter_at x.voters v)
+clients_give laws p among v low (suc n) x r ask =
+    let first = remind p.deal x (RemindClient low) in
+    let y = run_of p.deal first x in
+    let rest = remind_all p.deal y (each RemindClient (low + 1) n) in
+    let sent = length x.sent in
+    let ask_y = among_still laws p among sent first x r (remind_serves p.deal x (RemindClient low) sent tt (omega arith)) ask in
+    subst (λ (z : WorldState). Spent (2 * count_from among low (suc n)) v x z) (sym (run_then p.deal first rest x))
+    (Spends-then (2 * one_if (among low)) (2 * count_from among (low + 1) n) (2 * count_from among low (suc n)) _ _ _ (omega arith)
+    (remind_gives laws p (2 * one_if (among low)) v x (RemindClient low) r (reminds_client p among x low v r ask))
+    (clients_give laws p among v (low + 1) n y (IsSure-run p first x r) ask_y))
 
-voters_cost : (among : ℕ → Bool) (v low n : ℕ) → (costs among v (each RemindVoter low n) ≤ 2) × (v < low → costs among v (each RemindVoter low n) ≤ 0)
-unfolding each
-voters_cost among v low zero = (omega arith, λ less. omega arith)
-voters_cost among v low (suc n) =
-    let rest = voters_cost among v (low + 1) n in
-    elim (cases_eq low v) [
-      | inl same ↦
-          let one : one_at v low ≡ 1 = ap (λ b. cond b 1 0) (let e : eqb low v ≡ true = grind (arith, nat_tests) in e) in
-          let none = rest.1 (omega arith) in
-          (omega arith, λ less. absurd (omega arith))
-      | inr other ↦
-          let zero_here : one_at v low ≡ 0 = ap (λ b. cond b 1 0) (let e : eqb low v ≡ false = grind (arith, nat_tests) in e) in
-          let few = rest.0 in
-          (omega arith, λ less. (let none = rest.1 (omega arith) in omega arith))
-    ]
+voters_give : (laws : Laws) (p : Course) (v low n : ℕ) (x : WorldState) → IsSure p x → low + n ≤ length x.voters
+    → Spent (2 * count_from (λ u. eqb u v) low n) v x (run_of p.deal (remind_all p.deal x (each RemindVoter low n)) x)
+unfolding remind_all each
+voters_give laws p v low zero x r most = Spends-self 0 (voter_at x.voters v)
+voters_give laws p v low (suc n) x r most =
+    let first = remind p.deal x (RemindVoter low) in
+    let y = run_of p.deal first x in
+    let rest = remind_all p.deal y (each RemindVoter (low + 1) n) in
+    let grows = Grows-run laws p first x r in
+    let same = grows.voters in
+    subst (λ (z : WorldState). Spent (2 * count_from (λ u. eqb u v) low (suc n)) v x z) (sym (run_then p.deal first rest x))
+    (Spends-then (2 * one_at v low) (2 * count_from (λ u. eqb u v) (low + 1) n) (2 * count_from (λ u. eqb u v) low (suc n)) _ _ _ (omega arith)
+    (remind_gives laws p (2 * one_at v low) v x (RemindVoter low) r (reminds_voter p x low v r (omega arith)))
+    (voters_give laws p v (low + 1) n y (IsSure-run p first x r) (omega arith)))
 
-costs-append : (among : ℕ → Bool) (v : ℕ) (a b : List Step) → costs among v (a ++ b) ≡ costs among v a + costs among v b
-costs-append among v [] b = omega arith
-costs-append among v (s ∷ a) b = (let rest = costs-append among v a b in omega arith)
+reminders_then : (deal : Dealing) (a b : List Step) (x : WorldState)
+    → run_of deal (remind_all deal x (a ++ b)) x ≡ run_of deal (remind_all deal (run_of deal (remind_all deal x a) x) b) (run_of deal (remind_all deal x a) x)
+unfolding remind_all
+reminders_then deal [] b x = refl
+reminders_then deal (s ∷ a) b x =
+    let first = remind deal x s in
+    let y = run_of deal first x in
+    run_then deal first (remind_all deal y (a ++ b)) x ∙ reminders_then deal a b y
+    ∙ ap (λ (z : WorldState). run_of deal (remind_all deal z b) z) (sym (run_then deal first (remind_all deal y a) x))
 
-clients_remind : (voters low n : ℕ) → AllByRecursion (Reminder voters) (each RemindClient low n)
-unfolding each
-clients_remind voters low zero = tt
-clients_remind voters low (suc n) = (tt, clients_remind voters (low + 1) n)
-
-voters_remind : (voters low n : ℕ) → low + n ≤ voters → AllByRecursion (Reminder voters) (each RemindVoter low n)
-unfolding each
-voters_remind voters low zero most = tt
-voters_remind voters low (suc n) most = (omega arith, voters_remind voters (low + 1) n (omega arith))
+-- ---- a round
 
 leaves_give : (p : Course) (v low n : ℕ) (x : WorldState) → IsSure p x → Spent 0 v x (run_of p.deal (each Leave low n) x)
 unfolding each arrives
@@ -519,17 +465,18 @@ round_gives laws p among v x r ask =
     let m = length x.voters in
     let clients = each RemindClient 0 n in
     let voters = each RemindVoter 0 m in
-    let reminders = remind_all p.deal x (clients ++ voters) in
     let leaves = each Leave 0 n in
-    let y = run_of p.deal reminders x in
-    let most = 2 * count_from among 0 n + 2 in
-    let both = costs-append among v clients voters in
-    let first = clients_cost among v 0 n in
-    let second = (voters_cost among v 0 m).0 in
-    subst (λ (z : WorldState). Spent most v x z) (sym (run_then p.deal reminders leaves x))
-    (Spends-then (costs among v (clients ++ voters)) 0 most _ _ _ (omega arith)
-    (reminders_give laws p among v (clients ++ voters) x r ask (AllByRecursion-append (Reminder m) clients voters (clients_remind m 0 n) (voters_remind m 0 m (omega arith))))
-    (leaves_give p v 0 n y (IsSure-run p reminders x r)))
+    let first = remind_all p.deal x clients in
+    let y = run_of p.deal first x in
+    let ry = IsSure-run p first x r in
+    let second = remind_all p.deal y voters in
+    let z = run_of p.deal second y in
+    let own = (one_from (λ u. eqb u v) v 0 m (λ u other. (let e : eqb u v ≡ false = grind (arith, nat_tests) in e))).0 in
+    let goes = run_then p.deal (remind_all p.deal x (clients ++ voters)) leaves x ∙ ap (run_of p.deal leaves) (reminders_then p.deal clients voters x) in
+    subst (λ (u : WorldState). Spent (2 * count_from among 0 n + 2) v x u) (sym goes)
+    (Spends-then (2 * count_from among 0 n) 2 (2 * count_from among 0 n + 2) _ _ _ (omega arith) (clients_give laws p among v 0 n x r ask)
+    (Spends-then (2 * count_from (λ u. eqb u v) 0 m) 0 2 _ _ _ (omega arith) (voters_give laws p v 0 m y ry (let same = (Grows-run laws p first x r).voters in omega arith))
+    (leaves_give p v 0 n z (IsSure-run p second y ry))))
 
 rounds_give : (laws : Laws) (p : Course) (among : ℕ → Bool) (a k v : ℕ) (x : WorldState) → IsSure p x → AskAmong among x → count_from among 0 (length x.clients) ≤ a
     → Spent (k * (2 * a + 2)) v x (run_of p.deal (steps_of (made_rounds p.deal x k)) x)
@@ -568,13 +515,9 @@ step_gives laws x y ok moved v = elim moved [
   | inl client ↦ Spent-same 1 v x y client.voters
   | inr (inl voter) ↦
       let gives = voter_gives laws x y voter v ok.voters in
-      record { granted = (let few = gives.granted in let one = at_most_one (eqb voter.message.voter v) in omega arith); limit = gives.limit }
+      record { granted = (let few = gives.granted in let one = one_most (eqb voter.message.voter v) in omega arith); limit = gives.limit }
   | inr (inr sent) ↦ Spent-same 1 v x y sent.voters
 ]
-  where
-    at_most_one : (b : Bool) → cond {A = ℕ} b 1 0 ≤ 1
-    at_most_one true = omega arith
-    at_most_one false = omega arith
 
 steps_give : (laws : Laws) (p : Course) (v : ℕ) (steps : List Step) (x : WorldState) → IsSure p x → Spent (length steps) v x (run_of p.deal steps x)
 steps_give laws p v [] x r = Spends-self 0 (voter_at x.voters v)

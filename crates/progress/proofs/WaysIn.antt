@@ -31,7 +31,7 @@ use Rattle.progress.proofs.Behind.{meets}
 use Rattle.progress.proofs.Making.{are_timely, asked_before, made_rounds, rounds_serve}
 use Rattle.progress.proofs.Moves.{Makes, MovedBy, MovedBy-step}
 use Rattle.progress.proofs.Olds.{AreOld, olds_of}
-use Rattle.progress.proofs.Spending.{askers, askers_most, askers_one, rounds_leave}
+use Rattle.progress.proofs.Spending.{askers, askers_most, one_from, rounds_leave}
 use Rattle.progress.proofs.Sure.{Course, IsSure, IsSure-after}
 use Rattle.progress.proofs.Turns.{all_give_ups, all_turns, asks_at, idle_not_asking, one_if, own_give_ups, shown, sum_has, turn, turns}
 use Rattle.progress.proofs.Waiting.{asks_on, blocks_turn, one_most}
@@ -240,7 +240,7 @@ alone_gets_in laws p w c k few r alone enough has =
       | inl same ↦ ap (λ i. is_inside (client_at w.clients i).phase) same ∙ is_asking-outside (client_at w.clients c).phase alone.asks
       | inr other ↦ is_idle-outside (client_at w.clients d).phase (alone.others d other)
     ] in
-    let one : askers w ≤ 1 = (askers_one (asks_at w) c 0 (length w.clients) (λ d other. idle_not_asking (client_at w.clients d).phase (alone.others d other))).0 in
+    let one : askers w ≤ 1 = (one_from (asks_at w) c 0 (length w.clients) (λ d other. idle_not_asking (client_at w.clients d).phase (alone.others d other))).0 in
     let e = somebody_first laws p w 1 c k few r (record { client = alone.client; asks = alone.asks }) free enough one has in
     elim (cases_eq e.who c) [
       | inl same ↦ (e.steps, record { helps = e.helps; enters = e.enters ∙ ap (λ i. w.visible ++ events i Entered) same })
