@@ -27,7 +27,7 @@ use world::parts_keep_their_rules;
 /// - A client that asks gets in by reminders, by new messages, and by clients that leave.
 ///
 /// All but the first are for voters with grants left. The second and the third need one, as in `progress`. The
-/// last three need v * (n + 5) * (2 n + 2) more than in `progress`, for v voters and n clients.
+/// last three need grants for v * (n + 5) fair rounds more than in `progress`, for v voters and n clients.
 pub fn progress_comes_back()
     ensures overtaken { (deal : Dealing) (w : WorldState) (client other : ℕ) (steps : List Step) (more : List Event)
         → IsReachedAgain deal w → IsKnownEverywhere w client → other ≢ client → StillRuns w (run_of deal steps w) client
@@ -37,11 +37,11 @@ pub fn progress_comes_back()
     ensures returned { (deal : Dealing) (w : WorldState) (voter : ℕ) (grant : Grant)
         → IsReachedAgain deal w → HasReturnedVote w voter grant → GoesOn deal w voter grant }
     ensures alone { (deal : Dealing) (w : WorldState) (client : ℕ) → IsReachedAgain deal w → AsksAlone w client
-        → HasGrants (grants_for (length w.clients) (length w.voters + 1)) w → (steps : List Step) × IsWayIn deal w client steps }
+        → HasGrants (grants_for 1 (length w.clients) (length w.voters + 1)) w → (steps : List Step) × IsWayIn deal w client steps }
     ensures somebody { (deal : Dealing) (w : WorldState) (client : ℕ) → IsReachedAgain deal w → Asks w client → IsFree w
-        → HasGrants (grants_for (length w.clients) (length w.voters + 1)) w → (steps : List Step) × (who : ℕ) × IsWayIn deal w who steps }
+        → HasGrants (grants_for (length w.clients) (length w.clients) (length w.voters + 1)) w → (steps : List Step) × (who : ℕ) × IsWayIn deal w who steps }
     ensures everybody { (deal : Dealing) (w : WorldState) (client : ℕ) → IsReachedAgain deal w → Asks w client
-        → HasGrants (grants_for (length w.clients) (length w.clients + length w.voters)) w
+        → HasGrants (grants_for (length w.clients) (length w.clients) (length w.clients + length w.voters)) w
         → (steps : List Step) × GetsIn deal w client steps }
 {
     worlds_keep_their_rules();

@@ -107,9 +107,6 @@ asks_no_vote y m o ok g cases step held asked = no_vote_by m.body y m o refl ok 
 abbrev pub NotBehind : WorldState → ℕ → ℕ → WorldState → Type 0
 NotBehind w m v x = (g : Grant) → (voter_at x.voters v).held ≡ Some g → precedes (the_request w m) (request_of g) ≡ false
 
-precedes-self : (r : Request) → precedes r r ≡ false
-precedes-self r = grind (arith, nat_tests)
-
 -- a grant of the request itself is not behind it
 pub own_not : (g : Grant) (m s : ℕ) → g.client ≡ m → g.stamp ≡ s → precedes (record { stamp = s; client = m }) (request_of g) ≡ false
 own_not g m s client stamp = grind (arith, nat_tests)

@@ -248,7 +248,7 @@ new_order laws y m o c s g ok step before entry held new = elim entry [
 ]
 
 -- the grant is as before, or it is the next one
-pub grant_moves : (frees : Bool) (y z : VoterState) (g : Grant) → VoteMoves frees y z → z.held ≡ Some g → (y.held ≡ Some g) ⊎ (g.grant ≡ y.granted + 1)
+grant_moves : (frees : Bool) (y z : VoterState) (g : Grant) → VoteMoves frees y z → z.held ≡ Some g → (y.held ≡ Some g) ⊎ (g.grant ≡ y.granted + 1)
 grant_moves true y z g (inl ends) held = absurd (none-some g (sym ends.held ∙ held))
 grant_moves true y z g (inr new) held = inr (ap (λ (h : Grant). h.grant) (same_Some g new.grant (sym held ∙ new.held)) ∙ new.number)
 grant_moves false y z g (inl stays) held = inl (sym stays.held ∙ held)

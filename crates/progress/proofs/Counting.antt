@@ -95,7 +95,7 @@ Counted-enters w c d n x y asks not_asks later by h =
 
 -- ---- who enters
 
-pub outside_asks : (p : Phase) → is_idle p ≡ false → is_inside p ≡ false → is_asking p ≡ true
+outside_asks : (p : Phase) → is_idle p ≡ false → is_inside p ≡ false → is_asking p ≡ true
 outside_asks Idle idle inside = absurd (false≢true (sym idle))
 outside_asks Asking idle inside = refl
 outside_asks Inside idle inside = absurd (false≢true (sym inside))

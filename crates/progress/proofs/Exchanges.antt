@@ -137,7 +137,7 @@ get_sent (x ∷ sent) out k m within is =
     (get_sent sent out k m within is)
 
 -- a message of the reminder arrives
-pub after-said : (deal : Dealing) (w : WorldState) (c : ℕ) (m : ToVoter) (o : voter.Outcome) → c < length w.clients → (there : Contains (requester.remind (client_at w.clients c)) m)
+after-said : (deal : Dealing) (w : WorldState) (c : ℕ) (m : ToVoter) (o : voter.Outcome) → c < length w.clients → (there : Contains (requester.remind (client_at w.clients c)) m)
     → voter.step (voter_at w.voters m.voter) m ≡ Some o
     → run_of deal (RemindClient c ∷ Deliver (length w.sent + there.0) ∷ []) w ≡ (voter_did (spoken w c) m.voter o).state
 unfolding spoken

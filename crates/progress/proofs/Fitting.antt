@@ -111,7 +111,7 @@ record Vote (c v : ℕ) (x z : ClientState) (y : VoterState) : Type 0 where
   before : (n : ℕ) → holds_under x v n ≡ true → Names y.held c x.stamp n
   now : (n : ℕ) → holds_under z v n ≡ true → Names y.held c z.stamp n
 
-pub grant_is : (o : Option Grant) (g : Grant) (c s n : ℕ) → o ≡ Some g → Names o c s n → g.grant ≡ n
+grant_is : (o : Option Grant) (g : Grant) (c s n : ℕ) → o ≡ Some g → Names o c s n → g.grant ≡ n
 grant_is o g c s n held names = ap (λ (h : Grant). h.grant) (same_Some g (record { client = c; stamp = s; grant = n }) (sym held ∙ names))
 
 -- the grant by which a client holds a vote is the one that has it

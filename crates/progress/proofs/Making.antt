@@ -1,8 +1,8 @@
 -- how to make fair rounds
-use Rattle.std.proofs.Common.{◌≡◌, ℕ, zero, suc, ◌+◌, ◌-◌, ◌<◌, ◌≤◌, Bool, true, false, List, [], ◌∷◌, ◌++◌, length, map, Option, None, Some, Ok, Err, refl, sym, ap, subst, ◌∙◌, inl, inr, arith, append_assoc, length-append}
+use Rattle.std.proofs.Common.{◌≡◌, ℕ, zero, suc, ◌+◌, ◌-◌, ◌<◌, ◌≤◌, false, List, [], ◌∷◌, ◌++◌, length, map, Option, None, Some, Ok, Err, refl, sym, ap, subst, ◌∙◌, inl, inr, arith, append_assoc, length-append, Bool, true}
 use Rattle.std.specs.Prelude.{if◌then◌else◌, nat_lt, slice_get, slice_index_or}
 use Rattle.std.specs.List.{AllByRecursion, Contains, range_with_len}
-use Rattle.std.proofs.lemmas.Bool.{cases_eq}
+use Rattle.std.proofs.lemmas.Bool.{cases_eq, false≢true}
 use Rattle.std.proofs.lemmas.Bool.Decides.{nat_tests}
 use Rattle.std.proofs.lemmas.List.{append-nil}
 use Rattle.std.proofs.lemmas.List.Elements.{Contains-append_cases, Contains-append_left, Contains-append_right}
@@ -11,24 +11,31 @@ use Rattle.message.specs.declared.message.Message.{Message}
 use Rattle.message.specs.declared.message.Message.TheVariants as kinds
 use Rattle.message.specs.declared.message.VoterBody.{VoterBody}
 use Rattle.message.specs.declared.message.VoterBody.TheVariants as asks
-use Rattle.voter.specs.VoteMoves.{VoteMoves}
-use Rattle.voter.specs.declared.state.VoterState.{VoterState}
 use Rattle.requester.proofs.RangeLemmas.{is_inside-busy}
+use Rattle.requester.proofs.SoundSteps.{is_asking-busy, is_asking-outside}
+use Rattle.requester.specs.Steps as requester
+use Rattle.requester.specs.RequesterContract.{KeepsQuorum}
+use Rattle.requester.specs.Words.{is_asking, is_idle, is_inside}
+use Rattle.requester.specs.declared.state.ClientState.{ClientState}
+use Rattle.requester.specs.declared.state.Phase.TheVariants.{Asking, Idle, Inside}
+use Rattle.requester.specs.declared.state.Phase.{Phase}
 use Rattle.world_state.specs.declared.step.Step.{Step}
 use Rattle.world_state.specs.declared.step.Step.TheVariants.{Ask, Deliver, Exchange, GiveUp, Leave, RemindClient, RemindVoter}
 use Rattle.world.specs.Coherence.{IsCoherent}
 use Rattle.world.specs.Runs.{after, run_of}
-use Rattle.world_state.specs.Steps.{Dealing, WorldState, client_at, step, voter_at}
+use Rattle.world_state.specs.Steps.{Dealing, WorldState, client_at, step}
 use Rattle.world.proofs.Added.{Adds-step}
 use Rattle.world.proofs.Plans.{run_then}
+use Rattle.progress.proofs.Behind.{meets}
+use Rattle.progress.proofs.Moves.{Makes, MovedBy, MovedBy-step}
+use Rattle.progress.proofs.Sure.{Course, IsSure, IsSure-after}
+use Rattle.progress.proofs.Turns.{asks_at}
 use Rattle.progress.specs.Rounds.{IsAnswered, IsFairRound, IsReminded, IsTimely, give_up, give_ups_in, late_body, late_message, late_step, late_steps, steps_of}
-use Rattle.progress.specs.Rules.{Laws, VoterLaws}
-use Rattle.world.specs.WayIn.{HasGrants, Serves}
+use Rattle.world.specs.WayIn.{Serves}
 use Rattle.progress.proofs.Along.{next}
 use Rattle.progress.proofs.Known.{within_by}
 use Rattle.progress.proofs.Longer.{IsAnswered-more, IsReminded-more, contains_here, contains_next}
-use Rattle.progress.proofs.Moves.{Moved, Moved-step, each_voter}
-use Rattle.progress.proofs.Sure.{Course, IsSure, IsSure-after}
+use Rattle.progress.specs.Rules.{Laws}
 
 -- ---- the same step for each of some numbers
 
@@ -161,7 +168,7 @@ answer_all_serves deal u low (suc n) sent least most =
     AllByRecursion-append (Serves sent) (answer deal u low) (answer_all deal y (low + 1) n) (answer_serves deal u low sent least most)
     (answer_all_serves deal y (low + 1) n sent (omega arith) (omega arith))
 
-remind_serves : (deal : Dealing) (x : WorldState) (s : Step) (sent : ℕ) → Serves sent s → sent ≤ length x.sent → AllByRecursion (Serves sent) (remind deal x s)
+pub remind_serves : (deal : Dealing) (x : WorldState) (s : Step) (sent : ℕ) → Serves sent s → sent ≤ length x.sent → AllByRecursion (Serves sent) (remind deal x s)
 unfolding remind
 remind_serves deal x s sent serves most =
     let grows = sent_more deal x s in
@@ -229,7 +236,7 @@ unfoldable pub round_of : Dealing → WorldState → List Step
 round_of deal w =
     remind_all deal w (each RemindClient 0 (length w.clients) ++ each RemindVoter 0 (length w.voters)) ++ each Leave 0 (length w.clients)
 
-round_serves : (deal : Dealing) (w : WorldState) → AllByRecursion (Serves (length w.sent)) (round_of deal w)
+pub round_serves : (deal : Dealing) (w : WorldState) → AllByRecursion (Serves (length w.sent)) (round_of deal w)
 unfolding round_of
 round_serves deal w =
     let n = length w.clients in
@@ -305,32 +312,43 @@ rounds_serve deal w (suc k) =
     AllByRecursion-append (Serves (length w.sent)) first later (round_serves deal w)
     (AllByRecursion-weaker (Serves (length u.sent)) (Serves (length w.sent)) (λ s. serves_later (length w.sent) (length u.sent) s (sent_run deal first w)) later (rounds_serve deal u k))
 
--- ---- a step gives at most one grant
+-- ---- by steps that serve nobody begins to ask
 
-pub few_by : (frees : Bool) (y z : VoterState) → VoteMoves frees y z → z.granted ≤ y.granted + 1
-few_by true y z (inl ends) = let same = ends.granted in omega arith
-few_by true y z (inr new) = let more = new.granted in omega arith
-few_by false y z (inl stays) = let same = stays.granted in omega arith
-few_by false y z (inr new) = let more = new.1.granted in omega arith
+asking_by : (q : Phase) → is_idle q ≡ false → (is_inside q ≡ true → ⊥) → is_asking q ≡ true
+asking_by Idle busy outside = absurd (false≢true (sym busy))
+asking_by Asking busy outside = refl
+asking_by Inside busy outside = absurd (outside refl)
 
-one_left : (laws : VoterLaws) (w u : WorldState) → IsCoherent w → Moved w u → (n : ℕ) → HasGrants (suc n) w → HasGrants n u
-one_left laws w u ok (inl k) n left v within =
-    let some = subst (λ (vs : List VoterState). (voter_at vs v).granted + suc n ≤ (voter_at vs v).limit) (sym k.voters) (left v (let same = ap length k.voters in omega arith)) in
-    omega arith
-one_left laws w u ok (inr (inl k)) n left v within =
-    let y = voter_at w.voters k.message.voter in
-    let few = few_by _ y k.outcome.state (laws.numbers y k.message k.outcome (ok.voters k.message.voter) k.step) in
-    let same = (laws.carries y k.message k.outcome k.step).limit in
-    each_voter (λ q z. q < length w.voters → z.granted + n ≤ z.limit) w u k
-    (λ there. (let some = left k.message.voter there in omega (arith, few, same)))
-    (λ q there. (let some = left q there in omega arith)) v (let count = k.count in omega arith)
-one_left laws w u ok (inr (inr k)) n left v within =
-    let some = subst (λ (vs : List VoterState). (voter_at vs v).granted + suc n ≤ (voter_at vs v).limit) (sym k.voters) (left v (let same = ap length k.voters in omega arith)) in
-    omega arith
+asked_by : (low : ℕ) (s : Step) (who : ℕ) (x : ClientState) (cause : requester.Cause) (y : ClientState) → Makes s who cause → Serves low s → KeepsQuorum x cause y → is_asking y.phase ≡ true
+    → is_asking x.phase ≡ true
+asked_by low s who x (requester.Asks q) y makes serves keeps asks = absurd (subst (Serves low) makes serves)
+asked_by low s who x (requester.Takes m) y makes serves keeps asks =
+    asking_by x.phase (sym keeps.1 ∙ is_asking-busy y.phase asks) (λ inside. false≢true (sym (is_asking-outside y.phase asks) ∙ keeps.2 inside))
+asked_by low s who x requester.Leaves y makes serves keeps asks = absurd (false≢true (sym (is_asking-busy y.phase asks) ∙ keeps.1))
+asked_by low s who x requester.GivesUp y makes serves keeps asks = absurd (false≢true (sym (is_asking-busy y.phase asks) ∙ keeps.1))
 
-pub grants_left : (laws : Laws) (p : Course) (steps : List Step) (x : WorldState) → IsSure p x → (n : ℕ) → HasGrants (length steps + n) x → HasGrants n (run_of p.deal steps x)
-grants_left laws p [] x r n left = λ v within. (let some = left v within in omega arith)
-grants_left laws p (s ∷ steps) x r n left =
+pub asked_before : (laws : Laws) (low : ℕ) (s : Step) (x y : WorldState) → IsCoherent x → IsCoherent y → MovedBy s x y → Serves low s → (d : ℕ) → asks_at y d ≡ true → asks_at x d ≡ true
+asked_before laws low s x y ok now moved serves d asks = elim moved [
+  | inl client ↦
+      let k = client.0 in
+      elim (cases_eq d k.who) [
+        | inl same ↦ ap (asks_at x) same ∙ asked_by low s k.who (client_at x.clients k.who) k.cause k.outcome.state client.1 serves (meets laws.client x y ok now k).quorum
+            (ap (λ (z : ClientState). is_asking z.phase) (sym k.here) ∙ ap (asks_at y) (sym same) ∙ asks)
+        | inr other ↦ ap (λ (z : ClientState). is_asking z.phase) (sym (k.others d other)) ∙ asks
+      ]
+  | inr (inl voter) ↦ ap (λ (cs : List ClientState). is_asking (client_at cs d).phase) (sym voter.0.clients) ∙ asks
+  | inr (inr sent) ↦ ap (λ (cs : List ClientState). is_asking (client_at cs d).phase) (sym sent.clients) ∙ asks
+]
+
+-- of these clients alone some ask
+abbrev pub AskAmong : (ℕ → Bool) → WorldState → Type 0
+AskAmong among x = (d : ℕ) → asks_at x d ≡ true → among d ≡ true
+
+pub among_still : (laws : Laws) (p : Course) (among : ℕ → Bool) (low : ℕ) (steps : List Step) (x : WorldState) → IsSure p x → AllByRecursion (Serves low) steps → AskAmong among x
+    → AskAmong among (run_of p.deal steps x)
+among_still laws p among low [] x r serve ask = ask
+among_still laws p among low (s ∷ steps) x r serve ask =
+    let y = next p.deal x s in
     let ok = (r []).coherent in
-    grants_left laws p steps (next p.deal x s) (IsSure-after p x r s) n
-    (one_left laws.voter x (next p.deal x s) ok (Moved-step p.deal x ok.numbered s) (length steps + n) (λ v within. (let some = left v within in omega arith)))
+    among_still laws p among low steps y (IsSure-after p x r s) serve.1
+    (λ d asks. ask d (asked_before laws low s x y ok (r (s ∷ [])).coherent (MovedBy-step p.deal x ok.numbered s) serve.0 d asks))

@@ -230,10 +230,6 @@ each_but P X Y v others here before q = elim (cases_eq q v) as (λ _. P q (Y q))
   | inr other ↦ subst (P q) (sym (others q other)) (before q)
 ]
 
-pub each_set : (P : ℕ → ClientState → Type 0) (cs : List ClientState) (c : ℕ) (x : ClientState) → c < length cs → P c x → ((q : ℕ) → P q (client_at cs q))
-    → (q : ℕ) → P q (client_at (set cs c x) q)
-each_set P cs c x within here = each_but P (client_at cs) (client_at (set cs c x)) c (client_others cs c x) (subst (P c) (sym (client_here cs c x within)) here)
-
 pub each_client : (P : ℕ → ClientState → Type 0) (w u : WorldState) (k : ClientMoved w u) → P k.who (client_at u.clients k.who) → ((c : ℕ) → P c (client_at w.clients c))
     → (c : ℕ) → P c (client_at u.clients c)
 each_client P w u k = each_but P (client_at w.clients) (client_at u.clients) k.who k.others

@@ -1,14 +1,13 @@
 -- how many grants of a voter the rounds take that are made
-use Rattle.std.proofs.Common.{◌≡◌, ℕ, zero, suc, ◌+◌, ◌*◌, ◌-◌, ◌<◌, ◌≤◌, Bool, true, false, cond, eqb, List, [], ◌∷◌, ◌++◌, length, map, Option, Some, None, Ok, refl, sym, ap, subst, ◌∙◌, inl, inr, arith, append_assoc, length-append}
+use Rattle.std.proofs.Common.{◌≡◌, ◌≢◌, ℕ, zero, suc, ◌+◌, ◌*◌, ◌-◌, ◌<◌, ◌≤◌, Bool, true, false, eqb, List, [], ◌∷◌, ◌++◌, length, map, Option, Some, None, Ok, refl, sym, ap, subst, ◌∙◌, inl, inr, arith, append_assoc, length-append}
 use Rattle.std.specs.Prelude.{nat_lt, slice_get}
 use Rattle.std.specs.List.{AllByRecursion, flat_map}
 use Rattle.std.proofs.Math.Nat.{suc-mul}
-use Rattle.std.proofs.lemmas.Bool.{cases_eq, false≢true}
+use Rattle.std.proofs.lemmas.Bool.{cases_eq}
 use Rattle.std.proofs.lemmas.Bool.Decides.{nat_tests}
 use Rattle.std.proofs.lemmas.List.{append-nil, map-append}
-use Rattle.std.proofs.lemmas.Option.{same_Some}
+use Rattle.std.proofs.lemmas.Option.{none-some, same_Some}
 use Rattle.numbers.specs.Sets.{Ascends}
-use Rattle.numbers.proofs.Lists.{AllByRecursion-append}
 use Rattle.message.specs.declared.message.ClientBody.{ClientBody}
 use Rattle.message.specs.declared.message.ClientBody.TheVariants as to_client
 use Rattle.message.specs.declared.message.Message.{Message}
@@ -19,12 +18,14 @@ use Rattle.requester.specs.declared.state.ClientState.{ClientState}
 use Rattle.requester.specs.declared.state.Phase.{Phase}
 use Rattle.requester.specs.declared.state.Phase.TheVariants.{Asking, Idle, Inside}
 use Rattle.requester.specs.Steps as requester
-use Rattle.requester.specs.Words.{holds, is_covered, is_relinquished, members}
+use Rattle.requester.specs.Words.{holds, is_asking, is_covered, is_relinquished, members}
 use Rattle.voter.specs.declared.state.Grant.{Grant}
 use Rattle.voter.specs.declared.state.VoterState.{VoterState}
 use Rattle.voter.specs.Steps as voter
+use Rattle.voter.specs.VoteMoves.{VoteMoves}
 use Rattle.world_state.specs.declared.step.Step.{Step}
 use Rattle.world_state.specs.declared.step.Step.TheVariants.{Ask, Deliver, Exchange, GiveUp, Leave, RemindClient, RemindVoter}
+use Rattle.world.specs.Coherence.{IsCoherent}
 use Rattle.world.specs.Runs.{after, run_of}
 use Rattle.world.specs.WayIn.{HasGrants}
 use Rattle.world_state.specs.Steps.{Dealing, WorldState, after_voter, client_at, come, if_client, if_voter, say, step, voter_at}
@@ -35,9 +36,11 @@ use Rattle.progress.proofs.Along.{next}
 use Rattle.progress.proofs.Arrivals.{client_takes, message_stays}
 use Rattle.progress.proofs.Exchanges.{get_next}
 use Rattle.progress.proofs.Longer.{Grows-run}
-use Rattle.progress.proofs.Making.{answer, answer_all, each, few_by, made_rounds, remind, remind_all, round_of}
+use Rattle.progress.proofs.Making.{AskAmong, among_still, answer, answer_all, each, made_rounds, remind, remind_all, remind_serves, round_of, round_serves}
 use Rattle.progress.proofs.Moves.{Moved, MovedBy-step, Moved-step, VoterMoved, each_voter}
 use Rattle.progress.proofs.Sure.{Course, IsSure, IsSure-after, IsSure-run}
+use Rattle.progress.proofs.Turns.{asks_at, one_if}
+use Rattle.progress.proofs.Waiting.{one_most}
 
 -- ---- grants of one voter
 
@@ -52,6 +55,12 @@ Spends-self n y = record { granted = omega arith; limit = refl }
 Spends-then : (n m k : ℕ) (x y z : VoterState) → n + m ≤ k → Spends n x y → Spends m y z → Spends k x z
 Spends-then n m k x y z most a b = record { granted = (let first = a.granted in let rest = b.granted in omega arith); limit = b.limit ∙ a.limit }
 
+few_by : (frees : Bool) (y z : VoterState) → VoteMoves frees y z → z.granted ≤ y.granted + 1
+few_by true y z (inl ends) = let same = ends.granted in omega arith
+few_by true y z (inr new) = let more = new.granted in omega arith
+few_by false y z (inl stays) = let same = stays.granted in omega arith
+few_by false y z (inr new) = let more = new.1.granted in omega arith
+
 -- so it was between these worlds
 abbrev Spent : ℕ → ℕ → WorldState → WorldState → Type 0
 Spent n v x z = Spends n (voter_at x.voters v) (voter_at z.voters v)
@@ -63,7 +72,7 @@ Spent-same n v x z same = subst (λ (vs : List VoterState). Spends n (voter_at x
 
 -- 1 if these are the same, else 0
 abbrev one_at : ℕ → ℕ → ℕ
-one_at v u = cond (eqb u v) 1 0
+one_at v u = one_if (eqb u v)
 
 -- 1 if the message is to this voter, else 0
 abbrev hits : ℕ → Message → ℕ
@@ -77,22 +86,23 @@ hits_in v (m ∷ ms) = hits v m + hits_in v ms
 voter_gives : (laws : Laws) (x y : WorldState) (k : VoterMoved x y) (v : ℕ) → ((u : ℕ) → voter.IsSound (voter_at x.voters u)) → Spent (one_at v k.message.voter) v x y
 voter_gives laws x y k v sound = each_voter (λ q z. Spends (one_at q k.message.voter) (voter_at x.voters q) z) x y k (
     let w = voter_at x.voters k.message.voter in
-    let own : one_at k.message.voter k.message.voter ≡ 1 = ap (λ b. cond b 1 0) (let e : eqb k.message.voter k.message.voter ≡ true = grind (arith, nat_tests) in e) in
+    let own : one_at k.message.voter k.message.voter ≡ 1 = ap one_if (let e : eqb k.message.voter k.message.voter ≡ true = grind (arith, nat_tests) in e) in
     let few = few_by _ w k.outcome.state (laws.voter.numbers w k.message k.outcome (sound k.message.voter) k.step) in
     record { granted = omega arith; limit = (laws.voter.carries w k.message k.outcome k.step).limit }
     ) (λ q. Spends-self (one_at q k.message.voter) (voter_at x.voters q)) v
 
-place_in : Step → ℕ
-place_in (Ask c) = 0
-place_in (Deliver k) = k
-place_in (Leave c) = 0
-place_in (GiveUp c) = 0
-place_in (RemindClient c) = 0
-place_in (RemindVoter v) = 0
-place_in Exchange = 0
+-- which message arrives by the step, if one does
+arrives : Step → Option ℕ
+arrives (Ask c) = None
+arrives (Deliver k) = Some k
+arrives (Leave c) = None
+arrives (GiveUp c) = None
+arrives (RemindClient c) = None
+arrives (RemindVoter v) = None
+arrives Exchange = None
 
 delivers : (laws : Laws) (p : Course) (x : WorldState) (k v : ℕ) (m : Message) → IsSure p x → slice_get x.sent k ≡ Some m → Spent (hits v m) v x (next p.deal x (Deliver k))
-unfolding place_in
+unfolding arrives
 delivers laws p x k v m r is =
     let ok = (r []).coherent in
     let y = next p.deal x (Deliver k) in
@@ -100,7 +110,7 @@ delivers laws p x k v m r is =
       | inl client ↦ Spent-same (hits v m) v x y client.0.voters
       | inr (inl voter) ↦
           let j = voter.0 in
-          let place : k ≡ j.place = ap place_in voter.1 in
+          let place : k ≡ j.place = same_Some k j.place (ap arrives voter.1) in
           let same : m ≡ kinds.ToVoter j.message = same_Some m (kinds.ToVoter j.message) (sym is ∙ subst (λ i. slice_get x.sent i ≡ Some (kinds.ToVoter j.message)) (sym place) j.came) in
           subst (λ n. Spent (hits v n) v x y) (sym same) (voter_gives laws x y j v ok.voters)
       | inr (inr sent) ↦ Spent-same (hits v m) v x y sent.voters
@@ -257,16 +267,6 @@ answers_give laws p v low (m ∷ ms) x r are plain =
 
 -- ---- a reminder
 
--- how many grants of this voter the reminder takes
-abbrev cost : ℕ → Step → ℕ
-cost v (Ask c) = 0
-cost v (Deliver k) = 0
-cost v (Leave c) = 0
-cost v (GiveUp c) = 0
-cost v (RemindClient c) = 2
-cost v (RemindVoter u) = 2 * one_at v u
-cost v Exchange = 0
-
 -- what the reminder sends
 record Reminds (n v : ℕ) (x y : WorldState) : Type 0 where
   more : List Message
@@ -299,33 +299,37 @@ members_meet v low x (u ∷ q) set =
     let rest = members_meet v (u + 1) x q set.2 in
     elim (cases_eq u v) [
       | inl same ↦
-          let one : one_at v u ≡ 1 = ap (λ b. cond b 1 0) (let e : eqb u v ≡ true = grind (arith, nat_tests) in e) in
+          let one : one_at v u ≡ 1 = ap one_if (let e : eqb u v ≡ true = grind (arith, nat_tests) in e) in
           let none = rest.1 (omega arith) in
           (omega arith, λ less. absurd (let least = set.0 in omega arith))
       | inr other ↦
-          let zero_here : one_at v u ≡ 0 = ap (λ b. cond b 1 0) (let e : eqb u v ≡ false = grind (arith, nat_tests) in e) in
+          let zero_here : one_at v u ≡ 0 = ap one_if (let e : eqb u v ≡ false = grind (arith, nat_tests) in e) in
           let few = rest.0 in
           (omega arith, λ less. (let least = set.0 in let none = rest.1 (omega arith) in omega arith))
     ]
 
-client_meets : (v : ℕ) (x : ClientState) (phase : Phase) → Ascends 0 64 (members x) → meets_in v (map kinds.ToVoter (requester.remind_in phase x)) ≤ 2
+client_meets : (v : ℕ) (x : ClientState) (phase : Phase) → Ascends 0 64 (members x) → meets_in v (map kinds.ToVoter (requester.remind_in phase x)) ≤ 2 * one_if (is_asking phase)
 client_meets v x Idle set = omega arith
 client_meets v x Asking set = (members_meet v 0 x (members x) set).0
 client_meets v x Inside set = omega arith
 
-reminds_client : (p : Course) (x : WorldState) (c v : ℕ) → IsSure p x → Reminds 2 v x (next p.deal x (RemindClient c))
+fewer_if : (a b : Bool) → (a ≡ true → b ≡ true) → one_if a ≤ one_if b
+fewer_if true b then = (let one : one_if b ≡ 1 = ap one_if (then refl) in omega arith)
+fewer_if false b then = omega arith
+
+reminds_client : (p : Course) (among : ℕ → Bool) (x : WorldState) (c v : ℕ) → IsSure p x → AskAmong among x → Reminds (2 * one_if (among c)) v x (next p.deal x (RemindClient c))
 unfolding step requester.remind
-reminds_client p x c v r = said (nat_lt c (length x.clients))
+reminds_client p among x c v r ask = said (nat_lt c (length x.clients))
   where
-    said : (b : Bool) → Reminds 2 v x (after x (if_client b c (Ok (say x (map kinds.ToVoter (requester.remind (client_at x.clients c)))))))
+    said : (b : Bool) → Reminds (2 * one_if (among c)) v x (after x (if_client b c (Ok (say x (map kinds.ToVoter (requester.remind (client_at x.clients c)))))))
     said true = record {
       more = map kinds.ToVoter (requester.remind (client_at x.clients c));
       sent = refl;
       voters = refl;
       plain = all_plain (requester.remind (client_at x.clients c));
-      few = client_meets v (client_at x.clients c) (client_at x.clients c).phase ((r []).coherent.clients c).quorum;
+      few = (let most = client_meets v (client_at x.clients c) (client_at x.clients c).phase ((r []).coherent.clients c).quorum in let fewer = fewer_if (asks_at x c) (among c) (ask c) in omega arith);
     }
-    said false = nothing 2 v x
+    said false = nothing (2 * one_if (among c)) v x
 
 -- what a voter's reminder sends, by whether an INQUIRE is outstanding
 abbrev said_again : Bool → VoterState → Grant → List Message
@@ -373,137 +377,154 @@ remind_gives laws p n v x s r said =
 
 -- ---- reminders, one after the other
 
--- the step is a reminder of a client, or of one of so many voters
-abbrev Reminder : ℕ → Step → Type 0
-Reminder voters (Ask c) = ⊥
-Reminder voters (Deliver k) = ⊥
-Reminder voters (Leave c) = ⊥
-Reminder voters (GiveUp c) = ⊥
-Reminder voters (RemindClient c) = Unit {0}
-Reminder voters (RemindVoter v) = v < voters
-Reminder voters Exchange = ⊥
+-- how many of the n clients from this one on are among these
+abbrev count_from : (ℕ → Bool) → ℕ → ℕ → ℕ
+count_from among low zero = 0
+count_from among low (suc n) = one_if (among low) + count_from among (low + 1) n
 
-one_reminder : (laws : Laws) (p : Course) (v : ℕ) (x : WorldState) (s : Step) → IsSure p x → Reminder (length x.voters) s → Spent (cost v s) v x (run_of p.deal (remind p.deal x s) x)
-one_reminder laws p v x (Ask c) r is = absurd is
-one_reminder laws p v x (Deliver k) r is = absurd is
-one_reminder laws p v x (Leave c) r is = absurd is
-one_reminder laws p v x (GiveUp c) r is = absurd is
-one_reminder laws p v x (RemindClient c) r is = remind_gives laws p 2 v x (RemindClient c) r (reminds_client p x c v r)
-one_reminder laws p v x (RemindVoter u) r is = remind_gives laws p (2 * one_at v u) v x (RemindVoter u) r (reminds_voter p x u v r is)
-one_reminder laws p v x Exchange r is = absurd is
+-- how many clients ask
+abbrev pub askers : WorldState → ℕ
+askers w = count_from (asks_at w) 0 (length w.clients)
 
-abbrev costs : ℕ → List Step → ℕ
-costs v [] = 0
-costs v (s ∷ ss) = cost v s + costs v ss
+pub askers_most : (among : ℕ → Bool) (low n : ℕ) → count_from among low n ≤ n
+askers_most among low zero = omega arith
+askers_most among low (suc n) = (let here = one_most (among low) in let rest = askers_most among (low + 1) n in omega arith)
 
-reminders_give : (laws : Laws) (p : Course) (v : ℕ) (ss : List Step) (x : WorldState) → IsSure p x → AllByRecursion (Reminder (length x.voters)) ss
-    → Spent (costs v ss) v x (run_of p.deal (remind_all p.deal x ss) x)
-unfolding remind_all
-reminders_give laws p v [] x r are = Spends-self 0 (voter_at x.voters v)
-reminders_give laws p v (s ∷ ss) x r are =
-    let first = remind p.deal x s in
-    let y = run_of p.deal first x in
-    let rest = remind_all p.deal y ss in
-    let grows = Grows-run laws p first x r in
-    subst (λ (z : WorldState). Spent (costs v (s ∷ ss)) v x z) (sym (run_then p.deal first rest x))
-    (Spends-then (cost v s) (costs v ss) (costs v (s ∷ ss)) _ _ _ (omega arith) (one_reminder laws p v x s r are.0)
-    (reminders_give laws p v ss y (IsSure-run p first x r) (subst (λ n. AllByRecursion (Reminder n) ss) (sym grows.voters) are.1)))
-
--- ---- a round
-
-clients_cost : (v low n : ℕ) → costs v (each RemindClient low n) ≡ 2 * n
-unfolding each
-clients_cost v low zero = refl
-clients_cost v low (suc n) = (let rest = clients_cost v (low + 1) n in omega arith)
-
-voters_cost : (v low n : ℕ) → (costs v (each RemindVoter low n) ≤ 2) × (v < low → costs v (each RemindVoter low n) ≤ 0)
-unfolding each
-voters_cost v low zero = (omega arith, λ less. omega arith)
-voters_cost v low (suc n) =
-    let rest = voters_cost v (low + 1) n in
-    elim (cases_eq low v) [
-      | inl same ↦
-          let one : one_at v low ≡ 1 = ap (λ b. cond b 1 0) (let e : eqb low v ≡ true = grind (arith, nat_tests) in e) in
-          let none = rest.1 (omega arith) in
-          (omega arith, λ less. absurd (omega arith))
+pub one_from : (among : ℕ → Bool) (c low n : ℕ) → ((d : ℕ) → d ≢ c → among d ≡ false) → (count_from among low n ≤ 1) × (c < low → count_from among low n ≤ 0)
+one_from among c low zero others = (omega arith, λ less. omega arith)
+one_from among c low (suc n) others =
+    let here = one_most (among low) in
+    let rest = one_from among c (low + 1) n others in
+    elim (cases_eq low c) [
+      | inl same ↦ (let none = rest.1 (omega arith) in (omega arith, λ less. absurd (omega arith)))
       | inr other ↦
-          let zero_here : one_at v low ≡ 0 = ap (λ b. cond b 1 0) (let e : eqb low v ≡ false = grind (arith, nat_tests) in e) in
+          let not : one_if (among low) ≡ 0 = ap one_if (others low other) in
           let few = rest.0 in
           (omega arith, λ less. (let none = rest.1 (omega arith) in omega arith))
     ]
 
-costs-append : (v : ℕ) (a b : List Step) → costs v (a ++ b) ≡ costs v a + costs v b
-costs-append v [] b = omega arith
-costs-append v (s ∷ a) b = (let rest = costs-append v a b in omega arith)
+clients_give : (laws : Laws) (p : Course) (among : ℕ → Bool) (v low n : ℕ) (x : WorldState) → IsSure p x → AskAmong among x
+    → Spent (2 * count_from among low n) v x (run_of p.deal (remind_all p.deal x (each RemindClient low n)) x)
+unfolding remind_all each
+clients_give laws p among v low zero x r ask = Spends-self 0 (voter_at x.voters v)
+clients_give laws p among v low (suc n) x r ask =
+    let first = remind p.deal x (RemindClient low) in
+    let y = run_of p.deal first x in
+    let rest = remind_all p.deal y (each RemindClient (low + 1) n) in
+    let sent = length x.sent in
+    let ask_y = among_still laws p among sent first x r (remind_serves p.deal x (RemindClient low) sent tt (omega arith)) ask in
+    subst (λ (z : WorldState). Spent (2 * count_from among low (suc n)) v x z) (sym (run_then p.deal first rest x))
+    (Spends-then (2 * one_if (among low)) (2 * count_from among (low + 1) n) (2 * count_from among low (suc n)) _ _ _ (omega arith)
+    (remind_gives laws p (2 * one_if (among low)) v x (RemindClient low) r (reminds_client p among x low v r ask))
+    (clients_give laws p among v (low + 1) n y (IsSure-run p first x r) ask_y))
 
-clients_remind : (voters low n : ℕ) → AllByRecursion (Reminder voters) (each RemindClient low n)
-unfolding each
-clients_remind voters low zero = tt
-clients_remind voters low (suc n) = (tt, clients_remind voters (low + 1) n)
+voters_give : (laws : Laws) (p : Course) (v low n : ℕ) (x : WorldState) → IsSure p x → low + n ≤ length x.voters
+    → Spent (2 * count_from (λ u. eqb u v) low n) v x (run_of p.deal (remind_all p.deal x (each RemindVoter low n)) x)
+unfolding remind_all each
+voters_give laws p v low zero x r most = Spends-self 0 (voter_at x.voters v)
+voters_give laws p v low (suc n) x r most =
+    let first = remind p.deal x (RemindVoter low) in
+    let y = run_of p.deal first x in
+    let rest = remind_all p.deal y (each RemindVoter (low + 1) n) in
+    let grows = Grows-run laws p first x r in
+    let same = grows.voters in
+    subst (λ (z : WorldState). Spent (2 * count_from (λ u. eqb u v) low (suc n)) v x z) (sym (run_then p.deal first rest x))
+    (Spends-then (2 * one_at v low) (2 * count_from (λ u. eqb u v) (low + 1) n) (2 * count_from (λ u. eqb u v) low (suc n)) _ _ _ (omega arith)
+    (remind_gives laws p (2 * one_at v low) v x (RemindVoter low) r (reminds_voter p x low v r (omega arith)))
+    (voters_give laws p v (low + 1) n y (IsSure-run p first x r) (omega arith)))
 
-voters_remind : (voters low n : ℕ) → low + n ≤ voters → AllByRecursion (Reminder voters) (each RemindVoter low n)
-unfolding each
-voters_remind voters low zero most = tt
-voters_remind voters low (suc n) most = (omega arith, voters_remind voters (low + 1) n (omega arith))
+reminders_then : (deal : Dealing) (a b : List Step) (x : WorldState)
+    → run_of deal (remind_all deal x (a ++ b)) x ≡ run_of deal (remind_all deal (run_of deal (remind_all deal x a) x) b) (run_of deal (remind_all deal x a) x)
+unfolding remind_all
+reminders_then deal [] b x = refl
+reminders_then deal (s ∷ a) b x =
+    let first = remind deal x s in
+    let y = run_of deal first x in
+    run_then deal first (remind_all deal y (a ++ b)) x ∙ reminders_then deal a b y
+    ∙ ap (λ (z : WorldState). run_of deal (remind_all deal z b) z) (sym (run_then deal first (remind_all deal y a) x))
 
-is_arrival : Step → Bool
-is_arrival (Ask c) = false
-is_arrival (Deliver k) = true
-is_arrival (Leave c) = false
-is_arrival (GiveUp c) = false
-is_arrival (RemindClient c) = false
-is_arrival (RemindVoter v) = false
-is_arrival Exchange = false
+-- ---- a round
 
 leaves_give : (p : Course) (v low n : ℕ) (x : WorldState) → IsSure p x → Spent 0 v x (run_of p.deal (each Leave low n) x)
-unfolding each is_arrival
+unfolding each arrives
 leaves_give p v low zero x r = Spends-self 0 (voter_at x.voters v)
 leaves_give p v low (suc n) x r =
     let y = next p.deal x (Leave low) in
     let same : y.voters ≡ x.voters = elim (MovedBy-step p.deal x ((r []).coherent).numbered (Leave low)) [
       | inl client ↦ client.0.voters
-      | inr (inl voter) ↦ absurd (false≢true (ap is_arrival voter.1))
+      | inr (inl voter) ↦ absurd (none-some voter.0.place (ap arrives voter.1))
       | inr (inr sent) ↦ sent.voters
     ] in
     Spends-then 0 0 0 _ _ _ (omega arith) (Spent-same 0 v x y same) (leaves_give p v (low + 1) n y (IsSure-after p x r (Leave low)))
 
-round_gives : (laws : Laws) (p : Course) (v : ℕ) (x : WorldState) → IsSure p x → Spent (2 * length x.clients + 2) v x (run_of p.deal (round_of p.deal x) x)
+round_gives : (laws : Laws) (p : Course) (among : ℕ → Bool) (v : ℕ) (x : WorldState) → IsSure p x → AskAmong among x
+    → Spent (2 * count_from among 0 (length x.clients) + 2) v x (run_of p.deal (round_of p.deal x) x)
 unfolding round_of
-round_gives laws p v x r =
+round_gives laws p among v x r ask =
     let n = length x.clients in
     let m = length x.voters in
     let clients = each RemindClient 0 n in
     let voters = each RemindVoter 0 m in
-    let reminders = remind_all p.deal x (clients ++ voters) in
     let leaves = each Leave 0 n in
-    let y = run_of p.deal reminders x in
-    let both = costs-append v clients voters in
-    let first = clients_cost v 0 n in
-    let second = (voters_cost v 0 m).0 in
-    subst (λ (z : WorldState). Spent (2 * n + 2) v x z) (sym (run_then p.deal reminders leaves x))
-    (Spends-then (costs v (clients ++ voters)) 0 (2 * n + 2) _ _ _ (omega arith)
-    (reminders_give laws p v (clients ++ voters) x r (AllByRecursion-append (Reminder m) clients voters (clients_remind m 0 n) (voters_remind m 0 m (omega arith))))
-    (leaves_give p v 0 n y (IsSure-run p reminders x r)))
+    let first = remind_all p.deal x clients in
+    let y = run_of p.deal first x in
+    let ry = IsSure-run p first x r in
+    let second = remind_all p.deal y voters in
+    let z = run_of p.deal second y in
+    let own = (one_from (λ u. eqb u v) v 0 m (λ u other. (let e : eqb u v ≡ false = grind (arith, nat_tests) in e))).0 in
+    let goes = run_then p.deal (remind_all p.deal x (clients ++ voters)) leaves x ∙ ap (run_of p.deal leaves) (reminders_then p.deal clients voters x) in
+    subst (λ (u : WorldState). Spent (2 * count_from among 0 n + 2) v x u) (sym goes)
+    (Spends-then (2 * count_from among 0 n) 2 (2 * count_from among 0 n + 2) _ _ _ (omega arith) (clients_give laws p among v 0 n x r ask)
+    (Spends-then (2 * count_from (λ u. eqb u v) 0 m) 0 2 _ _ _ (omega arith) (voters_give laws p v 0 m y ry (let same = (Grows-run laws p first x r).voters in omega arith))
+    (leaves_give p v 0 n z (IsSure-run p second y ry))))
 
-rounds_give : (laws : Laws) (p : Course) (n k v : ℕ) (x : WorldState) → IsSure p x → length x.clients ≡ n → Spent (k * (2 * n + 2)) v x (run_of p.deal (steps_of (made_rounds p.deal x k)) x)
+rounds_give : (laws : Laws) (p : Course) (among : ℕ → Bool) (a k v : ℕ) (x : WorldState) → IsSure p x → AskAmong among x → count_from among 0 (length x.clients) ≤ a
+    → Spent (k * (2 * a + 2)) v x (run_of p.deal (steps_of (made_rounds p.deal x k)) x)
 unfolding made_rounds
-rounds_give laws p n zero v x r count = Spends-self (0 * (2 * n + 2)) (voter_at x.voters v)
-rounds_give laws p n (suc k) v x r count =
+rounds_give laws p among a zero v x r ask most = Spends-self (0 * (2 * a + 2)) (voter_at x.voters v)
+rounds_give laws p among a (suc k) v x r ask most =
+    let n = length x.clients in
     let first = round_of p.deal x in
     let y = run_of p.deal first x in
     let rest = steps_of (made_rounds p.deal y k) in
-    let product = suc-mul k (2 * n + 2) in
-    subst (λ (z : WorldState). Spent (suc k * (2 * n + 2)) v x z) (sym (run_then p.deal first rest x))
-    (Spends-then (2 * n + 2) (k * (2 * n + 2)) (suc k * (2 * n + 2)) _ _ _ (omega arith)
-    (subst (λ i. Spent (2 * i + 2) v x y) count (round_gives laws p v x r))
-    (rounds_give laws p n k v y (IsSure-run p first x r) ((Grows-run laws p first x r).clients ∙ count)))
+    let product = suc-mul k (2 * a + 2) in
+    let grows = Grows-run laws p first x r in
+    subst (λ (z : WorldState). Spent (suc k * (2 * a + 2)) v x z) (sym (run_then p.deal first rest x))
+    (Spends-then (2 * count_from among 0 n + 2) (k * (2 * a + 2)) (suc k * (2 * a + 2)) _ _ _ (omega arith) (round_gives laws p among v x r ask)
+    (rounds_give laws p among a k v y (IsSure-run p first x r) (among_still laws p among (length x.sent) first x r (round_serves p.deal x) ask)
+    (subst (λ i. count_from among 0 i ≤ a) (sym grows.clients) most)))
 
--- k rounds take at most k * (2 * n + 2) grants of each voter, for n clients
-pub rounds_leave : (laws : Laws) (p : Course) (w : WorldState) (k left : ℕ) → IsSure p w → HasGrants (k * (2 * length w.clients + 2) + left) w
-    → HasGrants left (run_of p.deal (steps_of (made_rounds p.deal w k)) w)
-rounds_leave laws p w k left r has = λ v within.
-    let gives = rounds_give laws p (length w.clients) k v w r refl in
-    let few = gives.granted in
-    let limit = gives.limit in
-    let some = has v (subst (λ n. v < n) (Grows-run laws p (steps_of (made_rounds p.deal w k)) w r).voters within) in
+-- ---- grants that are left
+
+left_by : (laws : Laws) (p : Course) (w : WorldState) (steps : List Step) (n left : ℕ) → IsSure p w → ((v : ℕ) → Spent n v w (run_of p.deal steps w)) → HasGrants (n + left) w
+    → HasGrants left (run_of p.deal steps w)
+left_by laws p w steps n left r spent has = λ v within.
+    let few = (spent v).granted in
+    let limit = (spent v).limit in
+    let some = has v (subst (λ m. v < m) (Grows-run laws p steps w r).voters within) in
     omega arith
+
+-- k rounds take at most k * (2 * a + 2) grants of each voter, if a clients ask
+pub rounds_leave : (laws : Laws) (p : Course) (w : WorldState) (a k left : ℕ) → IsSure p w → askers w ≤ a → HasGrants (k * (2 * a + 2) + left) w
+    → HasGrants left (run_of p.deal (steps_of (made_rounds p.deal w k)) w)
+rounds_leave laws p w a k left r most = left_by laws p w (steps_of (made_rounds p.deal w k)) (k * (2 * a + 2)) left r (λ v. rounds_give laws p (asks_at w) a k v w r (λ d asks. asks) most)
+
+-- any step takes at most one
+step_gives : (laws : Laws) (x y : WorldState) → IsCoherent x → Moved x y → (v : ℕ) → Spent 1 v x y
+step_gives laws x y ok moved v = elim moved [
+  | inl client ↦ Spent-same 1 v x y client.voters
+  | inr (inl voter) ↦
+      let gives = voter_gives laws x y voter v ok.voters in
+      record { granted = (let few = gives.granted in let one = one_most (eqb voter.message.voter v) in omega arith); limit = gives.limit }
+  | inr (inr sent) ↦ Spent-same 1 v x y sent.voters
+]
+
+steps_give : (laws : Laws) (p : Course) (v : ℕ) (steps : List Step) (x : WorldState) → IsSure p x → Spent (length steps) v x (run_of p.deal steps x)
+steps_give laws p v [] x r = Spends-self 0 (voter_at x.voters v)
+steps_give laws p v (s ∷ steps) x r =
+    let ok = (r []).coherent in
+    Spends-then 1 (length steps) (length (s ∷ steps)) _ _ _ (omega arith) (step_gives laws x (next p.deal x s) ok (Moved-step p.deal x ok.numbered s) v)
+    (steps_give laws p v steps (next p.deal x s) (IsSure-after p x r s))
+
+pub steps_leave : (laws : Laws) (p : Course) (w : WorldState) (steps : List Step) (left : ℕ) → IsSure p w → HasGrants (length steps + left) w → HasGrants left (run_of p.deal steps w)
+steps_leave laws p w steps left r = left_by laws p w steps (length steps) left r (λ v. steps_give laws p v steps w r)

@@ -7,16 +7,14 @@ use Rattle.std.proofs.lemmas.List.{append-nil}
 use Rattle.numbers.proofs.SumsBelow.{sum_below-add, sum_below-le, sum_below-one, sum_below-zero}
 use Rattle.requester.specs.declared.fault.ClientFault.TheVariants.{NotInside}
 use Rattle.requester.specs.declared.state.ClientState.{ClientState}
-use Rattle.requester.specs.declared.state.Phase.{Phase}
-use Rattle.requester.specs.declared.state.Phase.TheVariants.{Asking, Idle, Inside}
 use Rattle.requester.specs.declared.state.Seen.{Seen}
 use Rattle.requester.specs.declared.state.Seen.TheVariants.{Entered, Left, Nothing}
 use Rattle.requester.specs.RequesterContract.{KeepsQuorum, Sees}
 use Rattle.requester.specs.Steps as requester
-use Rattle.requester.specs.Words.{is_asking, is_idle, is_inside}
+use Rattle.requester.specs.Words.{is_idle, is_inside}
 use Rattle.requester.proofs.ContractLemmas.{is_idle-outside}
 use Rattle.requester.proofs.RangeLemmas.{is_inside-busy}
-use Rattle.requester.proofs.SoundSteps.{is_asking-busy, is_asking-outside}
+use Rattle.requester.proofs.SoundSteps.{is_asking-outside}
 use Rattle.world_state.specs.declared.step.Event.{Event}
 use Rattle.world_state.specs.declared.step.Step.{Step}
 use Rattle.world_state.specs.declared.step.Step.TheVariants.{Ask, Deliver, Exchange, GiveUp, Leave, RemindClient, RemindVoter}
@@ -30,41 +28,15 @@ use Rattle.progress.specs.Rounds.{grants_for, steps_of}
 use Rattle.progress.specs.Rules.{Laws}
 use Rattle.progress.proofs.Along.{next}
 use Rattle.progress.proofs.Behind.{meets}
-use Rattle.progress.proofs.Making.{are_timely, made_rounds, rounds_serve}
+use Rattle.progress.proofs.Making.{are_timely, asked_before, made_rounds, rounds_serve}
 use Rattle.progress.proofs.Moves.{Makes, MovedBy, MovedBy-step}
 use Rattle.progress.proofs.Olds.{AreOld, olds_of}
-use Rattle.progress.proofs.Spending.{rounds_leave}
+use Rattle.progress.proofs.Spending.{askers, askers_most, one_from, rounds_leave}
 use Rattle.progress.proofs.Sure.{Course, IsSure, IsSure-after}
-use Rattle.progress.proofs.Turns.{all_give_ups, all_turns, asks_at, one_if, own_give_ups, shown, sum_has, turn, turns}
+use Rattle.progress.proofs.Turns.{all_give_ups, all_turns, asks_at, idle_not_asking, one_if, own_give_ups, shown, sum_has, turn, turns}
 use Rattle.progress.proofs.Waiting.{asks_on, blocks_turn, one_most}
 
--- ---- by steps that serve nobody begins to ask
-
-asking_by : (q : Phase) → is_idle q ≡ false → (is_inside q ≡ true → ⊥) → is_asking q ≡ true
-asking_by Idle busy outside = absurd (false≢true (sym busy))
-asking_by Asking busy outside = refl
-asking_by Inside busy outside = absurd (outside refl)
-
-asked_by : (low : ℕ) (s : Step) (who : ℕ) (x : ClientState) (cause : requester.Cause) (y : ClientState) → Makes s who cause → Serves low s → KeepsQuorum x cause y → is_asking y.phase ≡ true
-    → is_asking x.phase ≡ true
-asked_by low s who x (requester.Asks q) y makes serves keeps asks = absurd (subst (Serves low) makes serves)
-asked_by low s who x (requester.Takes m) y makes serves keeps asks =
-    asking_by x.phase (sym keeps.1 ∙ is_asking-busy y.phase asks) (λ inside. false≢true (sym (is_asking-outside y.phase asks) ∙ keeps.2 inside))
-asked_by low s who x requester.Leaves y makes serves keeps asks = absurd (false≢true (sym (is_asking-busy y.phase asks) ∙ keeps.1))
-asked_by low s who x requester.GivesUp y makes serves keeps asks = absurd (false≢true (sym (is_asking-busy y.phase asks) ∙ keeps.1))
-
-asked_before : (laws : Laws) (low : ℕ) (s : Step) (x y : WorldState) → IsCoherent x → IsCoherent y → MovedBy s x y → Serves low s → (d : ℕ) → asks_at y d ≡ true → asks_at x d ≡ true
-asked_before laws low s x y ok now moved serves d asks = elim moved [
-  | inl client ↦
-      let k = client.0 in
-      elim (cases_eq d k.who) [
-        | inl same ↦ ap (asks_at x) same ∙ asked_by low s k.who (client_at x.clients k.who) k.cause k.outcome.state client.1 serves (meets laws.client x y ok now k).quorum
-            (ap (λ (z : ClientState). is_asking z.phase) (sym k.here) ∙ ap (asks_at y) (sym same) ∙ asks)
-        | inr other ↦ ap (λ (z : ClientState). is_asking z.phase) (sym (k.others d other)) ∙ asks
-      ]
-  | inr (inl voter) ↦ ap (λ (cs : List ClientState). is_asking (client_at cs d).phase) (sym voter.0.clients) ∙ asks
-  | inr (inr sent) ↦ ap (λ (cs : List ClientState). is_asking (client_at cs d).phase) (sym sent.clients) ∙ asks
-]
+-- ---- by steps that serve each client turns at most once
 
 one_turn : (a b : Bool) → (b ≡ true → a ≡ true) → turn a b + one_if b ≤ one_if a
 one_turn true true was = omega arith
@@ -72,7 +44,7 @@ one_turn true false was = omega arith
 one_turn false true was = absurd (false≢true (was refl))
 one_turn false false was = omega arith
 
--- so each client turns at most once, when it enters
+-- nobody begins to ask, so a client turns when it enters
 turns_once : (laws : Laws) (p : Course) (d low : ℕ) (steps : List Step) (x : WorldState) → IsSure p x → AllByRecursion (Serves low) steps
     → turns p.deal d steps x + one_if (asks_at (run_of p.deal steps x) d) ≤ one_if (asks_at x d)
 turns_once laws p d low [] x r serve = omega arith
@@ -205,9 +177,9 @@ record Made (p : Course) (w : WorldState) (k : ℕ) (steps : List Step) : Type 0
   turns : (c : ℕ) (more : List Event) → Asks w c → (run_of p.deal steps w).visible ≡ w.visible ++ more → entries_of c more ≡ 0
       → k ≤ all_turns p.deal (length w.clients) steps w + olds_of p (length w.voters) w
 
-made : (laws : Laws) (p : Course) (w : WorldState) (k : ℕ) → AreOld p w → IsSure p w → HasGrants (grants_for (length w.clients) k) w
+made : (laws : Laws) (p : Course) (w : WorldState) (a k : ℕ) → AreOld p w → IsSure p w → askers w ≤ a → HasGrants (grants_for a (length w.clients) k) w
     → Made p w k (steps_of (made_rounds p.deal w (k * block (length w.clients))))
-made laws p w k few r has =
+made laws p w a k few r ask has =
     let n = length w.clients in
     let m = length w.voters in
     let rounds = made_rounds p.deal w (k * block n) in
@@ -222,7 +194,7 @@ made laws p w k few r has =
           let count = timely.count in
           let late = timely.in_time in
           let some = blocks_turn laws p c n m k rounds w more 0 (record { clients = refl; voters = refl; few = few; sure = r; asks = asks.asks }) entered (omega arith)
-          timely.fair (rounds_leave laws p w (k * block n) 1 r has) visible (stays c asks.client) in
+          timely.fair (rounds_leave laws p w a (k * block n) 1 r ask has) visible (stays c asks.client) in
           omega arith;
     }
 
@@ -238,13 +210,14 @@ no_turns laws p w k d steps r m same within = by (asks_at w d) refl
     by false asks = (let once = turns_once laws p d (length w.sent) steps w r m.serve in let not : one_if (asks_at w d) ≡ 0 = ap one_if asks in omega arith)
 
 -- 1 + the old grants are blocks enough
-somebody_first : (laws : Laws) (p : Course) (w : WorldState) (c k : ℕ) → AreOld p w → IsSure p w → Asks w c → IsFree w → olds_of p (length w.voters) w < k → HasGrants (grants_for (length w.clients) k) w
+somebody_first : (laws : Laws) (p : Course) (w : WorldState) (a c k : ℕ) → AreOld p w → IsSure p w → Asks w c → IsFree w → olds_of p (length w.voters) w < k → askers w ≤ a
+    → HasGrants (grants_for a (length w.clients) k) w
     → FirstEntry p.deal (length w.sent) w
 unfolding all_turns
-somebody_first laws p w c k few r asks free enough has =
+somebody_first laws p w a c k few r asks free enough ask has =
     let n = length w.clients in
     let steps = steps_of (made_rounds p.deal w (k * block n)) in
-    let m = made laws p w k few r has in
+    let m = made laws p w a k few r ask has in
     elim (first_entry laws p (length w.sent) steps w r free m.serve) [
       | inl e ↦ e
       | inr same ↦
@@ -255,19 +228,20 @@ somebody_first laws p w c k few r asks free enough has =
     ]
 
 pub somebody_gets_in : (laws : Laws) (p : Course) (w : WorldState) (c k : ℕ) → AreOld p w → IsSure p w → Asks w c → IsFree w → olds_of p (length w.voters) w < k
-    → HasGrants (grants_for (length w.clients) k) w → (steps : List Step) × (d : ℕ) × IsWayIn p.deal w d steps
+    → HasGrants (grants_for (length w.clients) (length w.clients) k) w → (steps : List Step) × (d : ℕ) × IsWayIn p.deal w d steps
 somebody_gets_in laws p w c k few r asks free enough has =
-    let e = somebody_first laws p w c k few r asks free enough has in
+    let e = somebody_first laws p w (length w.clients) c k few r asks free enough (askers_most (asks_at w) 0 (length w.clients)) has in
     (e.steps, e.who, record { helps = e.helps; enters = e.enters })
 
 pub alone_gets_in : (laws : Laws) (p : Course) (w : WorldState) (c k : ℕ) → AreOld p w → IsSure p w → AsksAlone w c → olds_of p (length w.voters) w < k
-    → HasGrants (grants_for (length w.clients) k) w → (steps : List Step) × IsWayIn p.deal w c steps
+    → HasGrants (grants_for 1 (length w.clients) k) w → (steps : List Step) × IsWayIn p.deal w c steps
 alone_gets_in laws p w c k few r alone enough has =
     let free : IsFree w = λ d. elim (cases_eq d c) [
       | inl same ↦ ap (λ i. is_inside (client_at w.clients i).phase) same ∙ is_asking-outside (client_at w.clients c).phase alone.asks
       | inr other ↦ is_idle-outside (client_at w.clients d).phase (alone.others d other)
     ] in
-    let e = somebody_first laws p w c k few r (record { client = alone.client; asks = alone.asks }) free enough has in
+    let one : askers w ≤ 1 = (one_from (asks_at w) c 0 (length w.clients) (λ d other. idle_not_asking (client_at w.clients d).phase (alone.others d other))).0 in
+    let e = somebody_first laws p w 1 c k few r (record { client = alone.client; asks = alone.asks }) free enough one has in
     elim (cases_eq e.who c) [
       | inl same ↦ (e.steps, record { helps = e.helps; enters = e.enters ∙ ap (λ i. w.visible ++ events i Entered) same })
       | inr other ↦ absurd (false≢true (sym e.busy ∙ alone.others e.who other))
@@ -275,12 +249,12 @@ alone_gets_in laws p w c k few r alone enough has =
 
 -- as many blocks as clients and old grants are enough
 pub everybody_gets_in : (laws : Laws) (p : Course) (w : WorldState) (c k : ℕ) → AreOld p w → IsSure p w → Asks w c → length w.clients + olds_of p (length w.voters) w ≤ k
-    → HasGrants (grants_for (length w.clients) k) w → (steps : List Step) × GetsIn p.deal w c steps
+    → HasGrants (grants_for (length w.clients) (length w.clients) k) w → (steps : List Step) × GetsIn p.deal w c steps
 unfolding all_turns
 everybody_gets_in laws p w c k few r asks enough has =
     let n = length w.clients in
     let steps = steps_of (made_rounds p.deal w (k * block n)) in
-    let m = made laws p w k few r has in
+    let m = made laws p w n k few r (askers_most (asks_at w) 0 n) has in
     let z = run_of p.deal steps w in
     let seen = shown laws p steps w r in
     let enters : 1 ≤ entries_of c seen.0 = elim (cases_lt 0 (entries_of c seen.0)) [

@@ -111,7 +111,7 @@ pub record IsTimely (deal : Dealing) (old : ℕ) (w : WorldState) (k : ℕ) (rou
   pub in_time : late_in deal old w rounds ≡ 0
   pub kept_up : give_ups_in (steps_of rounds) ≡ 0
 
--- Grants of each voter that are enough for k blocks of rounds, for n clients: the rounds of
--- `fair_rounds_can_be_made` take at most 2 n + 2 grants each, and one is left.
-abbrev pub grants_for : ℕ → ℕ → ℕ
-grants_for n k = k * block n * (2 * n + 2) + 1
+-- Grants of each voter that are enough for k blocks of rounds, if a of n clients ask: the rounds of
+-- `fair_rounds_can_be_made` take at most 2 a + 2 grants each, and one is left.
+abbrev pub grants_for : ℕ → ℕ → ℕ → ℕ
+grants_for a n k = k * block n * (2 * a + 2) + 1

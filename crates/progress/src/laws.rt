@@ -96,11 +96,11 @@ pub fn returned_votes_go_on()
 /// A client that asks while all others are idle gets in by reminders and by messages that are sent after
 /// them, whatever was lost, late or repeated before. Nobody else enters meanwhile.
 ///
-/// Each voter has to have (n + 5) * (2 n + 2) grants left and one, for n clients: for n + 5 fair rounds as
-/// [`fair_rounds_can_be_made`] makes them. The way ends with the first entry in these rounds.
+/// Each voter has to have 4 * (n + 5) grants left and one, for n clients: for n + 5 fair rounds as
+/// [`fair_rounds_can_be_made`] makes them, in which one client asks. The way ends with the first entry.
 pub fn who_asks_alone_gets_in()
     ensures { (w : Planned) (c : ℕ) → IsReached w → AsksAlone w.state c
-        → HasGrants (grants_for (length w.state.clients) 1) w.state → (steps : List Step) × IsWayIn (dealing_of w.plans) w.state c steps }
+        → HasGrants (grants_for 1 (length w.state.clients) 1) w.state → (steps : List Step) × IsWayIn (dealing_of w.plans) w.state c steps }
 {
     worlds_keep_their_rules();
 }
@@ -109,10 +109,10 @@ pub fn who_asks_alone_gets_in()
 /// sent after them, whatever was lost, late or repeated before. Nobody else enters meanwhile.
 ///
 /// So requests never block one another for good. Each voter has to have (n + 5) * (2 n + 2) grants left and
-/// one, for n clients, as in [`who_asks_alone_gets_in`].
+/// one, for n clients: for n + 5 fair rounds that are made.
 pub fn somebody_can_enter()
     ensures { (w : Planned) (c : ℕ) → IsReached w → Asks w.state c → IsFree w.state
-        → HasGrants (grants_for (length w.state.clients) 1) w.state
+        → HasGrants (grants_for (length w.state.clients) (length w.state.clients) 1) w.state
         → (steps : List Step) × (d : ℕ) × IsWayIn (dealing_of w.plans) w.state d steps }
 {
     worlds_keep_their_rules();
@@ -126,7 +126,7 @@ pub fn somebody_can_enter()
 /// as in [`somebody_can_enter`] are made.
 pub fn everybody_can_enter()
     ensures { (w : Planned) (c : ℕ) → IsReached w → Asks w.state c
-        → HasGrants (grants_for (length w.state.clients) (length w.state.clients)) w.state
+        → HasGrants (grants_for (length w.state.clients) (length w.state.clients) (length w.state.clients)) w.state
         → (steps : List Step) × GetsIn (dealing_of w.plans) w.state c steps }
 {
     worlds_keep_their_rules();

@@ -1,6 +1,8 @@
-use Rattle.progress.proofs.Making.{are_timely, grants_left, made_rounds}
-use Rattle.progress.proofs.Spending.{rounds_leave}
+use Rattle.std.proofs.Common.{length}
+use Rattle.progress.proofs.Making.{are_timely, made_rounds}
+use Rattle.progress.proofs.Spending.{askers_most, rounds_leave, steps_leave}
 use Rattle.progress.proofs.Sure.{IsSure-reached, course_of}
+use Rattle.progress.proofs.Turns.{asks_at}
 use Rattle.progress.proofs.laws.fair_rounds_can_be_made.Goals as goal
 
 pub returns-clause-made : goal.returns-clause-made
@@ -9,10 +11,10 @@ returns-clause-made c deal w k = (made_rounds deal w k, are_timely deal w k)
 pub returns-clause-left : goal.returns-clause-left
 returns-clause-left c w steps n reached left =
     let laws = c.worlds_keep_their_rules.ensures in
-    grants_left laws (course_of w) steps w.state (IsSure-reached laws w reached) n left
+    steps_leave laws (course_of w) w.state steps n (IsSure-reached laws w reached) left
 
 pub returns-clause-granted : goal.returns-clause-granted
 returns-clause-granted c w k n reached left =
     let laws = c.worlds_keep_their_rules.ensures in
     let p = course_of w in
-    (made_rounds p.deal w.state k, are_timely p.deal w.state k, rounds_leave laws p w.state k n (IsSure-reached laws w reached) left)
+    (made_rounds p.deal w.state k, are_timely p.deal w.state k, rounds_leave laws p w.state (length w.state.clients) k n (IsSure-reached laws w reached) (askers_most (asks_at w.state) 0 (length w.state.clients)) left)
