@@ -115,8 +115,8 @@ fn robust_shown(
     named: Named,
     found: Robust,
 ) -> Result<String, AllocError>
-    requires { IfSome page.now.tickets (λ n. n ≤ max_dealt) }
-    requires { found.weights.system ≡ named.system }
+    requires tickets { IfSome page.now.tickets (λ n. n ≤ max_dealt) }
+    requires coterie { found.weights.system ≡ named.system }
 {
     match (page.form, page.tickets) {
         (NearForm::Json, tickets) => found_json(alloc, &named, &found.weights, tickets),
@@ -143,8 +143,13 @@ fn robust_page(alloc: Global, page: &NearPage, most: u64, input: &[u8]) -> Resul
         Err(fault) => return Err(fault),
     };
     let thousandths = 10 * page.above.unwrap_or(ABOVE);
-    let Ok(found) = weights_for_losses(alloc, named.coterie(), named.capacities(), most, thousandths)
-    else {
+    let Ok(found) = weights_for_losses(
+        alloc,
+        named.coterie(),
+        named.capacities(),
+        most,
+        thousandths,
+    ) else {
         return Err(Fault::OutOfMemory);
     };
     match robust_shown(alloc, page, named, found) {

@@ -25,7 +25,9 @@ fn push_worst(text: &mut String, rows: &[Row], losses: usize) -> Result<(), Allo
     text.push_str("\nIf one voter is down, the load of the tickets that are left is at most ")?;
     match rows.first() {
         Some(worst) if rows.len() == losses => push_thousandths(text, worst.times)?,
-        _ => return text.push_str("any number of times that of new weights: some loss leaves no ticket.\n"),
+        _ => return text.push_str(
+            "any number of times that of new weights: some loss leaves no ticket.\n",
+        ),
     }
     text.push_str(" times that of new weights.\n")
 }

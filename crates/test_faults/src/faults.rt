@@ -42,7 +42,7 @@ macro_rules! no_plan {
 }
 
 /// The faults of coteries, of plans and of searches for plans, which are lines of the planning library, too.
-const INPUTS: [(InputFault, &str); 34] = [
+const INPUTS: [(InputFault, &str); 35] = [
     (coterie!(CoterieFault::NoVoters), "E1 NoVoters"),
     (coterie!(CoterieFault::TooManyVoters), "E2 TooManyVoters"),
     (coterie!(CoterieFault::NoQuorums), "E3 NoQuorums"),
