@@ -12,7 +12,7 @@ _qlock_show() {
             case ${COMP_WORDS[1]} in
                 deal) COMPREPLY=($(compgen -W "--even --names --json" -- "$word")) ;;
                 plan | resilience) COMPREPLY=($(compgen -W "--json" -- "$word")) ;;
-                near) COMPREPLY=($(compgen -W "--cycle --deal --text --json" -- "$word")) ;;
+                near) COMPREPLY=($(compgen -W "--cycle --deal --down --above --text --json" -- "$word")) ;;
                 compare) COMPREPLY=($(compgen -f -W "--json" -- "$word")) ;;
                 coterie) COMPREPLY=($(compgen -W "racks centres votes any" -- "$word")) ;;
                 waiting) COMPREPLY=($(compgen -W "--round" -- "$word")) ;;
