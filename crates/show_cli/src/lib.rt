@@ -39,7 +39,7 @@
 
 mod at_fault;
 mod compared;
-mod losses;
+mod failing;
 mod nearness;
 mod pages;
 mod scenes;

@@ -12,7 +12,7 @@ ghost use Rattle.show_cli.specs.Pages.{IsShownBy};
 ghost use Rattle.show_waiting.specs.Waiting.{IsInRange as IsAnswered, waiting_text};
 
 use crate::compared::compared_page;
-use crate::losses::{borne_page, left_page, pair_page};
+use crate::failing::{borne_page, left_page, pair_page};
 use crate::nearness::near_weights_page;
 use crate::scenes::{Scene, scene_of};
 use crate::shapes::shape_page;
