@@ -11,7 +11,7 @@ fn name_found(line: &str) -> &'static str {
 
 /// Returns whether an explanation has all its texts, and is the one that its code finds.
 fn is_whole(explanation: &Explanation) -> bool {
-    (explanation.code.len() == 2)
+    ((2..=3).contains(&explanation.code.len()))
         & (name_found(explanation.code) == explanation.name)
         & !explanation.meaning.is_empty()
         & !explanation.example.is_empty()
