@@ -106,7 +106,7 @@ func TestAbandonedNumberSpeaksNoMore(t *testing.T) {
 	if _, err := c.find("x"); err != nil {
 		t.Fatal(err)
 	}
-	c.abandon(0)
+	c.abandon()
 	c.header.Number, c.header.Epoch = 4, 1
 	l, err := c.find("x")
 	if err != nil {

@@ -4,6 +4,7 @@ import (
 	"bytes"
 	"context"
 	"encoding/base64"
+	"encoding/json"
 	"errors"
 	"fmt"
 	"strings"
@@ -103,6 +104,39 @@ func (w *walkers) end(t *testing.T) {
 	for name, c := range w.counters {
 		if c.met || c.total == 0 {
 			t.Errorf("%s: %d passes, two inside: %v", name, c.total, c.met)
+		}
+	}
+}
+
+// What a voter of the old plan alone may have given is known to the voters of the new one once the old plan is retired.
+func TestCeilingsAfterAnExchange(t *testing.T) {
+	w := worlds.New(t, worlds.Majority, time.Second)
+	before := w.Cluster
+	w.Kill(2)
+	w.Exchange(grown)
+	soon(t, "the plan is not taken", func() bool { return w.Install() == nil })
+	next, console := w.Cluster, w.Console()
+	ceiling := func(at int) uint64 {
+		t.Helper()
+		replies, err := console.Ask(within(t, 5*time.Second), "knows", at)
+		if err != nil || replies[0].Err != nil {
+			t.Fatal(err, replies)
+		}
+		var known voter.Knows
+		if err := json.Unmarshal(replies[0].Body, &known); err != nil {
+			t.Fatal(err)
+		}
+		return known.Peers[2].Ceiling
+	}
+	w.Cluster = before // c did not hear of the exchange
+	w.Start(2)
+	soon(t, "c starts, and nobody keeps its ceiling", func() bool { return ceiling(0) > ceiling(3) })
+	w.Kill(2)
+	w.Cluster = next
+	soon(t, "the old plan is not retired", func() bool { return w.Retire() == nil })
+	for _, at := range []int{1, 3, 4} {
+		if kept := ceiling(at); kept != ceiling(0) {
+			t.Errorf("voter %d keeps %d, and voter 0 %d", at, kept, ceiling(0))
 		}
 	}
 }

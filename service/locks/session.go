@@ -128,7 +128,6 @@ func (c *Client) begin(ctx context.Context) error {
 		}
 		up := uptime()
 		err := c.claim(ctx)
-		claimed := c.replied
 		if err == nil {
 			err = c.reserveFirst(ctx, up)
 		}
@@ -139,7 +138,7 @@ func (c *Client) begin(ctx context.Context) error {
 		if c.why != nil {
 			return c.why
 		}
-		c.abandon(claimed)
+		c.abandon()
 		if ctx.Err() != nil {
 			return err
 		}
@@ -168,17 +167,15 @@ func (c *Client) reserveFirst(ctx context.Context, left time.Duration) error {
 	return err
 }
 
-// abandon gives a number back that some voters gave to this session. It never claims this epoch again: the line that
-// gives it back may come late. Locks of this number are forgotten.
-func (c *Client) abandon(voters uint64) {
+// abandon gives a number back that some voters gave to this session, or will give it by a claim that is under way. It never
+// claims this epoch again: the line that gives it back may come late. Locks of this number are forgotten.
+func (c *Client) abandon() {
 	c.locks, c.busy = map[string]*lock{}, map[*lock]struct{}{}
 	c.header.Number, c.header.Epoch, c.header.Reserved = 0, 0, 0
 	for v := range c.peers {
 		c.peers[v].sent = map[uint64]time.Duration{}
 		c.peers[v].forget()
-		if c.out[v] = c.out[v][:0]; voters>>v&1 == 1 {
-			c.out[v] = append(c.out[v], fmt.Sprintf(". drop %d %d\n", c.asked, c.claimed)...)
-		}
+		c.out[v] = append(c.out[v][:0], fmt.Sprintf(". drop %d %d\n", c.asked, c.claimed)...)
 	}
 	c.epochs[c.asked] = c.claimed
 	c.flush()
@@ -455,6 +452,7 @@ func (c *Client) message(m transport.Message) {
 	if !c.accepts(h.Coterie) {
 		c.stats.Refused++
 		if c.recognise(h) {
+			c.noteLapses(h)
 			c.findPlans(h.Number, lines)
 		}
 		return
@@ -515,8 +513,8 @@ func (c *Client) isUnsure(voter int) bool {
 	p := &c.peers[voter]
 	if p.unsure {
 		p.unsure = false
-		for l := range c.busy {
-			p.unsure = p.unsure || l.unrenewed>>voter&1 == 1
+		for l := range c.busy { // one that is lost is not renewed
+			p.unsure = p.unsure || l.unrenewed>>voter&1 == 1 && (l.held == nil || !l.held.over.Load())
 		}
 	}
 	return p.unsure

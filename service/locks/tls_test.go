@@ -179,8 +179,8 @@ func TestCertificatesAndUsers(t *testing.T) {
 	for _, one := range []struct {
 		user, words string
 		may         bool
-	}{{"bob", "lock x", true}, {"bob", "status", true}, {"bob", "sessions", false}, {"bob", "knows", false},
-		{"bob", fmt.Sprint("evict ", client.Number()), false}, {"alice", "lock x", true}, {"alice", "sessions", true}} {
+	}{{"bob", "lock x", true}, {"bob", "status", true}, {"bob", "knows", false},
+		{"bob", fmt.Sprint("evict ", client.Number()), false}, {"alice", "lock x", true}, {"alice", "knows", true}} {
 		console := operator.New(cluster, connect(t, cluster, access(folder, one.user)), one.user)
 		patience := 10 * time.Second
 		if !one.may {

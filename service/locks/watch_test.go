@@ -3,6 +3,7 @@ package locks
 import (
 	"errors"
 	"fmt"
+	"math/bits"
 	"testing"
 	"time"
 
@@ -89,6 +90,39 @@ func TestAcknowledgementRevivesNothing(t *testing.T) {
 		if lapsed(c, voter, 1, line); c.votes(c.locks["x"])>>voter&1 == 0 {
 			t.Error("a new word gives no vote")
 		}
+	}
+}
+
+// Also a message of a plan that the client does not know says how often grants were let go.
+func TestLapsesOfAnotherPlan(t *testing.T) {
+	c, h := held(t)
+	voter := bits.TrailingZeros64(h.quorum)
+	p := c.peers[voter]
+	hear(c, wire.Header{Cluster: c.cluster.ID, Coterie: "another", Kind: wire.FromVoter, Number: voter, Name: p.identity,
+		Run: p.run, Start: p.start, Lapses: 1}, ". greeted\n")
+	if !h.over.Load() {
+		t.Error("a lapse is not noticed")
+	}
+}
+
+// A voter that started again acknowledges nothing until it said of each lock that it is still held. One that is lost is none of
+// them: nobody renews it.
+func TestLostLockHoldsNothingUp(t *testing.T) {
+	c, h := held(t)
+	voter := bits.TrailingZeros64(h.quorum)
+	acknowledged := func() bool {
+		c.header.Seq++
+		c.peers[voter].sent[c.header.Seq] = uptime()
+		known := c.peers[voter].known
+		lapsed(c, voter, 0, fmt.Sprintf(". opened %d %d 0 4096 %d 1\n", c.header.Number, c.header.Epoch, c.header.Seq))
+		return c.peers[voter].known != known
+	}
+	c.peers[voter].start++
+	if c.restarted(voter); acknowledged() {
+		t.Error("a lock that was not renewed counts as held")
+	}
+	if h.lapse(); !acknowledged() {
+		t.Error("a lock that is lost keeps the others from being acknowledged")
 	}
 }
 

@@ -19,6 +19,7 @@ var (
 	errStarted = errors.New("a voter without its state has started")
 	errEnded   = errors.New("a process has ended by itself")
 	errOlder   = errors.New("a voter with an older copy of its state goes on")
+	errSlow    = errors.New("a voter does not start")
 	errFull    = errors.New("a voter with a full disk ended for another reason")
 )
 
@@ -67,11 +68,25 @@ var kinds = []struct {
 
 func hasIslands(o options) bool { return o.Islands }
 
+// isKind returns whether incidents of a kind are played.
+func isKind(name string) bool {
+	for _, kind := range kinds {
+		if kind.name == name {
+			return true
+		}
+	}
+	return false
+}
+
 // draw draws the next incident, as from a deck of cards: each kind comes as often as its weight says.
 func (p *player) draw() int {
 	if len(p.deck) == 0 {
 		for i, kind := range kinds {
-			for n := 0; n < kind.weight && (kind.has == nil || kind.has(p.options)); n++ {
+			weight, isSet := p.options.weights[kind.name]
+			if !isSet {
+				weight = kind.weight
+			}
+			for n := 0; n < weight && (kind.has == nil || kind.has(p.options)); n++ {
 				p.deck = append(p.deck, i)
 			}
 		}
@@ -348,6 +363,9 @@ func (p *player) goBack() {
 }
 
 func (p *player) returnTo(one *local.Process, path string) error {
+	if !one.Says("event=start ", 20*time.Second) { // a copy of before its start is refused
+		return fmt.Errorf("%s: %w", one.Name, errSlow)
+	}
 	one.Signal(syscall.SIGSTOP) // it writes nothing meanwhile
 	older, err := os.ReadFile(path)
 	one.Signal(syscall.SIGCONT)

@@ -47,11 +47,14 @@ type options struct {
 	seed            int64
 	exchange        string
 	everything      bool
+	weights         map[string]int // of kinds of incidents, in place of their own
 }
 
 // complete returns the options with what they imply, or an error if something is missing.
 func (o options) complete() (options, error) {
 	switch {
+	case o.unknownKind() != "":
+		return o, fmt.Errorf("there is no kind of incident %q", o.unknownKind())
 	case o.everything && o.exchange == "":
 		return o, errors.New("--everything needs the coterie of --exchange")
 	case o.everything:
@@ -63,6 +66,16 @@ func (o options) complete() (options, error) {
 		return o, errors.New("--loss needs --partitions")
 	}
 	return o, nil
+}
+
+// unknownKind returns a name of --weight that no kind of incident has, "" if there is none.
+func (o options) unknownKind() string {
+	for name := range o.weights {
+		if !isKind(name) {
+			return name
+		}
+	}
+	return ""
 }
 
 func main() {
@@ -103,6 +116,7 @@ func command() *cobra.Command {
 	flags.StringVar(&o.exchange, "exchange", "", "the file of a coterie for which the plan is exchanged meanwhile, and back")
 	flags.BoolVar(&o.everything, "everything", false,
 		"--partitions, --full-disk, --loss 2 if it is not given, and the plan of --exchange and back, again and again")
+	flags.StringToIntVar(&o.weights, "weight", nil, "how often a kind of incident is drawn, as \"voters killed=9\", in place of its own weight")
 	flags.BoolVar(&o.open, "open-guard", false, "let the guard admit everything, and stop clients: the witness has to find that")
 	root.AddCommand(&cobra.Command{Use: "worker CLUSTER WITNESS NAME PLACES EACH PERCENT STAYS",
 		Args: cobra.ExactArgs(7), Hidden: true,

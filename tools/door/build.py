@@ -11,6 +11,9 @@ proves the crates that are named (`rt ci NAME..`), and gives a crate several pro
 crate of its run is ready. So the longest chains of crates have a run of their own each, and one run
 has what lies beside them. The last run takes what all of these passed, and proves the rest. A kit
 that keeps nothing proves all in one run.
+
+What `rt ci` has proved in the checkout itself, as the gate does, is in its crates. An archive is made
+over that, if it is there.
 """
 import os
 import shutil
@@ -60,15 +63,27 @@ def newest(folder):
     return max((os.stat(it).st_mtime_ns for it in files), default=0)
 
 
-def archive_words(copy, crate):
-    """Returns the command that proves a static library over what `rt ci` left, and archives it."""
+def statements(root, crate):
+    """Returns the file that a crate has which `rt` has proved there, and at no other time."""
+    return os.path.join(root, "crates", crate, "out", "rlib", f"{crate}.rlib", "format")
+
+
+def is_proved(crate):
+    """Returns whether a crate of the checkout is proved as its sources are, and all below it."""
+    file, parts = statements(ROOT, crate), ("src", "specs", "proofs")
+    folders = [os.path.join(ROOT, "crates", it, part) for it in CRATES.below([crate]) for part in parts]
+    return os.path.exists(file) and all(newest(it) <= os.stat(file).st_mtime_ns for it in folders if os.path.exists(it))
+
+
+def archive_words(root, crate):
+    """Returns the command that proves a static library over what is proved there, and archives it."""
     kit = rt.kit()
     own = sorted(CRATES.below([crate]) - {crate})
     # a library that crates.txt does not list is the kit's
     uses = {use for it in (*own, crate) for use in CRATES.uses(it)}
     words = [f"{kit}/bin/rattle", "build", "--crate-name", crate, "src/lib.rt", "--crate-type", "staticlib"]
     places = {it: f"{kit}/rlibs" for it in ["std", *sorted(uses - {*CRATES.lines})]}
-    places |= {it: os.path.join(copy.folder, "crates", it, "out", "rlib") for it in own}
+    places |= {it: os.path.join(root, "crates", it, "out", "rlib") for it in own}
     words += [word for it, place in places.items() for word in ("--extern", f"{it}={place}/{it}.rlib")]
     words += [word for place in dict.fromkeys(places.values()) for word in ("-L", f"dependency={place}")]
     words += ["--antt-project", f"{kit}/rattle/logic/antt-project.json", "--logic-built", f"{kit}/logic_built"]
@@ -93,7 +108,8 @@ class Build(Copy):
         super().__init__(os.path.join(room, name), wanted)
         # a static library is proved as its archive is made, and is beside the copy
         self.archived = {it: os.path.join(room, f"{it}-archive") for it in wanted if CRATES.is_library(it)}
-        self.weights = {it: weight(it) for it in self.crates}
+        self.below_is_proved = all(is_proved(it) for it in self.crates - {*wanted}) and self.archived.keys() >= {*wanted}
+        self.weights = {it: weight(it) for it in (wanted if self.below_is_proved else self.crates)}
         log = os.path.join(BUILD, f"{name}.log")
         before = RUNS if keeps and CRATES.below(RUNS) <= self.crates else {}
         self.runs = {it: Job(it, self.words(it, nicer), f"{log}.{it}", self.folder, needs)
@@ -112,7 +128,8 @@ class Build(Copy):
         crate = self.wanted[0]
         if not CRATES.is_library(crate):
             return ["rt", "ci"]
-        return ["sh", "-c", 'rt ci && cd "$0" && exec "$@"', self.place(crate), *archive_words(self, crate)]
+        first, root = (":", ROOT) if self.below_is_proved else ("rt ci", self.folder)
+        return ["sh", "-c", f'{first} && cd "$0" && exec "$@"', self.place(crate), *archive_words(root, crate)]
 
     def lay_out(self):
         super().lay_out()
@@ -141,15 +158,11 @@ class Build(Copy):
     def done(self):
         """Returns which crates are proved: those that the runs name, or that have statements."""
         if self.last.status() == 0:
-            return self.crates
+            return self.weights.keys()
         for log in self.logs.values():
             log.read()
         named = set().union(*(log.proved for log in self.logs.values()))
-        return {it for it in self.crates if it in named or os.path.exists(self.statements(it))}
-
-    def statements(self, crate):
-        """Returns the file that a proved crate has."""
-        return os.path.join(self.folder, "crates", crate, "out", "rlib", f"{crate}.rlib", "format")
+        return {it for it in self.weights if it in named or os.path.exists(statements(self.folder, it))}
 
     def keep(self):
         """Puts what was built into build/."""

@@ -21,7 +21,11 @@ import (
 
 // TestMain lets this program be qlock-voter where a test, or a start, runs it as that.
 func TestMain(m *testing.M) {
-	if os.Getenv("VOTER_MAIN") != "" {
+	switch os.Getenv("VOTER_MAIN") {
+	case "":
+	case "panics":
+		panic("what is damaged ends whoever reads it")
+	default:
 		main()
 		return
 	}
@@ -184,6 +188,16 @@ func TestDamagedStarts(t *testing.T) {
 	}
 	if found < 10 {
 		t.Errorf("%d bits were found", found)
+	}
+}
+
+// A check that ends by a panic, or by what it reads, has found damage: no restart mends that.
+func TestCheckThatPanics(t *testing.T) {
+	file, data := files(t)
+	t.Setenv("VOTER_MAIN", "panics")
+	if err := checkApart(context.Background(), file, data); !errors.Is(err, voter.ErrDamaged) || exitStatus(err) != exitHopeless ||
+		strings.Contains(err.Error(), "\n") {
+		t.Errorf("status %d, %v", exitStatus(err), err)
 	}
 }
 

@@ -100,11 +100,11 @@ func Install(ctx context.Context, c *config.Cluster, console *operator.Console, 
 	return replies, nil
 }
 
-// inform lets voters know what others of them keep of sessions. A new voter knows no stamp, and takes
-// great ones only bit by bit: so it lags behind nobody.
+// inform lets voters know what others of them know. A new voter knows no stamp, and takes great ones only bit by bit: so
+// it lags behind nobody.
 func inform(ctx context.Context, c *config.Cluster, console *operator.Console, patience time.Duration,
 	voters []int) error {
-	replies, err := ask(ctx, console, patience, "sessions", voters...)
+	replies, err := ask(ctx, console, patience, "knows", voters...)
 	if err != nil {
 		return err
 	}
@@ -112,7 +112,7 @@ func inform(ctx context.Context, c *config.Cluster, console *operator.Console, p
 	if err != nil {
 		return err
 	}
-	text, err := json.Marshal(known.Sessions)
+	text, err := json.Marshal(known)
 	if err != nil {
 		return err
 	}
@@ -165,7 +165,8 @@ func each(ctx context.Context, c *config.Cluster, console *operator.Console, pat
 // mark returns the mark of a cluster's plan.
 func mark(c *config.Cluster) string { return config.Mark(c.Generation, c.Coterie) }
 
-// Settle lets a quorum of the plan in use know what was reserved by the plans before it.
+// Settle lets a quorum of the plan in use know what voters of the plans before it know: stamps that were reserved, and
+// ceilings.
 func Settle(ctx context.Context, c *config.Cluster, console *operator.Console,
 	patience time.Duration) ([]operator.Reply, error) {
 	var all []int
@@ -175,10 +176,10 @@ func Settle(ctx context.Context, c *config.Cluster, console *operator.Console,
 	return settle(ctx, c, console, patience, all)
 }
 
-// settle reads what voters know of sessions, and lets them know all of it.
+// settle reads what voters know, and lets them know all of it.
 func settle(ctx context.Context, c *config.Cluster, console *operator.Console, patience time.Duration,
 	voters []int) ([]operator.Reply, error) {
-	replies, err := ask(ctx, console, patience, "sessions", voters...)
+	replies, err := ask(ctx, console, patience, "knows", voters...)
 	if err != nil {
 		return nil, err
 	}
@@ -189,7 +190,7 @@ func settle(ctx context.Context, c *config.Cluster, console *operator.Console, p
 	if !c.HasQuorums(heard) {
 		return replies, fewer(replies)
 	}
-	text, err := json.Marshal(known.Sessions)
+	text, err := json.Marshal(known)
 	if err != nil {
 		return nil, err
 	}

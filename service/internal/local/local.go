@@ -29,6 +29,7 @@ type Process struct {
 	*Island // nil if it is in the network of this machine
 	run     *exec.Cmd
 	ended   chan struct{} // closed when it has ended
+	before  int           // how much of the log earlier runs wrote
 }
 
 // Start starts the process, which is not running. If that fails, the process is as before: never
@@ -44,11 +45,15 @@ func (p *Process) Start() error {
 		return err
 	}
 	defer out.Close()
+	info, err := out.Stat()
+	if err != nil {
+		return err
+	}
 	run.Stdout, run.Stderr = out, out
 	if err := run.Start(); err != nil {
 		return err // the run before, if there was one, stays the last one
 	}
-	p.run, p.ended = run, make(chan struct{})
+	p.run, p.ended, p.before = run, make(chan struct{}), int(info.Size())
 	go func(run *exec.Cmd, ended chan struct{}) {
 		_ = run.Wait()
 		close(ended)
@@ -88,6 +93,16 @@ func (p *Process) Log() string {
 		return err.Error()
 	}
 	return string(text)
+}
+
+// Says waits until the process wrote something since it was started, for some time, and returns whether it did.
+func (p *Process) Says(text string, within time.Duration) bool {
+	for end := time.Now().Add(within); time.Now().Before(end); time.Sleep(10 * time.Millisecond) {
+		if log := p.Log(); len(log) > p.before && strings.Contains(log[p.before:], text) {
+			return true
+		}
+	}
+	return false
 }
 
 // Cluster is three servers of NATS, and the voters of a coterie.

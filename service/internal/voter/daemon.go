@@ -75,7 +75,7 @@ type Daemon struct {
 	letters         []posted     // words to other voters that leave after the save
 	voters          <-chan transport.Message
 	floor, ceiling  uint64            // its grants are above the floor, and up to the ceiling
-	quietUntil      time.Time         // until then only those inside get a vote
+	quietUntil      time.Time         // only those inside get a vote, and this is when it may end; zero once it has ended
 	markers         [keyBytes]byte    // the key of this run's markers
 	done            map[string][]byte // replies to what operators let go, by their questions
 	messages, reads <-chan transport.Message
@@ -268,7 +268,7 @@ func (d *Daemon) end() error {
 	if err := d.commit(time.Now()); err != nil {
 		return err
 	}
-	if d.join.done {
+	if d.join.done && !d.isQuiet() { // else the next start has to be quiet, too: this one did not come to know its grants
 		for voter := 0; voter < places; voter++ {
 			if d.others()>>voter&1 == 1 {
 				d.write(voter, word{Word: "ended", Process: d.join.process, Saves: d.store.saves})
@@ -332,6 +332,10 @@ func (d *Daemon) line(l *letter, speaker verdict, lock, line []byte, now time.Ti
 		return true
 	}
 	v := d.votes[string(lock)]
+	if v != nil && v.isOld && d.isQuiet() && string(said.Word) == "relinquish" {
+		d.takeBack(v, said, now)
+		return true
+	}
 	if left := d.quietOf(v, now); left > 0 && string(said.Word) == "request" && !isInside {
 		if l.once("quiet") {
 			d.tell(l.Name, "quiet %d", left.Milliseconds()+1)
@@ -616,7 +620,7 @@ func (d *Daemon) claim(name string, words [][]byte, now time.Time) bool {
 	return true
 }
 
-// round does what time asks for: it lets grants of dead clients go that others wait for, and reminds.
+// round does what time asks for: it lets grants of dead clients go that are in the way of others, and reminds.
 func (d *Daemon) round(now time.Time) {
 	if !d.join.done {
 		return
@@ -624,11 +628,11 @@ func (d *Daemon) round(now time.Time) {
 	d.endQuiet(now)
 	d.forget(now)
 	for v := range d.busy {
-		if v.isOld && d.isQuiet(now) {
+		if v.isOld && d.isQuiet() {
 			continue // it may be somebody else's by now
 		}
 		d.endInside(v)
-		for v.held.Number > 0 && v.isWanted() && d.isOver(v.held) {
+		for v.held.Number > 0 && (v.isWanted() || d.isInTheWay(v)) && d.isOver(v.held) {
 			held := v.held
 			if !d.letGo(v, now) {
 				break
@@ -651,7 +655,7 @@ func (d *Daemon) round(now time.Time) {
 
 // endQuiet lets the grants of before the start go of which nobody said that he is inside.
 func (d *Daemon) endQuiet(now time.Time) {
-	if d.quietUntil.IsZero() || d.isQuiet(now) {
+	if !d.isQuiet() || now.Before(d.quietUntil) {
 		return
 	}
 	d.quietUntil = time.Time{}
@@ -668,7 +672,8 @@ func (d *Daemon) endQuiet(now time.Time) {
 
 // isOver returns whether a grant may be let go: its session is dead, or its number has a later one.
 func (d *Daemon) isOver(held qlock.Grant) bool {
-	return d.table.isDead(int(held.Client)) || d.table.isEarlier(int(held.Client), held.Stamp)
+	client := int(held.Client)
+	return d.table.isDead(client) || d.table.isEarlier(client, held.Stamp) && !d.table.byWord[client]
 }
 
 // letGo lets the current grant of a vote go, and tells its client. It returns false if that did not succeed.

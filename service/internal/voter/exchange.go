@@ -23,6 +23,7 @@ var (
 	ErrLong     = errors.New("the plan is too long to be sent")
 	ErrLag      = errors.New("clients still have requests of the old plan")
 	ErrKeepers  = errors.New("too few voters of both plans keep this one's ceiling yet")
+	ErrNothing  = errors.New("the words say nothing of what other voters know")
 	ErrAnother  = errors.New("the voter has another plan of this number: another exchange was begun")
 )
 
@@ -265,7 +266,7 @@ func (d *Daemon) planned(err error) interface{} {
 
 // exchange obeys `exchange NUMBER COTERIE PLAN`, answers `would` with the same words if it would,
 // and obeys of the plan with a number and a mark `ready NUMBER MARK`, `retire NUMBER MARK` or
-// `settle NUMBER MARK SESSIONS`.
+// `settle NUMBER MARK KNOWS`.
 func (d *Daemon) exchange(words []string, now time.Time) interface{} {
 	number, err := strconv.ParseUint(words[1], 10, 64)
 	switch {
@@ -350,8 +351,8 @@ func (d *Daemon) retire(number uint64, mark string) error {
 	return nil
 }
 
-// settle takes what a quorum of the old plan knew of sessions, after it refused that plan. Who
-// takes the next plan already was settled.
+// settle takes what a quorum of the old plan knew of sessions and of other voters, after it refused that plan: whoever
+// asks voters of the new plan alone hears of each stamp, start and ceiling. Who takes the next plan already was settled.
 func (d *Daemon) settle(number uint64, mark, text string, now time.Time) error {
 	switch {
 	case d.plans.Old != nil && number+1 == d.plans.Number && mark == d.plans.oldMark():
@@ -375,7 +376,7 @@ func (d *Daemon) settle(number uint64, mark, text string, now time.Time) error {
 	return nil
 }
 
-// inform takes what other voters with this plan know of sessions, while the old one is there, too.
+// inform takes what other voters with this plan know, while the old one is there, too.
 func (d *Daemon) inform(number uint64, mark, text string, now time.Time) error {
 	switch {
 	case number != d.plans.Number:
@@ -386,16 +387,14 @@ func (d *Daemon) inform(number uint64, mark, text string, now time.Time) error {
 	return d.learn(text, now)
 }
 
-// learn takes what other voters know of sessions.
+// learn takes what other voters know.
 func (d *Daemon) learn(text string, now time.Time) error {
-	rows := map[int]Session{}
-	if err := json.Unmarshal([]byte(text), &rows); err != nil {
+	var known Knows
+	if err := json.Unmarshal([]byte(text), &known); err != nil {
 		return err
+	} else if known.Sessions == nil {
+		return ErrNothing
 	}
-	for client, row := range rows {
-		if client >= 0 && client < qlock.MaxClients && d.table.learn(client, row, now) {
-			d.recount(client)
-		}
-	}
+	d.learnAll(known, now)
 	return nil
 }

@@ -153,7 +153,7 @@ func TestLearn(t *testing.T) {
 func TestRetire(t *testing.T) {
 	now := time.Unix(1000, 0)
 	d := &Daemon{cluster: &config.Cluster{}, plans: Generations{Now: texts(t, two), Settled: true},
-		table: *newTable(now), busy: map[*vote]struct{}{}, log: event.To(io.Discard)}
+		table: *newTable(now), busy: map[*vote]struct{}{}, newPeers: map[int]Peer{}, store: &store{}, log: event.To(io.Discard)}
 	if err := d.markPlans(); err != nil {
 		t.Fatal(err)
 	}
@@ -200,7 +200,8 @@ func TestRetire(t *testing.T) {
 	if d.table.admit(3, "a", 1, now) != taken {
 		t.Error("a session that was ended goes on")
 	}
-	rows, err := json.Marshal(map[int]Session{7: {Hash: hashed("c"), Epoch: 2, Reserved: 50}})
+	rows, err := json.Marshal(Knows{Sessions: map[int]Session{7: {Hash: hashed("c"), Epoch: 2, Reserved: 50}},
+		Peers: map[int]Peer{2: {Identity: "C", Start: 4, Ceiling: 900}}})
 	if err != nil {
 		t.Fatal(err)
 	}
@@ -208,8 +209,8 @@ func TestRetire(t *testing.T) {
 		t.Error("settled by the mark of another plan:", err)
 	}
 	if err := obey("settle", "1", mark, string(rows)); err != nil || !d.plans.Settled ||
-		d.table.rows[7].Reserved != 50 {
-		t.Error(err)
+		d.table.rows[7].Reserved != 50 || d.peers[2].Ceiling != 900 {
+		t.Errorf("%v, %+v, %+v", err, d.table.rows[7], d.peers[2])
 	}
 	for _, words := range [][]string{{"retire", "2", mark}, {"retire", "1"}, {"settle", "0", mark, "{}"}, {"exchange",
 		"x"}, {"exchange", "2", "!", "!"}, {"other", "1"}} {

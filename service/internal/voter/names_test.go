@@ -40,7 +40,7 @@ func TestNameOfASessionIsSecret(t *testing.T) {
 		t.Fatal(err)
 	}
 	seen := map[string][]byte{"another voter": letter}
-	for _, question := range []string{"status", "sessions", "knows"} {
+	for _, question := range []string{"status", "knows"} {
 		seen[question] = written(d.obey([]string{question}, "alice", time.Now()))
 	}
 	if err := d.save(time.Now()); err != nil {

@@ -152,8 +152,6 @@ func (d *Daemon) obey(words []string, by string, now time.Time) interface{} {
 	switch {
 	case len(words) == 1 && words[0] == "status":
 		return d.status(now)
-	case len(words) == 1 && words[0] == "sessions":
-		return Knows{Sessions: d.table.known()}
 	case len(words) == 1 && words[0] == "knows":
 		return d.knows()
 	case len(words) == 2 && (words[0] == "level" || words[0] == "would-level"):

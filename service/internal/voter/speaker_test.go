@@ -92,13 +92,12 @@ func TestWhoMayWrite(t *testing.T) {
 		{"bob", "lock x", false, `"lock":"x"`},
 		{"bob", "evict 2", false, `"error"`},
 		{"bob", "status evict 2", false, `"error"`},
-		{"bob", "sessions", false, `"error"`},
 		{"bob", "knows", false, `"error"`},
 		{"99", "knows", false, ""},
 		{"01", "knows", false, ""},
 		{"1", "evict 2", false, `"error"`},
 		{"1", "knows", false, fmt.Sprintf(`"hash":%q`, hashed("jobs.s2"))},
-		{"alice", "sessions", true, fmt.Sprintf(`"hash":%q`, hashed("jobs.s2"))},
+		{"alice", "knows", true, fmt.Sprintf(`"hash":%q`, hashed("jobs.s2"))},
 		{"alice", "evict 2", true, `{"let_go":0}`},
 	} {
 		d := reader()

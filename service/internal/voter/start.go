@@ -153,6 +153,10 @@ func (d *Daemon) isKept(now time.Time) {
 	j.done = true
 	d.raiseAll()
 	d.table.hearAll(now)
+	for v := range d.busy {
+		client := int(v.held.Client)
+		d.table.byWord[client] = d.table.byWord[client] || v.held.Number > 0 && !d.table.rows[client].Open
+	}
 	if !isNew && !j.isClean {
 		d.quietUntil = now.Add(d.cluster.TTL.Duration)
 	}
@@ -179,15 +183,19 @@ func (d *Daemon) needsCeiling(number uint64, now time.Time) {
 // tellAll lets all others keep the ceiling, once the plans in use changed.
 func (d *Daemon) tellAll() { d.join.kept, d.join.told, d.join.next = 0, 0, time.Time{} }
 
-// isQuiet returns whether only those inside get a vote.
-func (d *Daemon) isQuiet(now time.Time) bool { return now.Before(d.quietUntil) }
+// isQuiet returns whether only those inside get a vote. That ends when the grants of before the start are let go, and no
+// moment before: what was granted in between would count as one of those.
+func (d *Daemon) isQuiet() bool { return !d.quietUntil.IsZero() }
 
-// quiet returns for how long only those inside get a vote.
+// quiet returns for how long only those inside get a vote, at least for a tick while that has not ended.
 func (d *Daemon) quiet(now time.Time) time.Duration {
-	if !d.isQuiet(now) {
+	if !d.isQuiet() {
 		return 0
 	}
-	return d.quietUntil.Sub(now)
+	if left := d.quietUntil.Sub(now); left > tick {
+		return left
+	}
+	return tick
 }
 
 // quietOf returns for how long only those inside get the vote of a lock, if there is one. It stays quiet while one waits who
@@ -210,6 +218,14 @@ func (d *Daemon) noteInside(v *vote, said wire.Line, now time.Time) {
 			v.insiders = map[int]uint64{}
 		}
 		v.insiders[said.From] = said.Stamp
+	}
+}
+
+// takeBack takes a RELINQUISH of the quiet time, of who has a grant of before the start. His request does not wait behind the
+// grant: if the state is an older copy, the vote may be somebody else's, who says that he is inside.
+func (d *Daemon) takeBack(v *vote, said wire.Line, now time.Time) {
+	if v.isHolder(said.From) && v.held.Number == said.Stamp {
+		d.letGo(v, now)
 	}
 }
 

@@ -1,6 +1,8 @@
 package voter
 
 import (
+	"fmt"
+	"strings"
 	"testing"
 	"time"
 
@@ -181,6 +183,135 @@ func TestNoReminderWhileQuiet(t *testing.T) {
 		if d.round(later); len(d.out) > 0 == isOld {
 			t.Errorf("old: %v, %q", isOld, d.out)
 		}
+	}
+}
+
+// When the quiet time ends, a voter lets grants of before its start go, and no other one: not that of who asked when the time
+// was over and the old grants were still there, nor that of who waited for an old one, and said that he is inside.
+func TestEndOfTheQuietTime(t *testing.T) {
+	first, _ := alone(t, 10)
+	for number := 1; number <= 3; number++ {
+		first.repliesTo("jobs", number, fmt.Sprintf(". claim %d 1 100\n", number))
+	}
+	first.repliesTo("jobs", 1, "left request 1 0 1\ngiven request 1 0 2\nfree request 1 0 3\nfree release 1 0 3\n")
+	if err := first.save(time.Now()); err != nil {
+		t.Fatal(err)
+	}
+	d := reopened(t, first)
+	d.quietUntil = time.Now().Add(-time.Millisecond)
+	for i, one := range []struct {
+		number      int
+		lines, want string
+	}{
+		{2, "free request 2 0 1\n", ". quiet "},
+		{2, "given request 2 0 2 inside\n", "given fail "},
+		{1, "given release 1 0 2\n", ""},
+		{2, ". open 0\n", "given locked "},
+		{2, "given request 2 0 2\n", ". quiet "},
+	} {
+		if reply := d.repliesTo("jobs", one.number, one.lines); !strings.Contains(reply, one.want) {
+			t.Errorf("line %d: %q", i, reply)
+		}
+	}
+	d.round(time.Now())
+	for name, want := range map[string]uint64{"left": 0, "given": 2} {
+		if held := d.votes[name].held; held.Stamp != want {
+			t.Errorf("%s: the vote is held under stamp %d", name, held.Stamp)
+		}
+	}
+	if d.table.rows[1].Lapses != 1 || d.table.rows[2].Lapses != 0 {
+		t.Errorf("lapses: %d and %d", d.table.rows[1].Lapses, d.table.rows[2].Lapses)
+	}
+	if reply := d.repliesTo("jobs", 3, "free request 3 0 1\n"); !strings.Contains(reply, "free locked ") {
+		t.Errorf("afterwards: %q", reply)
+	}
+	if d.round(time.Now()); d.votes["free"].held.Client != 3 {
+		t.Error("a grant is let go twice")
+	}
+}
+
+// Who gives a grant of before the start back in the quiet time does not get the vote again by it. Somebody else may be inside
+// by a later grant, of which an older copy of the state knows nothing.
+func TestWhatComesBackWhileQuiet(t *testing.T) {
+	first, _ := alone(t, 10)
+	for number := 1; number <= 2; number++ {
+		first.repliesTo("jobs", number, fmt.Sprintf(". claim %d 1 100\n", number))
+	}
+	first.repliesTo("jobs", 1, "orders request 1 0 9\n")
+	grant := first.votes["orders"].held.Number
+	if err := first.save(time.Now()); err != nil {
+		t.Fatal(err)
+	}
+	d := reopened(t, first)
+	d.quietUntil = time.Now().Add(time.Minute)
+	reply := d.repliesTo("jobs", 1, fmt.Sprintf("orders relinquish 1 0 %d\norders request 1 0 9\n", grant))
+	if strings.Contains(reply, "locked") || !strings.Contains(reply, ". gone orders 9") || !strings.Contains(reply, ". quiet ") {
+		t.Errorf("who gave it back: %q", reply)
+	}
+	if reply := d.repliesTo("jobs", 2, "orders request 2 0 1 inside\n"); !strings.Contains(reply, "orders locked ") {
+		t.Errorf("who is inside: %q", reply)
+	}
+	if lapses := d.table.rows[1].Lapses; lapses > 0 {
+		t.Errorf("%d lapses of who gave it back", lapses)
+	}
+}
+
+// A voter that ends in its quiet time does not say that it ended cleanly: the next start is quiet, too.
+func TestEndWhileQuiet(t *testing.T) {
+	for _, isQuiet := range []bool{true, false} {
+		d := pair(t)
+		d.join.done = true
+		if isQuiet {
+			d.quietUntil = time.Now().Add(time.Minute)
+		}
+		carrier := d.carrier.(*post)
+		carrier.sent = nil
+		if err := d.end(); err != nil {
+			t.Fatal(err)
+		}
+		said := 0
+		for _, message := range carrier.sent {
+			if strings.Contains(string(message), `"ended"`) {
+				said++
+			}
+		}
+		if (said == 0) != isQuiet {
+			t.Errorf("quiet: %v, and %d voters hear of a clean end", isQuiet, said)
+		}
+	}
+}
+
+// A session that another voter ended may still be heard here, and be inside. Its votes and its number go when it would have been
+// silent for a TTL, also after a restart.
+func TestWhatOthersEnd(t *testing.T) {
+	d, _ := alone(t, 10)
+	for number := 1; number <= 2; number++ {
+		d.repliesTo("jobs", number, fmt.Sprintf(". claim %d 1 100\n", number))
+	}
+	d.repliesTo("jobs", 1, "orders request 1 0 1\n")
+	d.repliesTo("jobs", 2, "orders request 2 0 2\n")
+	now := time.Now()
+	if err := d.learn(`{"sessions":{"1":{"epoch":2,"used":true,"base":1000,"reserved":1000}}}`, now); err != nil {
+		t.Fatal(err)
+	}
+	stays := func(when string) {
+		t.Helper()
+		d.round(now)
+		if v := d.votes["orders"]; v.held.Client != 1 || d.table.state(1) != 0 || claimAt(&d.table, 1, "other", 3, now) {
+			t.Errorf("%s: the vote is held by %+v, and its number is to be had: %d", when, v.held, d.table.state(1))
+		}
+	}
+	stays("at once")
+	if err := d.save(now); err != nil {
+		t.Fatal(err)
+	}
+	d = reopened(t, d)
+	d.repliesTo("jobs", 2, "orders request 2 0 2\n")
+	stays("after a restart")
+	later := time.Now().Add(2 * d.table.ttl)
+	passes(&d.table, later)
+	if d.round(later); d.votes["orders"].held.Client != 2 || d.table.state(1) != 1 || !claimAt(&d.table, 1, "other", 3, later) {
+		t.Errorf("after a TTL: the vote is held by %+v, and its number is free: %d", d.votes["orders"].held, d.table.state(1))
 	}
 }
 

@@ -65,6 +65,7 @@ type table struct {
 	rows    [qlock.MaxClients]Session
 	names   [qlock.MaxClients]string    // of the sessions of these rows that were heard in this run; nothing can be sent to others
 	heard   [qlock.MaxClients]time.Time // on the lease clock
+	byWord  [qlock.MaxClients]bool      // another voter ended the session, which may not know so: its votes go by the lease
 	clock   leaseClock
 	changed map[int]Session // to be saved before anything leaves
 	later   map[int]Session // to be saved with the next save: after a crash a TTL makes up for it
@@ -109,8 +110,11 @@ func (t *table) hear(number int, now time.Time) { t.heard[number] = t.clock.at(n
 // heard.
 func (t *table) silent(number int) time.Duration { return t.clock.reading().Sub(t.heard[number]) }
 
-// isDead returns whether the votes of a number may be let go: its session was ended, or silent for a TTL.
-func (t *table) isDead(number int) bool { return !t.rows[number].Open || t.silent(number) >= t.ttl }
+// isDead returns whether the votes of a number may be let go: its session was ended, or silent for a TTL. One that another
+// voter ended counts as silent since then.
+func (t *table) isDead(number int) bool {
+	return !t.rows[number].Open && !t.byWord[number] || t.silent(number) >= t.ttl
+}
 
 // lapse counts that a grant of a number's session is let go since it was silent. Whoever hears the
 // voter later hears the count.
@@ -120,8 +124,9 @@ func (t *table) lapse(number int) {
 	t.put(number, row)
 }
 
-// lapses returns the count of a session, 0 if it has no number here.
-func (t *table) lapses(name string) uint64 {
+// lapses returns the count of a session, 0 if it has no number here. If it has two, as one of which it did not get it counts,
+// too, it is the greater one.
+func (t *table) lapses(name string) (count uint64) {
 	hash := "" // once a row needs it
 	for i := range t.rows {
 		row := &t.rows[i]
@@ -129,10 +134,10 @@ func (t *table) lapses(name string) uint64 {
 			hash = hashed(name)
 		}
 		if row.Open && (t.names[i] == name || t.names[i] == "" && row.Hash == hash) {
-			return row.Lapses
+			count = greatest(count, row.Lapses)
 		}
 	}
-	return 0
+	return count
 }
 
 // isOf returns whether a number's row is that of a session.
@@ -150,12 +155,12 @@ func (t *table) isEarlier(number int, stamp uint64) bool { return stamp <= t.row
 // state returns what a claimer has to know of a number: 1 if it is free, 2 if its session was silent for a TTL, else 0.
 func (t *table) state(number int) int {
 	switch {
+	case !t.isDead(number):
+		return 0
 	case !t.rows[number].Open:
 		return 1
-	case t.isDead(number):
-		return 2
 	}
-	return 0
+	return 2
 }
 
 // put changes a row. It is saved before anything leaves.
@@ -265,7 +270,7 @@ func (t *table) claim(number int, name string, epoch, stamps uint64, now time.Ti
 	}
 	t.epochs[number].spend(growth)
 	t.put(number, Session{Hash: hashed(name), Epoch: epoch, Base: row.Reserved, Reserved: row.Reserved, Open: true})
-	t.names[number] = name
+	t.names[number], t.byWord[number] = name, false
 	t.hear(number, now)
 	t.reserve(number, row.Reserved+smallest(stamps, mostClaimed), now)
 	return true
@@ -301,6 +306,7 @@ func (t *table) learn(number int, row Session, now time.Time) bool {
 	if newer {
 		own = row
 		own.Base, own.Lapses = greatest(before.Reserved, row.Base), 0
+		t.byWord[number] = !own.Open && (before.Open || t.byWord[number])
 		t.hear(number, now)
 	}
 	own.Reserved = greatest(before.Reserved, greatest(row.Reserved, own.Base))

@@ -189,3 +189,18 @@ func weight(i, meet int) int {
 	}
 	return 1
 }
+
+// A session that has two numbers here, as one of which it did not get it counts, too, hears the greater count of its lapses.
+func TestLapsesOfTwoNumbers(t *testing.T) {
+	now := time.Now()
+	table := newTable(now)
+	for _, number := range []int{3, 9, 12} {
+		if !claimAt(table, number, "jobs.me", 1, now) {
+			t.Fatal("no number")
+		}
+	}
+	table.lapse(9)
+	if lapses := table.lapses("jobs.me"); lapses != 1 {
+		t.Errorf("%d lapses", lapses)
+	}
+}

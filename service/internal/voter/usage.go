@@ -60,6 +60,15 @@ func (d *Daemon) isAtBound(v *vote, user string) bool {
 	return u != nil && u.votes >= d.own.LocksOfUser() && (v == nil || v.users[user] == 0)
 }
 
+// isInTheWay returns whether a grant goes with its session though nobody waits for the vote: the session can't come back, or
+// there was no room for another lock of its user, or for any.
+func (d *Daemon) isInTheWay(v *vote) bool {
+	client := int(v.held.Client)
+	u := d.users[v.asks[client].user]
+	return !d.table.rows[client].Open || d.table.isEarlier(client, v.held.Stamp) ||
+		u != nil && u.isFull && u.votes >= d.own.LocksOfUser() || d.isFull && len(d.votes) >= d.own.MaxLocks
+}
+
 // fullForUser refuses a REQUEST of a user that is at its bound.
 func (d *Daemon) fullForUser(l *letter, lock []byte, said wire.Line) {
 	user := userOf(l.Name)

@@ -83,3 +83,47 @@ func TestLocksOfAUser(t *testing.T) {
 		t.Errorf("jobs has %v", again.users["jobs"])
 	}
 }
+
+// A grant that nobody waits for stays while its session is silent, and goes once its user is refused another lock, or a voter
+// has no room for any. If the session is over it goes at once.
+func TestDeadSessionsMakeRoom(t *testing.T) {
+	for _, one := range []struct {
+		name            string
+		ofVoter, ofUser int
+		left, lapses    int
+	}{{"of the user", 100, 2, 1, 1}, {"of the voter", 2, 100, 0, 2}} {
+		d, _ := alone(t, one.ofVoter)
+		d.own.MaxLocksUser = one.ofUser
+		for number := 1; number <= 2; number++ {
+			d.repliesTo("jobs", number, fmt.Sprintf(". claim %d 1 1000\n", number))
+		}
+		d.repliesTo("jobs", 1, "a request 1 0 1\nb request 1 0 2\n")
+		later := time.Now().Add(2 * d.table.ttl)
+		passes(&d.table, later)
+		held := func() (count int) {
+			d.round(later)
+			for _, v := range d.votes {
+				if v.held.Number > 0 {
+					count++
+				}
+			}
+			return count
+		}
+		if count := held(); count != 2 {
+			t.Errorf("%s: of a session that is silent %d are left", one.name, count)
+		}
+		if reply := d.repliesTo("jobs", 2, "c request 2 0 1\n"); !strings.Contains(reply, ". full ") {
+			t.Errorf("%s: %q", one.name, reply)
+		}
+		if count, lapses := held(), d.table.rows[1].Lapses; count != one.left || lapses != uint64(one.lapses) {
+			t.Errorf("%s: %d are left, and %d lapses", one.name, count, lapses)
+		}
+	}
+	d, _ := alone(t, 100)
+	d.repliesTo("jobs", 1, ". claim 1 1 1000\n")
+	d.repliesTo("jobs", 1, "a request 1 0 1\n")
+	d.table.end(1)
+	if d.round(time.Now()); d.votes["a"].held.Number > 0 {
+		t.Error("a session that is over keeps its vote")
+	}
+}

@@ -25,7 +25,7 @@ type vote struct {
 	timer remind.Timer   // for the reminder of whoever has it
 
 	limit   uint64 // how many grants it may give
-	isOld   bool   // its grant is from before the start, and nobody said that he is inside by it
+	isOld   bool   // its grant is from before the start, and nobody said since that he is inside by it
 	isSpent bool   // it was logged that all grants are given
 
 	insiders map[int]uint64 // by client: the stamp by which he said in the quiet time that he is inside, and waits
@@ -67,7 +67,6 @@ func (d *Daemon) restore(name string, state []byte, now time.Time) error {
 		return err
 	}
 	v := d.add(name, voter)
-	v.isOld = true
 	held, err := v.Held()
 	if err == nil && held.Number == 0 {
 		d.rest(v, now)
@@ -78,7 +77,9 @@ func (d *Daemon) restore(name string, state []byte, now time.Time) error {
 	if err := d.noteAsk(v, int(held.Client), now); err != nil {
 		return err
 	}
-	return d.noteGrant(v, now)
+	err = d.noteGrant(v, now)
+	v.isOld = true
+	return err
 }
 
 // noteAsk notes whether a client has the vote or waits for it, after a step that may have changed it.
@@ -142,7 +143,7 @@ func (d *Daemon) noteGrant(v *vote, now time.Time) error {
 		return err
 	}
 	if held.Number != v.held.Number {
-		v.held, v.since = held, now
+		v.held, v.since, v.isOld = held, now, false
 		if held.Number > 0 {
 			v.highest = greatest(v.highest, held.Number)
 			delete(v.insiders, int(held.Client))

@@ -349,11 +349,11 @@ var orders = map[string]bool{"evict": true, "unlock": true, "exchange": true, "r
 func FuzzOperator(f *testing.F) {
 	s := newStage(f)
 	plan := "0 " + config.Mark(0, s.cluster.Coterie)
-	for _, words := range []string{"status", "sessions", "lock orders", "lock x y", "evict 0", "evict 64",
+	for _, words := range []string{"status", "knows", "lock orders", "lock x y", "evict 0", "evict 64",
 		"unlock orders 1", "unlock orders 2", "ready " + plan, "retire " + plan, "retire 1 " + plan[2:],
-		"settle " + plan + " {\"3\":{\"name\":\"x\",\"epoch\":9,\"base\":1,\"reserved\":7,\"open\":true}}",
-		"inform " + plan + " {\"3\":{\"name\":\"x\",\"epoch\":9,\"base\":1,\"reserved\":7,\"open\":true}}",
-		"settle " + plan + " {\"99\":{}}", "would 1 dm90ZXJz cGxhbg==", "exchange 1 dm90ZXJz cGxhbg==", "", "evict"} {
+		"settle " + plan + " {\"sessions\":{\"3\":{\"name\":\"x\",\"epoch\":9,\"base\":1,\"reserved\":7,\"open\":true}}}",
+		"inform " + plan + " {\"sessions\":{\"3\":{\"name\":\"x\",\"epoch\":9,\"base\":1,\"reserved\":7,\"open\":true}}}",
+		"settle " + plan + " {\"sessions\":{\"99\":{}},\"peers\":{\"99\":{},\"2\":{\"identity\":\"x\",\"ceiling\":7}}}", "would 1 dm90ZXJz cGxhbg==", "exchange 1 dm90ZXJz cGxhbg==", "", "evict"} {
 		f.Add(words + "\n")
 	}
 	f.Fuzz(func(t *testing.T, lines string) {

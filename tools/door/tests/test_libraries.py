@@ -73,6 +73,21 @@ class TestLibraries(Place):
         self.run_door("library")
         self.assertEqual(self.calls().count("ci"), 2 * proofs)
 
+    def test_over_what_is_proved(self):
+        # as `rt ci` leaves a crate that it has proved
+        self.write("crates/numbers/out/rlib/numbers.rlib/format", "")
+        ran = self.run_door("library")
+        self.assertEqual(ran.returncode, 0, ran.stderr)
+        self.assertNotIn("ci", self.calls())
+        self.assertTrue(os.path.exists(self.at("build", "libqlock.a")))
+        self.assert_nothing_is_left()
+
+        # what changed since is proved
+        self.write("crates/numbers/proofs/Lib.antt", "")
+        os.utime(self.at("crates/numbers/src/lib.rt"))
+        self.run_door("library")
+        self.assertIn("ci", self.calls())
+
     def test_unproved(self):
         ran = self.run_door("library", FAILS="1")
         self.assertEqual(ran.returncode, 1)
