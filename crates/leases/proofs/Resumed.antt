@@ -22,7 +22,7 @@ use Rattle.world.proofs.Reached.{Given, RunOk}
 use Rattle.progress.proofs.Losses.{course_at}
 use Rattle.progress.proofs.Olds.{AreOld}
 use Rattle.progress.proofs.Outstanding.{IsNoted, IsNotedAt, Outstanding}
-use Rattle.progress.proofs.Still.{Goes-run}
+use Rattle.progress.proofs.Lasting.{Goes-run}
 use Rattle.progress.proofs.Sure.{IsSure, IsSure-first, IsSure-run}
 use Rattle.progress.specs.Rules.{Laws}
 use Rattle.progress.proofs.Always.{IsUpTo, WasGiven}

@@ -27,7 +27,7 @@ use world::parts_keep_their_rules;
 /// - A client that asks gets in by reminders, by new messages, and by clients that leave.
 ///
 /// All but the first are for voters with grants left. The second and the third need one, as in `progress`. The
-/// last three need grants for v * (n + 5) fair rounds more than in `progress`, for v voters and n clients.
+/// last three need grants for v * (n + 8) fair rounds more than in `progress`, for v voters and n clients.
 pub fn progress_comes_back()
     ensures overtaken { (deal : Dealing) (w : WorldState) (client other : ℕ) (steps : List Step) (more : List Event)
         → IsReachedAgain deal w → IsKnownEverywhere w client → other ≢ client → StillRuns w (run_of deal steps w) client
