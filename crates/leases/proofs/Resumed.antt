@@ -22,10 +22,10 @@ use Rattle.world.proofs.Reached.{Given, RunOk}
 use Rattle.progress.proofs.Losses.{course_at}
 use Rattle.progress.proofs.Olds.{AreOld}
 use Rattle.progress.proofs.Outstanding.{IsNoted, IsNotedAt, Outstanding}
-use Rattle.progress.proofs.Still.{Goes-run}
+use Rattle.progress.proofs.Lasting.{Goes-run}
 use Rattle.progress.proofs.Sure.{IsSure, IsSure-first, IsSure-run}
 use Rattle.progress.specs.Rules.{Laws}
-use Rattle.progress.proofs.Always.{IsUpTo, WasGiven}
+use Rattle.progress.proofs.Always.{Heeds, IsUpTo, WasGiven, heeds}
 use Rattle.progress.proofs.Fitting.{current_busy}
 use Rattle.progress.proofs.Kept.{IsKept, IsKept-first, IsKept-run, Keeps}
 use Rattle.progress.proofs.Moves.{StaysCoherent}
@@ -139,6 +139,7 @@ pub record Resumes (deal : Dealing) (w : WorldState) : Type 0 where
   pub old : ℕ → ℕ
   pub few : AreOld (record { deal = deal; old = old }) w
   pub sure : IsSure (record { deal = deal; old = old }) w
+  pub heeded : (c : ℕ) → Heeds c w
 
 pub resumes : Laws → ClientLaws → VoterLaws → (deal : Dealing) (w : WorldState) → IsReachedAgain deal w → Resumes deal w
 resumes rules cs vs deal w r =
@@ -150,4 +151,5 @@ resumes rules cs vs deal w r =
       old = p.old;
       few = subst (AreOld p) (sym g.state) (λ v. (let rises = (goes.outlasts v).granted in omega arith));
       sure = subst (IsSure p) (sym g.state) (IsSure-run p g.steps g.first sure);
+      heeded = λ c. heeds c w (kept_again rules cs vs deal w r []).always;
     }

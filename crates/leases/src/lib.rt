@@ -39,7 +39,8 @@
 //! - after evictions, rebirths and clients anew, once all clients are idle, as they are and as saved, at
 //!   most one is inside for as long as no incident befalls ([`exclusion_comes_back`]);
 //! - after these, once all clients are idle as they are, **requests get on again**: the laws of `progress`
-//!   that name no rounds hold ([`progress_comes_back`]);
+//!   that name no rounds hold ([`progress_comes_back`]), and **rounds count again**, for any choice of quorums that
+//!   meet and a limit of grants for each voter: whoever asks enters ([`rounds_come_back`]);
 //! - no request up to a stamp that a voter has finished is known there again, while the voter keeps its
 //!   state ([`finished_requests_stay_out`]).
 //!
@@ -73,7 +74,7 @@ mod in_order;
 mod laws;
 mod node_runs;
 
-pub use again::progress_comes_back;
+pub use again::{progress_comes_back, rounds_come_back};
 pub use in_order::{clients_inside_are_one, late_passes_are_refused, passes_in_order_are_admitted};
 pub use laws::{
     admitted_passes_are_in_order, admitted_passes_do_not_interleave,

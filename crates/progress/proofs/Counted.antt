@@ -1,5 +1,7 @@
--- how often a patient client begins or stops to ask ahead of a request that is known everywhere: three times
-use Rattle.std.proofs.Common.{◌≡◌, ◌≢◌, ℕ, ◌+◌, ◌<◌, ◌≤◌, Bool, true, false, List, [], ◌∷◌, ◌++◌, Ok, refl, sym, ap, subst, ◌∙◌, ◌⊎◌, inl, inr, arith}
+-- how often a client begins or stops to ask ahead of a request that is known everywhere: three times, and twice for
+-- each hasty withdrawal
+use Rattle.std.proofs.Common.{◌≡◌, ◌≢◌, ℕ, ◌+◌, ◌<◌, ◌≤◌, Bool, true, false, List, [], ◌∷◌, Ok, refl, sym, ap, subst, ◌∙◌, ◌⊎◌, inl, inr, arith, cond, eqb, ◌*◌}
+use Rattle.std.proofs.lemmas.Bool.Decides.{nat_tests}
 use Rattle.std.proofs.lemmas.Bool.{cases_eq, cases_lt, false≢true, false_from_ne_true}
 use Rattle.numbers.specs.Sets.{has}
 use Rattle.voter.specs.VoterContract.{IsEntry}
@@ -9,10 +11,10 @@ use Rattle.requester.specs.Steps as requester
 use Rattle.requester.specs.Words.{is_asking, is_idle, is_member}
 use Rattle.requester.proofs.SoundSteps.{give_up-Ok, is_asking-busy, is_asking-outside, leave-Ok}
 use Rattle.world_state.specs.declared.step.Step.{Step}
-use Rattle.world_state.specs.declared.step.Step.TheVariants.{GiveUp, RemindClient}
+use Rattle.world_state.specs.declared.step.Step.TheVariants.{Ask, Deliver, Leave, GiveUp, RemindClient, RemindVoter, Exchange}
 use Rattle.world.specs.Runs.{run_of}
-use Rattle.world_state.specs.Steps.{Dealing, WorldState, client_at, voter_at}
-use Rattle.progress.specs.Patience.{ArePatientFrom, HasWaited, HaveWaited}
+use Rattle.world_state.specs.Steps.{WorldState, client_at, voter_at, Dealing}
+use Rattle.progress.specs.Patience.{hasty, hasty_from, hasty_steps}
 use Rattle.progress.specs.Rounds.{AreFairRounds, IsFairRound, steps_of}
 use Rattle.progress.specs.Rules.{Laws}
 use Rattle.progress.proofs.Along.{Along, along-first, along-last, along-split, next, reminded_at}
@@ -24,10 +26,13 @@ use Rattle.progress.proofs.Known.{known_after, within_by}
 use Rattle.progress.proofs.Moves.{ClientMoved, Makes, Moved, Moved-by, MovedBy, each_client}
 use Rattle.progress.proofs.Outstanding.{step-GivesUp, step-Leaves}
 use Rattle.progress.proofs.Overdue.{along-and, runs_until}
-use Rattle.progress.proofs.Still.{Lasts, Lasts-moved, Lasts-run, Lasts-self, Lasts-then, RunsOn}
+use Rattle.progress.proofs.Lasting.{Lasts, Lasts-moved, Lasts-run, Lasts-self, Lasts-then, RunsOn}
 use Rattle.progress.proofs.Sure.{Course}
-use Rattle.progress.proofs.Tame.{above_bound, asks_up_to, turns_up_to, up_to_asks, up_to_is, up_to_stamp}
-use Rattle.progress.proofs.Turns.{asks_then, inside_by, stamp-take, step-Asks, turn}
+use Rattle.progress.proofs.Tame.{above_bound, asks_up_to, turns_up_to, turns_up_to-append, up_to_asks, up_to_is, up_to_stamp}
+use Rattle.progress.proofs.Turns.{asks_then, at_most_once, inside_by, stamp-take, step-Asks, turn}
+use Rattle.std.specs.Prelude.{if◌then◌else◌, nat_lt, ◌&&◌}
+use Rattle.numbers.specs.Sums.{sum_below}
+use Rattle.numbers.proofs.SumsBelow.{sum_below-add, sum_below-zero}
 
 -- ---- stamps
 
@@ -84,11 +89,11 @@ stops_heard laws p w c d other t x y before after moved = elim moved [
 
 -- ---- how often it may still turn
 
--- At most k turns are left: 3 while the client has the stamp that it had in the world w; 2 once that request is
--- over; 1 while it asks under a newer stamp up to that of c; 0 once it has heard of the request of c.
+-- At most k turns are left: 3 while the client has the stamp that it had in the world w; 2 while it does not ask
+-- under a stamp up to that of c; 1 while it asks under a newer one; 0 once it has heard of the request of c.
 abbrev Room : WorldState → ℕ → ℕ → ℕ → WorldState → Type 0
 Room w c d k x = ((k ≡ 3) × (stamp_of x d ≡ stamp_of w d))
-    ⊎ ((k ≡ 2) × (stamp_of x d ≡ stamp_of w d) × (asks_up_to (stamp_of w c) x d ≡ false))
+    ⊎ ((k ≡ 2) × (stamp_of w d ≤ stamp_of x d) × (asks_up_to (stamp_of w c) x d ≡ false))
     ⊎ ((k ≡ 1) × (stamp_of w d < stamp_of x d) × (asks_up_to (stamp_of w c) x d ≡ true))
     ⊎ ((k ≡ 0) × (asks_up_to (stamp_of w c) x d ≡ false) × HasHeard w c d x)
 
@@ -120,9 +125,10 @@ new_room w c d p x y after newer asks =
 more_room : (w : WorldState) (c d k n : ℕ) (x y : WorldState) → k ≤ n → After w c d k x y → After w c d n x y
 more_room w c d k n x y most h = (h.0, h.1, (let few = h.2 in omega arith))
 
-room_step : (laws : Laws) (p : Course) (w : WorldState) (c d : ℕ) → d ≢ c → (t : Step) (x y : WorldState) → Trails p w c x → Trails p w c y → MovedBy t x y
-    → (t ≡ GiveUp d → is_asking (client_at x.clients d).phase ≡ true → stamp_of w d < stamp_of x d → HasHeard w c d x) → (k : ℕ) → Room w c d k x → After w c d k x y
-room_step laws p w c d other t x y before after moved gave k room =
+-- a step by which the client gives up hastily h times
+room_step : (laws : Laws) (p : Course) (w : WorldState) (c d h : ℕ) → d ≢ c → (t : Step) (x y : WorldState) → Trails p w c x → Trails p w c y → MovedBy t x y
+    → (t ≡ GiveUp d → is_asking (client_at x.clients d).phase ≡ true → stamp_of w d < stamp_of x d → HasHeard w c d x ⊎ (1 ≤ h)) → (k : ℕ) → Room w c d k x → After w c d (k + 2 * h) x y
+room_step laws p w c d h other t x y before after moved gave k room =
     let s = stamp_of w c in
     let t0 = stamp_of w d in
     let up_x = asks_up_to s x d in
@@ -133,7 +139,7 @@ room_step laws p w c d other t x y before after moved gave k room =
     -- who asks under the stamp that it had asked before
     let back : stamp_of y d ≡ stamp_of x d → up_y ≡ true → up_x ≡ true = λ same up.
     up_to_is s x d (lasts.asks same (up_to_asks s y d up)) (let few = up_to_stamp s y d up in omega arith) in
-    let fresh : stamp_of x d ≡ t0 → (stamp_of y d ≡ stamp_of x d) ⊎ After w c d 2 x y = λ old. elim (cases_lt (stamp_of x d) (stamp_of y d)) [
+    let fresh : t0 ≤ stamp_of x d → (stamp_of y d ≡ stamp_of x d) ⊎ After w c d 2 x y = λ old. elim (cases_lt (stamp_of x d) (stamp_of y d)) [
       | inr few ↦ inl (omega arith)
       | inl more ↦ elim (stamp_or_asks x y (Moved-by t x y moved) d) [
         | inl same ↦ inl same
@@ -141,31 +147,47 @@ room_step laws p w c d other t x y before after moved gave k room =
       ]
     ] in
     elim room [
-      | inl three ↦ elim (fresh three.1) [
-        | inr new ↦ more_room w c d 2 k x y (let is = three.0 in omega arith) new
-        | inl same ↦ elim up_y as (λ b. up_y ≡ b → After w c d k x y) [
-          | true ↦ λ up. (let none = turn_of up_x up_y true true (back same up) up in (3, inl (refl, same ∙ three.1), (let is = three.0 in omega arith)))
-          | false ↦ λ not. (2, inr (inl (refl, same ∙ three.1, not)), (let is = three.0 in omega arith))
-        ] refl
-      ]
-      | inr (inl two) ↦ elim (fresh two.1) [
-        | inr new ↦ more_room w c d 2 k x y (let is = two.0 in omega arith) new
-        | inl same ↦ elim up_y as (λ b. up_y ≡ b → After w c d k x y) [
-          | true ↦ λ up. absurd (false≢true (sym two.2 ∙ back same up))
-          | false ↦ λ not. (let none = turn_of up_x up_y false false two.2 not in (2, inr (inl (refl, same ∙ two.1, not)), (let is = two.0 in omega arith)))
-        ] refl
-      ]
-      | inr (inr (inl one)) ↦ elim up_y as (λ b. up_y ≡ b → After w c d k x y) [
-        | true ↦ λ up. (let none = turn_of up_x up_y true true one.2 up in let newer = one.1 in (1, inr (inr (inl (refl, omega arith, up))), (let is = one.0 in omega arith)))
-        | false ↦ λ not.
-            let asks_x = up_to_asks s x d one.2 in
-            let high : HasHeard w c d y = elim (is_asking (client_at y.clients d).phase) as (λ b. is_asking (client_at y.clients d).phase ≡ b → HasHeard w c d y) [
-              | true ↦ λ asks. (let above = above_bound s y d not asks in let behind = ((after.reached []).coherent.clients d).clock in omega arith)
-              | false ↦ λ quiet. stops_heard laws p w c d other t x y before after moved one.1 asks_x quiet (λ is. gave is asks_x one.1)
-            ] refl in
-            (0, inr (inr (inr (refl, not, high))), (let is = one.0 in omega arith))
-      ] refl
+      | inl three ↦
+          let is = three.0 in
+          let old = three.1 in
+          elim (fresh (omega arith)) [
+            | inr new ↦ more_room w c d 2 (k + 2 * h) x y (omega arith) new
+            | inl same ↦ elim up_y as (λ b. up_y ≡ b → After w c d (k + 2 * h) x y) [
+              | true ↦ λ up. (let none = turn_of up_x up_y true true (back same up) up in (3, inl (refl, same ∙ old), omega arith))
+              | false ↦ λ not. (2, inr (inl (refl, omega arith, not)), omega arith)
+            ] refl
+          ]
+      | inr (inl two) ↦
+          let is = two.0 in
+          let old = two.1 in
+          elim (fresh old) [
+            | inr new ↦ more_room w c d 2 (k + 2 * h) x y (omega arith) new
+            | inl same ↦ elim up_y as (λ b. up_y ≡ b → After w c d (k + 2 * h) x y) [
+              | true ↦ λ up. absurd (false≢true (sym two.2 ∙ back same up))
+              | false ↦ λ not. (let none = turn_of up_x up_y false false two.2 not in (2, inr (inl (refl, omega arith, not)), omega arith))
+            ] refl
+          ]
+      | inr (inr (inl one)) ↦
+          let is = one.0 in
+          let newer = one.1 in
+          elim up_y as (λ b. up_y ≡ b → After w c d (k + 2 * h) x y) [
+            | true ↦ λ up. (let none = turn_of up_x up_y true true one.2 up in (1, inr (inr (inl (refl, omega arith, up))), omega arith))
+            | false ↦ λ not. elim (cases_lt 0 h) [
+              | inl some ↦ (2, inr (inl (refl, omega arith, not)), omega arith)
+              | inr none ↦
+                  let asks_x = up_to_asks s x d one.2 in
+                  let high : HasHeard w c d y = elim (is_asking (client_at y.clients d).phase) as (λ b. is_asking (client_at y.clients d).phase ≡ b → HasHeard w c d y) [
+                    | true ↦ λ asks. (let above = above_bound s y d not asks in let behind = ((after.reached []).coherent.clients d).clock in omega arith)
+                    | false ↦ λ quiet. stops_heard laws p w c d other t x y before after moved newer asks_x quiet (λ gives. elim (gave gives asks_x newer) [
+                      | inl heard ↦ heard
+                      | inr some ↦ absurd (omega arith)
+                    ])
+                  ] refl in
+                  (0, inr (inr (inr (refl, not, high))), omega arith)
+            ]
+          ] refl
       | inr (inr (inr done)) ↦
+          let is = done.0 in
           let ticks = Ticks-moved laws.client x y (before.reached []).coherent (Moved-by t x y moved) d in
           let high = done.2 in
           let not : up_y ≡ false = false_from_ne_true up_y (λ up. elim (ticks.asking (up_to_asks s y d up)) [
@@ -173,8 +195,64 @@ room_step laws p w c d other t x y before after moved gave k room =
             | inr new ↦ (let few = up_to_stamp s y d up in omega arith)
           ]) in
           let none = turn_of up_x up_y false false done.1 not in
-          (0, inr (inr (inr (refl, not, heard_kept laws p w c d t x y before.reached moved high))), (let is = done.0 in omega arith))
+          (0, inr (inr (inr (refl, not, heard_kept laws p w c d t x y before.reached moved high))), omega arith)
     ]
+
+-- ---- hasty withdrawals of one client
+
+-- 1 if the step is such a withdrawal of this client, else 0
+abbrev own_hasty : ℕ → WorldState → WorldState → Step → ℕ
+own_hasty d u x (Ask c) = 0
+own_hasty d u x (Deliver k) = 0
+own_hasty d u x (Leave c) = 0
+own_hasty d u x (GiveUp c) = cond (eqb c d) (hasty u x (GiveUp c)) 0
+own_hasty d u x (RemindClient c) = 0
+own_hasty d u x (RemindVoter v) = 0
+own_hasty d u x Exchange = 0
+
+abbrev own_steps : Dealing → ℕ → WorldState → WorldState → List Step → ℕ
+own_steps deal d u x [] = 0
+own_steps deal d u x (s ∷ steps) = own_hasty d u x s + own_steps deal d u (next deal x s) steps
+
+abbrev pub own_from : Dealing → ℕ → WorldState → WorldState → WorldState → List (List Step) → ℕ
+own_from deal d u v w [] = 0
+own_from deal d u v w (r ∷ rs) = own_steps deal d u w r + own_from deal d v w (run_of deal r w) rs
+
+one_hasty : (n : ℕ) (u x : WorldState) (s : Step) → sum_below (λ d. own_hasty d u x s) n ≤ hasty u x s
+one_hasty n u x (Ask c) = (let none = sum_below-zero n in omega arith)
+one_hasty n u x (Deliver k) = (let none = sum_below-zero n in omega arith)
+one_hasty n u x (Leave c) = (let none = sum_below-zero n in omega arith)
+one_hasty n u x (GiveUp c) = at_most_once c (hasty u x (GiveUp c)) n
+one_hasty n u x (RemindClient c) = (let none = sum_below-zero n in omega arith)
+one_hasty n u x (RemindVoter v) = (let none = sum_below-zero n in omega arith)
+one_hasty n u x Exchange = (let none = sum_below-zero n in omega arith)
+
+all_steps : (deal : Dealing) (n : ℕ) (u x : WorldState) (steps : List Step) → sum_below (λ d. own_steps deal d u x steps) n ≤ hasty_steps deal u x steps
+all_steps deal n u x [] = (let none = sum_below-zero n in omega arith)
+all_steps deal n u x (s ∷ steps) =
+    let y = next deal x s in
+    let here = one_hasty n u x s in
+    let rest = all_steps deal n u y steps in
+    let both = sum_below-add n (λ d. own_hasty d u x s) (λ d. own_steps deal d u y steps) in
+    omega arith
+
+-- those of all clients
+pub all_hasty : (deal : Dealing) (n : ℕ) (u v w : WorldState) (rounds : List (List Step)) → sum_below (λ d. own_from deal d u v w rounds) n ≤ hasty_from deal u v w rounds
+all_hasty deal n u v w [] = (let none = sum_below-zero n in omega arith)
+all_hasty deal n u v w (r ∷ rs) =
+    let z = run_of deal r w in
+    let here = all_steps deal n u w r in
+    let rest = all_hasty deal n v w z rs in
+    let both = sum_below-add n (λ d. own_steps deal d u w r) (λ d. own_from deal d v w z rs) in
+    omega arith
+
+-- who gives up a request that was made after the world u is hasty
+is_hasty : (d : ℕ) (u x : WorldState) (t : Step) → t ≡ GiveUp d → is_asking (client_at x.clients d).phase ≡ true → stamp_of u d < stamp_of x d → 1 ≤ own_hasty d u x t
+is_hasty d u x t gives asks newer =
+    let same : eqb d d ≡ true = grind (arith, nat_tests) in
+    let later : nat_lt (stamp_of u d) (stamp_of x d) ≡ true = grind (arith, nat_tests) in
+    let one : own_hasty d u x t ≡ 1 = ap (own_hasty d u x) gives ∙ ap (λ b. cond b (hasty u x (GiveUp d)) 0) same ∙ (λ i. if asks i && later i then 1 else 0) in
+    omega arith
 
 -- ---- in a round
 
@@ -188,22 +266,25 @@ abbrev HeardBy : WorldState → ℕ → ℕ → WorldState → WorldState → Ty
 HeardBy w c d u a = stamp_of w d < stamp_of a d → is_asking (client_at a.clients d).phase ≡ true → stamp_of a d ≡ stamp_of u d → HasHeard w c d a
 
 in_round : (laws : Laws) (p : Course) (w : WorldState) (c d : ℕ) → d ≢ c → (u a : WorldState) → stamp_of u d ≤ stamp_of a d → HeardBy w c d u a → (steps : List Step) (x : WorldState)
-    → Along (Trails p w c) MovedBy p.deal steps x → HaveWaited p.deal u x steps → Since a x d → (k : ℕ) → Room w c d k x
-    → (j : ℕ) × Room w c d j (run_of p.deal steps x) × (turns_up_to p.deal (stamp_of w c) d steps x + j ≤ k)
-in_round laws p w c d other u a before heard [] x all wait since k room = (k, room, omega arith)
-in_round laws p w c d other u a before heard (t ∷ steps) x all wait since k room =
+    → Along (Trails p w c) MovedBy p.deal steps x → Since a x d → (k : ℕ) → Room w c d k x
+    → (j : ℕ) × Room w c d j (run_of p.deal steps x) × (turns_up_to p.deal (stamp_of w c) d steps x + j ≤ k + 2 * own_steps p.deal d u x steps)
+in_round laws p w c d other u a before heard [] x all since k room = (k, room, omega arith)
+in_round laws p w c d other u a before heard (t ∷ steps) x all since k room =
     let deal = p.deal in
     let y = next deal x t in
     let here = all.0 in
     let after = along-first (Trails p w c) MovedBy deal steps y all.2 in
-    let gave : t ≡ GiveUp d → is_asking (client_at x.clients d).phase ≡ true → stamp_of w d < stamp_of x d → HasHeard w c d x = λ is asks newer.
-    let waited = (subst (HasWaited u x) is wait.0) asks in
-    let rises = since.lasts.stamp in
-    let same : stamp_of x d ≡ stamp_of a d = omega arith in
-    let high = heard (omega arith) (since.lasts.asks same asks) (omega arith) in
-    let clock = since.clock in
-    omega arith in
-    let one = room_step laws p w c d other t x y here after all.1 gave k room in
+    let gave : t ≡ GiveUp d → is_asking (client_at x.clients d).phase ≡ true → stamp_of w d < stamp_of x d → HasHeard w c d x ⊎ (1 ≤ own_hasty d u x t) = λ is asks newer.
+    elim (cases_lt (stamp_of u d) (stamp_of x d)) [
+      | inl later ↦ inr (is_hasty d u x t is asks later)
+      | inr few ↦
+          let rises = since.lasts.stamp in
+          let same : stamp_of x d ≡ stamp_of a d = omega arith in
+          let high = heard (omega arith) (since.lasts.asks same asks) (omega arith) in
+          let clock = since.clock in
+          inl (omega arith)
+    ] in
+    let one = room_step laws p w c d (own_hasty d u x t) other t x y here after all.1 gave k room in
     let moved = Moved-by t x y all.1 in
     let lasts = Lasts-moved laws x y (here.reached []).coherent (after.reached []).coherent moved d in
     let ticks = (Ticks-moved laws.client x y (here.reached []).coherent moved d).clock in
@@ -211,7 +292,7 @@ in_round laws p w c d other u a before heard (t ∷ steps) x all wait since k ro
       lasts = Lasts-then (client_at a.clients d) (client_at x.clients d) (client_at y.clients d) since.lasts lasts;
       clock = (let clock = since.clock in omega arith);
     } in
-    let rest = in_round laws p w c d other u a before heard steps y all.2 wait.1 since_y one.0 one.1 in
+    let rest = in_round laws p w c d other u a before heard steps y all.2 since_y one.0 one.1 in
     (rest.0, rest.1, (let first = one.2 in let more = rest.2 in omega arith))
 
 -- ---- round by round
@@ -220,10 +301,6 @@ in_round laws p w c d other u a before heard (t ∷ steps) x all wait since k ro
 abbrev KnownBy : WorldState → ℕ → WorldState → WorldState → Type 0
 KnownBy w d v a = stamp_of w d < stamp_of a d → is_asking (client_at a.clients d).phase ≡ true → stamp_of a d ≡ stamp_of v d
     → (q : ℕ) → is_member (client_at a.clients d) q ≡ true → IsEntry (voter_at a.voters q) d (stamp_of a d)
-
-pub turns_up_to-append : (deal : Dealing) (s d : ℕ) (a b : List Step) (x : WorldState) → turns_up_to deal s d (a ++ b) x ≡ turns_up_to deal s d a x + turns_up_to deal s d b (run_of deal a x)
-turns_up_to-append deal s d [] b x = omega arith
-turns_up_to-append deal s d (t ∷ a) b x = (let rest = turns_up_to-append deal s d a b (next deal x t) in omega arith)
 
 -- the request runs on in the round
 runs_round : (laws : Laws) (p : Course) (w : WorldState) (c d : ℕ) (round : List Step) (x : WorldState) → Along (Trails p w c) MovedBy p.deal round x → stamp_of (run_of p.deal round x) d ≡ stamp_of x d
@@ -264,23 +341,24 @@ known_next laws p w c d x round all fair newer asks same q member =
     (known_after laws p x round d q runs (fair.clients d (within_by x d (is_asking-busy (client_at x.clients d).phase asks_x))) asks_x before)
 
 all_rounds : (laws : Laws) (p : Course) (w : WorldState) (c d : ℕ) → d ≢ c → (rounds : List (List Step)) (u v x : WorldState) → stamp_of u d ≤ stamp_of v d → stamp_of v d ≤ stamp_of x d
-    → HeardBy w c d u x → KnownBy w d v x → Along (Trails p w c) MovedBy p.deal (steps_of rounds) x → AreFairRounds p.deal x rounds → ArePatientFrom p.deal u v x rounds → (k : ℕ) → Room w c d k x
-    → turns_up_to p.deal (stamp_of w c) d (steps_of rounds) x ≤ k
-all_rounds laws p w c d other [] u v x first second heard known all fair wait k room = omega arith
-all_rounds laws p w c d other (r ∷ rs) u v x first second heard known all fair wait k room =
+    → HeardBy w c d u x → KnownBy w d v x → Along (Trails p w c) MovedBy p.deal (steps_of rounds) x → AreFairRounds p.deal x rounds → (k : ℕ) → Room w c d k x
+    → turns_up_to p.deal (stamp_of w c) d (steps_of rounds) x ≤ k + 2 * own_from p.deal d u v x rounds
+all_rounds laws p w c d other [] u v x first second heard known all fair k room = omega arith
+all_rounds laws p w c d other (r ∷ rs) u v x first second heard known all fair k room =
     let deal = p.deal in
     let z = run_of deal r x in
     let parts = along-split (Trails p w c) MovedBy deal r (steps_of rs) x all in
     let here = along-first (Trails p w c) MovedBy deal r x parts.0 in
     let rises = (Lasts-run laws p r x here.reached d).stamp in
-    let one = in_round laws p w c d other u x (omega arith) heard r x parts.0 wait.0 (record { lasts = Lasts-self (client_at x.clients d); clock = omega arith }) k room in
-    let rest = all_rounds laws p w c d other rs v x z second rises (heard_next laws p w c d v x r second known parts.0 fair.0) (known_next laws p w c d x r parts.0 fair.0) parts.1 fair.1 wait.1 one.0 one.1 in
+    let one = in_round laws p w c d other u x (omega arith) heard r x parts.0 (record { lasts = Lasts-self (client_at x.clients d); clock = omega arith }) k room in
+    let rest = all_rounds laws p w c d other rs v x z second rises (heard_next laws p w c d v x r second known parts.0 fair.0) (known_next laws p w c d x r parts.0 fair.0) parts.1 fair.1 one.0 one.1 in
     let both = turns_up_to-append deal (stamp_of w c) d r (steps_of rs) x in
     let few = one.2 in
     omega arith
 
--- A patient client turns at most three times ahead of a request that is known everywhere.
+-- A client turns at most three times ahead of a request that is known everywhere, and twice more for each hasty
+-- withdrawal.
 pub three_turns : (laws : Laws) (p : Course) (w : WorldState) (c d : ℕ) → d ≢ c → (rounds : List (List Step)) (u v : WorldState) → stamp_of u d ≤ stamp_of v d → stamp_of v d ≤ stamp_of w d
-    → Along (Trails p w c) MovedBy p.deal (steps_of rounds) w → AreFairRounds p.deal w rounds → ArePatientFrom p.deal u v w rounds → turns_up_to p.deal (stamp_of w c) d (steps_of rounds) w ≤ 3
-three_turns laws p w c d other rounds u v first second all fair wait =
-    all_rounds laws p w c d other rounds u v w first second (λ newer. absurd (omega arith)) (λ newer. absurd (omega arith)) all fair wait 3 (inl (refl, refl))
+    → Along (Trails p w c) MovedBy p.deal (steps_of rounds) w → AreFairRounds p.deal w rounds → turns_up_to p.deal (stamp_of w c) d (steps_of rounds) w ≤ 3 + 2 * own_from p.deal d u v w rounds
+three_turns laws p w c d other rounds u v first second all fair =
+    all_rounds laws p w c d other rounds u v w first second (λ newer. absurd (omega arith)) (λ newer. absurd (omega arith)) all fair 3 (inl (refl, refl))

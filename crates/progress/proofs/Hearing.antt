@@ -34,7 +34,7 @@ use Rattle.progress.proofs.Inquiries.{replies_again}
 use Rattle.progress.proofs.Known.{asks_for, entry_kept, request_to}
 use Rattle.progress.proofs.Moves.{Moved, Moved-by, MovedBy, MovedBy-step, each_client}
 use Rattle.progress.proofs.Placed.{Heeds-moved}
-use Rattle.progress.proofs.Still.{RunsOn, left_before}
+use Rattle.progress.proofs.Lasting.{RunsOn, left_before}
 use Rattle.progress.proofs.Sure.{Course, IsSure, IsSure-after, stays_coherent}
 
 -- ---- worlds in which the request of the client c still runs

@@ -1,4 +1,4 @@
--- after one fair round each request that runs on is known everywhere, and nobody is inside
+-- after one fair round each request that runs on is known everywhere
 use Rattle.std.proofs.Common.{◌≡◌, ℕ, ◌<◌, ◌≤◌, true, false, List, [], length, Some, refl, sym, ap, subst, ◌∙◌, inl, inr}
 use Rattle.std.specs.Prelude.{slice_get, slice_index}
 use Rattle.std.specs.List.{Contains}
@@ -22,15 +22,15 @@ use Rattle.world_state.specs.declared.step.Step.{Step}
 use Rattle.world_state.specs.declared.step.Step.TheVariants.{Deliver, Leave, RemindClient}
 use Rattle.world.specs.Runs.{after, run_of}
 use Rattle.world_state.specs.Steps.{Dealing, WorldState, after_client, client_at, client_did, if_client, step, voter_at}
-use Rattle.world.proofs.Exclusion.{held_under, inside_busy}
+use Rattle.world.proofs.Exclusion.{held_under}
 use Rattle.progress.specs.Rounds.{IsReminded}
 use Rattle.progress.specs.Rules.{Laws}
-use Rattle.progress.proofs.Along.{Along, next, reminded_at, spot_before, spot_end, spot_in, spot_through, along-kept}
+use Rattle.progress.proofs.Along.{Along, next, reminded_at, spot_before, spot_end, spot_through}
 use Rattle.progress.proofs.Always.{asked_by}
 use Rattle.progress.proofs.Arrivals.{Sends, message_stays, says, voter_takes}
 use Rattle.progress.proofs.Behind.{not_finished}
 use Rattle.progress.proofs.Moves.{Moved-by, MovedBy, VoterMoved, client_here}
-use Rattle.progress.proofs.Still.{Early, Lasts-moved, RunsOn, SameAsk}
+use Rattle.progress.proofs.Lasting.{RunsOn, SameAsk}
 use Rattle.progress.proofs.Sure.{Course}
 
 -- ---- words
@@ -148,12 +148,6 @@ known_after laws p w round d v all reminded asking member =
 
 -- ---- who is inside leaves
 
-pub idle_kept : (laws : Laws) (p : Course) (w : WorldState) (d : ℕ) → (s : Step) (x y : WorldState) → Early p w x → Early p w y → MovedBy s x y → is_idle (client_at x.clients d).phase ≡ true
-    → is_idle (client_at y.clients d).phase ≡ true
-idle_kept laws p w d s x y before after moved idle =
-    (Lasts-moved laws x y (before.reached []).coherent (after.reached []).coherent (Moved-by s x y moved) d).idle
-    ((after.same d).stamp ∙ sym (before.same d).stamp) idle
-
 pub left_idle : (laws : Laws) (deal : Dealing) (x : WorldState) (d : ℕ) → d < length x.clients → is_inside (client_at x.clients d).phase ≡ true
     → is_idle (client_at (next deal x (Leave d)).clients d).phase ≡ true
 unfolding step requester.step
@@ -167,24 +161,3 @@ pub idle_by : (q : Phase) → is_asking q ≡ false → is_inside q ≡ false �
 idle_by Idle not outside = refl
 idle_by Asking not outside = absurd (false≢true (sym not))
 idle_by Inside not outside = absurd (false≢true (sym outside))
-
--- who does not ask is idle after the round
-pub idle_after : (laws : Laws) (p : Course) (w : WorldState) (round : List Step) (d : ℕ) → Along (Early p w) MovedBy p.deal round w
-    → (is_inside (client_at w.clients d).phase ≡ true → Contains round (Leave d)) → is_asking (client_at w.clients d).phase ≡ false
-    → is_idle (client_at (run_of p.deal round w).clients d).phase ≡ true
-idle_after laws p w round d all leaves not =
-    let deal = p.deal in
-    let P = Early p w in
-    let z = run_of deal round w in
-    elim (is_inside (client_at w.clients d).phase) as (λ b. is_inside (client_at w.clients d).phase ≡ b → is_idle (client_at z.clients d).phase ≡ true) [
-      | false ↦ λ outside. along-kept P MovedBy deal (λ u. is_idle (client_at u.clients d).phase ≡ true) (idle_kept laws p w d) round w all (idle_by (client_at w.clients d).phase not outside)
-      | true ↦ λ inside.
-          let spot = spot_in P MovedBy deal round w (Leave d) all (leaves inside) in
-          let x = spot.before in
-          elim (is_inside (client_at x.clients d).phase) as (λ b. is_inside (client_at x.clients d).phase ≡ b → is_idle (client_at z.clients d).phase ≡ true) [
-            | false ↦ λ outside. spot_through P MovedBy deal (λ u. is_idle (client_at u.clients d).phase ≡ true) (idle_kept laws p w d) w z (Leave d) spot
-                (idle_by (client_at x.clients d).phase ((spot.here.same d).asks ∙ not) outside)
-            | true ↦ λ still. spot_end P MovedBy deal (λ u. is_idle (client_at u.clients d).phase ≡ true) (idle_kept laws p w d) w z (Leave d) spot
-                (left_idle laws deal x d (within_by x d (inside_busy (client_at x.clients d).phase still)) still)
-          ] refl
-    ] refl

@@ -8,16 +8,14 @@ pub mod Bounds
 pub mod Counted
 pub mod Counting
 pub mod Exchanges
-pub mod Falls
 pub mod Fitting
 pub mod Forgetting
 pub mod Hearing
 pub mod Inquiries
 pub mod Kept
 pub mod Known
+pub mod Lasting
 pub mod Leading
-pub mod Leftover
-pub mod LongBlocks
 pub mod Lists
 pub mod Longer
 pub mod Losses
@@ -30,9 +28,7 @@ pub mod Overdue
 pub mod Patient
 pub mod Placed
 pub mod Spending
-pub mod Stages
 pub mod Steady
-pub mod Still
 pub mod Sure
 pub mod Taking
 pub mod Tame

@@ -32,6 +32,7 @@ use Rattle.world.proofs.Plans.{run_then}
 use Rattle.world.proofs.Reached.{Given, RunOk}
 use Rattle.world.proofs.Restarts.{Mix, MixBut, Mix-back, Mix-restarted, Mix-saved, Mix-with, SavedOk, begin_ok, happens_ok, live_ok, nothing_more, silent_parts, within_or}
 use Rattle.progress.specs.AfterLosses.{AskedSince, IsHeard, IsReachedAfterLosses}
+use Rattle.progress.specs.Patience.{hasty_in}
 use Rattle.progress.specs.Rounds.{AreFairRounds, DoesNotGiveUp, give_ups_in, late_in, steps_of}
 use Rattle.progress.specs.Rules.{Laws}
 use Rattle.world.specs.WayIn.{Asks, HasGrants}
@@ -45,7 +46,8 @@ use Rattle.progress.proofs.Moves.{Came, ClientMoved, Moved, StaysCoherent, Voter
 use Rattle.progress.proofs.Olds.{olds_most}
 use Rattle.progress.proofs.Placed.{Seen-client}
 use Rattle.progress.proofs.Sure.{Course, IsSure, IsSure-first}
-use Rattle.progress.proofs.Waiting.{everybody_by, somebody_by}
+use Rattle.progress.proofs.Patient.{everybody_by}
+use Rattle.progress.proofs.Waiting.{somebody_by}
 
 -- ---- mixes
 
@@ -555,7 +557,7 @@ after_losses_somebody laws clients voters deal w c rounds more r asks fair stays
 
 pub after_losses_everybody : Laws → ClientLaws → VoterLaws → (deal : Dealing) (w : WorldState) (c : ℕ) (rounds : List (List Step)) (more : List Event) → IsReachedAfterLosses deal w → IsHeard w c → Asks w c
     → AreFairRounds deal w rounds → DoesNotGiveUp c (steps_of rounds) → HasGrants 1 (run_of deal (steps_of rounds) w)
-    → block (length w.clients) * (5 * length w.clients + 2 * give_ups_in (steps_of rounds) + late_in deal 0 w rounds + length w.voters) ≤ length rounds
+    → block (length w.clients) * (3 * length w.clients + 2 * hasty_in deal w rounds + late_in deal 0 w rounds + length w.voters) ≤ length rounds
     → (run_of deal (steps_of rounds) w).visible ≡ w.visible ++ more → 1 ≤ entries_of c more
 after_losses_everybody laws clients voters deal w c rounds more r heard asks fair stays left long visible =
     let p = course_at deal w in
@@ -567,7 +569,7 @@ after_losses_everybody laws clients voters deal w c rounds more r heard asks fai
           subst (λ n. n ≤ (voter_at w.voters v).seen) (sym same) (heard v (subst (λ n. IsEntry (voter_at w.voters v) c n) same entry));
       given = a.endures.given;
     } in
-    everybody_by laws p w c (5 * length w.clients + 2 * give_ups_in (steps_of rounds) + late_in deal 0 w rounds + length w.voters) rounds more (λ v. omega arith)
+    everybody_by laws p w c (3 * length w.clients + 2 * hasty_in deal w rounds + late_in deal 0 w rounds + length w.voters) rounds more (λ v. omega arith)
     (sure_after laws deal w a) heeded asks fair stays left (omega arith) long visible
 
 -- ---- new requests

@@ -154,7 +154,3 @@ keeps_olds p n x z go count same v g held less free =
     let was = same_grant p x v s.grant (voter_at z.voters v) go.few (go.outlasts v) s.held s.less in
     let own : s.grant ≡ g = same_Some s.grant g (sym was ∙ held) in
     subst (λ (k : Grant). last_of (client_at z.clients k.client) v < k.grant) own s.free
-
--- nothing is old: nothing is lost
-pub keeps_none : (p : Course) (x z : WorldState) → ((v : ℕ) → p.old v ≡ 0) → KeepsOlds p x z
-keeps_none p x z none v g held less free = (let old = none v in absurd (omega arith))

@@ -35,10 +35,9 @@ use Rattle.progress.proofs.Fitting.{entry_waits, held_grant, not_current, own_st
 use Rattle.progress.proofs.Inquiries.{ends_up_to}
 use Rattle.world.proofs.Exclusion.{inside_busy}
 use Rattle.progress.proofs.Known.{entry_kept, idle_by, known_after, left_idle, within_by}
-use Rattle.progress.proofs.Leftover.{release_to}
 use Rattle.progress.proofs.Moves.{Moved-by, MovedBy}
-use Rattle.progress.proofs.Steady.{AskedFor, GivenBack, GivenBack-lasting, HasMarked, HasVote, IsOf, Seeks, Steady, With, asked, fate_goes, held_exists, locked_to, mark_goes, not_given_back, not_marked, steady_ok, told, voter_below, voter_within}
-use Rattle.progress.proofs.Still.{Lasts, Lasts-moved, Lasts-run, Lasts-self, Lasts-then, RunsOn, SameAsk, same_between}
+use Rattle.progress.proofs.Steady.{AskedFor, GivenBack, GivenBack-lasting, HasMarked, HasVote, IsOf, Seeks, Steady, With, asked, fate_goes, held_exists, locked_to, mark_goes, not_given_back, not_marked, release_to, steady_ok, told, voter_below, voter_within}
+use Rattle.progress.proofs.Lasting.{Lasts, Lasts-moved, Lasts-run, Lasts-self, Lasts-then, RunsOn, SameAsk, same_between}
 use Rattle.progress.proofs.Sure.{Course, IsSure}
 
 -- the client m alone; the clients m and d

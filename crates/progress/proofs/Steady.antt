@@ -38,7 +38,7 @@ use Rattle.progress.proofs.Inquiries.{again_fails, again_locks, replies_again}
 use Rattle.progress.proofs.Known.{asks_for, request_to, within_by}
 use Rattle.progress.proofs.Lists.{all_hold}
 use Rattle.progress.proofs.Moves.{Came, ClientMoved, Moved-by, MovedBy}
-use Rattle.progress.proofs.Still.{RunsOn, SameAsk}
+use Rattle.progress.proofs.Lasting.{RunsOn, SameAsk}
 use Rattle.progress.proofs.Sure.{Course, IsSure}
 use Rattle.progress.proofs.Taking.{Fate, Fate-take, marks-take}
 
@@ -51,6 +51,10 @@ HasVote v g x = (voter_at x.voters v).held ≡ Some g
 -- LOCKED of the voter v to the client d
 abbrev pub locked_to : ℕ → ℕ → ℕ → ℕ → ℕ → ToClient
 locked_to v d seen stamp grant = record { voter = v; client = d; seen = seen; body = to_client.Locked stamp grant }
+
+-- the RELEASE of a request of the client d to the voter v
+abbrev pub release_to : ℕ → ℕ → ℕ → ToVoter
+release_to d v s = record { client = d; voter = v; body = asks.Release s }
 
 -- ---- stages
 

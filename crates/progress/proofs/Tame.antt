@@ -32,7 +32,7 @@ use Rattle.progress.proofs.Longer.{Grows, Grows-moved}
 use Rattle.progress.proofs.Moves.{ClientMoved, IsReminder, Moved, Moved-by, MovedBy, MovedBy-step, all_sent}
 use Rattle.progress.proofs.Outstanding.{step-GivesUp, step-Leaves}
 use Rattle.progress.proofs.Placed.{NoAsk, NoAsks, no-take}
-use Rattle.progress.proofs.Still.{Lasts-moved, SameAsk, left_before, no_asks_to, reminds_asking}
+use Rattle.progress.proofs.Lasting.{Lasts-moved, SameAsk, left_before, no_asks_to, reminds_asking}
 use Rattle.progress.proofs.Sure.{Course, IsSure, IsSure-after}
 use Rattle.progress.proofs.Turns.{idle_not_asking, no_turn, stamp_stays, turn}
 
@@ -46,6 +46,10 @@ asks_up_to s x d = is_asking (client_at x.clients d).phase && nat_le (client_at 
 abbrev pub turns_up_to : Dealing → ℕ → ℕ → List Step → WorldState → ℕ
 turns_up_to deal s d [] x = 0
 turns_up_to deal s d (t ∷ steps) x = turn (asks_up_to s x d) (asks_up_to s (next deal x t) d) + turns_up_to deal s d steps (next deal x t)
+
+pub turns_up_to-append : (deal : Dealing) (s d : ℕ) (a b : List Step) (x : WorldState) → turns_up_to deal s d (a ++ b) x ≡ turns_up_to deal s d a x + turns_up_to deal s d b (run_of deal a x)
+turns_up_to-append deal s d [] b x = omega arith
+turns_up_to-append deal s d (t ∷ a) b x = (let rest = turns_up_to-append deal s d a b (next deal x t) in omega arith)
 
 pub up_to_asks : (s : ℕ) (x : WorldState) (d : ℕ) → asks_up_to s x d ≡ true → is_asking (client_at x.clients d).phase ≡ true
 up_to_asks s x d is = grind (arith, nat_tests)

@@ -4,7 +4,7 @@ use Rattle.std.proofs.lemmas.Bool.{cases_eq, false≢true}
 use Rattle.std.proofs.lemmas.Bool.Decides.{nat_tests}
 use Rattle.std.proofs.lemmas.List.{append-nil, append_cancel_left}
 use Rattle.numbers.specs.Sums.{sum_below}
-use Rattle.numbers.proofs.SumsBelow.{sum_below-add, sum_below-same, sum_below-zero}
+use Rattle.numbers.proofs.SumsBelow.{sum_below-add, sum_below-zero}
 use Rattle.message.specs.declared.message.ToClient.{ToClient}
 use Rattle.message.specs.declared.message.ClientBody.{ClientBody}
 use Rattle.message.specs.declared.message.ClientBody.TheVariants as to_client
@@ -242,6 +242,12 @@ no_turn true false none = absurd (omega arith)
 no_turn false true none = absurd (omega arith)
 no_turn false false none = refl
 
+pub turn_same : (a b : Bool) → b ≡ a → turn a b ≡ 0
+turn_same true true same = refl
+turn_same true false same = absurd (false≢true same)
+turn_same false true same = absurd (false≢true (sym same))
+turn_same false false same = refl
+
 pub stamp_stays : (s : Step) (x y : WorldState) (d : ℕ) → MovedBy s x y → asks_at y d ≡ asks_at x d → (client_at y.clients d).stamp ≡ (client_at x.clients d).stamp
 stamp_stays s x y d moved same = elim moved [
   | inl client ↦
@@ -270,16 +276,6 @@ none_turned laws p d (s ∷ steps) x r none =
 
 -- ---- all clients
 
--- how often the first n clients turn in these steps
-unfoldable pub all_turns : Dealing → ℕ → List Step → WorldState → ℕ
-all_turns deal n steps x = sum_below (λ d. turns deal d steps x) n
-
-pub all_turns-append : (deal : Dealing) (n : ℕ) (a b : List Step) (x : WorldState) → all_turns deal n (a ++ b) x ≡ all_turns deal n a x + all_turns deal n b (run_of deal a x)
-unfolding all_turns
-all_turns-append deal n a b x =
-    sum_below-same n (λ d. turns deal d (a ++ b) x) (λ d. turns deal d a x + turns deal d b (run_of deal a x)) (λ d _. turns-append deal d a b x)
-    ∙ sum_below-add n (λ d. turns deal d a x) (λ d. turns deal d b (run_of deal a x))
-
 pub sum_has : (n e : ℕ) (f : ℕ → ℕ) → e < n → f e ≤ sum_below f n
 sum_has zero e f within = absurd (omega arith)
 sum_has (suc n) e f within = elim (cases_eq e n) [
@@ -287,30 +283,26 @@ sum_has (suc n) e f within = elim (cases_eq e n) [
   | inr other ↦ (let rest = sum_has n e f (omega arith) in omega arith)
 ]
 
-pub none_of_all : (deal : Dealing) (n d : ℕ) (steps : List Step) (x : WorldState) → d < n → all_turns deal n steps x ≡ 0 → turns deal d steps x ≡ 0
-unfolding all_turns
-none_of_all deal n d steps x within none = (let one = sum_has n d (λ d. turns deal d steps x) within in omega arith)
-
-none_above : (c n : ℕ) → n ≤ c → sum_below (λ d. cond {A = ℕ} (eqb c d) 1 0) n ≡ 0
-none_above c zero above = refl
-none_above c (suc n) above =
-    let rest = none_above c n (omega arith) in
+none_above : (c k n : ℕ) → n ≤ c → sum_below (λ d. cond {A = ℕ} (eqb c d) k 0) n ≡ 0
+none_above c k zero above = refl
+none_above c k (suc n) above =
+    let rest = none_above c k n (omega arith) in
     let e : eqb c n ≡ false = (let other : c ≢ n = (λ same. (let x : ⊥ = omega arith in x)) in grind (arith, nat_tests)) in
-    let here : cond {A = ℕ} (eqb c n) 1 0 ≡ 0 = ap (λ b. cond b 1 0) e in
+    let here : cond {A = ℕ} (eqb c n) k 0 ≡ 0 = ap (λ b. cond b k 0) e in
     omega arith
 
-at_most_once : (c n : ℕ) → sum_below (λ d. cond {A = ℕ} (eqb c d) 1 0) n ≤ 1
-at_most_once c zero = omega arith
-at_most_once c (suc n) = elim (cases_eq c n) [
+pub at_most_once : (c k n : ℕ) → sum_below (λ d. cond {A = ℕ} (eqb c d) k 0) n ≤ k
+at_most_once c k zero = omega arith
+at_most_once c k (suc n) = elim (cases_eq c n) [
   | inl same ↦
-      let rest = none_above c n (omega arith) in
+      let rest = none_above c k n (omega arith) in
       let e : eqb c n ≡ true = grind (arith, nat_tests) in
-      let here : cond {A = ℕ} (eqb c n) 1 0 ≡ 1 = ap (λ b. cond b 1 0) e in
+      let here : cond {A = ℕ} (eqb c n) k 0 ≡ k = ap (λ b. cond b k 0) e in
       omega arith
   | inr other ↦
-      let rest = at_most_once c n in
+      let rest = at_most_once c k n in
       let e : eqb c n ≡ false = grind (arith, nat_tests) in
-      let here : cond {A = ℕ} (eqb c n) 1 0 ≡ 0 = ap (λ b. cond b 1 0) e in
+      let here : cond {A = ℕ} (eqb c n) k 0 ≡ 0 = ap (λ b. cond b k 0) e in
       omega arith
 ]
 
@@ -318,7 +310,7 @@ one_give_up : (n : ℕ) (s : Step) → sum_below (λ d. own_give_up d s) n ≤ g
 one_give_up n (Ask c) = (let none = sum_below-zero n in omega arith)
 one_give_up n (Deliver k) = (let none = sum_below-zero n in omega arith)
 one_give_up n (Leave c) = (let none = sum_below-zero n in omega arith)
-one_give_up n (GiveUp c) = at_most_once c n
+one_give_up n (GiveUp c) = at_most_once c 1 n
 one_give_up n (RemindClient c) = (let none = sum_below-zero n in omega arith)
 one_give_up n (RemindVoter v) = (let none = sum_below-zero n in omega arith)
 one_give_up n Exchange = (let none = sum_below-zero n in omega arith)

@@ -1,13 +1,13 @@
--- after so many fair rounds somebody has entered, and then whoever asked before
+-- after so many fair rounds somebody has entered
 use Rattle.std.proofs.Common.{◌≡◌, ◌≢◌, ℕ, zero, suc, ◌+◌, ◌*◌, ◌<◌, ◌≤◌, Bool, true, false, List, [], ◌∷◌, ◌++◌, length, Option, Some, None, refl, sym, ap, subst, ◌∙◌, ◌⊎◌, inl, inr, arith, append_assoc}
-use Rattle.std.specs.Prelude.{if◌then◌else◌, nat_lt, slice_get}
+use Rattle.std.specs.Prelude.{if◌then◌else◌, nat_lt, slice_get, nat_le, ◌&&◌}
 use Rattle.std.proofs.Math.Nat.{mul_comm, suc-mul}
 use Rattle.std.proofs.lemmas.Bool.{cases_eq, cases_lt, false≢true}
 use Rattle.std.proofs.lemmas.Bool.Decides.{nat_tests}
 use Rattle.std.proofs.lemmas.List.{append_cancel_left, get_or_past}
 use Rattle.numbers.specs.Sets.{has}
 use Rattle.numbers.specs.Sums.{sum_below}
-use Rattle.numbers.proofs.SumsBelow.{sum_below-add, sum_below-le, sum_below-one, sum_below-times}
+use Rattle.numbers.proofs.SumsBelow.{sum_below-add, sum_below-le, sum_below-one, sum_below-times, sum_below-same, sum_below-zero}
 use Rattle.message.specs.declared.message.Message.{Message}
 use Rattle.message.specs.declared.message.Message.TheVariants as kinds
 use Rattle.message.specs.declared.message.VoterBody.{VoterBody}
@@ -32,16 +32,16 @@ use Rattle.world.specs.Waiting.{block}
 use Rattle.progress.proofs.Along.{Along, along-last, next}
 use Rattle.progress.proofs.Always.{Heeds, heeds}
 use Rattle.progress.proofs.Blocks.{block_moves}
-use Rattle.progress.proofs.Counting.{entries_of-append, overtakes_twice}
-use Rattle.progress.proofs.Kept.{IsKept-reached}
+use Rattle.progress.proofs.Counting.{entries_of-append}
 use Rattle.progress.proofs.Known.{asks_within, known_after}
-use Rattle.progress.proofs.Longer.{Grows-run}
+use Rattle.progress.proofs.Longer.{Grows-moved, Grows-run}
 use Rattle.progress.proofs.Moves.{Moved-by, MovedBy, MovedBy-step, kept-by}
 use Rattle.progress.proofs.Olds.{AreOld, keeps_olds, no_olds, olds_fall, olds_of}
 use Rattle.progress.proofs.Placed.{Heeds-moved}
-use Rattle.progress.proofs.Still.{Goes-run, Lasts-moved, RunsOn, SameAsk, left_before}
+use Rattle.progress.proofs.Lasting.{Goes-run, Lasts-moved, Lasts-run, RunsOn, SameAsk, left_before, same_between}
 use Rattle.progress.proofs.Sure.{Course, IsSure, IsSure-after, IsSure-reached, IsSure-run, course_of, stays_coherent}
-use Rattle.progress.proofs.Turns.{all_give_ups, all_turns, all_turns-append, asks_at, gives_up_never, none_of_all, no_turn, none_turned, one_if, own_give_ups, own_give_ups-append, shown, stamp_stays, sum_has, turn, turns, turns_most}
+use Rattle.progress.proofs.Tame.{asks_up_to, turns_up_to, turns_up_to-append}
+use Rattle.progress.proofs.Turns.{all_give_ups, asks_at, gives_up_never, no_turn, none_turned, one_if, own_give_ups, own_give_ups-append, shown, stamp_stays, sum_has, turn, turn_same, turns, turns-append, turns_most}
 
 -- ---- rounds in two parts
 
@@ -103,7 +103,60 @@ split_rounds (suc m) (r ∷ rs) most =
     let rest = split_rounds m rs (omega arith) in
     (r ∷ rest.0, rest.1, ap (λ l. r ∷ l) rest.2, (let count = rest.3 in omega arith), (let count = rest.4 in omega arith))
 
--- ---- each block moves somebody, or a REQUEST comes late in it
+-- ---- turns up to a stamp
+
+-- each of them is one of all turns
+pub up_to_most : (laws : Laws) (p : Course) (s d : ℕ) (steps : List Step) (x : WorldState) → IsSure p x → turns_up_to p.deal s d steps x ≤ turns p.deal d steps x
+up_to_most laws p s d [] x r = omega arith
+up_to_most laws p s d (t ∷ steps) x r =
+    let deal = p.deal in
+    let y = next deal x t in
+    let rest = up_to_most laws p s d steps y (IsSure-after p x r t) in
+    let here : turn (asks_up_to s x d) (asks_up_to s y d) ≤ turn (asks_at x d) (asks_at y d) = elim (cases_lt 0 (turn (asks_at x d) (asks_at y d))) [
+      | inl some ↦ (let most = turn_most (asks_up_to s x d) (asks_up_to s y d) in omega arith)
+      | inr none ↦
+          let same = no_turn (asks_at x d) (asks_at y d) (omega arith) in
+          let stamp = stamp_stays t x y d (MovedBy-step deal x (r []).coherent.numbered t) same in
+          let zero_turns = turn_same (asks_up_to s x d) (asks_up_to s y d) (λ i. same i && nat_le (stamp i) s) in
+          omega arith
+    ] in
+    omega arith
+  where
+    turn_most : (a b : Bool) → turn a b ≤ 1
+    turn_most true true = omega arith
+    turn_most true false = omega arith
+    turn_most false true = omega arith
+    turn_most false false = omega arith
+
+-- nobody is beyond the clients
+none_beyond : (laws : Laws) (p : Course) (s d : ℕ) (steps : List Step) (x : WorldState) → IsSure p x → length x.clients ≤ d → turns_up_to p.deal s d steps x ≡ 0
+unfolding client_at
+none_beyond laws p s d [] x r beyond = refl
+none_beyond laws p s d (t ∷ steps) x r beyond =
+    let deal = p.deal in
+    let y = next deal x t in
+    let grows = (Grows-moved x y (Moved-by t x y (MovedBy-step deal x (r []).coherent.numbered t))).clients in
+    let now : length y.clients ≤ d = omega arith in
+    let same : client_at y.clients d ≡ client_at x.clients d = get_or_past y.clients d (requester.start 0 1) now ∙ sym (get_or_past x.clients d (requester.start 0 1) beyond) in
+    let first = turn_same (asks_up_to s x d) (asks_up_to s y d) (ap (λ (z : ClientState). is_asking z.phase && nat_le z.stamp s) same) in
+    let more = none_beyond laws p s d steps y (IsSure-after p x r t) now in
+    omega arith
+
+-- how often the first n clients turn in these steps
+unfoldable pub all_up_to : Dealing → ℕ → ℕ → List Step → WorldState → ℕ
+all_up_to deal s n steps x = sum_below (λ d. turns_up_to deal s d steps x) n
+
+all_up_to-append : (deal : Dealing) (s n : ℕ) (a b : List Step) (x : WorldState) → all_up_to deal s n (a ++ b) x ≡ all_up_to deal s n a x + all_up_to deal s n b (run_of deal a x)
+unfolding all_up_to
+all_up_to-append deal s n a b x =
+    sum_below-same n (λ d. turns_up_to deal s d (a ++ b) x) (λ d. turns_up_to deal s d a x + turns_up_to deal s d b (run_of deal a x)) (λ d _. turns_up_to-append deal s d a b x)
+    ∙ sum_below-add n (λ d. turns_up_to deal s d a x) (λ d. turns_up_to deal s d b (run_of deal a x))
+
+none_of_sum : (deal : Dealing) (s n d : ℕ) (steps : List Step) (x : WorldState) → d < n → all_up_to deal s n steps x ≡ 0 → turns_up_to deal s d steps x ≡ 0
+unfolding all_up_to
+none_of_sum deal s n d steps x within none = (let one = sum_has n d (λ d. turns_up_to deal s d steps x) within in omega arith)
+
+-- ---- each block has a turn, a late REQUEST, or an old grant that is given back
 
 is_one : (b : Bool) → 1 ≤ one_if b → b ≡ true
 is_one true some = refl
@@ -124,105 +177,115 @@ asks_on laws p c steps x more r visible none stays asking =
     at_most_one true = omega arith
     at_most_one false = omega arith
 
--- no client turned: nothing moved
-still_by : (laws : Laws) (p : Course) (steps : List Step) (x : WorldState) → IsSure p x → all_turns p.deal (length x.clients) steps x ≡ 0
-    → IsStill x (run_of p.deal steps x)
-unfolding client_at
-still_by laws p steps x r none =
-    let deal = p.deal in
-    let n = length x.clients in
-    let grows = Grows-run laws p steps x r in
-    let z = run_of deal steps x in
-    record {
-      stamps = λ d. elim (cases_lt d n) [
-        | inl within ↦ (none_turned laws p d steps x r (none_of_all deal n d steps x within none)).1
-        | inr beyond ↦
-            let count = grows.clients in
-            ap (λ (y : ClientState). y.stamp) (get_or_past z.clients d (requester.start 0 1) (omega arith) ∙ sym (get_or_past x.clients d (requester.start 0 1) beyond))
-      ];
-      asks = λ d asking. (none_turned laws p d steps x r (none_of_all deal n d steps x (asks_within x d asking) none)).0 ∙ asking;
-    }
-
--- k blocks of rounds, in which the client c asks on, have k turns of clients, late REQUESTs or old
--- grants that are given back
-abbrev pub HasTurns : Course → ℕ → ℕ → ℕ → ℕ → WorldState → List Event → ℕ → List (List Step) → Type 0
-HasTurns p c n m k x more old rounds =
-    AreFairRounds p.deal x rounds → HasGrants 1 (run_of p.deal (steps_of rounds) x) → (run_of p.deal (steps_of rounds) x).visible ≡ x.visible ++ more
-    → own_give_ups c (steps_of rounds) ≡ 0
-    → k + olds_of p m (run_of p.deal (steps_of rounds) x) ≤ all_turns p.deal n (steps_of rounds) x + late_in p.deal old x rounds + olds_of p m x
-
--- so many clients and voters, and the client c asks
-pub record Waits (p : Course) (c n m : ℕ) (x : WorldState) : Type 0 where
+-- so many clients and voters, and the client c asks under this stamp
+pub record Waits (p : Course) (c n m s : ℕ) (x : WorldState) : Type 0 where
   pub clients : length x.clients ≡ n
   pub voters : length x.voters ≡ m
   pub few : AreOld p x
   pub sure : IsSure p x
   pub asks : asks_at x c ≡ true
+  pub stamp : (client_at x.clients c).stamp ≡ s
 
-one_block : (laws : Laws) (p : Course) (c n m k : ℕ) (a b : List (List Step)) (x : WorldState) (more : List Event) (old : ℕ) → Waits p c n m x
-    → entries_of c more ≡ 0 → length a ≡ block n
-    → ((y : WorldState) (rest : List Event) (later : ℕ) → Waits p c n m y → entries_of c rest ≡ 0 → HasTurns p c n m k y rest later b)
-    → HasTurns p c n m (suc k) x more old (a ++ b)
-one_block laws p c n m k a b x more old waits none long then_rest fair left visible stays =
-    let count = waits.clients in
-    let r = waits.sure in
-    let asking = waits.asks in
+-- k blocks of rounds, in which the client c asks on, have k turns of clients under stamps up to its own, late
+-- REQUESTs or old grants that are given back
+abbrev pub HasTurns : Course → ℕ → ℕ → ℕ → ℕ → ℕ → WorldState → ℕ → List (List Step) → Type 0
+HasTurns p c n m s k x old rounds = AreFairRounds p.deal x rounds → HasGrants 1 (run_of p.deal (steps_of rounds) x) → turns p.deal c (steps_of rounds) x ≡ 0
+    → k + olds_of p m (run_of p.deal (steps_of rounds) x) ≤ all_up_to p.deal s n (steps_of rounds) x + late_in p.deal old x rounds + olds_of p m x
+
+one_block : (laws : Laws) (p : Course) (c n m s k : ℕ) (a b : List (List Step)) (x : WorldState) (old : ℕ) → Waits p c n m s x → length a ≡ block n
+    → ((y : WorldState) (later : ℕ) → Waits p c n m s y → HasTurns p c n m s k y later b) → HasTurns p c n m s (suc k) x old (a ++ b)
+one_block laws p c n m s k a b x old waits long then_rest fair left stays =
     let deal = p.deal in
+    let r = waits.sure in
+    let count = waits.clients in
     let y = run_of deal (steps_of a) x in
     let ry = IsSure-run p (steps_of a) x r in
     let both = steps-append a b in
     let goes : run_of deal (steps_of (a ++ b)) x ≡ run_of deal (steps_of b) y = ap (λ l. run_of deal l x) both ∙ run_then deal (steps_of a) (steps_of b) x in
-    let first = shown laws p (steps_of a) x r in
-    let rest = shown laws p (steps_of b) y ry in
-    let same : first.0 ++ rest.0 ≡ more = append_cancel_left x.visible (first.0 ++ rest.0) more
-    (sym (append_assoc x.visible first.0 rest.0) ∙ ap (λ es. es ++ rest.0) (sym first.1) ∙ sym rest.1 ∙ ap (λ (u : WorldState). u.visible) (sym goes) ∙ visible) in
-    let entered = sym (entries_of-append c first.0 rest.0) ∙ ap (entries_of c) same ∙ none in
-    let gave = sym (own_give_ups-append c (steps_of a) (steps_of b)) ∙ ap (own_give_ups c) (sym both) ∙ stays in
-    let none_first : entries_of c first.0 ≡ 0 = omega arith in
-    let none_rest : entries_of c rest.0 ≡ 0 = omega arith in
-    let stays_first : own_give_ups c (steps_of a) ≡ 0 = omega arith in
-    let stays_rest : own_give_ups c (steps_of b) ≡ 0 = omega arith in
-    let asking_y = (asks_on laws p c (steps_of a) x first.0 r first.1 none_first stays_first asking).0 in
+    let own = sym (turns-append deal c (steps_of a) (steps_of b) x) ∙ ap (λ l. turns deal c l x) (sym both) ∙ stays in
+    let own_first : turns deal c (steps_of a) x ≡ 0 = omega arith in
+    let own_rest : turns deal c (steps_of b) y ≡ 0 = omega arith in
+    let on = none_turned laws p c (steps_of a) x r own_first in
     let parts = fair-split deal a b x fair in
     let late = late-split deal old a b x in
     let left_b = subst (λ (u : WorldState). HasGrants 1 u) goes left in
     let grows = Grows-run laws p (steps_of a) x r in
     let go = Goes-run laws p (steps_of a) x waits.few r in
     let few_y : AreOld p y = λ v. (let most = waits.few v in let rises = (go.outlasts v).granted in omega arith) in
-    let waits_y : Waits p c n m y = record { clients = grows.clients ∙ count; voters = grows.voters ∙ waits.voters; few = few_y; sure = ry; asks = asking_y } in
-    let more_b = then_rest y rest.0 late.0 waits_y none_rest parts.1 left_b rest.1 stays_rest in
+    let waits_y : Waits p c n m s y = record { clients = grows.clients ∙ count; voters = grows.voters ∙ waits.voters; few = few_y; sure = ry; asks = on.0 ∙ waits.asks; stamp = on.1 ∙ waits.stamp } in
+    let more_b = then_rest y late.0 waits_y parts.1 left_b own_rest in
     let fewer = olds_fall p m x y go in
     let end = ap (olds_of p m) goes in
-    let turned = ap (λ l. all_turns deal n l x) both ∙ all_turns-append deal n (steps_of a) (steps_of b) x in
+    let turned = ap (λ l. all_up_to deal s n l x) both ∙ all_up_to-append deal s n (steps_of a) (steps_of b) x in
     let lates = late.1 in
     let less = late-more deal old a x in
     elim (cases_lt 0 (late_in deal 0 x a)) [
       | inl some ↦ omega arith
-      | inr no_late ↦ elim (cases_lt 0 (all_turns deal n (steps_of a) x)) [
+      | inr no_late ↦ elim (cases_lt 0 (all_up_to deal s n (steps_of a) x)) [
         | inl some ↦ omega arith
-        | inr no_turn ↦
-            let left_y : HasGrants 1 y = λ v within. (let lt = left_before laws p (steps_of b) y ry left_b v within in omega arith) in
-            let turned_none : all_turns deal (length x.clients) (steps_of a) x ≡ 0 = ap (λ i. all_turns deal i (steps_of a) x) count ∙ (let e : all_turns deal n (steps_of a) x ≡ 0 = omega arith in e) in
-            let still = still_by laws p (steps_of a) x r turned_none in
-            elim (cases_lt (olds_of p m y) (olds_of p m x)) [
-              | inl fell ↦ omega arith
-              | inr kept ↦ absurd (block_moves laws p x c a waits.few r (record { client = asks_within x c asking; asks = asking }) parts.0 (omega arith) left_y
-                  (subst (λ i. block i ≤ length a) (sym count) (omega arith)) still (keeps_olds p m x y go waits.voters kept))
-            ]
+        | inr no_turns ↦ elim (cases_lt (olds_of p m y) (olds_of p m x)) [
+          | inl fell ↦ omega arith
+          | inr kept ↦
+              let left_y : HasGrants 1 y = λ v within. (let lt = left_before laws p (steps_of b) y ry left_b v within in omega arith) in
+              let still : (d : ℕ) → turns_up_to deal (client_at x.clients c).stamp d (steps_of a) x ≡ 0 = λ d. subst (λ i. turns_up_to deal i d (steps_of a) x ≡ 0) (sym waits.stamp) (elim (cases_lt d n) [
+                | inl within ↦ none_of_sum deal s n d (steps_of a) x within (omega arith)
+                | inr beyond ↦ none_beyond laws p s d (steps_of a) x r (omega arith)
+              ]) in
+              absurd (block_moves laws p x c a r (record { client = asks_within x c waits.asks; asks = waits.asks }) parts.0 (omega arith) left_y
+              (subst (λ i. block i ≤ length a) (sym count) (omega arith)) waits.few (keeps_olds p m x y go waits.voters kept) still)
+        ]
       ]
     ]
 
-pub blocks_turn : (laws : Laws) (p : Course) (c n m k : ℕ) (rounds : List (List Step)) (x : WorldState) (more : List Event) (old : ℕ) → Waits p c n m x
-    → entries_of c more ≡ 0 → k * block n ≤ length rounds → HasTurns p c n m k x more old rounds
-blocks_turn laws p c n m zero rounds x more old waits none long fair left visible stays =
+pub blocks_turn : (laws : Laws) (p : Course) (c n m s k : ℕ) (rounds : List (List Step)) (x : WorldState) (old : ℕ) → Waits p c n m s x → k * block n ≤ length rounds → HasTurns p c n m s k x old rounds
+blocks_turn laws p c n m s zero rounds x old waits long fair left stays =
     (let fewer = olds_fall p m x (run_of p.deal (steps_of rounds) x) (Goes-run laws p (steps_of rounds) x waits.few waits.sure) in omega arith)
-blocks_turn laws p c n m (suc k) rounds x more old waits none long fair left visible stays =
+blocks_turn laws p c n m s (suc k) rounds x old waits long fair left stays =
     let product = suc-mul k (block n) in
     let parts = split_rounds (block n) rounds (omega arith) in
     let lengths = parts.4 in
-    subst (HasTurns p c n m (suc k) x more old) (sym parts.2) (one_block laws p c n m k parts.0 parts.1 x more old waits none parts.3
-    (λ y rest later waits_y none_y. blocks_turn laws p c n m k parts.1 y rest later waits_y none_y (omega arith)))
-    fair left visible stays
+    subst (HasTurns p c n m s (suc k) x old) (sym parts.2) (one_block laws p c n m s k parts.0 parts.1 x old waits parts.3
+    (λ y later waits_y. blocks_turn laws p c n m s k parts.1 y later waits_y (omega arith)))
+    fair left stays
+
+-- ---- nothing stands still
+
+-- a client that has its stamp at the end, and asks if it did, does not turn
+still_turns : (laws : Laws) (p : Course) (d : ℕ) (steps : List Step) (x : WorldState) → IsSure p x → (client_at (run_of p.deal steps x).clients d).stamp ≡ (client_at x.clients d).stamp
+    → (asks_at x d ≡ true → asks_at (run_of p.deal steps x) d ≡ true) → turns p.deal d steps x ≡ 0
+still_turns laws p d [] x r stamp asks = refl
+still_turns laws p d (t ∷ steps) x r stamp asks =
+    let deal = p.deal in
+    let y = next deal x t in
+    let ok = (r []).coherent in
+    let ry = IsSure-after p x r t in
+    let same = same_between (client_at x.clients d) (client_at y.clients d) (client_at (run_of deal steps y).clients d)
+    (Lasts-moved laws x y ok (ry []).coherent (Moved-by t x y (MovedBy-step deal x ok.numbered t)) d) (Lasts-run laws p steps y ry d) stamp asks in
+    let here = turn_same (asks_at x d) (asks_at y d) same.asks in
+    let rest = still_turns laws p d steps y ry (stamp ∙ sym same.stamp) (λ now. asks (sym same.asks ∙ now)) in
+    omega arith
+
+-- in more blocks than there are old grants somebody asks, enters or gives up
+pub moves_by : (laws : Laws) (p : Course) (w : WorldState) (c k : ℕ) (rounds : List (List Step)) → AreOld p w → IsSure p w → Asks w c → AreFairRounds p.deal w rounds → late_in p.deal 0 w rounds ≡ 0
+    → HasGrants 1 (run_of p.deal (steps_of rounds) w) → olds_of p (length w.voters) w < k → k * block (length w.clients) ≤ length rounds → IsStill w (run_of p.deal (steps_of rounds) w) → ⊥
+unfolding all_up_to
+moves_by laws p w c k rounds few r asks fair late left enough long still =
+    let n = length w.clients in
+    let s = (client_at w.clients c).stamp in
+    let steps = steps_of rounds in
+    let none : (d : ℕ) → turns p.deal d steps w ≡ 0 = λ d. still_turns laws p d steps w r (still.stamps d) (still.asks d) in
+    let turned = blocks_turn laws p c n (length w.voters) s k rounds w 0 (record { clients = refl; voters = refl; few = few; sure = r; asks = asks.asks; stamp = refl }) long fair left (none c) in
+    let most = sum_below-le n (λ d. turns_up_to p.deal s d steps w) (λ d. 0) (λ d _. (let zero_turns = none d in let less = up_to_most laws p s d steps w r in omega arith)) in
+    let zeros = sum_below-zero n in
+    omega arith
+
+pub nothing_stands_still : Laws → (w : Planned) (c : ℕ) (rounds : List (List Step)) → IsReached w → Asks w.state c → AreFairRounds (dealing_of w.plans) w.state rounds
+    → late_in (dealing_of w.plans) 0 w.state rounds ≡ 0 → HasGrants 1 (run_of (dealing_of w.plans) (steps_of rounds) w.state) → block (length w.state.clients) ≤ length rounds
+    → IsStill w.state (run_of (dealing_of w.plans) (steps_of rounds) w.state) → ⊥
+nothing_stands_still laws w c rounds reached asks fair late left long still =
+    let p = course_of w in
+    let none = no_olds p (length w.state.voters) w.state (λ v. refl) in
+    moves_by laws p w.state c 1 rounds (λ v. omega arith) (IsSure-reached laws w reached) asks fair late left (omega arith) (omega arith) still
 
 -- ---- somebody enters
 
@@ -248,18 +311,17 @@ one_most true = omega arith
 one_most false = omega arith
 
 -- how often all clients turn, if client d enters at most e d times
-turns_by : (laws : Laws) (p : Course) (n : ℕ) (steps : List Step) (x : WorldState) (more : List Event) (h : ℕ → ℕ) → IsSure p x
-    → (run_of p.deal steps x).visible ≡ x.visible ++ more
+turns_by : (laws : Laws) (p : Course) (n s : ℕ) (steps : List Step) (x : WorldState) (more : List Event) (h : ℕ → ℕ) → IsSure p x → (run_of p.deal steps x).visible ≡ x.visible ++ more
     → ((d : ℕ) → d < n → 2 * entries_of d more + one_if (asks_at (run_of p.deal steps x) d) ≤ h d)
-    → all_turns p.deal n steps x + sum_below (λ d. one_if (asks_at x d)) n ≤ sum_below h n + 2 * give_ups_in steps
-unfolding all_turns
-turns_by laws p n steps x more h r visible most =
+    → all_up_to p.deal s n steps x + sum_below (λ d. one_if (asks_at x d)) n ≤ sum_below h n + 2 * give_ups_in steps
+unfolding all_up_to
+turns_by laws p n s steps x more h r visible most =
     let deal = p.deal in
     let z = run_of deal steps x in
-    let each : (d : ℕ) → d < n → turns deal d steps x + one_if (asks_at x d) ≤ h d + 2 * own_give_ups d steps =
-    λ d less. (let a = turns_most laws p steps x more r visible d in let b = most d less in omega arith) in
-    let all = sum_below-le n (λ d. turns deal d steps x + one_if (asks_at x d)) (λ d. h d + 2 * own_give_ups d steps) each in
-    let left_sum = sum_below-add n (λ d. turns deal d steps x) (λ d. one_if (asks_at x d)) in
+    let each : (d : ℕ) → d < n → turns_up_to deal s d steps x + one_if (asks_at x d) ≤ h d + 2 * own_give_ups d steps =
+    λ d less. (let few = up_to_most laws p s d steps x r in let a = turns_most laws p steps x more r visible d in let b = most d less in omega arith) in
+    let all = sum_below-le n (λ d. turns_up_to deal s d steps x + one_if (asks_at x d)) (λ d. h d + 2 * own_give_ups d steps) each in
+    let left_sum = sum_below-add n (λ d. turns_up_to deal s d steps x) (λ d. one_if (asks_at x d)) in
     let right_sum = sum_below-add n h (λ d. 2 * own_give_ups d steps) in
     let twice = sum_below-times n 2 (λ d. own_give_ups d steps) in
     let few = all_give_ups n steps in
@@ -278,9 +340,11 @@ somebody_by laws p w c t rounds more few r asks fair stays left enough long visi
     elim (entered_or n more) [
       | inr one ↦ one
       | inl none ↦
-          let turned = blocks_turn laws p c n m t rounds w more 0 (record { clients = refl; voters = refl; few = few; sure = r; asks = asks.asks }) (none c asks.client)
-          (product_of (block n) t (length rounds) long) fair left visible (gives_up_never c (steps_of rounds) stays) in
-          let most = turns_by laws p n (steps_of rounds) w more (λ d. 1) r visible
+          let s = (client_at w.clients c).stamp in
+          let on = asks_on laws p c (steps_of rounds) w more r visible (none c asks.client) (gives_up_never c (steps_of rounds) stays) asks.asks in
+          let turned = blocks_turn laws p c n m s t rounds w 0 (record { clients = refl; voters = refl; few = few; sure = r; asks = asks.asks; stamp = refl })
+          (product_of (block n) t (length rounds) long) fair left on.1 in
+          let most = turns_by laws p n s (steps_of rounds) w more (λ d. 1) r visible
           (λ d less. (let zero_entries = none d less in let one = one_most (asks_at z d) in omega arith)) in
           let ones = sum_below-one n in
           let some = sum_has n c (λ d. one_if (asks_at w d)) asks.client in
@@ -323,21 +387,6 @@ runs_along laws p w c (s ∷ steps) x r same asking none left =
       by,
       runs_along laws p w c steps y ry later asking (omega arith) left,
     )
-
-sum_five : (n e : ℕ) (h : ℕ → ℕ) → e < n → h e + 4 ≤ 5 → ((d : ℕ) → h d ≤ 5) → sum_below h n + 4 ≤ 5 * n
-sum_five zero e h within own most = absurd (omega arith)
-sum_five (suc n) e h within own most = elim (cases_eq e n) [
-  | inl last ↦ (let here : h e ≡ h n = ap h last in let rest = all_five n h most in omega arith)
-  | inr other ↦ (let rest = sum_five n e h (omega arith) own most in let here = most n in omega arith)
-]
-  where
-    all_five : (n : ℕ) (h : ℕ → ℕ) → ((d : ℕ) → h d ≤ 5) → sum_below h n ≤ 5 * n
-    all_five zero h most = omega arith
-    all_five (suc n) h most = (let rest = all_five n h most in let here = most n in omega arith)
-
-give_ups-append : (a b : List Step) → give_ups_in (a ++ b) ≡ give_ups_in a + give_ups_in b
-give_ups-append [] b = omega arith
-give_ups-append (s ∷ a) b = (let rest = give_ups-append a b in omega arith)
 
 -- What holds after a fair round r that begins while the client c asks, if c neither enters nor gives up in r
 -- and in the steps after it.
@@ -395,76 +444,3 @@ asks_after laws p x c r rest more reached heeded asks fair stays left visible no
       known = known;
       runs = runs;
     }
-
--- the client c asked before the first round r, and did not enter
-not_entered : (laws : Laws) (p : Course) (x : WorldState) (c k : ℕ) (r : List Step) (rs : List (List Step)) (more : List Event) → AreOld p x → IsSure p x → Heeds c x → Asks x c
-    → AreFairRounds p.deal x (r ∷ rs) → own_give_ups c (r ++ steps_of rs) ≡ 0 → HasGrants 1 (run_of p.deal (r ++ steps_of rs) x)
-    → 5 * length x.clients + 2 * give_ups_in (r ++ steps_of rs) + late_in p.deal 0 x (r ∷ rs) + olds_of p (length x.voters) x ≤ suc k → k * block (length x.clients) ≤ length rs
-    → (run_of p.deal (r ++ steps_of rs) x).visible ≡ x.visible ++ more → entries_of c more ≡ 0 → ⊥
-not_entered laws p x c k r rs more few_x reached heeded asks fair stays left total long visible none =
-    let deal = p.deal in
-    let n = length x.clients in
-    let m = length x.voters in
-    let y = run_of deal r x in
-    let ry = IsSure-run p r x reached in
-    let go = Goes-run laws p r x few_x reached in
-    let fewer_olds = olds_fall p m x y go in
-    let rest = steps_of rs in
-    let z = run_of deal rest y in
-    let a = asks_after laws p x c r rest more reached heeded asks fair.0 stays left visible none in
-    let later = a.later in
-    let twice : (d : ℕ) → d ≢ c → entries_of d later ≤ 2 = λ d other. overtakes_twice laws deal y c d rest later (stays_coherent p y ry) a.heeds a.known other a.runs a.shows in
-    let h : ℕ → ℕ = λ d. 2 * entries_of d later + one_if (asks_at z d) in
-    let most : (d : ℕ) → 2 * entries_of d later + one_if (asks_at z d) ≤ 5 = λ d. (let one = one_most (asks_at z d) in elim (cases_eq d c) [
-      | inl mine ↦ (let e : entries_of d later ≡ 0 = ap (λ i. entries_of i later) mine ∙ a.none in omega arith)
-      | inr other ↦ (let few = twice d other in omega arith)
-    ]) in
-    let fives = sum_five n c h asks.client (let one = one_most (asks_at z c) in omega arith) most in
-    let bound = turns_by laws p n rest y later h ry a.shows (λ d less. omega arith) in
-    let grows = Grows-run laws p r x reached in
-    let some = sum_has n c (λ d. one_if (asks_at y d)) asks.client in
-    let asked : one_if (asks_at y c) ≡ 1 = ap one_if a.asks in
-    let waits : Waits p c n m y = record {
-      clients = grows.clients;
-      voters = grows.voters;
-      few = λ v. (let old_most = few_x v in let rises = (go.outlasts v).granted in omega arith);
-      sure = ry;
-      asks = a.asks;
-    } in
-    let turned = blocks_turn laws p c n m k rs y later (length x.sent) waits a.none long fair.1 a.left a.shows a.stays in
-    let fewer = give_ups-append r rest in
-    omega arith
-
-pub split_total : (b t len : ℕ) → 1 ≤ t → b * t ≤ len → (k : ℕ) × (t ≡ suc k) × (k * b + b ≤ len)
-split_total b zero len some most = absurd (omega arith)
-split_total b (suc k) len some most = (k, refl, (let turned = mul_comm b (suc k) in let product = suc-mul k b in omega arith))
-
--- t blocks are enough
-pub everybody_by : (laws : Laws) (p : Course) (w : WorldState) (c t : ℕ) (rounds : List (List Step)) (more : List Event) → AreOld p w → IsSure p w → Heeds c w → Asks w c → AreFairRounds p.deal w rounds
-    → DoesNotGiveUp c (steps_of rounds) → HasGrants 1 (run_of p.deal (steps_of rounds) w)
-    → 5 * length w.clients + 2 * give_ups_in (steps_of rounds) + late_in p.deal 0 w rounds + olds_of p (length w.voters) w ≤ t → block (length w.clients) * t ≤ length rounds
-    → (run_of p.deal (steps_of rounds) w).visible ≡ w.visible ++ more → 1 ≤ entries_of c more
-everybody_by laws p w c t [] more few r heeded asks fair stays left enough long visible =
-    let some = asks.client in
-    let parts = split_total (block (length w.clients)) t 0 (omega arith) long in
-    let product = parts.2 in
-    absurd (omega arith)
-everybody_by laws p w c t (r ∷ rs) more few sure heeded asks fair stays left enough long visible = elim (cases_lt 0 (entries_of c more)) [
-  | inl some ↦ omega arith
-  | inr none ↦
-      let some = asks.client in
-      let parts = split_total (block (length w.clients)) t (length (r ∷ rs)) (omega arith) long in
-      let total = parts.1 in
-      let product = parts.2 in
-      absurd (not_entered laws p w c parts.0 r rs more few sure heeded asks fair (gives_up_never c (r ++ steps_of rs) stays) left (omega arith) (omega arith) visible (omega arith))
-]
-
-pub whoever_asked_enters : Laws → (w : Planned) (c : ℕ) (rounds : List (List Step)) (more : List Event) → IsReached w → Asks w.state c → AreFairRounds (dealing_of w.plans) w.state rounds
-    → DoesNotGiveUp c (steps_of rounds) → HasGrants 1 (run_of (dealing_of w.plans) (steps_of rounds) w.state)
-    → block (length w.state.clients) * (5 * length w.state.clients + 2 * give_ups_in (steps_of rounds) + late_in (dealing_of w.plans) 0 w.state rounds) ≤ length rounds
-    → (run_of (dealing_of w.plans) (steps_of rounds) w.state).visible ≡ w.state.visible ++ more → 1 ≤ entries_of c more
-whoever_asked_enters laws w c rounds more r asks fair stays left long visible =
-    let p = course_of w in
-    let none = no_olds p (length w.state.voters) w.state (λ v. refl) in
-    everybody_by laws p w.state c (5 * length w.state.clients + 2 * give_ups_in (steps_of rounds) + late_in (dealing_of w.plans) 0 w.state rounds) rounds more (λ v. omega arith) (IsSure-reached laws w r)
-    (heeds c w.state (IsKept-reached laws w r []).always) asks fair stays left (omega arith) long visible

@@ -33,8 +33,9 @@ use Rattle.progress.proofs.Moves.{Makes, MovedBy, MovedBy-step}
 use Rattle.progress.proofs.Olds.{AreOld, olds_of}
 use Rattle.progress.proofs.Spending.{askers, askers_most, one_from, rounds_leave}
 use Rattle.progress.proofs.Sure.{Course, IsSure, IsSure-after}
-use Rattle.progress.proofs.Turns.{all_give_ups, all_turns, asks_at, idle_not_asking, one_if, own_give_ups, shown, sum_has, turn, turns}
-use Rattle.progress.proofs.Waiting.{asks_on, blocks_turn, one_most}
+use Rattle.progress.proofs.Tame.{turns_up_to}
+use Rattle.progress.proofs.Turns.{all_give_ups, asks_at, idle_not_asking, one_if, own_give_ups, shown, sum_has, turn, turns}
+use Rattle.progress.proofs.Waiting.{all_up_to, asks_on, blocks_turn, one_most, up_to_most}
 
 -- ---- by steps that serve each client turns at most once
 
@@ -175,7 +176,7 @@ record Made (p : Course) (w : WorldState) (k : ℕ) (steps : List Step) : Type 0
   stays : (d : ℕ) → d < length w.clients → own_give_ups d steps ≡ 0
   -- if the client c asks, and does not enter, there are as many turns as blocks
   turns : (c : ℕ) (more : List Event) → Asks w c → (run_of p.deal steps w).visible ≡ w.visible ++ more → entries_of c more ≡ 0
-      → k ≤ all_turns p.deal (length w.clients) steps w + olds_of p (length w.voters) w
+      → k ≤ all_up_to p.deal (client_at w.clients c).stamp (length w.clients) steps w + olds_of p (length w.voters) w
 
 made : (laws : Laws) (p : Course) (w : WorldState) (a k : ℕ) → AreOld p w → IsSure p w → askers w ≤ a → HasGrants (grants_for a (length w.clients) k) w
     → Made p w k (steps_of (made_rounds p.deal w (k * block (length w.clients))))
@@ -193,8 +194,9 @@ made laws p w a k few r ask has =
       turns = λ c more asks visible entered.
           let count = timely.count in
           let late = timely.in_time in
-          let some = blocks_turn laws p c n m k rounds w more 0 (record { clients = refl; voters = refl; few = few; sure = r; asks = asks.asks }) entered (omega arith)
-          timely.fair (rounds_leave laws p w a (k * block n) 1 r ask has) visible (stays c asks.client) in
+          let on = asks_on laws p c (steps_of rounds) w more r visible entered (stays c asks.client) asks.asks in
+          let some = blocks_turn laws p c n m (client_at w.clients c).stamp k rounds w 0 (record { clients = refl; voters = refl; few = few; sure = r; asks = asks.asks; stamp = refl }) (omega arith)
+          timely.fair (rounds_leave laws p w a (k * block n) 1 r ask has) on.1 in
           omega arith;
     }
 
@@ -213,7 +215,7 @@ no_turns laws p w k d steps r m same within = by (asks_at w d) refl
 somebody_first : (laws : Laws) (p : Course) (w : WorldState) (a c k : ℕ) → AreOld p w → IsSure p w → Asks w c → IsFree w → olds_of p (length w.voters) w < k → askers w ≤ a
     → HasGrants (grants_for a (length w.clients) k) w
     → FirstEntry p.deal (length w.sent) w
-unfolding all_turns
+unfolding all_up_to
 somebody_first laws p w a c k few r asks free enough ask has =
     let n = length w.clients in
     let steps = steps_of (made_rounds p.deal w (k * block n)) in
@@ -222,7 +224,8 @@ somebody_first laws p w a c k few r asks free enough ask has =
       | inl e ↦ e
       | inr same ↦
           let some = m.turns c [] asks (same ∙ sym (append-nil w.visible)) refl in
-          let most = sum_below-le n (λ d. turns p.deal d steps w) (λ d. 0) (λ d within. (let none = no_turns laws p w k d steps r m same within in omega arith)) in
+          let s = (client_at w.clients c).stamp in
+          let most = sum_below-le n (λ d. turns_up_to p.deal s d steps w) (λ d. 0) (λ d within. (let none = no_turns laws p w k d steps r m same within in let few = up_to_most laws p s d steps w r in omega arith)) in
           let zeros = sum_below-zero n in
           absurd (omega arith)
     ]
@@ -250,7 +253,7 @@ alone_gets_in laws p w c k few r alone enough has =
 -- as many blocks as clients and old grants are enough
 pub everybody_gets_in : (laws : Laws) (p : Course) (w : WorldState) (c k : ℕ) → AreOld p w → IsSure p w → Asks w c → length w.clients + olds_of p (length w.voters) w ≤ k
     → HasGrants (grants_for (length w.clients) (length w.clients) k) w → (steps : List Step) × GetsIn p.deal w c steps
-unfolding all_turns
+unfolding all_up_to
 everybody_gets_in laws p w c k few r asks enough has =
     let n = length w.clients in
     let steps = steps_of (made_rounds p.deal w (k * block n)) in
@@ -262,9 +265,10 @@ everybody_gets_in laws p w c k few r asks enough has =
       | inr none ↦
           let no_entry : entries_of c seen.0 ≡ 0 = omega arith in
           let some = m.turns c seen.0 asks seen.1 no_entry in
-          let each = sum_below-le n (λ d. turns p.deal d steps w + one_if (asks_at z d)) (λ d. 1) (λ d within.
-          (let once = turns_once laws p d (length w.sent) steps w r m.serve in let one = one_most (asks_at w d) in omega arith)) in
-          let both = sum_below-add n (λ d. turns p.deal d steps w) (λ d. one_if (asks_at z d)) in
+          let s = (client_at w.clients c).stamp in
+          let each = sum_below-le n (λ d. turns_up_to p.deal s d steps w + one_if (asks_at z d)) (λ d. 1) (λ d within.
+          (let few = up_to_most laws p s d steps w r in let once = turns_once laws p d (length w.sent) steps w r m.serve in let one = one_most (asks_at w d) in omega arith)) in
+          let both = sum_below-add n (λ d. turns_up_to p.deal s d steps w) (λ d. one_if (asks_at z d)) in
           let ones = sum_below-one n in
           let last = sum_has n c (λ d. one_if (asks_at z d)) asks.client in
           let on : one_if (asks_at z c) ≡ 1 = ap one_if (asks_on laws p c steps w seen.0 r seen.1 no_entry (m.stays c asks.client) asks.asks).0 in

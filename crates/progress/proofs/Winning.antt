@@ -5,6 +5,7 @@ use Rattle.std.specs.Prelude.{nat_lt, slice_get}
 use Rattle.std.specs.List.{range_with_len}
 use Rattle.std.proofs.lemmas.Bool.{cases_eq, false≢true}
 use Rattle.std.proofs.lemmas.Bool.Decides.{nat_tests}
+use Rattle.std.proofs.lemmas.Option.{same_Some}
 use Rattle.numbers.specs.Sets.{has}
 use Rattle.message.specs.declared.message.ClientBody.TheVariants as to_client
 use Rattle.message.specs.declared.message.Message.TheVariants as kinds
@@ -36,17 +37,15 @@ use Rattle.progress.proofs.Along.{Along, Reminded, along-first, along-kept, alon
 use Rattle.progress.proofs.Always.{asked_by}
 use Rattle.progress.proofs.Arrivals.{answered, client_takes, message_stays, reminds_first, voter_takes}
 use Rattle.progress.proofs.Behind.{the_request}
-use Rattle.progress.proofs.Blocks.{one_entry}
+use Rattle.voter.proofs.Staying.{current_stamp-entry}
 use Rattle.progress.proofs.Fitting.{held_grant, own_stamp}
-use Rattle.progress.proofs.Inquiries.{ends_up_to}
+use Rattle.progress.proofs.Inquiries.{ends_up_to, orderly}
 use Rattle.progress.proofs.Known.{voter_after}
-use Rattle.progress.proofs.Leading.{Clear, NotAhead, OwnStage, Quietly, along-quiet, is_own, own_stage_kept, quietly_moved, settled_kept}
-use Rattle.progress.proofs.Leftover.{release_to}
+use Rattle.progress.proofs.Leading.{Clear, Hushed, IsSettled, NotAhead, OwnStage, Quietly, along-quiet, is_own, own_stage_kept, quietly_moved, settled_kept}
 use Rattle.progress.proofs.Lists.{has_range, remove_from, shorter, still_there}
 use Rattle.progress.proofs.Moves.{Moved-by, MovedBy}
 use Rattle.progress.proofs.Overdue.{Only}
-use Rattle.progress.proofs.Stages.{IsSettled}
-use Rattle.progress.proofs.Steady.{HasVote, Never, Never-lasting, Seeks, Steady, With, asks_now, fate_goes, held_exists, locked_to, steady_ok, told, voter_below, voter_within}
+use Rattle.progress.proofs.Steady.{HasVote, Never, Never-lasting, Seeks, Steady, With, asks_now, fate_goes, held_exists, locked_to, release_to, steady_ok, told, voter_below, voter_within}
 use Rattle.progress.proofs.Sure.{Course}
 
 -- ---- requests that are over
@@ -73,7 +72,7 @@ brings_not w m c d t (asks.Request n) not brings first = elim (not n refl) [
 brings_not w m c d t (asks.Relinquish n) not brings first = brings
 brings_not w m c d t (asks.Release n) not brings first = brings
 
-known_before : (laws : Laws) (w : WorldState) (m v : ℕ) (s : Step) (x y : WorldState) → Quietly w m s x y → WereOld w m v x y
+known_before : (laws : Laws) (w : WorldState) (m v : ℕ) (s : Step) (x y : WorldState) → Hushed w m s x y → WereOld w m v x y
 known_before laws w m v s x y moved = elim moved [
   | inl k ↦ λ d t entry first. subst (λ (vs : List VoterState). IsEntry (voter_at vs v) d t) k.0.voters entry
   | inr (inl k) ↦ voter_after (λ q z. (d t : ℕ) → IsEntry z d t → precedes (record { stamp = t; client = d }) (the_request w m) ≡ true → IsEntry (voter_at x.voters q) d t) x y k.0 v
@@ -85,11 +84,11 @@ known_before laws w m v s x y moved = elim moved [
   | inr (inr k) ↦ λ d t entry first. subst (λ (vs : List VoterState). IsEntry (voter_at vs v) d t) k.voters entry
 ]
 
-known_on : (laws : Laws) (p : Course) (w : WorldState) (m v : ℕ) (u : WorldState) → (s : Step) (x y : WorldState) → Clear p w m x → Clear p w m y → Quietly w m s x y → WereOld w m v u x → WereOld w m v u y
-known_on laws p w m v u s x y before after moved h d t entry first = h d t (known_before laws w m v s x y moved d t entry first) first
+known_on : (laws : Laws) (p : Course) (w : WorldState) (m v : ℕ) (u : WorldState) → (s : Step) (x y : WorldState) → Clear p w m x → Clear p w m y → Quietly p w m s x y → WereOld w m v u x → WereOld w m v u y
+known_on laws p w m v u s x y before after moved h d t entry first = h d t (known_before laws w m v s x y moved.0 d t entry first) first
 
-pub olds_on : (laws : Laws) (p : Course) (w : WorldState) (m v : ℕ) (alive : List ℕ) → (s : Step) (x y : WorldState) → Clear p w m x → Clear p w m y → Quietly w m s x y → OldsAmong w m v alive x → OldsAmong w m v alive y
-olds_on laws p w m v alive s x y before after moved h d t entry first = h d t (known_before laws w m v s x y moved d t entry first) first
+pub olds_on : (laws : Laws) (p : Course) (w : WorldState) (m v : ℕ) (alive : List ℕ) → (s : Step) (x y : WorldState) → Clear p w m x → Clear p w m y → Quietly p w m s x y → OldsAmong w m v alive x → OldsAmong w m v alive y
+olds_on laws p w m v alive s x y before after moved h d t entry first = h d t (known_before laws w m v s x y moved.0 d t entry first) first
 
 -- ---- the request has the vote
 
@@ -107,8 +106,8 @@ ends_never y v g c (asks.Relinquish n) has z busy stamp fresh asked ends =
     (subst₂ (λ d k. y.held ≡ Some (record { client = d; stamp = g.stamp; grant = k })) ends.0 ends.1 has)
 ends_never y v g c (asks.Release t) has z busy stamp fresh asked ends = (let less = (asked ends.0).1 busy in let most = ends.1 in omega arith)
 
-its_held : (laws : Laws) (p : Course) (w : WorldState) (m v : ℕ) → Seeks w (Only m) m v → (g : Grant) → (s : Step) (x y : WorldState) → Steady p w (Only m) x → Quietly w m s x y → IsIts m v g x → HasVote v g y
-its_held laws p w m v f g s x y before moved h = elim moved [
+its_held : (laws : Laws) (p : Course) (w : WorldState) (m v : ℕ) → Seeks w (Only m) m v → (g : Grant) → (s : Step) (x y : WorldState) → Steady p w (Only m) x → Quietly p w m s x y → IsIts m v g x → HasVote v g y
+its_held laws p w m v f g s x y before moved h = elim moved.0 [
   | inl k ↦ ap (λ (vs : List VoterState). (voter_at vs v).held) k.0.voters ∙ h.held
   | inr (inl moves) ↦
       let k = moves.0 in
@@ -131,24 +130,24 @@ its_held laws p w m v f g s x y before moved h = elim moved [
   | inr (inr k) ↦ ap (λ (vs : List VoterState). (voter_at vs v).held) k.voters ∙ h.held
 ]
 
-its_on : (laws : Laws) (p : Course) → ((u : ℕ) → p.old u ≡ 0) → (w : WorldState) (m v : ℕ) → Seeks w (Only m) m v → (g : Grant) → (s : Step) (x y : WorldState) → Clear p w m x → Clear p w m y → Quietly w m s x y
+its_on : (laws : Laws) (p : Course) (w : WorldState) (m v : ℕ) → Seeks w (Only m) m v → (g : Grant) → (s : Step) (x y : WorldState) → Clear p w m x → Clear p w m y → Quietly p w m s x y
     → IsIts m v g x → IsIts m v g y
-its_on laws p none w m v f g s x y before after moved h =
+its_on laws p w m v f g s x y before after moved h =
     let held = its_held laws p w m v f g s x y before.steady moved h in
-    record { held = held; settled = settled_kept laws p none w m v f s x y before.steady after.steady moved g h.held held h.settled }
+    record { held = held; settled = settled_kept laws p w m v f s x y before.steady after.steady moved g h.held held h.settled }
 
 -- the client has the vote, and knows it
 record HasWon (m v : ℕ) (g : Grant) (x : WorldState) : Type 0 where
   its : IsIts m v g x
   has : holds (client_at x.clients m) v ≡ true
 
-won_on : (laws : Laws) (p : Course) → ((u : ℕ) → p.old u ≡ 0) → (w : WorldState) (m v : ℕ) → Seeks w (Only m) m v → (g : Grant) → (s : Step) (x y : WorldState) → Clear p w m x → Clear p w m y → Quietly w m s x y
+won_on : (laws : Laws) (p : Course) (w : WorldState) (m v : ℕ) → Seeks w (Only m) m v → (g : Grant) → (s : Step) (x y : WorldState) → Clear p w m x → Clear p w m y → Quietly p w m s x y
     → HasWon m v g x → HasWon m v g y
-won_on laws p none w m v f g s x y before after moved h =
-    let its = its_on laws p none w m v f g s x y before after moved h.its in
+won_on laws p w m v f g s x y before after moved h =
+    let its = its_on laws p w m v f g s x y before after moved h.its in
     record {
       its = its;
-      has = elim (fate_goes laws p w (Only m) s x y m v before.steady after.steady (quietly_moved w m s x y moved) f.asks (voter_below laws p w (Only m) x m v before.steady f.asks f.member)) [
+      has = elim (fate_goes laws p w (Only m) s x y m v before.steady after.steady (quietly_moved p w m s x y moved) f.asks (voter_below laws p w (Only m) x m v before.steady f.asks f.member)) [
         | inl same ↦ ap (λ (z : ClientState). holds z v) same ∙ h.has
         | inr took ↦ elim took.2 [
           | inl stays ↦ ap (λ n. nat_lt 0 n) stays.held ∙ h.has
@@ -172,12 +171,12 @@ Nearer w m v alive x = ((g : Grant) × IsIts m v g x) ⊎ ((d : ℕ) × (has ali
 ahead_of : (g : Grant) (m s : ℕ) → g.client ≢ m → precedes (record { stamp = s; client = m }) (request_of g) ≡ false → precedes (request_of g) (record { stamp = s; client = m }) ≡ true
 ahead_of g m s other not = grind (arith, nat_tests)
 
-nearer : (laws : Laws) (p : Course) → ((u : ℕ) → p.old u ≡ 0) → (w : WorldState) (m v : ℕ) → Seeks w (Only m) m v → (alive : List ℕ) (x z : WorldState) → Reminded (Clear p w m) (Quietly w m) p.deal x z (RemindVoter v)
+nearer : (laws : Laws) (p : Course) (w : WorldState) (m v : ℕ) → Seeks w (Only m) m v → (alive : List ℕ) (x z : WorldState) → Reminded (Clear p w m) (Quietly p w m) p.deal x z (RemindVoter v)
     → OwnStage Never m v x → NotBehind w m v x → OldsAmong w m v alive x → Nearer w m v alive z
-nearer laws p none w m v f alive x z r stage ahead_x olds_x =
+nearer laws p w m v f alive x z r stage ahead_x olds_x =
     let deal = p.deal in
     let P = Clear p w m in
-    let R = Quietly w m in
+    let R = Quietly p w m in
     let D = Only m in
     let spot = r.spot in
     let u = spot.before in
@@ -187,13 +186,13 @@ nearer laws p none w m v f alive x z r stage ahead_x olds_x =
     let now = held_exists laws p w D u m v calm.steady f.asks f.member in
     let g = now.0 in
     let d = g.client in
-    let stage_u = spot_before P R deal (OwnStage Never m v) (λ s a b before after moved. own_stage_kept laws p none w m v f Never (Never-lasting v) s a b before.steady after.steady moved) x z (RemindVoter v) spot stage in
-    let ahead_u = spot_before P R deal (NotBehind w m v) (λ s a b before after moved. not_behind_kept laws p w D m v f s a b before.steady after.steady (quietly_moved w m s a b moved)) x z (RemindVoter v) spot ahead_x in
+    let stage_u = spot_before P R deal (OwnStage Never m v) (λ s a b before after moved. own_stage_kept laws p w m v f Never (Never-lasting v) s a b before.steady after.steady moved) x z (RemindVoter v) spot stage in
+    let ahead_u = spot_before P R deal (NotBehind w m v) (λ s a b before after moved. not_behind_kept laws p w D m v f s a b before.steady after.steady (quietly_moved p w m s a b moved)) x z (RemindVoter v) spot ahead_x in
     let olds_u = spot_before P R deal (OldsAmong w m v alive) (olds_on laws p w m v alive) x z (RemindVoter v) spot olds_x in
     elim (cases_eq d m) [
       | inl own ↦ elim (stage_u g now.1 own) [
         | inr never ↦ absurd never
-        | inl settled ↦ inl (g, spot_through P R deal (IsIts m v g) (its_on laws p none w m v f g) x z (RemindVoter v) spot (record { held = now.1; settled = settled }))
+        | inl settled ↦ inl (g, spot_through P R deal (IsIts m v g) (its_on laws p w m v f g) x z (RemindVoter v) spot (record { held = now.1; settled = settled }))
       ]
       | inr other ↦
           let first_of = ahead_of g m (client_at w.clients m).stamp other (ahead_u g now.1) in
@@ -206,7 +205,7 @@ nearer laws p none w m v f alive x z r stage ahead_x olds_x =
           let heard = r.heard sends.place sends.least sends.less in
           let u1 = next deal u (RemindVoter v) in
           let there = spot_before P R deal (λ q. slice_get q.sent sends.place ≡ Some (kinds.ToClient msg))
-          (λ s a b _ _ moved. message_stays sends.place (kinds.ToClient msg) a b (Moved-by s a b (quietly_moved w m s a b moved))) u1 z (Deliver sends.place) heard.spot sends.is in
+          (λ s a b _ _ moved. message_stays sends.place (kinds.ToClient msg) a b (Moved-by s a b (quietly_moved p w m s a b moved))) u1 z (Deliver sends.place) heard.spot sends.is in
           let x2 = heard.spot.before in
           let calm2 = heard.spot.here in
           let ok2 = steady_ok laws p w D x2 calm2.steady in
@@ -222,7 +221,7 @@ nearer laws p none w m v f alive x z r stage ahead_x olds_x =
           let comes = heard.replies says_it.place says_it.least says_it.less in
           let y2 = next deal x2 (Deliver sends.place) in
           let got = spot_before P R deal (λ q. slice_get q.sent says_it.place ≡ Some (kinds.ToVoter rel))
-          (λ s a b _ _ moved. message_stays says_it.place (kinds.ToVoter rel) a b (Moved-by s a b (quietly_moved w m s a b moved))) y2 z (Deliver says_it.place) comes says_it.is in
+          (λ s a b _ _ moved. message_stays says_it.place (kinds.ToVoter rel) a b (Moved-by s a b (quietly_moved p w m s a b moved))) y2 z (Deliver says_it.place) comes says_it.is in
           let x3 = comes.before in
           let calm3 = comes.here in
           let ok3 = steady_ok laws p w D x3 calm3.steady in
@@ -230,7 +229,7 @@ nearer laws p none w m v f alive x z r stage ahead_x olds_x =
           let y3 = next deal x3 (Deliver says_it.place) in
           let above = ends_up_to laws.voter (voter_at x3.voters v) rel g.stamp taken.outcome (ok3.voters v) refl taken.step in
           -- what precedes was known when the voter was reminded
-          let first : WereOld w m v u u1 = known_before laws w m v (RemindVoter v) u u1 spot.moved in
+          let first : WereOld w m v u u1 = known_before laws w m v (RemindVoter v) u u1 spot.moved.0 in
           let second : WereOld w m v u x2 = spot_before P R deal (WereOld w m v u) (known_on laws p w m v u) u1 z (Deliver sends.place) heard.spot first in
           let third : WereOld w m v u y2 = known_on laws p w m v u (Deliver sends.place) x2 y2 calm2 (spot_after P R deal u1 z (Deliver sends.place) heard.spot) heard.spot.moved second in
           let fourth : WereOld w m v u x3 = spot_before P R deal (WereOld w m v u) (known_on laws p w m v u) y2 z (Deliver says_it.place) comes third in
@@ -255,22 +254,22 @@ nearer laws p none w m v f alive x z r stage ahead_x olds_x =
 -- the request leads all along these rounds
 abbrev pub ClearRounds : Course → WorldState → ℕ → List (List Step) → WorldState → Type 0
 ClearRounds p w m [] x = Clear p w m x
-ClearRounds p w m (r ∷ rs) x = Along (Clear p w m) (Quietly w m) p.deal r x × ClearRounds p w m rs (run_of p.deal r x)
+ClearRounds p w m (r ∷ rs) x = Along (Clear p w m) (Quietly p w m) p.deal r x × ClearRounds p w m rs (run_of p.deal r x)
 
-won_after : (laws : Laws) (p : Course) → ((u : ℕ) → p.old u ≡ 0) → (w : WorldState) (m v : ℕ) → Seeks w (Only m) m v → (g : Grant) → (round : List Step) (x : WorldState) → Along (Clear p w m) (Quietly w m) p.deal round x
+won_after : (laws : Laws) (p : Course) (w : WorldState) (m v : ℕ) → Seeks w (Only m) m v → (g : Grant) → (round : List Step) (x : WorldState) → Along (Clear p w m) (Quietly p w m) p.deal round x
     → IsReminded p.deal x round (RemindVoter v) → IsIts m v g x → HasWon m v g (run_of p.deal round x)
-won_after laws p none w m v f g round x all fair h =
+won_after laws p w m v f g round x all fair h =
     let deal = p.deal in
     let D = Only m in
     let z = run_of deal round x in
-    elim (along-or (Clear p w m) (Quietly w m) deal (IsIts m v g) (λ _. ⊥) (λ s a b before after moved k. inl (its_on laws p none w m v f g s a b before after moved k)) (λ s a b before after moved k. k) round x all h) [
+    elim (along-or (Clear p w m) (Quietly p w m) deal (IsIts m v g) (λ _. ⊥) (λ s a b before after moved k. inl (its_on laws p w m v f g s a b before after moved k)) (λ s a b before after moved k. k) round x all h) [
       | inl never ↦ absurd never
       | inr kept ↦
           let P = λ (q : WorldState). Clear p w m q × IsIts m v g q in
-          let end = (along-last P (Quietly w m) deal round x kept).1 in
-          let moves = along-quiet P deal w m round x kept in
+          let end = (along-last P (Quietly p w m) deal round x kept).1 in
+          let moves = along-quiet P p w m round x kept in
           let votes = along-weaker P (With p w D (HasVote v g)) MovedBy deal (λ q k. (k.0.steady, k.1.held)) round x moves in
-          let calm = (along-first (Clear p w m) (Quietly w m) deal round x all).steady in
+          let calm = (along-first (Clear p w m) (Quietly p w m) deal round x all).steady in
           let own = h.settled.own in
           let knows = told laws p w D m v f g (is_own laws p w m v f x calm g h.held own) x z (reminded_at (With p w D (HasVote v g)) MovedBy deal round x (RemindVoter v) votes fair) in
           elim knows [
@@ -279,33 +278,33 @@ won_after laws p none w m v f g round x all fair h =
           ]
     ]
 
-won_rounds : (laws : Laws) (p : Course) → ((u : ℕ) → p.old u ≡ 0) → (w : WorldState) (m v : ℕ) → Seeks w (Only m) m v → (g : Grant) → (rounds : List (List Step)) (x : WorldState) → ClearRounds p w m rounds x → HasWon m v g x
+won_rounds : (laws : Laws) (p : Course) (w : WorldState) (m v : ℕ) → Seeks w (Only m) m v → (g : Grant) → (rounds : List (List Step)) (x : WorldState) → ClearRounds p w m rounds x → HasWon m v g x
     → holds (client_at (run_of p.deal (steps_of rounds) x).clients m) v ≡ true
-won_rounds laws p none w m v f g [] x all h = h.has
-won_rounds laws p none w m v f g (r ∷ rs) x all h =
+won_rounds laws p w m v f g [] x all h = h.has
+won_rounds laws p w m v f g (r ∷ rs) x all h =
     let deal = p.deal in
-    let end = along-kept (Clear p w m) (Quietly w m) deal (HasWon m v g) (won_on laws p none w m v f g) r x all.0 h in
-    ap (λ (u : WorldState). holds (client_at u.clients m) v) (run_then deal r (steps_of rs) x) ∙ won_rounds laws p none w m v f g rs (run_of deal r x) all.1 end
+    let end = along-kept (Clear p w m) (Quietly p w m) deal (HasWon m v g) (won_on laws p w m v f g) r x all.0 h in
+    ap (λ (u : WorldState). holds (client_at u.clients m) v) (run_then deal r (steps_of rs) x) ∙ won_rounds laws p w m v f g rs (run_of deal r x) all.1 end
 
-its_rounds : (laws : Laws) (p : Course) → ((u : ℕ) → p.old u ≡ 0) → (w : WorldState) (m v : ℕ) → Seeks w (Only m) m v → (g : Grant) → (rounds : List (List Step)) (x : WorldState) → ClearRounds p w m rounds x
+its_rounds : (laws : Laws) (p : Course) (w : WorldState) (m v : ℕ) → Seeks w (Only m) m v → (g : Grant) → (rounds : List (List Step)) (x : WorldState) → ClearRounds p w m rounds x
     → AreFairRounds p.deal x rounds → 1 ≤ length rounds → IsIts m v g x → holds (client_at (run_of p.deal (steps_of rounds) x).clients m) v ≡ true
-its_rounds laws p none w m v f g [] x all fair some h = absurd (omega arith)
-its_rounds laws p none w m v f g (r ∷ rs) x all fair some h =
+its_rounds laws p w m v f g [] x all fair some h = absurd (omega arith)
+its_rounds laws p w m v f g (r ∷ rs) x all fair some h =
     let deal = p.deal in
-    let calm = (along-first (Clear p w m) (Quietly w m) deal r x all.0).steady in
-    let end = won_after laws p none w m v f g r x all.0 (fair.0.voters v (voter_within laws p w (Only m) x m v calm f.asks f.member)) h in
-    ap (λ (u : WorldState). holds (client_at u.clients m) v) (run_then deal r (steps_of rs) x) ∙ won_rounds laws p none w m v f g rs (run_of deal r x) all.1 end
+    let calm = (along-first (Clear p w m) (Quietly p w m) deal r x all.0).steady in
+    let end = won_after laws p w m v f g r x all.0 (fair.0.voters v (voter_within laws p w (Only m) x m v calm f.asks f.member)) h in
+    ap (λ (u : WorldState). holds (client_at u.clients m) v) (run_then deal r (steps_of rs) x) ∙ won_rounds laws p w m v f g rs (run_of deal r x) all.1 end
 
 -- it has the vote after as many rounds as there are clients with older requests, and one more
-pub wins : (laws : Laws) (p : Course) → ((u : ℕ) → p.old u ≡ 0) → (w : WorldState) (m v : ℕ) → Seeks w (Only m) m v → (rounds : List (List Step)) (x : WorldState) (alive : List ℕ) → ClearRounds p w m rounds x
+pub wins : (laws : Laws) (p : Course) (w : WorldState) (m v : ℕ) → Seeks w (Only m) m v → (rounds : List (List Step)) (x : WorldState) (alive : List ℕ) → ClearRounds p w m rounds x
     → AreFairRounds p.deal x rounds → length alive < length rounds → OwnStage Never m v x → NotBehind w m v x → OldsAmong w m v alive x
     → holds (client_at (run_of p.deal (steps_of rounds) x).clients m) v ≡ true
-wins laws p none w m v f [] x alive all fair less stage ahead olds = absurd (omega arith)
-wins laws p none w m v f (r ∷ rs) x alive all fair less stage ahead olds =
+wins laws p w m v f [] x alive all fair less stage ahead olds = absurd (omega arith)
+wins laws p w m v f (r ∷ rs) x alive all fair less stage ahead olds =
     let deal = p.deal in
     let D = Only m in
     let P = Clear p w m in
-    let R = Quietly w m in
+    let R = Quietly p w m in
     let z = run_of deal r x in
     let calm = (along-first P R deal r x all.0).steady in
     let now = held_exists laws p w D x m v calm f.asks f.member in
@@ -314,22 +313,25 @@ wins laws p none w m v f (r ∷ rs) x alive all fair less stage ahead olds =
     elim (cases_eq g.client m) [
       | inl own ↦ elim (stage g now.1 own) [
         | inr never ↦ absurd never
-        | inl settled ↦ its_rounds laws p none w m v f g (r ∷ rs) x all fair (omega arith) (record { held = now.1; settled = settled })
+        | inl settled ↦ its_rounds laws p w m v f g (r ∷ rs) x all fair (omega arith) (record { held = now.1; settled = settled })
       ]
       | inr other ↦
           let there = olds g.client g.stamp (inl (g, now.1, refl, refl)) (ahead_of g m stamp other (ahead g now.1)) in
           let some = shorter g.client alive there in
           let remind = reminded_at P R deal r x (RemindVoter v) all.0 (fair.0.voters v (voter_within laws p w D x m v calm f.asks f.member)) in
-          ap (λ (u : WorldState). holds (client_at u.clients m) v) (run_then deal r (steps_of rs) x) ∙ elim (nearer laws p none w m v f alive x z remind stage ahead olds) [
-            | inl first ↦ its_rounds laws p none w m v f first.0 rs z all.1 fair.1 (omega arith) first.1
+          ap (λ (u : WorldState). holds (client_at u.clients m) v) (run_then deal r (steps_of rs) x) ∙ elim (nearer laws p w m v f alive x z remind stage ahead olds) [
+            | inl first ↦ its_rounds laws p w m v f first.0 rs z all.1 fair.1 (omega arith) first.1
             | inr fewer ↦
                 let short = shorter fewer.0 alive fewer.1 in
-                wins laws p none w m v f rs z (remove_from fewer.0 alive) all.1 fair.1 (omega arith)
-                (along-kept P R deal (OwnStage Never m v) (λ s a b before after moved. own_stage_kept laws p none w m v f Never (Never-lasting v) s a b before.steady after.steady moved) r x all.0 stage)
-                (along-kept P R deal (NotBehind w m v) (λ s a b before after moved. not_behind_kept laws p w D m v f s a b before.steady after.steady (quietly_moved w m s a b moved)) r x all.0 ahead)
+                wins laws p w m v f rs z (remove_from fewer.0 alive) all.1 fair.1 (omega arith)
+                (along-kept P R deal (OwnStage Never m v) (λ s a b before after moved. own_stage_kept laws p w m v f Never (Never-lasting v) s a b before.steady after.steady moved) r x all.0 stage)
+                (along-kept P R deal (NotBehind w m v) (λ s a b before after moved. not_behind_kept laws p w D m v f s a b before.steady after.steady (quietly_moved p w m s a b moved)) r x all.0 ahead)
                 fewer.2
           ]
     ]
+
+one_entry : (y : VoterState) (c s t : ℕ) → voter.IsSound y → IsEntry y c s → IsEntry y c t → s ≡ t
+one_entry y c s t ok a b = same_Some s t (sym (current_stamp-entry y c s (orderly y ok) a) ∙ current_stamp-entry y c t (orderly y ok) b)
 
 -- requests that precede are of other clients
 pub olds_others : (laws : Laws) (p : Course) (w x : WorldState) (m v : ℕ) → Seeks w (Only m) m v → Clear p w m x → OldsAmong w m v (remove_from m (range_with_len 0 (length w.clients))) x

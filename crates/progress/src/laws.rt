@@ -3,7 +3,7 @@ ghost use Rattle.std.specs.Prelude.{◌≡◌, ◌≢◌, ◌≤◌, ◌+◌, �
 ghost use Rattle.progress.specs.LostVotes.{ComesBack, GoesOn, HasLostVote, HasReturnedVote};
 ghost use Rattle.progress.specs.Overtaking.{IsKnownEverywhere, StillRuns};
 ghost use Rattle.world.specs.Visible.{entries_of};
-ghost use Rattle.progress.specs.Patience.{ArePatient};
+ghost use Rattle.progress.specs.Patience.{hasty_in};
 ghost use Rattle.progress.specs.Rounds.{AreFairRounds, DoesNotGiveUp, IsFairRound, IsStill, IsTimely, give_ups_in, grants_for, late_in, steps_of};
 ghost use Rattle.progress.specs.Rules.{Laws};
 ghost use Rattle.world.specs.WayIn.{Asks, AsksAlone, GetsIn, HasGrants, IsFree, IsWayIn};
@@ -11,7 +11,7 @@ ghost use Rattle.voter.specs.declared.state.Grant.{Grant};
 ghost use Rattle.world_state.specs.declared.step.Event.{Event};
 ghost use Rattle.world_state.specs.declared.step.Step.{Step};
 ghost use Rattle.world.specs.Runs.{IsReached, run_of};
-ghost use Rattle.world.specs.Waiting.{block, bound, long_block, patient_bound};
+ghost use Rattle.world.specs.Waiting.{block, bound, patient_bound};
 ghost use Rattle.world_state.specs.Steps.{Dealing, Planned, WorldState, dealing_of};
 
 use requester::{
@@ -96,7 +96,7 @@ pub fn returned_votes_go_on()
 /// A client that asks while all others are idle gets in by reminders and by messages that are sent after
 /// them, whatever was lost, late or repeated before. Nobody else enters meanwhile.
 ///
-/// Each voter has to have 4 * (n + 5) grants left and one, for n clients: for n + 5 fair rounds as
+/// Each voter has to have 4 * (n + 8) grants left and one, for n clients: for n + 8 fair rounds as
 /// [`fair_rounds_can_be_made`] makes them, in which one client asks. The way ends with the first entry.
 pub fn who_asks_alone_gets_in()
     ensures { (w : Planned) (c : ℕ) → IsReached w → AsksAlone w.state c
@@ -108,8 +108,8 @@ pub fn who_asks_alone_gets_in()
 /// Whenever clients ask and nobody is inside, some client gets in by reminders and by messages that are
 /// sent after them, whatever was lost, late or repeated before. Nobody else enters meanwhile.
 ///
-/// So requests never block one another for good. Each voter has to have (n + 5) * (2 n + 2) grants left and
-/// one, for n clients: for n + 5 fair rounds that are made.
+/// So requests never block one another for good. Each voter has to have (n + 8) * (2 n + 2) grants left and
+/// one, for n clients: for n + 8 fair rounds that are made.
 pub fn somebody_can_enter()
     ensures { (w : Planned) (c : ℕ) → IsReached w → Asks w.state c → IsFree w.state
         → HasGrants (grants_for (length w.state.clients) (length w.state.clients) 1) w.state
@@ -122,7 +122,7 @@ pub fn somebody_can_enter()
 /// clients that leave. Nobody has to ask anew, and nobody has to give up.
 ///
 /// This holds in every world that was reached, whoever asks or is inside. Other clients may get in before.
-/// Each voter has to have n * (n + 5) * (2 n + 2) grants left and one, for n clients: n times as many rounds
+/// Each voter has to have n * (n + 8) * (2 n + 2) grants left and one, for n clients: n times as many rounds
 /// as in [`somebody_can_enter`] are made.
 pub fn everybody_can_enter()
     ensures { (w : Planned) (c : ℕ) → IsReached w → Asks w.state c
@@ -159,7 +159,7 @@ pub fn rounds_may_be_longer()
     worlds_keep_their_rules();
 }
 
-/// If a client asks, somebody asks, enters or gives up within n + 5 fair rounds, for n clients: nothing
+/// If a client asks, somebody asks, enters or gives up within n + 8 fair rounds, for n clients: nothing
 /// stands still for longer.
 ///
 /// No REQUEST may come late, that is, later than in the round after that in which it was sent. Each voter
@@ -174,7 +174,7 @@ pub fn fair_rounds_move_somebody()
     worlds_keep_their_rules();
 }
 
-/// If a client asks and does not give up, somebody enters within (n + 5) * (n + 2 g + l) fair rounds, for n
+/// If a client asks and does not give up, somebody enters within (n + 8) * (n + 2 g + l) fair rounds, for n
 /// clients, g withdrawals of others and l arrivals of late REQUESTs.
 ///
 /// Each arrival counts, also of the same REQUEST again, and each withdrawal, also one that is refused. Each
@@ -193,40 +193,22 @@ pub fn fair_rounds_let_somebody_in()
 }
 
 /// Whoever asks gets in: a client that asks, and does not give up, enters within
-/// (n + 5) * (5 n + 2 g + l) fair rounds, for n clients, g withdrawals of others and l arrivals of late
-/// REQUESTs. Each arrival counts, also of the same REQUEST again, and each withdrawal, also one that is
-/// refused.
+/// (n + 8) * (3 n + 2 h + l) fair rounds, for n clients, h hasty withdrawals and l arrivals of late REQUESTs.
+/// Each arrival counts, also of the same REQUEST again.
 ///
 /// In a fair round everybody is reminded, the messages of the reminders arrive, what is sent on their arrival
 /// arrives too, and who was inside when it began leaves. All else is up to an adversary: what is lost, late,
 /// repeated or out of order, who asks again, and who gives up. Nobody crashes. Each voter has to have a grant
 /// left at the end.
+///
+/// A withdrawal is hasty if its request was made in these rounds, and did not run for two whole rounds: made in
+/// round i, it may be given up at no price from round i + 3 on. Without withdrawals h is 0.
 pub fn fair_rounds_let_everybody_in()
     ensures { (w : Planned) (c : ℕ) (rounds : List (List Step)) (more : List Event) → IsReached w → Asks w.state c
         → AreFairRounds (dealing_of w.plans) w.state rounds → DoesNotGiveUp c (steps_of rounds)
         → HasGrants 1 (run_of (dealing_of w.plans) (steps_of rounds) w.state)
         → block (length w.state.clients)
-        * (5 * length w.state.clients + 2 * give_ups_in (steps_of rounds) + late_in (dealing_of w.plans) 0 w.state rounds)
-        ≤ length rounds
-        → (run_of (dealing_of w.plans) (steps_of rounds) w.state).visible ≡ w.state.visible ++ more
-        → 1 ≤ entries_of c more }
-{
-    worlds_keep_their_rules();
-}
-
-/// Whoever asks gets in, at no price for withdrawals, if clients are patient: a client that asks, and does
-/// not give up, enters within (n + 8) * (3 n + l) fair rounds, for n clients and l arrivals of late REQUESTs.
-///
-/// Clients are patient if a request that is made in these rounds runs for two whole rounds before it is given
-/// up: made in round i, it may be given up from round i + 3 on. It does not matter how many withdrawals there
-/// are. Without withdrawals all clients are patient. All else is up to an adversary, as
-/// in [`fair_rounds_let_everybody_in`]. Each voter has to have a grant left at the end.
-pub fn patient_rounds_let_everybody_in()
-    ensures { (w : Planned) (c : ℕ) (rounds : List (List Step)) (more : List Event) → IsReached w → Asks w.state c
-        → AreFairRounds (dealing_of w.plans) w.state rounds → ArePatient (dealing_of w.plans) w.state rounds
-        → DoesNotGiveUp c (steps_of rounds) → HasGrants 1 (run_of (dealing_of w.plans) (steps_of rounds) w.state)
-        → long_block (length w.state.clients)
-        * (3 * length w.state.clients + late_in (dealing_of w.plans) 0 w.state rounds)
+        * (3 * length w.state.clients + 2 * hasty_in (dealing_of w.plans) w.state rounds + late_in (dealing_of w.plans) 0 w.state rounds)
         ≤ length rounds
         → (run_of (dealing_of w.plans) (steps_of rounds) w.state).visible ≡ w.state.visible ++ more
         → 1 ≤ entries_of c more }
@@ -249,11 +231,11 @@ pub fn rounds_are_enough()
     fair_rounds_let_everybody_in();
 }
 
-/// The same with the number of rounds for patient clients: a request that is made in these rounds
-/// runs for two whole rounds before it is given up.
+/// The same with the number of rounds for patient clients: no withdrawal is hasty. So a request that is made in
+/// these rounds runs for two whole rounds before it is given up.
 pub fn patient_rounds_are_enough()
     ensures { (w : Planned) (c : ℕ) (rounds : List (List Step)) (more : List Event) → IsReached w → Asks w.state c
-        → AreFairRounds (dealing_of w.plans) w.state rounds → ArePatient (dealing_of w.plans) w.state rounds
+        → AreFairRounds (dealing_of w.plans) w.state rounds → hasty_in (dealing_of w.plans) w.state rounds ≡ 0
         → DoesNotGiveUp c (steps_of rounds)
         → HasGrants 1 (run_of (dealing_of w.plans) (steps_of rounds) w.state)
         → late_in (dealing_of w.plans) 0 w.state rounds ≡ 0
@@ -261,5 +243,5 @@ pub fn patient_rounds_are_enough()
         → (run_of (dealing_of w.plans) (steps_of rounds) w.state).visible ≡ w.state.visible ++ more
         → 1 ≤ entries_of c more }
 {
-    patient_rounds_let_everybody_in();
+    fair_rounds_let_everybody_in();
 }

@@ -18,13 +18,10 @@
 //! - **Whoever asks can still get in** ([`everybody_can_enter`]): by reminders, by messages that are sent
 //!   after them, and by clients that leave.
 //! - **Whoever asks gets in** ([`fair_rounds_let_everybody_in`]): a client that asks, and does not give
-//!   up, enters within (n + 5) * (5 n + 2 g + l) fair rounds, for n clients, g withdrawals of others and
-//!   l arrivals of late REQUESTs. Somebody enters within (n + 5) * (n + 2 g + l)
-//!   ([`fair_rounds_let_somebody_in`]), and nothing stands still for n + 5 rounds
-//!   ([`fair_rounds_move_somebody`]).
-//! - **Patience** ([`patient_rounds_let_everybody_in`]): a client that asks, and does not give up, enters
-//!   within (n + 8) * (3 n + l) fair rounds, however many others give up, if each request that is made in
-//!   these rounds runs for two whole rounds before it is given up.
+//!   up, enters within (n + 8) * (3 n + 2 h + l) fair rounds, for n clients, h hasty withdrawals and
+//!   l arrivals of late REQUESTs. A withdrawal is hasty if its request did not run for two whole rounds.
+//!   Somebody enters within (n + 8) * (n + 2 g + l), for g withdrawals ([`fair_rounds_let_somebody_in`]),
+//!   and nothing stands still for n + 8 rounds ([`fair_rounds_move_somebody`]).
 //! - **The numbers that `qlock-show waiting` shows are enough** ([`rounds_are_enough`],
 //!   [`patient_rounds_are_enough`]): these are the two bounds without late REQUESTs.
 //! - **Fair rounds need not be neighbours** ([`rounds_may_be_longer`]): steps before a fair round and after
@@ -45,13 +42,13 @@
 //! # After losses
 //!
 //! Before the rounds anything may have happened, crashes and losses of saved states too. Then somebody
-//! enters within (n + 5) * (n + 2 g + l + v) fair rounds, for v voters
+//! enters within (n + 8) * (n + 2 g + l + v) fair rounds, for v voters
 //! ([`fair_rounds_let_somebody_in_after_losses`]). A client whose request is heard enters within
-//! (n + 5) * (5 n + 2 g + l + v) ([`fair_rounds_let_everybody_in_after_losses`]), and each request that was
+//! (n + 8) * (3 n + 2 h + l + v) ([`fair_rounds_let_everybody_in_after_losses`]), and each request that was
 //! made after the last loss is heard ([`new_requests_are_heard`]).
 //!
-//! After crashes and incidents, the laws that name no rounds hold once all clients were idle:
-//! `progress_comes_back` of `leases`.
+//! After crashes and incidents these laws hold once all clients were idle: `progress_comes_back` and
+//! `rounds_come_back` of `leases`.
 //!
 //! Depends on `world`, `world_state`, `voter` and `requester`, and on the crates that these are made of.
 #![tactic(auto)]
@@ -66,7 +63,6 @@ pub use after_losses::{
 pub use laws::{
     everybody_can_enter, fair_rounds_can_be_made, fair_rounds_let_everybody_in,
     fair_rounds_let_somebody_in, fair_rounds_move_somebody, lost_votes_come_back,
-    nobody_overtakes_often, patient_rounds_are_enough, patient_rounds_let_everybody_in,
-    returned_votes_go_on, rounds_are_enough, rounds_may_be_longer, somebody_can_enter,
-    who_asks_alone_gets_in, worlds_keep_their_rules,
+    nobody_overtakes_often, patient_rounds_are_enough, returned_votes_go_on, rounds_are_enough,
+    rounds_may_be_longer, somebody_can_enter, who_asks_alone_gets_in, worlds_keep_their_rules,
 };

@@ -39,9 +39,9 @@ pub fn bound(clients: u64, withdrawals: u64) -> u64
     requires clients { clients ≤ max_clients }
     requires few { withdrawals ≤ 1000000 }
     ensures value { result ≡ bound clients withdrawals }
-    ensures small { result ≤ 138022080 }
+    ensures small { result ≤ 144013824 }
 {
-    (clients + 5) * (5 * clients + 2 * withdrawals)
+    (clients + 8) * (3 * clients + 2 * withdrawals)
 }
 
 /// Returns after how many fair rounds a client that asks has entered, if each request runs for two whole
@@ -58,7 +58,7 @@ fn patient_bound(clients: u64) -> u64
 fn rounds_of(waiting: &Waiting) -> u64
     requires { IsInRange waiting.now }
     ensures value { result ≡ rounds_of waiting.now }
-    ensures small { result ≤ 138022080 }
+    ensures small { result ≤ 144013824 }
 {
     bound(waiting.clients, withdrawals_of(waiting))
 }

@@ -1,4 +1,4 @@
-use Rattle.progress.proofs.Waiting.{whoever_asked_enters}
+use Rattle.progress.proofs.Patient.{whoever_asked_enters}
 use Rattle.progress.proofs.laws.fair_rounds_let_everybody_in.Goals as goal
 
 pub returns : goal.returns

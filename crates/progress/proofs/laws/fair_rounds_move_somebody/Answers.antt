@@ -1,4 +1,4 @@
-use Rattle.progress.proofs.Blocks.{nothing_stands_still}
+use Rattle.progress.proofs.Waiting.{nothing_stands_still}
 use Rattle.progress.proofs.laws.fair_rounds_move_somebody.Goals as goal
 
 pub returns : goal.returns
