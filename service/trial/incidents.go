@@ -131,6 +131,20 @@ func (p *player) calm() error {
 	return p.failed()
 }
 
+// limp lets the clients pass while one voter is down, after a client was killed, too: whoever waits has to enter all the same.
+func (p *player) limp() error {
+	p.kill(p.workers)
+	_, one := p.one()
+	one.Kill()
+	p.witness.limps(true)
+	err := p.calm()
+	p.witness.limps(false)
+	if started := one.Start(); err == nil {
+		err = started
+	}
+	return err
+}
+
 // choose returns a process that is there, and notes that it is away. It returns nil if there is none.
 func (p *player) choose(from []*local.Process) *local.Process {
 	p.mutex.Lock()

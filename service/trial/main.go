@@ -10,7 +10,7 @@
 //   - a write of a pass after one of a later pass;
 //   - a lost update;
 //   - a wait longer than 3 TTL after the last incident, and after the last one that stayed inside
-//     that lock. Incidents come in bursts, after which all is there again.
+//     that lock. Incidents come in bursts, after which all is there again, or all but one voter.
 package main
 
 import (
@@ -173,7 +173,13 @@ func run(o options) error {
 		return f.Passes < o.passes || !o.open && f.losses() == 0 && time.Since(began) < 3*o.length
 	}
 	for err == nil && (time.Since(began) < o.length || lacks(w.look())) && !(o.open && w.look().faults() > 0) {
-		if err = p.calm(); err == nil {
+		if !o.open && p.random.Intn(3) == 0 {
+			err = p.limp()
+		}
+		if err == nil {
+			err = p.calm()
+		}
+		if err == nil {
 			mover.dismiss() // else one that was killed, and is not of the plan any more, can't start
 			err = p.check()
 		}
@@ -197,8 +203,8 @@ func run(o options) error {
 }
 
 func show(f findings, counts map[string]int, took time.Duration) {
-	fmt.Printf("%d passes and %d writes in %.0f s, %.0f passes a second; longest wait after the last incident %.2f s\n",
-		f.Passes, f.Writes, took.Seconds(), float64(f.Passes)/took.Seconds(), f.LongestWait.Seconds())
+	fmt.Printf("%d passes and %d writes in %.0f s, %.0f passes a second; longest wait after the last incident %.2f s, with a voter down %.2f s\n",
+		f.Passes, f.Writes, took.Seconds(), float64(f.Passes)/took.Seconds(), f.LongestWait.Seconds(), f.LongestDown.Seconds())
 	var names []string
 	for name := range counts {
 		names = append(names, name)

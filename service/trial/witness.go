@@ -42,6 +42,7 @@ type findings struct {
 	LongWaits                 int // waits longer than 3 TTL after the last incident, with a quorum there
 	Met, Refused, Lost, Stays int
 	LongestWait               time.Duration
+	LongestDown               time.Duration // of those while a voter was down
 }
 
 // faults returns how many faults were found.
@@ -61,6 +62,7 @@ type witness struct {
 	said     int
 	calm     time.Time // of the last incident
 	ttl      time.Duration
+	isDown   bool // a voter is down
 	open     bool // the guard admits everything: a fault on purpose
 }
 
@@ -214,9 +216,12 @@ func (w *witness) judgeWait(name string, one *worker) {
 			since = p.stayed
 		}
 	}
-	waited := time.Since(since)
-	if waited > w.found.LongestWait {
-		w.found.LongestWait = waited
+	waited, longest := time.Since(since), &w.found.LongestWait
+	if w.isDown {
+		longest = &w.found.LongestDown
+	}
+	if waited > *longest {
+		*longest = waited
 	}
 	if waited > 3*w.ttl {
 		w.found.LongWaits++
@@ -268,6 +273,13 @@ func (w *witness) admit(p *place, pass string) bool {
 	}
 	p.last = pass
 	return true
+}
+
+// limps notes that a voter is down from now on, or that it comes back.
+func (w *witness) limps(isDown bool) {
+	w.mutex.Lock()
+	defer w.mutex.Unlock()
+	w.isDown, w.calm = isDown, time.Now()
 }
 
 // incident notes that something happens now, so waits count from here.
