@@ -15,6 +15,7 @@ import (
 	"context"
 	"errors"
 	"fmt"
+	"log"
 	"sort"
 	"sync/atomic"
 	"time"
@@ -36,6 +37,7 @@ var (
 	ErrLapsed   = errors.New("locks: the lock may have been somebody else's before it was given back")
 	ErrNoQuorum = errors.New("locks: no quorum of voters replied")
 	ErrNumbers  = errors.New("locks: all client numbers are in use")
+	ErrHeld     = errors.New("locks: somebody else has the lock")
 	ErrFull     = errors.New("locks: no quorum of voters has room for another lock, or for one of this user: max_locks, max_locks_user")
 	ErrRetired  = errors.New("locks: the plan of the cluster's file is retired; take the newest file")
 )
@@ -57,6 +59,7 @@ type Config struct {
 	Cert, Key string              // the files of a certificate and its key; none if empty
 	Heartbeat time.Duration       // a quarter of the TTL, at most 500 ms, if 0
 	DontWait  bool                // Open fails with ErrNumbers at once if all numbers are in use
+	Log       *log.Logger         // gets a line for each event of the session; none if nil
 	FailOver  time.Duration       // for how long a voter is silent before it is passed over; 4 heartbeats if 0
 	Transport transport.Transport // NATS with the cluster's servers if nil; it is not closed with the client
 }
@@ -101,6 +104,7 @@ type Client struct {
 	plans
 	watch  *watch
 	last   time.Time // when the loop last went round
+	missed uint64    // the voters that were silent then
 	back   uint64    // how often the connection had come back by then
 	locks  map[string]*lock
 	busy   map[*lock]struct{} // locks that ask, are inside, or are wanted
@@ -207,13 +211,25 @@ func shorter(a, b time.Duration) time.Duration {
 // Lock waits until the caller has the lock, or the context ends. A goroutine that has it and calls Lock of it again would
 // wait for itself: with a context of Held.Context that is ErrNested.
 func (c *Client) Lock(ctx context.Context, name string) (*Held, error) {
+	return c.lock(ctx, name, false)
+}
+
+// TryLock takes a lock that nobody has. It fails with ErrHeld as soon as a voter says that somebody else has its vote, or
+// asked before, or another goroutine of this client has the lock or waits for it. It waits for votes until the context ends,
+// and for nobody to leave. Of several callers that try a free lock at once, one gets it.
+func (c *Client) TryLock(ctx context.Context, name string) (*Held, error) {
+	return c.lock(ctx, name, true)
+}
+
+// lock takes a lock. It waits for who has it, unless it only tries.
+func (c *Client) lock(ctx context.Context, name string, tries bool) (*Held, error) {
 	if !wire.IsName([]byte(name)) {
 		return nil, fmt.Errorf("%w: %q", ErrName, name)
 	}
 	if isNested(ctx, c, name) {
 		return nil, fmt.Errorf("%w: %q", ErrNested, name)
 	}
-	w := &waiter{got: make(chan *Held, 1), since: time.Now()}
+	w := &waiter{got: make(chan *Held, 1), since: time.Now(), tries: tries}
 	if err := c.call(func() error { return c.enqueue(name, w) }); err != nil {
 		return nil, err
 	}
@@ -237,6 +253,10 @@ func (h *Held) Token() []byte { return append([]byte(nil), h.token...) }
 // Lost is closed when the lock may be somebody else's. The guard refuses what is written later, if somebody else wrote
 // since. End the work then, and call Unlock: until then votes that are left keep others out. It is also closed by Unlock.
 func (h *Held) Lost() <-chan struct{} { return h.lost }
+
+// Left returns for how long the lock lasts if no voter is heard any more: then Lost closes. It is 0 once Lost is closed. Each
+// acknowledged heartbeat of the client makes it longer again, up to 0.8 of the TTL. An operator may end a lock before.
+func (h *Held) Left() time.Duration { return h.client.watch.left(h, uptime()) }
 
 // Unlock gives the lock back. It returns ErrLapsed if the lock may have been lost before, also if Lost did not say so yet.
 // It returns ErrNotHeld for the second time.
@@ -275,6 +295,26 @@ func isNested(ctx context.Context, c *Client, name string) bool {
 		return false
 	default:
 		return true
+	}
+}
+
+// Done returns a channel that is closed when the session is over: by Close, or by ErrLost or ErrRetired, as Err then says.
+func (c *Client) Done() <-chan struct{} { return c.ended }
+
+// Err returns why the session is over, nil as long as it goes on.
+func (c *Client) Err() error {
+	select {
+	case <-c.ended:
+		return c.why
+	default:
+		return nil
+	}
+}
+
+// note writes a line to the log that the client was given.
+func (c *Client) note(event, format string, words ...interface{}) {
+	if c.config.Log != nil {
+		c.config.Log.Printf("event="+event+" "+format, words...)
 	}
 }
 
@@ -367,6 +407,7 @@ func (c *Client) end(why error) {
 		return
 	}
 	c.why = why
+	c.note("session-over", "number=%d epoch=%d why=%q", c.header.Number, c.header.Epoch, why)
 	for l := range c.busy {
 		if l.held != nil {
 			c.lose(l.held)

@@ -226,6 +226,7 @@ func (c *Client) adopt(retired bool) {
 	before := c.plan
 	c.plan, c.generation, c.older, c.next = *c.next, c.generation+1, &before, nil
 	c.firstTicket()
+	c.note("plan", "generation=%d", c.generation)
 	if retired {
 		c.older = nil
 	}

@@ -38,6 +38,7 @@ type waiter struct {
 	got   chan *Held // closed if the call fails, and why says why
 	why   error
 	since time.Time
+	tries bool // it does not wait for who has the lock
 }
 
 // find returns a lock by its name. One that is new begins above all stamps of its number.
@@ -74,6 +75,9 @@ func (c *Client) enqueue(name string, w *waiter) error {
 	l, err := c.find(name)
 	if err != nil {
 		return err
+	}
+	if w.tries && (len(l.queue) > 0 || l.shown.Phase != qlock.Idle) {
+		return fmt.Errorf("%s: %w", name, ErrHeld)
 	}
 	l.queue = append(l.queue, w)
 	c.pump(l)
@@ -128,6 +132,7 @@ func (c *Client) lose(h *Held) {
 	if !h.seen {
 		h.seen = true
 		c.stats.Lost++
+		c.note("lost", "lock=%s", h.lock.name)
 	}
 }
 
@@ -292,18 +297,21 @@ func (c *Client) send(l *lock, lines []byte, now time.Time) {
 		end := bytes.IndexByte(lines, '\n') + 1
 		if said := wire.ReadLine(lines[:end]); said.To >= 0 && said.To < len(c.peers) {
 			c.out[said.To] = append(append(append(c.out[said.To], l.name...), ' '), lines[:end-1]...)
-			if l.shown.Phase == qlock.Inside && string(said.Word) == "request" {
+			switch isRequest := string(said.Word) == "request"; {
+			case isRequest && l.shown.Phase == qlock.Inside:
 				c.out[said.To] = append(c.out[said.To], " inside"...)
+			case isRequest && l.isTried():
+				c.out[said.To] = append(c.out[said.To], " try"...)
 			}
 			c.out[said.To] = append(c.out[said.To], '\n')
 		}
 		lines = lines[end:]
 	}
-	c.note(l, now)
+	c.look(l, now)
 }
 
-// note notes what a client is doing, and what there is to remind of: its request, or that it is inside.
-func (c *Client) note(l *lock, now time.Time) {
+// look looks at what a client is doing, and notes what there is to remind of: its request, or that it is inside.
+func (c *Client) look(l *lock, now time.Time) {
 	shown, err := l.Shows()
 	if err != nil {
 		c.drop(l, err)
@@ -343,8 +351,12 @@ func (c *Client) take(name, line []byte) {
 		c.stats.Refused++
 		return
 	}
-	if said := wire.ReadLine(line); string(said.Word) == "locked" && said.Stamp == l.shown.Stamp && said.From >= 0 {
+	switch said := wire.ReadLine(line); {
+	case said.Stamp != l.shown.Stamp || said.From < 0:
+	case string(said.Word) == "locked":
 		l.unrenewed &^= 1 << said.From
+	case string(said.Word) == "fail" && l.shown.Phase == qlock.Asking:
+		defer c.refuseTries(l) // once the line is taken
 	}
 	lines, _, err := l.Take(line, c.room[:0])
 	if err != nil {
@@ -353,6 +365,45 @@ func (c *Client) take(name, line []byte) {
 	}
 	c.room = lines
 	c.send(l, lines, time.Now())
+	c.pump(l)
+}
+
+// longHeld is for how long somebody has a vote who is inside, as it seems: who asks at the same time gets it no later.
+const longHeld = 250 * time.Millisecond
+
+// isHeld notes that somebody else has had the vote of a voter for so many milliseconds.
+func (c *Client) isHeld(name string, stamp, since uint64) {
+	if l := c.locks[name]; l != nil && l.shown.Stamp == stamp && l.shown.Phase == qlock.Asking &&
+		since >= uint64(longHeld.Milliseconds()) {
+		c.refuseTries(l)
+	}
+}
+
+// isTried returns whether a call that waits for a lock only tries to take it.
+func (l *lock) isTried() bool {
+	for _, w := range l.queue {
+		if w.tries {
+			return true
+		}
+	}
+	return false
+}
+
+// refuseTries lets calls fail that only try to take a lock which somebody else has. Others wait on.
+func (c *Client) refuseTries(l *lock) {
+	if l.shown.Phase == qlock.Inside || !l.isTried() {
+		return
+	}
+	var waiting []*waiter
+	for _, w := range l.queue {
+		if !w.tries {
+			waiting = append(waiting, w)
+			continue
+		}
+		w.why = fmt.Errorf("%s: %w", l.name, ErrHeld)
+		close(w.got)
+	}
+	l.queue = waiting
 	c.pump(l)
 }
 
@@ -415,6 +466,7 @@ func (c *Client) round(now time.Time) {
 	} else {
 		c.lapse()
 	}
+	c.noteSilent(c.silent(now))
 	avoided := c.avoided(now)
 	for l := range c.busy {
 		switch {
@@ -427,6 +479,21 @@ func (c *Client) round(now time.Time) {
 			c.remind(l, now)
 		}
 	}
+}
+
+// noteSilent logs which voters have become silent, or came back.
+func (c *Client) noteSilent(silent uint64) {
+	names := c.names()
+	for v := range c.peers {
+		if bit := uint64(1) << v; (silent^c.missed)&bit != 0 && v < len(names) {
+			event := "voter-back"
+			if silent&bit != 0 {
+				event = "voter-silent"
+			}
+			c.note(event, "voter=%s", names[v])
+		}
+	}
+	c.missed = silent
 }
 
 // hasGap returns whether voters may have let votes go that this client's clock knows nothing of:

@@ -133,6 +133,7 @@ func (c *Client) begin(ctx context.Context) error {
 		}
 		if err == nil {
 			c.opening = false
+			c.note("session", "number=%d epoch=%d", c.header.Number, c.header.Epoch)
 			return nil
 		}
 		if c.why != nil {
@@ -576,6 +577,13 @@ func (c *Client) control(voter int, words [][]byte) {
 			c.gone(string(words[1]), stamp)
 		} else if ok {
 			c.full(voter, string(words[1]), stamp)
+		}
+		return
+	}
+	if len(words) == 4 && string(words[0]) == "held" {
+		stamp, ok := wire.Decimal(words[2])
+		if since, is := wire.Decimal(words[3]); ok && is {
+			c.isHeld(string(words[1]), stamp, since)
 		}
 		return
 	}

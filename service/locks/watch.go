@@ -49,6 +49,22 @@ func (w *watch) end(h *Held) {
 	delete(w.held, h)
 }
 
+// left returns for how long a lock lasts from a time on, if no voter is heard any more.
+func (w *watch) left(h *Held, up time.Duration) time.Duration {
+	w.mutex.Lock()
+	defer w.mutex.Unlock()
+	least := w.lease
+	for voter, left := range w.known {
+		if ends := left + w.lease - up; h.quorum>>voter&1 == 1 && ends < least {
+			least = ends
+		}
+	}
+	if _, isHeld := w.held[h]; !isHeld || h.over.Load() || least < 0 {
+		return 0
+	}
+	return least
+}
+
 // look ends what may be lost at a time.
 func (w *watch) look(up time.Duration) {
 	w.mutex.Lock()

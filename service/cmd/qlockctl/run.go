@@ -30,6 +30,7 @@ var errLost = errors.New("the lock may be somebody else's, and the program was e
 
 func runCommand(ctx context.Context, s *settings) *cobra.Command {
 	var wait, grace time.Duration
+	var tries bool
 	var err error
 	command := &cobra.Command{Use: "run LOCK PROGRAM [ARGUMENT..]", Args: cobra.MinimumNArgs(2), Short: "Run a program that needs a lock",
 		Long: "Takes a lock, runs a program, and gives the lock back. The program finds its pass in QLOCK_PASS, in hexadecimal: " +
@@ -42,9 +43,10 @@ func runCommand(ctx context.Context, s *settings) *cobra.Command {
 			if grace, err = graceWithin(s.cluster, grace); err != nil {
 				return status{exitSettings, err}
 			}
-			return run(ctx, s.client(), wait, grace, args[0], args[1:])
+			return run(ctx, s.client(), taking{args[0], wait, tries}, grace, args[1:])
 		}}
 	command.Flags().DurationVar(&wait, "wait", time.Minute, "how long to wait for the lock")
+	command.Flags().BoolVar(&tries, "try", false, "do not wait for somebody else who has the lock")
 	command.Flags().DurationVar(&grace, "grace", 0,
 		"how long after SIGTERM SIGKILL is sent; a tenth of the TTL, and at most 1s, if it is 0")
 	command.Flags().SetInterspersed(false)
@@ -72,10 +74,16 @@ func graceWithin(path string, grace time.Duration) (time.Duration, error) {
 	return most, nil
 }
 
+// taking is which lock a program needs, how long to wait for it, and whether that is for nobody who has it.
+type taking struct {
+	lock  string
+	wait  time.Duration
+	tries bool
+}
+
 // run runs a program under a lock.
-func run(ctx context.Context, settings locks.Config, wait, grace time.Duration, lock string,
-	words []string) (err error) {
-	limit, cancel := context.WithTimeout(ctx, wait)
+func run(ctx context.Context, settings locks.Config, of taking, grace time.Duration, words []string) (err error) {
+	limit, cancel := context.WithTimeout(ctx, of.wait)
 	defer cancel()
 	client, err := locks.Open(limit, settings)
 	if err != nil {
@@ -88,13 +96,17 @@ func run(ctx context.Context, settings locks.Config, wait, grace time.Duration, 
 			fmt.Fprintln(os.Stderr, "qlockctl: the lock is let go after the TTL:", closed)
 		}
 	}()
-	held, err := client.Lock(limit, lock)
+	take := client.Lock
+	if of.tries {
+		take = client.TryLock
+	}
+	held, err := take(limit, of.lock)
 	if errors.Is(err, context.DeadlineExceeded) {
-		return status{exitNoLock, notToBeHad(client, lock, wait)}
-	} else if errors.Is(err, locks.ErrFull) {
+		return status{exitNoLock, notToBeHad(client, of)}
+	} else if errors.Is(err, locks.ErrFull) || errors.Is(err, locks.ErrHeld) {
 		return status{exitNoLock, err}
 	} else if err != nil {
-		return withoutLock(limit, fmt.Errorf("%s: %w", lock, err))
+		return withoutLock(limit, fmt.Errorf("%s: %w", of.lock, err))
 	}
 	work, done := held.Context(ctx)
 	defer done()
@@ -102,7 +114,7 @@ func run(ctx context.Context, settings locks.Config, wait, grace time.Duration, 
 	lost := held.Unlock() != nil // the context may not say so yet
 	switch {
 	case lost:
-		return status{exitLost, fmt.Errorf("%s: %w", lock, errLost)}
+		return status{exitLost, fmt.Errorf("%s: %w", of.lock, errLost)}
 	case errors.Is(err, os.ErrNotExist) || errors.Is(err, exec.ErrNotFound):
 		return status{exitNone, err}
 	case err != nil:
@@ -115,12 +127,12 @@ func run(ctx context.Context, settings locks.Config, wait, grace time.Duration, 
 
 // notToBeHad says why a lock was not to be had in time, as far as this client knows: voters that
 // are silent may be why.
-func notToBeHad(client *locks.Client, lock string, wait time.Duration) error {
+func notToBeHad(client *locks.Client, of taking) error {
 	if silent := client.Silent(); len(silent) > 0 {
-		return fmt.Errorf("%s: the lock was not to be had for %v; these voters are silent: %s", lock, wait,
+		return fmt.Errorf("%s: the lock was not to be had for %v; these voters are silent: %s", of.lock, of.wait,
 			strings.Join(silent, ", "))
 	}
-	return fmt.Errorf("%s: somebody else had the lock for %v", lock, wait)
+	return fmt.Errorf("%s: somebody else had the lock for %v", of.lock, of.wait)
 }
 
 // withoutLock returns the status of a command that has no lock: 75 if its time or its session is over, and 78 if another

@@ -150,12 +150,50 @@ func TestStatusOfRun(t *testing.T) {
 			time.AfterFunc(cut, func() { port.Cut(true) })
 			time.AfterFunc(cut+2*time.Second, func() { port.Cut(false) }) // so that the session can be closed
 		}
-		err := run(context.Background(), locks.Config{Cluster: path, Transport: port}, 10*time.Second, time.Second, "x", []string{"sh", "-c", text})
+		err := run(context.Background(), locks.Config{Cluster: path, Transport: port}, taking{"x", 10 * time.Second, false}, time.Second, []string{"sh", "-c", text})
 		var got status
 		if !errors.As(err, &got) || got.code != want {
 			t.Errorf("%s: %v", text, err)
 		}
 	}
+}
+
+// With --try nobody waits for who has the lock.
+func TestRunThatTries(t *testing.T) {
+	w := worlds.New(t, worlds.Majority, 20*time.Second)
+	path := fileOf(t, w)
+	client, err := locks.Open(context.Background(), locks.Config{Cluster: path, Transport: w.Bus.Port()})
+	if err != nil {
+		t.Fatal(err)
+	}
+	held, err := client.Lock(context.Background(), "x")
+	if err != nil {
+		t.Fatal(err)
+	}
+	tries := func() int {
+		began := time.Now()
+		err := run(context.Background(), locks.Config{Cluster: path, Transport: w.Bus.Port()}, taking{"x", time.Minute, true}, time.Second,
+			[]string{"sh", "-c", "exit 7"})
+		var got status
+		if !errors.As(err, &got) || time.Since(began) > 20*time.Second {
+			t.Errorf("after %v: %v", time.Since(began), err)
+		}
+		return got.code
+	}
+	if code := tries(); code != exitNoLock {
+		t.Errorf("somebody has the lock: %d", code)
+	}
+	if err := held.Unlock(); err != nil {
+		t.Fatal(err)
+	}
+	code := 0
+	for end := time.Now().Add(20 * time.Second); code != 7 && time.Now().Before(end); {
+		code = tries() // a RELEASE takes a moment
+	}
+	if code != 7 {
+		t.Errorf("nobody has the lock: %d", code)
+	}
+	_ = client.Close(context.Background())
 }
 
 // A program ends before the next one enters: its grace is within what is left of the TTL.

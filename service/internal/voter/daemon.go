@@ -321,7 +321,7 @@ func (d *Daemon) line(l *letter, speaker verdict, lock, line []byte, now time.Ti
 	if string(lock) == "." {
 		return d.control(l, speaker, line, now)
 	}
-	line, isInside := cutInside(line)
+	line, word := cutWord(line)
 	said := wire.ReadLine(line)
 	if speaker != known || said.From != l.Number || said.To != d.store.meta.Voter || !wire.IsName(lock) ||
 		!isToVoter(said) {
@@ -336,7 +336,7 @@ func (d *Daemon) line(l *letter, speaker verdict, lock, line []byte, now time.Ti
 		d.takeBack(v, said, now)
 		return true
 	}
-	if left := d.quietOf(v, now); left > 0 && string(said.Word) == "request" && !isInside {
+	if left := d.quietOf(v, now); left > 0 && string(said.Word) == "request" && word != inside {
 		if l.once("quiet") {
 			d.tell(l.Name, "quiet %d", left.Milliseconds()+1)
 		}
@@ -356,19 +356,36 @@ func (d *Daemon) line(l *letter, speaker verdict, lock, line []byte, now time.Ti
 	v.heard = now
 	d.step(v, said.From, now, func(out []byte) ([]byte, error) { return v.Take(line, out) })
 	d.deny(v, l.Header, said)
-	if isInside {
+	switch word {
+	case inside:
 		d.noteInside(v, said, now)
+	case try:
+		d.tellHeld(v, l, said, now)
 	}
 	return true
 }
 
-// cutInside takes the word "inside" off a REQUEST, and returns whether it was there.
-func cutInside(line []byte) (rest []byte, isInside bool) {
-	const inside = " inside"
-	if bytes.HasSuffix(line, []byte(inside)) {
-		return line[:len(line)-len(inside)], true
+// What a client may write behind a REQUEST.
+const (
+	inside = " inside" // it is inside
+	try    = " try"    // it does not wait for somebody who is inside
+)
+
+// cutWord takes such a word off a line, and returns which one was there.
+func cutWord(line []byte) (rest []byte, word string) {
+	for _, word := range []string{inside, try} {
+		if bytes.HasSuffix(line, []byte(word)) {
+			return line[:len(line)-len(word)], word
+		}
 	}
-	return line, false
+	return line, ""
+}
+
+// tellHeld tells who does not want to wait that somebody else has the vote, and for how long, in milliseconds.
+func (d *Daemon) tellHeld(v *vote, l *letter, said wire.Line, now time.Time) {
+	if v.held.Number > 0 && !v.isHolder(said.From) {
+		d.tell(l.Name, "held %s %d %d", v.name, said.Stamp, now.Sub(v.since).Milliseconds())
+	}
 }
 
 // isToVoter returns whether a line has a word that voters take.

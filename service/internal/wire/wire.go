@@ -29,7 +29,8 @@
 //
 // A client that is inside has the word "inside" behind its REQUEST. A voter that starts, and may not
 // know whom it granted its votes, is quiet for a TTL: it takes no REQUEST but of who is inside, and
-// says "quiet MS" to others. A vote stays quiet while one waits for it who said then that he is inside.
+// says "quiet MS" to others. A client that does not want to wait for somebody has the word "try" there: to it a voter says
+// "held LOCK STAMP MS" if somebody else has the vote, and for how long. A vote stays quiet while one waits for it who said then that he is inside.
 //
 // Voters speak to one another in mailboxes of their own, a line of JSON behind the header (package
 // voter, peers.go).
