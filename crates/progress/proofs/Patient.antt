@@ -7,10 +7,11 @@ use Rattle.world_state.specs.declared.step.Step.{Step}
 use Rattle.world.specs.Runs.{IsReached, run_of}
 use Rattle.world_state.specs.Steps.{Dealing, Planned, WorldState, dealing_of}
 use Rattle.world.specs.Visible.{entries_of}
+use Rattle.progress.specs.LiveRounds.{AreLiveRounds, HasGrantsThere}
 use Rattle.progress.specs.Patience.{hasty_in}
-use Rattle.progress.specs.Rounds.{AreFairRounds, DoesNotGiveUp, late_in, steps_of}
+use Rattle.progress.specs.Rounds.{DoesNotGiveUp, late_in, steps_of}
 use Rattle.progress.specs.Rules.{Laws}
-use Rattle.world.specs.WayIn.{Asks, HasGrants}
+use Rattle.world.specs.WayIn.{Asks}
 use Rattle.world.specs.Waiting.{block}
 use Rattle.progress.proofs.Always.{Heeds, heeds}
 use Rattle.progress.proofs.Behind.{stamp_of}
@@ -20,7 +21,7 @@ use Rattle.progress.proofs.Kept.{IsKept-reached}
 use Rattle.progress.proofs.Lasting.{Goes-run, Lasts-run}
 use Rattle.progress.proofs.Longer.{Grows-run}
 use Rattle.progress.proofs.Olds.{AreOld, no_olds, olds_fall, olds_of}
-use Rattle.progress.proofs.Sure.{Course, IsSure, IsSure-reached, IsSure-run, course_of}
+use Rattle.progress.proofs.Sure.{Course, IsSure, IsSure-reached, IsSure-run, Up, course_of}
 use Rattle.progress.proofs.Tame.{turns_up_to}
 use Rattle.progress.proofs.Turns.{gives_up_never}
 use Rattle.progress.proofs.Waiting.{AsksAfter, Waits, all_up_to, asks_after, blocks_turn, up_to_most}
@@ -45,7 +46,7 @@ unfolding all_up_to
 few_up_to deal s n e steps x o within own most = sum_three n e (λ d. turns_up_to deal s d steps x) o within own most
 
 -- each other client turns three times at most, and twice more for each hasty withdrawal
-turns_after : (laws : Laws) (p : Course) (w : WorldState) (c : ℕ) (r : List Step) (rs : List (List Step)) → IsSure p w → Asks w c → AreFairRounds p.deal w (r ∷ rs) → AsksAfter p w c r (steps_of rs)
+turns_after : (laws : Laws) (p : Course) (w : WorldState) (c : ℕ) (r : List Step) (rs : List (List Step)) → IsSure p w → Asks w c → AreLiveRounds p.up.live p.deal w (r ∷ rs) → AsksAfter p w c r (steps_of rs)
     → all_up_to p.deal (stamp_of (run_of p.deal r w) c) (length w.clients) (steps_of rs) (run_of p.deal r w) + 3 ≤ 3 * length w.clients + 2 * hasty_in p.deal w (r ∷ rs)
 turns_after laws p w c r rs sure asks fair a =
     let deal = p.deal in
@@ -71,8 +72,8 @@ split_total b zero len some most = absurd (omega arith)
 split_total b (suc k) len some most = (k, refl, (let turned = mul_comm b (suc k) in let product = suc-mul k b in omega arith))
 
 -- t blocks are enough
-pub everybody_by : (laws : Laws) (p : Course) (w : WorldState) (c t : ℕ) (rounds : List (List Step)) (more : List Event) → AreOld p w → IsSure p w → Heeds c w → Asks w c → AreFairRounds p.deal w rounds
-    → DoesNotGiveUp c (steps_of rounds) → HasGrants 1 (run_of p.deal (steps_of rounds) w)
+pub everybody_by : (laws : Laws) (p : Course) (w : WorldState) (c t : ℕ) (rounds : List (List Step)) (more : List Event) → AreOld p w → IsSure p w → Heeds c w → Asks w c → AreLiveRounds p.up.live p.deal w rounds
+    → DoesNotGiveUp c (steps_of rounds) → HasGrantsThere p.up.live 1 (run_of p.deal (steps_of rounds) w)
     → 3 * length w.clients + 2 * hasty_in p.deal w rounds + late_in p.deal 0 w rounds + olds_of p (length w.voters) w ≤ t → block (length w.clients) * t ≤ length rounds
     → (run_of p.deal (steps_of rounds) w).visible ≡ w.visible ++ more → 1 ≤ entries_of c more
 everybody_by laws p w c t [] more few r heeded asks fair stays left enough long visible =
@@ -108,12 +109,12 @@ everybody_by laws p w c t (r ∷ rs) more few sure heeded asks fair stays left e
       absurd (omega arith)
 ]
 
-pub whoever_asked_enters : Laws → (w : Planned) (c : ℕ) (rounds : List (List Step)) (more : List Event) → IsReached w → Asks w.state c → AreFairRounds (dealing_of w.plans) w.state rounds
-    → DoesNotGiveUp c (steps_of rounds) → HasGrants 1 (run_of (dealing_of w.plans) (steps_of rounds) w.state)
+pub live_everybody : Laws → (up : Up) (w : Planned) (c : ℕ) (rounds : List (List Step)) (more : List Event) → IsReached w → Asks w.state c → AreLiveRounds up.live (dealing_of w.plans) w.state rounds
+    → DoesNotGiveUp c (steps_of rounds) → HasGrantsThere up.live 1 (run_of (dealing_of w.plans) (steps_of rounds) w.state)
     → block (length w.state.clients) * (3 * length w.state.clients + 2 * hasty_in (dealing_of w.plans) w.state rounds + late_in (dealing_of w.plans) 0 w.state rounds) ≤ length rounds
     → (run_of (dealing_of w.plans) (steps_of rounds) w.state).visible ≡ w.state.visible ++ more → 1 ≤ entries_of c more
-whoever_asked_enters laws w c rounds more r asks fair stays left long visible =
-    let p = course_of w in
+live_everybody laws up w c rounds more r asks fair stays left long visible =
+    let p = course_of up w in
     let none = no_olds p (length w.state.voters) w.state (λ v. refl) in
     everybody_by laws p w.state c (3 * length w.state.clients + 2 * hasty_in (dealing_of w.plans) w.state rounds + late_in (dealing_of w.plans) 0 w.state rounds) rounds more (λ v. omega arith)
-    (IsSure-reached laws w r) (heeds c w.state (IsKept-reached laws w r []).always) asks fair stays left (omega arith) long visible
+    (IsSure-reached laws up w r) (heeds c w.state (IsKept-reached laws w r []).always) asks fair stays left (omega arith) long visible

@@ -1,9 +1,10 @@
 -- what the laws on rounds rest on: what holds of a world, and of each that steps lead to from there
-use Rattle.std.proofs.Common.{ℕ, List, [], ◌∷◌, refl, sym, subst}
+use Rattle.std.proofs.Common.{◌≡◌, ℕ, ◌<◌, true, List, [], ◌∷◌, length, refl, sym, subst}
 use Rattle.world.specs.Coherence.{IsCoherent}
 use Rattle.world_state.specs.declared.step.Step.{Step}
 use Rattle.world.specs.Runs.{IsReached, after, run_of, start_by}
-use Rattle.world_state.specs.Steps.{Dealing, Planned, WorldState, dealing_of, step}
+use Rattle.world_state.specs.Steps.{Dealing, Planned, WorldState, dealing_of, step, voter_at}
+use Rattle.progress.specs.LiveRounds.{Live, everybody}
 use Rattle.progress.specs.Rules.{Laws}
 use Rattle.progress.proofs.Fitting.{Fits, Fits-moved, Fits-start}
 use Rattle.progress.proofs.Kept.{IsKept-reached}
@@ -11,11 +12,25 @@ use Rattle.progress.proofs.Moves.{Moved, StaysCoherent, kept-by, with_state}
 use Rattle.progress.proofs.Outstanding.{Outstanding, Outstanding-moved, Outstanding-start}
 use Rattle.progress.proofs.Placed.{Placed, Placed-moved, Placed-start}
 
+-- which voters are live; all clients are
+pub record Up : Type 0 where
+  pub live : Live
+  pub all : (c : ℕ) → live.client c ≡ true
+
 -- How quorums are dealt, and for each voter a number below which its grants are old. Of an old
--- grant it is not known whether its voter remembers that it asked for it.
+-- grant it is not known whether its voter remembers that it asked for it. And which voters are live.
 pub record Course : Type 0 where
   pub deal : Dealing
   pub old : ℕ → ℕ
+  pub up : Up
+
+-- all voters are live
+abbrev pub all_up : Up
+all_up = record { live = everybody; all = λ c. refl }
+
+-- each live voter has a grant left
+abbrev pub GrantsLeft : Course → WorldState → Type 0
+GrantsLeft p x = (v : ℕ) → v < length x.voters → p.up.live.voter v ≡ true → (voter_at x.voters v).granted < (voter_at x.voters v).limit
 
 -- what each step keeps
 pub record Bears (p : Course) (u : WorldState) : Type 0 where
@@ -59,12 +74,12 @@ stays_coherent p u r = λ steps. (r steps).coherent
 -- ---- worlds that are reached
 
 -- no grant is old
-abbrev pub course_of : Planned → Course
-course_of w = record { deal = dealing_of w.plans; old = λ v. 0 }
+abbrev pub course_of : Up → Planned → Course
+course_of up w = record { deal = dealing_of w.plans; old = λ v. 0; up = up }
 
-pub IsSure-reached : (laws : Laws) (w : Planned) → IsReached w → IsSure (course_of w) w.state
-IsSure-reached laws w r =
-    let p = course_of w in
+pub IsSure-reached : (laws : Laws) (up : Up) (w : Planned) → IsReached w → IsSure (course_of up w) w.state
+IsSure-reached laws up w r =
+    let p = course_of up w in
     let first = start_by w.plans r.clients r.limit in
     let begin : IsReached (with_state w first) = record { plans = r.plans; clients = r.clients; limit = r.limit; limits = r.limits; steps = []; state = refl } in
     let kept = IsKept-reached laws (with_state w first) begin in

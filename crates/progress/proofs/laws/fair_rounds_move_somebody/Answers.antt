@@ -1,5 +1,13 @@
-use Rattle.progress.proofs.Waiting.{nothing_stands_still}
+use Rattle.std.proofs.Common.{refl}
+use Rattle.world.specs.Runs.{run_of}
+use Rattle.world_state.specs.Steps.{dealing_of}
+use Rattle.progress.specs.LiveRounds.{everybody}
+use Rattle.progress.specs.Rounds.{steps_of}
+use Rattle.progress.proofs.Fair.{fair_are_live, grants_there}
+use Rattle.progress.proofs.Sure.{all_up}
+use Rattle.progress.proofs.Waiting.{live_move}
 use Rattle.progress.proofs.laws.fair_rounds_move_somebody.Goals as goal
 
 pub returns : goal.returns
-returns c = nothing_stands_still c.worlds_keep_their_rules.ensures
+returns c w k rounds reached asks fair late left = live_move c.worlds_keep_their_rules.ensures all_up w k rounds reached asks
+    (fair_are_live everybody (dealing_of w.plans) w.state rounds (λ v. refl) fair) late (grants_there everybody 1 (run_of (dealing_of w.plans) (steps_of rounds) w.state) left)
