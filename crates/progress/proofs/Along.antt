@@ -1,17 +1,19 @@
 -- what holds all along a list of steps, and where a step of a round is in it
-use Rattle.std.proofs.Common.{Option, Some, true, ◌≡◌, ℕ, zero, suc, ◌<◌, ◌≤◌, List, [], ◌∷◌, ◌++◌, length, refl, sym, ap, subst, ◌∙◌, ◌⊎◌, inl, inr, arith}
+use Rattle.std.proofs.Common.{Option, Some, true, ◌≡◌, ℕ, zero, suc, ◌<◌, ◌≤◌, List, [], ◌∷◌, ◌++◌, length, refl, sym, ap, subst, ◌∙◌, ◌⊎◌, inl, inr, arith, false}
 use Rattle.std.specs.Prelude.{◌&&◌, slice_get, slice_index_or}
 use Rattle.std.specs.List.{Contains}
 use Rattle.world_state.specs.declared.step.Step.{Step}
-use Rattle.world_state.specs.declared.step.Step.TheVariants.{Deliver}
+use Rattle.world_state.specs.declared.step.Step.TheVariants.{Deliver, RemindVoter}
 use Rattle.world.specs.Runs.{after, run_of}
-use Rattle.world_state.specs.Steps.{Dealing, WorldState, step}
+use Rattle.world_state.specs.Steps.{Dealing, WorldState, step, voter_at}
 use Rattle.world.proofs.Plans.{run_then}
-use Rattle.progress.specs.LiveRounds.{IsAnswered, IsReminded, Live, is_between}
+use Rattle.progress.specs.LiveRounds.{IsAnswered, IsReminded, IsServed, Live, is_between}
 use Rattle.message.specs.declared.message.Message.{Message}
 use Rattle.message.specs.declared.message.Message.TheVariants as kinds
 use Rattle.message.specs.declared.message.ToClient.{ToClient}
 use Rattle.message.specs.declared.message.ToVoter.{ToVoter}
+use Rattle.voter.specs.VoterContract.{IsEntry}
+use Rattle.voter.specs.declared.state.Grant.{Grant}
 
 -- the world after one step
 abbrev pub next : Dealing → WorldState → Step → WorldState
@@ -164,3 +166,40 @@ between_to live o m is c v = ap (is_between live) is ∙ (λ i. c i && v i)
 
 pub between_from : (live : Live) (o : Option Message) (m : ToClient) → o ≡ Some (kinds.ToClient m) → live.client m.client ≡ true → live.voter m.voter ≡ true → is_between live o ≡ true
 between_from live o m is c v = ap (is_between live) is ∙ (λ i. c i && v i)
+
+-- ---- voters that drop a request
+
+-- at some moment between the worlds u and z the voter does not know this request
+pub record Dropped (P : WorldState → Type 0) (R : Step → WorldState → WorldState → Type 0) (deal : Dealing) (u z : WorldState) (v c s : ℕ) : Type 0 where
+  pub first : List Step
+  pub rest : List Step
+  pub lead : Along P R deal first u
+  pub follow : Along P R deal rest (run_of deal first u)
+  pub ends : run_of deal rest (run_of deal first u) ≡ z
+  pub over : IsEntry (voter_at (run_of deal first u).voters v) c s → ⊥
+
+-- the voter is reminded between the worlds x and z, and drops the request of a client that is not live
+pub record Served (P : WorldState → Type 0) (R : Step → WorldState → WorldState → Type 0) (live : Live) (deal : Dealing) (x z : WorldState) (v : ℕ) : Type 0 where
+  pub reminded : Reminded P R live deal x z (RemindVoter v)
+  pub drops : (g : Grant) → (voter_at reminded.spot.before.voters v).held ≡ Some g → live.client g.client ≡ false → Dropped P R deal reminded.spot.before z v g.client g.stamp
+
+pub served_at : (P : WorldState → Type 0) (R : Step → WorldState → WorldState → Type 0) (live : Live) (deal : Dealing) (steps : List Step) (x : WorldState) (v : ℕ) → Along P R deal steps x
+    → IsServed live deal x steps v → Served P R live deal x (run_of deal steps x) v
+unfolding reminded_at spot_at
+served_at P R live deal steps x v h a = record {
+  reminded = reminded_at P R live deal steps x (RemindVoter v) h a.reminded;
+  drops = λ g held dead.
+      let u = run_of deal a.reminded.first x in
+      let list = RemindVoter v ∷ a.reminded.rest in
+      let d = a.drops g held dead in
+      let here = (along-split P R deal a.reminded.first list x (subst (λ l. Along P R deal l x) a.reminded.split h)).1 in
+      let parts = along-split P R deal d.first d.rest u (subst (λ l. Along P R deal l u) d.split here) in
+      record {
+        first = d.first;
+        rest = d.rest;
+        lead = parts.0;
+        follow = parts.1;
+        ends = sym (run_then deal d.first d.rest u) ∙ sym (ap (λ l. run_of deal l u) d.split) ∙ sym (ap (λ l. run_of deal l x) a.reminded.split ∙ run_then deal a.reminded.first list x);
+        over = d.over;
+      };
+}

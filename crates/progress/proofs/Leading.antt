@@ -32,7 +32,7 @@ use Rattle.progress.proofs.Known.{within_by}
 use Rattle.progress.proofs.Olds.{KeepsOlds, Outlasts-moved}
 use Rattle.progress.proofs.Outstanding.{came_noted}
 use Rattle.progress.proofs.Overdue.{Only, gives_back}
-use Rattle.progress.proofs.Steady.{AskedFor, GivenBack, GivenBack-lasting, HasVote, IsLasting, IsOf, Marked, Marked-lasting, Never, Never-lasting, Seeks, Steady, Told, Told-lasting, With, asked, asks_now, fate_goes, held_exists, not_given_back, steady_ok, told, voter_below, voter_within}
+use Rattle.progress.proofs.Steady.{AskedFor, GivenBack, GivenBack-lasting, HasVote, IsLasting, IsOf, Marked, Marked-lasting, Never, Never-lasting, Seeks, Steady, Told, Told-lasting, With, asked, asks_now, client_live, fate_goes, held_exists, not_given_back, steady_ok, told, voter_below, voter_within}
 use Rattle.progress.proofs.Sure.{Course, Sure}
 use Rattle.progress.proofs.Taking.{Returns}
 
@@ -254,10 +254,10 @@ climbs laws p w m v f S T lasting round x all climb stage =
     ]
 
 own_told : (laws : Laws) (p : Course) (w : WorldState) (m v : ℕ) → Seeks p w (Only m) m v → (round : List Step) (x : WorldState) → Along (Steady p w (Only m)) (Quietly p w m) p.deal round x
-    → IsReminded p.up.live p.deal x round (RemindVoter v) → OwnStage (Told v) m v (run_of p.deal round x)
+    → IsReminded p.live p.deal x round (RemindVoter v) → OwnStage (Told v) m v (run_of p.deal round x)
 own_told laws p w m v f round x all fair =
     climbs laws p w m v f (λ _ _. Unit {0}) (Told v) (Told-lasting v) round x all
-    (λ g of moves _. told laws p w (Only m) m v f g of x (run_of p.deal round x) (reminded_at (With p w (Only m) (HasVote v g)) MovedBy p.up.live p.deal round x (RemindVoter v) moves fair)) (λ g held own. inr tt)
+    (λ g of moves _. told laws p w (Only m) m v f g of x (run_of p.deal round x) (reminded_at (With p w (Only m) (HasVote v g)) MovedBy p.live p.deal round x (RemindVoter v) moves fair)) (λ g held own. inr tt)
 
 inquiring_on : (v : ℕ) (g : Grant) (s : Step) (x y : WorldState) → MovedBy s x y → (voter_at x.voters v).held ≡ Some g → (voter_at x.voters v).inquiring ≡ true → (g.grant ≤ (voter_at x.voters v).granted)
     → (voter_at y.voters v).held ≡ Some g → (voter_at y.voters v).inquiring ≡ true
@@ -267,7 +267,7 @@ inquiring_on v g s x y moved held is few now = elim ((Outlasts-moved x y (Moved-
 ]
 
 own_marked : (laws : Laws) (p : Course) (w : WorldState) (m v : ℕ) → Seeks p w (Only m) m v → (round : List Step) (x : WorldState) → Along (Steady p w (Only m)) (Quietly p w m) p.deal round x
-    → IsReminded p.up.live p.deal x round (RemindVoter v) → OwnStage (Told v) m v x → OwnStage (Marked v) m v (run_of p.deal round x)
+    → IsReminded p.live p.deal x round (RemindVoter v) → OwnStage (Told v) m v x → OwnStage (Marked v) m v (run_of p.deal round x)
 own_marked laws p w m v f round x all fair stage =
     let deal = p.deal in
     let D = Only m in
@@ -302,7 +302,7 @@ own_marked laws p w m v f round x all fair stage =
                     let Q = With p w D (AskedFor v g) in
                     let moves = along-quiet Q p w m round x kept in
                     let end = along-last Q MovedBy deal round x moves in
-                    let marked = asked laws p w D m v f g (is_own laws p w m v f x calm g now.1 own) x z (reminded_at Q MovedBy p.up.live deal round x (RemindVoter v) moves fair)
+                    let marked = asked laws p w D m v f g (is_own laws p w m v f x calm g now.1 own) x z (reminded_at Q MovedBy p.live deal round x (RemindVoter v) moves fair)
                     (inr (subst (λ c. holds (client_at x.clients c) v ≡ true) (sym own) hold)) in
                     own_by (Marked v) m v z g end.1.0 (inr (subst (λ c. Marked v (client_at z.clients c) g) own marked))
               ]
@@ -311,21 +311,21 @@ own_marked laws p w m v f round x all fair stage =
     ]
 
 own_given : (laws : Laws) (p : Course) (w : WorldState) (m v : ℕ) → Seeks p w (Only m) m v → (round : List Step) (x : WorldState) → Along (Steady p w (Only m)) (Quietly p w m) p.deal round x
-    → IsLiveRound p.up.live p.deal x round → OwnStage (Marked v) m v x → OwnStage (GivenBack v) m v (run_of p.deal round x)
+    → IsLiveRound p.live p.deal x round → OwnStage (Marked v) m v x → OwnStage (GivenBack v) m v (run_of p.deal round x)
 own_given laws p w m v f round x all fair =
     climbs laws p w m v f (Marked v) (GivenBack v) (GivenBack-lasting v) round x all
     (λ g of moves mark. gives_back laws p w (Only m) m v f g of round x moves fair mark)
 
 own_settled : (laws : Laws) (p : Course) (w : WorldState) (m v : ℕ) → Seeks p w (Only m) m v → (round : List Step) (x : WorldState) → Along (Steady p w (Only m)) (Quietly p w m) p.deal round x
-    → IsReminded p.up.live p.deal x round (RemindClient m) → OwnStage (GivenBack v) m v x → OwnStage Never m v (run_of p.deal round x)
+    → IsReminded p.live p.deal x round (RemindClient m) → OwnStage (GivenBack v) m v x → OwnStage Never m v (run_of p.deal round x)
 own_settled laws p w m v f round x all fair =
     climbs laws p w m v f (GivenBack v) Never (Never-lasting v) round x all
     (λ g of moves few. not_given_back laws p w (Only m) v (voter_below laws p w (Only m) x m v (along-first (Steady p w (Only m)) (Quietly p w m) p.deal round x all) f.asks f.member) f.up g of x (run_of p.deal round x)
-    (reminded_at (With p w (Only m) (HasVote v g)) MovedBy p.up.live p.deal round x (RemindClient g.client) moves (subst (λ c. IsReminded p.up.live p.deal x round (RemindClient c)) (sym of.0) fair)) few)
+    (reminded_at (With p w (Only m) (HasVote v g)) MovedBy p.live p.deal round x (RemindClient g.client) moves (subst (λ c. IsReminded p.live p.deal x round (RemindClient c)) (sym of.0) fair)) few)
 
 -- four rounds settle its grant
 pub four_settle : (laws : Laws) (p : Course) (w : WorldState) (m v : ℕ) → Seeks p w (Only m) m v → (a b c e : List Step) (x : WorldState)
-    → Along (Steady p w (Only m)) (Quietly p w m) p.deal (a ++ (b ++ (c ++ e))) x → AreLiveRounds p.up.live p.deal x (a ∷ b ∷ c ∷ e ∷ []) → OwnStage Never m v (run_of p.deal (a ++ (b ++ (c ++ e))) x)
+    → Along (Steady p w (Only m)) (Quietly p w m) p.deal (a ++ (b ++ (c ++ e))) x → AreLiveRounds p.live p.deal x (a ∷ b ∷ c ∷ e ∷ []) → OwnStage Never m v (run_of p.deal (a ++ (b ++ (c ++ e))) x)
 four_settle laws p w m v f a b c e x all fair =
     let deal = p.deal in
     let D = Only m in
@@ -342,9 +342,9 @@ four_settle laws p w m v f a b c e x all fair =
     let h2 = along-first P R deal (c ++ e) x2 B.1 in
     let h3 = along-first P R deal e x3 C.1 in
     let inside : (y : WorldState) → P y → m < length y.clients = λ y h. within_by y m (is_asking-busy (client_at y.clients m).phase (asks_now p w D y m h f.asks)) in
-    let first = own_told laws p w m v f a x A.0 (fair.0.voters v (voter_within laws p w D x m v h0 f.asks f.member) f.up) in
-    let second = own_marked laws p w m v f b x1 B.0 (fair.1.0.voters v (voter_within laws p w D x1 m v h1 f.asks f.member) f.up) first in
+    let first = own_told laws p w m v f a x A.0 (fair.0.voters v (voter_within laws p w D x m v h0 f.asks f.member) f.up).reminded in
+    let second = own_marked laws p w m v f b x1 B.0 (fair.1.0.voters v (voter_within laws p w D x1 m v h1 f.asks f.member) f.up).reminded first in
     let third = own_given laws p w m v f c x2 C.0 fair.1.1.0 second in
-    let fourth = own_settled laws p w m v f e x3 C.1 (fair.1.1.1.0.clients m (inside x3 h3) (p.up.all m)) third in
+    let fourth = own_settled laws p w m v f e x3 C.1 (fair.1.1.1.0.clients m (inside x3 h3) (client_live p w D x3 m h3 f.asks)) third in
     let goes : run_of deal (a ++ (b ++ (c ++ e))) x ≡ run_of deal e x3 = run_then deal a (b ++ (c ++ e)) x ∙ run_then deal b (c ++ e) x1 ∙ run_then deal c e x2 in
     subst (OwnStage Never m v) (sym goes) fourth

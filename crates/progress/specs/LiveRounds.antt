@@ -1,9 +1,12 @@
 -- Live rounds: fair rounds of those voters and clients that are live, while others are down.
-use Rattle.std.specs.Prelude.{ℕ, ◌≡◌, ◌+◌, ◌<◌, ◌≤◌, ◌&&◌, Bool, true, false, List, [], ◌∷◌, ◌++◌, length, Option, None, Some, slice_get}
+use Rattle.std.specs.Prelude.{ℕ, ◌≡◌, ◌+◌, ◌<◌, ◌≤◌, ◌&&◌, Bool, if◌then◌else◌, true, false, List, [], ◌∷◌, ◌++◌, length, Option, None, Some, slice_get}
 use Rattle.std.specs.List.{Contains}
+use Rattle.numbers.specs.Sums.{sum_below}
 use Rattle.message.specs.declared.message.Message.{Message}
 use Rattle.message.specs.declared.message.Message.TheVariants as kinds
-use Rattle.requester.specs.Words.{holds, is_asking, is_inside, is_member}
+use Rattle.voter.specs.declared.state.Grant.{Grant}
+use Rattle.voter.specs.VoterContract.{IsEntry}
+use Rattle.requester.specs.Words.{holds, is_asking, is_idle, is_inside, is_member}
 use Rattle.world_state.specs.declared.step.Step.{Step}
 use Rattle.world_state.specs.declared.step.Step.TheVariants.{Deliver, Leave, RemindClient, RemindVoter}
 use Rattle.world.specs.Runs.{run_of}
@@ -55,11 +58,25 @@ pub record AsksOn (w u : WorldState) (c : ℕ) : Type 0 where
   pub asks : is_asking (client_at u.clients c).phase ≡ true
   pub same : (client_at u.clients c).stamp ≡ (client_at w.clients c).stamp
 
+-- at some moment of these steps the voter does not know this request
+pub record Drops (deal : Dealing) (w : WorldState) (steps : List Step) (v c s : ℕ) : Type 0 where
+  pub first : List Step
+  pub rest : List Step
+  pub split : steps ≡ first ++ rest
+  pub over : IsEntry (voter_at (run_of deal first w).voters v) c s → ⊥
+
+-- The voter is reminded. If its grant is then of a client that is not live, that request is over there at some
+-- moment after this.
+pub record IsServed (live : Live) (deal : Dealing) (w : WorldState) (steps : List Step) (v : ℕ) : Type 0 where
+  pub reminded : IsReminded live deal w steps (RemindVoter v)
+  pub drops : (g : Grant) → (voter_at (run_of deal reminded.first w).voters v).held ≡ Some g → live.client g.client ≡ false
+      → Drops deal (run_of deal reminded.first w) (RemindVoter v ∷ reminded.rest) v g.client g.stamp
+
 -- A round: each live client and voter is reminded, and who of them is inside when it begins leaves. Who of them
--- is stuck when it begins ends that request.
+-- is stuck when it begins ends that request. A live voter drops the request of a client that is not live.
 pub record IsLiveRound (live : Live) (deal : Dealing) (w : WorldState) (steps : List Step) : Type 0 where
   pub clients : (c : ℕ) → c < length w.clients → live.client c ≡ true → IsReminded live deal w steps (RemindClient c)
-  pub voters : (v : ℕ) → v < length w.voters → live.voter v ≡ true → IsReminded live deal w steps (RemindVoter v)
+  pub voters : (v : ℕ) → v < length w.voters → live.voter v ≡ true → IsServed live deal w steps v
   pub leaves : (c : ℕ) → live.client c ≡ true → is_inside (client_at w.clients c).phase ≡ true → Contains steps (Leave c)
   pub ends : (c : ℕ) → live.client c ≡ true → IsStuck live w c → AsksOn w (run_of deal steps w) c → ⊥
 
@@ -68,6 +85,14 @@ abbrev pub AreLiveRounds : Live → Dealing → WorldState → List (List Step) 
 AreLiveRounds live deal w [] = Unit {0}
 AreLiveRounds live deal w (r ∷ rs) = IsLiveRound live deal w r × AreLiveRounds live deal (run_of deal r w) rs
 
+-- Who is not live is idle in the world w, and has not asked anew in the world u: it has the same stamp there.
+abbrev pub AreOut : Live → WorldState → WorldState → Type 0
+AreOut live w u = (c : ℕ) → live.client c ≡ false → (is_idle (client_at w.clients c).phase ≡ true) × ((client_at u.clients c).stamp ≡ (client_at w.clients c).stamp)
+
 -- each live voter has so many grants left
 abbrev pub HasGrantsThere : Live → ℕ → WorldState → Type 0
 HasGrantsThere live n w = (v : ℕ) → v < length w.voters → live.voter v ≡ true → (voter_at w.voters v).granted + n ≤ (voter_at w.voters v).limit
+
+-- how many of the first n clients are live
+abbrev pub live_below : Live → ℕ → ℕ
+live_below live n = sum_below (λ c. if live.client c then 1 else 0) n

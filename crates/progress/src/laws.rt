@@ -3,7 +3,7 @@ ghost use Rattle.std.specs.Prelude.{◌≡◌, ◌≢◌, ◌≤◌, ◌+◌, �
 ghost use Rattle.progress.specs.LostVotes.{ComesBack, GoesOn, HasLostVote, HasReturnedVote};
 ghost use Rattle.progress.specs.Overtaking.{IsKnownEverywhere, StillRuns};
 ghost use Rattle.world.specs.Visible.{entries_of};
-ghost use Rattle.progress.specs.LiveRounds.{AreLiveRounds, HasGrantsThere, Live};
+ghost use Rattle.progress.specs.LiveRounds.{AreLiveRounds, AreOut, HasGrantsThere, Live, live_below};
 ghost use Rattle.progress.specs.Patience.{hasty_in};
 ghost use Rattle.progress.specs.Rounds.{AreFairRounds, DoesNotGiveUp, IsFairRound, IsStill, IsTimely, give_ups_in, grants_for, late_in, steps_of};
 ghost use Rattle.progress.specs.Rules.{Laws};
@@ -160,36 +160,37 @@ pub fn rounds_may_be_longer()
     worlds_keep_their_rules();
 }
 
-/// Fair rounds are live rounds, if all voters are live: then nobody is stuck.
+/// Fair rounds are live rounds, if everybody is live: then nobody is stuck, and nothing is dropped.
 pub fn fair_rounds_are_live_rounds()
-    ensures { (live : Live) (deal : Dealing) (w : WorldState) (rounds : List (List Step)) → ((v : ℕ) → live.voter v ≡ true)
+    ensures { (live : Live) (deal : Dealing) (w : WorldState) (rounds : List (List Step)) → ((c : ℕ) → live.client c ≡ true) → ((v : ℕ) → live.voter v ≡ true)
         → AreFairRounds deal w rounds → AreLiveRounds live deal w rounds }
 {}
 
 /// If a client asks, somebody asks, enters or gives up within n + 9 live rounds, for n clients, while any voters
-/// are down: nothing stands still for longer.
+/// are down and any clients are out: nothing stands still for longer.
 ///
 /// A live round is a fair round of the clients and of the voters that are live. Clients that wait for a voter that
-/// is down end their request in it. Here all clients are live. No REQUEST may come late, and each live voter has to
-/// have a grant left at the end.
+/// is down end their request in it. A live voter whose grant is of a client that is not live drops that request.
+/// Clients that are not live are idle, and do not ask: they gave up before. Messages of theirs may still come. No
+/// REQUEST may come late, and each live voter has to have a grant left at the end.
 pub fn live_rounds_move_somebody()
-    ensures { (live : Live) → ((d : ℕ) → live.client d ≡ true) → (w : Planned) (c : ℕ) (rounds : List (List Step)) → IsReached w → Asks w.state c
+    ensures { (live : Live) (w : Planned) (c : ℕ) (rounds : List (List Step)) → IsReached w → Asks w.state c
         → AreLiveRounds live (dealing_of w.plans) w.state rounds → late_in (dealing_of w.plans) 0 w.state rounds ≡ 0
-        → HasGrantsThere live 1 (run_of (dealing_of w.plans) (steps_of rounds) w.state)
+        → AreOut live w.state (run_of (dealing_of w.plans) (steps_of rounds) w.state) → HasGrantsThere live 1 (run_of (dealing_of w.plans) (steps_of rounds) w.state)
         → block (length w.state.clients) ≤ length rounds
         → IsStill w.state (run_of (dealing_of w.plans) (steps_of rounds) w.state) → ⊥ }
 {
     worlds_keep_their_rules();
 }
 
-/// If a client asks and does not give up, somebody enters within (n + 9) * (n + 2 g + l) live rounds, for n
-/// clients, g withdrawals of others and l arrivals of late REQUESTs, while any voters are down.
+/// If a client asks and does not give up, somebody enters within (n + 9) * (c + 2 g + l) live rounds, for n
+/// clients, c of them live, g withdrawals of others and l arrivals of late REQUESTs.
 pub fn live_rounds_let_somebody_in()
-    ensures { (live : Live) → ((d : ℕ) → live.client d ≡ true) → (w : Planned) (c : ℕ) (rounds : List (List Step)) (more : List Event) → IsReached w → Asks w.state c
+    ensures { (live : Live) (w : Planned) (c : ℕ) (rounds : List (List Step)) (more : List Event) → IsReached w → Asks w.state c
         → AreLiveRounds live (dealing_of w.plans) w.state rounds → DoesNotGiveUp c (steps_of rounds)
-        → HasGrantsThere live 1 (run_of (dealing_of w.plans) (steps_of rounds) w.state)
+        → AreOut live w.state (run_of (dealing_of w.plans) (steps_of rounds) w.state) → HasGrantsThere live 1 (run_of (dealing_of w.plans) (steps_of rounds) w.state)
         → block (length w.state.clients)
-        * (length w.state.clients + 2 * give_ups_in (steps_of rounds) + late_in (dealing_of w.plans) 0 w.state rounds)
+        * (live_below live (length w.state.clients) + 2 * give_ups_in (steps_of rounds) + late_in (dealing_of w.plans) 0 w.state rounds)
         ≤ length rounds
         → (run_of (dealing_of w.plans) (steps_of rounds) w.state).visible ≡ w.state.visible ++ more
         → (d : ℕ) × (1 ≤ entries_of d more) }
@@ -197,17 +198,18 @@ pub fn live_rounds_let_somebody_in()
     worlds_keep_their_rules();
 }
 
-/// Whoever asks gets in, while any voters are down: a client that asks, and does not give up, enters within
-/// (n + 9) * (3 n + 2 h + l) live rounds, for n clients, h hasty withdrawals and l arrivals of late REQUESTs.
+/// Whoever asks gets in, while any voters are down and any clients are out: a client that asks, and does not give
+/// up, enters within (n + 9) * (3 c + 2 h + l) live rounds, for n clients, c of them live, h hasty withdrawals and
+/// l arrivals of late REQUESTs.
 ///
 /// Who asks a voter that is down, and does not have its vote, ends that request in the round, and may ask another
 /// quorum. Such a withdrawal is hasty if its request did not run for two whole rounds.
 pub fn live_rounds_let_everybody_in()
-    ensures { (live : Live) → ((d : ℕ) → live.client d ≡ true) → (w : Planned) (c : ℕ) (rounds : List (List Step)) (more : List Event) → IsReached w → Asks w.state c
+    ensures { (live : Live) (w : Planned) (c : ℕ) (rounds : List (List Step)) (more : List Event) → IsReached w → Asks w.state c
         → AreLiveRounds live (dealing_of w.plans) w.state rounds → DoesNotGiveUp c (steps_of rounds)
-        → HasGrantsThere live 1 (run_of (dealing_of w.plans) (steps_of rounds) w.state)
+        → AreOut live w.state (run_of (dealing_of w.plans) (steps_of rounds) w.state) → HasGrantsThere live 1 (run_of (dealing_of w.plans) (steps_of rounds) w.state)
         → block (length w.state.clients)
-        * (3 * length w.state.clients + 2 * hasty_in (dealing_of w.plans) w.state rounds + late_in (dealing_of w.plans) 0 w.state rounds)
+        * (3 * live_below live (length w.state.clients) + 2 * hasty_in (dealing_of w.plans) w.state rounds + late_in (dealing_of w.plans) 0 w.state rounds)
         ≤ length rounds
         → (run_of (dealing_of w.plans) (steps_of rounds) w.state).visible ≡ w.state.visible ++ more
         → 1 ≤ entries_of c more }

@@ -22,9 +22,10 @@
 //!   l arrivals of late REQUESTs. A withdrawal is hasty if its request did not run for two whole rounds.
 //!   Somebody enters within (n + 9) * (n + 2 g + l), for g withdrawals ([`fair_rounds_let_somebody_in`]),
 //!   and nothing stands still for n + 9 rounds ([`fair_rounds_move_somebody`]).
-//! - **While voters are down** the same holds in live rounds ([`live_rounds_let_everybody_in`],
-//!   [`live_rounds_let_somebody_in`], [`live_rounds_move_somebody`]): fair rounds of those that are up, in which
-//!   each client ends its request if it waits for a voter that is down. If all are up, fair rounds are live
+//! - **While voters are down and clients are out** the same holds in live rounds, with c live clients in the
+//!   brackets ([`live_rounds_let_everybody_in`], [`live_rounds_let_somebody_in`], [`live_rounds_move_somebody`]):
+//!   fair rounds of those that are live, in which each client ends its request if it waits for a voter that is
+//!   down, and each voter drops the request of a client that is not live. If all are live, fair rounds are live
 //!   rounds ([`fair_rounds_are_live_rounds`]).
 //! - **The numbers that `qlock-show waiting` shows are enough** ([`rounds_are_enough`],
 //!   [`patient_rounds_are_enough`]): these are the two bounds without late REQUESTs.
@@ -46,9 +47,9 @@
 //! # After losses
 //!
 //! Before the rounds anything may have happened, crashes and losses of saved states too. Then somebody
-//! enters within (n + 9) * (n + 2 g + l + v) live rounds, for v voters
+//! enters within (n + 9) * (c + 2 g + l + v) live rounds, for v voters
 //! ([`live_rounds_let_somebody_in_after_losses`]). A client whose request is heard enters within
-//! (n + 9) * (3 n + 2 h + l + v) ([`live_rounds_let_everybody_in_after_losses`]), and each request that was
+//! (n + 9) * (3 c + 2 h + l + v) ([`live_rounds_let_everybody_in_after_losses`]), and each request that was
 //! made after the last loss is heard ([`new_requests_are_heard`]).
 //!
 //! After crashes and incidents these laws hold once all clients were idle: `progress_comes_back` and
