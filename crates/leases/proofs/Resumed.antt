@@ -24,6 +24,7 @@ use Rattle.progress.proofs.Olds.{AreOld}
 use Rattle.progress.proofs.Outstanding.{IsNoted, IsNotedAt, Outstanding}
 use Rattle.progress.proofs.Lasting.{Goes-run}
 use Rattle.progress.proofs.Sure.{IsSure, IsSure-first, IsSure-run}
+use Rattle.progress.specs.LiveRounds.{Live, everybody}
 use Rattle.progress.specs.Rules.{Laws}
 use Rattle.progress.proofs.Always.{Heeds, IsUpTo, WasGiven, heeds}
 use Rattle.progress.proofs.Fitting.{current_busy}
@@ -81,7 +82,7 @@ named_old b N v y (to_client.Locked t g) most named = tt
 named_old b N v y (to_client.Fail t) most named = tt
 named_old b N v y (to_client.Inquire g) most named = (omega arith, λ h held same new. absurd (omega arith))
 
-told_old : (b : Bounds) (N : ℕ → ℕ) (u : WorldState) → ((v : ℕ) → N v ≤ (voter_at u.voters v).granted) → (deal : Dealing) (m : Message) → Told b N m → IsNotedAt (course_at deal u).old u.voters m
+told_old : (b : Bounds) (N : ℕ → ℕ) (u : WorldState) → ((v : ℕ) → N v ≤ (voter_at u.voters v).granted) → (deal : Dealing) (m : Message) → Told b N m → IsNotedAt (course_at everybody deal u).old u.voters m
 told_old b N u most deal (kinds.ToVoter m) told = tt
 told_old b N u most deal (kinds.ToClient m) told = named_old b N m.voter (voter_at u.voters m.voter) m.body (most m.voter) told.2
 
@@ -95,7 +96,7 @@ record Begun (deal : Dealing) (w : WorldState) : Type 0 where
   first : WorldState
   coherent : StaysCoherent deal first
   keeps : Keeps first
-  out : Outstanding (course_at deal first).old first
+  out : Outstanding (course_at everybody deal first).old first
   steps : List Step
   state : w ≡ run_of deal steps first
 
@@ -120,7 +121,7 @@ begun rules cs vs deal w r =
       coherent = coherent;
       keeps = keeps_idle b t.lives s t.num t.settled r.idle;
       out = record {
-        noted = AllByRecursion-weaker (Told b (count s.voters)) (IsNotedAt (course_at deal first).old s.live.voters) (told_old b (count s.voters) first t.num.behind deal) s.live.sent t.num.told;
+        noted = AllByRecursion-weaker (Told b (count s.voters)) (IsNotedAt (course_at everybody deal first).old s.live.voters) (told_old b (count s.voters) first t.num.behind deal) s.live.sent t.num.told;
         marks = λ d v marked new. absurd (no_mark (client_at s.live.clients d) v (sound d) (r.idle d) marked);
         clear = λ d hindered v below. false_from_ne_true (is_inquired (client_at s.live.clients d) v) (no_mark (client_at s.live.clients d) v (sound d) (r.idle d));
       };
@@ -135,16 +136,16 @@ kept_again rules cs vs deal w r =
     subst (IsKept deal) (sym g.state) (IsKept-run deal g.steps g.first (IsKept-first rules deal g.first g.coherent g.keeps))
 
 -- what its laws on rounds rest on
-pub record Resumes (deal : Dealing) (w : WorldState) : Type 0 where
+pub record Resumes (live : Live) (deal : Dealing) (w : WorldState) : Type 0 where
   pub old : ℕ → ℕ
-  pub few : AreOld (record { deal = deal; old = old }) w
-  pub sure : IsSure (record { deal = deal; old = old }) w
+  pub few : AreOld (record { deal = deal; old = old; live = live }) w
+  pub sure : IsSure (record { deal = deal; old = old; live = live }) w
   pub heeded : (c : ℕ) → Heeds c w
 
-pub resumes : Laws → ClientLaws → VoterLaws → (deal : Dealing) (w : WorldState) → IsReachedAgain deal w → Resumes deal w
-resumes rules cs vs deal w r =
+pub resumes : Laws → ClientLaws → VoterLaws → (live : Live) (deal : Dealing) (w : WorldState) → IsReachedAgain deal w → Resumes live deal w
+resumes rules cs vs live deal w r =
     let g = begun rules cs vs deal w r in
-    let p = course_at deal g.first in
+    let p = course_at live deal g.first in
     let sure = IsSure-first rules p g.first g.coherent (record { fits = g.keeps.fits; placed = g.keeps.placed; out = g.out }) in
     let goes = Goes-run rules p g.steps g.first (λ v. omega arith) sure in
     record {

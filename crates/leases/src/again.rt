@@ -2,8 +2,9 @@
 ghost use Rattle.std.specs.Prelude.{◌≡◌, ◌≢◌, ◌≤◌, ◌+◌, ◌*◌, ◌++◌, ℕ, List, length};
 ghost use Rattle.leases.specs.Again.{IsReachedAgain};
 ghost use Rattle.progress.specs.LostVotes.{ComesBack, GoesOn, HasLostVote, HasReturnedVote};
+ghost use Rattle.progress.specs.LiveRounds.{AreLiveRounds, AreOut, HasGrantsThere, Live, live_below};
 ghost use Rattle.progress.specs.Patience.{hasty_in};
-ghost use Rattle.progress.specs.Rounds.{AreFairRounds, DoesNotGiveUp, IsStill, give_ups_in, grants_for, late_in, steps_of};
+ghost use Rattle.progress.specs.Rounds.{DoesNotGiveUp, IsStill, give_ups_in, grants_for, late_in, steps_of};
 ghost use Rattle.progress.specs.Overtaking.{IsKnownEverywhere, StillRuns};
 ghost use Rattle.world.specs.Visible.{entries_of};
 ghost use Rattle.world.specs.Waiting.{block};
@@ -29,7 +30,7 @@ use world::parts_keep_their_rules;
 /// - A client that asks gets in by reminders, by new messages, and by clients that leave.
 ///
 /// All but the first are for voters with grants left. The second and the third need one, as in `progress`. The
-/// last three need grants for v * (n + 8) fair rounds more than in `progress`, for v voters and n clients.
+/// last three need grants for v * (n + 9) fair rounds more than in `progress`, for v voters and n clients.
 pub fn progress_comes_back()
     ensures overtaken { (deal : Dealing) (w : WorldState) (client other : ℕ) (steps : List Step) (more : List Event)
         → IsReachedAgain deal w → IsKnownEverywhere w client → other ≢ client → StillRuns w (run_of deal steps w) client
@@ -51,28 +52,30 @@ pub fn progress_comes_back()
 }
 
 /// Rounds count again: after evictions, rebirths, crashes and clients that start anew, once all clients were
-/// idle, the laws of `progress` on fair rounds hold, whatever steps followed. Clients may draw their quorums in
-/// any way, if any two meet, and each voter may have a limit of its own.
+/// idle, the laws of `progress` on live rounds hold, whatever steps followed, while any voters are down and any
+/// clients are out. Clients may draw their quorums in any way, if any two meet, and each voter may have a limit of
+/// its own.
 ///
-/// For n clients and v voters, g withdrawals, h of them hasty, and l arrivals of late REQUESTs, if a client asks:
+/// For n clients, c of them live, and v voters, g withdrawals, h of them hasty, and l arrivals of late REQUESTs, if
+/// a client asks:
 ///
-/// - Somebody asks, enters or gives up within (n + 8) * (1 + v) fair rounds, if no REQUEST is late.
-/// - If the client does not give up, somebody enters within (n + 8) * (n + 2 g + l + v).
-/// - It enters itself within (n + 8) * (3 n + 2 h + l + v).
+/// - Somebody asks, enters or gives up within (n + 9) * (1 + v) live rounds, if no REQUEST is late.
+/// - If the client does not give up, somebody enters within (n + 9) * (c + 2 g + l + v).
+/// - It enters itself within (n + 9) * (3 c + 2 h + l + v).
 ///
-/// The rounds themselves are without crashes and incidents. Each voter has to have a grant left at the end. The
+/// The rounds themselves are without crashes and incidents. Each live voter has to have a grant left at the end. The
 /// v is for the grants that were given before all were idle: each of them may waste one block.
 pub fn rounds_come_back()
-    ensures moved { (deal : Dealing) (w : WorldState) (client : ℕ) (rounds : List (List Step)) → IsReachedAgain deal w → Asks w client
-        → AreFairRounds deal w rounds → late_in deal 0 w rounds ≡ 0 → HasGrants 1 (run_of deal (steps_of rounds) w)
+    ensures moved { (live : Live) (deal : Dealing) (w : WorldState) (client : ℕ) (rounds : List (List Step)) → IsReachedAgain deal w → Asks w client
+        → AreLiveRounds live deal w rounds → late_in deal 0 w rounds ≡ 0 → AreOut live w (run_of deal (steps_of rounds) w) → HasGrantsThere live 1 (run_of deal (steps_of rounds) w)
         → (length w.voters + 1) * block (length w.clients) ≤ length rounds → IsStill w (run_of deal (steps_of rounds) w) → ⊥ }
-    ensures somebody { (deal : Dealing) (w : WorldState) (client : ℕ) (rounds : List (List Step)) (more : List Event) → IsReachedAgain deal w → Asks w client
-        → AreFairRounds deal w rounds → DoesNotGiveUp client (steps_of rounds) → HasGrants 1 (run_of deal (steps_of rounds) w)
-        → block (length w.clients) * (length w.clients + 2 * give_ups_in (steps_of rounds) + late_in deal 0 w rounds + length w.voters) ≤ length rounds
+    ensures somebody { (live : Live) (deal : Dealing) (w : WorldState) (client : ℕ) (rounds : List (List Step)) (more : List Event) → IsReachedAgain deal w → Asks w client
+        → AreLiveRounds live deal w rounds → DoesNotGiveUp client (steps_of rounds) → AreOut live w (run_of deal (steps_of rounds) w) → HasGrantsThere live 1 (run_of deal (steps_of rounds) w)
+        → block (length w.clients) * (live_below live (length w.clients) + 2 * give_ups_in (steps_of rounds) + late_in deal 0 w rounds + length w.voters) ≤ length rounds
         → (run_of deal (steps_of rounds) w).visible ≡ w.visible ++ more → (who : ℕ) × (1 ≤ entries_of who more) }
-    ensures everybody { (deal : Dealing) (w : WorldState) (client : ℕ) (rounds : List (List Step)) (more : List Event) → IsReachedAgain deal w → Asks w client
-        → AreFairRounds deal w rounds → DoesNotGiveUp client (steps_of rounds) → HasGrants 1 (run_of deal (steps_of rounds) w)
-        → block (length w.clients) * (3 * length w.clients + 2 * hasty_in deal w rounds + late_in deal 0 w rounds + length w.voters) ≤ length rounds
+    ensures everybody { (live : Live) (deal : Dealing) (w : WorldState) (client : ℕ) (rounds : List (List Step)) (more : List Event) → IsReachedAgain deal w → Asks w client
+        → AreLiveRounds live deal w rounds → DoesNotGiveUp client (steps_of rounds) → AreOut live w (run_of deal (steps_of rounds) w) → HasGrantsThere live 1 (run_of deal (steps_of rounds) w)
+        → block (length w.clients) * (3 * live_below live (length w.clients) + 2 * hasty_in deal w rounds + late_in deal 0 w rounds + length w.voters) ≤ length rounds
         → (run_of deal (steps_of rounds) w).visible ≡ w.visible ++ more → 1 ≤ entries_of client more }
 {
     worlds_keep_their_rules();

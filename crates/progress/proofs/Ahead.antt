@@ -122,7 +122,7 @@ new_not_behind laws x y m s k ok before after g held new = elim after [
 ]
 
 -- what a step does to a grant: it is as before, or it is new and not behind
-pub grant_step : (laws : Laws) (p : Course) (w : WorldState) (D : ℕ → Type 0) (m v : ℕ) → Seeks w D m v → (s : Step) (x y : WorldState) → Steady p w D x → Steady p w D y → MovedBy s x y
+pub grant_step : (laws : Laws) (p : Course) (w : WorldState) (D : ℕ → Type 0) (m v : ℕ) → Seeks p w D m v → (s : Step) (x y : WorldState) → Steady p w D x → Steady p w D y → MovedBy s x y
     → (g : Grant) → (voter_at y.voters v).held ≡ Some g
     → ((voter_at x.voters v).held ≡ Some g) ⊎ ((precedes (the_request w m) (request_of g) ≡ false) × ((voter_at x.voters v).granted < g.grant) × (y.clients ≡ x.clients))
 grant_step laws p w D m v f s x y before after moved g held = elim moved [
@@ -152,7 +152,7 @@ grant_step laws p w D m v f s x y before after moved g held = elim moved [
   | inr (inr k) ↦ inl (ap (λ (vs : List VoterState). (voter_at vs v).held) (sym k.voters) ∙ held)
 ]
 
-pub not_behind_kept : (laws : Laws) (p : Course) (w : WorldState) (D : ℕ → Type 0) (m v : ℕ) → Seeks w D m v → (s : Step) (x y : WorldState) → Steady p w D x → Steady p w D y → MovedBy s x y
+pub not_behind_kept : (laws : Laws) (p : Course) (w : WorldState) (D : ℕ → Type 0) (m v : ℕ) → Seeks p w D m v → (s : Step) (x y : WorldState) → Steady p w D x → Steady p w D y → MovedBy s x y
     → NotBehind w m v x → NotBehind w m v y
 not_behind_kept laws p w D m v f s x y before after moved h g held = elim (grant_step laws p w D m v f s x y before after moved g held) [
   | inl was ↦ h g was
@@ -160,7 +160,7 @@ not_behind_kept laws p w D m v f s x y before after moved h g held = elim (grant
 ]
 
 -- the grant has the vote on, or the next one is not behind
-pub vote_or_ahead : (laws : Laws) (p : Course) (w : WorldState) (D : ℕ → Type 0) (m v : ℕ) → Seeks w D m v → (g : Grant) → (s : Step) (x y : WorldState) → Steady p w D x → Steady p w D y → MovedBy s x y
+pub vote_or_ahead : (laws : Laws) (p : Course) (w : WorldState) (D : ℕ → Type 0) (m v : ℕ) → Seeks p w D m v → (g : Grant) → (s : Step) (x y : WorldState) → Steady p w D x → Steady p w D y → MovedBy s x y
     → (voter_at x.voters v).held ≡ Some g → ((voter_at y.voters v).held ≡ Some g) ⊎ NotBehind w m v y
 vote_or_ahead laws p w D m v f g s x y before after moved has =
     let now = held_exists laws p w D y m v after f.asks f.member in

@@ -1,13 +1,19 @@
 -- what holds all along a list of steps, and where a step of a round is in it
-use Rattle.std.proofs.Common.{◌≡◌, ℕ, zero, suc, ◌<◌, ◌≤◌, List, [], ◌∷◌, ◌++◌, length, refl, sym, ap, subst, ◌∙◌, ◌⊎◌, inl, inr, arith}
-use Rattle.std.specs.Prelude.{slice_index_or}
+use Rattle.std.proofs.Common.{Option, Some, true, ◌≡◌, ℕ, zero, suc, ◌<◌, ◌≤◌, List, [], ◌∷◌, ◌++◌, length, refl, sym, ap, subst, ◌∙◌, ◌⊎◌, inl, inr, arith, false}
+use Rattle.std.specs.Prelude.{◌&&◌, slice_get, slice_index_or}
 use Rattle.std.specs.List.{Contains}
 use Rattle.world_state.specs.declared.step.Step.{Step}
-use Rattle.world_state.specs.declared.step.Step.TheVariants.{Deliver}
+use Rattle.world_state.specs.declared.step.Step.TheVariants.{Deliver, RemindVoter}
 use Rattle.world.specs.Runs.{after, run_of}
-use Rattle.world_state.specs.Steps.{Dealing, WorldState, step}
+use Rattle.world_state.specs.Steps.{Dealing, WorldState, step, voter_at}
 use Rattle.world.proofs.Plans.{run_then}
-use Rattle.progress.specs.Rounds.{IsAnswered, IsReminded}
+use Rattle.progress.specs.LiveRounds.{IsAnswered, IsReminded, IsServed, Live, is_between}
+use Rattle.message.specs.declared.message.Message.{Message}
+use Rattle.message.specs.declared.message.Message.TheVariants as kinds
+use Rattle.message.specs.declared.message.ToClient.{ToClient}
+use Rattle.message.specs.declared.message.ToVoter.{ToVoter}
+use Rattle.voter.specs.VoterContract.{IsEntry}
+use Rattle.voter.specs.declared.state.Grant.{Grant}
 
 -- the world after one step
 abbrev pub next : Dealing → WorldState → Step → WorldState
@@ -120,35 +126,80 @@ pub spot_in : (P : WorldState → Type 0) (R : Step → WorldState → WorldStat
 spot_in P R deal steps x s h there = (let parts = contains_split steps s there in spot_at P R deal steps parts.0 parts.1 x s h parts.2)
 
 -- the message arrives between the worlds x and z, and then the replies to it do
-pub record Heard (P : WorldState → Type 0) (R : Step → WorldState → WorldState → Type 0) (deal : Dealing) (x z : WorldState) (k : ℕ) : Type 0 where
+pub record Heard (P : WorldState → Type 0) (R : Step → WorldState → WorldState → Type 0) (live : Live) (deal : Dealing) (x z : WorldState) (k : ℕ) : Type 0 where
   pub spot : Spot P R deal x z (Deliver k)
-  pub replies : (j : ℕ) → length spot.before.sent ≤ j → j < length (next deal spot.before (Deliver k)).sent → Spot P R deal (next deal spot.before (Deliver k)) z (Deliver j)
+  pub replies : (j : ℕ) → length spot.before.sent ≤ j → is_between live (slice_get (next deal spot.before (Deliver k)).sent j) ≡ true → Spot P R deal (next deal spot.before (Deliver k)) z (Deliver j)
 
 -- the reminder is made between the worlds x and z, and then its messages arrive
-pub record Reminded (P : WorldState → Type 0) (R : Step → WorldState → WorldState → Type 0) (deal : Dealing) (x z : WorldState) (s : Step) : Type 0 where
+pub record Reminded (P : WorldState → Type 0) (R : Step → WorldState → WorldState → Type 0) (live : Live) (deal : Dealing) (x z : WorldState) (s : Step) : Type 0 where
   pub spot : Spot P R deal x z s
-  pub heard : (k : ℕ) → length spot.before.sent ≤ k → k < length (next deal spot.before s).sent → Heard P R deal (next deal spot.before s) z k
+  pub heard : (k : ℕ) → length spot.before.sent ≤ k → is_between live (slice_get (next deal spot.before s).sent k) ≡ true → Heard P R live deal (next deal spot.before s) z k
 
-heard_at : (P : WorldState → Type 0) (R : Step → WorldState → WorldState → Type 0) (deal : Dealing) (steps : List Step) (x z : WorldState) (k : ℕ) → run_of deal steps x ≡ z → Along P R deal steps x
-    → IsAnswered deal x steps k → Heard P R deal x z k
+heard_at : (P : WorldState → Type 0) (R : Step → WorldState → WorldState → Type 0) (live : Live) (deal : Dealing) (steps : List Step) (x z : WorldState) (k : ℕ) → run_of deal steps x ≡ z → Along P R deal steps x
+    → IsAnswered live deal x steps k → Heard P R live deal x z k
 unfolding spot_at
-heard_at P R deal steps x z k ends h a = subst (λ (u : WorldState). Heard P R deal x u k) ends (
+heard_at P R live deal steps x z k ends h a = subst (λ (u : WorldState). Heard P R live deal x u k) ends (
     let spot = spot_at P R deal steps a.first a.rest x (Deliver k) h a.split in
     let goes = run_then deal a.first (Deliver k ∷ []) x in
     record {
       spot = spot;
-      replies = λ j least less. subst (λ (u : WorldState). Spot P R deal (next deal spot.before (Deliver k)) u (Deliver j)) spot.ends
-          (spot_in P R deal a.rest (next deal spot.before (Deliver k)) (Deliver j) spot.follow (a.answers j least (subst (λ (u : WorldState). j < length u.sent) (sym goes) less)));
+      replies = λ j least between. subst (λ (u : WorldState). Spot P R deal (next deal spot.before (Deliver k)) u (Deliver j)) spot.ends
+          (spot_in P R deal a.rest (next deal spot.before (Deliver k)) (Deliver j) spot.follow (a.answers j least (ap (λ (u : WorldState). is_between live (slice_get u.sent j)) goes ∙ between)));
     })
 
-pub reminded_at : (P : WorldState → Type 0) (R : Step → WorldState → WorldState → Type 0) (deal : Dealing) (steps : List Step) (x : WorldState) (s : Step) → Along P R deal steps x
-    → IsReminded deal x steps s → Reminded P R deal x (run_of deal steps x) s
+pub reminded_at : (P : WorldState → Type 0) (R : Step → WorldState → WorldState → Type 0) (live : Live) (deal : Dealing) (steps : List Step) (x : WorldState) (s : Step) → Along P R deal steps x
+    → IsReminded live deal x steps s → Reminded P R live deal x (run_of deal steps x) s
 unfolding spot_at
-reminded_at P R deal steps x s h a =
+reminded_at P R live deal steps x s h a =
     let spot = spot_at P R deal steps a.first a.rest x s h a.split in
     let goes = run_then deal a.first (s ∷ []) x in
     record {
       spot = spot;
-      heard = λ k least less. heard_at P R deal a.rest (next deal spot.before s) (run_of deal steps x) k spot.ends spot.follow
-          (subst (λ (u : WorldState). IsAnswered deal u a.rest k) goes (a.arrive k least (subst (λ (u : WorldState). k < length u.sent) (sym goes) less)));
+      heard = λ k least between. heard_at P R live deal a.rest (next deal spot.before s) (run_of deal steps x) k spot.ends spot.follow
+          (subst (λ (u : WorldState). IsAnswered live deal u a.rest k) goes (a.arrive k least (ap (λ (u : WorldState). is_between live (slice_get u.sent k)) goes ∙ between)));
     }
+
+-- ---- messages between live ones
+
+pub between_to : (live : Live) (o : Option Message) (m : ToVoter) → o ≡ Some (kinds.ToVoter m) → live.client m.client ≡ true → live.voter m.voter ≡ true → is_between live o ≡ true
+between_to live o m is c v = ap (is_between live) is ∙ (λ i. c i && v i)
+
+pub between_from : (live : Live) (o : Option Message) (m : ToClient) → o ≡ Some (kinds.ToClient m) → live.client m.client ≡ true → live.voter m.voter ≡ true → is_between live o ≡ true
+between_from live o m is c v = ap (is_between live) is ∙ (λ i. c i && v i)
+
+-- ---- voters that drop a request
+
+-- at some moment between the worlds u and z the voter does not know this request
+pub record Dropped (P : WorldState → Type 0) (R : Step → WorldState → WorldState → Type 0) (deal : Dealing) (u z : WorldState) (v c s : ℕ) : Type 0 where
+  pub first : List Step
+  pub rest : List Step
+  pub lead : Along P R deal first u
+  pub follow : Along P R deal rest (run_of deal first u)
+  pub ends : run_of deal rest (run_of deal first u) ≡ z
+  pub over : IsEntry (voter_at (run_of deal first u).voters v) c s → ⊥
+
+-- the voter is reminded between the worlds x and z, and drops the request of a client that is not live
+pub record Served (P : WorldState → Type 0) (R : Step → WorldState → WorldState → Type 0) (live : Live) (deal : Dealing) (x z : WorldState) (v : ℕ) : Type 0 where
+  pub reminded : Reminded P R live deal x z (RemindVoter v)
+  pub drops : (g : Grant) → (voter_at reminded.spot.before.voters v).held ≡ Some g → live.client g.client ≡ false → Dropped P R deal reminded.spot.before z v g.client g.stamp
+
+pub served_at : (P : WorldState → Type 0) (R : Step → WorldState → WorldState → Type 0) (live : Live) (deal : Dealing) (steps : List Step) (x : WorldState) (v : ℕ) → Along P R deal steps x
+    → IsServed live deal x steps v → Served P R live deal x (run_of deal steps x) v
+unfolding reminded_at spot_at
+served_at P R live deal steps x v h a = record {
+  reminded = reminded_at P R live deal steps x (RemindVoter v) h a.reminded;
+  drops = λ g held dead.
+      let u = run_of deal a.reminded.first x in
+      let list = RemindVoter v ∷ a.reminded.rest in
+      let d = a.drops g held dead in
+      let here = (along-split P R deal a.reminded.first list x (subst (λ l. Along P R deal l x) a.reminded.split h)).1 in
+      let parts = along-split P R deal d.first d.rest u (subst (λ l. Along P R deal l u) d.split here) in
+      record {
+        first = d.first;
+        rest = d.rest;
+        lead = parts.0;
+        follow = parts.1;
+        ends = sym (run_then deal d.first d.rest u) ∙ sym (ap (λ l. run_of deal l u) d.split) ∙ sym (ap (λ l. run_of deal l x) a.reminded.split ∙ run_then deal a.reminded.first list x);
+        over = d.over;
+      };
+}

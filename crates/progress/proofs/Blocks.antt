@@ -1,5 +1,5 @@
 -- in a block of fair rounds a request that is not later than a given one begins or ends, or an old grant is given back
-use Rattle.std.proofs.Common.{append_assoc, ◌≡◌, ◌≢◌, ℕ, ◌<◌, ◌≤◌, true, false, List, [], ◌∷◌, ◌++◌, length, refl, sym, ap, subst, ◌∙◌, inl, inr, arith, Bool, Some, zero, suc, ◌⊎◌}
+use Rattle.std.proofs.Common.{append_assoc, ◌≡◌, ◌≢◌, ℕ, ◌<◌, ◌≤◌, true, false, List, [], ◌∷◌, ◌++◌, length, refl, sym, ap, subst, ◌∙◌, inl, inr, arith, Bool, Some, zero, suc, ◌⊎◌, ◌+◌}
 use Rattle.std.specs.Prelude.{if◌then◌else◌, nat_lt, slice_get}
 use Rattle.std.specs.List.{range_with_len}
 use Rattle.std.proofs.lemmas.Bool.{cases_eq, false≢true, false_from_ne_true, cases_lt}
@@ -20,28 +20,32 @@ use Rattle.world_state.specs.declared.step.Step.TheVariants.{Deliver}
 use Rattle.world_state.specs.declared.step.Step.{Step}
 use Rattle.world.specs.Runs.{run_of}
 use Rattle.world_state.specs.Steps.{Dealing, WorldState, client_at, voter_at}
+use Rattle.world.proofs.Exclusion.{inside_busy}
 use Rattle.world.proofs.Plans.{run_then}
-use Rattle.progress.specs.Rounds.{AreFairRounds, late_body, late_in, late_message, late_step, late_steps, steps_of}
+use Rattle.progress.specs.LiveRounds.{AreLiveRounds}
+use Rattle.progress.specs.Rounds.{late_body, late_in, late_message, late_step, late_steps, steps_of}
 use Rattle.progress.specs.Rules.{Laws}
-use Rattle.world.specs.WayIn.{Asks, HasGrants}
+use Rattle.world.specs.WayIn.{Asks}
 use Rattle.world.specs.Waiting.{block}
 use Rattle.progress.proofs.Ahead.{NotBehind}
 use Rattle.progress.proofs.Along.{Along, along-first, along-kept, along-last, along-split, along-weaker, next}
 use Rattle.progress.proofs.Arrivals.{get_after}
 use Rattle.progress.proofs.Behind.{the_request}
 use Rattle.progress.proofs.Fitting.{current_busy, current_stamp}
-use Rattle.progress.proofs.Known.{asks_within, entry_kept, known_after}
+use Rattle.progress.proofs.Known.{HoldsDown, asks_within, entry_kept, holds_down, known_after}
 use Rattle.progress.proofs.Leading.{Clear, Hushed, NotAhead, OwnStage, Quietly, along-quiet, four_settle, own_stage_kept}
 use Rattle.progress.proofs.Lists.{all_hold, has_range, remove_from, shorter}
 use Rattle.progress.proofs.Moves.{Moved, Moved-by, MovedBy}
 use Rattle.progress.proofs.Olds.{AreOld, KeepsOlds}
 use Rattle.progress.proofs.Overdue.{Only, along-all, catches_up}
+use Rattle.progress.proofs.Parts.{late-split, live-split, split_rounds, steps-append}
 use Rattle.progress.proofs.Steady.{Never, Never-lasting, Seeks, Steady}
-use Rattle.progress.proofs.Lasting.{RunsOn, SameAsk, keeps_both}
-use Rattle.progress.proofs.Sure.{Course, IsSure}
-use Rattle.progress.proofs.Tame.{FitBody, IsAway, IsFitAt, Tame, asks_up_to, away_after, away_kept, tame_along, turns_up_to, up_to_asks, up_to_is, up_to_stamp}
+use Rattle.progress.proofs.Lasting.{RunsOn, SameAsk, keeps_both, serving_both}
+use Rattle.progress.proofs.Sure.{Course, IsSure, Serving, live_by}
+use Rattle.progress.proofs.Tame.{FitBody, IsAway, IsFitAt, Tame, asks_up_to, away_after, away_kept, tame_along, turns_up_to, turns_up_to-append, up_to_asks, up_to_is, up_to_stamp}
 use Rattle.progress.proofs.Winning.{ClearRounds, olds_others, wins}
 use Rattle.voter.proofs.Front.{precedes-trans}
+use Rattle.requester.proofs.SoundSteps.{is_asking-busy}
 
 -- ---- the first request
 
@@ -293,8 +297,8 @@ along-join P R deal [] b x h k = k
 along-join P R deal (s ∷ a) b x h k = (h.0, h.1, along-join P R deal a b (next deal x s) h.2 k)
 
 -- the votes of all members at the end
-has_all : (laws : Laws) (p : Course) (b : WorldState) (m v : ℕ) → Seeks b (Only m) m v → (r1 r2 r3 r4 r5 r6 r7 : List Step) (rest : List (List Step))
-    → ClearRounds p b m (r1 ∷ r2 ∷ r3 ∷ r4 ∷ r5 ∷ r6 ∷ r7 ∷ rest) b → AreFairRounds p.deal b (r1 ∷ r2 ∷ r3 ∷ r4 ∷ r5 ∷ r6 ∷ r7 ∷ rest)
+has_all : (laws : Laws) (p : Course) (b : WorldState) (m v : ℕ) → Seeks p b (Only m) m v → (r1 r2 r3 r4 r5 r6 r7 : List Step) (rest : List (List Step))
+    → ClearRounds p b m (r1 ∷ r2 ∷ r3 ∷ r4 ∷ r5 ∷ r6 ∷ r7 ∷ rest) b → AreLiveRounds p.live p.deal b (r1 ∷ r2 ∷ r3 ∷ r4 ∷ r5 ∷ r6 ∷ r7 ∷ rest)
     → length b.clients ≤ length rest → m < length b.clients
     → holds (client_at (run_of p.deal (steps_of (r1 ∷ r2 ∷ r3 ∷ r4 ∷ r5 ∷ r6 ∷ r7 ∷ rest)) b).clients m) v ≡ true
 has_all laws p b m v f r1 r2 r3 r4 r5 r6 r7 rest all fair long within =
@@ -321,10 +325,10 @@ has_all laws p b m v f r1 r2 r3 r4 r5 r6 r7 rest all fair long within =
     let A7 : Along P R deal seven b = along-join P R deal five (r6 ++ r7) b A5 (subst (Along P R deal (r6 ++ r7)) (sym to_five) A67) in
     let A4 : Along P R deal four b = along-join P R deal r1 (r2 ++ (r3 ++ r4)) b all.0 (along-join P R deal r2 (r3 ++ r4) x1 all.1.0 (along-join P R deal r3 r4 x2 all.1.1.0 all.1.1.1.0)) in
     let steadily : Along (Steady p b D) MovedBy deal seven b = along-weaker P (Steady p b D) MovedBy deal (λ y h. h.steady) seven b (along-quiet P p b m seven b A7) in
-    let fair_five : AreFairRounds deal b (r1 ∷ r2 ∷ r3 ∷ r4 ∷ r5 ∷ []) = (fair.0, (fair.1.0, (fair.1.1.0, (fair.1.1.1.0, (fair.1.1.1.1.0, tt))))) in
-    let fair_two : AreFairRounds deal x5 (r6 ∷ r7 ∷ []) = (fair.1.1.1.1.1.0, (fair.1.1.1.1.1.1.0, tt)) in
+    let fair_five : AreLiveRounds p.live deal b (r1 ∷ r2 ∷ r3 ∷ r4 ∷ r5 ∷ []) = (fair.0, (fair.1.0, (fair.1.1.0, (fair.1.1.1.0, (fair.1.1.1.1.0, tt))))) in
+    let fair_two : AreLiveRounds p.live deal x5 (r6 ∷ r7 ∷ []) = (fair.1.1.1.1.1.0, (fair.1.1.1.1.1.1.0, tt)) in
     let ahead7 : NotBehind b m v x7 = subst (NotBehind b m v) to_seven
-    (catches_up laws p b m v f r1 r2 r3 r4 r5 r6 r7 steadily fair_five (subst (λ (u : WorldState). AreFairRounds deal u (r6 ∷ r7 ∷ [])) (sym to_five) fair_two)) in
+    (catches_up laws p b m v f r1 r2 r3 r4 r5 r6 r7 steadily fair_five (subst (λ (u : WorldState). AreLiveRounds p.live deal u (r6 ∷ r7 ∷ [])) (sym to_five) fair_two)) in
     let quiet_four : Along (Steady p b D) R deal four b = along-weaker P (Steady p b D) R deal (λ y h. h.steady) four b A4 in
     let stage4 : OwnStage Never m v x4 = subst (OwnStage Never m v) to_four (four_settle laws p b m v f r1 r2 r3 r4 b quiet_four (fair.0, (fair.1.0, (fair.1.1.0, (fair.1.1.1.0, tt))))) in
     let keep : (s : Step) (x y : WorldState) → P x → P y → R s x y → OwnStage Never m v x → OwnStage Never m v y = λ s x y before after moved. own_stage_kept laws p b m v f Never (Never-lasting v) s x y before.steady after.steady moved in
@@ -341,11 +345,12 @@ has_all laws p b m v f r1 r2 r3 r4 r5 r6 r7 rest all fair long within =
     ∙ wins laws p b m v f rest x7 (remove_from m (range_with_len 0 (length b.clients))) all.1.1.1.1.1.1.1 fair.1.1.1.1.1.1.1 (omega arith) stage ahead7 (olds_others laws p b x7 m v f clear7)
 
 block_ends : (laws : Laws) (p : Course) (w : WorldState) (c : ℕ) (r0 r1 r2 r3 r4 r5 r6 r7 : List Step) (rest : List (List Step)) → IsSure p w → Asks w c
-    → AreFairRounds p.deal w (r0 ∷ r1 ∷ r2 ∷ r3 ∷ r4 ∷ r5 ∷ r6 ∷ r7 ∷ rest) → late_in p.deal 0 w (r0 ∷ r1 ∷ r2 ∷ r3 ∷ r4 ∷ r5 ∷ r6 ∷ r7 ∷ rest) ≡ 0
-    → HasGrants 1 (run_of p.deal (steps_of (r0 ∷ r1 ∷ r2 ∷ r3 ∷ r4 ∷ r5 ∷ r6 ∷ r7 ∷ rest)) w) → length w.clients ≤ length rest
+    → AreLiveRounds p.live p.deal w (r0 ∷ r1 ∷ r2 ∷ r3 ∷ r4 ∷ r5 ∷ r6 ∷ r7 ∷ rest) → late_in p.deal 0 w (r0 ∷ r1 ∷ r2 ∷ r3 ∷ r4 ∷ r5 ∷ r6 ∷ r7 ∷ rest) ≡ 0
+    → Serving p w (run_of p.deal (steps_of (r0 ∷ r1 ∷ r2 ∷ r3 ∷ r4 ∷ r5 ∷ r6 ∷ r7 ∷ rest)) w) → length w.clients ≤ length rest
     → AreOld p w → KeepsOlds p w (run_of p.deal (steps_of (r0 ∷ r1 ∷ r2 ∷ r3 ∷ r4 ∷ r5 ∷ r6 ∷ r7 ∷ rest)) w)
-    → ((d : ℕ) → turns_up_to p.deal (client_at w.clients c).stamp d (steps_of (r0 ∷ r1 ∷ r2 ∷ r3 ∷ r4 ∷ r5 ∷ r6 ∷ r7 ∷ rest)) w ≡ 0) → ⊥
-block_ends laws p w c r0 r1 r2 r3 r4 r5 r6 r7 rest r asks fair late left long few keeps still =
+    → ((d : ℕ) → turns_up_to p.deal (client_at w.clients c).stamp d (steps_of (r0 ∷ r1 ∷ r2 ∷ r3 ∷ r4 ∷ r5 ∷ r6 ∷ r7 ∷ rest)) w ≡ 0)
+    → ((m : ℕ) → asks_up_to (client_at w.clients c).stamp w m ≡ true → HoldsDown p (run_of p.deal (steps_of (r0 ∷ r1 ∷ r2 ∷ r3 ∷ r4 ∷ r5 ∷ r6 ∷ r7 ∷ rest)) w) m) → ⊥
+block_ends laws p w c r0 r1 r2 r3 r4 r5 r6 r7 rest r asks fair late left long few keeps still down =
     let deal = p.deal in
     let s = (client_at w.clients c).stamp in
     let more = r1 ∷ r2 ∷ r3 ∷ r4 ∷ r5 ∷ r6 ∷ r7 ∷ rest in
@@ -361,8 +366,8 @@ block_ends laws p w c r0 r1 r2 r3 r4 r5 r6 r7 rest r asks fair late left long fe
     let within = asks_within w m asking in
     let runs = along-weaker P (RunsOn p w m) MovedBy deal (runs_by p w s m f) r0 w parts.0 in
     let ready : Ready w s m b = record {
-      known = λ v member. known_after laws p w r0 m v runs (fair.0.clients m within) asking member;
-      away = λ d not. away_after laws p w s d not r0 parts.0 (fair.0.leaves d);
+      known = λ v member. known_after laws p w r0 m v runs fair.0 asking member;
+      away = λ d not. away_after laws p w s d not r0 parts.0 (λ inside. fair.0.leaves d (live_by p w d (along-first P MovedBy deal r0 w parts.0).left (inside_busy (client_at w.clients d).phase inside)) inside);
     } in
     let base = along-last P MovedBy deal r0 w parts.0 in
     let both = along-all P MovedBy deal (Ready w s m) (ready_kept laws p w s m f) (steps_of more) b parts.1 ready in
@@ -376,20 +381,66 @@ block_ends laws p w c r0 r1 r2 r3 r4 r5 r6 r7 rest r asks fair late left long fe
     let count = base.grows.clients in
     false≢true (sym lacks ∙ all_hold (holds (client_at z.clients m)) (members (client_at z.clients m)) (λ v there.
     let member : is_member (client_at b.clients m) v ≡ true = ap (λ l. has l v) (first.quorum asking) ∙ ap (λ l. has l v) (sym (last.quorum asking)) ∙ there in
-    ap (λ (u : WorldState). holds (client_at u.clients m) v) (run_then deal r0 (steps_of more) w)
-    ∙ has_all laws p b m v (record { asks = refl; member = member }) r1 r2 r3 r4 r5 r6 r7 rest rounds fair.1 (omega arith) (omega arith)))
+    elim (p.live.voter v) as (λ t. p.live.voter v ≡ t → holds (client_at z.clients m) v ≡ true) [
+      | true ↦ λ up. ap (λ (u : WorldState). holds (client_at u.clients m) v) (run_then deal r0 (steps_of more) w)
+          ∙ has_all laws p b m v (record { up = up; asks = refl; member = member }) r1 r2 r3 r4 r5 r6 r7 rest rounds fair.1 (omega arith) (omega arith)
+      | false ↦ λ dead. down m f.ahead v there dead
+    ] refl))
 
--- in a block some request that is not later than that of the client c begins or ends, or an old grant is given back
-pub block_moves : (laws : Laws) (p : Course) (w : WorldState) (c : ℕ) (rounds : List (List Step)) → IsSure p w → Asks w c → AreFairRounds p.deal w rounds
-    → late_in p.deal 0 w rounds ≡ 0 → HasGrants 1 (run_of p.deal (steps_of rounds) w) → block (length w.clients) ≤ length rounds → AreOld p w → KeepsOlds p w (run_of p.deal (steps_of rounds) w)
-    → ((d : ℕ) → turns_up_to p.deal (client_at w.clients c).stamp d (steps_of rounds) w ≡ 0) → ⊥
-block_moves laws p w c (r0 ∷ r1 ∷ r2 ∷ r3 ∷ r4 ∷ r5 ∷ r6 ∷ r7 ∷ rest) r asks fair late left long few keeps still =
-    block_ends laws p w c r0 r1 r2 r3 r4 r5 r6 r7 rest r asks fair late left (omega arith) few keeps still
-block_moves laws p w c [] r asks fair late left long few keeps still = omega arith
-block_moves laws p w c (r0 ∷ []) r asks fair late left long few keeps still = omega arith
-block_moves laws p w c (r0 ∷ r1 ∷ []) r asks fair late left long few keeps still = omega arith
-block_moves laws p w c (r0 ∷ r1 ∷ r2 ∷ []) r asks fair late left long few keeps still = omega arith
-block_moves laws p w c (r0 ∷ r1 ∷ r2 ∷ r3 ∷ []) r asks fair late left long few keeps still = omega arith
-block_moves laws p w c (r0 ∷ r1 ∷ r2 ∷ r3 ∷ r4 ∷ []) r asks fair late left long few keeps still = omega arith
-block_moves laws p w c (r0 ∷ r1 ∷ r2 ∷ r3 ∷ r4 ∷ r5 ∷ []) r asks fair late left long few keeps still = omega arith
-block_moves laws p w c (r0 ∷ r1 ∷ r2 ∷ r3 ∷ r4 ∷ r5 ∷ r6 ∷ []) r asks fair late left long few keeps still = omega arith
+-- the same of any n + 8 rounds
+eight_end : (laws : Laws) (p : Course) (w : WorldState) (c : ℕ) (rounds : List (List Step)) → length w.clients + 8 ≤ length rounds → IsSure p w → Asks w c → AreLiveRounds p.live p.deal w rounds
+    → late_in p.deal 0 w rounds ≡ 0 → Serving p w (run_of p.deal (steps_of rounds) w) → AreOld p w → KeepsOlds p w (run_of p.deal (steps_of rounds) w)
+    → ((d : ℕ) → turns_up_to p.deal (client_at w.clients c).stamp d (steps_of rounds) w ≡ 0)
+    → ((m : ℕ) → asks_up_to (client_at w.clients c).stamp w m ≡ true → HoldsDown p (run_of p.deal (steps_of rounds) w) m) → ⊥
+eight_end laws p w c (r0 ∷ r1 ∷ r2 ∷ r3 ∷ r4 ∷ r5 ∷ r6 ∷ r7 ∷ rest) long r asks fair late left few keeps still down =
+    block_ends laws p w c r0 r1 r2 r3 r4 r5 r6 r7 rest r asks fair late left (omega arith) few keeps still down
+eight_end laws p w c [] long r asks fair late left few keeps still down = omega arith
+eight_end laws p w c (r0 ∷ []) long r asks fair late left few keeps still down = omega arith
+eight_end laws p w c (r0 ∷ r1 ∷ []) long r asks fair late left few keeps still down = omega arith
+eight_end laws p w c (r0 ∷ r1 ∷ r2 ∷ []) long r asks fair late left few keeps still down = omega arith
+eight_end laws p w c (r0 ∷ r1 ∷ r2 ∷ r3 ∷ []) long r asks fair late left few keeps still down = omega arith
+eight_end laws p w c (r0 ∷ r1 ∷ r2 ∷ r3 ∷ r4 ∷ []) long r asks fair late left few keeps still down = omega arith
+eight_end laws p w c (r0 ∷ r1 ∷ r2 ∷ r3 ∷ r4 ∷ r5 ∷ []) long r asks fair late left few keeps still down = omega arith
+eight_end laws p w c (r0 ∷ r1 ∷ r2 ∷ r3 ∷ r4 ∷ r5 ∷ r6 ∷ []) long r asks fair late left few keeps still down = omega arith
+
+-- In these rounds some request that is not later than that of the client c begins or ends, or an old grant is given
+-- back.
+abbrev MovesIn : Course → WorldState → ℕ → List (List Step) → Type 0
+MovesIn p w c rounds = AreLiveRounds p.live p.deal w rounds → late_in p.deal 0 w rounds ≡ 0 → Serving p w (run_of p.deal (steps_of rounds) w)
+    → KeepsOlds p w (run_of p.deal (steps_of rounds) w) → ((d : ℕ) → turns_up_to p.deal (client_at w.clients c).stamp d (steps_of rounds) w ≡ 0) → ⊥
+
+-- the round after n + 8 others shows that the first request lacks no vote of a voter that is down
+one_more : (laws : Laws) (p : Course) (w : WorldState) (c : ℕ) (a : List (List Step)) (l : List Step) (b : List (List Step)) → length w.clients + 8 ≤ length a → IsSure p w → Asks w c → AreOld p w → MovesIn p w c (a ++ l ∷ b)
+one_more laws p w c a l b long r asks few fair late left keeps still =
+    let deal = p.deal in
+    let s = (client_at w.clients c).stamp in
+    let P = Tame p w s in
+    let first = steps_of a in
+    let rest = l ++ steps_of b in
+    let both = steps-append a (l ∷ b) in
+    let z = run_of deal first w in
+    let goes : run_of deal (steps_of (a ++ l ∷ b)) w ≡ run_of deal rest z = ap (λ k. run_of deal k w) both ∙ run_then deal first rest w in
+    let serves = subst (λ k. Serving p w (run_of deal k w)) both left in
+    let all = tame_along laws p w s (first ++ rest) r serves (λ d. subst (λ k. turns_up_to deal s d k w ≡ 0) both (still d)) in
+    let parts = along-split P MovedBy deal first rest w all in
+    let there = along-first P MovedBy deal rest z parts.1 in
+    let after_l = along-last P MovedBy deal l z (along-split P MovedBy deal l (steps_of b) z parts.1).0 in
+    let fairs = live-split p.live deal a (l ∷ b) w fair in
+    let lates = (late-split deal 0 a (l ∷ b) w).1 in
+    let olds = keeps_both laws p first rest w few r (subst (λ k. KeepsOlds p w (run_of deal k w)) both keeps) in
+    eight_end laws p w c a long r asks fairs.0 (omega arith) (serving_both laws p first rest w r serves).0 few olds.first
+    (λ d. (let none = still d in let sum = ap (λ k. turns_up_to deal s d k w) both ∙ turns_up_to-append deal s d first rest w in omega arith))
+    (λ m up.
+    let asking = up_to_asks s w m up in
+    let now = there.same m up in
+    let later = after_l.same m up in
+    holds_down p z m l fairs.1.0 (live_by p z m there.left (is_asking-busy (client_at z.clients m).phase (now.asks ∙ asking))) (now.asks ∙ asking) (record { asks = later.asks ∙ asking; same = later.stamp ∙ sym now.stamp }))
+
+pub block_moves : (laws : Laws) (p : Course) (w : WorldState) (c : ℕ) (rounds : List (List Step)) → IsSure p w → Asks w c → AreOld p w → block (length w.clients) ≤ length rounds → MovesIn p w c rounds
+block_moves laws p w c rounds r asks few long =
+    let parts = split_rounds (length w.clients + 8) rounds (omega arith) in
+    subst (MovesIn p w c) (sym parts.2) (by parts.0 parts.1 parts.3 (let count = parts.4 in omega arith))
+  where
+    by : (a b : List (List Step)) → length a ≡ length w.clients + 8 → 1 ≤ length b → MovesIn p w c (a ++ b)
+    by a [] long some = absurd (omega arith)
+    by a (l ∷ b) long some = one_more laws p w c a l b (omega arith) r asks few

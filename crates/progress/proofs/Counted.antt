@@ -14,20 +14,21 @@ use Rattle.world_state.specs.declared.step.Step.{Step}
 use Rattle.world_state.specs.declared.step.Step.TheVariants.{Ask, Deliver, Leave, GiveUp, RemindClient, RemindVoter, Exchange}
 use Rattle.world.specs.Runs.{run_of}
 use Rattle.world_state.specs.Steps.{WorldState, client_at, voter_at, Dealing}
+use Rattle.progress.specs.LiveRounds.{AreLiveRounds, IsLiveRound}
 use Rattle.progress.specs.Patience.{hasty, hasty_from, hasty_steps}
-use Rattle.progress.specs.Rounds.{AreFairRounds, IsFairRound, steps_of}
+use Rattle.progress.specs.Rounds.{steps_of}
 use Rattle.progress.specs.Rules.{Laws}
-use Rattle.progress.proofs.Along.{Along, along-first, along-last, along-split, next, reminded_at}
+use Rattle.progress.proofs.Along.{Along, along-first, along-kept, along-last, along-split, next, reminded_at}
 use Rattle.progress.proofs.Behind.{meets, stamp_of}
 use Rattle.progress.proofs.Counting.{enters_by}
 use Rattle.progress.proofs.Fitting.{take-Ok}
-use Rattle.progress.proofs.Hearing.{HasHeard, RunsBeside, Ticks-moved, Trails, heard_kept, hears}
-use Rattle.progress.proofs.Known.{known_after, within_by}
+use Rattle.progress.proofs.Hearing.{HasHeard, RunsBeside, Ticks-moved, Trails, heard_kept, hears, hears_by_vote}
+use Rattle.progress.proofs.Known.{known_after, runs_down, within_by}
 use Rattle.progress.proofs.Moves.{ClientMoved, Makes, Moved, Moved-by, MovedBy, each_client}
 use Rattle.progress.proofs.Outstanding.{step-GivesUp, step-Leaves}
 use Rattle.progress.proofs.Overdue.{along-and, runs_until}
 use Rattle.progress.proofs.Lasting.{Lasts, Lasts-moved, Lasts-run, Lasts-self, Lasts-then, RunsOn}
-use Rattle.progress.proofs.Sure.{Course}
+use Rattle.progress.proofs.Sure.{Course, live_by}
 use Rattle.progress.proofs.Tame.{above_bound, asks_up_to, turns_up_to, turns_up_to-append, up_to_asks, up_to_is, up_to_stamp}
 use Rattle.progress.proofs.Turns.{asks_then, at_most_once, inside_by, stamp-take, step-Asks, turn}
 use Rattle.std.specs.Prelude.{if◌then◌else◌, nat_lt, ◌&&◌}
@@ -308,7 +309,7 @@ runs_round : (laws : Laws) (p : Course) (w : WorldState) (c d : ℕ) (round : Li
 runs_round laws p w c d round x all same asks = runs_until laws p x (Trails p w c) (λ y h. h.reached) (λ y h. h.left) d round x all (Lasts-self (client_at x.clients d)) same asks
 
 heard_next : (laws : Laws) (p : Course) (w : WorldState) (c d : ℕ) (v x : WorldState) (round : List Step) → stamp_of v d ≤ stamp_of x d → KnownBy w d v x → Along (Trails p w c) MovedBy p.deal round x
-    → IsFairRound p.deal x round → HeardBy w c d v (run_of p.deal round x)
+    → IsLiveRound p.live p.deal x round → HeardBy w c d v (run_of p.deal round x)
 heard_next laws p w c d v x round least known all fair newer asks same =
     let deal = p.deal in
     let z = run_of deal round x in
@@ -324,10 +325,16 @@ heard_next laws p w c d v x round least known all fair newer asks same =
     let q = common.voter in
     let asked : is_member (client_at w.clients c) q ≡ true = ap (λ l. has l q) (sym here.behind.clients.quorum) ∙ common.second in
     let entry = known (omega arith) asks_x (omega arith) q common.first in
-    let both = along-and (Trails p w c) (RunsOn p x d) MovedBy deal round x all runs in
-    hears laws p w c x d q x z asks_x (omega arith) common.first asked entry (reminded_at (RunsBeside p w c x d) MovedBy deal round x (RemindClient d) both (fair.clients d (within_by x d busy)))
+    elim (p.live.voter q) as (λ b. p.live.voter q ≡ b → HasHeard w c d z) [
+      | true ↦ λ up.
+          let both = along-and (Trails p w c) (RunsOn p x d) MovedBy deal round x all runs in
+          hears laws p w c x d q x z up asks_x (omega arith) common.first asked entry
+          (reminded_at (RunsBeside p w c x d) MovedBy p.live deal round x (RemindClient d) both (fair.clients d (within_by x d busy) (live_by p x d here.left busy)))
+      | false ↦ λ down. along-kept (Trails p w c) MovedBy deal (HasHeard w c d) (λ s a e before after moved h. heard_kept laws p w c d s a e before.reached moved h) round x all
+          (hears_by_vote p w c d q x here (omega arith) asked (runs_down p x d round x runs asks_x fair q common.first down))
+    ] refl
 
-known_next : (laws : Laws) (p : Course) (w : WorldState) (c d : ℕ) (x : WorldState) (round : List Step) → Along (Trails p w c) MovedBy p.deal round x → IsFairRound p.deal x round → KnownBy w d x (run_of p.deal round x)
+known_next : (laws : Laws) (p : Course) (w : WorldState) (c d : ℕ) (x : WorldState) (round : List Step) → Along (Trails p w c) MovedBy p.deal round x → IsLiveRound p.live p.deal x round → KnownBy w d x (run_of p.deal round x)
 known_next laws p w c d x round all fair newer asks same q member =
     let deal = p.deal in
     let z = run_of deal round x in
@@ -338,10 +345,10 @@ known_next laws p w c d x round all fair newer asks same q member =
     let end = along-last (RunsOn p x d) MovedBy deal round x runs in
     let before : is_member (client_at x.clients d) q ≡ true = ap (λ l. has l q) (sym (end.same.quorum asks_x)) ∙ member in
     subst (λ n. IsEntry (voter_at z.voters q) d n) (sym same)
-    (known_after laws p x round d q runs (fair.clients d (within_by x d (is_asking-busy (client_at x.clients d).phase asks_x))) asks_x before)
+    (known_after laws p x round d q runs fair asks_x before)
 
 all_rounds : (laws : Laws) (p : Course) (w : WorldState) (c d : ℕ) → d ≢ c → (rounds : List (List Step)) (u v x : WorldState) → stamp_of u d ≤ stamp_of v d → stamp_of v d ≤ stamp_of x d
-    → HeardBy w c d u x → KnownBy w d v x → Along (Trails p w c) MovedBy p.deal (steps_of rounds) x → AreFairRounds p.deal x rounds → (k : ℕ) → Room w c d k x
+    → HeardBy w c d u x → KnownBy w d v x → Along (Trails p w c) MovedBy p.deal (steps_of rounds) x → AreLiveRounds p.live p.deal x rounds → (k : ℕ) → Room w c d k x
     → turns_up_to p.deal (stamp_of w c) d (steps_of rounds) x ≤ k + 2 * own_from p.deal d u v x rounds
 all_rounds laws p w c d other [] u v x first second heard known all fair k room = omega arith
 all_rounds laws p w c d other (r ∷ rs) u v x first second heard known all fair k room =
@@ -359,6 +366,6 @@ all_rounds laws p w c d other (r ∷ rs) u v x first second heard known all fair
 -- A client turns at most three times ahead of a request that is known everywhere, and twice more for each hasty
 -- withdrawal.
 pub three_turns : (laws : Laws) (p : Course) (w : WorldState) (c d : ℕ) → d ≢ c → (rounds : List (List Step)) (u v : WorldState) → stamp_of u d ≤ stamp_of v d → stamp_of v d ≤ stamp_of w d
-    → Along (Trails p w c) MovedBy p.deal (steps_of rounds) w → AreFairRounds p.deal w rounds → turns_up_to p.deal (stamp_of w c) d (steps_of rounds) w ≤ 3 + 2 * own_from p.deal d u v w rounds
+    → Along (Trails p w c) MovedBy p.deal (steps_of rounds) w → AreLiveRounds p.live p.deal w rounds → turns_up_to p.deal (stamp_of w c) d (steps_of rounds) w ≤ 3 + 2 * own_from p.deal d u v w rounds
 three_turns laws p w c d other rounds u v first second all fair =
     all_rounds laws p w c d other rounds u v w first second (λ newer. absurd (omega arith)) (λ newer. absurd (omega arith)) all fair 3 (inl (refl, refl))

@@ -1,5 +1,5 @@
 -- a request that ran for two fair rounds has heard of each request that was known everywhere before it was made
-use Rattle.std.proofs.Common.{◌≡◌, ℕ, ◌<◌, ◌≤◌, Bool, true, false, List, [], ◌∷◌, Option, None, Some, length, refl, sym, ap, subst, ◌∙◌, ◌⊎◌, inl, inr, arith}
+use Rattle.std.proofs.Common.{◌≡◌, ℕ, ◌<◌, ◌≤◌, Bool, true, false, List, [], ◌∷◌, Option, None, Some, refl, sym, ap, subst, ◌∙◌, ◌⊎◌, inl, inr, arith}
 use Rattle.std.specs.Prelude.{◌==◌, max, slice_get, slice_index}
 use Rattle.std.proofs.lemmas.Bool.{cases_lt}
 use Rattle.std.proofs.lemmas.Bool.Decides.{nat_tests}
@@ -24,8 +24,7 @@ use Rattle.world_state.specs.Steps.{WorldState, client_at, voter_at}
 use Rattle.world.proofs.Exclusion.{held_under}
 use Rattle.progress.specs.Overtaking.{IsKnownEverywhere, StillRuns}
 use Rattle.progress.specs.Rules.{ClientLaws, Laws}
-use Rattle.world.specs.WayIn.{HasGrants}
-use Rattle.progress.proofs.Along.{Along, Reminded, next, spot_after, spot_before, spot_end, spot_through}
+use Rattle.progress.proofs.Along.{Along, Reminded, between_from, between_to, next, spot_after, spot_before, spot_end, spot_through}
 use Rattle.progress.proofs.Always.{Heeds}
 use Rattle.progress.proofs.Arrivals.{client_takes, message_stays, replied, voter_takes}
 use Rattle.progress.proofs.Behind.{Behind, Behind-first, Behind-moved, IsLater-moved, given_at, stamp_of}
@@ -34,8 +33,8 @@ use Rattle.progress.proofs.Inquiries.{replies_again}
 use Rattle.progress.proofs.Known.{asks_for, entry_kept, request_to}
 use Rattle.progress.proofs.Moves.{Moved, Moved-by, MovedBy, MovedBy-step, each_client}
 use Rattle.progress.proofs.Placed.{Heeds-moved}
-use Rattle.progress.proofs.Lasting.{RunsOn, left_before}
-use Rattle.progress.proofs.Sure.{Course, IsSure, IsSure-after, stays_coherent}
+use Rattle.progress.proofs.Lasting.{RunsOn, left_before, serving_both}
+use Rattle.progress.proofs.Sure.{Course, IsSure, IsSure-after, Serves, Serving, live_by, stays_coherent}
 
 -- ---- worlds in which the request of the client c still runs
 
@@ -43,12 +42,12 @@ use Rattle.progress.proofs.Sure.{Course, IsSure, IsSure-after, stays_coherent}
 -- grant left.
 pub record Trails (p : Course) (w : WorldState) (c : ℕ) (x : WorldState) : Type 0 where
   pub reached : IsSure p x
-  pub left : (v : ℕ) → v < length x.voters → (voter_at x.voters v).granted < (voter_at x.voters v).limit
+  pub left : Serves p x
   pub heeds : Heeds c x
   pub still : StillRuns w x c
   pub behind : Behind w c x
 
-trails_from : (laws : Laws) (p : Course) (w : WorldState) (c : ℕ) (steps : List Step) (x : WorldState) → Trails p w c x → HasGrants 1 (run_of p.deal steps x) → StillRuns w (run_of p.deal steps x) c
+trails_from : (laws : Laws) (p : Course) (w : WorldState) (c : ℕ) (steps : List Step) (x : WorldState) → Trails p w c x → Serving p x (run_of p.deal steps x) → StillRuns w (run_of p.deal steps x) c
     → Along (Trails p w c) MovedBy p.deal steps x
 trails_from laws p w c [] x here left end = here
 trails_from laws p w c (s ∷ steps) x here left end =
@@ -59,6 +58,7 @@ trails_from laws p w c (s ∷ steps) x here left end =
     let now = (reached []).coherent in
     let by = MovedBy-step deal x ok.numbered s in
     let moved = Moved-by s x y by in
+    let later = (serving_both laws p (s ∷ []) steps x here.reached left).1 in
     let heeds_y = Heeds-moved laws c x y ok now moved here.heeds in
     let least : stamp_of w c ≤ stamp_of y c = (let first = here.behind.clients.later c in let rises = (IsLater-moved laws.client x y ok now moved c).stamp in omega arith) in
     let still_y = still_before w y (run_of deal steps y) c least (IsLater-run laws deal steps y (stays_coherent p y reached) c) end in (
@@ -66,14 +66,14 @@ trails_from laws p w c (s ∷ steps) x here left end =
       by,
       trails_from laws p w c steps y (record {
         reached = reached;
-        left = left_before laws p steps y reached left;
+        left = left_before laws p steps y reached later;
         heeds = heeds_y;
         still = still_y;
         behind = Behind-moved laws w x y c ok now here.heeds heeds_y here.still moved here.behind;
-      }) left end,
+      }) later end,
     )
 
-pub trails_along : (laws : Laws) (p : Course) (w : WorldState) (c : ℕ) (steps : List Step) → IsSure p w → Heeds c w → IsKnownEverywhere w c → HasGrants 1 (run_of p.deal steps w) → StillRuns w (run_of p.deal steps w) c
+pub trails_along : (laws : Laws) (p : Course) (w : WorldState) (c : ℕ) (steps : List Step) → IsSure p w → Heeds c w → IsKnownEverywhere w c → Serving p w (run_of p.deal steps w) → StillRuns w (run_of p.deal steps w) c
     → Along (Trails p w c) MovedBy p.deal steps w
 trails_along laws p w c steps r heeded known left end = trails_from laws p w c steps w (record {
   reached = r;
@@ -126,13 +126,13 @@ hears_by_vote p w c d v x here newer asked has =
 
 -- ---- a round
 
-again_one : (v : VoterState) (o : Option Grant) (c s : ℕ) → (r : ToClient) × (voter.again v o c s ≡ r ∷ []) × (r.client ≡ c) × (r.seen ≡ v.seen)
-again_one v None c s = (_, refl, refl, refl)
+again_one : (v : VoterState) (o : Option Grant) (c s : ℕ) → (r : ToClient) × (voter.again v o c s ≡ r ∷ []) × (r.client ≡ c) × (r.seen ≡ v.seen) × (r.voter ≡ v.id)
+again_one v None c s = (_, refl, refl, refl, refl)
 again_one v (Some g) c s = by (g.client == c) refl
   where
-    by : (b : Bool) → (g.client == c) ≡ b → (r : ToClient) × (voter.again_by (g.client == c) v g c s ≡ r ∷ []) × (r.client ≡ c) × (r.seen ≡ v.seen)
-    by true e = (_, ap (λ b. voter.again_by b v g c s) e, refl, refl)
-    by false e = (_, ap (λ b. voter.again_by b v g c s) e, refl, refl)
+    by : (b : Bool) → (g.client == c) ≡ b → (r : ToClient) × (voter.again_by (g.client == c) v g c s ≡ r ∷ []) × (r.client ≡ c) × (r.seen ≡ v.seen) × (r.voter ≡ v.id)
+    by true e = (_, ap (λ b. voter.again_by b v g c s) e, refl, refl, refl)
+    by false e = (_, ap (λ b. voter.again_by b v g c s) e, refl, refl, refl)
 
 more_seen : (a b n : ℕ) → n ≤ a → n ≤ max a b
 more_seen a b n most = grind (arith, nat_tests)
@@ -147,10 +147,10 @@ RunsBeside p w c b d x = Trails p w c x × RunsOn p b d x
 
 -- A request that ran from the world b on, newer than in the world w and known at the voter, hears of the
 -- request of c in a fair round.
-pub hears : (laws : Laws) (p : Course) (w : WorldState) (c : ℕ) (b : WorldState) (d v : ℕ) (x z : WorldState) → is_asking (client_at b.clients d).phase ≡ true → stamp_of w d < stamp_of b d
+pub hears : (laws : Laws) (p : Course) (w : WorldState) (c : ℕ) (b : WorldState) (d v : ℕ) (x z : WorldState) → p.live.voter v ≡ true → is_asking (client_at b.clients d).phase ≡ true → stamp_of w d < stamp_of b d
     → is_member (client_at b.clients d) v ≡ true → is_member (client_at w.clients c) v ≡ true → IsEntry (voter_at x.voters v) d (stamp_of b d)
-    → Reminded (RunsBeside p w c b d) MovedBy p.deal x z (RemindClient d) → HasHeard w c d z
-hears laws p w c b d v x z asking newer member asked entry r =
+    → Reminded (RunsBeside p w c b d) MovedBy p.live p.deal x z (RemindClient d) → HasHeard w c d z
+hears laws p w c b d v x z up asking newer member asked entry r =
     let deal = p.deal in
     let P = RunsBeside p w c b d in
     let keep : (s : Step) (a e : WorldState) → P a → P e → MovedBy s a e → HasHeard w c d a → HasHeard w c d e = λ s a e before after moved h. heard_kept laws p w c d s a e before.0.reached moved h in
@@ -168,8 +168,9 @@ hears laws p w c b d v x z asking newer member asked entry r =
       | true ↦ λ has. spot_through P MovedBy deal (HasHeard w c d) keep x z (RemindClient d) spot (vote x1 spot.here has)
       | false ↦ λ free.
           let sends = asks_for laws p b x1 d v spot.here.1 asking member free in
-          let heard = r.heard sends.place sends.least sends.less in
           let msg = request_to b d v in
+          let alive = live_by p x1 d spot.here.1.left (is_asking-busy (client_at x1.clients d).phase (spot.here.1.same.asks ∙ asking)) in
+          let heard = r.heard sends.place sends.least (between_to p.live (slice_get u1.sent sends.place) msg sends.is alive up) in
           let there = spot_before P MovedBy deal (λ q. slice_get q.sent sends.place ≡ Some (kinds.ToVoter msg)) (stays sends.place (kinds.ToVoter msg)) u1 z (Deliver sends.place) heard.spot sends.is in
           let entry_u = keep_entry (RemindClient d) x1 u1 spot.here (spot_after P MovedBy deal x z (RemindClient d) spot) spot.moved entry1 in
           let x2 = heard.spot.before in
@@ -181,7 +182,7 @@ hears laws p w c b d v x z asking newer member asked entry r =
           let now = here2.1.same in
           let asks_x = now.asks ∙ asking in
           let within = ok.members d v (ap (λ l. has l v) (now.quorum asking) ∙ member) in
-          let t = voter_takes laws deal x2 sends.place msg ok (here2.1.left v within) there in
+          let t = voter_takes laws deal x2 sends.place msg ok (here2.1.left.grants v within up) there in
           let pair = (here2.0.reached []).fits.pairs d v in
           let unfinished = subst (λ n. slice_index y.finished d < n) now.stamp (pair.unfinished.busy (is_asking-busy (client_at x2.clients d).phase asks_x)) in
           let again = replies_again y msg (stamp_of b d) t.outcome (ok.voters v) refl unfinished entry2 t.step in
@@ -189,7 +190,8 @@ hears laws p w c b d v x z asking newer member asked entry r =
           let reply = one.0 in
           let out : t.outcome.replies ≡ reply ∷ [] = ap (λ (o : voter.Outcome). o.replies) again ∙ one.1 in
           let says_it = replied deal x2 sends.place msg reply t out in
-          let comes = heard.replies says_it.place says_it.least says_it.less in
+          let from : reply.voter ≡ v = one.4 ∙ ok.numbered.voters v within in
+          let comes = heard.replies says_it.place says_it.least (between_from p.live (slice_get y2.sent says_it.place) reply says_it.is (ap p.live.client one.2 ∙ alive) (ap p.live.voter from ∙ up)) in
           let x3 = comes.before in
           let got = spot_before P MovedBy deal (λ q. slice_get q.sent says_it.place ≡ Some (kinds.ToClient reply)) (stays says_it.place (kinds.ToClient reply)) y2 z (Deliver says_it.place) comes says_it.is in
           let ok3 = (comes.here.0.reached []).coherent in

@@ -1,5 +1,5 @@
 -- after one fair round each request that runs on is known everywhere
-use Rattle.std.proofs.Common.{◌≡◌, ℕ, ◌<◌, ◌≤◌, true, false, List, [], length, Some, refl, sym, ap, subst, ◌∙◌, inl, inr}
+use Rattle.std.proofs.Common.{◌≡◌, ℕ, ◌<◌, ◌≤◌, true, false, List, [], length, Some, refl, sym, ap, subst, ◌∙◌, inl, inr, Bool}
 use Rattle.std.specs.Prelude.{slice_get, slice_index}
 use Rattle.std.specs.List.{Contains}
 use Rattle.std.proofs.lemmas.Bool.{cases_eq, cases_lt, false≢true, lt-ltb}
@@ -23,15 +23,15 @@ use Rattle.world_state.specs.declared.step.Step.TheVariants.{Deliver, Leave, Rem
 use Rattle.world.specs.Runs.{after, run_of}
 use Rattle.world_state.specs.Steps.{Dealing, WorldState, after_client, client_at, client_did, if_client, step, voter_at}
 use Rattle.world.proofs.Exclusion.{held_under}
-use Rattle.progress.specs.Rounds.{IsReminded}
+use Rattle.progress.specs.LiveRounds.{AsksOn, IsLiveRound}
 use Rattle.progress.specs.Rules.{Laws}
-use Rattle.progress.proofs.Along.{Along, next, reminded_at, spot_before, spot_end, spot_through}
+use Rattle.progress.proofs.Along.{Along, along-first, along-kept, along-last, between_to, next, reminded_at, spot_before, spot_end, spot_through}
 use Rattle.progress.proofs.Always.{asked_by}
 use Rattle.progress.proofs.Arrivals.{Sends, message_stays, says, voter_takes}
 use Rattle.progress.proofs.Behind.{not_finished}
 use Rattle.progress.proofs.Moves.{Moved-by, MovedBy, VoterMoved, client_here}
 use Rattle.progress.proofs.Lasting.{RunsOn, SameAsk}
-use Rattle.progress.proofs.Sure.{Course}
+use Rattle.progress.proofs.Sure.{Course, live_by}
 
 -- ---- words
 
@@ -87,16 +87,16 @@ message_kept p w d k m s x y before after moved is = message_stays k (kinds.ToVo
 abbrev pub request_to : WorldState → ℕ → ℕ → ToVoter
 request_to w d v = record { client = d; voter = v; body = asks.Request (client_at w.clients d).stamp }
 
-comes_known : (laws : Laws) (p : Course) (w x : WorldState) (d v k : ℕ) → RunsOn p w d x → is_asking (client_at w.clients d).phase ≡ true → is_member (client_at w.clients d) v ≡ true
+comes_known : (laws : Laws) (p : Course) (w x : WorldState) (d v k : ℕ) → RunsOn p w d x → p.live.voter v ≡ true → is_asking (client_at w.clients d).phase ≡ true → is_member (client_at w.clients d) v ≡ true
     → slice_get x.sent k ≡ Some (kinds.ToVoter (request_to w d v)) → IsEntry (voter_at (next p.deal x (Deliver k)).voters v) d (client_at w.clients d).stamp
-comes_known laws p w x d v k early asking member is =
+comes_known laws p w x d v k early up asking member is =
     let ok = (early.reached []).coherent in
     let z = client_at x.clients d in
     let same = early.same in
     let m = request_to w d v in
     let y = voter_at x.voters v in
     let within = ok.members d v (member_here (client_at w.clients d) z v same asking member) in
-    let t = voter_takes laws p.deal x k m ok (early.left v within) is in
+    let t = voter_takes laws p.deal x k m ok (early.left.grants v within up) is in
     let pair = (early.reached []).fits.pairs d v in
     let busy = is_asking-busy z.phase (same.asks ∙ asking) in
     let unfinished = subst (λ n. slice_index y.finished d < n) same.stamp (pair.unfinished.busy busy) in
@@ -119,31 +119,60 @@ asks_for laws p w x d v early asking member free =
     let is : requester.tell z v (asks.Request z.stamp) ≡ request_to w d v = λ i. record { client = id i; voter = v; body = asks.Request (stamp i) } in
     says p.deal x d (request_to w d v) within (subst (Contains (requester.remind z)) is there)
 
+-- the client d holds the votes of voters that are down
+abbrev pub HoldsDown : Course → WorldState → ℕ → Type 0
+HoldsDown p x d = (v : ℕ) → is_member (client_at x.clients d) v ≡ true → p.live.voter v ≡ false → holds (client_at x.clients d) v ≡ true
+
+-- a client that asks on through a round holds them when it begins
+pub holds_down : (p : Course) (x : WorldState) (d : ℕ) (round : List Step) → IsLiveRound p.live p.deal x round → p.live.client d ≡ true → is_asking (client_at x.clients d).phase ≡ true
+    → AsksOn x (run_of p.deal round x) d → HoldsDown p x d
+holds_down p x d round fair alive asks on v member down = by (holds (client_at x.clients d) v) refl
+  where
+    by : (b : Bool) → holds (client_at x.clients d) v ≡ b → holds (client_at x.clients d) v ≡ true
+    by true has = has
+    by false free = absurd (fair.ends d alive (record { asks = asks; voter = v; member = member; lacks = free; down = down }) on)
+
+-- so does one whose request runs on
+pub runs_down : (p : Course) (w : WorldState) (d : ℕ) (round : List Step) (x : WorldState) → Along (RunsOn p w d) MovedBy p.deal round x → is_asking (client_at w.clients d).phase ≡ true
+    → IsLiveRound p.live p.deal x round → HoldsDown p x d
+runs_down p w d round x all asking fair =
+    let here = along-first (RunsOn p w d) MovedBy p.deal round x all in
+    let first = here.same in
+    let last = (along-last (RunsOn p w d) MovedBy p.deal round x all).same in
+    holds_down p x d round fair (live_by p x d here.left (is_asking-busy (client_at x.clients d).phase (first.asks ∙ asking))) (first.asks ∙ asking) (record { asks = last.asks ∙ asking; same = last.stamp ∙ sym first.stamp })
+
 pub known_after : (laws : Laws) (p : Course) (w : WorldState) (round : List Step) (d v : ℕ) → Along (RunsOn p w d) MovedBy p.deal round w
-    → IsReminded p.deal w round (RemindClient d) → is_asking (client_at w.clients d).phase ≡ true → is_member (client_at w.clients d) v ≡ true
+    → IsLiveRound p.live p.deal w round → is_asking (client_at w.clients d).phase ≡ true → is_member (client_at w.clients d) v ≡ true
     → IsEntry (voter_at (run_of p.deal round w).voters v) d (client_at w.clients d).stamp
-known_after laws p w round d v all reminded asking member =
+known_after laws p w round d v all fair asking member =
     let deal = p.deal in
     let P = RunsOn p w d in
     let z = run_of deal round w in
     let stamp = (client_at w.clients d).stamp in
-    let r = reminded_at P MovedBy deal round w (RemindClient d) all reminded in
-    let spot = r.spot in
-    let x = spot.before in
-    let early = spot.here in
-    let ok = (early.reached []).coherent in
-    elim (holds (client_at x.clients d) v) as (λ b. holds (client_at x.clients d) v ≡ b → IsEntry (voter_at z.voters v) d stamp) [
-      | true ↦ λ has.
-          let names = ok.held d v (held_of (client_at x.clients d) v) (held_under (client_at x.clients d) v has) in
-          spot_through P MovedBy deal (λ u. IsEntry (voter_at u.voters v) d stamp) (entry_kept laws p w d v asking) w z (RemindClient d) spot (inl (_, names, refl, early.same.stamp))
-      | false ↦ λ free.
-          let sends = asks_for laws p w x d v early asking member free in
-          let heard = r.heard sends.place sends.least sends.less in
-          let u = next deal x (RemindClient d) in
-          let there = spot_before P MovedBy deal (λ y. slice_get y.sent sends.place ≡ Some (kinds.ToVoter (request_to w d v))) (message_kept p w d sends.place (request_to w d v)) u z (Deliver sends.place)
-          heard.spot sends.is in
-          spot_end P MovedBy deal (λ y. IsEntry (voter_at y.voters v) d stamp) (entry_kept laws p w d v asking) u z (Deliver sends.place) heard.spot
-          (comes_known laws p w heard.spot.before d v sends.place heard.spot.here asking member there)
+    let keep = entry_kept laws p w d v asking in
+    let named : (x : WorldState) → P x → holds (client_at x.clients d) v ≡ true → IsEntry (voter_at x.voters v) d stamp = λ x here has.
+    inl (_, (here.reached []).coherent.held d v (held_of (client_at x.clients d) v) (held_under (client_at x.clients d) v has), refl, here.same.stamp) in
+    elim (p.live.voter v) as (λ b. p.live.voter v ≡ b → IsEntry (voter_at z.voters v) d stamp) [
+      | false ↦ λ down. along-kept P MovedBy deal (λ u. IsEntry (voter_at u.voters v) d stamp) keep round w all
+          (named w (along-first P MovedBy deal round w all) (runs_down p w d round w all asking fair v member down))
+      | true ↦ λ up.
+          let busy = is_asking-busy (client_at w.clients d).phase asking in
+          let alive = live_by p w d (along-first P MovedBy deal round w all).left busy in
+          let within = within_by w d busy in
+          let r = reminded_at P MovedBy p.live deal round w (RemindClient d) all (fair.clients d within alive) in
+          let spot = r.spot in
+          let x = spot.before in
+          elim (holds (client_at x.clients d) v) as (λ b. holds (client_at x.clients d) v ≡ b → IsEntry (voter_at z.voters v) d stamp) [
+            | true ↦ λ has. spot_through P MovedBy deal (λ u. IsEntry (voter_at u.voters v) d stamp) keep w z (RemindClient d) spot (named x spot.here has)
+            | false ↦ λ free.
+                let sends = asks_for laws p w x d v spot.here asking member free in
+                let u = next deal x (RemindClient d) in
+                let heard = r.heard sends.place sends.least (between_to p.live (slice_get u.sent sends.place) (request_to w d v) sends.is alive up) in
+                let there = spot_before P MovedBy deal (λ y. slice_get y.sent sends.place ≡ Some (kinds.ToVoter (request_to w d v))) (message_kept p w d sends.place (request_to w d v)) u z
+                (Deliver sends.place) heard.spot sends.is in
+                spot_end P MovedBy deal (λ y. IsEntry (voter_at y.voters v) d stamp) keep u z (Deliver sends.place) heard.spot
+                (comes_known laws p w heard.spot.before d v sends.place heard.spot.here up asking member there)
+          ] refl
     ] refl
 
 -- ---- who is inside leaves

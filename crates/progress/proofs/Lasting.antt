@@ -1,5 +1,5 @@
 -- clients and grants go on: what is kept from one world to a later one
-use Rattle.std.proofs.Common.{◌≡◌, ℕ, ◌+◌, ◌<◌, ◌≤◌, true, false, List, [], ◌∷◌, ◌++◌, map, length, refl, sym, ap, subst, ◌∙◌, inl, inr, arith}
+use Rattle.std.proofs.Common.{◌≡◌, ℕ, ◌+◌, ◌<◌, ◌≤◌, true, false, List, [], ◌∷◌, ◌++◌, map, refl, sym, ap, subst, ◌∙◌, inl, inr, arith, length}
 use Rattle.std.specs.List.{AllByRecursion}
 use Rattle.std.proofs.lemmas.Bool.{false≢true, false_from_ne_true}
 use Rattle.message.specs.declared.message.ToVoter.{ToVoter}
@@ -16,8 +16,8 @@ use Rattle.world.specs.Coherence.{IsCoherent}
 use Rattle.world.specs.Runs.{run_of}
 use Rattle.world.proofs.Plans.{run_then}
 use Rattle.world_state.specs.Steps.{WorldState, client_at, voter_at}
+use Rattle.progress.specs.LiveRounds.{HasGrantsThere}
 use Rattle.progress.specs.Rules.{Laws}
-use Rattle.world.specs.WayIn.{HasGrants}
 use Rattle.progress.proofs.Always.{granted_rises}
 use Rattle.progress.proofs.Behind.{meets}
 use Rattle.progress.proofs.Longer.{Grows-run}
@@ -25,7 +25,7 @@ use Rattle.progress.proofs.Inquiries.{Outlasts, Outlasts-self, Outlasts-then}
 use Rattle.progress.proofs.Moves.{ClientMoved, Moved, each_client, each_voter, kept-by}
 use Rattle.progress.proofs.Olds.{AreOld, Goes, KeepsOlds, Outlasts-moved, same_grant}
 use Rattle.progress.proofs.Placed.{NoAsk, NoAsks, same_members}
-use Rattle.progress.proofs.Sure.{Course, IsSure, IsSure-run, stays_coherent}
+use Rattle.progress.proofs.Sure.{Course, IsSure, IsSure-run, Serves, Serving, stays_coherent}
 
 -- ---- clients go on
 
@@ -121,15 +121,39 @@ Gives-run laws p steps u r v = kept-by (λ x. Gives (voter_at u.voters v) (voter
     (λ x y ok now moved h. (let more = Gives-moved laws x y ok moved v in let a = h.granted in let b = more.granted in record { granted = omega arith; limit = more.limit ∙ h.limit }))
     p.deal steps u (stays_coherent p u r) (record { granted = omega arith; limit = refl })
 
-pub left_before : (laws : Laws) (p : Course) (steps : List Step) (u : WorldState) → IsSure p u → HasGrants 1 (run_of p.deal steps u) → (v : ℕ) → v < length u.voters
+left_grants : (laws : Laws) (p : Course) (steps : List Step) (u : WorldState) → IsSure p u → HasGrantsThere p.live 1 (run_of p.deal steps u) → (v : ℕ) → v < length u.voters → p.live.voter v ≡ true
     → (voter_at u.voters v).granted < (voter_at u.voters v).limit
-left_before laws p steps u r left v within =
+left_grants laws p steps u r left v within up =
     let gives = Gives-run laws p steps u r v in
     let grows = Grows-run laws p steps u r in
-    let end = left v (subst (λ n. v < n) (sym grows.voters) within) in
+    let end = left v (subst (λ n. v < n) (sym grows.voters) within) up in
     let rises = gives.granted in
     let limit = gives.limit in
     omega arith
+
+pub left_before : (laws : Laws) (p : Course) (steps : List Step) (u : WorldState) → IsSure p u → Serving p u (run_of p.deal steps u) → Serves p u
+left_before laws p steps u r left = record { grants = left_grants laws p steps u r left.grants; out = λ d dead. (left.out d dead).0 }
+
+-- what is so up to the end of two lists of steps is so of both
+pub serving_both : (laws : Laws) (p : Course) (a b : List Step) (x : WorldState) → IsSure p x → Serving p x (run_of p.deal (a ++ b) x)
+    → Serving p x (run_of p.deal a x) × Serving p (run_of p.deal a x) (run_of p.deal b (run_of p.deal a x))
+serving_both laws p a b x r whole =
+    let deal = p.deal in
+    let y = run_of deal a x in
+    let z = run_of deal b y in
+    let ry = IsSure-run p a x r in
+    let h : Serving p x z = subst (Serving p x) (run_then deal a b x) whole in
+    let still : (d : ℕ) → p.live.client d ≡ false → (client_at y.clients d).stamp ≡ (client_at x.clients d).stamp = λ d dead.
+    (let end = (h.out d dead).1 in let first = (Lasts-run laws p a x r d).stamp in let later = (Lasts-run laws p b y ry d).stamp in omega arith) in (
+      record {
+        grants = λ v within up. (let lt = left_grants laws p b y ry h.grants v within up in omega arith);
+        out = λ d dead. ((h.out d dead).0, still d dead);
+      },
+      record {
+        grants = h.grants;
+        out = λ d dead. ((Lasts-run laws p a x r d).idle (still d dead) (h.out d dead).0, (h.out d dead).1 ∙ sym (still d dead));
+      },
+    )
 
 -- ---- requests that run on
 
@@ -158,7 +182,7 @@ same_between x y z a b end asks =
 pub record RunsOn (p : Course) (w : WorldState) (d : ℕ) (x : WorldState) : Type 0 where
   pub reached : IsSure p x
   pub same : SameAsk (client_at w.clients d) (client_at x.clients d)
-  pub left : (v : ℕ) → v < length x.voters → (voter_at x.voters v).granted < (voter_at x.voters v).limit
+  pub left : Serves p x
 
 -- ---- what is sent meanwhile
 

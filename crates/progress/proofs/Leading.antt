@@ -21,7 +21,7 @@ use Rattle.world_state.specs.declared.step.Step.TheVariants.{Deliver, RemindClie
 use Rattle.world.specs.Runs.{run_of}
 use Rattle.world_state.specs.Steps.{WorldState, client_at, voter_at}
 use Rattle.world.proofs.Plans.{run_then}
-use Rattle.progress.specs.Rounds.{AreFairRounds, IsReminded}
+use Rattle.progress.specs.LiveRounds.{AreLiveRounds, IsLiveRound, IsReminded}
 use Rattle.progress.specs.Rules.{Laws}
 use Rattle.progress.proofs.Ahead.{asks_no_vote, grant_step}
 use Rattle.progress.proofs.Along.{Along, along-first, along-kept, along-last, along-or, along-split, next, reminded_at}
@@ -32,7 +32,7 @@ use Rattle.progress.proofs.Known.{within_by}
 use Rattle.progress.proofs.Olds.{KeepsOlds, Outlasts-moved}
 use Rattle.progress.proofs.Outstanding.{came_noted}
 use Rattle.progress.proofs.Overdue.{Only, gives_back}
-use Rattle.progress.proofs.Steady.{AskedFor, GivenBack, GivenBack-lasting, HasVote, IsLasting, IsOf, Marked, Marked-lasting, Never, Never-lasting, Seeks, Steady, Told, Told-lasting, With, asked, asks_now, fate_goes, held_exists, not_given_back, steady_ok, told, voter_below, voter_within}
+use Rattle.progress.proofs.Steady.{AskedFor, GivenBack, GivenBack-lasting, HasVote, IsLasting, IsOf, Marked, Marked-lasting, Never, Never-lasting, Seeks, Steady, Told, Told-lasting, With, asked, asks_now, client_live, fate_goes, held_exists, not_given_back, steady_ok, told, voter_below, voter_within}
 use Rattle.progress.proofs.Sure.{Course, Sure}
 use Rattle.progress.proofs.Taking.{Returns}
 
@@ -72,7 +72,7 @@ along-quiet P p w m [] x h = h
 along-quiet P p w m (s ∷ steps) x h = (h.0, quietly_moved p w m s x (next p.deal x s) h.1, along-quiet P p w m steps (next p.deal x s) h.2)
 
 -- the grant is of the request itself
-pub is_own : (laws : Laws) (p : Course) (w : WorldState) (m v : ℕ) → Seeks w (Only m) m v → (x : WorldState) → Steady p w (Only m) x → (g : Grant) → (voter_at x.voters v).held ≡ Some g → g.client ≡ m → IsOf w (Only m) g
+pub is_own : (laws : Laws) (p : Course) (w : WorldState) (m v : ℕ) → Seeks p w (Only m) m v → (x : WorldState) → Steady p w (Only m) x → (g : Grant) → (voter_at x.voters v).held ≡ Some g → g.client ≡ m → IsOf w (Only m) g
 is_own laws p w m v f x calm g held own = (
   own,
   own_stamp (voter_at x.voters v) m (client_at w.clients m).stamp g ((steady_ok laws p w (Only m) x calm).voters v) (calm.known m v f.asks f.member) held own
@@ -82,7 +82,7 @@ is_own laws p w m v f x calm g held own = (
 -- ---- INQUIRE
 
 -- an INQUIRE for its own grant was outstanding before
-pub inquiry_own : (laws : Laws) (p : Course) (w : WorldState) (m v : ℕ) → Seeks w (Only m) m v → (s : Step) (x y : WorldState) → Steady p w (Only m) x → Quietly p w m s x y → (g : Grant) → IsOf w (Only m) g
+pub inquiry_own : (laws : Laws) (p : Course) (w : WorldState) (m v : ℕ) → Seeks p w (Only m) m v → (s : Step) (x y : WorldState) → Steady p w (Only m) x → Quietly p w m s x y → (g : Grant) → IsOf w (Only m) g
     → (voter_at y.voters v).held ≡ Some g → (voter_at y.voters v).inquiring ≡ true → ((voter_at x.voters v).held ≡ Some g) × ((voter_at x.voters v).inquiring ≡ true)
 inquiry_own laws p w m v f s x y calm moved g own held is = elim moved.0 [
   | inl k ↦ (ap (λ (vs : List VoterState). (voter_at vs v).held) (sym k.0.voters) ∙ held, ap (λ (vs : List VoterState). (voter_at vs v).inquiring) (sym k.0.voters) ∙ is)
@@ -122,7 +122,7 @@ pub record IsSettled (m v : ℕ) (x : WorldState) (g : Grant) : Type 0 where
   pub quiet : (voter_at x.voters v).inquiring ≡ false
 
 -- a new grant of the request is settled
-new_settled : (laws : Laws) (p : Course) (w : WorldState) (m v : ℕ) → Seeks w (Only m) m v → (s : Step) (x y : WorldState) → Steady p w (Only m) x → Quietly p w m s x y → (g : Grant) → IsOf w (Only m) g
+new_settled : (laws : Laws) (p : Course) (w : WorldState) (m v : ℕ) → Seeks p w (Only m) m v → (s : Step) (x y : WorldState) → Steady p w (Only m) x → Quietly p w m s x y → (g : Grant) → IsOf w (Only m) g
     → (voter_at y.voters v).held ≡ Some g → (voter_at x.voters v).granted < g.grant → y.clients ≡ x.clients → IsSettled m v y g
 new_settled laws p w m v f s x y calm moved g own held new clients = record {
   own = own.0;
@@ -134,7 +134,7 @@ new_settled laws p w m v f s x y calm moved g own held new clients = record {
 }
 
 -- a grant of the request is as before, or settled
-own_step : (laws : Laws) (p : Course) (w : WorldState) (m v : ℕ) → Seeks w (Only m) m v → (s : Step) (x y : WorldState) → Steady p w (Only m) x → Steady p w (Only m) y → Quietly p w m s x y → (g : Grant)
+own_step : (laws : Laws) (p : Course) (w : WorldState) (m v : ℕ) → Seeks p w (Only m) m v → (s : Step) (x y : WorldState) → Steady p w (Only m) x → Steady p w (Only m) y → Quietly p w m s x y → (g : Grant)
     → (voter_at y.voters v).held ≡ Some g → g.client ≡ m → ((voter_at x.voters v).held ≡ Some g) ⊎ IsSettled m v y g
 own_step laws p w m v f s x y before after moved g held own = elim (grant_step laws p w (Only m) m v f s x y before after (quietly_moved p w m s x y moved) g held) [
   | inl was ↦ inl was
@@ -149,7 +149,7 @@ returned_asked p x y d v sure t came back new = elim back.why [
   | inr asked ↦ came_noted p.old x sure.coherent d v t sure.out.noted came asked new
 ]
 
-pub settled_kept : (laws : Laws) (p : Course) (w : WorldState) (m v : ℕ) → Seeks w (Only m) m v → (s : Step) (x y : WorldState) → Steady p w (Only m) x → Steady p w (Only m) y → Quietly p w m s x y
+pub settled_kept : (laws : Laws) (p : Course) (w : WorldState) (m v : ℕ) → Seeks p w (Only m) m v → (s : Step) (x y : WorldState) → Steady p w (Only m) x → Steady p w (Only m) y → Quietly p w m s x y
     → (g : Grant) → (voter_at x.voters v).held ≡ Some g → (voter_at y.voters v).held ≡ Some g → IsSettled m v x g → IsSettled m v y g
 settled_kept laws p w m v f s x y before after moved g was held h = record {
   own = h.own;
@@ -176,7 +176,7 @@ settled_kept laws p w m v f s x y before after moved g was held h = record {
 abbrev pub OwnStage : (S : ClientState → Grant → Type 0) → ℕ → ℕ → WorldState → Type 0
 OwnStage S m v x = (g : Grant) → (voter_at x.voters v).held ≡ Some g → g.client ≡ m → IsSettled m v x g ⊎ S (client_at x.clients m) g
 
-pub own_stage_kept : (laws : Laws) (p : Course) (w : WorldState) (m v : ℕ) → Seeks w (Only m) m v → (S : ClientState → Grant → Type 0) → IsLasting v S → (s : Step) (x y : WorldState)
+pub own_stage_kept : (laws : Laws) (p : Course) (w : WorldState) (m v : ℕ) → Seeks p w (Only m) m v → (S : ClientState → Grant → Type 0) → IsLasting v S → (s : Step) (x y : WorldState)
     → Steady p w (Only m) x → Steady p w (Only m) y → Quietly p w m s x y → OwnStage S m v x → OwnStage S m v y
 own_stage_kept laws p w m v f S lasting s x y before after moved h g held own = elim (own_step laws p w m v f s x y before after moved g held own) [
   | inr new ↦ inl new
@@ -190,7 +190,7 @@ own_stage_kept laws p w m v f S lasting s x y before after moved h g held own = 
 ]
 
 -- the grant stays, or the next one is settled
-own_holds_on : (laws : Laws) (p : Course) (w : WorldState) (m v : ℕ) → Seeks w (Only m) m v → (g : Grant) → (s : Step) (x y : WorldState) → Steady p w (Only m) x → Steady p w (Only m) y → Quietly p w m s x y
+own_holds_on : (laws : Laws) (p : Course) (w : WorldState) (m v : ℕ) → Seeks p w (Only m) m v → (g : Grant) → (s : Step) (x y : WorldState) → Steady p w (Only m) x → Steady p w (Only m) y → Quietly p w m s x y
     → (voter_at x.voters v).held ≡ Some g → ((voter_at y.voters v).held ≡ Some g) ⊎ OwnStage Never m v y
 own_holds_on laws p w m v f g s x y before after moved has =
     let now = held_exists laws p w (Only m) y m v after f.asks f.member in
@@ -216,7 +216,7 @@ own_from S m v x h g held own = elim (h g held own) [
 ]
 
 -- all along a round its grant has the vote, or at the end the grant is settled
-own_all : (laws : Laws) (p : Course) (w : WorldState) (m v : ℕ) → Seeks w (Only m) m v → (g : Grant) → (round : List Step) (x : WorldState)
+own_all : (laws : Laws) (p : Course) (w : WorldState) (m v : ℕ) → Seeks p w (Only m) m v → (g : Grant) → (round : List Step) (x : WorldState)
     → Along (Steady p w (Only m)) (Quietly p w m) p.deal round x → (voter_at x.voters v).held ≡ Some g
     → OwnStage Never m v (run_of p.deal round x) ⊎ Along (With p w (Only m) (HasVote v g)) (Quietly p w m) p.deal round x
 own_all laws p w m v f g round x all held =
@@ -225,7 +225,7 @@ own_all laws p w m v f g round x all held =
 -- ---- the four rounds
 
 -- In a round a stage S of its grant becomes T, if it does so while the grant has the vote.
-climbs : (laws : Laws) (p : Course) (w : WorldState) (m v : ℕ) → Seeks w (Only m) m v → (S T : ClientState → Grant → Type 0) → IsLasting v T → (round : List Step) (x : WorldState)
+climbs : (laws : Laws) (p : Course) (w : WorldState) (m v : ℕ) → Seeks p w (Only m) m v → (S T : ClientState → Grant → Type 0) → IsLasting v T → (round : List Step) (x : WorldState)
     → Along (Steady p w (Only m)) (Quietly p w m) p.deal round x
     → ((g : Grant) → IsOf w (Only m) g → Along (With p w (Only m) (HasVote v g)) MovedBy p.deal round x → S (client_at x.clients g.client) g → T (client_at (run_of p.deal round x).clients g.client) g)
     → OwnStage S m v x → OwnStage T m v (run_of p.deal round x)
@@ -253,11 +253,11 @@ climbs laws p w m v f S T lasting round x all climb stage =
       ]
     ]
 
-own_told : (laws : Laws) (p : Course) (w : WorldState) (m v : ℕ) → Seeks w (Only m) m v → (round : List Step) (x : WorldState) → Along (Steady p w (Only m)) (Quietly p w m) p.deal round x
-    → IsReminded p.deal x round (RemindVoter v) → OwnStage (Told v) m v (run_of p.deal round x)
+own_told : (laws : Laws) (p : Course) (w : WorldState) (m v : ℕ) → Seeks p w (Only m) m v → (round : List Step) (x : WorldState) → Along (Steady p w (Only m)) (Quietly p w m) p.deal round x
+    → IsReminded p.live p.deal x round (RemindVoter v) → OwnStage (Told v) m v (run_of p.deal round x)
 own_told laws p w m v f round x all fair =
     climbs laws p w m v f (λ _ _. Unit {0}) (Told v) (Told-lasting v) round x all
-    (λ g of moves _. told laws p w (Only m) m v f g of x (run_of p.deal round x) (reminded_at (With p w (Only m) (HasVote v g)) MovedBy p.deal round x (RemindVoter v) moves fair)) (λ g held own. inr tt)
+    (λ g of moves _. told laws p w (Only m) m v f g of x (run_of p.deal round x) (reminded_at (With p w (Only m) (HasVote v g)) MovedBy p.live p.deal round x (RemindVoter v) moves fair)) (λ g held own. inr tt)
 
 inquiring_on : (v : ℕ) (g : Grant) (s : Step) (x y : WorldState) → MovedBy s x y → (voter_at x.voters v).held ≡ Some g → (voter_at x.voters v).inquiring ≡ true → (g.grant ≤ (voter_at x.voters v).granted)
     → (voter_at y.voters v).held ≡ Some g → (voter_at y.voters v).inquiring ≡ true
@@ -266,8 +266,8 @@ inquiring_on v g s x y moved held is few now = elim ((Outlasts-moved x y (Moved-
   | inr new ↦ absurd (omega arith)
 ]
 
-own_marked : (laws : Laws) (p : Course) (w : WorldState) (m v : ℕ) → Seeks w (Only m) m v → (round : List Step) (x : WorldState) → Along (Steady p w (Only m)) (Quietly p w m) p.deal round x
-    → IsReminded p.deal x round (RemindVoter v) → OwnStage (Told v) m v x → OwnStage (Marked v) m v (run_of p.deal round x)
+own_marked : (laws : Laws) (p : Course) (w : WorldState) (m v : ℕ) → Seeks p w (Only m) m v → (round : List Step) (x : WorldState) → Along (Steady p w (Only m)) (Quietly p w m) p.deal round x
+    → IsReminded p.live p.deal x round (RemindVoter v) → OwnStage (Told v) m v x → OwnStage (Marked v) m v (run_of p.deal round x)
 own_marked laws p w m v f round x all fair stage =
     let deal = p.deal in
     let D = Only m in
@@ -302,7 +302,7 @@ own_marked laws p w m v f round x all fair stage =
                     let Q = With p w D (AskedFor v g) in
                     let moves = along-quiet Q p w m round x kept in
                     let end = along-last Q MovedBy deal round x moves in
-                    let marked = asked laws p w D m v f g (is_own laws p w m v f x calm g now.1 own) x z (reminded_at Q MovedBy deal round x (RemindVoter v) moves fair)
+                    let marked = asked laws p w D m v f g (is_own laws p w m v f x calm g now.1 own) x z (reminded_at Q MovedBy p.live deal round x (RemindVoter v) moves fair)
                     (inr (subst (λ c. holds (client_at x.clients c) v ≡ true) (sym own) hold)) in
                     own_by (Marked v) m v z g end.1.0 (inr (subst (λ c. Marked v (client_at z.clients c) g) own marked))
               ]
@@ -310,22 +310,22 @@ own_marked laws p w m v f round x all fair stage =
       ]
     ]
 
-own_given : (laws : Laws) (p : Course) (w : WorldState) (m v : ℕ) → Seeks w (Only m) m v → (round : List Step) (x : WorldState) → Along (Steady p w (Only m)) (Quietly p w m) p.deal round x
-    → IsReminded p.deal x round (RemindClient m) → OwnStage (Marked v) m v x → OwnStage (GivenBack v) m v (run_of p.deal round x)
+own_given : (laws : Laws) (p : Course) (w : WorldState) (m v : ℕ) → Seeks p w (Only m) m v → (round : List Step) (x : WorldState) → Along (Steady p w (Only m)) (Quietly p w m) p.deal round x
+    → IsLiveRound p.live p.deal x round → OwnStage (Marked v) m v x → OwnStage (GivenBack v) m v (run_of p.deal round x)
 own_given laws p w m v f round x all fair =
     climbs laws p w m v f (Marked v) (GivenBack v) (GivenBack-lasting v) round x all
-    (λ g of moves mark. gives_back laws p w (Only m) m v f g of round x moves (subst (λ c. IsReminded p.deal x round (RemindClient c)) (sym of.0) fair) mark)
+    (λ g of moves mark. gives_back laws p w (Only m) m v f g of round x moves fair mark)
 
-own_settled : (laws : Laws) (p : Course) (w : WorldState) (m v : ℕ) → Seeks w (Only m) m v → (round : List Step) (x : WorldState) → Along (Steady p w (Only m)) (Quietly p w m) p.deal round x
-    → IsReminded p.deal x round (RemindClient m) → OwnStage (GivenBack v) m v x → OwnStage Never m v (run_of p.deal round x)
+own_settled : (laws : Laws) (p : Course) (w : WorldState) (m v : ℕ) → Seeks p w (Only m) m v → (round : List Step) (x : WorldState) → Along (Steady p w (Only m)) (Quietly p w m) p.deal round x
+    → IsReminded p.live p.deal x round (RemindClient m) → OwnStage (GivenBack v) m v x → OwnStage Never m v (run_of p.deal round x)
 own_settled laws p w m v f round x all fair =
     climbs laws p w m v f (GivenBack v) Never (Never-lasting v) round x all
-    (λ g of moves few. not_given_back laws p w (Only m) v (voter_below laws p w (Only m) x m v (along-first (Steady p w (Only m)) (Quietly p w m) p.deal round x all) f.asks f.member) g of x (run_of p.deal round x)
-    (reminded_at (With p w (Only m) (HasVote v g)) MovedBy p.deal round x (RemindClient g.client) moves (subst (λ c. IsReminded p.deal x round (RemindClient c)) (sym of.0) fair)) few)
+    (λ g of moves few. not_given_back laws p w (Only m) v (voter_below laws p w (Only m) x m v (along-first (Steady p w (Only m)) (Quietly p w m) p.deal round x all) f.asks f.member) f.up g of x (run_of p.deal round x)
+    (reminded_at (With p w (Only m) (HasVote v g)) MovedBy p.live p.deal round x (RemindClient g.client) moves (subst (λ c. IsReminded p.live p.deal x round (RemindClient c)) (sym of.0) fair)) few)
 
 -- four rounds settle its grant
-pub four_settle : (laws : Laws) (p : Course) (w : WorldState) (m v : ℕ) → Seeks w (Only m) m v → (a b c e : List Step) (x : WorldState)
-    → Along (Steady p w (Only m)) (Quietly p w m) p.deal (a ++ (b ++ (c ++ e))) x → AreFairRounds p.deal x (a ∷ b ∷ c ∷ e ∷ []) → OwnStage Never m v (run_of p.deal (a ++ (b ++ (c ++ e))) x)
+pub four_settle : (laws : Laws) (p : Course) (w : WorldState) (m v : ℕ) → Seeks p w (Only m) m v → (a b c e : List Step) (x : WorldState)
+    → Along (Steady p w (Only m)) (Quietly p w m) p.deal (a ++ (b ++ (c ++ e))) x → AreLiveRounds p.live p.deal x (a ∷ b ∷ c ∷ e ∷ []) → OwnStage Never m v (run_of p.deal (a ++ (b ++ (c ++ e))) x)
 four_settle laws p w m v f a b c e x all fair =
     let deal = p.deal in
     let D = Only m in
@@ -342,9 +342,9 @@ four_settle laws p w m v f a b c e x all fair =
     let h2 = along-first P R deal (c ++ e) x2 B.1 in
     let h3 = along-first P R deal e x3 C.1 in
     let inside : (y : WorldState) → P y → m < length y.clients = λ y h. within_by y m (is_asking-busy (client_at y.clients m).phase (asks_now p w D y m h f.asks)) in
-    let first = own_told laws p w m v f a x A.0 (fair.0.voters v (voter_within laws p w D x m v h0 f.asks f.member)) in
-    let second = own_marked laws p w m v f b x1 B.0 (fair.1.0.voters v (voter_within laws p w D x1 m v h1 f.asks f.member)) first in
-    let third = own_given laws p w m v f c x2 C.0 (fair.1.1.0.clients m (inside x2 h2)) second in
-    let fourth = own_settled laws p w m v f e x3 C.1 (fair.1.1.1.0.clients m (inside x3 h3)) third in
+    let first = own_told laws p w m v f a x A.0 (fair.0.voters v (voter_within laws p w D x m v h0 f.asks f.member) f.up).reminded in
+    let second = own_marked laws p w m v f b x1 B.0 (fair.1.0.voters v (voter_within laws p w D x1 m v h1 f.asks f.member) f.up).reminded first in
+    let third = own_given laws p w m v f c x2 C.0 fair.1.1.0 second in
+    let fourth = own_settled laws p w m v f e x3 C.1 (fair.1.1.1.0.clients m (inside x3 h3) (client_live p w D x3 m h3 f.asks)) third in
     let goes : run_of deal (a ++ (b ++ (c ++ e))) x ≡ run_of deal e x3 = run_then deal a (b ++ (c ++ e)) x ∙ run_then deal b (c ++ e) x1 ∙ run_then deal c e x2 in
     subst (OwnStage Never m v) (sym goes) fourth

@@ -8,6 +8,7 @@ pub mod Bounds
 pub mod Counted
 pub mod Counting
 pub mod Exchanges
+pub mod Fair
 pub mod Fitting
 pub mod Forgetting
 pub mod Hearing
@@ -25,6 +26,7 @@ pub mod Moves
 pub mod Olds
 pub mod Outstanding
 pub mod Overdue
+pub mod Parts
 pub mod Patient
 pub mod Placed
 pub mod Spending

@@ -19,6 +19,7 @@ use Rattle.world_state.specs.Steps.{Dealing, Planned, WorldState, client_at, dea
 use Rattle.world.proofs.Plans.{run_then}
 use Rattle.progress.specs.Rounds.{IsAnswered, IsFairRound, IsReminded}
 use Rattle.progress.specs.Rules.{ClientLaws, Laws}
+use Rattle.progress.specs.LiveRounds.{everybody}
 use Rattle.progress.proofs.Behind.{ask-busy}
 use Rattle.progress.proofs.Counting.{inside_not_asks}
 use Rattle.progress.proofs.Fitting.{Stays-fail, Stays-inquire, take-Ok}
@@ -167,8 +168,8 @@ pub IsFairRound-more : Laws → (w : Planned) (before round more : List Step) �
     → IsFairRound (dealing_of w.plans) w.state (before ++ (round ++ more))
 IsFairRound-more laws w before round more r h =
     let deal = dealing_of w.plans in
-    let p = course_of w in
-    let sure = IsSure-reached laws w r in
+    let p = course_of everybody w in
+    let sure = IsSure-reached laws everybody w r in
     let grows = Grows-run laws p before w.state sure in
     record {
       clients = λ c within. IsReminded-more deal w.state before round more (RemindClient c) (h.clients c (subst (λ n. c < n) (sym grows.clients) within));

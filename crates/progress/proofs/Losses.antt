@@ -32,10 +32,11 @@ use Rattle.world.proofs.Plans.{run_then}
 use Rattle.world.proofs.Reached.{Given, RunOk}
 use Rattle.world.proofs.Restarts.{Mix, MixBut, Mix-back, Mix-restarted, Mix-saved, Mix-with, SavedOk, begin_ok, happens_ok, live_ok, nothing_more, silent_parts, within_or}
 use Rattle.progress.specs.AfterLosses.{AskedSince, IsHeard, IsReachedAfterLosses}
+use Rattle.progress.specs.LiveRounds.{AreLiveRounds, Live, live_below}
 use Rattle.progress.specs.Patience.{hasty_in}
-use Rattle.progress.specs.Rounds.{AreFairRounds, DoesNotGiveUp, give_ups_in, late_in, steps_of}
+use Rattle.progress.specs.Rounds.{DoesNotGiveUp, give_ups_in, late_in, steps_of}
 use Rattle.progress.specs.Rules.{Laws}
-use Rattle.world.specs.WayIn.{Asks, HasGrants}
+use Rattle.world.specs.WayIn.{Asks}
 use Rattle.world.specs.Waiting.{block}
 use Rattle.progress.proofs.Always.{HasSeen, Heeds, Seen-voter}
 use Rattle.progress.proofs.Behind.{IsLater-moved, is_current_of}
@@ -45,7 +46,7 @@ use Rattle.progress.proofs.Makers.{By, Says, coherent_world, made_by}
 use Rattle.progress.proofs.Moves.{Came, ClientMoved, Moved, StaysCoherent, VoterMoved, client_here, client_others, kept-by, voter_here, voter_others}
 use Rattle.progress.proofs.Olds.{olds_most}
 use Rattle.progress.proofs.Placed.{Seen-client}
-use Rattle.progress.proofs.Sure.{Course, IsSure, IsSure-first}
+use Rattle.progress.proofs.Sure.{Course, IsSure, IsSure-first, Serving}
 use Rattle.progress.proofs.Patient.{everybody_by}
 use Rattle.progress.proofs.Waiting.{somebody_by}
 
@@ -535,32 +536,32 @@ lives_after laws clients voters deal w r =
     })
 
 -- each grant that was given so far is old
-abbrev pub course_at : Dealing → WorldState → Course
-course_at deal w = record { deal = deal; old = λ v. suc (voter_at w.voters v).granted }
+abbrev pub course_at : Live → Dealing → WorldState → Course
+course_at live deal w = record { deal = deal; old = λ v. suc (voter_at w.voters v).granted; live = live }
 
-sure_after : (laws : Laws) (deal : Dealing) (w : WorldState) → Lives deal w → IsSure (course_at deal w) w
-sure_after laws deal w a = IsSure-first laws (course_at deal w) w a.coherent (record {
+sure_after : (laws : Laws) (live : Live) (deal : Dealing) (w : WorldState) → Lives deal w → IsSure (course_at live deal w) w
+sure_after laws live deal w a = IsSure-first laws (course_at live deal w) w a.coherent (record {
   fits = a.endures.fits;
   placed = a.endures.placed;
-  out = outstanding_by beyond (course_at deal w).old w (a.coherent []) (λ v. omega arith) a.endures.out;
+  out = outstanding_by beyond (course_at live deal w).old w (a.coherent []) (λ v. omega arith) a.endures.out;
 })
 
-pub after_losses_somebody : Laws → ClientLaws → VoterLaws → (deal : Dealing) (w : WorldState) (c : ℕ) (rounds : List (List Step)) (more : List Event) → IsReachedAfterLosses deal w → Asks w c
-    → AreFairRounds deal w rounds → DoesNotGiveUp c (steps_of rounds) → HasGrants 1 (run_of deal (steps_of rounds) w)
-    → block (length w.clients) * (length w.clients + 2 * give_ups_in (steps_of rounds) + late_in deal 0 w rounds + length w.voters) ≤ length rounds
+pub after_losses_somebody : Laws → ClientLaws → VoterLaws → (live : Live) (deal : Dealing) (w : WorldState) (c : ℕ) (rounds : List (List Step)) (more : List Event) → IsReachedAfterLosses deal w → Asks w c
+    → AreLiveRounds live deal w rounds → DoesNotGiveUp c (steps_of rounds) → Serving (course_at live deal w) w (run_of deal (steps_of rounds) w)
+    → block (length w.clients) * (live_below live (length w.clients) + 2 * give_ups_in (steps_of rounds) + late_in deal 0 w rounds + length w.voters) ≤ length rounds
     → (run_of deal (steps_of rounds) w).visible ≡ w.visible ++ more → (d : ℕ) × (1 ≤ entries_of d more)
-after_losses_somebody laws clients voters deal w c rounds more r asks fair stays left long visible =
-    let p = course_at deal w in
+after_losses_somebody laws clients voters live deal w c rounds more r asks fair stays left long visible =
+    let p = course_at live deal w in
     let most = olds_most p (length w.voters) w in
-    somebody_by laws p w c (length w.clients + 2 * give_ups_in (steps_of rounds) + late_in deal 0 w rounds + length w.voters) rounds more (λ v. omega arith)
-    (sure_after laws deal w (lives_after laws clients voters deal w r)) asks fair stays left (omega arith) long visible
+    somebody_by laws p w c (live_below live (length w.clients) + 2 * give_ups_in (steps_of rounds) + late_in deal 0 w rounds + length w.voters) rounds more (λ v. omega arith)
+    (sure_after laws live deal w (lives_after laws clients voters deal w r)) asks fair stays left (omega arith) long visible
 
-pub after_losses_everybody : Laws → ClientLaws → VoterLaws → (deal : Dealing) (w : WorldState) (c : ℕ) (rounds : List (List Step)) (more : List Event) → IsReachedAfterLosses deal w → IsHeard w c → Asks w c
-    → AreFairRounds deal w rounds → DoesNotGiveUp c (steps_of rounds) → HasGrants 1 (run_of deal (steps_of rounds) w)
-    → block (length w.clients) * (3 * length w.clients + 2 * hasty_in deal w rounds + late_in deal 0 w rounds + length w.voters) ≤ length rounds
+pub after_losses_everybody : Laws → ClientLaws → VoterLaws → (live : Live) (deal : Dealing) (w : WorldState) (c : ℕ) (rounds : List (List Step)) (more : List Event) → IsReachedAfterLosses deal w → IsHeard w c → Asks w c
+    → AreLiveRounds live deal w rounds → DoesNotGiveUp c (steps_of rounds) → Serving (course_at live deal w) w (run_of deal (steps_of rounds) w)
+    → block (length w.clients) * (3 * live_below live (length w.clients) + 2 * hasty_in deal w rounds + late_in deal 0 w rounds + length w.voters) ≤ length rounds
     → (run_of deal (steps_of rounds) w).visible ≡ w.visible ++ more → 1 ≤ entries_of c more
-after_losses_everybody laws clients voters deal w c rounds more r heard asks fair stays left long visible =
-    let p = course_at deal w in
+after_losses_everybody laws clients voters live deal w c rounds more r heard asks fair stays left long visible =
+    let p = course_at live deal w in
     let a = lives_after laws clients voters deal w r in
     let most = olds_most p (length w.voters) w in
     let heeded : Heeds c w = record {
@@ -569,8 +570,8 @@ after_losses_everybody laws clients voters deal w c rounds more r heard asks fai
           subst (λ n. n ≤ (voter_at w.voters v).seen) (sym same) (heard v (subst (λ n. IsEntry (voter_at w.voters v) c n) same entry));
       given = a.endures.given;
     } in
-    everybody_by laws p w c (3 * length w.clients + 2 * hasty_in deal w rounds + late_in deal 0 w rounds + length w.voters) rounds more (λ v. omega arith)
-    (sure_after laws deal w a) heeded asks fair stays left (omega arith) long visible
+    everybody_by laws p w c (3 * live_below live (length w.clients) + 2 * hasty_in deal w rounds + late_in deal 0 w rounds + length w.voters) rounds more (λ v. omega arith)
+    (sure_after laws live deal w a) heeded asks fair stays left (omega arith) long visible
 
 -- ---- new requests
 

@@ -25,20 +25,21 @@ use Rattle.world_state.specs.declared.step.Step.{Step}
 use Rattle.world_state.specs.declared.step.Step.TheVariants.{Deliver, Leave, RemindClient, RemindVoter}
 use Rattle.world.specs.Runs.{run_of}
 use Rattle.world_state.specs.Steps.{Dealing, WorldState, client_at, voter_at}
-use Rattle.progress.specs.Rounds.{AreFairRounds, IsReminded}
+use Rattle.progress.specs.LiveRounds.{AreLiveRounds, IsLiveRound, IsReminded}
 use Rattle.progress.specs.Rules.{Laws}
 use Rattle.progress.proofs.Ahead.{NotBehind, not_behind_kept, own_not, vote_or_ahead}
-use Rattle.progress.proofs.Along.{Along, Reminded, along-first, along-kept, along-last, along-or, along-split, along-weaker, next, reminded_at, spot_after, spot_before, spot_end, spot_in}
+use Rattle.progress.proofs.Along.{Along, Reminded, Served, along-first, along-kept, along-last, along-or, along-split, along-weaker, between_from, between_to, next, reminded_at, served_at, spot_after, spot_before, spot_end, spot_in}
 use Rattle.progress.proofs.Arrivals.{answered, client_takes, message_stays, reminds_first, voter_takes}
 use Rattle.progress.proofs.Behind.{the_request}
 use Rattle.progress.proofs.Fitting.{entry_waits, held_grant, not_current, own_stamp}
 use Rattle.progress.proofs.Inquiries.{ends_up_to}
 use Rattle.world.proofs.Exclusion.{inside_busy}
-use Rattle.progress.proofs.Known.{entry_kept, idle_by, known_after, left_idle, within_by}
+use Rattle.progress.proofs.Known.{entry_kept, holds_down, idle_by, known_after, left_idle, within_by}
 use Rattle.progress.proofs.Moves.{Moved-by, MovedBy}
-use Rattle.progress.proofs.Steady.{AskedFor, GivenBack, GivenBack-lasting, HasMarked, HasVote, IsOf, Seeks, Steady, With, asked, fate_goes, held_exists, locked_to, mark_goes, not_given_back, not_marked, release_to, steady_ok, told, voter_below, voter_within}
+use Rattle.progress.proofs.Steady.{AskedFor, GivenBack, GivenBack-lasting, HasMarked, HasVote, IsOf, Seeks, Steady, With, asked, asks_now, client_live, fate_goes, held_exists, locked_to, mark_goes, not_given_back, not_marked, release_to, steady_ok, told, voter_below, voter_within}
 use Rattle.progress.proofs.Lasting.{Lasts, Lasts-moved, Lasts-run, Lasts-self, Lasts-then, RunsOn, SameAsk, same_between}
-use Rattle.progress.proofs.Sure.{Course, IsSure}
+use Rattle.progress.proofs.Sure.{Course, IsSure, Serves, live_by}
+use Rattle.requester.proofs.SoundSteps.{is_asking-busy}
 
 -- the client m alone; the clients m and d
 abbrev pub Only : ℕ → ℕ → Type 0
@@ -64,7 +65,7 @@ along-all P R deal K keep (s ∷ steps) x h k =
 
 -- a request that runs at the end ran all along
 pub runs_until : (laws : Laws) (p : Course) (w : WorldState) (P : WorldState → Type 0) → ((y : WorldState) → P y → IsSure p y)
-    → ((y : WorldState) → P y → (v : ℕ) → v < length y.voters → (voter_at y.voters v).granted < (voter_at y.voters v).limit) → (d : ℕ) (steps : List Step) (x : WorldState)
+    → ((y : WorldState) → P y → Serves p y) → (d : ℕ) (steps : List Step) (x : WorldState)
     → Along P MovedBy p.deal steps x → Lasts (client_at w.clients d) (client_at x.clients d) → (client_at (run_of p.deal steps x).clients d).stamp ≡ (client_at w.clients d).stamp
     → is_asking (client_at (run_of p.deal steps x).clients d).phase ≡ true → Along (RunsOn p w d) MovedBy p.deal steps x
 runs_until laws p w P sure left d [] x h lasts stamp asks = record {
@@ -116,14 +117,14 @@ steady_pair p w m d x asking calm runs known = record {
 -- ---- a later request that runs on gives the vote back
 
 -- the vote is asked for while the grant is behind
-asked_for : (laws : Laws) (p : Course) (w : WorldState) (D : ℕ → Type 0) (m v : ℕ) → Seeks w D m v → (g : Grant) → g.client ≢ m → precedes (the_request w m) (request_of g) ≡ true → (x : WorldState)
+asked_for : (laws : Laws) (p : Course) (w : WorldState) (D : ℕ → Type 0) (m v : ℕ) → Seeks p w D m v → (g : Grant) → g.client ≢ m → precedes (the_request w m) (request_of g) ≡ true → (x : WorldState)
     → With p w D (HasVote v g) x → With p w D (AskedFor v g) x
 asked_for laws p w D m v f g other behind x here =
     let stamp = (client_at w.clients m).stamp in
     let waits = entry_waits (voter_at x.voters v) m stamp g (here.0.known m v f.asks f.member) here.1 other in
     (here.0, (here.1, (here.0.reached []).placed.back v g m stamp here.1 waits behind))
 
-mark_or : (laws : Laws) (p : Course) (w : WorldState) (D : ℕ → Type 0) (m v : ℕ) → Seeks w D m v → (g : Grant) → IsOf w D g → (s : Step) (x y : WorldState) → With p w D (HasVote v g) x → With p w D (HasVote v g) y
+mark_or : (laws : Laws) (p : Course) (w : WorldState) (D : ℕ → Type 0) (m v : ℕ) → Seeks p w D m v → (g : Grant) → IsOf w D g → (s : Step) (x y : WorldState) → With p w D (HasVote v g) x → With p w D (HasVote v g) y
     → MovedBy s x y → HasMarked g.client v x → HasMarked g.client v y ⊎ GivenBack v (client_at y.clients g.client) g
 mark_or laws p w D m v f g live s x y before after moved h = elim (fate_goes laws p w D s x y g.client v before.0 after.0 moved live.0 (voter_below laws p w D x m v before.0 f.asks f.member)) [
   | inl same ↦ inl (subst (λ (z : ClientState). (holds z v ≡ true) × (is_inquired z v ≡ true)) (sym same) h)
@@ -137,16 +138,16 @@ mark_or laws p w D m v f g live s x y before after moved h = elim (fate_goes law
   ]
 ]
 
-given_kept : (laws : Laws) (p : Course) (w : WorldState) (D : ℕ → Type 0) (m v : ℕ) → Seeks w D m v → (g : Grant) → IsOf w D g → (s : Step) (x y : WorldState) → With p w D (HasVote v g) x → With p w D (HasVote v g) y
+given_kept : (laws : Laws) (p : Course) (w : WorldState) (D : ℕ → Type 0) (m v : ℕ) → Seeks p w D m v → (g : Grant) → IsOf w D g → (s : Step) (x y : WorldState) → With p w D (HasVote v g) x → With p w D (HasVote v g) y
     → MovedBy s x y → GivenBack v (client_at x.clients g.client) g → GivenBack v (client_at y.clients g.client) g
 given_kept laws p w D m v f g live s x y before after moved h =
     mark_goes laws p w D (GivenBack v) v (GivenBack-lasting v) s x y before.0 after.0 moved (voter_below laws p w D x m v before.0 f.asks f.member) g before.1 live h
 
 -- a marked vote is given back in a round
-pub gives_back : (laws : Laws) (p : Course) (w : WorldState) (D : ℕ → Type 0) (m v : ℕ) → Seeks w D m v → (g : Grant) → IsOf w D g → (round : List Step) (x : WorldState)
-    → Along (With p w D (HasVote v g)) MovedBy p.deal round x → IsReminded p.deal x round (RemindClient g.client)
+pub gives_back : (laws : Laws) (p : Course) (w : WorldState) (D : ℕ → Type 0) (m v : ℕ) → Seeks p w D m v → (g : Grant) → IsOf w D g → (round : List Step) (x : WorldState)
+    → Along (With p w D (HasVote v g)) MovedBy p.deal round x → IsLiveRound p.live p.deal x round
     → (g.grant ≤ last_of (client_at x.clients g.client) v) ⊎ HasMarked g.client v x → GivenBack v (client_at (run_of p.deal round x).clients g.client) g
-gives_back laws p w D m v f g live round x all reminded before =
+gives_back laws p w D m v f g live round x all fair before =
     let deal = p.deal in
     let z = run_of deal round x in
     let P = With p w D (HasVote v g) in
@@ -158,17 +159,23 @@ gives_back laws p w D m v f g live round x all reminded before =
         | inr kept ↦
             let marks = along-weaker (λ q. P q × HasMarked g.client v q) (With p w D (HasMarked g.client v)) MovedBy deal (λ q h. (h.0.0, h.1)) round x kept in
             let calm = along-first P MovedBy deal round x all in
-            absurd (not_marked laws p w D g.client v live.0 (voter_below laws p w D x m v calm.0 f.asks f.member) x z (along-last P MovedBy deal round x all).0
-            (reminded_at (With p w D (HasMarked g.client v)) MovedBy deal round x (RemindClient g.client) marks reminded))
+            let end = along-last P MovedBy deal round x all in
+            let asks = asks_now p w D x g.client calm.0 live.0 in
+            let alive = client_live p w D x g.client calm.0 live.0 in
+            let down = holds_down p x g.client round fair alive asks
+            (record { asks = asks_now p w D z g.client end.0 live.0; same = (end.0.same g.client live.0).stamp ∙ sym (calm.0.same g.client live.0).stamp }) in
+            absurd (not_marked laws p w D g.client v live.0 (voter_below laws p w D x m v calm.0 f.asks f.member) x z calm.0 end.0 down
+            (reminded_at (With p w D (HasMarked g.client v)) MovedBy p.live deal round x (RemindClient g.client) marks
+            (fair.clients g.client (within_by x g.client (is_asking-busy (client_at x.clients g.client).phase asks)) alive)))
       ]
     ]
 
 -- four rounds in which the grant has the vote and its request runs
-four_rounds : (laws : Laws) (p : Course) (w : WorldState) (D : ℕ → Type 0) (m v : ℕ) → Seeks w D m v → (g : Grant) → IsOf w D g → g.client ≢ m → precedes (the_request w m) (request_of g) ≡ true
+four_rounds : (laws : Laws) (p : Course) (w : WorldState) (D : ℕ → Type 0) (m v : ℕ) → Seeks p w D m v → (g : Grant) → IsOf w D g → g.client ≢ m → precedes (the_request w m) (request_of g) ≡ true
     → (a b c e : List Step) (x : WorldState) → Along (With p w D (HasVote v g)) MovedBy p.deal (a ++ (b ++ (c ++ e))) x
-    → IsReminded p.deal x a (RemindVoter v) → IsReminded p.deal (run_of p.deal a x) b (RemindVoter v)
-    → IsReminded p.deal (run_of p.deal b (run_of p.deal a x)) c (RemindClient g.client)
-    → IsReminded p.deal (run_of p.deal c (run_of p.deal b (run_of p.deal a x))) e (RemindClient g.client) → ⊥
+    → IsReminded p.live p.deal x a (RemindVoter v) → IsReminded p.live p.deal (run_of p.deal a x) b (RemindVoter v)
+    → IsLiveRound p.live p.deal (run_of p.deal b (run_of p.deal a x)) c
+    → IsReminded p.live p.deal (run_of p.deal c (run_of p.deal b (run_of p.deal a x))) e (RemindClient g.client) → ⊥
 four_rounds laws p w D m v f g live other behind a b c e x all ra rb rc re =
     let deal = p.deal in
     let P = With p w D (HasVote v g) in
@@ -179,13 +186,13 @@ four_rounds laws p w D m v f g live other behind a b c e x all ra rb rc re =
     let A = along-split P MovedBy deal a (b ++ (c ++ e)) x all in
     let B = along-split P MovedBy deal b (c ++ e) x1 A.1 in
     let C = along-split P MovedBy deal c e x2 B.1 in
-    let first = told laws p w D m v f g live x x1 (reminded_at P MovedBy deal a x (RemindVoter v) A.0 ra) in
+    let first = told laws p w D m v f g live x x1 (reminded_at P MovedBy p.live deal a x (RemindVoter v) A.0 ra) in
     let Q = With p w D (AskedFor v g) in
     let askeds = along-weaker P Q MovedBy deal (asked_for laws p w D m v f g other behind) b x1 B.0 in
-    let second = asked laws p w D m v f g live x1 x2 (reminded_at Q MovedBy deal b x1 (RemindVoter v) askeds rb) first in
+    let second = asked laws p w D m v f g live x1 x2 (reminded_at Q MovedBy p.live deal b x1 (RemindVoter v) askeds rb) first in
     let third = gives_back laws p w D m v f g live c x2 C.0 rc second in
     let calm = along-first P MovedBy deal e x3 C.1 in
-    not_given_back laws p w D v (voter_below laws p w D x3 m v calm.0 f.asks f.member) g live x3 x4 (reminded_at P MovedBy deal e x3 (RemindClient g.client) C.1 re) third
+    not_given_back laws p w D v (voter_below laws p w D x3 m v calm.0 f.asks f.member) f.up g live x3 x4 (reminded_at P MovedBy p.live deal e x3 (RemindClient g.client) C.1 re) third
 
 -- ---- a later request that is over frees the vote
 
@@ -264,9 +271,9 @@ leaves_by laws p w D d t round x all leaves h =
     ] refl
 
 -- the reminder of the voter frees the vote of a request that is over
-pub not_over : (laws : Laws) (p : Course) (w : WorldState) (D : ℕ → Type 0) (m v : ℕ) → Seeks w D m v → (g : Grant) → (x z : WorldState)
-    → Reminded (λ y. With p w D (HasVote v g) y × IsOver g.client g.stamp y) MovedBy p.deal x z (RemindVoter v) → ⊥
-not_over laws p w D m v f g x z r =
+not_over : (laws : Laws) (p : Course) (w : WorldState) (D : ℕ → Type 0) (m v : ℕ) → Seeks p w D m v → (g : Grant) → (x z : WorldState)
+    → Reminded (λ y. With p w D (HasVote v g) y × IsOver g.client g.stamp y) MovedBy p.live p.deal x z (RemindVoter v) → p.live.client g.client ≡ true → ⊥
+not_over laws p w D m v f g x z r alive =
     let deal = p.deal in
     let P : WorldState → Type 0 = λ y. With p w D (HasVote v g) y × IsOver g.client g.stamp y in
     let stays : (k : ℕ) (n : Message) (s : Step) (a b : WorldState) → P a → P b → MovedBy s a b → slice_get a.sent k ≡ Some n → slice_get b.sent k ≡ Some n =
@@ -283,8 +290,8 @@ not_over laws p w D m v f g x z r =
     let is : voter.reply y d (to_client.Locked g.stamp g.grant) ≡ msg = λ i. record { voter = id i; client = d; seen = y.seen; body = to_client.Locked g.stamp g.grant } in
     let out = laws.voter.reminds y g spot.here.0.1 ∙ ap (λ (n : ToClient). n ∷ voter.inquiry_again y.inquiring y g) is in
     let sends = reminds_first deal u v msg (voter.inquiry_again y.inquiring y g) within out in
-    let heard = r.heard sends.place sends.least sends.less in
     let u1 = next deal u (RemindVoter v) in
+    let heard = r.heard sends.place sends.least (between_from p.live (slice_get u1.sent sends.place) msg sends.is alive f.up) in
     let there = spot_before P MovedBy deal (λ q. slice_get q.sent sends.place ≡ Some (kinds.ToClient msg)) (stays sends.place (kinds.ToClient msg)) u1 z (Deliver sends.place) heard.spot sends.is in
     let x2 = heard.spot.before in
     let here2 = heard.spot.here in
@@ -298,17 +305,28 @@ not_over laws p w D m v f g x z r =
     let gives : (requester.take old msg).out ≡ rel ∷ [] = ap (λ (o : requester.Outcome). o.out) (laws.client.released old msg g.stamp g.grant refl (over_current d g.stamp x2 here2.1))
     ∙ ap (λ (n : ToVoter). n ∷ []) tells in
     let says_it = answered deal x2 sends.place msg rel t gives in
-    let comes = heard.replies says_it.place says_it.least says_it.less in
     let y2 = next deal x2 (Deliver sends.place) in
+    let comes = heard.replies says_it.place says_it.least (between_to p.live (slice_get y2.sent says_it.place) rel says_it.is alive f.up) in
     let got = spot_before P MovedBy deal (λ q. slice_get q.sent says_it.place ≡ Some (kinds.ToVoter rel)) (stays says_it.place (kinds.ToVoter rel)) y2 z (Deliver says_it.place) comes says_it.is in
     let x3 = comes.before in
     let calm3 = comes.here.0.0 in
     let ok3 = steady_ok laws p w D x3 calm3 in
-    let taken = voter_takes laws deal x3 says_it.place rel ok3 (calm3.left v (voter_within laws p w D x3 m v calm3 f.asks f.member)) got in
+    let taken = voter_takes laws deal x3 says_it.place rel ok3 (calm3.left.grants v (voter_within laws p w D x3 m v calm3 f.asks f.member) f.up) got in
     let above = ends_up_to laws.voter (voter_at x3.voters v) rel g.stamp taken.outcome (ok3.voters v) refl taken.step in
     let held = (spot_after P MovedBy deal y2 z (Deliver says_it.place) comes).0.1 in
     let high = above g.stamp (inl (g, ap (λ (q : VoterState). q.held) (sym taken.here) ∙ held, refl, refl)) in
     omega arith
+
+-- or the voter drops it, if its client is not live
+pub served_over : (laws : Laws) (p : Course) (w : WorldState) (D : ℕ → Type 0) (m v : ℕ) → Seeks p w D m v → (g : Grant) → (x z : WorldState)
+    → Served (λ y. With p w D (HasVote v g) y × IsOver g.client g.stamp y) MovedBy p.live p.deal x z v → ⊥
+served_over laws p w D m v f g x z r = elim (p.live.client g.client) as (λ b. p.live.client g.client ≡ b → ⊥) [
+  | true ↦ λ alive. not_over laws p w D m v f g x z r.reminded alive
+  | false ↦ λ dead.
+      let P : WorldState → Type 0 = λ y. With p w D (HasVote v g) y × IsOver g.client g.stamp y in
+      let d = r.drops g r.reminded.spot.here.0.1 dead in
+      d.over (inl (g, (along-last P MovedBy p.deal d.first r.reminded.spot.before d.lead).0.1, refl, refl))
+] refl
 
 -- ---- seven rounds
 
@@ -316,8 +334,8 @@ made_at : (laws : Laws) (p : Course) (w : WorldState) (D : ℕ → Type 0) (v : 
 made_at laws p w D v g x here = ((steady_ok laws p w D x here.0).made v g.client g.stamp (inl (g, here.1, refl, refl))).client
 
 -- the request of the grant does not run through the first five rounds
-runs_not : (laws : Laws) (p : Course) (w : WorldState) (m v : ℕ) → Seeks w (Only m) m v → (g : Grant) → g.client ≢ m → precedes (the_request w m) (request_of g) ≡ true → (a b c d e : List Step)
-    → Along (With p w (Only m) (HasVote v g)) MovedBy p.deal (a ++ (b ++ (c ++ (d ++ e)))) w → AreFairRounds p.deal w (a ∷ b ∷ c ∷ d ∷ e ∷ [])
+runs_not : (laws : Laws) (p : Course) (w : WorldState) (m v : ℕ) → Seeks p w (Only m) m v → (g : Grant) → g.client ≢ m → precedes (the_request w m) (request_of g) ≡ true → (a b c d e : List Step)
+    → Along (With p w (Only m) (HasVote v g)) MovedBy p.deal (a ++ (b ++ (c ++ (d ++ e)))) w → AreLiveRounds p.live p.deal w (a ∷ b ∷ c ∷ d ∷ e ∷ [])
     → g.stamp ≡ (client_at w.clients g.client).stamp → (client_at (run_of p.deal (a ++ (b ++ (c ++ (d ++ e)))) w).clients g.client).stamp ≡ (client_at w.clients g.client).stamp
     → is_asking (client_at (run_of p.deal (a ++ (b ++ (c ++ (d ++ e)))) w).clients g.client).phase ≡ true → ⊥
 runs_not laws p w m v f g other behind a b c d e all fair number stamp asks =
@@ -334,7 +352,7 @@ runs_not laws p w m v f g other behind a b c d e all fair number stamp asks =
     let runs_parts = along-split R MovedBy deal a mid w runs in
     let parts = along-split P MovedBy deal a mid w all in
     let x1 = run_of deal a w in
-    let known : IsKnown w q x1 = λ u member. known_after laws p w a q u runs_parts.0 (fair.0.clients q (made_at laws p w D v g w start)) asking member in
+    let known : IsKnown w q x1 = λ u member. known_after laws p w a q u runs_parts.0 fair.0 asking member in
     let both = along-and P R MovedBy deal mid x1 parts.1 runs_parts.1 in
     let with_known = along-all (λ y. P y × R y) MovedBy deal (IsKnown w q) (λ s x y before after moved k u member. entry_kept laws p w q u asking s x y before.1 after.1 moved (k u member)) mid x1 both known in
     let pairs = along-weaker (λ y. (P y × R y) × IsKnown w q y) (With p w (Pair m q) (HasVote v g)) MovedBy deal (λ y h. (steady_pair p w m q y asking h.0.0.0 h.0.1 h.1, h.0.0.1)) mid x1 with_known in
@@ -346,15 +364,16 @@ runs_not laws p w m v f g other behind a b c d e all fair number stamp asks =
     let E = along-split P MovedBy deal d e x3 C.1 in
     let h1 = along-first P MovedBy deal mid x1 parts.1 in
     let h2 = along-first P MovedBy deal (c ++ (d ++ e)) x2 B.1 in
-    let h3 = along-first P MovedBy deal (d ++ e) x3 C.1 in
     let h4 = along-first P MovedBy deal e x4 E.1 in
-    four_rounds laws p w (Pair m q) m v (record { asks = inl refl; member = f.member }) g (inr refl, number) other behind b c d e x1 pairs
-    (fair.1.0.voters v (voter_within laws p w D x1 m v h1.0 f.asks f.member)) (fair.1.1.0.voters v (voter_within laws p w D x2 m v h2.0 f.asks f.member))
-    (fair.1.1.1.0.clients q (made_at laws p w D v g x3 h3)) (fair.1.1.1.1.0.clients q (made_at laws p w D v g x4 h4))
+    let pair4 = along-first (With p w (Pair m q) (HasVote v g)) MovedBy deal e x4
+    (along-split (With p w (Pair m q) (HasVote v g)) MovedBy deal d e x3 (along-split (With p w (Pair m q) (HasVote v g)) MovedBy deal c (d ++ e) x2 (along-split (With p w (Pair m q) (HasVote v g)) MovedBy deal b (c ++ (d ++ e)) x1 pairs).1).1).1 in
+    four_rounds laws p w (Pair m q) m v (record { up = f.up; asks = inl refl; member = f.member }) g (inr refl, number) other behind b c d e x1 pairs
+    (fair.1.0.voters v (voter_within laws p w D x1 m v h1.0 f.asks f.member) f.up).reminded (fair.1.1.0.voters v (voter_within laws p w D x2 m v h2.0 f.asks f.member) f.up).reminded
+    fair.1.1.1.0 (fair.1.1.1.1.0.clients q (made_at laws p w D v g x4 h4) (client_live p w (Pair m q) x4 q pair4.0 (inr refl)))
 
 -- it is over before the last two rounds, and then the vote is free
-ends_not : (laws : Laws) (p : Course) (w : WorldState) (m v : ℕ) → Seeks w (Only m) m v → (g : Grant) → (l q : List Step) (x : WorldState)
-    → Along (With p w (Only m) (HasVote v g)) MovedBy p.deal (l ++ q) x → AreFairRounds p.deal x (l ∷ q ∷ []) → HasEnded g.client g.stamp x → ⊥
+ends_not : (laws : Laws) (p : Course) (w : WorldState) (m v : ℕ) → Seeks p w (Only m) m v → (g : Grant) → (l q : List Step) (x : WorldState)
+    → Along (With p w (Only m) (HasVote v g)) MovedBy p.deal (l ++ q) x → AreLiveRounds p.live p.deal x (l ∷ q ∷ []) → HasEnded g.client g.stamp x → ⊥
 ends_not laws p w m v f g l q x all fair ended =
     let deal = p.deal in
     let D = Only m in
@@ -362,16 +381,16 @@ ends_not laws p w m v f g l q x all fair ended =
     let x1 = run_of deal l x in
     let parts = along-split P MovedBy deal l q x all in
     let steadily = along-weaker P (Steady p w D) MovedBy deal (λ y h. h.0) l x parts.0 in
-    let over = leaves_by laws p w D g.client g.stamp l x steadily (fair.0.leaves g.client) ended in
+    let over = leaves_by laws p w D g.client g.stamp l x steadily (λ inside. fair.0.leaves g.client (live_by p x g.client (along-first P MovedBy deal (l ++ q) x all).0.left (inside_busy (client_at x.clients g.client).phase inside)) inside) ended in
     let overs = along-all P MovedBy deal (IsOver g.client g.stamp) (λ s a b before after moved k. over_kept laws p w D g.client g.stamp s a b before.0 after.0 moved k) q x1 parts.1 over in
     let here = along-first P MovedBy deal q x1 parts.1 in
-    not_over laws p w D m v f g x1 (run_of deal q x1)
-    (reminded_at (λ y. P y × IsOver g.client g.stamp y) MovedBy deal q x1 (RemindVoter v) overs (fair.1.0.voters v (voter_within laws p w D x1 m v here.0 f.asks f.member)))
+    served_over laws p w D m v f g x1 (run_of deal q x1)
+    (served_at (λ y. P y × IsOver g.client g.stamp y) MovedBy p.live deal q x1 v overs (fair.1.0.voters v (voter_within laws p w D x1 m v here.0 f.asks f.member) f.up))
 
 -- after seven rounds the voter's grant is not behind the request
-pub catches_up : (laws : Laws) (p : Course) (w : WorldState) (m v : ℕ) → Seeks w (Only m) m v → (a b c d e l q : List Step)
-    → Along (Steady p w (Only m)) MovedBy p.deal ((a ++ (b ++ (c ++ (d ++ e)))) ++ (l ++ q)) w → AreFairRounds p.deal w (a ∷ b ∷ c ∷ d ∷ e ∷ [])
-    → AreFairRounds p.deal (run_of p.deal (a ++ (b ++ (c ++ (d ++ e)))) w) (l ∷ q ∷ []) → NotBehind w m v (run_of p.deal ((a ++ (b ++ (c ++ (d ++ e)))) ++ (l ++ q)) w)
+pub catches_up : (laws : Laws) (p : Course) (w : WorldState) (m v : ℕ) → Seeks p w (Only m) m v → (a b c d e l q : List Step)
+    → Along (Steady p w (Only m)) MovedBy p.deal ((a ++ (b ++ (c ++ (d ++ e)))) ++ (l ++ q)) w → AreLiveRounds p.live p.deal w (a ∷ b ∷ c ∷ d ∷ e ∷ [])
+    → AreLiveRounds p.live p.deal (run_of p.deal (a ++ (b ++ (c ++ (d ++ e)))) w) (l ∷ q ∷ []) → NotBehind w m v (run_of p.deal ((a ++ (b ++ (c ++ (d ++ e)))) ++ (l ++ q)) w)
 catches_up laws p w m v f a b c d e l q all fair last =
     let deal = p.deal in
     let D = Only m in

@@ -29,17 +29,17 @@ use Rattle.world_state.specs.declared.step.Step.{Step}
 use Rattle.world_state.specs.declared.step.Step.TheVariants.{Deliver, RemindClient, RemindVoter}
 use Rattle.world_state.specs.Steps.{WorldState, client_at, voter_at}
 use Rattle.progress.specs.Rules.{Laws}
-use Rattle.progress.proofs.Along.{Reminded, next, spot_after, spot_before, spot_end, spot_through}
+use Rattle.progress.proofs.Along.{Reminded, between_from, between_to, next, spot_after, spot_before, spot_end, spot_through}
 use Rattle.progress.proofs.Arrivals.{client_takes, message_stays, reminds_first, reminds_second, replied, says, voter_takes}
 use Rattle.progress.proofs.Behind.{ask-Ok, meets}
 use Rattle.progress.proofs.Exchanges.{not_held}
 use Rattle.progress.proofs.Fitting.{current_is, held_grant, held_some, own_stamp, take-Ok}
 use Rattle.progress.proofs.Inquiries.{again_fails, again_locks, replies_again}
-use Rattle.progress.proofs.Known.{asks_for, request_to, within_by}
+use Rattle.progress.proofs.Known.{HoldsDown, asks_for, request_to, within_by}
 use Rattle.progress.proofs.Lists.{all_hold}
 use Rattle.progress.proofs.Moves.{Came, ClientMoved, Moved-by, MovedBy}
 use Rattle.progress.proofs.Lasting.{RunsOn, SameAsk}
-use Rattle.progress.proofs.Sure.{Course, IsSure}
+use Rattle.progress.proofs.Sure.{Course, IsSure, Serves, live_by}
 use Rattle.progress.proofs.Taking.{Fate, Fate-take, marks-take}
 
 -- ---- grants
@@ -110,7 +110,7 @@ Marked-lasting v t a b g number fate (inr mark) = marked_on v t a b g number fat
 -- a grant left.
 pub record Steady (p : Course) (w : WorldState) (D : ℕ → Type 0) (x : WorldState) : Type 0 where
   pub reached : IsSure p x
-  pub left : (v : ℕ) → v < length x.voters → (voter_at x.voters v).granted < (voter_at x.voters v).limit
+  pub left : Serves p x
   pub asks : (d : ℕ) → D d → is_asking (client_at w.clients d).phase ≡ true
   pub same : (d : ℕ) → D d → SameAsk (client_at w.clients d) (client_at x.clients d)
   pub known : (d v : ℕ) → D d → is_member (client_at w.clients d) v ≡ true → IsEntry (voter_at x.voters v) d (client_at w.clients d).stamp
@@ -119,8 +119,9 @@ pub record Steady (p : Course) (w : WorldState) (D : ℕ → Type 0) (x : WorldS
 abbrev pub IsOf : WorldState → (ℕ → Type 0) → Grant → Type 0
 IsOf w D g = D g.client × (g.stamp ≡ (client_at w.clients g.client).stamp)
 
--- a client in D, and a voter of its quorum
-pub record Seeks (w : WorldState) (D : ℕ → Type 0) (m v : ℕ) : Type 0 where
+-- a client in D, and a voter of its quorum that is live
+pub record Seeks (p : Course) (w : WorldState) (D : ℕ → Type 0) (m v : ℕ) : Type 0 where
+  pub up : p.live.voter v ≡ true
   pub asks : D m
   pub member : is_member (client_at w.clients m) v ≡ true
 
@@ -170,6 +171,9 @@ held_exists laws p w D x d v calm asking member =
 
 pub runs_on : (p : Course) (w : WorldState) (D : ℕ → Type 0) (d : ℕ) → D d → (x : WorldState) → Steady p w D x → RunsOn p w d x
 runs_on p w D d asking x calm = record { reached = calm.reached; same = calm.same d asking; left = calm.left }
+
+pub client_live : (p : Course) (w : WorldState) (D : ℕ → Type 0) (x : WorldState) (d : ℕ) → Steady p w D x → D d → p.live.client d ≡ true
+client_live p w D x d calm asking = live_by p x d calm.left (is_asking-busy (client_at x.clients d).phase (asks_now p w D x d calm asking))
 
 -- ---- what a step does to a client that asks
 
@@ -259,7 +263,7 @@ takes_vote laws p w D x d v k seen grant calm asking member is free less =
     let below = voter_below laws p w D x d v calm asking member in
     ap (λ (z : ClientState). holds z v) t.here ∙ holds_set old.held (requester.take old m).state.held v grant besides (omega arith) (omega arith)
 
-keeps_mark : (laws : Laws) (p : Course) (w : WorldState) (D : ℕ → Type 0) (m v : ℕ) → Seeks w D m v → (g : Grant) → IsOf w D g → (s : Step) (x y : WorldState)
+keeps_mark : (laws : Laws) (p : Course) (w : WorldState) (D : ℕ → Type 0) (m v : ℕ) → Seeks p w D m v → (g : Grant) → IsOf w D g → (s : Step) (x y : WorldState)
     → With p w D (HasVote v g) x → With p w D (HasVote v g) y → MovedBy s x y → Told v (client_at x.clients g.client) g → Told v (client_at y.clients g.client) g
 keeps_mark laws p w D m v f g live s x y before after moved h =
     mark_goes laws p w D (Told v) v (Told-lasting v) s x y before.0 after.0 moved (voter_below laws p w D x m v before.0 f.asks f.member) g before.1 live h
@@ -273,8 +277,8 @@ live_member laws p w D x v g calm held live =
     let current = current_is (client_at x.clients d) g.stamp (asks_now p w D x d calm asking) (live.1 ∙ sym same.stamp) in
     ap (λ l. has l v) (sym (same.quorum (calm.asks d asking))) ∙ (calm.reached []).placed.places v d g.stamp (inl (g, held, refl, refl)) current
 
-pub told : (laws : Laws) (p : Course) (w : WorldState) (D : ℕ → Type 0) (m v : ℕ) → Seeks w D m v → (g : Grant) → IsOf w D g → (x z : WorldState)
-    → Reminded (With p w D (HasVote v g)) MovedBy p.deal x z (RemindVoter v) → Told v (client_at z.clients g.client) g
+pub told : (laws : Laws) (p : Course) (w : WorldState) (D : ℕ → Type 0) (m v : ℕ) → Seeks p w D m v → (g : Grant) → IsOf w D g → (x z : WorldState)
+    → Reminded (With p w D (HasVote v g)) MovedBy p.live p.deal x z (RemindVoter v) → Told v (client_at z.clients g.client) g
 told laws p w D m v f g live x z r =
     let deal = p.deal in
     let P = With p w D (HasVote v g) in
@@ -293,8 +297,8 @@ told laws p w D m v f g live x z r =
     let is : voter.reply y d (to_client.Locked g.stamp g.grant) ≡ msg = λ i. record { voter = id i; client = d; seen = y.seen; body = to_client.Locked (stamp i) g.grant } in
     let out = laws.voter.reminds y g held ∙ ap (λ (n : ToClient). n ∷ voter.inquiry_again y.inquiring y g) is in
     let sends = reminds_first deal u v msg (voter.inquiry_again y.inquiring y g) within out in
-    let heard = r.heard sends.place sends.least sends.less in
     let u1 = next deal u (RemindVoter v) in
+    let heard = r.heard sends.place sends.least (between_from p.live (slice_get u1.sent sends.place) msg sends.is (client_live p w D u d calm (live.0)) f.up) in
     let there = spot_before P MovedBy deal (λ q. slice_get q.sent sends.place ≡ Some (kinds.ToClient msg)) (sent_stays p w D (HasVote v g) sends.place (kinds.ToClient msg)) u1 z (Deliver sends.place) heard.spot
     sends.is in
     let x2 = heard.spot.before in
@@ -341,13 +345,13 @@ inquire_marks laws p w D x d v g t calm asking from below number is hold =
 abbrev pub AskedFor : ℕ → Grant → WorldState → Type 0
 AskedFor v g x = HasVote v g x × ((voter_at x.voters v).inquiring ≡ true)
 
-keeps_marked : (laws : Laws) (p : Course) (w : WorldState) (D : ℕ → Type 0) (m v : ℕ) → Seeks w D m v → (g : Grant) → IsOf w D g → (S : ClientState → Grant → Type 0) → IsLasting v S → (s : Step) (x y : WorldState)
+keeps_marked : (laws : Laws) (p : Course) (w : WorldState) (D : ℕ → Type 0) (m v : ℕ) → Seeks p w D m v → (g : Grant) → IsOf w D g → (S : ClientState → Grant → Type 0) → IsLasting v S → (s : Step) (x y : WorldState)
     → With p w D (AskedFor v g) x → With p w D (AskedFor v g) y → MovedBy s x y → S (client_at x.clients g.client) g → S (client_at y.clients g.client) g
 keeps_marked laws p w D m v f g live S lasting s x y before after moved h =
     mark_goes laws p w D S v lasting s x y before.0 after.0 moved (voter_below laws p w D x m v before.0 f.asks f.member) g before.1.0 live h
 
-pub asked : (laws : Laws) (p : Course) (w : WorldState) (D : ℕ → Type 0) (m v : ℕ) → Seeks w D m v → (g : Grant) → IsOf w D g → (x z : WorldState)
-    → Reminded (With p w D (AskedFor v g)) MovedBy p.deal x z (RemindVoter v) → Told v (client_at x.clients g.client) g → Marked v (client_at z.clients g.client) g
+pub asked : (laws : Laws) (p : Course) (w : WorldState) (D : ℕ → Type 0) (m v : ℕ) → Seeks p w D m v → (g : Grant) → IsOf w D g → (x z : WorldState)
+    → Reminded (With p w D (AskedFor v g)) MovedBy p.live p.deal x z (RemindVoter v) → Told v (client_at x.clients g.client) g → Marked v (client_at z.clients g.client) g
 asked laws p w D m v f g live x z r before =
     let deal = p.deal in
     let P = With p w D (AskedFor v g) in
@@ -373,7 +377,7 @@ asked laws p w D m v f g live x z r before =
           let is : voter.reply y d (to_client.Inquire g.grant) ≡ msg = λ i. record { voter = id i; client = d; seen = y.seen; body = to_client.Inquire g.grant } in
           let out = laws.voter.reminds y g held ∙ ap (λ b. first ∷ voter.inquiry_again b y g) spot.here.1.1 ∙ ap (λ (n : ToClient). first ∷ n ∷ []) is in
           let sends = reminds_second deal u v first msg [] within out in
-          let heard = r.heard sends.place sends.least sends.less in
+          let heard = r.heard sends.place sends.least (between_from p.live (slice_get u1.sent sends.place) msg sends.is (client_live p w D u d calm live.0) f.up) in
           let there = spot_before P MovedBy deal (λ q. slice_get q.sent sends.place ≡ Some (kinds.ToClient msg)) (sent_stays p w D (AskedFor v g) sends.place (kinds.ToClient msg)) u1 z
           (Deliver sends.place) heard.spot sends.is in
           let x2 = heard.spot.before in
@@ -452,10 +456,10 @@ fails_not laws p w D x d v u k seen asking below member here then is free =
     (ap (λ n. to_client.Fail n) (sym (here.0.same d asking).stamp)) in
     false≢true (sym (not_hindered laws p w D (next p.deal x (Deliver k)) d v below then) ∙ ap is_hindered t.here ∙ hindered)
 
--- after the reminder the client has the vote of each member
-gets_all : (laws : Laws) (p : Course) (w : WorldState) (D : ℕ → Type 0) (d v u : ℕ) → D d → v < 64 → is_member (client_at w.clients d) u ≡ true → (x z : WorldState)
-    → Reminded (With p w D (HasMarked d v)) MovedBy p.deal x z (RemindClient d) → holds (client_at z.clients d) u ≡ true
-gets_all laws p w D d v u asking below member x z r =
+-- after the reminder the client has the vote of each member that is live
+gets_all : (laws : Laws) (p : Course) (w : WorldState) (D : ℕ → Type 0) (d v u : ℕ) → D d → v < 64 → p.live.voter u ≡ true → is_member (client_at w.clients d) u ≡ true → (x z : WorldState)
+    → Reminded (With p w D (HasMarked d v)) MovedBy p.live p.deal x z (RemindClient d) → holds (client_at z.clients d) u ≡ true
+gets_all laws p w D d v u asking below up member x z r =
     let deal = p.deal in
     let P = With p w D (HasMarked d v) in
     let keep = keeps_vote laws p w D d v u asking below member in
@@ -463,12 +467,13 @@ gets_all laws p w D d v u asking below member x z r =
     let spot = r.spot in
     let x1 = spot.before in
     let u1 = next deal x1 (RemindClient d) in
+    let alive = client_live p w D x1 d spot.here.0 asking in
     elim (holds (client_at x1.clients d) u) as (λ b. holds (client_at x1.clients d) u ≡ b → holds (client_at z.clients d) u ≡ true) [
       | true ↦ λ hold. spot_through P MovedBy deal (λ q. holds (client_at q.clients d) u ≡ true) keep x z (RemindClient d) spot hold
       | false ↦ λ free.
           let sends = asks_for laws p w x1 d u (runs_on p w D d asking x1 spot.here.0) (spot.here.0.asks d asking) member free in
-          let heard = r.heard sends.place sends.least sends.less in
           let msg = request_to w d u in
+          let heard = r.heard sends.place sends.least (between_to p.live (slice_get u1.sent sends.place) msg sends.is alive up) in
           let there = spot_before P MovedBy deal (λ q. slice_get q.sent sends.place ≡ Some (kinds.ToVoter msg)) (sent_stays p w D (HasMarked d v) sends.place (kinds.ToVoter msg)) u1 z
           (Deliver sends.place) heard.spot sends.is in
           let x2 = heard.spot.before in
@@ -482,7 +487,7 @@ gets_all laws p w D d v u asking below member x z r =
                 let y = voter_at x2.voters u in
                 let within = voter_within laws p w D x2 d u calm asking member in
                 let low = voter_below laws p w D x2 d u calm asking member in
-                let t = voter_takes laws deal x2 sends.place msg ok (calm.left u within) there in
+                let t = voter_takes laws deal x2 sends.place msg ok (calm.left.grants u within up) there in
                 let pair = (calm.reached []).fits.pairs d u in
                 let now = (calm.same d asking).stamp in
                 let unfinished = subst (λ n. slice_index y.finished d < n) now (pair.unfinished.busy (is_asking-busy old.phase (asks_now p w D x2 d calm asking))) in
@@ -497,7 +502,7 @@ gets_all laws p w D d v u asking below member x z r =
                       let out : t.outcome.replies ≡ fail_to u d seen stamp ∷ [] = ap (λ (o : voter.Outcome). o.replies) again ∙ again_fails (voter.see y stamp) y.held h.0 d stamp h.1 other
                       ∙ ap (λ (n : ToClient). n ∷ []) is in
                       let says_it = replied deal x2 sends.place msg (fail_to u d seen stamp) t out in
-                      let comes = heard.replies says_it.place says_it.least says_it.less in
+                      let comes = heard.replies says_it.place says_it.least (between_from p.live (slice_get y2.sent says_it.place) (fail_to u d seen stamp) says_it.is alive up) in
                       let x3 = comes.before in
                       let got = spot_before P MovedBy deal (λ q. slice_get q.sent says_it.place ≡ Some (kinds.ToClient (fail_to u d seen stamp)))
                       (sent_stays p w D (HasMarked d v) says_it.place (kinds.ToClient (fail_to u d seen stamp))) y2 z (Deliver says_it.place) comes says_it.is in
@@ -513,7 +518,7 @@ gets_all laws p w D d v u asking below member x z r =
                       let out : t.outcome.replies ≡ msg2 ∷ [] = ap (λ (o : voter.Outcome). o.replies) again ∙ again_locks (voter.see y stamp) y.held h.0 d stamp h.1 own
                       ∙ ap (λ (k : ToClient). k ∷ []) is in
                       let says_it = replied deal x2 sends.place msg msg2 t out in
-                      let comes = heard.replies says_it.place says_it.least says_it.less in
+                      let comes = heard.replies says_it.place says_it.least (between_from p.live (slice_get y2.sent says_it.place) msg2 says_it.is alive up) in
                       let x3 = comes.before in
                       let got = spot_before P MovedBy deal (λ q. slice_get q.sent says_it.place ≡ Some (kinds.ToClient msg2)) (sent_stays p w D (HasMarked d v) says_it.place (kinds.ToClient msg2)) y2 z
                       (Deliver says_it.place) comes says_it.is in
@@ -538,13 +543,22 @@ gets_all laws p w D d v u asking below member x z r =
           ] (refl {a = holds (client_at x2.clients d) u})
     ] (refl {a = holds (client_at x1.clients d) u})
 
--- so it does not keep a marked vote for a round
-pub not_marked : (laws : Laws) (p : Course) (w : WorldState) (D : ℕ → Type 0) (d v : ℕ) → D d → v < 64 → (x z : WorldState) → Steady p w D z
-    → Reminded (With p w D (HasMarked d v)) MovedBy p.deal x z (RemindClient d) → ⊥
-not_marked laws p w D d v asking below x z calm r =
+-- so it does not keep a marked vote for a round: votes of voters that are down it has already
+pub not_marked : (laws : Laws) (p : Course) (w : WorldState) (D : ℕ → Type 0) (d v : ℕ) → D d → v < 64 → (x z : WorldState) → Steady p w D x → Steady p w D z → HoldsDown p x d
+    → Reminded (With p w D (HasMarked d v)) MovedBy p.live p.deal x z (RemindClient d) → ⊥
+not_marked laws p w D d v asking below x z first calm down r =
     let lacks = (calm.reached []).fits.lacks d (asks_now p w D z d calm asking) in
     false≢true (sym lacks ∙ all_hold (holds (client_at z.clients d)) (members (client_at z.clients d)) (λ u there.
-    gets_all laws p w D d v u asking below (ap (λ l. has l u) (sym ((calm.same d asking).quorum (calm.asks d asking))) ∙ there) x z r))
+    let member : is_member (client_at w.clients d) u ≡ true = ap (λ l. has l u) (sym ((calm.same d asking).quorum (calm.asks d asking))) ∙ there in
+    elim (p.live.voter u) as (λ b. p.live.voter u ≡ b → holds (client_at z.clients d) u ≡ true) [
+      | true ↦ λ up. gets_all laws p w D d v u asking below up member x z r
+      | false ↦ λ dead.
+          let P = With p w D (HasMarked d v) in
+          let keep = keeps_vote laws p w D d v u asking below member in
+          let K : WorldState → Type 0 = λ q. holds (client_at q.clients d) u ≡ true in
+          spot_through P MovedBy p.deal K keep x z (RemindClient d) r.spot
+          (spot_before P MovedBy p.deal K keep x z (RemindClient d) r.spot (down u (member_now p w D x d u first asking member) dead))
+    ] refl))
 
 -- ---- a vote that its client gave back
 
@@ -557,9 +571,9 @@ keeps_given : (laws : Laws) (p : Course) (w : WorldState) (D : ℕ → Type 0) (
 keeps_given laws p w D v below g live s x y before after moved h = mark_goes laws p w D (GivenBack v) v (GivenBack-lasting v) s x y before.0 after.0 moved below g before.1 live h
 
 -- the grant ends with the reminder of its client
-pub not_given_back : (laws : Laws) (p : Course) (w : WorldState) (D : ℕ → Type 0) (v : ℕ) → v < 64 → (g : Grant) → IsOf w D g → (x z : WorldState)
-    → Reminded (With p w D (HasVote v g)) MovedBy p.deal x z (RemindClient g.client) → GivenBack v (client_at x.clients g.client) g → ⊥
-not_given_back laws p w D v below g live x z r given =
+pub not_given_back : (laws : Laws) (p : Course) (w : WorldState) (D : ℕ → Type 0) (v : ℕ) → v < 64 → p.live.voter v ≡ true → (g : Grant) → IsOf w D g → (x z : WorldState)
+    → Reminded (With p w D (HasVote v g)) MovedBy p.live p.deal x z (RemindClient g.client) → GivenBack v (client_at x.clients g.client) g → ⊥
+not_given_back laws p w D v below up g live x z r given =
     let deal = p.deal in
     let P = With p w D (HasVote v g) in
     let d = g.client in
@@ -583,15 +597,15 @@ not_given_back laws p w D v below g live x z r given =
     let msg = relinquish_to d v g.grant in
     let is : requester.tell old v (asks.Relinquish (last_of old v)) ≡ msg = λ i. record { client = id i; voter = v; body = asks.Relinquish (last i) } in
     let sends = says deal x1 d msg within (subst (Contains (requester.remind old)) is there) in
-    let heard = r.heard sends.place sends.least sends.less in
     let u1 = next deal x1 (RemindClient d) in
+    let heard = r.heard sends.place sends.least (between_to p.live (slice_get u1.sent sends.place) msg sends.is (client_live p w D x1 d calm asking) up) in
     let got = spot_before P MovedBy deal (λ q. slice_get q.sent sends.place ≡ Some (kinds.ToVoter msg)) (sent_stays p w D (HasVote v g) sends.place (kinds.ToVoter msg)) u1 z
     (Deliver sends.place) heard.spot sends.is in
     let x2 = heard.spot.before in
     let calm2 = heard.spot.here.0 in
     let held2 = heard.spot.here.1 in
     let ok2 = steady_ok laws p w D x2 calm2 in
-    let t = voter_takes laws deal x2 sends.place msg ok2 (calm2.left v (voter_within laws p w D x2 d v calm2 asking member)) got in
+    let t = voter_takes laws deal x2 sends.place msg ok2 (calm2.left.grants v (voter_within laws p w D x2 d v calm2 asking member) up) got in
     let new = laws.voter.goes_on (voter_at x2.voters v) msg t.outcome g (ok2.voters v) held2 refl refl t.step in
     let after = (spot_after P MovedBy deal u1 z (Deliver sends.place) heard.spot).1 in
     let same = ap (λ (k : Grant). k.grant) (same_Some new.grant g (sym new.held ∙ ap (λ (q : VoterState). q.held) (sym t.here) ∙ after)) in

@@ -1,21 +1,43 @@
 -- what the laws on rounds rest on: what holds of a world, and of each that steps lead to from there
-use Rattle.std.proofs.Common.{ℕ, List, [], ◌∷◌, refl, sym, subst}
+use Rattle.std.proofs.Common.{◌≡◌, ℕ, ◌<◌, true, List, [], ◌∷◌, length, refl, sym, subst, Bool, false, ◌∙◌}
 use Rattle.world.specs.Coherence.{IsCoherent}
 use Rattle.world_state.specs.declared.step.Step.{Step}
 use Rattle.world.specs.Runs.{IsReached, after, run_of, start_by}
-use Rattle.world_state.specs.Steps.{Dealing, Planned, WorldState, dealing_of, step}
+use Rattle.world_state.specs.Steps.{Dealing, Planned, WorldState, dealing_of, step, voter_at, client_at}
+use Rattle.progress.specs.LiveRounds.{AreOut, HasGrantsThere, Live}
 use Rattle.progress.specs.Rules.{Laws}
 use Rattle.progress.proofs.Fitting.{Fits, Fits-moved, Fits-start}
 use Rattle.progress.proofs.Kept.{IsKept-reached}
 use Rattle.progress.proofs.Moves.{Moved, StaysCoherent, kept-by, with_state}
 use Rattle.progress.proofs.Outstanding.{Outstanding, Outstanding-moved, Outstanding-start}
 use Rattle.progress.proofs.Placed.{Placed, Placed-moved, Placed-start}
+use Rattle.std.proofs.lemmas.Bool.{false≢true}
+use Rattle.requester.specs.Words.{is_idle}
 
 -- How quorums are dealt, and for each voter a number below which its grants are old. Of an old
--- grant it is not known whether its voter remembers that it asked for it.
+-- grant it is not known whether its voter remembers that it asked for it. And who is live.
 pub record Course : Type 0 where
   pub deal : Dealing
   pub old : ℕ → ℕ
+  pub live : Live
+
+-- each live voter has a grant left, and who is not live is idle
+pub record Serves (p : Course) (x : WorldState) : Type 0 where
+  pub grants : (v : ℕ) → v < length x.voters → p.live.voter v ≡ true → (voter_at x.voters v).granted < (voter_at x.voters v).limit
+  pub out : (d : ℕ) → p.live.client d ≡ false → is_idle (client_at x.clients d).phase ≡ true
+
+-- each live voter has a grant left in the world z, and who is not live is idle from the world x to there
+pub record Serving (p : Course) (x z : WorldState) : Type 0 where
+  pub grants : HasGrantsThere p.live 1 z
+  pub out : AreOut p.live x z
+
+-- who is not idle is live
+pub live_by : (p : Course) (x : WorldState) (d : ℕ) → Serves p x → is_idle (client_at x.clients d).phase ≡ false → p.live.client d ≡ true
+live_by p x d serves busy = by (p.live.client d) refl
+  where
+    by : (b : Bool) → p.live.client d ≡ b → p.live.client d ≡ true
+    by true is = is
+    by false dead = absurd (false≢true (sym busy ∙ serves.out d dead))
 
 -- what each step keeps
 pub record Bears (p : Course) (u : WorldState) : Type 0 where
@@ -59,12 +81,12 @@ stays_coherent p u r = λ steps. (r steps).coherent
 -- ---- worlds that are reached
 
 -- no grant is old
-abbrev pub course_of : Planned → Course
-course_of w = record { deal = dealing_of w.plans; old = λ v. 0 }
+abbrev pub course_of : Live → Planned → Course
+course_of live w = record { deal = dealing_of w.plans; old = λ v. 0; live = live }
 
-pub IsSure-reached : (laws : Laws) (w : Planned) → IsReached w → IsSure (course_of w) w.state
-IsSure-reached laws w r =
-    let p = course_of w in
+pub IsSure-reached : (laws : Laws) (live : Live) (w : Planned) → IsReached w → IsSure (course_of live w) w.state
+IsSure-reached laws live w r =
+    let p = course_of live w in
     let first = start_by w.plans r.clients r.limit in
     let begin : IsReached (with_state w first) = record { plans = r.plans; clients = r.clients; limit = r.limit; limits = r.limits; steps = []; state = refl } in
     let kept = IsKept-reached laws (with_state w first) begin in

@@ -1,5 +1,5 @@
 -- stretches in which no request with a stamp up to a bound begins or ends; requests with higher stamps come and go
-use Rattle.std.proofs.Common.{◌≡◌, ℕ, ◌+◌, ◌<◌, ◌≤◌, Bool, true, false, List, [], ◌∷◌, ◌++◌, map, length, Ok, refl, sym, ap, subst, ◌∙◌, ◌⊎◌, inl, inr, arith, append_assoc}
+use Rattle.std.proofs.Common.{◌≡◌, ℕ, ◌+◌, ◌<◌, ◌≤◌, Bool, true, false, List, [], ◌∷◌, ◌++◌, map, Ok, refl, sym, ap, subst, ◌∙◌, ◌⊎◌, inl, inr, arith, append_assoc}
 use Rattle.std.specs.Prelude.{◌&&◌, nat_le}
 use Rattle.std.specs.List.{AllByRecursion, Contains}
 use Rattle.std.proofs.lemmas.Bool.{cases_lt, false≢true}
@@ -20,9 +20,8 @@ use Rattle.world.specs.Coherence.{IsCoherent}
 use Rattle.world_state.specs.declared.step.Step.{Step}
 use Rattle.world_state.specs.declared.step.Step.TheVariants.{Leave}
 use Rattle.world.specs.Runs.{run_of}
-use Rattle.world_state.specs.Steps.{Dealing, WorldState, client_at, voter_at}
+use Rattle.world_state.specs.Steps.{Dealing, WorldState, client_at}
 use Rattle.progress.specs.Rules.{Laws}
-use Rattle.world.specs.WayIn.{HasGrants}
 use Rattle.progress.proofs.Along.{Along, along-first, along-kept, next, spot_end, spot_in, spot_through}
 use Rattle.progress.proofs.Behind.{ask-Ok}
 use Rattle.progress.proofs.Fitting.{take-Ok}
@@ -32,8 +31,8 @@ use Rattle.progress.proofs.Longer.{Grows, Grows-moved}
 use Rattle.progress.proofs.Moves.{ClientMoved, IsReminder, Moved, Moved-by, MovedBy, MovedBy-step, all_sent}
 use Rattle.progress.proofs.Outstanding.{step-GivesUp, step-Leaves}
 use Rattle.progress.proofs.Placed.{NoAsk, NoAsks, no-take}
-use Rattle.progress.proofs.Lasting.{Lasts-moved, SameAsk, left_before, no_asks_to, reminds_asking}
-use Rattle.progress.proofs.Sure.{Course, IsSure, IsSure-after}
+use Rattle.progress.proofs.Lasting.{Lasts-moved, SameAsk, left_before, no_asks_to, reminds_asking, serving_both}
+use Rattle.progress.proofs.Sure.{Course, IsSure, IsSure-after, Serves, Serving}
 use Rattle.progress.proofs.Turns.{idle_not_asking, no_turn, stamp_stays, turn}
 
 -- ---- requests up to a stamp
@@ -88,7 +87,7 @@ pub record Sends (w : WorldState) (s : ℕ) (x : WorldState) : Type 0 where
 -- The clients that asked under a stamp up to s do so, as before, and no others. Each voter has a grant left.
 pub record Tame (p : Course) (w : WorldState) (s : ℕ) (x : WorldState) : Type 0 where
   pub reached : IsSure p x
-  pub left : (v : ℕ) → v < length x.voters → (voter_at x.voters v).granted < (voter_at x.voters v).limit
+  pub left : Serves p x
   pub grows : Grows w x
   pub ahead : (d : ℕ) → asks_up_to s x d ≡ asks_up_to s w d
   pub same : (d : ℕ) → asks_up_to s w d ≡ true → SameAsk (client_at w.clients d) (client_at x.clients d)
@@ -178,7 +177,7 @@ step_sends laws p w s x y before ahead same moved =
 
 -- ---- all along
 
-tame_next : (laws : Laws) (p : Course) (w : WorldState) (s : ℕ) (t : Step) (x y : WorldState) → Tame p w s x → IsSure p y → ((v : ℕ) → v < length y.voters → (voter_at y.voters v).granted < (voter_at y.voters v).limit)
+tame_next : (laws : Laws) (p : Course) (w : WorldState) (s : ℕ) (t : Step) (x y : WorldState) → Tame p w s x → IsSure p y → (Serves p y)
     → MovedBy t x y → ((d : ℕ) → turn (asks_up_to s x d) (asks_up_to s y d) ≡ 0) → Tame p w s y
 tame_next laws p w s t x y before reached left moved none =
     let ahead : (d : ℕ) → asks_up_to s y d ≡ asks_up_to s w d = λ d. no_turn (asks_up_to s x d) (asks_up_to s y d) (none d) ∙ before.ahead d in
@@ -205,7 +204,7 @@ tame_next laws p w s t x y before reached left moved none =
       sends = step_sends laws p w s x y before ahead same (Moved-by t x y moved);
     }
 
-pub tame_from : (laws : Laws) (p : Course) (w : WorldState) (s : ℕ) (steps : List Step) (x : WorldState) → Tame p w s x → HasGrants 1 (run_of p.deal steps x) → ((d : ℕ) → turns_up_to p.deal s d steps x ≡ 0)
+pub tame_from : (laws : Laws) (p : Course) (w : WorldState) (s : ℕ) (steps : List Step) (x : WorldState) → Tame p w s x → Serving p x (run_of p.deal steps x) → ((d : ℕ) → turns_up_to p.deal s d steps x ≡ 0)
     → Along (Tame p w s) MovedBy p.deal steps x
 tame_from laws p w s [] x here left none = here
 tame_from laws p w s (t ∷ steps) x here left none =
@@ -216,9 +215,10 @@ tame_from laws p w s (t ∷ steps) x here left none =
     let by = MovedBy-step deal x ok.numbered t in
     let first : (d : ℕ) → turn (asks_up_to s x d) (asks_up_to s y d) ≡ 0 = λ d. (let all = none d in omega arith) in
     let rest : (d : ℕ) → turns_up_to deal s d steps y ≡ 0 = λ d. (let all = none d in omega arith) in
-    (here, by, tame_from laws p w s steps y (tame_next laws p w s t x y here reached (left_before laws p steps y reached left) by first) left rest)
+    let later = (serving_both laws p (t ∷ []) steps x here.reached left).1 in
+    (here, by, tame_from laws p w s steps y (tame_next laws p w s t x y here reached (left_before laws p steps y reached later) by first) later rest)
 
-pub tame_along : (laws : Laws) (p : Course) (w : WorldState) (s : ℕ) (steps : List Step) → IsSure p w → HasGrants 1 (run_of p.deal steps w) → ((d : ℕ) → turns_up_to p.deal s d steps w ≡ 0)
+pub tame_along : (laws : Laws) (p : Course) (w : WorldState) (s : ℕ) (steps : List Step) → IsSure p w → Serving p w (run_of p.deal steps w) → ((d : ℕ) → turns_up_to p.deal s d steps w ≡ 0)
     → Along (Tame p w s) MovedBy p.deal steps w
 tame_along laws p w s steps r left none = tame_from laws p w s steps w (record {
   reached = r;

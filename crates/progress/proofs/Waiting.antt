@@ -1,16 +1,12 @@
 -- after so many fair rounds somebody has entered
-use Rattle.std.proofs.Common.{◌≡◌, ◌≢◌, ℕ, zero, suc, ◌+◌, ◌*◌, ◌<◌, ◌≤◌, Bool, true, false, List, [], ◌∷◌, ◌++◌, length, Option, Some, None, refl, sym, ap, subst, ◌∙◌, ◌⊎◌, inl, inr, arith, append_assoc}
-use Rattle.std.specs.Prelude.{if◌then◌else◌, nat_lt, slice_get, nat_le, ◌&&◌}
+use Rattle.std.proofs.Common.{◌≡◌, ℕ, zero, suc, ◌+◌, ◌*◌, ◌<◌, ◌≤◌, Bool, true, false, List, [], ◌∷◌, ◌++◌, length, refl, sym, ap, subst, ◌∙◌, ◌⊎◌, inl, inr, arith, append_assoc}
+use Rattle.std.specs.Prelude.{nat_le, ◌&&◌, if◌then◌else◌}
 use Rattle.std.proofs.Math.Nat.{mul_comm, suc-mul}
 use Rattle.std.proofs.lemmas.Bool.{cases_eq, cases_lt, false≢true}
-use Rattle.std.proofs.lemmas.Bool.Decides.{nat_tests}
 use Rattle.std.proofs.lemmas.List.{append_cancel_left, get_or_past}
 use Rattle.numbers.specs.Sets.{has}
 use Rattle.numbers.specs.Sums.{sum_below}
-use Rattle.numbers.proofs.SumsBelow.{sum_below-add, sum_below-le, sum_below-one, sum_below-times, sum_below-same, sum_below-zero}
-use Rattle.message.specs.declared.message.Message.{Message}
-use Rattle.message.specs.declared.message.Message.TheVariants as kinds
-use Rattle.message.specs.declared.message.VoterBody.{VoterBody}
+use Rattle.numbers.proofs.SumsBelow.{sum_below-add, sum_below-le, sum_below-times, sum_below-same, sum_below-zero}
 use Rattle.message.specs.declared.message.VoterBody.TheVariants as asks
 use Rattle.requester.specs.declared.state.ClientState.{ClientState}
 use Rattle.requester.specs.Steps as requester
@@ -19,15 +15,15 @@ use Rattle.requester.proofs.SoundSteps.{is_asking-busy}
 use Rattle.voter.specs.VoterContract.{IsEntry}
 use Rattle.world_state.specs.declared.step.Event.{Event}
 use Rattle.world_state.specs.declared.step.Step.{Step}
-use Rattle.world_state.specs.declared.step.Step.TheVariants.{Ask, Deliver, Leave, GiveUp, RemindClient, RemindVoter, Exchange}
 use Rattle.world.specs.Runs.{IsReached, run_of}
 use Rattle.world_state.specs.Steps.{Dealing, Planned, WorldState, client_at, dealing_of, voter_at}
 use Rattle.world.proofs.Plans.{run_then}
+use Rattle.progress.specs.LiveRounds.{AreLiveRounds, IsLiveRound, Live, live_below}
 use Rattle.progress.specs.Overtaking.{IsKnownEverywhere, StillRuns}
 use Rattle.world.specs.Visible.{entries_of}
-use Rattle.progress.specs.Rounds.{AreFairRounds, DoesNotGiveUp, IsFairRound, IsStill, give_ups_in, late_body, late_in, late_message, late_step, late_steps, steps_of}
+use Rattle.progress.specs.Rounds.{DoesNotGiveUp, IsStill, give_ups_in, late_in, steps_of}
 use Rattle.progress.specs.Rules.{Laws}
-use Rattle.world.specs.WayIn.{Asks, HasGrants}
+use Rattle.world.specs.WayIn.{Asks}
 use Rattle.world.specs.Waiting.{block}
 use Rattle.progress.proofs.Along.{Along, along-last, next}
 use Rattle.progress.proofs.Always.{Heeds, heeds}
@@ -37,71 +33,12 @@ use Rattle.progress.proofs.Known.{asks_within, known_after}
 use Rattle.progress.proofs.Longer.{Grows-moved, Grows-run}
 use Rattle.progress.proofs.Moves.{Moved-by, MovedBy, MovedBy-step, kept-by}
 use Rattle.progress.proofs.Olds.{AreOld, keeps_olds, no_olds, olds_fall, olds_of}
+use Rattle.progress.proofs.Parts.{late-more, late-split, live-split, split_rounds, steps-append}
 use Rattle.progress.proofs.Placed.{Heeds-moved}
-use Rattle.progress.proofs.Lasting.{Goes-run, Lasts-moved, Lasts-run, RunsOn, SameAsk, left_before, same_between}
-use Rattle.progress.proofs.Sure.{Course, IsSure, IsSure-after, IsSure-reached, IsSure-run, course_of, stays_coherent}
+use Rattle.progress.proofs.Lasting.{Goes-run, Lasts-moved, Lasts-run, RunsOn, SameAsk, left_before, same_between, serving_both}
+use Rattle.progress.proofs.Sure.{Course, IsSure, IsSure-after, IsSure-reached, IsSure-run, Serves, Serving, course_of, live_by, stays_coherent}
 use Rattle.progress.proofs.Tame.{asks_up_to, turns_up_to, turns_up_to-append}
-use Rattle.progress.proofs.Turns.{all_give_ups, asks_at, gives_up_never, no_turn, none_turned, one_if, own_give_ups, own_give_ups-append, shown, stamp_stays, sum_has, turn, turn_same, turns, turns-append, turns_most}
-
--- ---- rounds in two parts
-
-pub steps-append : (a b : List (List Step)) → steps_of (a ++ b) ≡ steps_of a ++ steps_of b
-steps-append [] b = refl
-steps-append (r ∷ a) b = ap (λ l. r ++ l) (steps-append a b) ∙ sym (append_assoc r (steps_of a) (steps_of b))
-
-pub fair-split : (deal : Dealing) (a b : List (List Step)) (x : WorldState) → AreFairRounds deal x (a ++ b) → AreFairRounds deal x a × AreFairRounds deal (run_of deal (steps_of a) x) b
-fair-split deal [] b x h = (tt, h)
-fair-split deal (r ∷ a) b x h =
-    let rest = fair-split deal a b (run_of deal r x) h.1 in
-    ((h.0, rest.0), subst (λ (u : WorldState). AreFairRounds deal u b) (sym (run_then deal r (steps_of a) x)) rest.1)
-
-pub late-split : (deal : Dealing) (old : ℕ) (a b : List (List Step)) (x : WorldState)
-    → (later : ℕ) × (late_in deal old x (a ++ b) ≡ late_in deal old x a + late_in deal later (run_of deal (steps_of a) x) b)
-late-split deal old [] b x = (old, omega arith)
-late-split deal old (r ∷ a) b x =
-    let rest = late-split deal (length x.sent) a b (run_of deal r x) in (
-      rest.0,
-      (let same = ap (λ (u : WorldState). late_in deal rest.0 u b) (run_then deal r (steps_of a) x) in let both = rest.1 in omega arith),
-    )
-
-none_if : (b : Bool) → b ≡ false → ◌≡◌ {A = ℕ} (if b then 1 else 0) 0
-none_if true e = absurd (false≢true (sym e))
-none_if false e = refl
-
-none_late_body : (k : ℕ) (b : VoterBody) → late_body 0 k b ≡ 0
-none_late_body k (asks.Request t) = none_if (nat_lt k 0) (grind (arith, nat_tests))
-none_late_body k (asks.Relinquish n) = refl
-none_late_body k (asks.Release t) = refl
-
-none_late_message : (k : ℕ) (o : Option Message) → late_message 0 k o ≡ 0
-none_late_message k None = refl
-none_late_message k (Some (kinds.ToVoter m)) = none_late_body k m.body
-none_late_message k (Some (kinds.ToClient m)) = refl
-
-none_late_step : (sent : List Message) (s : Step) → late_step 0 sent s ≡ 0
-none_late_step sent (Ask c) = refl
-none_late_step sent (Deliver k) = none_late_message k (slice_get sent k)
-none_late_step sent (Leave c) = refl
-none_late_step sent (GiveUp c) = refl
-none_late_step sent (RemindClient c) = refl
-none_late_step sent (RemindVoter v) = refl
-none_late_step sent Exchange = refl
-
--- in the first round no REQUEST is late
-pub none_late : (sent : List Message) (steps : List Step) → late_steps 0 sent steps ≡ 0
-none_late sent [] = refl
-none_late sent (s ∷ steps) = (let here = none_late_step sent s in let rest = none_late sent steps in omega arith)
-
-pub late-more : (deal : Dealing) (old : ℕ) (rounds : List (List Step)) (x : WorldState) → late_in deal 0 x rounds ≤ late_in deal old x rounds
-late-more deal old [] x = omega arith
-late-more deal old (r ∷ rs) x = (let none = none_late x.sent r in omega arith)
-
-pub split_rounds : (m : ℕ) (rounds : List (List Step)) → m ≤ length rounds → (a : List (List Step)) × (b : List (List Step)) × (rounds ≡ a ++ b) × (length a ≡ m) × (length rounds ≡ m + length b)
-split_rounds zero rounds most = ([], rounds, refl, refl, omega arith)
-split_rounds (suc m) [] most = absurd (omega arith)
-split_rounds (suc m) (r ∷ rs) most =
-    let rest = split_rounds m rs (omega arith) in
-    (r ∷ rest.0, rest.1, ap (λ l. r ∷ l) rest.2, (let count = rest.3 in omega arith), (let count = rest.4 in omega arith))
+use Rattle.progress.proofs.Turns.{all_give_ups, asks_at, gives_up_never, idle_not_asking, no_turn, none_turned, one_if, own_give_ups, own_give_ups-append, shown, stamp_stays, sum_has, turn, turn_same, turns, turns-append, turns_most}
 
 -- ---- turns up to a stamp
 
@@ -189,7 +126,7 @@ pub record Waits (p : Course) (c n m s : ℕ) (x : WorldState) : Type 0 where
 -- k blocks of rounds, in which the client c asks on, have k turns of clients under stamps up to its own, late
 -- REQUESTs or old grants that are given back
 abbrev pub HasTurns : Course → ℕ → ℕ → ℕ → ℕ → ℕ → WorldState → ℕ → List (List Step) → Type 0
-HasTurns p c n m s k x old rounds = AreFairRounds p.deal x rounds → HasGrants 1 (run_of p.deal (steps_of rounds) x) → turns p.deal c (steps_of rounds) x ≡ 0
+HasTurns p c n m s k x old rounds = AreLiveRounds p.live p.deal x rounds → Serving p x (run_of p.deal (steps_of rounds) x) → turns p.deal c (steps_of rounds) x ≡ 0
     → k + olds_of p m (run_of p.deal (steps_of rounds) x) ≤ all_up_to p.deal s n (steps_of rounds) x + late_in p.deal old x rounds + olds_of p m x
 
 one_block : (laws : Laws) (p : Course) (c n m s k : ℕ) (a b : List (List Step)) (x : WorldState) (old : ℕ) → Waits p c n m s x → length a ≡ block n
@@ -206,9 +143,10 @@ one_block laws p c n m s k a b x old waits long then_rest fair left stays =
     let own_first : turns deal c (steps_of a) x ≡ 0 = omega arith in
     let own_rest : turns deal c (steps_of b) y ≡ 0 = omega arith in
     let on = none_turned laws p c (steps_of a) x r own_first in
-    let parts = fair-split deal a b x fair in
+    let parts = live-split p.live deal a b x fair in
     let late = late-split deal old a b x in
-    let left_b = subst (λ (u : WorldState). HasGrants 1 u) goes left in
+    let serves = serving_both laws p (steps_of a) (steps_of b) x r (subst (λ l. Serving p x (run_of deal l x)) both left) in
+    let left_b = serves.1 in
     let grows = Grows-run laws p (steps_of a) x r in
     let go = Goes-run laws p (steps_of a) x waits.few r in
     let few_y : AreOld p y = λ v. (let most = waits.few v in let rises = (go.outlasts v).granted in omega arith) in
@@ -226,13 +164,12 @@ one_block laws p c n m s k a b x old waits long then_rest fair left stays =
         | inr no_turns ↦ elim (cases_lt (olds_of p m y) (olds_of p m x)) [
           | inl fell ↦ omega arith
           | inr kept ↦
-              let left_y : HasGrants 1 y = λ v within. (let lt = left_before laws p (steps_of b) y ry left_b v within in omega arith) in
               let still : (d : ℕ) → turns_up_to deal (client_at x.clients c).stamp d (steps_of a) x ≡ 0 = λ d. subst (λ i. turns_up_to deal i d (steps_of a) x ≡ 0) (sym waits.stamp) (elim (cases_lt d n) [
                 | inl within ↦ none_of_sum deal s n d (steps_of a) x within (omega arith)
                 | inr beyond ↦ none_beyond laws p s d (steps_of a) x r (omega arith)
               ]) in
-              absurd (block_moves laws p x c a r (record { client = asks_within x c waits.asks; asks = waits.asks }) parts.0 (omega arith) left_y
-              (subst (λ i. block i ≤ length a) (sym count) (omega arith)) waits.few (keeps_olds p m x y go waits.voters kept) still)
+              absurd (block_moves laws p x c a r (record { client = asks_within x c waits.asks; asks = waits.asks }) waits.few (subst (λ i. block i ≤ length a) (sym count) (omega arith))
+              parts.0 (omega arith) serves.0 (keeps_olds p m x y go waits.voters kept) still)
         ]
       ]
     ]
@@ -266,8 +203,8 @@ still_turns laws p d (t ∷ steps) x r stamp asks =
     omega arith
 
 -- in more blocks than there are old grants somebody asks, enters or gives up
-pub moves_by : (laws : Laws) (p : Course) (w : WorldState) (c k : ℕ) (rounds : List (List Step)) → AreOld p w → IsSure p w → Asks w c → AreFairRounds p.deal w rounds → late_in p.deal 0 w rounds ≡ 0
-    → HasGrants 1 (run_of p.deal (steps_of rounds) w) → olds_of p (length w.voters) w < k → k * block (length w.clients) ≤ length rounds → IsStill w (run_of p.deal (steps_of rounds) w) → ⊥
+pub moves_by : (laws : Laws) (p : Course) (w : WorldState) (c k : ℕ) (rounds : List (List Step)) → AreOld p w → IsSure p w → Asks w c → AreLiveRounds p.live p.deal w rounds → late_in p.deal 0 w rounds ≡ 0
+    → Serving p w (run_of p.deal (steps_of rounds) w) → olds_of p (length w.voters) w < k → k * block (length w.clients) ≤ length rounds → IsStill w (run_of p.deal (steps_of rounds) w) → ⊥
 unfolding all_up_to
 moves_by laws p w c k rounds few r asks fair late left enough long still =
     let n = length w.clients in
@@ -279,13 +216,13 @@ moves_by laws p w c k rounds few r asks fair late left enough long still =
     let zeros = sum_below-zero n in
     omega arith
 
-pub nothing_stands_still : Laws → (w : Planned) (c : ℕ) (rounds : List (List Step)) → IsReached w → Asks w.state c → AreFairRounds (dealing_of w.plans) w.state rounds
-    → late_in (dealing_of w.plans) 0 w.state rounds ≡ 0 → HasGrants 1 (run_of (dealing_of w.plans) (steps_of rounds) w.state) → block (length w.state.clients) ≤ length rounds
+pub live_move : Laws → (live : Live) (w : Planned) (c : ℕ) (rounds : List (List Step)) → IsReached w → Asks w.state c → AreLiveRounds live (dealing_of w.plans) w.state rounds
+    → late_in (dealing_of w.plans) 0 w.state rounds ≡ 0 → Serving (course_of live w) w.state (run_of (dealing_of w.plans) (steps_of rounds) w.state) → block (length w.state.clients) ≤ length rounds
     → IsStill w.state (run_of (dealing_of w.plans) (steps_of rounds) w.state) → ⊥
-nothing_stands_still laws w c rounds reached asks fair late left long still =
-    let p = course_of w in
+live_move laws live w c rounds reached asks fair late left long still =
+    let p = course_of live w in
     let none = no_olds p (length w.state.voters) w.state (λ v. refl) in
-    moves_by laws p w.state c 1 rounds (λ v. omega arith) (IsSure-reached laws w reached) asks fair late left (omega arith) (omega arith) still
+    moves_by laws p w.state c 1 rounds (λ v. omega arith) (IsSure-reached laws live w reached) asks fair late left (omega arith) (omega arith) still
 
 -- ---- somebody enters
 
@@ -310,16 +247,41 @@ pub one_most : (b : Bool) → one_if b ≤ 1
 one_most true = omega arith
 one_most false = omega arith
 
--- how often all clients turn, if client d enters at most e d times
-turns_by : (laws : Laws) (p : Course) (n s : ℕ) (steps : List Step) (x : WorldState) (more : List Event) (h : ℕ → ℕ) → IsSure p x → (run_of p.deal steps x).visible ≡ x.visible ++ more
-    → ((d : ℕ) → d < n → 2 * entries_of d more + one_if (asks_at (run_of p.deal steps x) d) ≤ h d)
-    → all_up_to p.deal s n steps x + sum_below (λ d. one_if (asks_at x d)) n ≤ sum_below h n + 2 * give_ups_in steps
+-- who is not live does not turn
+pub out_turns : (laws : Laws) (p : Course) (d : ℕ) (steps : List Step) (x : WorldState) → IsSure p x → Serving p x (run_of p.deal steps x) → p.live.client d ≡ false → turns p.deal d steps x ≡ 0
+out_turns laws p d steps x r serving dead =
+    let out = serving.out d dead in
+    still_turns laws p d steps x r out.1 (λ asks. absurd (false≢true (sym (idle_not_asking (client_at x.clients d).phase out.0) ∙ asks)))
+
+-- a client that asks is live
+pub some_live : (p : Course) (x : WorldState) (c : ℕ) → Asks x c → Serves p x → 1 ≤ live_below p.live (length x.clients)
+some_live p x c asks serves =
+    let one : ◌≡◌ {A = ℕ} (if p.live.client c then 1 else 0) 1 = ap (λ b. if b then 1 else 0) (live_by p x c serves (is_asking-busy (client_at x.clients c).phase asks.asks)) in
+    let some = sum_has (length x.clients) c (λ d. if p.live.client d then 1 else 0) asks.client in
+    omega arith
+
+-- how often all clients turn, if none enters
+turns_by : (laws : Laws) (p : Course) (n s : ℕ) (steps : List Step) (x : WorldState) (more : List Event) → IsSure p x → Serving p x (run_of p.deal steps x) → (run_of p.deal steps x).visible ≡ x.visible ++ more
+    → ((d : ℕ) → d < n → entries_of d more ≡ 0) → all_up_to p.deal s n steps x + sum_below (λ d. one_if (asks_at x d)) n ≤ live_below p.live n + 2 * give_ups_in steps
 unfolding all_up_to
-turns_by laws p n s steps x more h r visible most =
+turns_by laws p n s steps x more r serving visible none =
     let deal = p.deal in
     let z = run_of deal steps x in
-    let each : (d : ℕ) → d < n → turns_up_to deal s d steps x + one_if (asks_at x d) ≤ h d + 2 * own_give_ups d steps =
-    λ d less. (let few = up_to_most laws p s d steps x r in let a = turns_most laws p steps x more r visible d in let b = most d less in omega arith) in
+    let h : ℕ → ℕ = λ d. if p.live.client d then 1 else 0 in
+    let each : (d : ℕ) → d < n → turns_up_to deal s d steps x + one_if (asks_at x d) ≤ h d + 2 * own_give_ups d steps = λ d less.
+    let few = up_to_most laws p s d steps x r in
+    elim (p.live.client d) as (λ b. p.live.client d ≡ b → turns_up_to deal s d steps x + one_if (asks_at x d) ≤ h d + 2 * own_give_ups d steps) [
+      | true ↦ λ alive.
+          let one : h d ≡ 1 = ap (λ b. if b then 1 else 0) alive in
+          let a = turns_most laws p steps x more r visible d in
+          let b = none d less in
+          let last = one_most (asks_at z d) in
+          omega arith
+      | false ↦ λ dead.
+          let zero_turns = out_turns laws p d steps x r serving dead in
+          let idle : one_if (asks_at x d) ≡ 0 = ap one_if (idle_not_asking (client_at x.clients d).phase (serving.out d dead).0) in
+          omega arith
+    ] refl in
     let all = sum_below-le n (λ d. turns_up_to deal s d steps x + one_if (asks_at x d)) (λ d. h d + 2 * own_give_ups d steps) each in
     let left_sum = sum_below-add n (λ d. turns_up_to deal s d steps x) (λ d. one_if (asks_at x d)) in
     let right_sum = sum_below-add n h (λ d. 2 * own_give_ups d steps) in
@@ -328,9 +290,9 @@ turns_by laws p n s steps x more h r visible most =
     omega arith
 
 -- t blocks are enough
-pub somebody_by : (laws : Laws) (p : Course) (w : WorldState) (c t : ℕ) (rounds : List (List Step)) (more : List Event) → AreOld p w → IsSure p w → Asks w c → AreFairRounds p.deal w rounds
-    → DoesNotGiveUp c (steps_of rounds) → HasGrants 1 (run_of p.deal (steps_of rounds) w)
-    → length w.clients + 2 * give_ups_in (steps_of rounds) + late_in p.deal 0 w rounds + olds_of p (length w.voters) w ≤ t → block (length w.clients) * t ≤ length rounds
+pub somebody_by : (laws : Laws) (p : Course) (w : WorldState) (c t : ℕ) (rounds : List (List Step)) (more : List Event) → AreOld p w → IsSure p w → Asks w c → AreLiveRounds p.live p.deal w rounds
+    → DoesNotGiveUp c (steps_of rounds) → Serving p w (run_of p.deal (steps_of rounds) w)
+    → live_below p.live (length w.clients) + 2 * give_ups_in (steps_of rounds) + late_in p.deal 0 w rounds + olds_of p (length w.voters) w ≤ t → block (length w.clients) * t ≤ length rounds
     → (run_of p.deal (steps_of rounds) w).visible ≡ w.visible ++ more → (d : ℕ) × (1 ≤ entries_of d more)
 somebody_by laws p w c t rounds more few r asks fair stays left enough long visible =
     let deal = p.deal in
@@ -344,29 +306,27 @@ somebody_by laws p w c t rounds more few r asks fair stays left enough long visi
           let on = asks_on laws p c (steps_of rounds) w more r visible (none c asks.client) (gives_up_never c (steps_of rounds) stays) asks.asks in
           let turned = blocks_turn laws p c n m s t rounds w 0 (record { clients = refl; voters = refl; few = few; sure = r; asks = asks.asks; stamp = refl })
           (product_of (block n) t (length rounds) long) fair left on.1 in
-          let most = turns_by laws p n s (steps_of rounds) w more (λ d. 1) r visible
-          (λ d less. (let zero_entries = none d less in let one = one_most (asks_at z d) in omega arith)) in
-          let ones = sum_below-one n in
+          let most = turns_by laws p n s (steps_of rounds) w more r left visible none in
           let some = sum_has n c (λ d. one_if (asks_at w d)) asks.client in
           let asked : one_if (asks_at w c) ≡ 1 = ap one_if asks.asks in
           absurd (omega arith)
     ]
 
-pub somebody_enters : Laws → (w : Planned) (c : ℕ) (rounds : List (List Step)) (more : List Event) → IsReached w → Asks w.state c → AreFairRounds (dealing_of w.plans) w.state rounds
-    → DoesNotGiveUp c (steps_of rounds) → HasGrants 1 (run_of (dealing_of w.plans) (steps_of rounds) w.state)
-    → block (length w.state.clients) * (length w.state.clients + 2 * give_ups_in (steps_of rounds) + late_in (dealing_of w.plans) 0 w.state rounds) ≤ length rounds
+pub live_somebody : Laws → (live : Live) (w : Planned) (c : ℕ) (rounds : List (List Step)) (more : List Event) → IsReached w → Asks w.state c → AreLiveRounds live (dealing_of w.plans) w.state rounds
+    → DoesNotGiveUp c (steps_of rounds) → Serving (course_of live w) w.state (run_of (dealing_of w.plans) (steps_of rounds) w.state)
+    → block (length w.state.clients) * (live_below live (length w.state.clients) + 2 * give_ups_in (steps_of rounds) + late_in (dealing_of w.plans) 0 w.state rounds) ≤ length rounds
     → (run_of (dealing_of w.plans) (steps_of rounds) w.state).visible ≡ w.state.visible ++ more → (d : ℕ) × (1 ≤ entries_of d more)
-somebody_enters laws w c rounds more r asks fair stays left long visible =
-    let p = course_of w in
+live_somebody laws live w c rounds more r asks fair stays left long visible =
+    let p = course_of live w in
     let none = no_olds p (length w.state.voters) w.state (λ v. refl) in
-    somebody_by laws p w.state c (length w.state.clients + 2 * give_ups_in (steps_of rounds) + late_in (dealing_of w.plans) 0 w.state rounds) rounds more (λ v. omega arith) (IsSure-reached laws w r) asks fair stays left
+    somebody_by laws p w.state c (live_below live (length w.state.clients) + 2 * give_ups_in (steps_of rounds) + late_in (dealing_of w.plans) 0 w.state rounds) rounds more (λ v. omega arith) (IsSure-reached laws live w r) asks fair stays left
     (omega arith) long visible
 
 -- ---- whoever asked enters
 
 -- the request of the client runs on, all along
 pub runs_along : (laws : Laws) (p : Course) (w : WorldState) (c : ℕ) (steps : List Step) (x : WorldState) → IsSure p x → SameAsk (client_at w.clients c) (client_at x.clients c)
-    → is_asking (client_at w.clients c).phase ≡ true → turns p.deal c steps x ≡ 0 → HasGrants 1 (run_of p.deal steps x)
+    → is_asking (client_at w.clients c).phase ≡ true → turns p.deal c steps x ≡ 0 → Serving p x (run_of p.deal steps x)
     → Along (RunsOn p w c) MovedBy p.deal steps x
 runs_along laws p w c [] x r same asking none left = record { reached = r; same = same; left = left_before laws p [] x r left }
 runs_along laws p w c (s ∷ steps) x r same asking none left =
@@ -385,7 +345,7 @@ runs_along laws p w c (s ∷ steps) x r same asking none left =
     } in (
       record { reached = r; same = same; left = left_before laws p (s ∷ steps) x r left },
       by,
-      runs_along laws p w c steps y ry later asking (omega arith) left,
+      runs_along laws p w c steps y ry later asking (omega arith) (serving_both laws p (s ∷ []) steps x r left).1,
     )
 
 -- What holds after a fair round r that begins while the client c asks, if c neither enters nor gives up in r
@@ -398,12 +358,12 @@ pub record AsksAfter (p : Course) (x : WorldState) (c : ℕ) (r rest : List Step
   pub heeds : Heeds c (run_of p.deal r x)
   pub asks : asks_at (run_of p.deal r x) c ≡ true
   pub turns_not : turns p.deal c rest (run_of p.deal r x) ≡ 0
-  pub left : HasGrants 1 (run_of p.deal rest (run_of p.deal r x))
+  pub left : Serving p (run_of p.deal r x) (run_of p.deal rest (run_of p.deal r x))
   pub known : IsKnownEverywhere (run_of p.deal r x) c
   pub runs : StillRuns (run_of p.deal r x) (run_of p.deal rest (run_of p.deal r x)) c
 
-pub asks_after : (laws : Laws) (p : Course) (x : WorldState) (c : ℕ) (r rest : List Step) (more : List Event) → IsSure p x → Heeds c x → Asks x c → IsFairRound p.deal x r
-    → own_give_ups c (r ++ rest) ≡ 0 → HasGrants 1 (run_of p.deal (r ++ rest) x) → (run_of p.deal (r ++ rest) x).visible ≡ x.visible ++ more → entries_of c more ≡ 0 → AsksAfter p x c r rest
+pub asks_after : (laws : Laws) (p : Course) (x : WorldState) (c : ℕ) (r rest : List Step) (more : List Event) → IsSure p x → Heeds c x → Asks x c → IsLiveRound p.live p.deal x r
+    → own_give_ups c (r ++ rest) ≡ 0 → Serving p x (run_of p.deal (r ++ rest) x) → (run_of p.deal (r ++ rest) x).visible ≡ x.visible ++ more → entries_of c more ≡ 0 → AsksAfter p x c r rest
 asks_after laws p x c r rest more reached heeded asks fair stays left visible none =
     let deal = p.deal in
     let y = run_of deal r x in
@@ -421,15 +381,16 @@ asks_after laws p x c r rest more reached heeded asks fair stays left visible no
     let stays_later : own_give_ups c rest ≡ 0 = omega arith in
     let on_first = asks_on laws p c r x first.0 reached first.1 (let e : entries_of c first.0 ≡ 0 = omega arith in e) (let e : own_give_ups c r ≡ 0 = omega arith in e) asks.asks in
     let on_later = asks_on laws p c rest y later.0 ry later.1 none_later stays_later on_first.0 in
-    let left_z = subst (λ (u : WorldState). HasGrants 1 u) goes left in
-    let left_y : HasGrants 1 y = λ v within. (let lt = left_before laws p rest y ry left_z v within in omega arith) in
+    let serves = serving_both laws p r rest x reached left in
+    let left_z = serves.1 in
+    let left_y = serves.0 in
     let own : SameAsk (client_at x.clients c) (client_at x.clients c) = record { stamp = refl; asks = refl; quorum = λ _. refl } in
     let along = runs_along laws p x c r x reached own asks.asks on_first.1 left_y in
     let end = (along-last (RunsOn p x c) MovedBy deal r x along).same in
     let known : IsKnownEverywhere y c = record {
       runs = is_asking-busy (client_at y.clients c).phase on_first.0;
       known = λ v member. subst (λ t. IsEntry (voter_at y.voters v) c t) (sym end.stamp)
-          (known_after laws p x r c v along (fair.clients c asks.client) asks.asks (ap (λ l. has l v) (sym (end.quorum asks.asks)) ∙ member));
+          (known_after laws p x r c v along fair asks.asks (ap (λ l. has l v) (sym (end.quorum asks.asks)) ∙ member));
     } in
     let runs : StillRuns y z c = record { runs = is_asking-busy (client_at z.clients c).phase on_later.0; same = (none_turned laws p c rest y ry on_later.1).1 } in
     record {

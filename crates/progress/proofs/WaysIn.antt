@@ -28,6 +28,7 @@ use Rattle.progress.specs.Rounds.{grants_for, steps_of}
 use Rattle.progress.specs.Rules.{Laws}
 use Rattle.progress.proofs.Along.{next}
 use Rattle.progress.proofs.Behind.{meets}
+use Rattle.progress.proofs.Fair.{everybody_serves, fair_are_live}
 use Rattle.progress.proofs.Making.{are_timely, asked_before, made_rounds, rounds_serve}
 use Rattle.progress.proofs.Moves.{Makes, MovedBy, MovedBy-step}
 use Rattle.progress.proofs.Olds.{AreOld, olds_of}
@@ -178,9 +179,9 @@ record Made (p : Course) (w : WorldState) (k : ℕ) (steps : List Step) : Type 0
   turns : (c : ℕ) (more : List Event) → Asks w c → (run_of p.deal steps w).visible ≡ w.visible ++ more → entries_of c more ≡ 0
       → k ≤ all_up_to p.deal (client_at w.clients c).stamp (length w.clients) steps w + olds_of p (length w.voters) w
 
-made : (laws : Laws) (p : Course) (w : WorldState) (a k : ℕ) → AreOld p w → IsSure p w → askers w ≤ a → HasGrants (grants_for a (length w.clients) k) w
+made : (laws : Laws) (p : Course) (w : WorldState) (a k : ℕ) → ((c : ℕ) → p.live.client c ≡ true) → ((v : ℕ) → p.live.voter v ≡ true) → AreOld p w → IsSure p w → askers w ≤ a → HasGrants (grants_for a (length w.clients) k) w
     → Made p w k (steps_of (made_rounds p.deal w (k * block (length w.clients))))
-made laws p w a k few r ask has =
+made laws p w a k every up few r ask has =
     let n = length w.clients in
     let m = length w.voters in
     let rounds = made_rounds p.deal w (k * block n) in
@@ -196,7 +197,7 @@ made laws p w a k few r ask has =
           let late = timely.in_time in
           let on = asks_on laws p c (steps_of rounds) w more r visible entered (stays c asks.client) asks.asks in
           let some = blocks_turn laws p c n m (client_at w.clients c).stamp k rounds w 0 (record { clients = refl; voters = refl; few = few; sure = r; asks = asks.asks; stamp = refl }) (omega arith)
-          timely.fair (rounds_leave laws p w a (k * block n) 1 r ask has) on.1 in
+          (fair_are_live p.live p.deal w rounds every up timely.fair) (everybody_serves p w (run_of p.deal (steps_of rounds) w) every (rounds_leave laws p w a (k * block n) 1 r ask has)) on.1 in
           omega arith;
     }
 
@@ -212,14 +213,14 @@ no_turns laws p w k d steps r m same within = by (asks_at w d) refl
     by false asks = (let once = turns_once laws p d (length w.sent) steps w r m.serve in let not : one_if (asks_at w d) ≡ 0 = ap one_if asks in omega arith)
 
 -- 1 + the old grants are blocks enough
-somebody_first : (laws : Laws) (p : Course) (w : WorldState) (a c k : ℕ) → AreOld p w → IsSure p w → Asks w c → IsFree w → olds_of p (length w.voters) w < k → askers w ≤ a
+somebody_first : (laws : Laws) (p : Course) (w : WorldState) (a c k : ℕ) → ((c : ℕ) → p.live.client c ≡ true) → ((v : ℕ) → p.live.voter v ≡ true) → AreOld p w → IsSure p w → Asks w c → IsFree w → olds_of p (length w.voters) w < k → askers w ≤ a
     → HasGrants (grants_for a (length w.clients) k) w
     → FirstEntry p.deal (length w.sent) w
 unfolding all_up_to
-somebody_first laws p w a c k few r asks free enough ask has =
+somebody_first laws p w a c k every up few r asks free enough ask has =
     let n = length w.clients in
     let steps = steps_of (made_rounds p.deal w (k * block n)) in
-    let m = made laws p w a k few r ask has in
+    let m = made laws p w a k every up few r ask has in
     elim (first_entry laws p (length w.sent) steps w r free m.serve) [
       | inl e ↦ e
       | inr same ↦
@@ -230,34 +231,34 @@ somebody_first laws p w a c k few r asks free enough ask has =
           absurd (omega arith)
     ]
 
-pub somebody_gets_in : (laws : Laws) (p : Course) (w : WorldState) (c k : ℕ) → AreOld p w → IsSure p w → Asks w c → IsFree w → olds_of p (length w.voters) w < k
+pub somebody_gets_in : (laws : Laws) (p : Course) (w : WorldState) (c k : ℕ) → ((c : ℕ) → p.live.client c ≡ true) → ((v : ℕ) → p.live.voter v ≡ true) → AreOld p w → IsSure p w → Asks w c → IsFree w → olds_of p (length w.voters) w < k
     → HasGrants (grants_for (length w.clients) (length w.clients) k) w → (steps : List Step) × (d : ℕ) × IsWayIn p.deal w d steps
-somebody_gets_in laws p w c k few r asks free enough has =
-    let e = somebody_first laws p w (length w.clients) c k few r asks free enough (askers_most (asks_at w) 0 (length w.clients)) has in
+somebody_gets_in laws p w c k every up few r asks free enough has =
+    let e = somebody_first laws p w (length w.clients) c k every up few r asks free enough (askers_most (asks_at w) 0 (length w.clients)) has in
     (e.steps, e.who, record { helps = e.helps; enters = e.enters })
 
-pub alone_gets_in : (laws : Laws) (p : Course) (w : WorldState) (c k : ℕ) → AreOld p w → IsSure p w → AsksAlone w c → olds_of p (length w.voters) w < k
+pub alone_gets_in : (laws : Laws) (p : Course) (w : WorldState) (c k : ℕ) → ((c : ℕ) → p.live.client c ≡ true) → ((v : ℕ) → p.live.voter v ≡ true) → AreOld p w → IsSure p w → AsksAlone w c → olds_of p (length w.voters) w < k
     → HasGrants (grants_for 1 (length w.clients) k) w → (steps : List Step) × IsWayIn p.deal w c steps
-alone_gets_in laws p w c k few r alone enough has =
+alone_gets_in laws p w c k every up few r alone enough has =
     let free : IsFree w = λ d. elim (cases_eq d c) [
       | inl same ↦ ap (λ i. is_inside (client_at w.clients i).phase) same ∙ is_asking-outside (client_at w.clients c).phase alone.asks
       | inr other ↦ is_idle-outside (client_at w.clients d).phase (alone.others d other)
     ] in
     let one : askers w ≤ 1 = (one_from (asks_at w) c 0 (length w.clients) (λ d other. idle_not_asking (client_at w.clients d).phase (alone.others d other))).0 in
-    let e = somebody_first laws p w 1 c k few r (record { client = alone.client; asks = alone.asks }) free enough one has in
+    let e = somebody_first laws p w 1 c k every up few r (record { client = alone.client; asks = alone.asks }) free enough one has in
     elim (cases_eq e.who c) [
       | inl same ↦ (e.steps, record { helps = e.helps; enters = e.enters ∙ ap (λ i. w.visible ++ events i Entered) same })
       | inr other ↦ absurd (false≢true (sym e.busy ∙ alone.others e.who other))
     ]
 
 -- as many blocks as clients and old grants are enough
-pub everybody_gets_in : (laws : Laws) (p : Course) (w : WorldState) (c k : ℕ) → AreOld p w → IsSure p w → Asks w c → length w.clients + olds_of p (length w.voters) w ≤ k
+pub everybody_gets_in : (laws : Laws) (p : Course) (w : WorldState) (c k : ℕ) → ((c : ℕ) → p.live.client c ≡ true) → ((v : ℕ) → p.live.voter v ≡ true) → AreOld p w → IsSure p w → Asks w c → length w.clients + olds_of p (length w.voters) w ≤ k
     → HasGrants (grants_for (length w.clients) (length w.clients) k) w → (steps : List Step) × GetsIn p.deal w c steps
 unfolding all_up_to
-everybody_gets_in laws p w c k few r asks enough has =
+everybody_gets_in laws p w c k every up few r asks enough has =
     let n = length w.clients in
     let steps = steps_of (made_rounds p.deal w (k * block n)) in
-    let m = made laws p w n k few r (askers_most (asks_at w) 0 n) has in
+    let m = made laws p w n k every up few r (askers_most (asks_at w) 0 n) has in
     let z = run_of p.deal steps w in
     let seen = shown laws p steps w r in
     let enters : 1 ≤ entries_of c seen.0 = elim (cases_lt 0 (entries_of c seen.0)) [

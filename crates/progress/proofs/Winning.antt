@@ -30,10 +30,11 @@ use Rattle.world_state.specs.declared.step.Step.TheVariants.{Deliver, RemindVote
 use Rattle.world.specs.Runs.{run_of}
 use Rattle.world_state.specs.Steps.{WorldState, client_at, voter_at}
 use Rattle.world.proofs.Plans.{run_then}
-use Rattle.progress.specs.Rounds.{AreFairRounds, IsReminded, steps_of}
+use Rattle.progress.specs.LiveRounds.{AreLiveRounds, IsReminded}
+use Rattle.progress.specs.Rounds.{steps_of}
 use Rattle.progress.specs.Rules.{Laws}
 use Rattle.progress.proofs.Ahead.{NotBehind, not_behind_kept}
-use Rattle.progress.proofs.Along.{Along, Reminded, along-first, along-kept, along-last, along-or, along-weaker, next, reminded_at, spot_after, spot_before, spot_end, spot_through}
+use Rattle.progress.proofs.Along.{Along, Served, along-first, along-kept, along-last, along-or, along-weaker, between_from, between_to, next, reminded_at, served_at, spot_after, spot_before, spot_end, spot_through}
 use Rattle.progress.proofs.Always.{asked_by}
 use Rattle.progress.proofs.Arrivals.{answered, client_takes, message_stays, reminds_first, voter_takes}
 use Rattle.progress.proofs.Behind.{the_request}
@@ -106,7 +107,7 @@ ends_never y v g c (asks.Relinquish n) has z busy stamp fresh asked ends =
     (subst₂ (λ d k. y.held ≡ Some (record { client = d; stamp = g.stamp; grant = k })) ends.0 ends.1 has)
 ends_never y v g c (asks.Release t) has z busy stamp fresh asked ends = (let less = (asked ends.0).1 busy in let most = ends.1 in omega arith)
 
-its_held : (laws : Laws) (p : Course) (w : WorldState) (m v : ℕ) → Seeks w (Only m) m v → (g : Grant) → (s : Step) (x y : WorldState) → Steady p w (Only m) x → Quietly p w m s x y → IsIts m v g x → HasVote v g y
+its_held : (laws : Laws) (p : Course) (w : WorldState) (m v : ℕ) → Seeks p w (Only m) m v → (g : Grant) → (s : Step) (x y : WorldState) → Steady p w (Only m) x → Quietly p w m s x y → IsIts m v g x → HasVote v g y
 its_held laws p w m v f g s x y before moved h = elim moved.0 [
   | inl k ↦ ap (λ (vs : List VoterState). (voter_at vs v).held) k.0.voters ∙ h.held
   | inr (inl moves) ↦
@@ -130,7 +131,7 @@ its_held laws p w m v f g s x y before moved h = elim moved.0 [
   | inr (inr k) ↦ ap (λ (vs : List VoterState). (voter_at vs v).held) k.voters ∙ h.held
 ]
 
-its_on : (laws : Laws) (p : Course) (w : WorldState) (m v : ℕ) → Seeks w (Only m) m v → (g : Grant) → (s : Step) (x y : WorldState) → Clear p w m x → Clear p w m y → Quietly p w m s x y
+its_on : (laws : Laws) (p : Course) (w : WorldState) (m v : ℕ) → Seeks p w (Only m) m v → (g : Grant) → (s : Step) (x y : WorldState) → Clear p w m x → Clear p w m y → Quietly p w m s x y
     → IsIts m v g x → IsIts m v g y
 its_on laws p w m v f g s x y before after moved h =
     let held = its_held laws p w m v f g s x y before.steady moved h in
@@ -141,7 +142,7 @@ record HasWon (m v : ℕ) (g : Grant) (x : WorldState) : Type 0 where
   its : IsIts m v g x
   has : holds (client_at x.clients m) v ≡ true
 
-won_on : (laws : Laws) (p : Course) (w : WorldState) (m v : ℕ) → Seeks w (Only m) m v → (g : Grant) → (s : Step) (x y : WorldState) → Clear p w m x → Clear p w m y → Quietly p w m s x y
+won_on : (laws : Laws) (p : Course) (w : WorldState) (m v : ℕ) → Seeks p w (Only m) m v → (g : Grant) → (s : Step) (x y : WorldState) → Clear p w m x → Clear p w m y → Quietly p w m s x y
     → HasWon m v g x → HasWon m v g y
 won_on laws p w m v f g s x y before after moved h =
     let its = its_on laws p w m v f g s x y before after moved h.its in
@@ -171,13 +172,14 @@ Nearer w m v alive x = ((g : Grant) × IsIts m v g x) ⊎ ((d : ℕ) × (has ali
 ahead_of : (g : Grant) (m s : ℕ) → g.client ≢ m → precedes (record { stamp = s; client = m }) (request_of g) ≡ false → precedes (request_of g) (record { stamp = s; client = m }) ≡ true
 ahead_of g m s other not = grind (arith, nat_tests)
 
-nearer : (laws : Laws) (p : Course) (w : WorldState) (m v : ℕ) → Seeks w (Only m) m v → (alive : List ℕ) (x z : WorldState) → Reminded (Clear p w m) (Quietly p w m) p.deal x z (RemindVoter v)
+nearer : (laws : Laws) (p : Course) (w : WorldState) (m v : ℕ) → Seeks p w (Only m) m v → (alive : List ℕ) (x z : WorldState) → Served (Clear p w m) (Quietly p w m) p.live p.deal x z v
     → OwnStage Never m v x → NotBehind w m v x → OldsAmong w m v alive x → Nearer w m v alive z
-nearer laws p w m v f alive x z r stage ahead_x olds_x =
+nearer laws p w m v f alive x z served stage ahead_x olds_x =
     let deal = p.deal in
     let P = Clear p w m in
     let R = Quietly p w m in
     let D = Only m in
+    let r = served.reminded in
     let spot = r.spot in
     let u = spot.before in
     let calm = spot.here in
@@ -196,57 +198,75 @@ nearer laws p w m v f alive x z r stage ahead_x olds_x =
       ]
       | inr other ↦
           let first_of = ahead_of g m (client_at w.clients m).stamp other (ahead_u g now.1) in
-          let within = voter_within laws p w D u m v calm.steady f.asks f.member in
-          let id : y.id ≡ v = ok.numbered.voters v within in
-          let msg = locked_to v d y.seen g.stamp g.grant in
-          let is : voter.reply y d (to_client.Locked g.stamp g.grant) ≡ msg = λ i. record { voter = id i; client = d; seen = y.seen; body = to_client.Locked g.stamp g.grant } in
-          let out = laws.voter.reminds y g now.1 ∙ ap (λ (n : ToClient). n ∷ voter.inquiry_again y.inquiring y g) is in
-          let sends = reminds_first deal u v msg (voter.inquiry_again y.inquiring y g) within out in
-          let heard = r.heard sends.place sends.least sends.less in
-          let u1 = next deal u (RemindVoter v) in
-          let there = spot_before P R deal (λ q. slice_get q.sent sends.place ≡ Some (kinds.ToClient msg))
-          (λ s a b _ _ moved. message_stays sends.place (kinds.ToClient msg) a b (Moved-by s a b (quietly_moved p w m s a b moved))) u1 z (Deliver sends.place) heard.spot sends.is in
-          let x2 = heard.spot.before in
-          let calm2 = heard.spot.here in
-          let ok2 = steady_ok laws p w D x2 calm2.steady in
-          let old = client_at x2.clients d in
-          let t = client_takes deal x2 sends.place msg ok2 there in
-          let rel = release_to d v g.stamp in
-          let made = (ok.made v d g.stamp (inl (g, now.1, refl, refl))).client in
-          let own : old.id ≡ d = ok2.numbered.clients d (let first = calm.count in let later = calm2.count in omega arith) in
-          let tells : requester.tell old v (asks.Release g.stamp) ≡ rel = λ i. record { client = own i; voter = v; body = asks.Release g.stamp } in
-          let gives : (requester.take old msg).out ≡ rel ∷ [] = ap (λ (o : requester.Outcome). o.out) (laws.client.released old msg g.stamp g.grant refl (calm2.over d g.stamp first_of))
-          ∙ ap (λ (n : ToVoter). n ∷ []) tells in
-          let says_it = answered deal x2 sends.place msg rel t gives in
-          let comes = heard.replies says_it.place says_it.least says_it.less in
-          let y2 = next deal x2 (Deliver sends.place) in
-          let got = spot_before P R deal (λ q. slice_get q.sent says_it.place ≡ Some (kinds.ToVoter rel))
-          (λ s a b _ _ moved. message_stays says_it.place (kinds.ToVoter rel) a b (Moved-by s a b (quietly_moved p w m s a b moved))) y2 z (Deliver says_it.place) comes says_it.is in
-          let x3 = comes.before in
-          let calm3 = comes.here in
-          let ok3 = steady_ok laws p w D x3 calm3.steady in
-          let taken = voter_takes laws deal x3 says_it.place rel ok3 (calm3.steady.left v (voter_within laws p w D x3 m v calm3.steady f.asks f.member)) got in
-          let y3 = next deal x3 (Deliver says_it.place) in
-          let above = ends_up_to laws.voter (voter_at x3.voters v) rel g.stamp taken.outcome (ok3.voters v) refl taken.step in
-          -- what precedes was known when the voter was reminded
-          let first : WereOld w m v u u1 = known_before laws w m v (RemindVoter v) u u1 spot.moved.0 in
-          let second : WereOld w m v u x2 = spot_before P R deal (WereOld w m v u) (known_on laws p w m v u) u1 z (Deliver sends.place) heard.spot first in
-          let third : WereOld w m v u y2 = known_on laws p w m v u (Deliver sends.place) x2 y2 calm2 (spot_after P R deal u1 z (Deliver sends.place) heard.spot) heard.spot.moved second in
-          let fourth : WereOld w m v u x3 = spot_before P R deal (WereOld w m v u) (known_on laws p w m v u) y2 z (Deliver says_it.place) comes third in
-          let fifth : WereOld w m v u y3 = known_on laws p w m v u (Deliver says_it.place) x3 y3 calm3 (spot_after P R deal y2 z (Deliver says_it.place) comes) comes.moved fourth in
-          let gone : OldsAmong w m v (remove_from d alive) y3 = λ e s entry ahead. elim (cases_eq e d) [
-            | inl same ↦
-                let was = fifth e s entry ahead in
-                let number : g.stamp ≡ s = own_stamp y e s g (ok.voters v) was now.1 (sym same) in
-                let high = above s (subst (λ i. IsEntry taken.outcome.state i s) same (subst (λ (q : VoterState). IsEntry q e s) taken.here entry)) in
-                absurd (omega arith)
-            | inr unlike ↦ still_there d e alive unlike (olds_u e s (fifth e s entry ahead) ahead)
-          ] in
-          inr (
-            d,
-            olds_u d g.stamp (inl (g, now.1, refl, refl)) first_of,
-            spot_end P R deal (OldsAmong w m v (remove_from d alive)) (olds_on laws p w m v (remove_from d alive)) y2 z (Deliver says_it.place) comes gone,
-          )
+          elim (p.live.client d) as (λ b. p.live.client d ≡ b → Nearer w m v alive z) [
+            | false ↦ λ dead.
+                let dropped = served.drops g now.1 dead in
+                let at = run_of deal dropped.first u in
+                let known : WereOld w m v u at = along-kept P R deal (WereOld w m v u) (known_on laws p w m v u) dropped.first u dropped.lead (λ e s entry ahead. entry) in
+                let gone : OldsAmong w m v (remove_from d alive) at = λ e s entry ahead. elim (cases_eq e d) [
+                  | inl same ↦
+                      let number : g.stamp ≡ s = own_stamp y e s g (ok.voters v) (known e s entry ahead) now.1 (sym same) in
+                      absurd (dropped.over (subst₂ (λ i n. IsEntry (voter_at at.voters v) i n) same (sym number) entry))
+                  | inr unlike ↦ still_there d e alive unlike (olds_u e s (known e s entry ahead) ahead)
+                ] in
+                inr (
+                  d,
+                  olds_u d g.stamp (inl (g, now.1, refl, refl)) first_of,
+                  subst (OldsAmong w m v (remove_from d alive)) dropped.ends (along-kept P R deal (OldsAmong w m v (remove_from d alive)) (olds_on laws p w m v (remove_from d alive)) dropped.rest at dropped.follow gone),
+                )
+            | true ↦ λ lives.
+                let within = voter_within laws p w D u m v calm.steady f.asks f.member in
+                let id : y.id ≡ v = ok.numbered.voters v within in
+                let msg = locked_to v d y.seen g.stamp g.grant in
+                let is : voter.reply y d (to_client.Locked g.stamp g.grant) ≡ msg = λ i. record { voter = id i; client = d; seen = y.seen; body = to_client.Locked g.stamp g.grant } in
+                let out = laws.voter.reminds y g now.1 ∙ ap (λ (n : ToClient). n ∷ voter.inquiry_again y.inquiring y g) is in
+                let sends = reminds_first deal u v msg (voter.inquiry_again y.inquiring y g) within out in
+                let u1 = next deal u (RemindVoter v) in
+                let heard = r.heard sends.place sends.least (between_from p.live (slice_get u1.sent sends.place) msg sends.is lives f.up) in
+                let there = spot_before P R deal (λ q. slice_get q.sent sends.place ≡ Some (kinds.ToClient msg))
+                (λ s a b _ _ moved. message_stays sends.place (kinds.ToClient msg) a b (Moved-by s a b (quietly_moved p w m s a b moved))) u1 z (Deliver sends.place) heard.spot sends.is in
+                let x2 = heard.spot.before in
+                let calm2 = heard.spot.here in
+                let ok2 = steady_ok laws p w D x2 calm2.steady in
+                let old = client_at x2.clients d in
+                let t = client_takes deal x2 sends.place msg ok2 there in
+                let rel = release_to d v g.stamp in
+                let made = (ok.made v d g.stamp (inl (g, now.1, refl, refl))).client in
+                let own : old.id ≡ d = ok2.numbered.clients d (let first = calm.count in let later = calm2.count in omega arith) in
+                let tells : requester.tell old v (asks.Release g.stamp) ≡ rel = λ i. record { client = own i; voter = v; body = asks.Release g.stamp } in
+                let gives : (requester.take old msg).out ≡ rel ∷ [] = ap (λ (o : requester.Outcome). o.out) (laws.client.released old msg g.stamp g.grant refl (calm2.over d g.stamp first_of))
+                ∙ ap (λ (n : ToVoter). n ∷ []) tells in
+                let says_it = answered deal x2 sends.place msg rel t gives in
+                let y2 = next deal x2 (Deliver sends.place) in
+                let comes = heard.replies says_it.place says_it.least (between_to p.live (slice_get y2.sent says_it.place) rel says_it.is lives f.up) in
+                let got = spot_before P R deal (λ q. slice_get q.sent says_it.place ≡ Some (kinds.ToVoter rel))
+                (λ s a b _ _ moved. message_stays says_it.place (kinds.ToVoter rel) a b (Moved-by s a b (quietly_moved p w m s a b moved))) y2 z (Deliver says_it.place) comes says_it.is in
+                let x3 = comes.before in
+                let calm3 = comes.here in
+                let ok3 = steady_ok laws p w D x3 calm3.steady in
+                let taken = voter_takes laws deal x3 says_it.place rel ok3 (calm3.steady.left.grants v (voter_within laws p w D x3 m v calm3.steady f.asks f.member) f.up) got in
+                let y3 = next deal x3 (Deliver says_it.place) in
+                let above = ends_up_to laws.voter (voter_at x3.voters v) rel g.stamp taken.outcome (ok3.voters v) refl taken.step in
+                -- what precedes was known when the voter was reminded
+                let first : WereOld w m v u u1 = known_before laws w m v (RemindVoter v) u u1 spot.moved.0 in
+                let second : WereOld w m v u x2 = spot_before P R deal (WereOld w m v u) (known_on laws p w m v u) u1 z (Deliver sends.place) heard.spot first in
+                let third : WereOld w m v u y2 = known_on laws p w m v u (Deliver sends.place) x2 y2 calm2 (spot_after P R deal u1 z (Deliver sends.place) heard.spot) heard.spot.moved second in
+                let fourth : WereOld w m v u x3 = spot_before P R deal (WereOld w m v u) (known_on laws p w m v u) y2 z (Deliver says_it.place) comes third in
+                let fifth : WereOld w m v u y3 = known_on laws p w m v u (Deliver says_it.place) x3 y3 calm3 (spot_after P R deal y2 z (Deliver says_it.place) comes) comes.moved fourth in
+                let gone : OldsAmong w m v (remove_from d alive) y3 = λ e s entry ahead. elim (cases_eq e d) [
+                  | inl same ↦
+                      let was = fifth e s entry ahead in
+                      let number : g.stamp ≡ s = own_stamp y e s g (ok.voters v) was now.1 (sym same) in
+                      let high = above s (subst (λ i. IsEntry taken.outcome.state i s) same (subst (λ (q : VoterState). IsEntry q e s) taken.here entry)) in
+                      absurd (omega arith)
+                  | inr unlike ↦ still_there d e alive unlike (olds_u e s (fifth e s entry ahead) ahead)
+                ] in
+                inr (
+                  d,
+                  olds_u d g.stamp (inl (g, now.1, refl, refl)) first_of,
+                  spot_end P R deal (OldsAmong w m v (remove_from d alive)) (olds_on laws p w m v (remove_from d alive)) y2 z (Deliver says_it.place) comes gone,
+                )
+          ] refl
     ]
 
 -- ---- all rounds
@@ -256,8 +276,8 @@ abbrev pub ClearRounds : Course → WorldState → ℕ → List (List Step) → 
 ClearRounds p w m [] x = Clear p w m x
 ClearRounds p w m (r ∷ rs) x = Along (Clear p w m) (Quietly p w m) p.deal r x × ClearRounds p w m rs (run_of p.deal r x)
 
-won_after : (laws : Laws) (p : Course) (w : WorldState) (m v : ℕ) → Seeks w (Only m) m v → (g : Grant) → (round : List Step) (x : WorldState) → Along (Clear p w m) (Quietly p w m) p.deal round x
-    → IsReminded p.deal x round (RemindVoter v) → IsIts m v g x → HasWon m v g (run_of p.deal round x)
+won_after : (laws : Laws) (p : Course) (w : WorldState) (m v : ℕ) → Seeks p w (Only m) m v → (g : Grant) → (round : List Step) (x : WorldState) → Along (Clear p w m) (Quietly p w m) p.deal round x
+    → IsReminded p.live p.deal x round (RemindVoter v) → IsIts m v g x → HasWon m v g (run_of p.deal round x)
 won_after laws p w m v f g round x all fair h =
     let deal = p.deal in
     let D = Only m in
@@ -271,14 +291,14 @@ won_after laws p w m v f g round x all fair h =
           let votes = along-weaker P (With p w D (HasVote v g)) MovedBy deal (λ q k. (k.0.steady, k.1.held)) round x moves in
           let calm = (along-first (Clear p w m) (Quietly p w m) deal round x all).steady in
           let own = h.settled.own in
-          let knows = told laws p w D m v f g (is_own laws p w m v f x calm g h.held own) x z (reminded_at (With p w D (HasVote v g)) MovedBy deal round x (RemindVoter v) votes fair) in
+          let knows = told laws p w D m v f g (is_own laws p w m v f x calm g h.held own) x z (reminded_at (With p w D (HasVote v g)) MovedBy p.live deal round x (RemindVoter v) votes fair) in
           elim knows [
             | inl few ↦ (let fresh = subst (λ c. last_of (client_at z.clients c) v < g.grant) (sym own) end.settled.fresh in absurd (omega arith))
             | inr has ↦ record { its = end; has = subst (λ c. holds (client_at z.clients c) v ≡ true) own has }
           ]
     ]
 
-won_rounds : (laws : Laws) (p : Course) (w : WorldState) (m v : ℕ) → Seeks w (Only m) m v → (g : Grant) → (rounds : List (List Step)) (x : WorldState) → ClearRounds p w m rounds x → HasWon m v g x
+won_rounds : (laws : Laws) (p : Course) (w : WorldState) (m v : ℕ) → Seeks p w (Only m) m v → (g : Grant) → (rounds : List (List Step)) (x : WorldState) → ClearRounds p w m rounds x → HasWon m v g x
     → holds (client_at (run_of p.deal (steps_of rounds) x).clients m) v ≡ true
 won_rounds laws p w m v f g [] x all h = h.has
 won_rounds laws p w m v f g (r ∷ rs) x all h =
@@ -286,18 +306,18 @@ won_rounds laws p w m v f g (r ∷ rs) x all h =
     let end = along-kept (Clear p w m) (Quietly p w m) deal (HasWon m v g) (won_on laws p w m v f g) r x all.0 h in
     ap (λ (u : WorldState). holds (client_at u.clients m) v) (run_then deal r (steps_of rs) x) ∙ won_rounds laws p w m v f g rs (run_of deal r x) all.1 end
 
-its_rounds : (laws : Laws) (p : Course) (w : WorldState) (m v : ℕ) → Seeks w (Only m) m v → (g : Grant) → (rounds : List (List Step)) (x : WorldState) → ClearRounds p w m rounds x
-    → AreFairRounds p.deal x rounds → 1 ≤ length rounds → IsIts m v g x → holds (client_at (run_of p.deal (steps_of rounds) x).clients m) v ≡ true
+its_rounds : (laws : Laws) (p : Course) (w : WorldState) (m v : ℕ) → Seeks p w (Only m) m v → (g : Grant) → (rounds : List (List Step)) (x : WorldState) → ClearRounds p w m rounds x
+    → AreLiveRounds p.live p.deal x rounds → 1 ≤ length rounds → IsIts m v g x → holds (client_at (run_of p.deal (steps_of rounds) x).clients m) v ≡ true
 its_rounds laws p w m v f g [] x all fair some h = absurd (omega arith)
 its_rounds laws p w m v f g (r ∷ rs) x all fair some h =
     let deal = p.deal in
     let calm = (along-first (Clear p w m) (Quietly p w m) deal r x all.0).steady in
-    let end = won_after laws p w m v f g r x all.0 (fair.0.voters v (voter_within laws p w (Only m) x m v calm f.asks f.member)) h in
+    let end = won_after laws p w m v f g r x all.0 (fair.0.voters v (voter_within laws p w (Only m) x m v calm f.asks f.member) f.up).reminded h in
     ap (λ (u : WorldState). holds (client_at u.clients m) v) (run_then deal r (steps_of rs) x) ∙ won_rounds laws p w m v f g rs (run_of deal r x) all.1 end
 
 -- it has the vote after as many rounds as there are clients with older requests, and one more
-pub wins : (laws : Laws) (p : Course) (w : WorldState) (m v : ℕ) → Seeks w (Only m) m v → (rounds : List (List Step)) (x : WorldState) (alive : List ℕ) → ClearRounds p w m rounds x
-    → AreFairRounds p.deal x rounds → length alive < length rounds → OwnStage Never m v x → NotBehind w m v x → OldsAmong w m v alive x
+pub wins : (laws : Laws) (p : Course) (w : WorldState) (m v : ℕ) → Seeks p w (Only m) m v → (rounds : List (List Step)) (x : WorldState) (alive : List ℕ) → ClearRounds p w m rounds x
+    → AreLiveRounds p.live p.deal x rounds → length alive < length rounds → OwnStage Never m v x → NotBehind w m v x → OldsAmong w m v alive x
     → holds (client_at (run_of p.deal (steps_of rounds) x).clients m) v ≡ true
 wins laws p w m v f [] x alive all fair less stage ahead olds = absurd (omega arith)
 wins laws p w m v f (r ∷ rs) x alive all fair less stage ahead olds =
@@ -318,7 +338,7 @@ wins laws p w m v f (r ∷ rs) x alive all fair less stage ahead olds =
       | inr other ↦
           let there = olds g.client g.stamp (inl (g, now.1, refl, refl)) (ahead_of g m stamp other (ahead g now.1)) in
           let some = shorter g.client alive there in
-          let remind = reminded_at P R deal r x (RemindVoter v) all.0 (fair.0.voters v (voter_within laws p w D x m v calm f.asks f.member)) in
+          let remind = served_at P R p.live deal r x v all.0 (fair.0.voters v (voter_within laws p w D x m v calm f.asks f.member) f.up) in
           ap (λ (u : WorldState). holds (client_at u.clients m) v) (run_then deal r (steps_of rs) x) ∙ elim (nearer laws p w m v f alive x z remind stage ahead olds) [
             | inl first ↦ its_rounds laws p w m v f first.0 rs z all.1 fair.1 (omega arith) first.1
             | inr fewer ↦
@@ -334,7 +354,7 @@ one_entry : (y : VoterState) (c s t : ℕ) → voter.IsSound y → IsEntry y c s
 one_entry y c s t ok a b = same_Some s t (sym (current_stamp-entry y c s (orderly y ok) a) ∙ current_stamp-entry y c t (orderly y ok) b)
 
 -- requests that precede are of other clients
-pub olds_others : (laws : Laws) (p : Course) (w x : WorldState) (m v : ℕ) → Seeks w (Only m) m v → Clear p w m x → OldsAmong w m v (remove_from m (range_with_len 0 (length w.clients))) x
+pub olds_others : (laws : Laws) (p : Course) (w x : WorldState) (m v : ℕ) → Seeks p w (Only m) m v → Clear p w m x → OldsAmong w m v (remove_from m (range_with_len 0 (length w.clients))) x
 olds_others laws p w x m v f calm d t entry first =
     let ok = steady_ok laws p w (Only m) x calm.steady in
     let within = (ok.made v d t entry).client in

@@ -1,4 +1,5 @@
 pub mod AfterLosses
+pub mod LiveRounds
 pub mod LostVotes
 pub mod Overtaking
 pub mod Patience

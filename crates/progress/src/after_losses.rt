@@ -1,10 +1,11 @@
-//! Laws on fair rounds after losses of saved states.
-ghost use Rattle.std.specs.Prelude.{◌≡◌, ◌≤◌, ◌+◌, ◌*◌, ◌++◌, ℕ, List, length};
+//! Laws on live rounds after losses of saved states.
+ghost use Rattle.std.specs.Prelude.{◌≡◌, ◌≤◌, ◌+◌, ◌*◌, ◌++◌, ℕ, List, length, true};
 ghost use Rattle.progress.specs.AfterLosses.{AskedSince, IsHeard, IsReachedAfterLosses};
 ghost use Rattle.world.specs.Visible.{entries_of};
+ghost use Rattle.progress.specs.LiveRounds.{AreLiveRounds, AreOut, HasGrantsThere, Live, live_below};
 ghost use Rattle.progress.specs.Patience.{hasty_in};
-ghost use Rattle.progress.specs.Rounds.{AreFairRounds, DoesNotGiveUp, give_ups_in, late_in, steps_of};
-ghost use Rattle.world.specs.WayIn.{Asks, HasGrants};
+ghost use Rattle.progress.specs.Rounds.{DoesNotGiveUp, give_ups_in, late_in, steps_of};
+ghost use Rattle.world.specs.WayIn.{Asks};
 ghost use Rattle.world_state.specs.declared.step.Event.{Event};
 ghost use Rattle.world_state.specs.declared.step.Step.{Step};
 ghost use Rattle.world.specs.Runs.{run_of};
@@ -15,16 +16,16 @@ use crate::laws::worlds_keep_their_rules;
 use world::parts_keep_their_rules;
 
 /// After any crashes, restarts, and losses of all but the least of a saved state: if a client asks and does
-/// not give up, somebody enters within (n + 8) * (n + 2 g + l + v) fair rounds, for n clients, g withdrawals
-/// of others, l arrivals of late REQUESTs, and v voters.
+/// not give up, somebody enters within (n + 9) * (c + 2 g + l + v) live rounds, for n clients, c of them live, g
+/// withdrawals of others, l arrivals of late REQUESTs, and v voters.
 ///
 /// The rounds themselves are without crashes. A voter that lost its saved state may have forgotten that it
-/// asked for its vote: each voter may waste one block of n + 8 rounds. Each voter has to have a grant left
+/// asked for its vote: each voter may waste one block of n + 9 rounds. Each voter has to have a grant left
 /// at the end.
-pub fn fair_rounds_let_somebody_in_after_losses()
-    ensures { (deal : Dealing) (w : WorldState) (c : ℕ) (rounds : List (List Step)) (more : List Event) → IsReachedAfterLosses deal w → Asks w c
-        → AreFairRounds deal w rounds → DoesNotGiveUp c (steps_of rounds) → HasGrants 1 (run_of deal (steps_of rounds) w)
-        → block (length w.clients) * (length w.clients + 2 * give_ups_in (steps_of rounds) + late_in deal 0 w rounds + length w.voters) ≤ length rounds
+pub fn live_rounds_let_somebody_in_after_losses()
+    ensures { (live : Live) (deal : Dealing) (w : WorldState) (c : ℕ) (rounds : List (List Step)) (more : List Event) → IsReachedAfterLosses deal w → Asks w c
+        → AreLiveRounds live deal w rounds → DoesNotGiveUp c (steps_of rounds) → AreOut live w (run_of deal (steps_of rounds) w) → HasGrantsThere live 1 (run_of deal (steps_of rounds) w)
+        → block (length w.clients) * (live_below live (length w.clients) + 2 * give_ups_in (steps_of rounds) + late_in deal 0 w rounds + length w.voters) ≤ length rounds
         → (run_of deal (steps_of rounds) w).visible ≡ w.visible ++ more
         → (d : ℕ) × (1 ≤ entries_of d more) }
 {
@@ -33,16 +34,16 @@ pub fn fair_rounds_let_somebody_in_after_losses()
 }
 
 /// After any crashes, restarts, and losses of all but the least of a saved state: a client whose request is
-/// heard, and that does not give up, enters within (n + 8) * (3 n + 2 h + l + v) fair rounds, for n clients,
-/// h hasty withdrawals, l arrivals of late REQUESTs, and v voters.
+/// heard, and that does not give up, enters within (n + 9) * (3 c + 2 h + l + v) live rounds, for n clients,
+/// c of them live, h hasty withdrawals, l arrivals of late REQUESTs, and v voters.
 ///
 /// A request is heard if each voter that knows it has seen its stamp. So is each request that was made
 /// after the last crash, restart and loss ([`new_requests_are_heard`]). The rounds themselves are without
 /// crashes. Each voter has to have a grant left at the end.
-pub fn fair_rounds_let_everybody_in_after_losses()
-    ensures { (deal : Dealing) (w : WorldState) (c : ℕ) (rounds : List (List Step)) (more : List Event) → IsReachedAfterLosses deal w → IsHeard w c → Asks w c
-        → AreFairRounds deal w rounds → DoesNotGiveUp c (steps_of rounds) → HasGrants 1 (run_of deal (steps_of rounds) w)
-        → block (length w.clients) * (3 * length w.clients + 2 * hasty_in deal w rounds + late_in deal 0 w rounds + length w.voters) ≤ length rounds
+pub fn live_rounds_let_everybody_in_after_losses()
+    ensures { (live : Live) (deal : Dealing) (w : WorldState) (c : ℕ) (rounds : List (List Step)) (more : List Event) → IsReachedAfterLosses deal w → IsHeard w c → Asks w c
+        → AreLiveRounds live deal w rounds → DoesNotGiveUp c (steps_of rounds) → AreOut live w (run_of deal (steps_of rounds) w) → HasGrantsThere live 1 (run_of deal (steps_of rounds) w)
+        → block (length w.clients) * (3 * live_below live (length w.clients) + 2 * hasty_in deal w rounds + late_in deal 0 w rounds + length w.voters) ≤ length rounds
         → (run_of deal (steps_of rounds) w).visible ≡ w.visible ++ more
         → 1 ≤ entries_of c more }
 {

@@ -1,8 +1,9 @@
 //! Laws on progress.
-ghost use Rattle.std.specs.Prelude.{◌≡◌, ◌≢◌, ◌≤◌, ◌+◌, ◌*◌, ◌++◌, ℕ, List, length};
+ghost use Rattle.std.specs.Prelude.{◌≡◌, ◌≢◌, ◌≤◌, ◌+◌, ◌*◌, ◌++◌, ℕ, List, length, true};
 ghost use Rattle.progress.specs.LostVotes.{ComesBack, GoesOn, HasLostVote, HasReturnedVote};
 ghost use Rattle.progress.specs.Overtaking.{IsKnownEverywhere, StillRuns};
 ghost use Rattle.world.specs.Visible.{entries_of};
+ghost use Rattle.progress.specs.LiveRounds.{AreLiveRounds, AreOut, HasGrantsThere, Live, live_below};
 ghost use Rattle.progress.specs.Patience.{hasty_in};
 ghost use Rattle.progress.specs.Rounds.{AreFairRounds, DoesNotGiveUp, IsFairRound, IsStill, IsTimely, give_ups_in, grants_for, late_in, steps_of};
 ghost use Rattle.progress.specs.Rules.{Laws};
@@ -96,7 +97,7 @@ pub fn returned_votes_go_on()
 /// A client that asks while all others are idle gets in by reminders and by messages that are sent after
 /// them, whatever was lost, late or repeated before. Nobody else enters meanwhile.
 ///
-/// Each voter has to have 4 * (n + 8) grants left and one, for n clients: for n + 8 fair rounds as
+/// Each voter has to have 4 * (n + 9) grants left and one, for n clients: for n + 9 fair rounds as
 /// [`fair_rounds_can_be_made`] makes them, in which one client asks. The way ends with the first entry.
 pub fn who_asks_alone_gets_in()
     ensures { (w : Planned) (c : ℕ) → IsReached w → AsksAlone w.state c
@@ -108,8 +109,8 @@ pub fn who_asks_alone_gets_in()
 /// Whenever clients ask and nobody is inside, some client gets in by reminders and by messages that are
 /// sent after them, whatever was lost, late or repeated before. Nobody else enters meanwhile.
 ///
-/// So requests never block one another for good. Each voter has to have (n + 8) * (2 n + 2) grants left and
-/// one, for n clients: for n + 8 fair rounds that are made.
+/// So requests never block one another for good. Each voter has to have (n + 9) * (2 n + 2) grants left and
+/// one, for n clients: for n + 9 fair rounds that are made.
 pub fn somebody_can_enter()
     ensures { (w : Planned) (c : ℕ) → IsReached w → Asks w.state c → IsFree w.state
         → HasGrants (grants_for (length w.state.clients) (length w.state.clients) 1) w.state
@@ -122,7 +123,7 @@ pub fn somebody_can_enter()
 /// clients that leave. Nobody has to ask anew, and nobody has to give up.
 ///
 /// This holds in every world that was reached, whoever asks or is inside. Other clients may get in before.
-/// Each voter has to have n * (n + 8) * (2 n + 2) grants left and one, for n clients: n times as many rounds
+/// Each voter has to have n * (n + 9) * (2 n + 2) grants left and one, for n clients: n times as many rounds
 /// as in [`somebody_can_enter`] are made.
 pub fn everybody_can_enter()
     ensures { (w : Planned) (c : ℕ) → IsReached w → Asks w.state c
@@ -159,7 +160,64 @@ pub fn rounds_may_be_longer()
     worlds_keep_their_rules();
 }
 
-/// If a client asks, somebody asks, enters or gives up within n + 8 fair rounds, for n clients: nothing
+/// Fair rounds are live rounds, if everybody is live: then nobody is stuck, and nothing is dropped.
+pub fn fair_rounds_are_live_rounds()
+    ensures { (live : Live) (deal : Dealing) (w : WorldState) (rounds : List (List Step)) → ((c : ℕ) → live.client c ≡ true) → ((v : ℕ) → live.voter v ≡ true)
+        → AreFairRounds deal w rounds → AreLiveRounds live deal w rounds }
+{}
+
+/// If a client asks, somebody asks, enters or gives up within n + 9 live rounds, for n clients, while any voters
+/// are down and any clients are out: nothing stands still for longer.
+///
+/// A live round is a fair round of the clients and of the voters that are live. Clients that wait for a voter that
+/// is down end their request in it. A live voter whose grant is of a client that is not live drops that request.
+/// Clients that are not live are idle, and do not ask: they gave up before. Messages of theirs may still come. No
+/// REQUEST may come late, and each live voter has to have a grant left at the end.
+pub fn live_rounds_move_somebody()
+    ensures { (live : Live) (w : Planned) (c : ℕ) (rounds : List (List Step)) → IsReached w → Asks w.state c
+        → AreLiveRounds live (dealing_of w.plans) w.state rounds → late_in (dealing_of w.plans) 0 w.state rounds ≡ 0
+        → AreOut live w.state (run_of (dealing_of w.plans) (steps_of rounds) w.state) → HasGrantsThere live 1 (run_of (dealing_of w.plans) (steps_of rounds) w.state)
+        → block (length w.state.clients) ≤ length rounds
+        → IsStill w.state (run_of (dealing_of w.plans) (steps_of rounds) w.state) → ⊥ }
+{
+    worlds_keep_their_rules();
+}
+
+/// If a client asks and does not give up, somebody enters within (n + 9) * (c + 2 g + l) live rounds, for n
+/// clients, c of them live, g withdrawals of others and l arrivals of late REQUESTs.
+pub fn live_rounds_let_somebody_in()
+    ensures { (live : Live) (w : Planned) (c : ℕ) (rounds : List (List Step)) (more : List Event) → IsReached w → Asks w.state c
+        → AreLiveRounds live (dealing_of w.plans) w.state rounds → DoesNotGiveUp c (steps_of rounds)
+        → AreOut live w.state (run_of (dealing_of w.plans) (steps_of rounds) w.state) → HasGrantsThere live 1 (run_of (dealing_of w.plans) (steps_of rounds) w.state)
+        → block (length w.state.clients)
+        * (live_below live (length w.state.clients) + 2 * give_ups_in (steps_of rounds) + late_in (dealing_of w.plans) 0 w.state rounds)
+        ≤ length rounds
+        → (run_of (dealing_of w.plans) (steps_of rounds) w.state).visible ≡ w.state.visible ++ more
+        → (d : ℕ) × (1 ≤ entries_of d more) }
+{
+    worlds_keep_their_rules();
+}
+
+/// Whoever asks gets in, while any voters are down and any clients are out: a client that asks, and does not give
+/// up, enters within (n + 9) * (3 c + 2 h + l) live rounds, for n clients, c of them live, h hasty withdrawals and
+/// l arrivals of late REQUESTs.
+///
+/// Who asks a voter that is down, and does not have its vote, ends that request in the round, and may ask another
+/// quorum. Such a withdrawal is hasty if its request did not run for two whole rounds.
+pub fn live_rounds_let_everybody_in()
+    ensures { (live : Live) (w : Planned) (c : ℕ) (rounds : List (List Step)) (more : List Event) → IsReached w → Asks w.state c
+        → AreLiveRounds live (dealing_of w.plans) w.state rounds → DoesNotGiveUp c (steps_of rounds)
+        → AreOut live w.state (run_of (dealing_of w.plans) (steps_of rounds) w.state) → HasGrantsThere live 1 (run_of (dealing_of w.plans) (steps_of rounds) w.state)
+        → block (length w.state.clients)
+        * (3 * live_below live (length w.state.clients) + 2 * hasty_in (dealing_of w.plans) w.state rounds + late_in (dealing_of w.plans) 0 w.state rounds)
+        ≤ length rounds
+        → (run_of (dealing_of w.plans) (steps_of rounds) w.state).visible ≡ w.state.visible ++ more
+        → 1 ≤ entries_of c more }
+{
+    worlds_keep_their_rules();
+}
+
+/// If a client asks, somebody asks, enters or gives up within n + 9 fair rounds, for n clients: nothing
 /// stands still for longer.
 ///
 /// No REQUEST may come late, that is, later than in the round after that in which it was sent. Each voter
@@ -174,7 +232,7 @@ pub fn fair_rounds_move_somebody()
     worlds_keep_their_rules();
 }
 
-/// If a client asks and does not give up, somebody enters within (n + 8) * (n + 2 g + l) fair rounds, for n
+/// If a client asks and does not give up, somebody enters within (n + 9) * (n + 2 g + l) fair rounds, for n
 /// clients, g withdrawals of others and l arrivals of late REQUESTs.
 ///
 /// Each arrival counts, also of the same REQUEST again, and each withdrawal, also one that is refused. Each
@@ -193,7 +251,7 @@ pub fn fair_rounds_let_somebody_in()
 }
 
 /// Whoever asks gets in: a client that asks, and does not give up, enters within
-/// (n + 8) * (3 n + 2 h + l) fair rounds, for n clients, h hasty withdrawals and l arrivals of late REQUESTs.
+/// (n + 9) * (3 n + 2 h + l) fair rounds, for n clients, h hasty withdrawals and l arrivals of late REQUESTs.
 /// Each arrival counts, also of the same REQUEST again.
 ///
 /// In a fair round everybody is reminded, the messages of the reminders arrive, what is sent on their arrival

@@ -18,10 +18,15 @@
 //! - **Whoever asks can still get in** ([`everybody_can_enter`]): by reminders, by messages that are sent
 //!   after them, and by clients that leave.
 //! - **Whoever asks gets in** ([`fair_rounds_let_everybody_in`]): a client that asks, and does not give
-//!   up, enters within (n + 8) * (3 n + 2 h + l) fair rounds, for n clients, h hasty withdrawals and
+//!   up, enters within (n + 9) * (3 n + 2 h + l) fair rounds, for n clients, h hasty withdrawals and
 //!   l arrivals of late REQUESTs. A withdrawal is hasty if its request did not run for two whole rounds.
-//!   Somebody enters within (n + 8) * (n + 2 g + l), for g withdrawals ([`fair_rounds_let_somebody_in`]),
-//!   and nothing stands still for n + 8 rounds ([`fair_rounds_move_somebody`]).
+//!   Somebody enters within (n + 9) * (n + 2 g + l), for g withdrawals ([`fair_rounds_let_somebody_in`]),
+//!   and nothing stands still for n + 9 rounds ([`fair_rounds_move_somebody`]).
+//! - **While voters are down and clients are out** the same holds in live rounds, with c live clients in the
+//!   brackets ([`live_rounds_let_everybody_in`], [`live_rounds_let_somebody_in`], [`live_rounds_move_somebody`]):
+//!   fair rounds of those that are live, in which each client ends its request if it waits for a voter that is
+//!   down, and each voter drops the request of a client that is not live. If all are live, fair rounds are live
+//!   rounds ([`fair_rounds_are_live_rounds`]).
 //! - **The numbers that `qlock-show waiting` shows are enough** ([`rounds_are_enough`],
 //!   [`patient_rounds_are_enough`]): these are the two bounds without late REQUESTs.
 //! - **Fair rounds need not be neighbours** ([`rounds_may_be_longer`]): steps before a fair round and after
@@ -42,9 +47,9 @@
 //! # After losses
 //!
 //! Before the rounds anything may have happened, crashes and losses of saved states too. Then somebody
-//! enters within (n + 8) * (n + 2 g + l + v) fair rounds, for v voters
-//! ([`fair_rounds_let_somebody_in_after_losses`]). A client whose request is heard enters within
-//! (n + 8) * (3 n + 2 h + l + v) ([`fair_rounds_let_everybody_in_after_losses`]), and each request that was
+//! enters within (n + 9) * (c + 2 g + l + v) live rounds, for v voters
+//! ([`live_rounds_let_somebody_in_after_losses`]). A client whose request is heard enters within
+//! (n + 9) * (3 c + 2 h + l + v) ([`live_rounds_let_everybody_in_after_losses`]), and each request that was
 //! made after the last loss is heard ([`new_requests_are_heard`]).
 //!
 //! After crashes and incidents these laws hold once all clients were idle: `progress_comes_back` and
@@ -57,12 +62,14 @@ mod after_losses;
 mod laws;
 
 pub use after_losses::{
-    fair_rounds_let_everybody_in_after_losses, fair_rounds_let_somebody_in_after_losses,
+    live_rounds_let_everybody_in_after_losses, live_rounds_let_somebody_in_after_losses,
     new_requests_are_heard,
 };
 pub use laws::{
-    everybody_can_enter, fair_rounds_can_be_made, fair_rounds_let_everybody_in,
-    fair_rounds_let_somebody_in, fair_rounds_move_somebody, lost_votes_come_back,
-    nobody_overtakes_often, patient_rounds_are_enough, returned_votes_go_on, rounds_are_enough,
-    rounds_may_be_longer, somebody_can_enter, who_asks_alone_gets_in, worlds_keep_their_rules,
+    everybody_can_enter, fair_rounds_are_live_rounds, fair_rounds_can_be_made,
+    fair_rounds_let_everybody_in, fair_rounds_let_somebody_in, fair_rounds_move_somebody,
+    live_rounds_let_everybody_in, live_rounds_let_somebody_in, live_rounds_move_somebody,
+    lost_votes_come_back, nobody_overtakes_often, patient_rounds_are_enough, returned_votes_go_on,
+    rounds_are_enough, rounds_may_be_longer, somebody_can_enter, who_asks_alone_gets_in,
+    worlds_keep_their_rules,
 };

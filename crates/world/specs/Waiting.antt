@@ -4,7 +4,7 @@ use Rattle.std.specs.Prelude.{ℕ, ◌+◌, ◌*◌}
 -- The rounds of one block, for n clients. In as many, without a late REQUEST, some request begins or ends that
 -- is not later than a given one which runs.
 abbrev pub block : ℕ → ℕ
-block n = n + 8
+block n = n + 9
 
 -- After so many fair rounds a client that asks has entered: n clients, g withdrawals of others, and no
 -- REQUEST comes late.

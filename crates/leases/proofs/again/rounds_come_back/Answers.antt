@@ -3,30 +3,31 @@ use Rattle.progress.proofs.Olds.{olds_most}
 use Rattle.progress.proofs.Patient.{everybody_by}
 use Rattle.progress.proofs.Sure.{Course}
 use Rattle.progress.proofs.Waiting.{moves_by, somebody_by}
+use Rattle.progress.specs.LiveRounds.{live_below}
 use Rattle.progress.specs.Patience.{hasty_in}
 use Rattle.progress.specs.Rounds.{give_ups_in, late_in, steps_of}
 use Rattle.leases.proofs.Resumed.{resumes}
 use Rattle.leases.proofs.again.rounds_come_back.Goals as goal
 
 pub returns-clause-moved : goal.returns-clause-moved
-returns-clause-moved c deal w client rounds r asks fair late left long still =
-    let again = resumes c.worlds_keep_their_rules.ensures c.parts_keep_their_rules.ensures.clients c.parts_keep_their_rules.ensures.voters deal w r in
-    let p : Course = record { deal = deal; old = again.old } in
+returns-clause-moved c live deal w client rounds r asks fair late out left long still =
+    let again = resumes c.worlds_keep_their_rules.ensures c.parts_keep_their_rules.ensures.clients c.parts_keep_their_rules.ensures.voters live deal w r in
+    let p : Course = record { deal = deal; old = again.old; live = live } in
     let most = olds_most p (length w.voters) w in
-    moves_by c.worlds_keep_their_rules.ensures p w client (length w.voters + 1) rounds again.few again.sure asks fair late left (omega arith) long still
+    moves_by c.worlds_keep_their_rules.ensures p w client (length w.voters + 1) rounds again.few again.sure asks fair late (record { grants = left; out = out }) (omega arith) long still
 
 pub returns-clause-somebody : goal.returns-clause-somebody
-returns-clause-somebody c deal w client rounds more r asks fair stays left long visible =
-    let again = resumes c.worlds_keep_their_rules.ensures c.parts_keep_their_rules.ensures.clients c.parts_keep_their_rules.ensures.voters deal w r in
-    let p : Course = record { deal = deal; old = again.old } in
+returns-clause-somebody c live deal w client rounds more r asks fair stays out left long visible =
+    let again = resumes c.worlds_keep_their_rules.ensures c.parts_keep_their_rules.ensures.clients c.parts_keep_their_rules.ensures.voters live deal w r in
+    let p : Course = record { deal = deal; old = again.old; live = live } in
     let most = olds_most p (length w.voters) w in
-    somebody_by c.worlds_keep_their_rules.ensures p w client (length w.clients + 2 * give_ups_in (steps_of rounds) + late_in deal 0 w rounds + length w.voters) rounds more again.few again.sure
-    asks fair stays left (omega arith) long visible
+    somebody_by c.worlds_keep_their_rules.ensures p w client (live_below live (length w.clients) + 2 * give_ups_in (steps_of rounds) + late_in deal 0 w rounds + length w.voters) rounds more again.few again.sure
+    asks fair stays (record { grants = left; out = out }) (omega arith) long visible
 
 pub returns-clause-everybody : goal.returns-clause-everybody
-returns-clause-everybody c deal w client rounds more r asks fair stays left long visible =
-    let again = resumes c.worlds_keep_their_rules.ensures c.parts_keep_their_rules.ensures.clients c.parts_keep_their_rules.ensures.voters deal w r in
-    let p : Course = record { deal = deal; old = again.old } in
+returns-clause-everybody c live deal w client rounds more r asks fair stays out left long visible =
+    let again = resumes c.worlds_keep_their_rules.ensures c.parts_keep_their_rules.ensures.clients c.parts_keep_their_rules.ensures.voters live deal w r in
+    let p : Course = record { deal = deal; old = again.old; live = live } in
     let most = olds_most p (length w.voters) w in
-    everybody_by c.worlds_keep_their_rules.ensures p w client (3 * length w.clients + 2 * hasty_in deal w rounds + late_in deal 0 w rounds + length w.voters) rounds more again.few again.sure
-    (again.heeded client) asks fair stays left (omega arith) long visible
+    everybody_by c.worlds_keep_their_rules.ensures p w client (3 * live_below live (length w.clients) + 2 * hasty_in deal w rounds + late_in deal 0 w rounds + length w.voters) rounds more again.few again.sure
+    (again.heeded client) asks fair stays (record { grants = left; out = out }) (omega arith) long visible

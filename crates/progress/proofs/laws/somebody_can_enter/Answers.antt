@@ -1,4 +1,5 @@
 use Rattle.std.proofs.Common.{length, refl, arith}
+use Rattle.progress.specs.LiveRounds.{everybody}
 use Rattle.progress.proofs.Olds.{no_olds}
 use Rattle.progress.proofs.Sure.{IsSure-reached, course_of}
 use Rattle.progress.proofs.WaysIn.{somebody_gets_in}
@@ -7,6 +8,6 @@ use Rattle.progress.proofs.laws.somebody_can_enter.Goals as goal
 pub returns : goal.returns
 returns c w client reached asks free left =
     let laws = c.worlds_keep_their_rules.ensures in
-    let p = course_of w in
+    let p = course_of everybody w in
     let none = no_olds p (length w.state.voters) w.state (λ v. refl) in
-    somebody_gets_in laws p w.state client 1 (λ v. omega arith) (IsSure-reached laws w reached) asks free (omega arith) left
+    somebody_gets_in laws p w.state client 1 (λ c. refl) (λ v. refl) (λ v. omega arith) (IsSure-reached laws everybody w reached) asks free (omega arith) left

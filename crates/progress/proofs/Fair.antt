@@ -1,0 +1,53 @@
+-- fair rounds are live rounds in which everybody is live
+use Rattle.std.proofs.Common.{◌≡◌, ℕ, zero, suc, ◌<◌, true, List, [], ◌∷◌, length, sym, ◌∙◌, arith}
+use Rattle.std.specs.Prelude.{slice_get}
+use Rattle.std.proofs.lemmas.Bool.{false≢true}
+use Rattle.message.specs.declared.message.Message.{Message}
+use Rattle.world_state.specs.declared.step.Step.TheVariants.{RemindVoter}
+use Rattle.world_state.specs.declared.step.Step.{Step}
+use Rattle.world.specs.Runs.{run_of}
+use Rattle.world.specs.WayIn.{HasGrants}
+use Rattle.world_state.specs.Steps.{Dealing, WorldState}
+use Rattle.progress.specs.LiveRounds.{AreLiveRounds, IsAnswered, IsLiveRound, IsReminded, IsServed, Live, is_between}
+use Rattle.progress.specs.Rounds as fair
+use Rattle.progress.proofs.Sure.{Course, Serving}
+
+-- a message between live ones was sent
+was_sent : (live : Live) (l : List Message) (j : ℕ) → is_between live (slice_get l j) ≡ true → j < length l
+was_sent live [] j is = absurd (false≢true is)
+was_sent live (m ∷ l) zero is = omega arith
+was_sent live (m ∷ l) (suc j) is = (let rest = was_sent live l j is in omega arith)
+
+answered : (live : Live) (deal : Dealing) (w : WorldState) (steps : List Step) (k : ℕ) → fair.IsAnswered deal w steps k → IsAnswered live deal w steps k
+answered live deal w steps k h = record { first = h.first; rest = h.rest; split = h.split; answers = λ j least between. h.answers j least (was_sent live _ j between) }
+
+reminded : (live : Live) (deal : Dealing) (w : WorldState) (steps : List Step) (s : Step) → fair.IsReminded deal w steps s → IsReminded live deal w steps s
+reminded live deal w steps s h = record {
+  first = h.first;
+  rest = h.rest;
+  split = h.split;
+  arrive = λ k least between. answered live deal _ h.rest k (h.arrive k least (was_sent live _ k between));
+}
+
+served : (live : Live) (deal : Dealing) (w : WorldState) (steps : List Step) (v : ℕ) → ((c : ℕ) → live.client c ≡ true) → fair.IsReminded deal w steps (RemindVoter v) → IsServed live deal w steps v
+served live deal w steps v all h = record {
+  reminded = reminded live deal w steps (RemindVoter v) h;
+  drops = λ g held dead. absurd (false≢true (sym dead ∙ all g.client));
+}
+
+fair_is_live : (live : Live) (deal : Dealing) (w : WorldState) (round : List Step) → ((c : ℕ) → live.client c ≡ true) → ((v : ℕ) → live.voter v ≡ true) → fair.IsFairRound deal w round
+    → IsLiveRound live deal w round
+fair_is_live live deal w round all up h = record {
+  clients = λ c within _. reminded live deal w round _ (h.clients c within);
+  voters = λ v within _. served live deal w round v all (h.voters v within);
+  leaves = λ c _ inside. h.leaves c inside;
+  ends = λ c _ stuck _. false≢true (sym stuck.down ∙ up stuck.voter);
+}
+
+pub fair_are_live : (live : Live) (deal : Dealing) (w : WorldState) (rounds : List (List Step)) → ((c : ℕ) → live.client c ≡ true) → ((v : ℕ) → live.voter v ≡ true) → fair.AreFairRounds deal w rounds
+    → AreLiveRounds live deal w rounds
+fair_are_live live deal w [] all up h = tt
+fair_are_live live deal w (r ∷ rs) all up h = (fair_is_live live deal w r all up h.0, fair_are_live live deal (run_of deal r w) rs all up h.1)
+
+pub everybody_serves : (p : Course) (w z : WorldState) → ((c : ℕ) → p.live.client c ≡ true) → HasGrants 1 z → Serving p w z
+everybody_serves p w z all left = record { grants = λ v within _. left v within; out = λ c dead. absurd (false≢true (sym dead ∙ all c)) }

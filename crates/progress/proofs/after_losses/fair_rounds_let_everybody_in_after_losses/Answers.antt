@@ -1,5 +1,0 @@
-use Rattle.progress.proofs.Losses.{after_losses_everybody}
-use Rattle.progress.proofs.after_losses.fair_rounds_let_everybody_in_after_losses.Goals as goal
-
-pub returns : goal.returns
-returns c = after_losses_everybody c.worlds_keep_their_rules.ensures c.parts_keep_their_rules.ensures.clients c.parts_keep_their_rules.ensures.voters
