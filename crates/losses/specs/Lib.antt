@@ -1,2 +1,3 @@
 pub mod Losses
 pub mod Regrets
+pub mod Worst

@@ -5,6 +5,7 @@
 //!
 //! - [`tickets_left`] returns how many tickets of a cycle are left.
 //! - [`load_left`] returns the load of these tickets.
+//! - [`worst_one_down`] returns the greatest load that is left when one voter is down.
 //! - [`bears_losses`] returns whether some ticket is left whichever voters are down, if a quorum is.
 //! - [`regret_of`] compares it with the best load without the same voters, for a list of [`Failure`]s.
 //! - [`regret_bound`] returns what the regret of all weights is at least, if their load is at most a limit.
@@ -12,7 +13,7 @@
 //!
 //! # What is proved
 //!
-//! - **The figures are exact**: tickets, load and regret are those of the definitions.
+//! - **The figures are exact**: tickets, load, worst load and regret are those of the definitions.
 //! - **One loss costs at most the load** ([`one_loss_costs_at_most_the_load`]), for capacities 1: if
 //!   one voter is down, the share of tickets that are lost is at most the load. Some voter's loss
 //!   loses exactly this share. No other weights have a smaller worst loss than a plan.
@@ -34,6 +35,7 @@ mod bound;
 mod failure;
 mod figures;
 mod laws;
+mod one_down;
 mod regret;
 
 pub use bearing::bears_losses;
@@ -41,4 +43,5 @@ pub use bound::regret_bound;
 pub use failure::Failure;
 pub use figures::{load_left, tickets_left};
 pub use laws::{no_regret_is_below_the_bound, one_loss_costs_at_most_the_load};
-pub use regret::regret_of;
+pub use one_down::{OneDown, worst_one_down};
+pub use regret::{regret_at, regret_of};

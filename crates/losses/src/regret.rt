@@ -6,8 +6,10 @@ use crate::failure::{Failure, is_fraction};
 use crate::figures::load_left;
 use certificate::{Weights, greater_of, lowest_terms};
 
-/// Returns the load that a failure leaves, divided by the best one, unless no ticket is left.
-fn regret_at(weights: &Weights, failure: &Failure) -> Option<(u64, u64)>
+/// Returns the load that a failure leaves, divided by the best one, as a numerator and a denominator in
+/// lowest terms. Returns `None` if and only if the failure leaves no ticket, or a part of its best load is 0
+/// or above 1,000,000,000.
+pub fn regret_at(weights: &Weights, failure: &Failure) -> Option<(u64, u64)>
     ensures { SomeIff result (IsBorne weights.now failure.now) (regret_at weights.now failure.now) }
 {
     if !is_fraction(failure.best) {

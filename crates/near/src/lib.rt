@@ -2,8 +2,9 @@
 //!
 //! The planner finds an optimal plan, or none: the exact weights of a large irregular coterie may
 //! sum to more than 1,000,000. [`near`] finds weights with cycles of a wanted length for each coterie,
-//! and [`weights`] takes those of a plan if its cycle is short enough. They have a load, and a bound: no weights of the coterie have a load below it. So anybody sees how
-//! far the load is above the smallest possible one, at most. In tests with 90 random coteries of 20 to
+//! and [`weights`] takes those of a plan if its cycle is short enough. They have a load, and a bound: no
+//! weights of the coterie have a load below it. So anybody sees how far the load is above the smallest
+//! possible one, at most. In tests with 90 random coteries of 20 to
 //! 64 voters, two thirds of them with random capacities, this was less than 0.35 % for cycles of at
 //! most 1,000 tickets, and less than 0.02 % for cycles of at most 100,000.
 //!
@@ -19,6 +20,7 @@
 //!   asked for. By the contract of [`Weights`](certificate::Weights), no weights of them have a load
 //!   below the bound.
 //! - The load is at most that of weights 1 of all quorums, if these are not too many.
+//! - No number above 1 divides all weights of the voters.
 //! - [`weights`] returns weights 1 of all quorums if these are optimal, and not too many.
 //! - [`is_within`] returns whether the load is so near the bound, exactly. [`weights_within`] returns `Ok`
 //!   for such weights alone.

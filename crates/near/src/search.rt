@@ -7,12 +7,13 @@ ghost use Rattle.certificate.specs.Certificates.{AreWeights, IsCertificate, cycl
 ghost use Rattle.certificate.specs.Ratios.{IsAtMost};
 ghost use Rattle.near.specs.Nearness.{HoldsOfEither, IsWithin, ones_of};
 ghost use Rattle.planner.specs.Uniform.{all_ones};
+ghost use Rattle.planner.specs.Weights.{HaveNoCommonDivisor};
 
 use crate::shares::{rounded, shares_of};
 use crate::tickets::tickets_of;
 use certificate::Weights;
 use numbers::MAX_CYCLE;
-use planner::{PlannerFault, plan};
+use planner::{PlannerFault, divide, plan};
 use quorum_set::Coterie;
 use std::alloc::{AllocError, Global};
 
@@ -79,6 +80,20 @@ fn better_of(first: Weights, second: Weights) -> Weights
     first
 }
 
+/// Returns weights of the voters in proportion to the shares, in lowest terms.
+fn voters_of(alloc: Global, shares: &[f64]) -> Result<Vec<u64>, AllocError>
+    requires some { 0 < length shares.now }
+    requires few { length shares.now ≤ max_cycle }
+    ensures length { IfOk result (λ v. vec_len v ≡ length shares.now) }
+    ensures some { IfOk result (λ v. 0 < sum v.items) }
+    ensures small { IfOk result (λ v. sum v.items ≤ max_cycle) }
+    ensures lowest { IfOk result (λ v. HaveNoCommonDivisor v.items) }
+{
+    let mut voters = rounded(alloc, shares, MAX_CYCLE)?;
+    divide(&mut voters);
+    Ok(voters)
+}
+
 /// Returns the weights that are found, or plain ones if these have a load that is as small.
 fn found(
     alloc: Global,
@@ -92,11 +107,12 @@ fn found(
     ensures capacities { IfOk result (λ w. w.capacities ≡ capacities.now) }
     ensures weights { IfOk result AreWeights }
     ensures short { IfOk result (λ w. cycle_len w ≤ most) }
+    ensures lowest { IfOk result (λ w. HaveNoCommonDivisor w.voter_weights) }
     ensures ones { length coterie.now.quorums ≤ most → IfOk result (λ w.
         IsAtMost (load_of w) (load_of (with_weights coterie.now capacities.now (ones_of coterie.now) w.voter_weights))) }
 {
     let shares = shares_of(alloc, coterie, capacities)?;
-    let voters = rounded(alloc, &shares.voters, MAX_CYCLE)?;
+    let voters = voters_of(alloc, &shares.voters)?;
     let plain = plain_tickets(alloc, coterie, most)?;
     let first = weights_of(alloc, coterie, capacities, plain, &voters)?;
     let tickets = tickets_of(alloc, coterie, capacities, &shares.quorums, most)?;
@@ -126,6 +142,8 @@ pub fn near(
     ensures capacities { IfOk result (λ w. w.capacities ≡ capacities.now) }
     ensures weights { IfOk result AreWeights }
     ensures short { IfOk result (λ w. cycle_len w ≤ most) }
+    // No number above 1 divides all weights of the voters.
+    ensures lowest { IfOk result (λ w. HaveNoCommonDivisor w.voter_weights) }
     // No weights of this coterie and these capacities have a load below the bound.
     ensures bounded { IfOk result IsBounded }
     // Each list of quorums uses some voter, for its capacity, at least as often as the bound says.
@@ -163,6 +181,8 @@ pub fn weights(
     ensures capacities { IfOk result (λ w. w.capacities ≡ capacities.now) }
     ensures weights { IfOk result AreWeights }
     ensures short { IfOk result (λ w. cycle_len w ≤ most) }
+    // No number above 1 divides all weights of the voters.
+    ensures lowest { IfOk result (λ w. HaveNoCommonDivisor w.voter_weights) }
     // No weights of this coterie and these capacities have a load below the bound.
     ensures bounded { IfOk result IsBounded }
     // If weights 1 of all quorums are not too many, the load is at most theirs.
@@ -200,6 +220,7 @@ pub fn weights_within(
     ensures capacities { IfOk result (HoldsOfEither (λ w. w.capacities ≡ capacities.now)) }
     ensures weights { IfOk result (HoldsOfEither AreWeights) }
     ensures short { IfOk result (HoldsOfEither (λ w. cycle_len w ≤ most)) }
+    ensures lowest { IfOk result (HoldsOfEither (λ w. HaveNoCommonDivisor w.voter_weights)) }
     ensures bounded { IfOk result (HoldsOfEither IsBounded) }
     ensures within { IfOk result (λ found. IfOk found (IsWithin millionths)) }
     ensures beyond { IfOk result (λ found. IfErr found (λ w. ¬ IsWithin millionths w)) }

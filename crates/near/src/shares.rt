@@ -9,6 +9,9 @@ use quorum_set::Coterie;
 use std::alloc::{AllocError, Global};
 use std::num::saturating_f64_to_u64;
 
+/// A share that lacks so little of a whole number counts as one.
+const NOISE: f64 = 0.001;
+
 /// How much to use each quorum, and what each voter is worth. They are in proportion to weights.
 #[derive(Drop)]
 pub(crate) struct Shares {
@@ -57,7 +60,7 @@ fn scaled(alloc: Global, shares: &[f64], most: u64) -> Result<Vec<u64>, AllocErr
     let mut left = most;
     let mut weights = Vec::with_capacity(alloc, shares.len())?;
     for share in shares {
-        let weight = saturating_f64_to_u64(*share * scale).min(left);
+        let weight = saturating_f64_to_u64(*share * scale + NOISE).min(left);
         weights.push(weight)?;
         left -= weight;
     }

@@ -1,11 +1,11 @@
 -- Weights that are divided by their greatest common divisor.
-use Rattle.std.proofs.Common.{◌≡◌, ◌≢◌, ℕ, ◌*◌, ◌/◌, ◌<◌, List, [], ◌∷◌, length, map, sum, get_or, zero, suc, sym, refl, subst, ap, ◌∙◌, arith}
+use Rattle.std.proofs.Common.{◌≡◌, ◌≢◌, ℕ, ◌+◌, ◌*◌, ◌/◌, ◌<◌, ◌≤◌, List, [], ◌∷◌, length, map, sum, get_or, zero, suc, sym, refl, subst, ap, ap₂, ◌∙◌, arith}
 use Rattle.std.specs.List.{All}
 use Rattle.std.specs.Int.{◌∣◌}
 use Rattle.std.proofs.lemmas.List.{get_or-map, length-map}
 use Rattle.std.proofs.lemmas.List.Elements.{All-head, All-tail}
 use Rattle.std.proofs.lemmas.List.Sums.{sum_by-cons}
-use Rattle.std.proofs.Math.Nat.{eq-zero_of_zero-dvd, mul-dvd-mul_left, dvd_of_mul-dvd-mul_left, mul-div_cancel', eq-one_of_dvd-one}
+use Rattle.std.proofs.Math.Nat.{eq-zero_of_zero-dvd, mul-dvd-mul_left, mul-le-mul_right, dvd_of_mul-dvd-mul_left, mul-div_cancel', eq-one_of_dvd-one}
 use Rattle.quorum_set.specs.Coteries.{QuorumSystem}
 use Rattle.certificate.specs.Certificates.{Weighted, IsCertificate}
 use Rattle.planner.specs.Uniform.{ones, all_ones}
@@ -35,6 +35,43 @@ HaveNoCommonDivisor-divided xs ys g is some e = λ d all.
   where
     times_one : (g : ℕ) → g * 1 ≡ g
     times_one g = omega arith
+
+-- Numbers and their quotients
+
+-- each number is the divisor times its quotient
+pub divided-times : (xs : List ℕ) (g : ℕ) → All (λ x. g ∣ x) xs → xs ≡ map (λ y. g * y) (map (λ x. x / g) xs)
+divided-times [] g all = refl
+divided-times (x ∷ xs) g all =
+    ap₂ (λ (y : ℕ) (ys : List ℕ). y ∷ ys) (sym (mul-div_cancel' g (All-head (λ y. g ∣ y) x xs all))) (divided-times xs g (All-tail (λ y. g ∣ y) x xs all))
+
+pub times-one : (xs : List ℕ) → xs ≡ map (λ x. 1 * x) xs
+times-one [] = refl
+times-one (x ∷ xs) = ap₂ (λ (y : ℕ) (ys : List ℕ). y ∷ ys) (omega arith) (times-one xs)
+
+sum-times : (g : ℕ) (xs : List ℕ) → sum (map (λ x. g * x) xs) ≡ g * sum xs
+sum-times g [] = omega arith
+sum-times g (x ∷ xs) =
+    let products : sum (map (λ y. g * y) (x ∷ xs)) ≡ g * x + sum (map (λ y. g * y) xs) = sum_by-cons (λ y. y) (g * x) (map (λ y. g * y) xs) in
+    let both : g * sum (x ∷ xs) ≡ g * (x + sum xs) = ap (λ n. g * n) (sum_by-cons (λ y. y) x xs) in
+    omega (arith, products, both, sum-times g xs)
+
+factor-some : (g s t : ℕ) → t ≡ g * s → 0 < t → 0 < s
+factor-some g zero t is some = absurd (omega (arith, is, some))
+factor-some g (suc s) t is some = omega arith
+
+factor-le : (g s t : ℕ) → t ≡ g * s → 0 < g → s ≤ t
+factor-le g s t is some =
+    let one : 1 ≤ g = omega (arith, some) in
+    let more : 1 * s ≤ g * s = mul-le-mul_right s one in
+    omega (arith, is, more)
+
+-- quotients of numbers with a sum above 0 have one, too
+pub sum-times-some : (xs ys : List ℕ) (g : ℕ) → xs ≡ map (λ y. g * y) ys → 0 < sum xs → 0 < sum ys
+sum-times-some xs ys g is = factor-some g (sum ys) (sum xs) (ap sum is ∙ sum-times g ys)
+
+-- their sum is no greater
+pub sum-times-le : (xs ys : List ℕ) (g : ℕ) → xs ≡ map (λ y. g * y) ys → 0 < g → sum ys ≤ sum xs
+sum-times-le xs ys g is = factor-le g (sum ys) (sum xs) (ap sum is ∙ sum-times g ys)
 
 -- the number 1, at least once, has no divisor but 1
 pub HaveNoCommonDivisor-ones : (n : ℕ) → 0 < n → HaveNoCommonDivisor (ones n)

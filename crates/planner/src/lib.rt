@@ -7,6 +7,8 @@
 //! first. Each attempt is checked by `certificate::check`, so a plan that is returned is optimal however
 //! it was found. Whether a plan is found for any other coterie is left to the searches.
 //!
+//! [`divide`] brings weights to lowest terms.
+//!
 //! This crate depends on `certificate`, `basis`, `simplex`, `quorum_set` and `numbers`.
 //!
 //! ```text
@@ -18,8 +20,10 @@
 
 mod fault;
 mod laws;
+mod lowest;
 mod search;
 
 pub use fault::{Cause, PlannerFault};
 pub use laws::ones_certify_uniform_coteries;
+pub use lowest::divide;
 pub use search::plan;

@@ -1,14 +1,15 @@
 //! The search for a plan.
-ghost use Rattle.std.specs.Prelude.{◌≡◌, ◌≢◌, ◌<◌, ◌/◌, length, vec_len, map, sum, IfOk, IfSome, IfErr, IsOkUnless};
+ghost use Rattle.std.specs.Prelude.{◌≡◌, length, vec_len, IfOk, IfSome, IfErr, IsOkUnless};
 ghost use Rattle.quorum_set.specs.Capacities.{AreCapacities};
 ghost use Rattle.certificate.specs.Certificates.{IsCertificate, IsOptimal};
 ghost use Rattle.planner.specs.Uniform.{AreEqual, IsUniform, IsWarranted, all_ones};
-ghost use Rattle.planner.specs.Weights.{HaveNoCommonDivisor, IsGreatestDivisor};
+ghost use Rattle.planner.specs.Weights.{HaveNoCommonDivisor};
 ghost use Rattle.planner.specs.Causes.{CanCome};
 
 use crate::fault::PlannerFault;
+use crate::lowest::divide;
 use basis::{Tableau, inner_weights, quorum_weights, search as search_basis, voter_weights};
-use certificate::{Plan, PlanFault, check, gcd};
+use certificate::{Plan, PlanFault, check};
 use quorum_set::Coterie;
 use simplex::solve;
 use std::alloc::Global;
@@ -22,38 +23,6 @@ const SHORT: u64 = 3_000;
 
 /// With at most this many voters exact numbers are as quick as floating point, and come first.
 const FEW: usize = 20;
-
-/// Returns the greatest common divisor of the weights; 0 if all are 0.
-fn divisor_of(weights: &[u64]) -> u64
-    ensures { IsGreatestDivisor weights.now result }
-{
-    let mut common = 0;
-    for weight in weights {
-        common = gcd(common, *weight);
-    }
-    common
-}
-
-/// Divides each weight by the divisor.
-fn divide_by(weights: &mut [u64], divisor: u64)
-    requires { divisor ≢ 0 }
-    ensures { weights.new ≡ map (λ weight. weight / divisor) weights.old }
-{
-    for weight in weights.iter_mut() {
-        *weight /= divisor;
-    }
-}
-
-/// Divides the weights by their greatest common divisor. If all are 0 they stay 0.
-fn divide(weights: &mut [u64])
-    ensures length { length weights.new ≡ length weights.old }
-    ensures lowest { 0 < sum weights.new → HaveNoCommonDivisor weights.new }
-{
-    let common = divisor_of(weights);
-    if common != 0 {
-        divide_by(weights, common);
-    }
-}
 
 /// Returns the plan with all weights 1, or the fault of the check.
 fn even(alloc: Global, coterie: &Coterie, capacities: &[u64]) -> Result<Plan, PlanFault>

@@ -1,6 +1,6 @@
 use Rattle.std.proofs.Common.{ℕ, ◌<◌, get_or}
 use Rattle.std.specs.Int.{◌∣◌}
-use Rattle.planner.proofs.search.divisor_of.Given as goal
+use Rattle.planner.proofs.lowest.divisor_of.Given as goal
 
 abbrev pub invariant-loop-weight : goal.invariant-loop-weight
 invariant-loop-weight l = record {

@@ -2,7 +2,7 @@ use Rattle.std.proofs.Common.{ℕ, get_or, sym, subst, arith, below_more}
 use Rattle.std.specs.Int.{◌∣◌}
 use Rattle.std.proofs.lemmas.Grind.{get_or_default_zero}
 use Rattle.std.proofs.lemmas.Nat.Gcd.{dvd_trans}
-use Rattle.planner.proofs.search.divisor_of.Goals as goal
+use Rattle.planner.proofs.lowest.divisor_of.Goals as goal
 
 pub loop-weight-preserved : goal.loop-weight-preserved
 loop-weight-preserved c =
