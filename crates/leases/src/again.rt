@@ -7,7 +7,7 @@ ghost use Rattle.progress.specs.Patience.{hasty_in};
 ghost use Rattle.progress.specs.Rounds.{DoesNotGiveUp, IsStill, give_ups_in, grants_for, late_in, steps_of};
 ghost use Rattle.progress.specs.Overtaking.{IsKnownEverywhere, StillRuns};
 ghost use Rattle.world.specs.Visible.{entries_of};
-ghost use Rattle.world.specs.Waiting.{block};
+ghost use Rattle.world.specs.Waiting.{live_block};
 ghost use Rattle.world.specs.WayIn.{Asks, AsksAlone, GetsIn, HasGrants, IsFree, IsWayIn};
 ghost use Rattle.voter.specs.declared.state.Grant.{Grant};
 ghost use Rattle.world_state.specs.declared.step.Event.{Event};
@@ -30,7 +30,7 @@ use world::parts_keep_their_rules;
 /// - A client that asks gets in by reminders, by new messages, and by clients that leave.
 ///
 /// All but the first are for voters with grants left. The second and the third need one, as in `progress`. The
-/// last three need grants for v * (n + 9) fair rounds more than in `progress`, for v voters and n clients.
+/// last three need grants for v * (n + 8) fair rounds more than in `progress`, for v voters and n clients.
 pub fn progress_comes_back()
     ensures overtaken { (deal : Dealing) (w : WorldState) (client other : ℕ) (steps : List Step) (more : List Event)
         → IsReachedAgain deal w → IsKnownEverywhere w client → other ≢ client → StillRuns w (run_of deal steps w) client
@@ -68,14 +68,14 @@ pub fn progress_comes_back()
 pub fn rounds_come_back()
     ensures moved { (live : Live) (deal : Dealing) (w : WorldState) (client : ℕ) (rounds : List (List Step)) → IsReachedAgain deal w → Asks w client
         → AreLiveRounds live deal w rounds → late_in deal 0 w rounds ≡ 0 → AreOut live w (run_of deal (steps_of rounds) w) → HasGrantsThere live 1 (run_of deal (steps_of rounds) w)
-        → (length w.voters + 1) * block (length w.clients) ≤ length rounds → IsStill w (run_of deal (steps_of rounds) w) → ⊥ }
+        → (length w.voters + 1) * live_block (length w.clients) ≤ length rounds → IsStill w (run_of deal (steps_of rounds) w) → ⊥ }
     ensures somebody { (live : Live) (deal : Dealing) (w : WorldState) (client : ℕ) (rounds : List (List Step)) (more : List Event) → IsReachedAgain deal w → Asks w client
         → AreLiveRounds live deal w rounds → DoesNotGiveUp client (steps_of rounds) → AreOut live w (run_of deal (steps_of rounds) w) → HasGrantsThere live 1 (run_of deal (steps_of rounds) w)
-        → block (length w.clients) * (live_below live (length w.clients) + 2 * give_ups_in (steps_of rounds) + late_in deal 0 w rounds + length w.voters) ≤ length rounds
+        → live_block (length w.clients) * (live_below live (length w.clients) + 2 * give_ups_in (steps_of rounds) + late_in deal 0 w rounds + length w.voters) ≤ length rounds
         → (run_of deal (steps_of rounds) w).visible ≡ w.visible ++ more → (who : ℕ) × (1 ≤ entries_of who more) }
     ensures everybody { (live : Live) (deal : Dealing) (w : WorldState) (client : ℕ) (rounds : List (List Step)) (more : List Event) → IsReachedAgain deal w → Asks w client
         → AreLiveRounds live deal w rounds → DoesNotGiveUp client (steps_of rounds) → AreOut live w (run_of deal (steps_of rounds) w) → HasGrantsThere live 1 (run_of deal (steps_of rounds) w)
-        → block (length w.clients) * (3 * live_below live (length w.clients) + 2 * hasty_in deal w rounds + late_in deal 0 w rounds + length w.voters) ≤ length rounds
+        → live_block (length w.clients) * (3 * live_below live (length w.clients) + 2 * hasty_in deal w rounds + late_in deal 0 w rounds + length w.voters) ≤ length rounds
         → (run_of deal (steps_of rounds) w).visible ≡ w.visible ++ more → 1 ≤ entries_of client more }
 {
     worlds_keep_their_rules();

@@ -26,7 +26,7 @@ use Rattle.progress.specs.LiveRounds.{AreLiveRounds}
 use Rattle.progress.specs.Rounds.{late_body, late_in, late_message, late_step, late_steps, steps_of}
 use Rattle.progress.specs.Rules.{Laws}
 use Rattle.world.specs.WayIn.{Asks}
-use Rattle.world.specs.Waiting.{block}
+use Rattle.world.specs.Waiting.{block, live_block}
 use Rattle.progress.proofs.Ahead.{NotBehind}
 use Rattle.progress.proofs.Along.{Along, along-first, along-kept, along-last, along-split, along-weaker, next}
 use Rattle.progress.proofs.Arrivals.{get_after}
@@ -405,7 +405,7 @@ eight_end laws p w c (r0 ∷ r1 ∷ r2 ∷ r3 ∷ r4 ∷ r5 ∷ r6 ∷ []) long 
 
 -- In these rounds some request that is not later than that of the client c begins or ends, or an old grant is given
 -- back.
-abbrev MovesIn : Course → WorldState → ℕ → List (List Step) → Type 0
+abbrev pub MovesIn : Course → WorldState → ℕ → List (List Step) → Type 0
 MovesIn p w c rounds = AreLiveRounds p.live p.deal w rounds → late_in p.deal 0 w rounds ≡ 0 → Serving p w (run_of p.deal (steps_of rounds) w)
     → KeepsOlds p w (run_of p.deal (steps_of rounds) w) → ((d : ℕ) → turns_up_to p.deal (client_at w.clients c).stamp d (steps_of rounds) w ≡ 0) → ⊥
 
@@ -436,11 +436,20 @@ one_more laws p w c a l b long r asks few fair late left keeps still =
     let later = after_l.same m up in
     holds_down p z m l fairs.1.0 (live_by p z m there.left (is_asking-busy (client_at z.clients m).phase (now.asks ∙ asking))) (now.asks ∙ asking) (record { asks = later.asks ∙ asking; same = later.stamp ∙ sym now.stamp }))
 
-pub block_moves : (laws : Laws) (p : Course) (w : WorldState) (c : ℕ) (rounds : List (List Step)) → IsSure p w → Asks w c → AreOld p w → block (length w.clients) ≤ length rounds → MovesIn p w c rounds
-block_moves laws p w c rounds r asks few long =
-    let parts = split_rounds (length w.clients + 8) rounds (omega arith) in
-    subst (MovesIn p w c) (sym parts.2) (by parts.0 parts.1 parts.3 (let count = parts.4 in omega arith))
+-- any b rounds of n clients are such
+abbrev pub IsBlock : Course → ℕ → ℕ → Type 0
+IsBlock p n b = (x : WorldState) (c : ℕ) (rounds : List (List Step)) → length x.clients ≡ n → IsSure p x → Asks x c → AreOld p x → b ≤ length rounds → MovesIn p x c rounds
+
+pub live_is_block : (laws : Laws) (p : Course) (n : ℕ) → IsBlock p n (live_block n)
+live_is_block laws p n x c rounds count r asks few long =
+    let parts = split_rounds (length x.clients + 8) rounds (omega arith) in
+    subst (MovesIn p x c) (sym parts.2) (by parts.0 parts.1 parts.3 (let more = parts.4 in omega arith))
   where
-    by : (a b : List (List Step)) → length a ≡ length w.clients + 8 → 1 ≤ length b → MovesIn p w c (a ++ b)
+    by : (a b : List (List Step)) → length a ≡ length x.clients + 8 → 1 ≤ length b → MovesIn p x c (a ++ b)
     by a [] long some = absurd (omega arith)
-    by a (l ∷ b) long some = one_more laws p w c a l b (omega arith) r asks few
+    by a (l ∷ b) long some = one_more laws p x c a l b (omega arith) r asks few
+
+-- if all voters are live, nobody lacks the vote of one that is down
+pub full_is_block : (laws : Laws) (p : Course) (n : ℕ) → ((v : ℕ) → p.live.voter v ≡ true) → IsBlock p n (block n)
+full_is_block laws p n up x c rounds count r asks few long fair late left keeps still =
+    eight_end laws p x c rounds (omega arith) r asks fair late left few keeps still (λ m _ v member down. absurd (false≢true (sym down ∙ up v)))

@@ -37,9 +37,10 @@ use Rattle.progress.specs.Patience.{hasty_in}
 use Rattle.progress.specs.Rounds.{DoesNotGiveUp, give_ups_in, late_in, steps_of}
 use Rattle.progress.specs.Rules.{Laws}
 use Rattle.world.specs.WayIn.{Asks}
-use Rattle.world.specs.Waiting.{block}
+use Rattle.world.specs.Waiting.{live_block}
 use Rattle.progress.proofs.Always.{HasSeen, Heeds, Seen-voter}
 use Rattle.progress.proofs.Behind.{IsLater-moved, is_current_of}
+use Rattle.progress.proofs.Blocks.{live_is_block}
 use Rattle.progress.proofs.Fitting.{current_stamp}
 use Rattle.progress.proofs.Forgetting.{Endures, Endures-client_lost, Endures-moved, Endures-same, Endures-start, Endures-voter_lost, beyond, outstanding_by}
 use Rattle.progress.proofs.Makers.{By, Says, coherent_world, made_by}
@@ -548,17 +549,17 @@ sure_after laws live deal w a = IsSure-first laws (course_at live deal w) w a.co
 
 pub after_losses_somebody : Laws → ClientLaws → VoterLaws → (live : Live) (deal : Dealing) (w : WorldState) (c : ℕ) (rounds : List (List Step)) (more : List Event) → IsReachedAfterLosses deal w → Asks w c
     → AreLiveRounds live deal w rounds → DoesNotGiveUp c (steps_of rounds) → Serving (course_at live deal w) w (run_of deal (steps_of rounds) w)
-    → block (length w.clients) * (live_below live (length w.clients) + 2 * give_ups_in (steps_of rounds) + late_in deal 0 w rounds + length w.voters) ≤ length rounds
+    → live_block (length w.clients) * (live_below live (length w.clients) + 2 * give_ups_in (steps_of rounds) + late_in deal 0 w rounds + length w.voters) ≤ length rounds
     → (run_of deal (steps_of rounds) w).visible ≡ w.visible ++ more → (d : ℕ) × (1 ≤ entries_of d more)
 after_losses_somebody laws clients voters live deal w c rounds more r asks fair stays left long visible =
     let p = course_at live deal w in
     let most = olds_most p (length w.voters) w in
-    somebody_by laws p w c (live_below live (length w.clients) + 2 * give_ups_in (steps_of rounds) + late_in deal 0 w rounds + length w.voters) rounds more (λ v. omega arith)
+    somebody_by laws p w c (live_block (length w.clients)) (live_below live (length w.clients) + 2 * give_ups_in (steps_of rounds) + late_in deal 0 w rounds + length w.voters) (live_is_block laws p (length w.clients)) rounds more (λ v. omega arith)
     (sure_after laws live deal w (lives_after laws clients voters deal w r)) asks fair stays left (omega arith) long visible
 
 pub after_losses_everybody : Laws → ClientLaws → VoterLaws → (live : Live) (deal : Dealing) (w : WorldState) (c : ℕ) (rounds : List (List Step)) (more : List Event) → IsReachedAfterLosses deal w → IsHeard w c → Asks w c
     → AreLiveRounds live deal w rounds → DoesNotGiveUp c (steps_of rounds) → Serving (course_at live deal w) w (run_of deal (steps_of rounds) w)
-    → block (length w.clients) * (3 * live_below live (length w.clients) + 2 * hasty_in deal w rounds + late_in deal 0 w rounds + length w.voters) ≤ length rounds
+    → live_block (length w.clients) * (3 * live_below live (length w.clients) + 2 * hasty_in deal w rounds + late_in deal 0 w rounds + length w.voters) ≤ length rounds
     → (run_of deal (steps_of rounds) w).visible ≡ w.visible ++ more → 1 ≤ entries_of c more
 after_losses_everybody laws clients voters live deal w c rounds more r heard asks fair stays left long visible =
     let p = course_at live deal w in
@@ -570,7 +571,7 @@ after_losses_everybody laws clients voters live deal w c rounds more r heard ask
           subst (λ n. n ≤ (voter_at w.voters v).seen) (sym same) (heard v (subst (λ n. IsEntry (voter_at w.voters v) c n) same entry));
       given = a.endures.given;
     } in
-    everybody_by laws p w c (3 * live_below live (length w.clients) + 2 * hasty_in deal w rounds + late_in deal 0 w rounds + length w.voters) rounds more (λ v. omega arith)
+    everybody_by laws p w c (live_block (length w.clients)) (3 * live_below live (length w.clients) + 2 * hasty_in deal w rounds + late_in deal 0 w rounds + length w.voters) (live_is_block laws p (length w.clients)) (omega arith) rounds more (λ v. omega arith)
     (sure_after laws live deal w a) heeded asks fair stays left (omega arith) long visible
 
 -- ---- new requests

@@ -12,9 +12,9 @@ use Rattle.progress.specs.Patience.{hasty_in}
 use Rattle.progress.specs.Rounds.{DoesNotGiveUp, late_in, steps_of}
 use Rattle.progress.specs.Rules.{Laws}
 use Rattle.world.specs.WayIn.{Asks}
-use Rattle.world.specs.Waiting.{block}
 use Rattle.progress.proofs.Always.{Heeds, heeds}
 use Rattle.progress.proofs.Behind.{stamp_of}
+use Rattle.progress.proofs.Blocks.{IsBlock}
 use Rattle.progress.proofs.Counted.{all_hasty, own_from, three_turns}
 use Rattle.progress.proofs.Hearing.{trails_along}
 use Rattle.progress.proofs.Kept.{IsKept-reached}
@@ -82,17 +82,17 @@ split_total b zero len some most = absurd (omega arith)
 split_total b (suc k) len some most = (k, refl, (let turned = mul_comm b (suc k) in let product = suc-mul k b in omega arith))
 
 -- t blocks are enough
-pub everybody_by : (laws : Laws) (p : Course) (w : WorldState) (c t : ℕ) (rounds : List (List Step)) (more : List Event) → AreOld p w → IsSure p w → Heeds c w → Asks w c → AreLiveRounds p.live p.deal w rounds
+pub everybody_by : (laws : Laws) (p : Course) (w : WorldState) (c size t : ℕ) → IsBlock p (length w.clients) size → 1 ≤ size → (rounds : List (List Step)) (more : List Event) → AreOld p w → IsSure p w → Heeds c w → Asks w c → AreLiveRounds p.live p.deal w rounds
     → DoesNotGiveUp c (steps_of rounds) → Serving p w (run_of p.deal (steps_of rounds) w)
-    → 3 * live_below p.live (length w.clients) + 2 * hasty_in p.deal w rounds + late_in p.deal 0 w rounds + olds_of p (length w.voters) w ≤ t → block (length w.clients) * t ≤ length rounds
+    → 3 * live_below p.live (length w.clients) + 2 * hasty_in p.deal w rounds + late_in p.deal 0 w rounds + olds_of p (length w.voters) w ≤ t → size * t ≤ length rounds
     → (run_of p.deal (steps_of rounds) w).visible ≡ w.visible ++ more → 1 ≤ entries_of c more
-everybody_by laws p w c t [] more few r heeded asks fair stays left enough long visible =
+everybody_by laws p w c size t is least [] more few r heeded asks fair stays left enough long visible =
     let some = asks.client in
     let alive = some_live p w c asks (left_before laws p [] w r left) in
-    let parts = split_total (block (length w.clients)) t 0 (omega arith) long in
+    let parts = split_total size t 0 (omega arith) long in
     let product = parts.2 in
     absurd (omega arith)
-everybody_by laws p w c t (r ∷ rs) more few sure heeded asks fair stays left enough long visible = elim (cases_lt 0 (entries_of c more)) [
+everybody_by laws p w c size t is least (r ∷ rs) more few sure heeded asks fair stays left enough long visible = elim (cases_lt 0 (entries_of c more)) [
   | inl one ↦ omega arith
   | inr none ↦
       let n = length w.clients in
@@ -100,7 +100,7 @@ everybody_by laws p w c t (r ∷ rs) more few sure heeded asks fair stays left e
       let some = asks.client in
       let alive = some_live p w c asks (left_before laws p (r ++ steps_of rs) w sure left) in
       let y = run_of p.deal r w in
-      let parts = split_total (block n) t (length (r ∷ rs)) (omega arith) long in
+      let parts = split_total size t (length (r ∷ rs)) (omega arith) long in
       let k = parts.0 in
       let total = parts.1 in
       let product = parts.2 in
@@ -116,17 +116,17 @@ everybody_by laws p w c t (r ∷ rs) more few sure heeded asks fair stays left e
         asks = a.asks;
         stamp = refl;
       } in
-      let turned = blocks_turn laws p c n m (stamp_of y c) k rs y (length w.sent) waits (omega arith) fair.1 a.left a.turns_not in
+      let turned = blocks_turn laws p c n m (stamp_of y c) size k is rs y (length w.sent) waits (omega arith) fair.1 a.left a.turns_not in
       let most = turns_after laws p w c r rs sure asks fair a in
       absurd (omega arith)
 ]
 
-pub live_everybody : Laws → (live : Live) (w : Planned) (c : ℕ) (rounds : List (List Step)) (more : List Event) → IsReached w → Asks w.state c → AreLiveRounds live (dealing_of w.plans) w.state rounds
+pub live_everybody : Laws → (live : Live) (w : Planned) (c size : ℕ) → IsBlock (course_of live w) (length w.state.clients) size → 1 ≤ size → (rounds : List (List Step)) (more : List Event) → IsReached w → Asks w.state c → AreLiveRounds live (dealing_of w.plans) w.state rounds
     → DoesNotGiveUp c (steps_of rounds) → Serving (course_of live w) w.state (run_of (dealing_of w.plans) (steps_of rounds) w.state)
-    → block (length w.state.clients) * (3 * live_below live (length w.state.clients) + 2 * hasty_in (dealing_of w.plans) w.state rounds + late_in (dealing_of w.plans) 0 w.state rounds) ≤ length rounds
+    → size * (3 * live_below live (length w.state.clients) + 2 * hasty_in (dealing_of w.plans) w.state rounds + late_in (dealing_of w.plans) 0 w.state rounds) ≤ length rounds
     → (run_of (dealing_of w.plans) (steps_of rounds) w.state).visible ≡ w.state.visible ++ more → 1 ≤ entries_of c more
-live_everybody laws live w c rounds more r asks fair stays left long visible =
+live_everybody laws live w c size is least rounds more r asks fair stays left long visible =
     let p = course_of live w in
     let none = no_olds p (length w.state.voters) w.state (λ v. refl) in
-    everybody_by laws p w.state c (3 * live_below live (length w.state.clients) + 2 * hasty_in (dealing_of w.plans) w.state rounds + late_in (dealing_of w.plans) 0 w.state rounds) rounds more (λ v. omega arith)
+    everybody_by laws p w.state c size (3 * live_below live (length w.state.clients) + 2 * hasty_in (dealing_of w.plans) w.state rounds + late_in (dealing_of w.plans) 0 w.state rounds) is least rounds more (λ v. omega arith)
     (IsSure-reached laws live w r) (heeds c w.state (IsKept-reached laws w r []).always) asks fair stays left (omega arith) long visible

@@ -7,7 +7,6 @@ use Rattle.std.proofs.lemmas.List.{append_cancel_left, get_or_past}
 use Rattle.numbers.specs.Sets.{has}
 use Rattle.numbers.specs.Sums.{sum_below}
 use Rattle.numbers.proofs.SumsBelow.{sum_below-add, sum_below-le, sum_below-times, sum_below-same, sum_below-zero}
-use Rattle.message.specs.declared.message.VoterBody.TheVariants as asks
 use Rattle.requester.specs.declared.state.ClientState.{ClientState}
 use Rattle.requester.specs.Steps as requester
 use Rattle.requester.specs.Words.{is_asking}
@@ -24,10 +23,9 @@ use Rattle.world.specs.Visible.{entries_of}
 use Rattle.progress.specs.Rounds.{DoesNotGiveUp, IsStill, give_ups_in, late_in, steps_of}
 use Rattle.progress.specs.Rules.{Laws}
 use Rattle.world.specs.WayIn.{Asks}
-use Rattle.world.specs.Waiting.{block}
 use Rattle.progress.proofs.Along.{Along, along-last, next}
-use Rattle.progress.proofs.Always.{Heeds, heeds}
-use Rattle.progress.proofs.Blocks.{block_moves}
+use Rattle.progress.proofs.Always.{Heeds}
+use Rattle.progress.proofs.Blocks.{IsBlock}
 use Rattle.progress.proofs.Counting.{entries_of-append}
 use Rattle.progress.proofs.Known.{asks_within, known_after}
 use Rattle.progress.proofs.Longer.{Grows-moved, Grows-run}
@@ -129,9 +127,9 @@ abbrev pub HasTurns : Course → ℕ → ℕ → ℕ → ℕ → ℕ → WorldSt
 HasTurns p c n m s k x old rounds = AreLiveRounds p.live p.deal x rounds → Serving p x (run_of p.deal (steps_of rounds) x) → turns p.deal c (steps_of rounds) x ≡ 0
     → k + olds_of p m (run_of p.deal (steps_of rounds) x) ≤ all_up_to p.deal s n (steps_of rounds) x + late_in p.deal old x rounds + olds_of p m x
 
-one_block : (laws : Laws) (p : Course) (c n m s k : ℕ) (a b : List (List Step)) (x : WorldState) (old : ℕ) → Waits p c n m s x → length a ≡ block n
+one_block : (laws : Laws) (p : Course) (c n m s size k : ℕ) → IsBlock p n size → (a b : List (List Step)) (x : WorldState) (old : ℕ) → Waits p c n m s x → length a ≡ size
     → ((y : WorldState) (later : ℕ) → Waits p c n m s y → HasTurns p c n m s k y later b) → HasTurns p c n m s (suc k) x old (a ++ b)
-one_block laws p c n m s k a b x old waits long then_rest fair left stays =
+one_block laws p c n m s size k is a b x old waits long then_rest fair left stays =
     let deal = p.deal in
     let r = waits.sure in
     let count = waits.clients in
@@ -168,21 +166,21 @@ one_block laws p c n m s k a b x old waits long then_rest fair left stays =
                 | inl within ↦ none_of_sum deal s n d (steps_of a) x within (omega arith)
                 | inr beyond ↦ none_beyond laws p s d (steps_of a) x r (omega arith)
               ]) in
-              absurd (block_moves laws p x c a r (record { client = asks_within x c waits.asks; asks = waits.asks }) waits.few (subst (λ i. block i ≤ length a) (sym count) (omega arith))
+              absurd (is x c a count r (record { client = asks_within x c waits.asks; asks = waits.asks }) waits.few (omega arith)
               parts.0 (omega arith) serves.0 (keeps_olds p m x y go waits.voters kept) still)
         ]
       ]
     ]
 
-pub blocks_turn : (laws : Laws) (p : Course) (c n m s k : ℕ) (rounds : List (List Step)) (x : WorldState) (old : ℕ) → Waits p c n m s x → k * block n ≤ length rounds → HasTurns p c n m s k x old rounds
-blocks_turn laws p c n m s zero rounds x old waits long fair left stays =
+pub blocks_turn : (laws : Laws) (p : Course) (c n m s size k : ℕ) → IsBlock p n size → (rounds : List (List Step)) (x : WorldState) (old : ℕ) → Waits p c n m s x → k * size ≤ length rounds → HasTurns p c n m s k x old rounds
+blocks_turn laws p c n m s size zero is rounds x old waits long fair left stays =
     (let fewer = olds_fall p m x (run_of p.deal (steps_of rounds) x) (Goes-run laws p (steps_of rounds) x waits.few waits.sure) in omega arith)
-blocks_turn laws p c n m s (suc k) rounds x old waits long fair left stays =
-    let product = suc-mul k (block n) in
-    let parts = split_rounds (block n) rounds (omega arith) in
+blocks_turn laws p c n m s size (suc k) is rounds x old waits long fair left stays =
+    let product = suc-mul k size in
+    let parts = split_rounds size rounds (omega arith) in
     let lengths = parts.4 in
-    subst (HasTurns p c n m s (suc k) x old) (sym parts.2) (one_block laws p c n m s k parts.0 parts.1 x old waits parts.3
-    (λ y later waits_y. blocks_turn laws p c n m s k parts.1 y later waits_y (omega arith)))
+    subst (HasTurns p c n m s (suc k) x old) (sym parts.2) (one_block laws p c n m s size k is parts.0 parts.1 x old waits parts.3
+    (λ y later waits_y. blocks_turn laws p c n m s size k is parts.1 y later waits_y (omega arith)))
     fair left stays
 
 -- ---- nothing stands still
@@ -203,26 +201,26 @@ still_turns laws p d (t ∷ steps) x r stamp asks =
     omega arith
 
 -- in more blocks than there are old grants somebody asks, enters or gives up
-pub moves_by : (laws : Laws) (p : Course) (w : WorldState) (c k : ℕ) (rounds : List (List Step)) → AreOld p w → IsSure p w → Asks w c → AreLiveRounds p.live p.deal w rounds → late_in p.deal 0 w rounds ≡ 0
-    → Serving p w (run_of p.deal (steps_of rounds) w) → olds_of p (length w.voters) w < k → k * block (length w.clients) ≤ length rounds → IsStill w (run_of p.deal (steps_of rounds) w) → ⊥
+pub moves_by : (laws : Laws) (p : Course) (w : WorldState) (c size k : ℕ) → IsBlock p (length w.clients) size → (rounds : List (List Step)) → AreOld p w → IsSure p w → Asks w c → AreLiveRounds p.live p.deal w rounds → late_in p.deal 0 w rounds ≡ 0
+    → Serving p w (run_of p.deal (steps_of rounds) w) → olds_of p (length w.voters) w < k → k * size ≤ length rounds → IsStill w (run_of p.deal (steps_of rounds) w) → ⊥
 unfolding all_up_to
-moves_by laws p w c k rounds few r asks fair late left enough long still =
+moves_by laws p w c size k is rounds few r asks fair late left enough long still =
     let n = length w.clients in
     let s = (client_at w.clients c).stamp in
     let steps = steps_of rounds in
     let none : (d : ℕ) → turns p.deal d steps w ≡ 0 = λ d. still_turns laws p d steps w r (still.stamps d) (still.asks d) in
-    let turned = blocks_turn laws p c n (length w.voters) s k rounds w 0 (record { clients = refl; voters = refl; few = few; sure = r; asks = asks.asks; stamp = refl }) long fair left (none c) in
+    let turned = blocks_turn laws p c n (length w.voters) s size k is rounds w 0 (record { clients = refl; voters = refl; few = few; sure = r; asks = asks.asks; stamp = refl }) long fair left (none c) in
     let most = sum_below-le n (λ d. turns_up_to p.deal s d steps w) (λ d. 0) (λ d _. (let zero_turns = none d in let less = up_to_most laws p s d steps w r in omega arith)) in
     let zeros = sum_below-zero n in
     omega arith
 
-pub live_move : Laws → (live : Live) (w : Planned) (c : ℕ) (rounds : List (List Step)) → IsReached w → Asks w.state c → AreLiveRounds live (dealing_of w.plans) w.state rounds
-    → late_in (dealing_of w.plans) 0 w.state rounds ≡ 0 → Serving (course_of live w) w.state (run_of (dealing_of w.plans) (steps_of rounds) w.state) → block (length w.state.clients) ≤ length rounds
+pub live_move : Laws → (live : Live) (w : Planned) (c size : ℕ) → IsBlock (course_of live w) (length w.state.clients) size → (rounds : List (List Step)) → IsReached w → Asks w.state c → AreLiveRounds live (dealing_of w.plans) w.state rounds
+    → late_in (dealing_of w.plans) 0 w.state rounds ≡ 0 → Serving (course_of live w) w.state (run_of (dealing_of w.plans) (steps_of rounds) w.state) → size ≤ length rounds
     → IsStill w.state (run_of (dealing_of w.plans) (steps_of rounds) w.state) → ⊥
-live_move laws live w c rounds reached asks fair late left long still =
+live_move laws live w c size is rounds reached asks fair late left long still =
     let p = course_of live w in
     let none = no_olds p (length w.state.voters) w.state (λ v. refl) in
-    moves_by laws p w.state c 1 rounds (λ v. omega arith) (IsSure-reached laws live w reached) asks fair late left (omega arith) (omega arith) still
+    moves_by laws p w.state c size 1 is rounds (λ v. omega arith) (IsSure-reached laws live w reached) asks fair late left (omega arith) (omega arith) still
 
 -- ---- somebody enters
 
@@ -290,11 +288,11 @@ turns_by laws p n s steps x more r serving visible none =
     omega arith
 
 -- t blocks are enough
-pub somebody_by : (laws : Laws) (p : Course) (w : WorldState) (c t : ℕ) (rounds : List (List Step)) (more : List Event) → AreOld p w → IsSure p w → Asks w c → AreLiveRounds p.live p.deal w rounds
+pub somebody_by : (laws : Laws) (p : Course) (w : WorldState) (c size t : ℕ) → IsBlock p (length w.clients) size → (rounds : List (List Step)) (more : List Event) → AreOld p w → IsSure p w → Asks w c → AreLiveRounds p.live p.deal w rounds
     → DoesNotGiveUp c (steps_of rounds) → Serving p w (run_of p.deal (steps_of rounds) w)
-    → live_below p.live (length w.clients) + 2 * give_ups_in (steps_of rounds) + late_in p.deal 0 w rounds + olds_of p (length w.voters) w ≤ t → block (length w.clients) * t ≤ length rounds
+    → live_below p.live (length w.clients) + 2 * give_ups_in (steps_of rounds) + late_in p.deal 0 w rounds + olds_of p (length w.voters) w ≤ t → size * t ≤ length rounds
     → (run_of p.deal (steps_of rounds) w).visible ≡ w.visible ++ more → (d : ℕ) × (1 ≤ entries_of d more)
-somebody_by laws p w c t rounds more few r asks fair stays left enough long visible =
+somebody_by laws p w c size t is rounds more few r asks fair stays left enough long visible =
     let deal = p.deal in
     let n = length w.clients in
     let m = length w.voters in
@@ -304,22 +302,22 @@ somebody_by laws p w c t rounds more few r asks fair stays left enough long visi
       | inl none ↦
           let s = (client_at w.clients c).stamp in
           let on = asks_on laws p c (steps_of rounds) w more r visible (none c asks.client) (gives_up_never c (steps_of rounds) stays) asks.asks in
-          let turned = blocks_turn laws p c n m s t rounds w 0 (record { clients = refl; voters = refl; few = few; sure = r; asks = asks.asks; stamp = refl })
-          (product_of (block n) t (length rounds) long) fair left on.1 in
+          let turned = blocks_turn laws p c n m s size t is rounds w 0 (record { clients = refl; voters = refl; few = few; sure = r; asks = asks.asks; stamp = refl })
+          (product_of size t (length rounds) long) fair left on.1 in
           let most = turns_by laws p n s (steps_of rounds) w more r left visible none in
           let some = sum_has n c (λ d. one_if (asks_at w d)) asks.client in
           let asked : one_if (asks_at w c) ≡ 1 = ap one_if asks.asks in
           absurd (omega arith)
     ]
 
-pub live_somebody : Laws → (live : Live) (w : Planned) (c : ℕ) (rounds : List (List Step)) (more : List Event) → IsReached w → Asks w.state c → AreLiveRounds live (dealing_of w.plans) w.state rounds
+pub live_somebody : Laws → (live : Live) (w : Planned) (c size : ℕ) → IsBlock (course_of live w) (length w.state.clients) size → (rounds : List (List Step)) (more : List Event) → IsReached w → Asks w.state c → AreLiveRounds live (dealing_of w.plans) w.state rounds
     → DoesNotGiveUp c (steps_of rounds) → Serving (course_of live w) w.state (run_of (dealing_of w.plans) (steps_of rounds) w.state)
-    → block (length w.state.clients) * (live_below live (length w.state.clients) + 2 * give_ups_in (steps_of rounds) + late_in (dealing_of w.plans) 0 w.state rounds) ≤ length rounds
+    → size * (live_below live (length w.state.clients) + 2 * give_ups_in (steps_of rounds) + late_in (dealing_of w.plans) 0 w.state rounds) ≤ length rounds
     → (run_of (dealing_of w.plans) (steps_of rounds) w.state).visible ≡ w.state.visible ++ more → (d : ℕ) × (1 ≤ entries_of d more)
-live_somebody laws live w c rounds more r asks fair stays left long visible =
+live_somebody laws live w c size is rounds more r asks fair stays left long visible =
     let p = course_of live w in
     let none = no_olds p (length w.state.voters) w.state (λ v. refl) in
-    somebody_by laws p w.state c (live_below live (length w.state.clients) + 2 * give_ups_in (steps_of rounds) + late_in (dealing_of w.plans) 0 w.state rounds) rounds more (λ v. omega arith) (IsSure-reached laws live w r) asks fair stays left
+    somebody_by laws p w.state c size (live_below live (length w.state.clients) + 2 * give_ups_in (steps_of rounds) + late_in (dealing_of w.plans) 0 w.state rounds) is rounds more (λ v. omega arith) (IsSure-reached laws live w r) asks fair stays left
     (omega arith) long visible
 
 -- ---- whoever asked enters

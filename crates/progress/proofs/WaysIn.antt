@@ -28,6 +28,7 @@ use Rattle.progress.specs.Rounds.{grants_for, steps_of}
 use Rattle.progress.specs.Rules.{Laws}
 use Rattle.progress.proofs.Along.{next}
 use Rattle.progress.proofs.Behind.{meets}
+use Rattle.progress.proofs.Blocks.{full_is_block}
 use Rattle.progress.proofs.Fair.{everybody_serves, fair_are_live}
 use Rattle.progress.proofs.Making.{are_timely, asked_before, made_rounds, rounds_serve}
 use Rattle.progress.proofs.Moves.{Makes, MovedBy, MovedBy-step}
@@ -196,7 +197,7 @@ made laws p w a k every up few r ask has =
           let count = timely.count in
           let late = timely.in_time in
           let on = asks_on laws p c (steps_of rounds) w more r visible entered (stays c asks.client) asks.asks in
-          let some = blocks_turn laws p c n m (client_at w.clients c).stamp k rounds w 0 (record { clients = refl; voters = refl; few = few; sure = r; asks = asks.asks; stamp = refl }) (omega arith)
+          let some = blocks_turn laws p c n m (client_at w.clients c).stamp (block n) k (full_is_block laws p n up) rounds w 0 (record { clients = refl; voters = refl; few = few; sure = r; asks = asks.asks; stamp = refl }) (omega arith)
           (fair_are_live p.live p.deal w rounds every up timely.fair) (everybody_serves p w (run_of p.deal (steps_of rounds) w) every (rounds_leave laws p w a (k * block n) 1 r ask has)) on.1 in
           omega arith;
     }

@@ -9,7 +9,7 @@ ghost use Rattle.world.specs.WayIn.{Asks};
 ghost use Rattle.world_state.specs.declared.step.Event.{Event};
 ghost use Rattle.world_state.specs.declared.step.Step.{Step};
 ghost use Rattle.world.specs.Runs.{run_of};
-ghost use Rattle.world.specs.Waiting.{block};
+ghost use Rattle.world.specs.Waiting.{live_block};
 ghost use Rattle.world_state.specs.Steps.{Dealing, WorldState};
 
 use crate::laws::worlds_keep_their_rules;
@@ -25,7 +25,7 @@ use world::parts_keep_their_rules;
 pub fn live_rounds_let_somebody_in_after_losses()
     ensures { (live : Live) (deal : Dealing) (w : WorldState) (c : ℕ) (rounds : List (List Step)) (more : List Event) → IsReachedAfterLosses deal w → Asks w c
         → AreLiveRounds live deal w rounds → DoesNotGiveUp c (steps_of rounds) → AreOut live w (run_of deal (steps_of rounds) w) → HasGrantsThere live 1 (run_of deal (steps_of rounds) w)
-        → block (length w.clients) * (live_below live (length w.clients) + 2 * give_ups_in (steps_of rounds) + late_in deal 0 w rounds + length w.voters) ≤ length rounds
+        → live_block (length w.clients) * (live_below live (length w.clients) + 2 * give_ups_in (steps_of rounds) + late_in deal 0 w rounds + length w.voters) ≤ length rounds
         → (run_of deal (steps_of rounds) w).visible ≡ w.visible ++ more
         → (d : ℕ) × (1 ≤ entries_of d more) }
 {
@@ -43,7 +43,7 @@ pub fn live_rounds_let_somebody_in_after_losses()
 pub fn live_rounds_let_everybody_in_after_losses()
     ensures { (live : Live) (deal : Dealing) (w : WorldState) (c : ℕ) (rounds : List (List Step)) (more : List Event) → IsReachedAfterLosses deal w → IsHeard w c → Asks w c
         → AreLiveRounds live deal w rounds → DoesNotGiveUp c (steps_of rounds) → AreOut live w (run_of deal (steps_of rounds) w) → HasGrantsThere live 1 (run_of deal (steps_of rounds) w)
-        → block (length w.clients) * (3 * live_below live (length w.clients) + 2 * hasty_in deal w rounds + late_in deal 0 w rounds + length w.voters) ≤ length rounds
+        → live_block (length w.clients) * (3 * live_below live (length w.clients) + 2 * hasty_in deal w rounds + late_in deal 0 w rounds + length w.voters) ≤ length rounds
         → (run_of deal (steps_of rounds) w).visible ≡ w.visible ++ more
         → 1 ≤ entries_of c more }
 {

@@ -12,7 +12,7 @@ ghost use Rattle.voter.specs.declared.state.Grant.{Grant};
 ghost use Rattle.world_state.specs.declared.step.Event.{Event};
 ghost use Rattle.world_state.specs.declared.step.Step.{Step};
 ghost use Rattle.world.specs.Runs.{IsReached, run_of};
-ghost use Rattle.world.specs.Waiting.{block, bound, patient_bound};
+ghost use Rattle.world.specs.Waiting.{block, bound, live_block, patient_bound};
 ghost use Rattle.world_state.specs.Steps.{Dealing, Planned, WorldState, dealing_of};
 
 use requester::{
@@ -97,7 +97,7 @@ pub fn returned_votes_go_on()
 /// A client that asks while all others are idle gets in by reminders and by messages that are sent after
 /// them, whatever was lost, late or repeated before. Nobody else enters meanwhile.
 ///
-/// Each voter has to have 4 * (n + 9) grants left and one, for n clients: for n + 9 fair rounds as
+/// Each voter has to have 4 * (n + 8) grants left and one, for n clients: for n + 8 fair rounds as
 /// [`fair_rounds_can_be_made`] makes them, in which one client asks. The way ends with the first entry.
 pub fn who_asks_alone_gets_in()
     ensures { (w : Planned) (c : ℕ) → IsReached w → AsksAlone w.state c
@@ -109,8 +109,8 @@ pub fn who_asks_alone_gets_in()
 /// Whenever clients ask and nobody is inside, some client gets in by reminders and by messages that are
 /// sent after them, whatever was lost, late or repeated before. Nobody else enters meanwhile.
 ///
-/// So requests never block one another for good. Each voter has to have (n + 9) * (2 n + 2) grants left and
-/// one, for n clients: for n + 9 fair rounds that are made.
+/// So requests never block one another for good. Each voter has to have (n + 8) * (2 n + 2) grants left and
+/// one, for n clients: for n + 8 fair rounds that are made.
 pub fn somebody_can_enter()
     ensures { (w : Planned) (c : ℕ) → IsReached w → Asks w.state c → IsFree w.state
         → HasGrants (grants_for (length w.state.clients) (length w.state.clients) 1) w.state
@@ -123,7 +123,7 @@ pub fn somebody_can_enter()
 /// clients that leave. Nobody has to ask anew, and nobody has to give up.
 ///
 /// This holds in every world that was reached, whoever asks or is inside. Other clients may get in before.
-/// Each voter has to have n * (n + 9) * (2 n + 2) grants left and one, for n clients: n times as many rounds
+/// Each voter has to have n * (n + 8) * (2 n + 2) grants left and one, for n clients: n times as many rounds
 /// as in [`somebody_can_enter`] are made.
 pub fn everybody_can_enter()
     ensures { (w : Planned) (c : ℕ) → IsReached w → Asks w.state c
@@ -177,7 +177,7 @@ pub fn live_rounds_move_somebody()
     ensures { (live : Live) (w : Planned) (c : ℕ) (rounds : List (List Step)) → IsReached w → Asks w.state c
         → AreLiveRounds live (dealing_of w.plans) w.state rounds → late_in (dealing_of w.plans) 0 w.state rounds ≡ 0
         → AreOut live w.state (run_of (dealing_of w.plans) (steps_of rounds) w.state) → HasGrantsThere live 1 (run_of (dealing_of w.plans) (steps_of rounds) w.state)
-        → block (length w.state.clients) ≤ length rounds
+        → live_block (length w.state.clients) ≤ length rounds
         → IsStill w.state (run_of (dealing_of w.plans) (steps_of rounds) w.state) → ⊥ }
 {
     worlds_keep_their_rules();
@@ -189,7 +189,7 @@ pub fn live_rounds_let_somebody_in()
     ensures { (live : Live) (w : Planned) (c : ℕ) (rounds : List (List Step)) (more : List Event) → IsReached w → Asks w.state c
         → AreLiveRounds live (dealing_of w.plans) w.state rounds → DoesNotGiveUp c (steps_of rounds)
         → AreOut live w.state (run_of (dealing_of w.plans) (steps_of rounds) w.state) → HasGrantsThere live 1 (run_of (dealing_of w.plans) (steps_of rounds) w.state)
-        → block (length w.state.clients)
+        → live_block (length w.state.clients)
         * (live_below live (length w.state.clients) + 2 * give_ups_in (steps_of rounds) + late_in (dealing_of w.plans) 0 w.state rounds)
         ≤ length rounds
         → (run_of (dealing_of w.plans) (steps_of rounds) w.state).visible ≡ w.state.visible ++ more
@@ -208,7 +208,7 @@ pub fn live_rounds_let_everybody_in()
     ensures { (live : Live) (w : Planned) (c : ℕ) (rounds : List (List Step)) (more : List Event) → IsReached w → Asks w.state c
         → AreLiveRounds live (dealing_of w.plans) w.state rounds → DoesNotGiveUp c (steps_of rounds)
         → AreOut live w.state (run_of (dealing_of w.plans) (steps_of rounds) w.state) → HasGrantsThere live 1 (run_of (dealing_of w.plans) (steps_of rounds) w.state)
-        → block (length w.state.clients)
+        → live_block (length w.state.clients)
         * (3 * live_below live (length w.state.clients) + 2 * hasty_in (dealing_of w.plans) w.state rounds + late_in (dealing_of w.plans) 0 w.state rounds)
         ≤ length rounds
         → (run_of (dealing_of w.plans) (steps_of rounds) w.state).visible ≡ w.state.visible ++ more
@@ -217,7 +217,7 @@ pub fn live_rounds_let_everybody_in()
     worlds_keep_their_rules();
 }
 
-/// If a client asks, somebody asks, enters or gives up within n + 9 fair rounds, for n clients: nothing
+/// If a client asks, somebody asks, enters or gives up within n + 8 fair rounds, for n clients: nothing
 /// stands still for longer.
 ///
 /// No REQUEST may come late, that is, later than in the round after that in which it was sent. Each voter
@@ -232,7 +232,7 @@ pub fn fair_rounds_move_somebody()
     worlds_keep_their_rules();
 }
 
-/// If a client asks and does not give up, somebody enters within (n + 9) * (n + 2 g + l) fair rounds, for n
+/// If a client asks and does not give up, somebody enters within (n + 8) * (n + 2 g + l) fair rounds, for n
 /// clients, g withdrawals of others and l arrivals of late REQUESTs.
 ///
 /// Each arrival counts, also of the same REQUEST again, and each withdrawal, also one that is refused. Each
@@ -251,7 +251,7 @@ pub fn fair_rounds_let_somebody_in()
 }
 
 /// Whoever asks gets in: a client that asks, and does not give up, enters within
-/// (n + 9) * (3 n + 2 h + l) fair rounds, for n clients, h hasty withdrawals and l arrivals of late REQUESTs.
+/// (n + 8) * (3 n + 2 h + l) fair rounds, for n clients, h hasty withdrawals and l arrivals of late REQUESTs.
 /// Each arrival counts, also of the same REQUEST again.
 ///
 /// In a fair round everybody is reminded, the messages of the reminders arrive, what is sent on their arrival

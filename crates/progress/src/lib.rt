@@ -18,12 +18,12 @@
 //! - **Whoever asks can still get in** ([`everybody_can_enter`]): by reminders, by messages that are sent
 //!   after them, and by clients that leave.
 //! - **Whoever asks gets in** ([`fair_rounds_let_everybody_in`]): a client that asks, and does not give
-//!   up, enters within (n + 9) * (3 n + 2 h + l) fair rounds, for n clients, h hasty withdrawals and
+//!   up, enters within (n + 8) * (3 n + 2 h + l) fair rounds, for n clients, h hasty withdrawals and
 //!   l arrivals of late REQUESTs. A withdrawal is hasty if its request did not run for two whole rounds.
-//!   Somebody enters within (n + 9) * (n + 2 g + l), for g withdrawals ([`fair_rounds_let_somebody_in`]),
-//!   and nothing stands still for n + 9 rounds ([`fair_rounds_move_somebody`]).
-//! - **While voters are down and clients are out** the same holds in live rounds, with c live clients in the
-//!   brackets ([`live_rounds_let_everybody_in`], [`live_rounds_let_somebody_in`], [`live_rounds_move_somebody`]):
+//!   Somebody enters within (n + 8) * (n + 2 g + l), for g withdrawals ([`fair_rounds_let_somebody_in`]),
+//!   and nothing stands still for n + 8 rounds ([`fair_rounds_move_somebody`]).
+//! - **While voters are down and clients are out** the same holds in live rounds, with n + 9 for n + 8 and c live
+//!   clients in the brackets ([`live_rounds_let_everybody_in`], [`live_rounds_let_somebody_in`], [`live_rounds_move_somebody`]):
 //!   fair rounds of those that are live, in which each client ends its request if it waits for a voter that is
 //!   down, and each voter drops the request of a client that is not live. If all are live, fair rounds are live
 //!   rounds ([`fair_rounds_are_live_rounds`]).

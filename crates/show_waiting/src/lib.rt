@@ -17,7 +17,7 @@
 //!
 //! ```
 //! let question = Waiting { clients: 5, withdrawals: None, round: Some(2) };
-//! let page = waiting_page(alloc, &question)?; // at most 210 rounds, or 420 seconds
+//! let page = waiting_page(alloc, &question)?; // at most 195 rounds, or 390 seconds
 //! ```
 #![tactic(auto)]
 

@@ -39,9 +39,9 @@ pub fn bound(clients: u64, withdrawals: u64) -> u64
     requires clients { clients ≤ max_clients }
     requires few { withdrawals ≤ 1000000 }
     ensures value { result ≡ bound clients withdrawals }
-    ensures small { result ≤ 146014016 }
+    ensures small { result ≤ 144013824 }
 {
-    (clients + 9) * (3 * clients + 2 * withdrawals)
+    (clients + 8) * (3 * clients + 2 * withdrawals)
 }
 
 /// Returns after how many fair rounds a client that asks has entered, if each request runs for two whole
@@ -49,16 +49,16 @@ pub fn bound(clients: u64, withdrawals: u64) -> u64
 fn patient_bound(clients: u64) -> u64
     requires { clients ≤ max_clients }
     ensures value { result ≡ patient_bound clients }
-    ensures small { result ≤ 14016 }
+    ensures small { result ≤ 13824 }
 {
-    (clients + 9) * (3 * clients)
+    (clients + 8) * (3 * clients)
 }
 
 /// Returns after how many fair rounds a client has entered, for a question.
 fn rounds_of(waiting: &Waiting) -> u64
     requires { IsInRange waiting.now }
     ensures value { result ≡ rounds_of waiting.now }
-    ensures small { result ≤ 146014016 }
+    ensures small { result ≤ 144013824 }
 {
     bound(waiting.clients, withdrawals_of(waiting))
 }

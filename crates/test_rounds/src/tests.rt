@@ -23,7 +23,7 @@ const KINDS: [Kind; 5] = [
 /// How many rounds a schedule has.
 const ROUNDS: u32 = 40;
 
-/// How many rounds a schedule of two clients has that shows a wrong rule. The bound is 66.
+/// How many rounds a schedule of two clients has that shows a wrong rule. The bound is 60.
 const ROUNDS_OF_TWO: u32 = 160;
 
 /// How often, at least, the schedules of a row have to try each thing that is counted.

@@ -39,13 +39,13 @@ impl Wait {
     }
 
     /// Returns whether the client has to be inside by now: whether as many rounds have passed as the
-    /// proved bound says. Each REQUEST that came late adds `clients + 9` rounds.
+    /// proved bound says. Each REQUEST that came late adds `clients + 8` rounds.
     pub fn is_over(&self, clients: u8) -> bool
         requires few { clients ≤ 64 }
     {
         let clients = u64::from(clients);
         let give_ups = self.give_ups.min(1_000_000);
-        let late = self.late.saturating_mul(clients + 9);
+        let late = self.late.saturating_mul(clients + 8);
         self.rounds >= bound(clients, give_ups).saturating_add(late)
     }
 }
