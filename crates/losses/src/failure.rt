@@ -20,6 +20,9 @@ pub struct Failure {
     /// The best load of the coterie without these voters, as a numerator and a denominator, each 1 to
     /// 1,000,000,000.
     pub best: (u64, u64),
+    /// Whether it is known that no weights without these voters have a smaller load. No figure here depends
+    /// on it.
+    pub is_best: bool,
     /// A multiplier for each voter. Their sum has to be at most 1,000,000.
     pub multipliers: Vec<u64>,
 }

@@ -1,9 +1,10 @@
-//! The search for weights whose load stays small when a voter is down.
-ghost use Rattle.std.specs.Prelude.{◌≡◌, ◌⊎◌, ◌<◌, ◌≤◌, length, vec_len, IfOk, IfSome};
+//! The search for weights whose load stays small when voters are down.
+ghost use Rattle.std.specs.Prelude.{◌≡◌, ◌⊎◌, ℕ, ◌<◌, ◌≤◌, List, length, vec_len, All, IfOk, IfSome, OnOk};
 ghost use Rattle.numbers.specs.Bounds.{max_cycle};
 ghost use Rattle.quorum_set.specs.Capacities.{AreCapacities};
+ghost use Rattle.quorum_set.specs.Coteries.{QuorumSystem};
 ghost use Rattle.certificate.specs.Certificates.{AreWeights};
-ghost use Rattle.robust.specs.Robust.{AreWithin, limit_above};
+ghost use Rattle.robust.specs.Robust.{AreWithin, IsPlanned, limit_above};
 
 use crate::columns::{Column, mixed_shares};
 use crate::game::play;
@@ -11,7 +12,8 @@ use crate::rows::{Cells, Rows, float_of, sum_of, units_of};
 use certificate::{Weights, lowest_terms};
 use failures::{coterie_without, with_voter};
 use losses::{Failure, regret_bound, regret_of};
-use near::{near, tickets_in};
+use near::{near, tickets_in, weights};
+use numbers::MAX_CYCLE;
 use quorum_set::{Coterie, QSet};
 use std::alloc::{AllocError, Global};
 use std::num::saturating_f64_to_u64;
@@ -25,12 +27,13 @@ const MOST_STEPS: u64 = 3000;
 /// The most work of a game: steps, times rows, times quorums.
 const MOST_WORK: u64 = 300_000_000;
 
-/// The longest cycle of the weights that are taken for the best without a voter.
-const BEST_TICKETS: u64 = 1000;
+/// How many parts are tried at most of the weights near the best that are mixed into what a game finds. The
+/// more is mixed in, the smaller is the load, and the greater the regret.
+const MOST_PARTS: u64 = 25;
 
-/// How many parts are tried of the weights near the best that are mixed into what a game finds. The more is
-/// mixed in, the smaller is the load, and the greater the regret.
-const PARTS: u32 = 25;
+/// The most work of what is tried after a game, for one length of a cycle: parts, times failures, times
+/// voters, times quorums.
+const MOST_TRIED: u64 = 50_000_000;
 
 /// The part that is mixed in more each time.
 const PART: f64 = 0.02;
@@ -38,13 +41,24 @@ const PART: f64 = 0.02;
 /// How many lengths of a cycle are tried, each a fortieth of the longest one shorter than the one before.
 const LENGTHS: u64 = 8;
 
+/// How many voters may be down at once.
+#[derive(Clone, Copy, Drop, PartialEq, Eq)]
+pub enum Down {
+    /// One.
+    One,
+    /// One, or two.
+    OneOrTwo,
+}
+
 /// What was found.
 #[derive(Drop)]
 pub struct Found {
     /// The weights.
     pub weights: Weights,
-    /// Each voter that may be down, if a quorum is left then. As the best load without it stands the load of
-    /// weights that `near` finds.
+    /// How many voters may be down at once.
+    pub down: Down,
+    /// The voters that may be down, if a quorum is left then. As the best load without them stands the load
+    /// of a plan of what is left, or, if none is found, of weights near the best.
     pub failures: Vec<Failure>,
     /// The limit of the load.
     pub limit: (u64, u64),
@@ -89,8 +103,49 @@ fn quotient_of(fraction: (u64, u64)) -> f64 {
     float_of(fraction.0) / float_of(fraction.1)
 }
 
-/// Appends the failure of a voter, unless it leaves no quorum.
+/// Returns the failure of these voters, with the load of the weights that are found without them. Returns
+/// `None` if no quorum is left.
+fn failure_of(
+    alloc: Global,
+    coterie: &Coterie,
+    capacities: &[u64],
+    down: QSet,
+) -> Result<Option<Failure>, AllocError>
+    requires { AreCapacities capacities.now coterie.now.voters }
+    ensures { IfOk result (λ found. IfSome found (IsPlanned coterie.now capacities.now)) }
+{
+    let Some(left) = coterie_without(alloc, coterie, &down)? else {
+        return Ok(None);
+    };
+    let found = weights(alloc, &left, capacities, MAX_CYCLE)?;
+    Ok(Some(Failure {
+        down,
+        best: found.load(),
+        is_best: found.load() == found.bound(),
+        multipliers: Vec::new(alloc),
+    }))
+}
+
+/// Appends the failure of these voters, unless it leaves no quorum.
 fn push_failure(
+    alloc: Global,
+    failures: &mut Vec<Failure>,
+    coterie: &Coterie,
+    capacities: &[u64],
+    down: QSet,
+) -> Result<(), AllocError>
+    requires { AreCapacities capacities.now coterie.now.voters }
+    ensures { OnOk result (All (IsPlanned coterie.now capacities.now) failures.old.items
+        → All (IsPlanned coterie.now capacities.now) failures.new.items) }
+{
+    if let Some(failure) = failure_of(alloc, coterie, capacities, down)? {
+        failures.push(failure)?;
+    }
+    Ok(())
+}
+
+/// Appends the failures of a voter and one more, for each more of a greater number.
+fn push_pairs(
     alloc: Global,
     failures: &mut Vec<Failure>,
     coterie: &Coterie,
@@ -99,31 +154,35 @@ fn push_failure(
 ) -> Result<(), AllocError>
     requires capacities { AreCapacities capacities.now coterie.now.voters }
     requires voter { voter < 64 }
+    ensures { OnOk result (All (IsPlanned coterie.now capacities.now) failures.old.items
+        → All (IsPlanned coterie.now capacities.now) failures.new.items) }
 {
-    let down = with_voter(&QSet::empty(), voter);
-    let Some(left) = coterie_without(alloc, coterie, &down)? else {
-        return Ok(());
-    };
-    let best = near(alloc, &left, capacities, BEST_TICKETS)?.load();
-    failures.push(Failure {
-        down,
-        best,
-        multipliers: Vec::new(alloc),
-    })?;
+    let one = with_voter(&QSet::empty(), voter);
+    for other in usize::from(voter) + 1..coterie.voters() {
+        let down = with_voter(&one, other as u8);
+        push_failure(alloc, failures, coterie, capacities, down)?;
+    }
     Ok(())
 }
 
-/// Returns the failures of each single voter that leave a quorum.
+/// Returns the failures that leave a quorum: of each voter, and of each two if these may be down.
 fn failures_of(
     alloc: Global,
     coterie: &Coterie,
     capacities: &[u64],
+    down: Down,
 ) -> Result<Vec<Failure>, AllocError>
     requires { AreCapacities capacities.now coterie.now.voters }
+    ensures { IfOk result (λ v. All (IsPlanned coterie.now capacities.now) v.items) }
 {
     let mut failures = Vec::new(alloc);
-    for voter in 0..coterie.voters() {
-        push_failure(alloc, &mut failures, coterie, capacities, voter as u8)?;
+    for number in 0..coterie.voters() {
+        let voter = number as u8;
+        let alone = with_voter(&QSet::empty(), voter);
+        push_failure(alloc, &mut failures, coterie, capacities, alone)?;
+        if down == Down::OneOrTwo {
+            push_pairs(alloc, &mut failures, coterie, capacities, voter)?;
+        }
     }
     Ok(failures)
 }
@@ -216,26 +275,48 @@ fn scale_of(board: &Board) -> f64 {
     999_999.0 / greatest
 }
 
+/// Returns a failure with these multipliers in place of its own.
+fn with_multipliers(failure: &Failure, multipliers: Vec<u64>) -> Failure
+    ensures { (s : QuorumSystem) (capacities : List ℕ) → IsPlanned s capacities failure.now
+        → IsPlanned s capacities result }
+{
+    Failure {
+        down: failure.down.copy(),
+        best: failure.best,
+        is_best: failure.is_best,
+        multipliers,
+    }
+}
+
+/// Returns the multipliers that the rows at a place have, times a factor, or none if there are no such rows.
+fn multipliers_at(
+    alloc: Global,
+    board: &Board,
+    place: usize,
+    scale: f64,
+) -> Result<Vec<u64>, AllocError> {
+    match board.rows.get(place) {
+        Some(rows) => scaled(alloc, &rows.multipliers(&board.units), board.voters, scale),
+        None => Ok(Vec::new(alloc)),
+    }
+}
+
 /// Returns the failures with the multipliers that a game found, and those of the limit.
 fn shown_by(
     alloc: Global,
     board: &Board,
     failures: &[Failure],
-) -> Result<(Vec<Failure>, Vec<u64>), AllocError> {
+) -> Result<(Vec<Failure>, Vec<u64>), AllocError>
+    ensures { (s : QuorumSystem) (capacities : List ℕ) → All (IsPlanned s capacities) failures.now
+        → IfOk result (λ shown. All (IsPlanned s capacities) shown.0.items) }
+{
     let scale = scale_of(board);
     let mut with = Vec::new(alloc);
-    let mut limits = Vec::new(alloc);
-    for (place, one) in board.rows.as_slice().iter().enumerate() {
-        let multipliers = scaled(alloc, &one.multipliers(&board.units), board.voters, scale)?;
-        match failures.get(place) {
-            Some(failure) => with.push(Failure {
-                down: failure.down.copy(),
-                best: failure.best,
-                multipliers,
-            })?,
-            None => limits = multipliers,
-        }
+    for (place, failure) in failures.iter().enumerate() {
+        let multipliers = multipliers_at(alloc, board, place, scale)?;
+        with.push(with_multipliers(failure, multipliers))?;
     }
+    let limits = multipliers_at(alloc, board, failures.len(), scale)?;
     Ok((with, limits))
 }
 
@@ -337,6 +418,14 @@ fn rounded(
     Ok(best)
 }
 
+/// Returns how many parts are tried for these failures.
+fn parts_of(failures: &[Failure], coterie: &Coterie) -> u32 {
+    let work = (failures.len() as u64)
+        .saturating_mul(coterie.voters() as u64)
+        .saturating_mul(coterie.count() as u64);
+    (MOST_TRIED / work.max(1)).clamp(1, MOST_PARTS) as u32
+}
+
 /// Returns these weights, or better ones that the board has found.
 fn mixed(
     alloc: Global,
@@ -351,7 +440,7 @@ fn mixed(
     ensures { IfOk result (AreWithin weights.system weights.capacities most limit) }
 {
     let mut best = weights;
-    for more in 0..PARTS {
+    for more in 0..parts_of(failures, best.coterie()) {
         let part = f64::from(more) * PART;
         let shares = mixed_shares(alloc, board.columns.as_slice(), &board.base, part)?;
         best = rounded(alloc, best, failures, &shares, most, limit)?;
@@ -378,7 +467,10 @@ fn note(
     board: &Board,
     weights: &Weights,
     limit: (u64, u64),
-) -> Result<(), AllocError> {
+) -> Result<(), AllocError>
+    ensures { (s : QuorumSystem) (capacities : List ℕ) → All (IsPlanned s capacities) shown.old.failures.items
+        → OnOk result (All (IsPlanned s capacities) shown.new.failures.items) }
+{
     if let Some(regret) = regret_of(weights, &shown.failures) {
         shown.high = quotient_of(regret);
     }
@@ -395,28 +487,24 @@ fn note(
     Ok(())
 }
 
-/// Finds weights whose load stays small when a voter is down: those with the smallest *regret* of what is
-/// tried. That is the load of the tickets that are left, divided by the best load without the voter, for the
-/// voter of which this is greatest. There has to be a capacity for each voter, 1 to 1000. `most` has to be 1
-/// to 1,000,000, and `above` at most 1000.
-///
-/// A cycle has at most `most` tickets. The load is at most `above` thousandths above that of the weights that
-/// `near` finds. Fails only if it runs out of memory.
-pub fn weights_for_losses(
+/// Finds weights for when so many voters are down.
+fn found_for(
     alloc: Global,
     coterie: &Coterie,
     capacities: &[u64],
     most: u64,
     above: u64,
+    down: Down,
 ) -> Result<Found, AllocError>
     requires capacities { AreCapacities capacities.now coterie.now.voters }
     requires most { (0 < most) × (most ≤ max_cycle) }
     requires above { above ≤ 1000 }
     ensures within { IfOk result (λ found. AreWithin coterie.now capacities.now most found.limit found.weights) }
+    ensures planned { IfOk result (λ found. All (IsPlanned coterie.now capacities.now) found.failures.items) }
 {
     let mut weights = near(alloc, coterie, capacities, most)?;
     let limit = limit_of(&weights, above);
-    let failures = failures_of(alloc, coterie, capacities)?;
+    let failures = failures_of(alloc, coterie, capacities, down)?;
     let mut board = board_of(alloc, &failures, &weights, above)?;
     let mut shown = Shown {
         failures,
@@ -439,8 +527,52 @@ pub fn weights_for_losses(
     }
     Ok(Found {
         weights,
+        down,
         failures: shown.failures,
         limit,
         multipliers: shown.multipliers,
     })
+}
+
+/// Finds weights whose load stays small when a voter is down: those with the smallest *regret* of what is
+/// tried. That is the load of the tickets that are left, divided by the best load without the voter, for the
+/// voter of which this is greatest. There has to be a capacity for each voter, 1 to 1000. `most` has to be 1
+/// to 1,000,000, and `above` at most 1000.
+///
+/// A cycle has at most `most` tickets. The load is at most `above` thousandths above that of the weights that
+/// `near` finds. The coterie is planned for without each voter. Fails only if it runs out of memory.
+pub fn weights_for_losses(
+    alloc: Global,
+    coterie: &Coterie,
+    capacities: &[u64],
+    most: u64,
+    above: u64,
+) -> Result<Found, AllocError>
+    requires capacities { AreCapacities capacities.now coterie.now.voters }
+    requires most { (0 < most) × (most ≤ max_cycle) }
+    requires above { above ≤ 1000 }
+    ensures within { IfOk result (λ found. AreWithin coterie.now capacities.now most found.limit found.weights) }
+    // The best loads are those of weights, and the smallest ones where this is said.
+    ensures planned { IfOk result (λ found. All (IsPlanned coterie.now capacities.now) found.failures.items) }
+{
+    found_for(alloc, coterie, capacities, most, above, Down::One)
+}
+
+/// Finds weights as [`weights_for_losses`] does, for when one voter is down, or any two. Of 64 voters there are
+/// 2080 such losses, and the coterie is planned for without the voters of each.
+pub fn weights_for_pairs(
+    alloc: Global,
+    coterie: &Coterie,
+    capacities: &[u64],
+    most: u64,
+    above: u64,
+) -> Result<Found, AllocError>
+    requires capacities { AreCapacities capacities.now coterie.now.voters }
+    requires most { (0 < most) × (most ≤ max_cycle) }
+    requires above { above ≤ 1000 }
+    ensures within { IfOk result (λ found. AreWithin coterie.now capacities.now most found.limit found.weights) }
+    // The best loads are those of weights, and the smallest ones where this is said.
+    ensures planned { IfOk result (λ found. All (IsPlanned coterie.now capacities.now) found.failures.items) }
+{
+    found_for(alloc, coterie, capacities, most, above, Down::OneOrTwo)
 }

@@ -1,25 +1,32 @@
 //! Weights for when voters are down.
 use crate::shapes::{Shape, built};
 use losses::{regret_bound, regret_of};
-use robust::weights_for_losses;
+use robust::{Down, weights_for_losses, weights_for_pairs};
 use std::alloc::Global;
 use std::test::Fail;
 use test_plans::unit_capacities;
 
-/// Shapes, how many thousandths the load may be above the best, the greatest regret that is wanted and the
-/// smallest bound, both in thousandths. A plan of the tree has a regret of 7/6 or more.
-const REGRETS: [(Shape, u64, u64, u128); 3] = [
-    (Shape::Tree(2), 20, 1130, 1110),
-    (Shape::Tree(2), 50, 1050, 1040),
-    (Shape::Majority(5), 20, 1000, 990),
+/// Shapes, how many voters may be down, how many thousandths the load may be above the best, the greatest
+/// regret that is wanted and the smallest bound, both in thousandths. A plan of the tree has a regret of 7/6
+/// or more.
+const REGRETS: [(Shape, Down, u64, u64, u128); 5] = [
+    (Shape::Tree(2), Down::One, 20, 1130, 1110),
+    (Shape::Tree(2), Down::One, 50, 1050, 1040),
+    (Shape::Tree(2), Down::OneOrTwo, 20, 1130, 1110),
+    (Shape::Majority(5), Down::One, 20, 1000, 990),
+    (Shape::Majority(5), Down::OneOrTwo, 20, 1000, 990),
 ];
 
 /// Returns whether the regret that is found for a shape is small, and the bound near it.
-fn is_small(alloc: Global, row: (Shape, u64, u64, u128)) -> Result<bool, Fail> {
-    let (shape, above, most, least) = row;
+fn is_small(alloc: Global, row: (Shape, Down, u64, u64, u128)) -> Result<bool, Fail> {
+    let (shape, down, above, most, least) = row;
     let coterie = built(alloc, shape)?;
     let capacities = unit_capacities(alloc, coterie.voters())?;
-    let found = weights_for_losses(alloc, &coterie, &capacities, 1000, above.min(1000))?;
+    let above = above.min(1000);
+    let found = match down {
+        Down::One => weights_for_losses(alloc, &coterie, &capacities, 1000, above)?,
+        Down::OneOrTwo => weights_for_pairs(alloc, &coterie, &capacities, 1000, above)?,
+    };
     let regret = regret_of(&found.weights, &found.failures).unwrap_or((1, 0));
     let bound = regret_bound(
         &found.weights,

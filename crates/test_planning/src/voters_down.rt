@@ -103,6 +103,7 @@ fn failures_of(alloc: Global, rows: &[Row]) -> Result<Vec<Failure>, AllocError> 
         failures.push(Failure {
             down: QSet::of_bits(*down),
             best: *best,
+            is_best: true,
             multipliers: multipliers.to_vec(alloc)?,
         })?;
     }
