@@ -1,5 +1,5 @@
 //! Laws: requests get on after incidents, once all clients were idle.
-ghost use Rattle.std.specs.Prelude.{◌≡◌, ◌≢◌, ◌≤◌, ◌+◌, ◌*◌, ◌++◌, ℕ, List, length};
+ghost use Rattle.std.specs.Prelude.{◌≡◌, ◌≢◌, ◌≤◌, ◌+◌, ◌*◌, ◌++◌, ℕ, List, length, true};
 ghost use Rattle.leases.specs.Again.{IsReachedAgain};
 ghost use Rattle.progress.specs.LostVotes.{ComesBack, GoesOn, HasLostVote, HasReturnedVote};
 ghost use Rattle.progress.specs.LiveRounds.{AreLiveRounds, AreOut, HasGrantsThere, Live, live_below};
@@ -60,7 +60,7 @@ pub fn progress_comes_back()
 /// a client asks:
 ///
 /// - Somebody asks, enters or gives up within (n + 9) * (1 + v) live rounds, if no REQUEST is late.
-/// - If the client does not give up, somebody enters within (n + 9) * (c + 2 g + l + v).
+/// - If the client does not give up, a live client enters within (n + 9) * (c + 2 g + l + v).
 /// - It enters itself within (n + 9) * (3 c + 2 h + l + v).
 ///
 /// The rounds themselves are without crashes and incidents. Each live voter has to have a grant left at the end. The
@@ -72,7 +72,7 @@ pub fn rounds_come_back()
     ensures somebody { (live : Live) (deal : Dealing) (w : WorldState) (client : ℕ) (rounds : List (List Step)) (more : List Event) → IsReachedAgain deal w → Asks w client
         → AreLiveRounds live deal w rounds → DoesNotGiveUp client (steps_of rounds) → AreOut live w (run_of deal (steps_of rounds) w) → HasGrantsThere live 1 (run_of deal (steps_of rounds) w)
         → live_block (length w.clients) * (live_below live (length w.clients) + 2 * give_ups_in (steps_of rounds) + late_in deal 0 w rounds + length w.voters) ≤ length rounds
-        → (run_of deal (steps_of rounds) w).visible ≡ w.visible ++ more → (who : ℕ) × (1 ≤ entries_of who more) }
+        → (run_of deal (steps_of rounds) w).visible ≡ w.visible ++ more → (who : ℕ) × (live.client who ≡ true) × (1 ≤ entries_of who more) }
     ensures everybody { (live : Live) (deal : Dealing) (w : WorldState) (client : ℕ) (rounds : List (List Step)) (more : List Event) → IsReachedAgain deal w → Asks w client
         → AreLiveRounds live deal w rounds → DoesNotGiveUp client (steps_of rounds) → AreOut live w (run_of deal (steps_of rounds) w) → HasGrantsThere live 1 (run_of deal (steps_of rounds) w)
         → live_block (length w.clients) * (3 * live_below live (length w.clients) + 2 * hasty_in deal w rounds + late_in deal 0 w rounds + length w.voters) ≤ length rounds

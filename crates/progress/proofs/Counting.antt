@@ -141,12 +141,12 @@ enters_by laws w u c d ok h busy other inside =
 pub entries_of-append : (d : ℕ) (es fs : List Event) → entries_of d (es ++ fs) ≡ entries_of d es + entries_of d fs
 entries_of-append d es fs = sum_by-append (λ (e : Event). cond ((e.client == d) && e.entered) 1 0) es fs
 
-not_entered : (d e : ℕ) (seen : Seen) → d ≢ e → entries_of d (events e seen) ≡ 0
+pub not_entered : (d e : ℕ) (seen : Seen) → d ≢ e → entries_of d (events e seen) ≡ 0
 not_entered d e Nothing other = refl
 not_entered d e Entered other = (let apart : eqb e d ≡ false = grind (arith, nat_tests) in ap (λ b. 0 + cond (b && true) 1 0) apart)
 not_entered d e Left other = (let apart : eqb e d ≡ false = grind (arith, nat_tests) in ap (λ b. 0 + cond (b && false) 1 0) apart)
 
-left_not_entered : (d : ℕ) → entries_of d (events d Left) ≡ 0
+pub left_not_entered : (d : ℕ) → entries_of d (events d Left) ≡ 0
 left_not_entered d = (let same : eqb d d ≡ true = grind (arith, nat_tests) in ap (λ b. 0 + cond (b && false) 1 0) same)
 
 pub one_entered : (d : ℕ) → entries_of d (events d Entered) ≡ 1

@@ -550,7 +550,7 @@ sure_after laws live deal w a = IsSure-first laws (course_at live deal w) w a.co
 pub after_losses_somebody : Laws → ClientLaws → VoterLaws → (live : Live) (deal : Dealing) (w : WorldState) (c : ℕ) (rounds : List (List Step)) (more : List Event) → IsReachedAfterLosses deal w → Asks w c
     → AreLiveRounds live deal w rounds → DoesNotGiveUp c (steps_of rounds) → Serving (course_at live deal w) w (run_of deal (steps_of rounds) w)
     → live_block (length w.clients) * (live_below live (length w.clients) + 2 * give_ups_in (steps_of rounds) + late_in deal 0 w rounds + length w.voters) ≤ length rounds
-    → (run_of deal (steps_of rounds) w).visible ≡ w.visible ++ more → (d : ℕ) × (1 ≤ entries_of d more)
+    → (run_of deal (steps_of rounds) w).visible ≡ w.visible ++ more → (d : ℕ) × (live.client d ≡ true) × (1 ≤ entries_of d more)
 after_losses_somebody laws clients voters live deal w c rounds more r asks fair stays left long visible =
     let p = course_at live deal w in
     let most = olds_most p (length w.voters) w in

@@ -16,6 +16,7 @@ use Rattle.requester.specs.declared.state.Seen.TheVariants.{Nothing, Entered, Le
 use Rattle.requester.specs.RequesterContract.{KeepsQuorum, Sees}
 use Rattle.requester.specs.Steps as requester
 use Rattle.requester.specs.Words.{is_asking, is_idle, is_inside}
+use Rattle.requester.proofs.RangeLemmas.{is_inside-busy}
 use Rattle.requester.proofs.SoundSteps.{ask-Ok as ask_ok, give_up-Ok, is_asking-busy, is_asking-outside, leave-Ok}
 use Rattle.world_state.specs.declared.step.Event.{Event}
 use Rattle.world_state.specs.declared.step.Step.{Step}
@@ -28,7 +29,7 @@ use Rattle.progress.specs.Rounds.{DoesNotGiveUp, give_up, give_ups_in}
 use Rattle.progress.specs.Rules.{Laws}
 use Rattle.progress.proofs.Along.{next}
 use Rattle.progress.proofs.Behind.{meets}
-use Rattle.progress.proofs.Counting.{entries_of-append, one_entered}
+use Rattle.progress.proofs.Counting.{entries_of-append, left_not_entered, not_entered, one_entered}
 use Rattle.progress.proofs.Fitting.{Stays-fail, Stays-inquire, take-Ok}
 use Rattle.progress.proofs.Moves.{Makes, MovedBy, MovedBy-step}
 use Rattle.progress.proofs.Outstanding.{step-GivesUp, step-Leaves}
@@ -98,11 +99,43 @@ stops_by s who x requester.GivesUp o makes step keeps sees asks not =
     let one : own_give_up who s ≡ 1 = ap (own_give_up who) makes ∙ (let same : eqb who who ≡ true = grind (arith, nat_tests) in ap (λ b. cond b 1 0) same) in
     omega arith
 
+pub asks_then : (x : ClientState) (q : List ℕ) (o : requester.Outcome) → requester.step x (requester.Asks q) ≡ Ok o → is_asking o.state.phase ≡ true
+unfolding requester.step
+asks_then x q o e = ap (λ (r : requester.Outcome). is_asking r.state.phase) (sym (ask_ok x q o e).2)
+
+-- who enters asked before
+asked_first : (x : ClientState) (cause : requester.Cause) (o : requester.Outcome) → requester.step x cause ≡ Ok o → KeepsQuorum x cause o.state → is_inside x.phase ≡ false → is_inside o.state.phase ≡ true
+    → is_asking x.phase ≡ true
+asked_first x (requester.Asks q) o step keeps out now = absurd (false≢true (sym (is_asking-outside o.state.phase (asks_then x q o step)) ∙ now))
+asked_first x (requester.Takes m) o step keeps out now = by (is_asking x.phase) refl
+  where
+    by : (b : Bool) → is_asking x.phase ≡ b → is_asking x.phase ≡ true
+    by true is = is
+    by false not = absurd (false≢true (sym out ∙ inside_by x.phase (sym keeps.1 ∙ is_inside-busy o.state.phase now) not))
+asked_first x requester.Leaves o step keeps out now = absurd (false≢true (sym (is_inside-busy o.state.phase now) ∙ keeps.1))
+asked_first x requester.GivesUp o step keeps out now = absurd (false≢true (sym (is_inside-busy o.state.phase now) ∙ keeps.1))
+
+inside_not : (q : Phase) → is_inside q ≡ true → is_asking q ≡ false
+inside_not Idle inside = absurd (false≢true inside)
+inside_not Asking inside = absurd (false≢true inside)
+inside_not Inside inside = refl
+
+entries_turn : (who : ℕ) (x : ClientState) (cause : requester.Cause) (o : requester.Outcome) (seen : Seen) → requester.step x cause ≡ Ok o → KeepsQuorum x cause o.state → Sees x.phase seen o.state.phase
+    → entries_of who (events who seen) ≤ turn (is_asking x.phase) (is_asking o.state.phase)
+entries_turn who x cause o Nothing step keeps sees = omega arith
+entries_turn who x cause o Left step keeps sees = (let none = left_not_entered who in omega arith)
+entries_turn who x cause o Entered step keeps sees =
+    let one = one_entered who in
+    let asked = asked_first x cause o step keeps sees.0 sees.1 in
+    let turned : turn (is_asking x.phase) (is_asking o.state.phase) ≡ 1 = (λ i. turn (asked i) (inside_not o.state.phase sees.1 i)) in
+    omega arith
+
 -- what is seen of a step
 pub record Shows (s : Step) (x y : WorldState) : Type 0 where
   pub more : List Event
   pub visible : y.visible ≡ x.visible ++ more
   pub stops : (d : ℕ) → asks_at x d ≡ true → asks_at y d ≡ false → 1 ≤ entries_of d more + own_give_up d s
+  pub enters : (d : ℕ) → entries_of d more ≤ turn (asks_at x d) (asks_at y d)
 
 shows : (laws : Laws) (s : Step) (x y : WorldState) → IsCoherent x → IsCoherent y → MovedBy s x y → Shows s x y
 shows laws s x y ok now moved = elim moved [
@@ -118,16 +151,24 @@ shows laws s x y ok now moved = elim moved [
               (ap (asks_at x) (sym same) ∙ asks) (ap (λ (z : ClientState). is_asking z.phase) (sym k.here) ∙ ap (asks_at y) (sym same) ∙ not))
           | inr other ↦ absurd (false≢true (sym not ∙ ap (λ (z : ClientState). is_asking z.phase) (k.others d other) ∙ asks))
         ];
+        enters = λ d. elim (cases_eq d k.who) [
+          | inl same ↦ subst (λ i. entries_of i (events k.who k.outcome.seen) ≤ turn (asks_at x i) (asks_at y i)) (sym same)
+              (subst (λ (z : ClientState). entries_of k.who (events k.who k.outcome.seen) ≤ turn (asks_at x k.who) (is_asking z.phase)) (sym k.here)
+              (entries_turn k.who (client_at x.clients k.who) k.cause k.outcome k.outcome.seen k.step contract.quorum contract.seen))
+          | inr other ↦ (let none = not_entered d k.who k.outcome.seen other in omega arith)
+        ];
       }
   | inr (inl voter) ↦ record {
     more = [];
     visible = voter.0.visible ∙ sym (append-nil x.visible);
     stops = λ d asks not. absurd (false≢true (sym not ∙ ap (λ (cs : List ClientState). is_asking (client_at cs d).phase) voter.0.clients ∙ asks));
+    enters = λ d. omega arith;
   }
   | inr (inr sent) ↦ record {
     more = [];
     visible = sent.visible ∙ sym (append-nil x.visible);
     stops = λ d asks not. absurd (false≢true (sym not ∙ ap (λ (cs : List ClientState). is_asking (client_at cs d).phase) sent.clients ∙ asks));
+    enters = λ d. omega arith;
   }
 ]
 
@@ -144,9 +185,10 @@ pub record Counts (deal : Dealing) (steps : List Step) (x : WorldState) : Type 0
   pub more : List Event
   pub visible : (run_of deal steps x).visible ≡ x.visible ++ more
   pub most : (d : ℕ) → turns deal d steps x + one_if (asks_at x d) ≤ 2 * (entries_of d more + own_give_ups d steps) + one_if (asks_at (run_of deal steps x) d)
+  pub enters : (d : ℕ) → entries_of d more ≤ turns deal d steps x
 
 counts : (laws : Laws) (p : Course) (steps : List Step) (x : WorldState) → IsSure p x → Counts p.deal steps x
-counts laws p [] x r = record { more = []; visible = sym (append-nil x.visible); most = λ d. omega arith }
+counts laws p [] x r = record { more = []; visible = sym (append-nil x.visible); most = λ d. omega arith; enters = λ d. omega arith }
 counts laws p (s ∷ steps) x r =
     let deal = p.deal in
     let ok = (r []).coherent in
@@ -162,6 +204,7 @@ counts laws p (s ∷ steps) x r =
           let b = rest.most d in
           let both = entries_of-append d first.more rest.more in
           omega arith;
+      enters = λ d. (let a = first.enters d in let b = rest.enters d in let both = entries_of-append d first.more rest.more in omega arith);
     }
 
 pub turns_most : (laws : Laws) (p : Course) (steps : List Step) (x : WorldState) (more : List Event) → IsSure p x → (run_of p.deal steps x).visible ≡ x.visible ++ more
@@ -170,6 +213,14 @@ turns_most laws p steps x more r visible d =
     let c = counts laws p steps x r in
     let same : c.more ≡ more = append_cancel_left x.visible c.more more (sym c.visible ∙ visible) in
     subst (λ es. turns p.deal d steps x + one_if (asks_at x d) ≤ 2 * (entries_of d es + own_give_ups d steps) + one_if (asks_at (run_of p.deal steps x) d)) same (c.most d)
+
+-- who enters turns
+pub entries_most : (laws : Laws) (p : Course) (steps : List Step) (x : WorldState) (more : List Event) → IsSure p x → (run_of p.deal steps x).visible ≡ x.visible ++ more → (d : ℕ)
+    → entries_of d more ≤ turns p.deal d steps x
+entries_most laws p steps x more r visible d =
+    let c = counts laws p steps x r in
+    let same : c.more ≡ more = append_cancel_left x.visible c.more more (sym c.visible ∙ visible) in
+    subst (λ es. entries_of d es ≤ turns p.deal d steps x) same (c.enters d)
 
 -- what is seen of any steps
 pub shown : (laws : Laws) (p : Course) (steps : List Step) (x : WorldState) → IsSure p x → (more : List Event) × ((run_of p.deal steps x).visible ≡ x.visible ++ more)
@@ -220,10 +271,6 @@ stamp-take x m (to_client.Locked t g) is =
     subst (λ c. (requester.take_body (requester.see x m.seen) m.voter c).state.stamp ≡ x.stamp) (sym is) (stamp-locked (requester.see x m.seen) m.voter t g)
 stamp-take x m (to_client.Fail t) is = (Stays-fail x m t is).stamp
 stamp-take x m (to_client.Inquire g) is = (Stays-inquire x m g is).stamp
-
-pub asks_then : (x : ClientState) (q : List ℕ) (o : requester.Outcome) → requester.step x (requester.Asks q) ≡ Ok o → is_asking o.state.phase ≡ true
-unfolding requester.step
-asks_then x q o e = ap (λ (r : requester.Outcome). is_asking r.state.phase) (sym (ask_ok x q o e).2)
 
 pub idle_not_asking : (q : Phase) → is_idle q ≡ true → is_asking q ≡ false
 idle_not_asking Idle idle = refl

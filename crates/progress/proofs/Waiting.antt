@@ -36,7 +36,7 @@ use Rattle.progress.proofs.Placed.{Heeds-moved}
 use Rattle.progress.proofs.Lasting.{Goes-run, Lasts-moved, Lasts-run, RunsOn, SameAsk, left_before, same_between, serving_both}
 use Rattle.progress.proofs.Sure.{Course, IsSure, IsSure-after, IsSure-reached, IsSure-run, Serves, Serving, course_of, live_by, stays_coherent}
 use Rattle.progress.proofs.Tame.{asks_up_to, turns_up_to, turns_up_to-append}
-use Rattle.progress.proofs.Turns.{all_give_ups, asks_at, gives_up_never, idle_not_asking, no_turn, none_turned, one_if, own_give_ups, own_give_ups-append, shown, stamp_stays, sum_has, turn, turn_same, turns, turns-append, turns_most}
+use Rattle.progress.proofs.Turns.{all_give_ups, asks_at, entries_most, gives_up_never, idle_not_asking, no_turn, none_turned, one_if, own_give_ups, own_give_ups-append, shown, stamp_stays, sum_has, turn, turn_same, turns, turns-append, turns_most}
 
 -- ---- turns up to a stamp
 
@@ -287,18 +287,27 @@ turns_by laws p n s steps x more r serving visible none =
     let few = all_give_ups n steps in
     omega arith
 
+-- who enters is live
+entered_live : (laws : Laws) (p : Course) (steps : List Step) (x : WorldState) (more : List Event) → IsSure p x → Serving p x (run_of p.deal steps x) → (run_of p.deal steps x).visible ≡ x.visible ++ more → (d : ℕ)
+    → 1 ≤ entries_of d more → p.live.client d ≡ true
+entered_live laws p steps x more r serving visible d some = by (p.live.client d) refl
+  where
+    by : (b : Bool) → p.live.client d ≡ b → p.live.client d ≡ true
+    by true is = is
+    by false dead = (let few = entries_most laws p steps x more r visible d in let none = out_turns laws p d steps x r serving dead in absurd (omega arith))
+
 -- t blocks are enough
 pub somebody_by : (laws : Laws) (p : Course) (w : WorldState) (c size t : ℕ) → IsBlock p (length w.clients) size → (rounds : List (List Step)) (more : List Event) → AreOld p w → IsSure p w → Asks w c → AreLiveRounds p.live p.deal w rounds
     → DoesNotGiveUp c (steps_of rounds) → Serving p w (run_of p.deal (steps_of rounds) w)
     → live_below p.live (length w.clients) + 2 * give_ups_in (steps_of rounds) + late_in p.deal 0 w rounds + olds_of p (length w.voters) w ≤ t → size * t ≤ length rounds
-    → (run_of p.deal (steps_of rounds) w).visible ≡ w.visible ++ more → (d : ℕ) × (1 ≤ entries_of d more)
+    → (run_of p.deal (steps_of rounds) w).visible ≡ w.visible ++ more → (d : ℕ) × (p.live.client d ≡ true) × (1 ≤ entries_of d more)
 somebody_by laws p w c size t is rounds more few r asks fair stays left enough long visible =
     let deal = p.deal in
     let n = length w.clients in
     let m = length w.voters in
     let z = run_of deal (steps_of rounds) w in
     elim (entered_or n more) [
-      | inr one ↦ one
+      | inr one ↦ (one.0, entered_live laws p (steps_of rounds) w more r left visible one.0 one.1, one.1)
       | inl none ↦
           let s = (client_at w.clients c).stamp in
           let on = asks_on laws p c (steps_of rounds) w more r visible (none c asks.client) (gives_up_never c (steps_of rounds) stays) asks.asks in
@@ -313,7 +322,7 @@ somebody_by laws p w c size t is rounds more few r asks fair stays left enough l
 pub live_somebody : Laws → (live : Live) (w : Planned) (c size : ℕ) → IsBlock (course_of live w) (length w.state.clients) size → (rounds : List (List Step)) (more : List Event) → IsReached w → Asks w.state c → AreLiveRounds live (dealing_of w.plans) w.state rounds
     → DoesNotGiveUp c (steps_of rounds) → Serving (course_of live w) w.state (run_of (dealing_of w.plans) (steps_of rounds) w.state)
     → size * (live_below live (length w.state.clients) + 2 * give_ups_in (steps_of rounds) + late_in (dealing_of w.plans) 0 w.state rounds) ≤ length rounds
-    → (run_of (dealing_of w.plans) (steps_of rounds) w.state).visible ≡ w.state.visible ++ more → (d : ℕ) × (1 ≤ entries_of d more)
+    → (run_of (dealing_of w.plans) (steps_of rounds) w.state).visible ≡ w.state.visible ++ more → (d : ℕ) × (live.client d ≡ true) × (1 ≤ entries_of d more)
 live_somebody laws live w c size is rounds more r asks fair stays left long visible =
     let p = course_of live w in
     let none = no_olds p (length w.state.voters) w.state (λ v. refl) in

@@ -16,7 +16,7 @@ use crate::laws::worlds_keep_their_rules;
 use world::parts_keep_their_rules;
 
 /// After any crashes, restarts, and losses of all but the least of a saved state: if a client asks and does
-/// not give up, somebody enters within (n + 9) * (c + 2 g + l + v) live rounds, for n clients, c of them live, g
+/// not give up, a live client enters within (n + 9) * (c + 2 g + l + v) live rounds, for n clients, c of them live, g
 /// withdrawals of others, l arrivals of late REQUESTs, and v voters.
 ///
 /// The rounds themselves are without crashes. A voter that lost its saved state may have forgotten that it
@@ -27,7 +27,7 @@ pub fn live_rounds_let_somebody_in_after_losses()
         → AreLiveRounds live deal w rounds → DoesNotGiveUp c (steps_of rounds) → AreOut live w (run_of deal (steps_of rounds) w) → HasGrantsThere live 1 (run_of deal (steps_of rounds) w)
         → live_block (length w.clients) * (live_below live (length w.clients) + 2 * give_ups_in (steps_of rounds) + late_in deal 0 w rounds + length w.voters) ≤ length rounds
         → (run_of deal (steps_of rounds) w).visible ≡ w.visible ++ more
-        → (d : ℕ) × (1 ≤ entries_of d more) }
+        → (d : ℕ) × (live.client d ≡ true) × (1 ≤ entries_of d more) }
 {
     worlds_keep_their_rules();
     parts_keep_their_rules();

@@ -183,7 +183,7 @@ pub fn live_rounds_move_somebody()
     worlds_keep_their_rules();
 }
 
-/// If a client asks and does not give up, somebody enters within (n + 9) * (c + 2 g + l) live rounds, for n
+/// If a client asks and does not give up, a live client enters within (n + 9) * (c + 2 g + l) live rounds, for n
 /// clients, c of them live, g withdrawals of others and l arrivals of late REQUESTs.
 pub fn live_rounds_let_somebody_in()
     ensures { (live : Live) (w : Planned) (c : ℕ) (rounds : List (List Step)) (more : List Event) → IsReached w → Asks w.state c
@@ -193,7 +193,7 @@ pub fn live_rounds_let_somebody_in()
         * (live_below live (length w.state.clients) + 2 * give_ups_in (steps_of rounds) + late_in (dealing_of w.plans) 0 w.state rounds)
         ≤ length rounds
         → (run_of (dealing_of w.plans) (steps_of rounds) w.state).visible ≡ w.state.visible ++ more
-        → (d : ℕ) × (1 ≤ entries_of d more) }
+        → (d : ℕ) × (live.client d ≡ true) × (1 ≤ entries_of d more) }
 {
     worlds_keep_their_rules();
 }
