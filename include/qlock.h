@@ -1,6 +1,6 @@
-/* qlock.h: the voter and the client of the voting lock, and the guard of what the lock protects.
+/* qlock.h: the voter and the client of the voting lock, the guard of what the lock protects, and the row of a client's number.
 
-   A voter, a client or a guard is a block of bytes of the caller's, its state. A call reads the state, and writes the new one
+   A voter, a client, a guard or a row is a block of bytes of the caller's, its state. A call reads the state, and writes the new one
    in its place. There are no other objects: nothing to free, no memory from malloc, no global, and calls on different states
    may run at once. Messages are lines of text. docs/embedding.md has the loop of a voter and of a client.
 
@@ -42,10 +42,11 @@ extern "C" {
 /* Returns the version of the library, in the same form. */
 uint32_t qlock_version(void);
 
-/* How many bytes the state of a voter, of a client and of a guard has. */
+/* How many bytes the state of a voter, of a client, of a guard and of a row has. */
 #define QLOCK_VOTER_BYTES 1104
 #define QLOCK_CLIENT_BYTES 1104
 #define QLOCK_FENCE_BYTES 520
+#define QLOCK_ROW_BYTES 48
 
 /* How many bytes the pass has that a client shows to a guard. */
 #define QLOCK_PASS_BYTES 512
@@ -65,7 +66,7 @@ uint32_t qlock_version(void);
 enum {
     QLOCK_DONE = 0,
     QLOCK_BAD_ARGUMENT = 1, /* a number or the length of a pass is out of range, the mask of a quorum is 0, or there are none */
-    QLOCK_BAD_STATE = 2,    /* the bytes are no saved voter, client or guard, or not as many as it has */
+    QLOCK_BAD_STATE = 2,    /* the bytes are no saved voter, client, guard or row, or not as many as it has */
     QLOCK_BAD_MESSAGE = 3,  /* the line is no message to this voter or client */
     QLOCK_NO_ROOM = 4,      /* `out` is too short for the lines */
     QLOCK_BUSY = 5,         /* C1: the client is asking already, or is inside */
@@ -75,7 +76,12 @@ enum {
     QLOCK_GRANTS_SPENT = 9, /* V1: the message needs a new grant, and the voter has given as many as its limit */
     QLOCK_OLDER_GRANT = 10, /* the guard saw a newer grant of some voter before */
     QLOCK_NO_PASS = 13,     /* what is shown to the guard has no grant, so it is no pass (11 and 12: qlock_plan.h) */
-    QLOCK_TURNS_SPENT = 14  /* the guard has given the turn 2 to the power of 64 - 1 */
+    QLOCK_TURNS_SPENT = 14, /* the guard has given the turn 2 to the power of 64 - 1 */
+    QLOCK_OLD_EPOCH = 15,   /* the claim's epoch is not above the row's */
+    QLOCK_FAR_EPOCH = 16,   /* the claim's epoch is too far above the row's */
+    QLOCK_IN_USE = 17,      /* another session has the number, and is not silent */
+    QLOCK_NOT_OWNER = 18,   /* the number is not this session's under this epoch */
+    QLOCK_EPOCHS_SPENT = 19 /* the row has the epoch 2 to the power of 64 - 1 */
 };
 
 /* What a client is doing. */
@@ -325,6 +331,81 @@ int32_t qlock_fence_new(uint8_t *state, size_t n);
    QLOCK_OLDER_GRANT   a pass of another request with a newer grant of some voter was admitted before, so don't write
    QLOCK_TURNS_SPENT   no turn is left */
 int32_t qlock_fence_admit(uint8_t *state, size_t n, const uint8_t *pass, size_t len, uint64_t *turn);
+
+/* ---- The row of a client's number at a voter: which session has the number, and under which stamps it may ask. `n` is always
+   QLOCK_ROW_BYTES.
+
+   A session is a process that has the number for a time. It is named by 128 bits, a hash of its name, in two halves. Epochs count
+   the sessions of a number. The session's stamps are above the row's base, and at most the highest that is reserved. As long as a
+   row changes by these calls alone, the voter takes the REQUESTs of a stamp from one session (qlock_row_takes). Save the row
+   before anything leaves that tells of it. An older copy breaks this.
+
+   `most` is the highest stamp that the caller lets a session reserve. None above QLOCK_MAX_STAMP is reserved. A number that says
+   yes or no is 0 for no, and any other number for yes. */
+
+/* Makes the row of a number that nobody has. Its epochs and its stamps are above this floor.
+
+   QLOCK_BAD_ARGUMENT  `stamp` is above QLOCK_MAX_STAMP
+   QLOCK_BAD_STATE     `n` is not QLOCK_ROW_BYTES */
+int32_t qlock_row_new(uint64_t epoch, uint64_t stamp, uint8_t *row, size_t n);
+
+/* Gives the number to a session that claims it under this epoch. Its stamps are above all that were reserved, and it may use so many
+   at once: `stamps`, at most 4096. `is_silent` says whether the session that has the number was silent for long enough. Epochs may
+   be so far above the row's: `epochs`, at most 2 to the power of 20. The claim of the session that has the number changes nothing.
+
+   QLOCK_BAD_STATE  the bytes are no row
+   QLOCK_OLD_EPOCH  the epoch is not above the row's
+   QLOCK_FAR_EPOCH  it is too far above the row's
+   QLOCK_IN_USE     a session has the number, and is not silent */
+int32_t qlock_row_claim(uint8_t *row, size_t n, uint64_t upper, uint64_t lower, uint64_t epoch, uint64_t stamps, uint32_t is_silent,
+                        uint64_t epochs, uint64_t most);
+
+/* Reserves stamps up to this one for the session that has the number. What was reserved stays so.
+
+   QLOCK_BAD_STATE  the bytes are no row
+   QLOCK_NOT_OWNER  the number is not this session's under this epoch */
+int32_t qlock_row_reserve(uint8_t *row, size_t n, uint64_t upper, uint64_t lower, uint64_t epoch, uint64_t stamp, uint64_t most);
+
+/* Frees the number, which its session gives back.
+
+   QLOCK_BAD_STATE  the bytes are no row
+   QLOCK_NOT_OWNER  the number is not this session's under this epoch */
+int32_t qlock_row_close(uint8_t *row, size_t n, uint64_t upper, uint64_t lower, uint64_t epoch);
+
+/* Ends the session that has the number, if one has: the number is nobody's, under the next epoch.
+
+   QLOCK_BAD_STATE     the bytes are no row
+   QLOCK_EPOCHS_SPENT  there is no next epoch */
+int32_t qlock_row_evict(uint8_t *row, size_t n);
+
+/* Drops the row: the number is nobody's. Its epochs and its stamps are above this floor, and above what the row had.
+
+   QLOCK_BAD_ARGUMENT  `stamp` is above QLOCK_MAX_STAMP
+   QLOCK_BAD_STATE     the bytes are no row */
+int32_t qlock_row_drop(uint8_t *row, size_t n, uint64_t epoch, uint64_t stamp);
+
+/* Learns the row that another voter has of the number. `heard_here` and `heard_there` say whether a message of the session of this
+   row, and of the other one, was ever heard: of a claim alone it may not have been.
+
+   - If the other row's epoch is newer, and its session was heard or the one here was not, the number is that session's, above all
+     that was reserved here.
+   - If two sessions that were heard have the number under one epoch, it is nobody's.
+   - In any case what is reserved there is reserved here.
+
+   QLOCK_BAD_STATE  the bytes are no row, or the other ones are none */
+int32_t qlock_row_learn(uint8_t *row, size_t n, const uint8_t *other, size_t len, uint32_t heard_here, uint32_t heard_there);
+
+/* Writes 1 to `*yes` if the voter takes a REQUEST of this session, under this epoch and stamp, and 0 if not.
+
+   QLOCK_BAD_STATE  the bytes are no row */
+int32_t qlock_row_takes(const uint8_t *row, size_t n, uint64_t upper, uint64_t lower, uint64_t epoch, uint64_t stamp, uint32_t *yes);
+
+/* Writes the numbers of a row: its epoch, its base, the highest stamp that is reserved, and 1 and the halves of the session that has
+   the number, or three times 0 if nobody has it.
+
+   QLOCK_BAD_STATE  the bytes are no row */
+int32_t qlock_row_shows(const uint8_t *row, size_t n, uint64_t *epoch, uint64_t *base, uint64_t *reserved, uint64_t *held,
+                        uint64_t *upper, uint64_t *lower);
 
 #ifdef __cplusplus
 }

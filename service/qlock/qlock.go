@@ -1,4 +1,4 @@
-// Package qlock binds the proved voter, client and guard of libqlock, and the plans of libqlock_plan.
+// Package qlock binds the proved voter, client, guard and row of libqlock, and the plans of libqlock_plan.
 //
 // It has no goroutine, socket, clock or file: a call takes a line and returns lines. Whoever calls it saves
 // a voter's new state before any of its lines leaves (docs/embedding.md). One call at a time uses a state.
@@ -17,6 +17,7 @@ const (
 	VoterBytes  = C.QLOCK_VOTER_BYTES
 	ClientBytes = C.QLOCK_CLIENT_BYTES
 	FenceBytes  = C.QLOCK_FENCE_BYTES
+	RowBytes    = C.QLOCK_ROW_BYTES
 	PassBytes   = C.QLOCK_PASS_BYTES
 	MaxVoters   = C.QLOCK_MAX_VOTERS
 	MaxClients  = C.QLOCK_MAX_CLIENTS
@@ -48,6 +49,11 @@ const (
 	NoMemory    Refusal = C.QLOCK_NO_MEMORY
 	NoPass      Refusal = C.QLOCK_NO_PASS
 	TurnsSpent  Refusal = C.QLOCK_TURNS_SPENT
+	OldEpoch    Refusal = C.QLOCK_OLD_EPOCH
+	FarEpoch    Refusal = C.QLOCK_FAR_EPOCH
+	InUse       Refusal = C.QLOCK_IN_USE
+	NotOwner    Refusal = C.QLOCK_NOT_OWNER
+	EpochsSpent Refusal = C.QLOCK_EPOCHS_SPENT
 )
 
 var meanings = map[Refusal]string{
@@ -65,6 +71,11 @@ var meanings = map[Refusal]string{
 	NoMemory:    "there is no memory",
 	NoPass:      "there is no grant in the pass",
 	TurnsSpent:  "the guard has no turn left",
+	OldEpoch:    "the epoch is not above the row's",
+	FarEpoch:    "the epoch is too far above the row's",
+	InUse:       "another session has the number, and is not silent",
+	NotOwner:    "the number is not this session's under this epoch",
+	EpochsSpent: "the row has no epoch left",
 }
 
 // Error returns what the refusal means.

@@ -5,5 +5,6 @@ pub mod Lines
 pub mod Made
 pub mod Numbers
 pub mod QuorumSteps
+pub mod RowSteps
 pub mod Sent
 pub mod VoterSteps

@@ -4,8 +4,10 @@ use Rattle.fence.specs.declared.fault.FenceFault.{FenceFault}
 use Rattle.fence.specs.declared.fault.FenceFault.TheVariants as fence
 use Rattle.requester.specs.declared.fault.ClientFault.{ClientFault}
 use Rattle.requester.specs.declared.fault.ClientFault.TheVariants as client
+use Rattle.session_rows.specs.declared.fault.RowFault.{RowFault}
+use Rattle.session_rows.specs.declared.fault.RowFault.TheVariants as row
 use Rattle.qlock_c.specs.declared.refusal.Refusal.{Refusal}
-use Rattle.qlock_c.specs.declared.refusal.Refusal.TheVariants.{BadArgument, BadState, BadMessage, NoRoom, Busy, NotInside, NotAsking, StampsSpent, GrantsSpent, OlderGrant, NoPass, TurnsSpent}
+use Rattle.qlock_c.specs.declared.refusal.Refusal.TheVariants.{BadArgument, BadState, BadMessage, NoRoom, Busy, NotInside, NotAsking, StampsSpent, GrantsSpent, OlderGrant, NoPass, TurnsSpent, OldEpoch, FarEpoch, InUse, NotOwner, EpochsSpent}
 
 -- the number of a refusal
 abbrev pub number_of : Refusal → ℕ
@@ -21,6 +23,11 @@ number_of GrantsSpent = 9
 number_of OlderGrant = 10
 number_of NoPass = 13
 number_of TurnsSpent = 14
+number_of OldEpoch = 15
+number_of FarEpoch = 16
+number_of InUse = 17
+number_of NotOwner = 18
+number_of EpochsSpent = 19
 
 -- what a call returns that is done
 abbrev pub done : ℤ
@@ -46,3 +53,11 @@ client_refusal client.StampsSpent = StampsSpent
 abbrev pub fence_refusal : FenceFault → Refusal
 fence_refusal fence.OlderGrant = OlderGrant
 fence_refusal fence.TurnsSpent = TurnsSpent
+
+-- the refusal of a row's fault
+abbrev pub row_refusal : RowFault → Refusal
+row_refusal row.OldEpoch = OldEpoch
+row_refusal row.FarEpoch = FarEpoch
+row_refusal row.InUse = InUse
+row_refusal row.NotOwner = NotOwner
+row_refusal row.EpochsSpent = EpochsSpent

@@ -1,11 +1,12 @@
-//! The library for C: the voter and the client of the lock, and the guard of what the lock protects.
+//! The library for C: the voter and the client of the lock, the guard of what the lock protects, and the row of
+//! a client number.
 //!
 //! A call gets the state as bytes, which are the caller's, and writes the new state in their place.
 //! Messages are lines of text, as `message` reads and writes them. No call takes memory, and there
 //! is nothing else that one call leaves to the next: calls on different states may run at once.
 //!
-//! - `src/voter_calls.rt`, `src/client_calls.rt`, `src/fence_calls.rt`, `src/quorum_calls.rt`: the functions
-//!   that C calls.
+//! - `src/voter_calls.rt`, `src/client_calls.rt`, `src/fence_calls.rt`, `src/quorum_calls.rt`,
+//!   `src/row_calls.rt`: the functions that C calls.
 //! - `src/version.rt`: the version, as a number.
 //! - `src/saved_bytes.rt`: the states as bytes.
 //! - `src/lines.rt`: messages as lines, in a text of fixed room.
@@ -18,10 +19,11 @@
 //!
 //! A call that does not return 0 writes nothing. Where a call that changes a state or sends returns 0,
 //! the automaton's own step gives the new state and the lines: `specs/VoterSteps.antt`,
-//! `specs/ClientSteps.antt` and `specs/FenceSteps.antt`. What is said of quorums is in
+//! `specs/ClientSteps.antt`, `specs/FenceSteps.antt` and `specs/RowSteps.antt`. What is said of quorums is in
 //! `specs/QuorumSteps.antt`.
 //!
-//! Depends on `voter`, `voter_node`, `requester`, `fence`, `message`, `words`, `quorum_set` and `numbers`.
+//! Depends on `voter`, `voter_node`, `requester`, `fence`, `session_rows`, `message`, `words`, `quorum_set`
+//! and `numbers`.
 #![tactic(auto)]
 
 mod client_calls;
@@ -30,6 +32,7 @@ mod laws;
 mod lines;
 mod quorum_calls;
 mod refusal;
+mod row_calls;
 mod saved_bytes;
 mod version;
 mod voter_calls;

@@ -4,6 +4,7 @@ ghost use Rattle.qlock_c.specs.Numbers.{client_refusal, done, fence_refusal, ref
 
 use fence::FenceFault;
 use requester::ClientFault;
+use session_rows::RowFault;
 use voter::VoterFault;
 
 /// The reason why a call wrote nothing.
@@ -11,7 +12,7 @@ use voter::VoterFault;
 pub enum Refusal {
     /// A number is out of range.
     BadArgument,
-    /// The bytes are no saved voter, client or guard.
+    /// The bytes are no saved voter, client, guard or row.
     BadState,
     /// The bytes are no line of a message to this voter or client.
     BadMessage,
@@ -33,6 +34,16 @@ pub enum Refusal {
     NoPass,
     /// The pass shows a newer grant, and the guard has no turn left.
     TurnsSpent,
+    /// The claim's epoch is not above the row's.
+    OldEpoch,
+    /// The claim's epoch is too far above the row's.
+    FarEpoch,
+    /// Another session has the number, and is not silent.
+    InUse,
+    /// The number is not this session's under this epoch.
+    NotOwner,
+    /// The row has the last epoch.
+    EpochsSpent,
 }
 
 /// What a call returns to C if it was done.
@@ -66,6 +77,11 @@ impl Refusal {
             Refusal::OlderGrant => 10,
             Refusal::NoPass => 13,
             Refusal::TurnsSpent => 14,
+            Refusal::OldEpoch => 15,
+            Refusal::FarEpoch => 16,
+            Refusal::InUse => 17,
+            Refusal::NotOwner => 18,
+            Refusal::EpochsSpent => 19,
         }
     }
 }
@@ -102,6 +118,22 @@ impl From<VoterFault> for Refusal {
     fn from(fault: VoterFault) -> Self {
         match fault {
             VoterFault::GrantsSpent => Refusal::GrantsSpent,
+        }
+    }
+}
+
+impl From<RowFault> for Refusal {
+    ghost use Rattle.qlock_c.specs.Numbers.{row_refusal};
+
+    ghost from_gives = { λ fault r. r ≡ row_refusal fault };
+
+    fn from(fault: RowFault) -> Self {
+        match fault {
+            RowFault::OldEpoch => Refusal::OldEpoch,
+            RowFault::FarEpoch => Refusal::FarEpoch,
+            RowFault::InUse => Refusal::InUse,
+            RowFault::NotOwner => Refusal::NotOwner,
+            RowFault::EpochsSpent => Refusal::EpochsSpent,
         }
     }
 }

@@ -1,0 +1,246 @@
+package qlock
+
+import (
+	"errors"
+	"math"
+	"math/rand"
+	"testing"
+)
+
+// tableRow is a row as the table of a voter of the service has it: by its rules, but for clocks and rates. Who has the
+// number is forgotten once it is free, and a claim that was taken back keeps its epoch.
+type tableRow struct {
+	epoch, base, reserved uint64
+	isOpen, isUsed        bool
+	session               Session
+}
+
+func (t *tableRow) isOf(session Session, epoch uint64) bool {
+	return t.isOpen && t.epoch == epoch && t.session == session
+}
+
+// reserve notes which stamps the session of a number reserves, as far as it may.
+func (t *tableRow) reserve(wanted, most uint64) {
+	for _, bound := range []uint64{most, MaxStamp} {
+		if wanted > bound {
+			wanted = bound
+		}
+	}
+	if wanted > t.reserved {
+		t.reserved = wanted
+	}
+}
+
+// claim gives the number to a session, with so many stamps, and returns whether it did.
+func (t *tableRow) claim(c Claim) bool {
+	if t.isOf(c.Session, c.Epoch) {
+		return true
+	}
+	most, stamps := c.Epochs, c.Stamps
+	if most > 1<<20 {
+		most = 1 << 20
+	}
+	if stamps > 1<<12 {
+		stamps = 1 << 12
+	}
+	if c.Epoch <= t.epoch || t.isOpen && !c.IsSilent || c.Epoch-t.epoch > most {
+		return false
+	}
+	*t = tableRow{epoch: c.Epoch, base: t.reserved, reserved: t.reserved, isOpen: true, session: c.Session}
+	t.reserve(t.reserved+stamps, c.Most)
+	return true
+}
+
+// learn takes what another voter knows of the number.
+func (t *tableRow) learn(other tableRow) {
+	before := *t
+	newer := other.epoch > t.epoch && (other.isUsed || !t.isUsed)
+	if other.epoch == t.epoch && t.isOpen && other.isOpen && other.session != t.session && other.isUsed && t.isUsed {
+		other, newer = tableRow{epoch: other.epoch, base: other.reserved, reserved: other.reserved, isUsed: true}, true
+	}
+	if newer {
+		*t = other
+		t.base = greatest(before.reserved, other.base)
+	}
+	t.reserved = greatest(before.reserved, greatest(other.reserved, t.base))
+}
+
+func greatest(a, b uint64) uint64 {
+	if a > b {
+		return a
+	}
+	return b
+}
+
+// pair has a row by the table's rules beside the proved one.
+type pair struct {
+	model tableRow
+	row   *Row
+}
+
+// agrees fails the test unless both rows have the same. The base of a number that nobody has means nothing.
+func (p *pair) agrees(t *testing.T, call string) {
+	t.Helper()
+	shown, err := p.row.Shows()
+	if err != nil {
+		t.Fatal(call, err)
+	}
+	m := p.model
+	if shown.Epoch != m.epoch || shown.Reserved != m.reserved || shown.IsHeld != m.isOpen ||
+		m.isOpen && (shown.Base != m.base || shown.Session != m.session) {
+		t.Fatalf("%s: %+v, and by the table %+v", call, shown, m)
+	}
+}
+
+// near returns a number at most two away from this one, not below 0, or sometimes one that is far above.
+func near(random *rand.Rand, number uint64) uint64 {
+	if random.Intn(8) == 0 {
+		return number + 1<<uint(random.Intn(24))
+	}
+	if number < 2 {
+		return uint64(random.Intn(5))
+	}
+	return number - 2 + uint64(random.Intn(5))
+}
+
+// outcome is a call, and whether it was done.
+type outcome struct {
+	call   string
+	isDone bool
+}
+
+// A row does what the table of a voter does, on random calls: it gives, reserves and frees numbers, and learns, as that
+// does. Sometimes it is saved and restored.
+func TestRowAndTable(t *testing.T) {
+	random := rand.New(rand.NewSource(76))
+	seen := map[outcome]int{}
+	for run := 0; run < 200; run++ {
+		var pairs [2]pair
+		for i := range pairs {
+			floor := uint64(random.Intn(10))
+			row, err := NewRow(floor, 10*floor)
+			if err != nil {
+				t.Fatal(err)
+			}
+			pairs[i] = pair{tableRow{epoch: floor, base: 10 * floor, reserved: 10 * floor}, row}
+		}
+		for step := 0; step < 200; step++ {
+			p, other := &pairs[step%2], &pairs[1-step%2]
+			session := Session{0: byte(random.Intn(2)), 15: byte(random.Intn(2))}
+			m := &p.model
+			epoch, stamp := near(random, m.epoch), near(random, m.reserved)
+			if random.Intn(2) == 0 {
+				session, epoch = m.session, m.epoch
+			}
+			takes, err := p.row.Takes(session, epoch, stamp)
+			if err != nil || takes != (m.isOf(session, epoch) && m.base < stamp && stamp <= m.reserved) {
+				t.Fatalf("takes %v %d %d: %v, %v, and by the table %+v", session, epoch, stamp, takes, err, *m)
+			}
+			seen[outcome{"takes", takes}]++
+			made := p.step(t, random, session, epoch, stamp, other)
+			seen[made]++
+			p.agrees(t, made.call)
+		}
+	}
+	for _, call := range []string{"takes", "claim", "reserve", "close"} {
+		for _, isDone := range []bool{true, false} {
+			if seen[outcome{call, isDone}] < 100 {
+				t.Errorf("%s was %v only %d times", call, isDone, seen[outcome{call, isDone}])
+			}
+		}
+	}
+}
+
+// step makes a random call of both rows, which have to answer the same, and returns what it was.
+func (p *pair) step(t *testing.T, random *rand.Rand, session Session, epoch, stamp uint64, other *pair) outcome {
+	t.Helper()
+	m := &p.model
+	owns := m.isOf(session, epoch)
+	same := func(call string, err error, isDone bool) outcome {
+		t.Helper()
+		if (err == nil) != isDone {
+			t.Fatalf("%s: %v, and by the table %v, of %+v", call, err, isDone, *m)
+		}
+		return outcome{call, isDone}
+	}
+	switch random.Intn(8) {
+	case 0, 1:
+		c := Claim{session, epoch, uint64(random.Intn(8)), random.Intn(2) == 0, math.MaxUint64, math.MaxUint64}
+		if random.Intn(4) == 0 {
+			c.Epochs, c.Most, c.Stamps = uint64(random.Intn(4)), stamp, math.MaxUint64
+		}
+		return same("claim", p.row.Claim(c), m.claim(c))
+	case 2, 3:
+		most := near(random, stamp)
+		if owns {
+			m.reserve(stamp, most)
+		}
+		return same("reserve", p.row.Reserve(session, epoch, stamp, most), owns)
+	case 4:
+		if owns {
+			m.isOpen = false
+		}
+		return same("close", p.row.Close(session, epoch), owns)
+	case 5:
+		m.isUsed = m.isUsed || owns
+		restored, err := RestoreRow(p.row.State())
+		p.row = restored
+		return same("restore", err, true)
+	case 6:
+		if random.Intn(4) > 0 {
+			m.epoch, m.base, m.reserved, m.isOpen = greatest(m.epoch, epoch), greatest(m.reserved, stamp), greatest(m.reserved, stamp), false
+			return same("drop", p.row.Drop(epoch, stamp), true)
+		}
+		*m = tableRow{epoch: m.epoch + 1, base: m.reserved, reserved: m.reserved, isUsed: true}
+		return same("evict", p.row.Evict(), true)
+	}
+	here, there := m.isUsed, other.model.isUsed
+	m.learn(other.model)
+	return same("learn", p.row.Learn(other.row, here, there), true)
+}
+
+// Each call of a row that is refused returns the refusal by its name, and changes nothing.
+func TestRowRefusals(t *testing.T) {
+	row, err := NewRow(5, 100)
+	if err != nil {
+		t.Fatal(err)
+	}
+	last, err := NewRow(math.MaxUint64, MaxStamp)
+	if err != nil {
+		t.Fatal(err)
+	}
+	one, two := Session{1}, Session{2}
+	claim := func(session Session, epoch uint64, isSilent bool) error {
+		return row.Claim(Claim{session, epoch, 10, isSilent, math.MaxUint64, math.MaxUint64})
+	}
+	for _, it := range []struct {
+		call string
+		want Refusal
+		got  error
+	}{
+		{"a floor above the last stamp", BadArgument, second(NewRow(0, MaxStamp+1))},
+		{"a state that is too short", BadState, second(RestoreRow(row.State()[1:]))},
+		{"a base above what is reserved", BadState, second(RestoreRow(append([]byte{0, 0, 0, 0, 0, 0, 0, 0, 1}, make([]byte, RowBytes-9)...)))},
+		{"the floor's epoch", OldEpoch, claim(one, 5, true)},
+		{"an epoch far above", FarEpoch, claim(one, 5+1<<20+1, true)},
+		{"the next epoch", 0, claim(one, 6, false)},
+		{"the same claim again", 0, claim(one, 6, false)},
+		{"another session under this epoch", OldEpoch, claim(two, 6, true)},
+		{"one that is in use", InUse, claim(two, 7, false)},
+		{"another session's stamps", NotOwner, row.Reserve(two, 6, 200, MaxStamp)},
+		{"stamps of an older epoch", NotOwner, row.Reserve(one, 5, 200, MaxStamp)},
+		{"its own stamps", 0, row.Reserve(one, 6, 200, MaxStamp)},
+		{"another session's end", NotOwner, row.Close(two, 6)},
+		{"one that is silent", 0, claim(two, 7, true)},
+		{"its end", 0, row.Close(two, 7)},
+		{"a drop above the last stamp", BadArgument, row.Drop(0, MaxStamp+1)},
+		{"an eviction after the last epoch", EpochsSpent, last.Evict()},
+	} {
+		if it.want == 0 && it.got != nil || it.want != 0 && !errors.Is(it.got, it.want) {
+			t.Errorf("%s: %v, not %v", it.call, it.got, it.want)
+		}
+	}
+	if shown, err := row.Shows(); err != nil || shown != (RowShown{Epoch: 7, Base: 200, Reserved: 210}) {
+		t.Error(shown, err)
+	}
+}
