@@ -15,7 +15,7 @@ quorums = [["hub", "rim1"], ["hub", "rim2"], ["hub", "rim3"], ["rim1", "rim2", "
 """
 PLAN = "quorum-plan 1\nload 3/5\ncycle 5\nquorum 1 1 1 2\nvoter 2 1 1 1\n"
 # with a cycle of at most 4 tickets
-NEAR = "quorum-weights 1\nload 2/3\nbound 3/5\ncycle 3\nquorum 0 1 1 1\nvoter 400000 200000 200000 200000\n"
+NEAR = "quorum-weights 1\nload 2/3\nbound 3/5\ncycle 3\nquorum 0 1 1 1\nvoter 2 1 1 1\n"
 QUORUMS = [(0, 1), (0, 2), (0, 3), (1, 2, 3)]
 # the minimal sets with more than half of the votes 3, 2, 2, 1 and 1: its two orders differ
 VOTES = """voters = ["a", "b", "c", "d", "e"]
