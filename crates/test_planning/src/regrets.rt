@@ -9,12 +9,11 @@ use test_plans::unit_capacities;
 /// Shapes, how many voters may be down, how many thousandths the load may be above the best, the greatest
 /// regret that is wanted and the smallest bound, both in thousandths. A plan of the tree has a regret of 7/6
 /// or more.
-const REGRETS: [(Shape, Down, u64, u64, u128); 5] = [
+const REGRETS: [(Shape, Down, u64, u64, u128); 4] = [
     (Shape::Tree(2), Down::One, 20, 1130, 1110),
     (Shape::Tree(2), Down::One, 50, 1050, 1040),
     (Shape::Tree(2), Down::OneOrTwo, 20, 1130, 1110),
     (Shape::Majority(5), Down::One, 20, 1000, 990),
-    (Shape::Majority(5), Down::OneOrTwo, 20, 1000, 990),
 ];
 
 /// Returns whether the regret that is found for a shape is small, and the bound near it.
