@@ -67,7 +67,7 @@ pub record RowLearns (before other : List ℕ) (heard : Heard) (after : List ℕ
   pub no_other : (row : Row) → IsRow before row → IsNoRow other → result ≡ refused BadState
   pub learns : (row there : Row) → IsRow before row → IsRow other there → (result ≡ done) × IsRow after (learn_of row there heard)
 
--- whether the voter takes a REQUEST of this session: 1 if it does, and 0 if not
+-- whether the voter takes a REQUEST of the session: 1 if it does, and 0 if not
 pub record RowTakes (bytes : List ℕ) (session epoch stamp yes : ℕ) (result : ℤ) : Type 0 where
   pub no_row : IsNoRow bytes → result ≡ refused BadState
   pub takes : (row : Row) → IsRow bytes row → (result ≡ done) × (yes ≡ (if is_taken row session epoch stamp then 1 else 0))

@@ -40,7 +40,7 @@ pub enum Refusal {
     FarEpoch,
     /// Another session has the number, and is not silent.
     InUse,
-    /// The number is not this session's under this epoch.
+    /// The number is not the session's under its epoch.
     NotOwner,
     /// The row has the last epoch.
     EpochsSpent,

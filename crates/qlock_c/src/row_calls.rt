@@ -224,7 +224,7 @@ pub extern "C" fn qlock_row_learn(
     number_of(learn(row, other, heard))
 }
 
-/// Writes 1 if the voter takes a REQUEST of this session, under this epoch and stamp, and 0 if not.
+/// Writes 1 if the voter takes a REQUEST of the session, under this epoch and stamp, and 0 if not.
 #[unsafe(no_mangle)]
 pub extern "C" fn qlock_row_takes(
     row: &[u8],

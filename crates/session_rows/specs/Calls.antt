@@ -66,7 +66,7 @@ evict_of r = unless (if nat_lt (r.epoch + 1) (2 ^ 64) then None else Some Epochs
 
 -- ---- what a voter learns from another voter's row
 
--- the other row's number has this session there, if any: it has it here too, above all that was reserved here
+-- the other row's number has a session there, if any: it has it here too, above all that was reserved here
 abbrev pub followed_by : Row → Row → Option ℕ → Row
 followed_by r other None = dropped r other.epoch other.reserved
 followed_by r other (Some session) = reserved (claimed (dropped r 0 other.base) session other.epoch) session other.epoch other.reserved

@@ -13,7 +13,7 @@ pub enum RowFault {
     /// Another session has the number, and is not silent.
     #[error("InUse")]
     InUse,
-    /// The number is not this session's under this epoch.
+    /// The number is not the session's under its epoch.
     #[error("NotOwner")]
     NotOwner,
     /// The row has the last epoch, 2^64 - 1.
