@@ -33,6 +33,7 @@ use Rattle.world.proofs.Reached.{Given, RunOk}
 use Rattle.world.proofs.Restarts.{Mix, MixBut, Mix-back, Mix-restarted, Mix-saved, Mix-with, SavedOk, begin_ok, happens_ok, live_ok, nothing_more, silent_parts, within_or}
 use Rattle.progress.specs.AfterLosses.{AskedSince, IsHeard, IsReachedAfterLosses}
 use Rattle.progress.specs.LiveRounds.{AreLiveRounds, Live, live_below}
+use Rattle.progress.specs.Moves.{of_steps}
 use Rattle.progress.specs.Patience.{hasty_in}
 use Rattle.progress.specs.Rounds.{DoesNotGiveUp, give_ups_in, late_in, steps_of}
 use Rattle.progress.specs.Rules.{Laws}
@@ -548,7 +549,7 @@ sure_after laws live deal w a = IsSure-first laws (course_at live deal w) w a.co
 })
 
 pub after_losses_somebody : Laws → ClientLaws → VoterLaws → (live : Live) (deal : Dealing) (w : WorldState) (c : ℕ) (rounds : List (List Step)) (more : List Event) → IsReachedAfterLosses deal w → Asks w c
-    → AreLiveRounds live deal w rounds → DoesNotGiveUp c (steps_of rounds) → Serving (course_at live deal w) w (run_of deal (steps_of rounds) w)
+    → AreLiveRounds of_steps live deal w rounds → DoesNotGiveUp c (steps_of rounds) → Serving (course_at live deal w) w (run_of deal (steps_of rounds) w)
     → live_block (length w.clients) * (live_below live (length w.clients) + 2 * give_ups_in (steps_of rounds) + late_in deal 0 w rounds + length w.voters) ≤ length rounds
     → (run_of deal (steps_of rounds) w).visible ≡ w.visible ++ more → (d : ℕ) × (live.client d ≡ true) × (1 ≤ entries_of d more)
 after_losses_somebody laws clients voters live deal w c rounds more r asks fair stays left long visible =
@@ -558,7 +559,7 @@ after_losses_somebody laws clients voters live deal w c rounds more r asks fair 
     (sure_after laws live deal w (lives_after laws clients voters deal w r)) asks fair stays left (omega arith) long visible
 
 pub after_losses_everybody : Laws → ClientLaws → VoterLaws → (live : Live) (deal : Dealing) (w : WorldState) (c : ℕ) (rounds : List (List Step)) (more : List Event) → IsReachedAfterLosses deal w → IsHeard w c → Asks w c
-    → AreLiveRounds live deal w rounds → DoesNotGiveUp c (steps_of rounds) → Serving (course_at live deal w) w (run_of deal (steps_of rounds) w)
+    → AreLiveRounds of_steps live deal w rounds → DoesNotGiveUp c (steps_of rounds) → Serving (course_at live deal w) w (run_of deal (steps_of rounds) w)
     → live_block (length w.clients) * (3 * live_below live (length w.clients) + 2 * hasty_in deal w rounds + late_in deal 0 w rounds + length w.voters) ≤ length rounds
     → (run_of deal (steps_of rounds) w).visible ≡ w.visible ++ more → 1 ≤ entries_of c more
 after_losses_everybody laws clients voters live deal w c rounds more r heard asks fair stays left long visible =

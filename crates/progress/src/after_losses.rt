@@ -3,6 +3,7 @@ ghost use Rattle.std.specs.Prelude.{◌≡◌, ◌≤◌, ◌+◌, ◌*◌, ◌+
 ghost use Rattle.progress.specs.AfterLosses.{AskedSince, IsHeard, IsReachedAfterLosses};
 ghost use Rattle.world.specs.Visible.{entries_of};
 ghost use Rattle.progress.specs.LiveRounds.{AreLiveRounds, AreOut, HasGrantsThere, Live, live_below};
+ghost use Rattle.progress.specs.Moves.{of_steps};
 ghost use Rattle.progress.specs.Patience.{hasty_in};
 ghost use Rattle.progress.specs.Rounds.{DoesNotGiveUp, give_ups_in, late_in, steps_of};
 ghost use Rattle.world.specs.WayIn.{Asks};
@@ -24,7 +25,7 @@ use world::parts_keep_their_rules;
 /// at the end.
 pub fn live_rounds_let_somebody_in_after_losses()
     ensures { (live : Live) (deal : Dealing) (w : WorldState) (c : ℕ) (rounds : List (List Step)) (more : List Event) → IsReachedAfterLosses deal w → Asks w c
-        → AreLiveRounds live deal w rounds → DoesNotGiveUp c (steps_of rounds) → AreOut live w (run_of deal (steps_of rounds) w) → HasGrantsThere live 1 (run_of deal (steps_of rounds) w)
+        → AreLiveRounds of_steps live deal w rounds → DoesNotGiveUp c (steps_of rounds) → AreOut live w (run_of deal (steps_of rounds) w) → HasGrantsThere live 1 (run_of deal (steps_of rounds) w)
         → live_block (length w.clients) * (live_below live (length w.clients) + 2 * give_ups_in (steps_of rounds) + late_in deal 0 w rounds + length w.voters) ≤ length rounds
         → (run_of deal (steps_of rounds) w).visible ≡ w.visible ++ more
         → (d : ℕ) × (live.client d ≡ true) × (1 ≤ entries_of d more) }
@@ -42,7 +43,7 @@ pub fn live_rounds_let_somebody_in_after_losses()
 /// crashes. Each voter has to have a grant left at the end.
 pub fn live_rounds_let_everybody_in_after_losses()
     ensures { (live : Live) (deal : Dealing) (w : WorldState) (c : ℕ) (rounds : List (List Step)) (more : List Event) → IsReachedAfterLosses deal w → IsHeard w c → Asks w c
-        → AreLiveRounds live deal w rounds → DoesNotGiveUp c (steps_of rounds) → AreOut live w (run_of deal (steps_of rounds) w) → HasGrantsThere live 1 (run_of deal (steps_of rounds) w)
+        → AreLiveRounds of_steps live deal w rounds → DoesNotGiveUp c (steps_of rounds) → AreOut live w (run_of deal (steps_of rounds) w) → HasGrantsThere live 1 (run_of deal (steps_of rounds) w)
         → live_block (length w.clients) * (3 * live_below live (length w.clients) + 2 * hasty_in deal w rounds + late_in deal 0 w rounds + length w.voters) ≤ length rounds
         → (run_of deal (steps_of rounds) w).visible ≡ w.visible ++ more
         → 1 ≤ entries_of c more }

@@ -4,6 +4,7 @@ ghost use Rattle.progress.specs.LostVotes.{ComesBack, GoesOn, HasLostVote, HasRe
 ghost use Rattle.progress.specs.Overtaking.{IsKnownEverywhere, StillRuns};
 ghost use Rattle.world.specs.Visible.{entries_of};
 ghost use Rattle.progress.specs.LiveRounds.{AreLiveRounds, AreOut, HasGrantsThere, Live, live_below};
+ghost use Rattle.progress.specs.Moves.{of_steps};
 ghost use Rattle.progress.specs.Patience.{hasty_in};
 ghost use Rattle.progress.specs.Rounds.{AreFairRounds, DoesNotGiveUp, IsFairRound, IsStill, IsTimely, give_ups_in, grants_for, late_in, steps_of};
 ghost use Rattle.progress.specs.Rules.{Laws};
@@ -163,7 +164,7 @@ pub fn rounds_may_be_longer()
 /// Fair rounds are live rounds, if everybody is live: then nobody is stuck, and nothing is dropped.
 pub fn fair_rounds_are_live_rounds()
     ensures { (live : Live) (deal : Dealing) (w : WorldState) (rounds : List (List Step)) → ((c : ℕ) → live.client c ≡ true) → ((v : ℕ) → live.voter v ≡ true)
-        → AreFairRounds deal w rounds → AreLiveRounds live deal w rounds }
+        → AreFairRounds deal w rounds → AreLiveRounds of_steps live deal w rounds }
 {}
 
 /// If a client asks, somebody asks, enters or gives up within n + 9 live rounds, for n clients, while any voters
@@ -175,7 +176,7 @@ pub fn fair_rounds_are_live_rounds()
 /// REQUEST may come late, and each live voter has to have a grant left at the end.
 pub fn live_rounds_move_somebody()
     ensures { (live : Live) (w : Planned) (c : ℕ) (rounds : List (List Step)) → IsReached w → Asks w.state c
-        → AreLiveRounds live (dealing_of w.plans) w.state rounds → late_in (dealing_of w.plans) 0 w.state rounds ≡ 0
+        → AreLiveRounds of_steps live (dealing_of w.plans) w.state rounds → late_in (dealing_of w.plans) 0 w.state rounds ≡ 0
         → AreOut live w.state (run_of (dealing_of w.plans) (steps_of rounds) w.state) → HasGrantsThere live 1 (run_of (dealing_of w.plans) (steps_of rounds) w.state)
         → live_block (length w.state.clients) ≤ length rounds
         → IsStill w.state (run_of (dealing_of w.plans) (steps_of rounds) w.state) → ⊥ }
@@ -187,7 +188,7 @@ pub fn live_rounds_move_somebody()
 /// clients, c of them live, g withdrawals of others and l arrivals of late REQUESTs.
 pub fn live_rounds_let_somebody_in()
     ensures { (live : Live) (w : Planned) (c : ℕ) (rounds : List (List Step)) (more : List Event) → IsReached w → Asks w.state c
-        → AreLiveRounds live (dealing_of w.plans) w.state rounds → DoesNotGiveUp c (steps_of rounds)
+        → AreLiveRounds of_steps live (dealing_of w.plans) w.state rounds → DoesNotGiveUp c (steps_of rounds)
         → AreOut live w.state (run_of (dealing_of w.plans) (steps_of rounds) w.state) → HasGrantsThere live 1 (run_of (dealing_of w.plans) (steps_of rounds) w.state)
         → live_block (length w.state.clients)
         * (live_below live (length w.state.clients) + 2 * give_ups_in (steps_of rounds) + late_in (dealing_of w.plans) 0 w.state rounds)
@@ -206,7 +207,7 @@ pub fn live_rounds_let_somebody_in()
 /// quorum. Such a withdrawal is hasty if its request did not run for two whole rounds.
 pub fn live_rounds_let_everybody_in()
     ensures { (live : Live) (w : Planned) (c : ℕ) (rounds : List (List Step)) (more : List Event) → IsReached w → Asks w.state c
-        → AreLiveRounds live (dealing_of w.plans) w.state rounds → DoesNotGiveUp c (steps_of rounds)
+        → AreLiveRounds of_steps live (dealing_of w.plans) w.state rounds → DoesNotGiveUp c (steps_of rounds)
         → AreOut live w.state (run_of (dealing_of w.plans) (steps_of rounds) w.state) → HasGrantsThere live 1 (run_of (dealing_of w.plans) (steps_of rounds) w.state)
         → live_block (length w.state.clients)
         * (3 * live_below live (length w.state.clients) + 2 * hasty_in (dealing_of w.plans) w.state rounds + late_in (dealing_of w.plans) 0 w.state rounds)
