@@ -114,10 +114,10 @@ spot_through P R deal Q keep x z s spot q =
 pub spot_after : (P : WorldState → Type 0) (R : Step → WorldState → WorldState → Type 0) (deal : Dealing) (x z : WorldState) (s : Step) → (spot : Spot P R deal x z s) → P (next deal spot.before s)
 spot_after P R deal x z s spot = along-first P R deal spot.rest (next deal spot.before s) spot.follow
 
-contains_split : (xs : List Step) (x : Step) → Contains xs x → (first : List Step) × (rest : List Step) × (xs ≡ first ++ x ∷ rest)
-contains_split xs x there = go xs there.0 there.1 there.2
+pub contains_split : {A : Type 0} (xs : List A) (x : A) → Contains xs x → (first : List A) × (rest : List A) × (xs ≡ first ++ x ∷ rest)
+contains_split {A} xs x there = go xs there.0 there.1 there.2
   where
-    go : (xs : List Step) (k : ℕ) → k < length xs → slice_index_or xs k x ≡ x → (first : List Step) × (rest : List Step) × (xs ≡ first ++ x ∷ rest)
+    go : (xs : List A) (k : ℕ) → k < length xs → slice_index_or xs k x ≡ x → (first : List A) × (rest : List A) × (xs ≡ first ++ x ∷ rest)
     go [] k less is = absurd (omega arith)
     go (y ∷ ys) zero less is = ([], ys, ap (λ z. z ∷ ys) is)
     go (y ∷ ys) (suc k) less is = (let more = go ys k (omega arith) is in (y ∷ more.0, more.1, ap (λ l. y ∷ l) more.2))

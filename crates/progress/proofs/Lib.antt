@@ -29,6 +29,8 @@ pub mod Overdue
 pub mod Parts
 pub mod Patient
 pub mod Placed
+pub mod Shade
+pub mod ShadeRounds
 pub mod Spending
 pub mod Steady
 pub mod Sure
