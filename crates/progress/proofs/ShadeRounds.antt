@@ -2,6 +2,7 @@
 use Rattle.std.proofs.Common.{◌≡◌, ◌≢◌, ℕ, ◌+◌, ◌-◌, ◌<◌, ◌≤◌, Bool, true, false, List, [], ◌∷◌, ◌++◌, length, Option, Some, None, refl, sym, ap, subst, ◌∙◌, arith, append_assoc, length-append}
 use Rattle.std.specs.Prelude.{◌&&◌, nat_lt, slice_get, if◌then◌else◌}
 use Rattle.std.specs.List.{AllByRecursion, Contains}
+use Rattle.std.proofs.lemmas.Bool.{false_from_ne_true}
 use Rattle.std.proofs.lemmas.Bool.Decides.{nat_tests}
 use Rattle.std.proofs.lemmas.List.Elements.{Contains-append_right}
 use Rattle.message.specs.declared.message.Message.{Message}
@@ -16,7 +17,7 @@ use Rattle.requester.specs.Words.{holds, is_asking, is_idle, is_inside, is_membe
 use Rattle.world_state.specs.declared.step.Event.{Event}
 use Rattle.world_state.specs.declared.step.Step.{Step}
 use Rattle.world_state.specs.declared.step.Step.TheVariants.{Ask, Deliver, Leave, GiveUp, RemindClient, RemindVoter, Exchange}
-use Rattle.world.specs.Restarts.{OneClient}
+use Rattle.world.specs.Restarts.{OneClient, maker}
 use Rattle.world.specs.Runs.{run_of}
 use Rattle.world_state.specs.Steps.{Dealing, WorldState, client_at, voter_at}
 use Rattle.progress.specs.LiveRounds.{AreLiveRounds, AsksOn, Drops, IsAnswered, IsLiveRound, IsReminded, IsServed, IsStuck, is_between}
@@ -192,3 +193,191 @@ live_rounds_shade k p a b [] w s h allow q = tt
 live_rounds_shade k p a b (r ∷ rs) w s h allow q =
     let parts = each_split (Allows k p.deal) p.deal r (moves_of rs) w allow in
     (live_round_shade k p a b w s h r parts.0 q.0, live_rounds_shade k p a b rs (moved p.deal r w) (run_of p.deal (images k p.deal w r) s) (moves_on k p a b r w s h parts.0) parts.1 q.1)
+
+-- ---- late REQUESTs
+
+same_less : (n i old : ℕ) → nat_lt (n + i) (n + old) ≡ nat_lt i old
+same_less n i old = grind (arith, nat_tests)
+
+late_body_shade : (n old i : ℕ) (body : VoterBody) → late_body (n + old) (n + i) body ≡ late_body old i body
+late_body_shade n old i (asks.Request t) = ap (λ b. if b then 1 else 0) (same_less n i old)
+late_body_shade n old i (asks.Relinquish g) = refl
+late_body_shade n old i (asks.Release t) = refl
+
+late_message_shade : (n old i : ℕ) (o : Option Message) → late_message (n + old) (n + i) o ≡ late_message old i o
+late_message_shade n old i None = refl
+late_message_shade n old i (Some (kinds.ToVoter m)) = late_body_shade n old i m.body
+late_message_shade n old i (Some (kinds.ToClient m)) = refl
+
+late_step_shade : (k : Shading) (old : ℕ) (sent : List Message) (t : Step) → late_step (length (extra k) + old) (extra k ++ sent) (shifted (length (extra k)) t) ≡ late_step old sent t
+unfolding shifted
+late_step_shade k old sent (Ask c) = refl
+late_step_shade k old sent (Deliver i) = ap (late_message (length (extra k) + old) (length (extra k) + i)) (get_after (extra k) sent i) ∙ late_message_shade (length (extra k)) old i (slice_get sent i)
+late_step_shade k old sent (Leave c) = refl
+late_step_shade k old sent (GiveUp c) = refl
+late_step_shade k old sent (RemindClient c) = refl
+late_step_shade k old sent (RemindVoter v) = refl
+late_step_shade k old sent Exchange = refl
+
+-- a RELEASE is no late REQUEST
+late_freed : (k : Shading) (p : Course) (a b : List Event) (w s : WorldState) → Shades k p a b w s → (old : ℕ) (sent : List Message) (v : ℕ) (held : Option Grant) (steps : List Step) → (voter_at w.voters v).held ≡ held
+    → ((g : Grant) → held ≡ Some g → k.live.client g.client ≡ false) → late_steps old (extra k ++ sent) (freed k v held ++ steps) ≡ late_steps old (extra k ++ sent) steps
+unfolding freed
+late_freed k p a b w s h old sent v None steps is gone = refl
+late_freed k p a b w s h old sent v (Some g) steps is gone =
+    let j = place k g.client v g.stamp in
+    let here = get_before (extra k) sent j (kinds.ToVoter (release_of v g)) (freed_is k a b w s h.shade (h.sure []).coherent (stands k p a b w s h) v g is (gone g refl)) in
+    let none = ap (late_message old j) here in
+    omega (arith, none)
+
+late_moves_shade : (k : Shading) (p : Course) (a b : List Event) (old : ℕ) (sent : List Message) (moves : List Move) (w s : WorldState) → Shades k p a b w s → EachMove (Allows k p.deal) p.deal w moves
+    → late_steps (length (extra k) + old) (extra k ++ sent) (images k p.deal w moves) ≡ late_steps old sent (steps_among moves)
+unfolding images image
+late_moves_shade k p a b old sent [] w s h allow = refl
+late_moves_shade k p a b old sent (Goes t ∷ moves) w s h allow =
+    let first = late_step_shade k old sent t in
+    let rest = late_moves_shade k p a b old sent moves _ _ (moves_once k p a b w s h (Goes t) allow.0) allow.1 in
+    omega (arith, first, rest)
+late_moves_shade k p a b old sent (LetsGo v ∷ moves) w s h allow =
+    late_freed k p a b w s h (length (extra k) + old) sent v (voter_at w.voters v).held (images k p.deal (move p.deal w (LetsGo v)) moves) refl allow.0.spares
+    ∙ late_moves_shade k p a b old sent moves _ _ (moves_once k p a b w s h (LetsGo v) allow.0) allow.1
+
+late_from_shade : (k : Shading) (p : Course) (a b : List Event) (old : ℕ) (rounds : List (List Move)) (w s : WorldState) → Shades k p a b w s → EachMove (Allows k p.deal) p.deal w (moves_of rounds)
+    → late_in p.deal (length (extra k) + old) s (all_images k p.deal w rounds) ≡ late_among p.deal old w rounds
+unfolding all_images
+late_from_shade k p a b old [] w s h allow = refl
+late_from_shade k p a b old (r ∷ rs) w s h allow =
+    let deal = p.deal in
+    let parts = each_split (Allows k deal) deal r (moves_of rs) w allow in
+    let first = ap (λ l. late_steps (length (extra k) + old) l (images k deal w r)) h.shade.sent ∙ late_moves_shade k p a b old w.sent r w s h parts.0 in
+    let many : length s.sent ≡ length (extra k) + length w.sent = ap length h.shade.sent ∙ length-append (extra k) w.sent in
+    let z = run_of deal (images k deal w r) s in
+    let rest = ap (λ n. late_in deal n z (all_images k deal (moved deal r w) rs)) many ∙ late_from_shade k p a b (length w.sent) rs (moved deal r w) z (moves_on k p a b r w s h parts.0) parts.1 in
+    omega (arith, first, rest)
+
+-- in the first round none is late
+pub late_shade : (k : Shading) (p : Course) (a b : List Event) (rounds : List (List Move)) (w s : WorldState) → Shades k p a b w s → EachMove (Allows k p.deal) p.deal w (moves_of rounds)
+    → late_in p.deal 0 s (all_images k p.deal w rounds) ≡ late_among p.deal 0 w rounds
+unfolding all_images
+late_shade k p a b [] w s h allow = refl
+late_shade k p a b (r ∷ rs) w s h allow =
+    let deal = p.deal in
+    let parts = each_split (Allows k deal) deal r (moves_of rs) w allow in
+    let one = none_late s.sent (images k deal w r) in
+    let two = none_late w.sent (steps_among r) in
+    let many : length s.sent ≡ length (extra k) + length w.sent = ap length h.shade.sent ∙ length-append (extra k) w.sent in
+    let z = run_of deal (images k deal w r) s in
+    let rest = ap (λ n. late_in deal n z (all_images k deal (moved deal r w) rs)) many ∙ late_from_shade k p a b (length w.sent) rs (moved deal r w) z (moves_on k p a b r w s h parts.0) parts.1 in
+    omega (arith, one, two, rest)
+
+-- ---- withdrawals
+
+freed_give_ups : (k : Shading) (v : ℕ) (held : Option Grant) (steps : List Step) → give_ups_in (freed k v held ++ steps) ≡ give_ups_in steps
+unfolding freed
+freed_give_ups k v None steps = refl
+freed_give_ups k v (Some g) steps = omega arith
+
+step_give_ups : (n : ℕ) (t : Step) → give_up (shifted n t) ≡ give_up t
+unfolding shifted
+step_give_ups n (Ask c) = refl
+step_give_ups n (Deliver i) = refl
+step_give_ups n (Leave c) = refl
+step_give_ups n (GiveUp c) = refl
+step_give_ups n (RemindClient c) = refl
+step_give_ups n (RemindVoter v) = refl
+step_give_ups n Exchange = refl
+
+pub give_ups_shade : (k : Shading) (deal : Dealing) (moves : List Move) (w : WorldState) → give_ups_in (images k deal w moves) ≡ give_ups_in (steps_among moves)
+unfolding images image
+give_ups_shade k deal [] w = refl
+give_ups_shade k deal (Goes t ∷ moves) w =
+    let first = step_give_ups (length (extra k)) t in
+    let rest = give_ups_shade k deal moves (move deal w (Goes t)) in
+    omega (arith, first, rest)
+give_ups_shade k deal (LetsGo v ∷ moves) w = freed_give_ups k v (voter_at w.voters v).held (images k deal (move deal w (LetsGo v)) moves) ∙ give_ups_shade k deal moves (move deal w (LetsGo v))
+
+-- the step of which this is the image
+back_from : (n c : ℕ) (t : Step) → shifted n t ≡ GiveUp c → t ≡ GiveUp c
+unfolding shifted
+back_from n c (Ask d) same = same
+back_from n c (Deliver i) same = absurd (subst IsDelivery same tt)
+  where
+    IsDelivery : Step → Type 0
+    IsDelivery (Ask d) = ⊥
+    IsDelivery (Deliver i) = Unit {0}
+    IsDelivery (Leave d) = ⊥
+    IsDelivery (GiveUp d) = ⊥
+    IsDelivery (RemindClient d) = ⊥
+    IsDelivery (RemindVoter v) = ⊥
+    IsDelivery Exchange = ⊥
+back_from n c (Leave d) same = same
+back_from n c (GiveUp d) same = same
+back_from n c (RemindClient d) same = same
+back_from n c (RemindVoter v) same = same
+back_from n c Exchange same = same
+
+freed_stays : (k : Shading) (c v : ℕ) (held : Option Grant) (steps : List Step) → DoesNotGiveUp c steps → DoesNotGiveUp c (freed k v held ++ steps)
+unfolding freed
+freed_stays k c v None steps stays = stays
+freed_stays k c v (Some g) steps stays = ((λ same. absurd (subst IsDelivery same tt)), stays)
+  where
+    IsDelivery : Step → Type 0
+    IsDelivery (Ask d) = ⊥
+    IsDelivery (Deliver i) = Unit {0}
+    IsDelivery (Leave d) = ⊥
+    IsDelivery (GiveUp d) = ⊥
+    IsDelivery (RemindClient d) = ⊥
+    IsDelivery (RemindVoter v) = ⊥
+    IsDelivery Exchange = ⊥
+
+pub stays_shade : (k : Shading) (deal : Dealing) (c : ℕ) (moves : List Move) (w : WorldState) → DoesNotGiveUp c (steps_among moves) → DoesNotGiveUp c (images k deal w moves)
+unfolding images image
+stays_shade k deal c [] w stays = tt
+stays_shade k deal c (Goes t ∷ moves) w stays = ((λ same. stays.0 (back_from (length (extra k)) c t same)), stays_shade k deal c moves (move deal w (Goes t)) stays.1)
+stays_shade k deal c (LetsGo v ∷ moves) w stays = freed_stays k c v (voter_at w.voters v).held _ (stays_shade k deal c moves (move deal w (LetsGo v)) stays)
+
+-- ---- hasty withdrawals
+
+-- each client that is not dead is the same in both worlds
+abbrev AreSame : Shading → WorldState → WorldState → Type 0
+AreSame k w s = (c : ℕ) → k.dead c ≡ false → client_at s.clients c ≡ client_at w.clients c
+
+hasty_step : (k : Shading) (u x v y : WorldState) → AreSame k u v → AreSame k x y → (t : Step) → ((c : ℕ) → k.dead c ≡ true → t ≢ GiveUp c) → hasty v y (shifted (length (extra k)) t) ≡ hasty u x t
+unfolding shifted
+hasty_step k u x v y before now (Ask c) others = refl
+hasty_step k u x v y before now (Deliver i) others = refl
+hasty_step k u x v y before now (Leave c) others = refl
+hasty_step k u x v y before now (GiveUp c) others =
+    let lives = false_from_ne_true (k.dead c) (λ is. others c is refl) in
+    λ i. if is_asking (now c lives i).phase && nat_lt (before c lives i).stamp (now c lives i).stamp then 1 else 0
+hasty_step k u x v y before now (RemindClient c) others = refl
+hasty_step k u x v y before now (RemindVoter w) others = refl
+hasty_step k u x v y before now Exchange others = refl
+
+hasty_freed : (k : Shading) (deal : Dealing) (u s : WorldState) (v : ℕ) (held : Option Grant) (steps : List Step) → hasty_steps deal u s (freed k v held ++ steps) ≡ hasty_steps deal u (run_of deal (freed k v held) s) steps
+unfolding freed
+hasty_freed k deal u s v None steps = refl
+hasty_freed k deal u s v (Some g) steps = omega arith
+
+hasty_moves_shade : (k : Shading) (p : Course) (a b : List Event) (u v : WorldState) → AreSame k u v → (moves : List Move) (w s : WorldState) → Shades k p a b w s → EachMove (Allows k p.deal) p.deal w moves
+    → hasty_steps p.deal v s (images k p.deal w moves) ≡ hasty_moves p.deal u w moves
+unfolding images image
+hasty_moves_shade k p a b u v before [] w s h allow = refl
+hasty_moves_shade k p a b u v before (Goes t ∷ moves) w s h allow =
+    let first = hasty_step k u w v s before h.shade.same t (λ c dead same. allow.0.rests c dead (ap (maker w) same)) in
+    let rest = hasty_moves_shade k p a b u v before moves _ _ (moves_once k p a b w s h (Goes t) allow.0) allow.1 in
+    omega (arith, first, rest)
+hasty_moves_shade k p a b u v before (LetsGo i ∷ moves) w s h allow =
+    hasty_freed k p.deal v s i (voter_at w.voters i).held (images k p.deal (move p.deal w (LetsGo i)) moves)
+    ∙ hasty_moves_shade k p a b u v before moves _ _ (moves_once k p a b w s h (LetsGo i) allow.0) allow.1
+
+pub hasty_shade : (k : Shading) (p : Course) (a b : List Event) (u u' v v' : WorldState) → AreSame k u u' → AreSame k v v' → (rounds : List (List Move)) (w s : WorldState) → Shades k p a b w s
+    → EachMove (Allows k p.deal) p.deal w (moves_of rounds) → hasty_from p.deal u' v' s (all_images k p.deal w rounds) ≡ hasty_among_from p.deal u v w rounds
+unfolding all_images
+hasty_shade k p a b u u' v v' first second [] w s h allow = refl
+hasty_shade k p a b u u' v v' first second (r ∷ rs) w s h allow =
+    let deal = p.deal in
+    let parts = each_split (Allows k deal) deal r (moves_of rs) w allow in
+    let now = hasty_moves_shade k p a b u u' first r w s h parts.0 in
+    let rest = hasty_shade k p a b v v' w s second h.shade.same rs (moved deal r w) (run_of deal (images k deal w r) s) (moves_on k p a b r w s h parts.0) parts.1 in
+    omega (arith, now, rest)
