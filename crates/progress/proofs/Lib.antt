@@ -31,6 +31,7 @@ pub mod Patient
 pub mod Placed
 pub mod Shade
 pub mod ShadeRounds
+pub mod Shaded
 pub mod Spending
 pub mod Steady
 pub mod Sure
