@@ -24,13 +24,14 @@ use Rattle.world_state.specs.declared.step.Step.{Step}
 use Rattle.world_state.specs.declared.step.Step.TheVariants.{GiveUp, Leave}
 use Rattle.world.specs.Coherence.{MessageOk}
 use Rattle.world.specs.Ranges.{IsInRange}
-use Rattle.world.specs.Runs.{after, run_of}
-use Rattle.world.specs.Visible.{DealsFrom, entries_of}
+use Rattle.world.specs.Rules.{ClientLaws, VoterLaws}
+use Rattle.world.specs.Runs.{IsReached, after, run_of}
+use Rattle.world.specs.Visible.{DealsFrom, DoMeet, entries_of}
 use Rattle.world.specs.Waiting.{live_block}
 use Rattle.world.specs.WayIn.{Asks}
-use Rattle.world_state.specs.Steps.{Dealing, WorldState, after_client, client_at, client_did, if_client, step, voter_at}
+use Rattle.world_state.specs.Steps.{Dealing, Planned, WorldState, after_client, client_at, client_did, dealing_of, if_client, step, voter_at}
 use Rattle.world.proofs.Claims.{Bounds}
-use Rattle.world.proofs.EveryRun.{coherent_by, run_from}
+use Rattle.world.proofs.EveryRun.{coherent_by, run_from, run_ok}
 use Rattle.world.proofs.Places.{client_here, client_others}
 use Rattle.world.proofs.Plans.{run_then}
 use Rattle.world.proofs.Reached.{Given, RunOk}
@@ -42,13 +43,13 @@ use Rattle.progress.specs.Rules.{Laws}
 use Rattle.progress.proofs.Always.{HasSeen, Heeds, WasGiven}
 use Rattle.progress.proofs.Blocks.{live_is_block}
 use Rattle.progress.proofs.Known.{within_by}
-use Rattle.progress.proofs.Olds.{AreOld, olds_of}
+use Rattle.progress.proofs.Olds.{AreOld, no_olds, olds_of}
 use Rattle.progress.proofs.Outstanding.{IsNotedAt}
 use Rattle.progress.proofs.Patient.{everybody_by}
 use Rattle.progress.proofs.Placed.{AskedAt}
 use Rattle.progress.proofs.Shade.{Allows, Shades, Shading, each_extra, extra, images, moves_on, stands}
 use Rattle.progress.proofs.ShadeRounds.{all_images, give_ups_shade, hasty_shade, late_shade, length_images, live_rounds_shade, stays_shade, steps_images}
-use Rattle.progress.proofs.Sure.{Course, IsSure, IsSure-first, IsSure-run, Serving, Sure}
+use Rattle.progress.proofs.Sure.{Course, IsSure, IsSure-first, IsSure-reached, IsSure-run, Serving, Sure, course_of}
 use Rattle.progress.proofs.Waiting.{moves_by, somebody_by}
 
 -- what a world rests on, beside what is sure: its quorums meet
@@ -477,3 +478,37 @@ lets_everybody_in laws p w c olds rounds more r most lives heeds asks stays long
     let hasty = z.hasty in
     everybody_by laws p z.shade c (live_block (length z.shade.clients)) t (live_is_block laws p (length z.shade.clients)) (omega arith) z.steps more z.few z.sure (z.heeds c lives heeds) (asks_there p w rounds z c lives asks) z.live
     (z.stays c stays) z.serving (omega arith) (long_there p w rounds z t long) (z.visible more visible)
+
+-- ---- worlds that are reached
+
+-- the tickets of each world that is reached stand for quorums that meet
+abbrev pub AllDeal : Type 0
+AllDeal = (w : Planned) → IsReached w → (quorums : List (List ℕ)) × DoMeet w.plans.first.system.voters quorums × DealsFrom quorums (dealing_of w.plans)
+
+rests_reached : ClientLaws → VoterLaws → AllDeal → (w : Planned) → IsReached w → Rests (dealing_of w.plans) w.state
+rests_reached clients voters dealt w r =
+    let d = dealt w r in
+    let deal = dealing_of w.plans in
+    let b : Bounds = record { voters = w.plans.first.system.voters; clients = r.clients; limit = r.limit; quorums = d.0 } in
+    let given : Given b = record { client = clients; voter = voters; limits = r.limits; meet = d.1 } in
+    subst (Rests deal) (sym r.state) (record { bounds = b; given = given; deals = d.2; ok = run_ok b given deal d.2 r.steps })
+
+pub reached_runs : Laws → ClientLaws → VoterLaws → AllDeal → (live : Live) (w : Planned) (rounds : List (List Move)) → IsReached w → AreLiveRounds of_moves live (dealing_of w.plans) w.state rounds
+    → AreGone live (dealing_of w.plans) w.state (moves_of rounds) → SparesLive live (dealing_of w.plans) w.state (moves_of rounds) → HasGrantsThere live 1 (moved (dealing_of w.plans) (moves_of rounds) w.state)
+    → Runs (course_of live w) w.state rounds
+reached_runs laws clients voters dealt live w rounds r fair gone spares left = record {
+  rests = rests_reached clients voters dealt w r;
+  few = λ v. omega arith;
+  sure = IsSure-reached laws live w r;
+  live = fair;
+  gone = gone;
+  spares = spares;
+  left = left;
+}
+
+-- no grant is old there
+pub reached_olds : (live : Live) (w : Planned) (x : WorldState) → olds_of (course_of live w) (length w.state.voters) x ≤ 0
+reached_olds live w x = (let none = no_olds (course_of live w) (length w.state.voters) x (λ v. refl) in omega arith)
+
+pub plus_none : (b t len : ℕ) → b * t ≤ len → b * (t + 0) ≤ len
+plus_none b t len most = subst (λ i. b * i ≤ len) (let e : t ≡ t + 0 = omega arith in e) most

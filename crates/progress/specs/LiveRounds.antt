@@ -107,10 +107,6 @@ SparesIn live w (LetsGo v) = (g : Grant) → (voter_at w.voters v).held ≡ Some
 abbrev pub SparesLive : Live → Dealing → WorldState → List Move → Type 0
 SparesLive live deal w moves = EachMove (SparesIn live) deal w moves
 
--- who is not live is idle in the world x, and has not asked anew in the world z: it has the same stamp there
-abbrev pub AreOut : Live → WorldState → WorldState → Type 0
-AreOut live x z = (c : ℕ) → live.client c ≡ false → (is_idle (client_at x.clients c).phase ≡ true) × ((client_at z.clients c).stamp ≡ (client_at x.clients c).stamp)
-
 -- each live voter has so many grants left
 abbrev pub HasGrantsThere : Live → ℕ → WorldState → Type 0
 HasGrantsThere live n w = (v : ℕ) → v < length w.voters → live.voter v ≡ true → (voter_at w.voters v).granted + n ≤ (voter_at w.voters v).limit
