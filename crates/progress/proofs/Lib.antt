@@ -29,6 +29,7 @@ pub mod Overdue
 pub mod Parts
 pub mod Patient
 pub mod Placed
+pub mod Reminders
 pub mod Shade
 pub mod ShadeRounds
 pub mod Shaded

@@ -44,7 +44,7 @@ use Rattle.progress.proofs.Forgetting.{Endures, Endures-client_lost, Endures-mov
 use Rattle.progress.proofs.Makers.{By, Says, coherent_world, made_by}
 use Rattle.progress.proofs.Moves.{Came, ClientMoved, Moved, StaysCoherent, VoterMoved, client_here, client_others, kept-by, voter_here, voter_others}
 use Rattle.progress.proofs.Placed.{Seen-client}
-use Rattle.progress.proofs.Shaded.{Rests, Runs}
+use Rattle.progress.proofs.Shaded.{Rests, Rests-run, Runs}
 use Rattle.progress.proofs.Sure.{Course, IsSure-first}
 
 -- ---- mixes
@@ -530,7 +530,7 @@ lives_after laws clients voters deal w r =
     let first = (all_happen deal r.happenings (begin r.voters r.clients r.limit)).live in
     let a = lives_first laws clients voters deal w r in
     subst (Lives deal) (sym r.state) (record {
-      rests = record { bounds = a.rests.bounds; given = a.rests.given; deals = a.rests.deals; ok = run_from a.rests.bounds a.rests.given deal a.rests.deals r.steps first a.rests.ok };
+      rests = Rests-run deal r.steps first a.rests;
       endures = kept-by Endures (Endures-moved laws) deal r.steps first (stays_by deal first a.rests) a.endures;
     })
 

@@ -59,6 +59,9 @@ pub record Rests (deal : Dealing) (w : WorldState) : Type 0 where
   pub deals : DealsFrom bounds.quorums deal
   pub ok : RunOk bounds w
 
+pub Rests-run : (deal : Dealing) (steps : List Step) (w : WorldState) → Rests deal w → Rests deal (run_of deal steps w)
+Rests-run deal steps w r = record { bounds = r.bounds; given = r.given; deals = r.deals; ok = run_from r.bounds r.given deal r.deals steps w r.ok }
+
 -- ---- the dead end their requests
 
 -- what one client changes that ends its request
