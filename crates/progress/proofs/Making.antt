@@ -96,7 +96,7 @@ answer_all live deal sent u low zero = []
 answer_all live deal sent u low (suc n) =
     answer_if (is_between live (slice_get sent low)) live deal u low ++ answer_all live deal sent (run_of deal (answer_if (is_between live (slice_get sent low)) live deal u low) u) (low + 1) n
 
-all_answered : (live : Live) (deal : Dealing) (sent : List Message) (u : WorldState) (low n k : ℕ) → low ≤ k → k < low + n → is_between live (slice_get sent k) ≡ true → IsAnswered of_steps live deal u (answer_all live deal sent u low n) k
+pub all_answered : (live : Live) (deal : Dealing) (sent : List Message) (u : WorldState) (low n k : ℕ) → low ≤ k → k < low + n → is_between live (slice_get sent k) ≡ true → IsAnswered of_steps live deal u (answer_all live deal sent u low n) k
 unfolding answer_all answer_if
 all_answered live deal sent u low zero k least less between = absurd (omega arith)
 all_answered live deal sent u low (suc n) k least less between =
