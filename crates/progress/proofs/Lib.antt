@@ -18,6 +18,7 @@ pub mod Known
 pub mod Lasting
 pub mod Leading
 pub mod Lists
+pub mod LiveMade
 pub mod LiveMaking
 pub mod Longer
 pub mod Losses

@@ -81,14 +81,14 @@ pub record Part (deal : Dealing) (w : WorldState) (moves : List Move) (block : W
   pub rest : List Move
   pub is : moves ≡ before ++ (block (moved deal before w) ++ rest)
 
-part_left : (deal : Dealing) (w : WorldState) (a b : List Move) (block : WorldState → List Move) → Part deal w a block → Part deal w (a ++ b) block
+pub part_left : (deal : Dealing) (w : WorldState) (a b : List Move) (block : WorldState → List Move) → Part deal w a block → Part deal w (a ++ b) block
 part_left deal w a b block p = record {
   before = p.before;
   rest = p.rest ++ b;
   is = ap (λ l. l ++ b) p.is ∙ append_assoc p.before (block (moved deal p.before w) ++ p.rest) b ∙ ap (λ l. p.before ++ l) (append_assoc (block (moved deal p.before w)) p.rest b);
 }
 
-part_right : (deal : Dealing) (w : WorldState) (a b : List Move) (block : WorldState → List Move) → Part deal (moved deal a w) b block → Part deal w (a ++ b) block
+pub part_right : (deal : Dealing) (w : WorldState) (a b : List Move) (block : WorldState → List Move) → Part deal (moved deal a w) b block → Part deal w (a ++ b) block
 part_right deal w a b block p = record {
   before = a ++ p.before;
   rest = p.rest;
@@ -96,7 +96,7 @@ part_right deal w a b block p = record {
       ∙ ap (λ (u : WorldState). (a ++ p.before) ++ (block u ++ p.rest)) (sym (moved_then deal a p.before w));
 }
 
-part_of : (deal : Dealing) (f : WorldState → ℕ → List Move) (low n i : ℕ) (x : WorldState) → low ≤ i → i < low + n → Part deal x (blocks deal f low n x) (λ y. f y i)
+pub part_of : (deal : Dealing) (f : WorldState → ℕ → List Move) (low n i : ℕ) (x : WorldState) → low ≤ i → i < low + n → Part deal x (blocks deal f low n x) (λ y. f y i)
 unfolding blocks
 part_of deal f low zero i x least less = absurd (omega arith)
 part_of deal f low (suc n) i x least less = elim (cases_eq low i) [
@@ -117,7 +117,7 @@ each_block P deal f h low (suc n) x = each_join P deal (f x low) (blocks deal f 
 -- ---- who is not live does nothing
 
 -- everybody that is not live is dead
-pub all_dead : Live → WorldState → Shading
+unfoldable pub all_dead : Live → WorldState → Shading
 all_dead live w = record { live = live; dead = λ c. not (live.client c); apart = λ c lives. ap not lives; first = w }
 
 -- the message of this number is between live ones, now and later
@@ -161,7 +161,7 @@ more_sent deal x s = elim (step deal x s) as (λ r. step deal x s ≡ r → (mor
 ] (refl {a = step deal x s})
 
 -- the messages that were sent so far begin with these
-abbrev Begins : List Message → WorldState → Type 0
+abbrev pub Begins : List Message → WorldState → Type 0
 Begins sent x = (more : List Message) × (x.sent ≡ sent ++ more)
 
 begins_step : (deal : Dealing) (sent : List Message) (x : WorldState) (s : Step) → Begins sent x → Begins sent (next deal x s)
@@ -248,7 +248,7 @@ allows_chosen live w deal test f own lives (suc n) x =
 
 -- ---- voters
 
-remind_voters : (deal : Dealing) (x : WorldState) (v : ℕ) → (next deal x (RemindVoter v)).voters ≡ x.voters
+pub remind_voters : (deal : Dealing) (x : WorldState) (v : ℕ) → (next deal x (RemindVoter v)).voters ≡ x.voters
 unfolding step
 remind_voters deal x v = by (nat_lt v (length x.voters))
   where
@@ -269,20 +269,21 @@ allows_frees live w deal x v (Some g) is = elim (live.client g.client) as (λ b.
   | false ↦ λ gone. (allows_free live w deal x v (λ h held. subst (λ (i : Grant). live.client i.client ≡ false) (same_Some g h (sym is ∙ held)) gone), tt)
 ] refl
 
-begins_free : (deal : Dealing) (sent : List Message) (live : Live) (v : ℕ) (held : Option Grant) (x : WorldState) → Begins sent x → Begins sent (moved deal (frees live v held) x)
-unfolding frees
-begins_free deal sent live v None x h = h
-begins_free deal sent live v (Some g) x h = elim (live.client g.client) as (λ b. Begins sent (moved deal (if b then [] else LetsGo v ∷ []) x)) [
-  | true ↦ h
-  | false ↦ goes (voter_at x.voters v).held
-]
-  where
-    votes : (i : Grant) (r : Option voter.Outcome) → Begins sent (after x (after_voter x v r))
-    votes i (Some o) = (h.0 ++ map kinds.ToClient o.replies, ap (λ l. l ++ map kinds.ToClient o.replies) h.1 ∙ append_assoc sent h.0 (map kinds.ToClient o.replies))
-    votes i None = h
-    goes : (o : Option Grant) → Begins sent (let_go x v o)
-    goes None = h
-    goes (Some i) = votes i _
+begins_by : (sent : List Message) (x : WorldState) (v : ℕ) (r : Option voter.Outcome) → Begins sent x → Begins sent (after x (after_voter x v r))
+begins_by sent x v (Some o) h = (h.0 ++ map kinds.ToClient o.replies, ap (λ l. l ++ map kinds.ToClient o.replies) h.1 ∙ append_assoc sent h.0 (map kinds.ToClient o.replies))
+begins_by sent x v None h = h
+
+begins_free : (sent : List Message) (x : WorldState) (v : ℕ) (held : Option Grant) → Begins sent x → Begins sent (let_go x v held)
+begins_free sent x v None h = h
+begins_free sent x v (Some g) h = begins_by sent x v _ h
+
+pub begins_move : (deal : Dealing) (sent : List Message) (x : WorldState) (m : Move) → Begins sent x → Begins sent (move deal x m)
+begins_move deal sent x (Goes t) h = begins_step deal sent x t h
+begins_move deal sent x (LetsGo v) h = begins_free sent x v (voter_at x.voters v).held h
+
+begins_moves : (deal : Dealing) (sent : List Message) (moves : List Move) (x : WorldState) → Begins sent x → Begins sent (moved deal moves x)
+begins_moves deal sent [] x h = h
+begins_moves deal sent (m ∷ moves) x h = begins_moves deal sent moves (move deal x m) (begins_move deal sent x m h)
 
 allows_voter : (live : Live) (w : WorldState) (deal : Dealing) (x : WorldState) (v : ℕ) → EachMove (Allows (all_dead live w) deal) deal x (voter_block live deal x v)
 unfolding voter_block served
@@ -296,7 +297,7 @@ allows_voter live w deal x v =
       | true ↦ (
         allows_step live w deal x (RemindVoter v) (λ c _. not_voter v c),
         each_join P deal free _ y (allows_frees live w deal y v held (ap (λ (vs : List VoterState). (voter_at vs v).held) (remind_voters deal x v)))
-            (allows_answers live w deal y.sent (length x.sent) _ z (begins_free deal y.sent live v held y ([], sym (append-nil y.sent)))),
+            (allows_answers live w deal y.sent (length x.sent) _ z (begins_moves deal y.sent free y ([], sym (append-nil y.sent)))),
       )
       | false ↦ tt
     ]
@@ -316,7 +317,7 @@ allows_duties live w deal x =
     (each_join P deal b leaves y (each_block P deal (voter_block live deal) (allows_voter live w deal) 0 (length x.voters) y)
     (allows_chosen live w deal live.client Leave (λ c u. refl) (λ c lives. lives) n (moved deal b y)))
 
-is_first : (a b : Bool) → (a && b) ≡ true → a ≡ true
+pub is_first : (a b : Bool) → (a && b) ≡ true → a ≡ true
 is_first true b is = refl
 is_first false b is = is
 

@@ -156,7 +156,7 @@ unfolding each
 each_serves sent f low zero serves = tt
 each_serves sent f low (suc n) serves = (serves low (omega arith), each_serves sent f (low + 1) n (λ k least. serves k (omega arith)))
 
-sent_more : (deal : Dealing) (x : WorldState) (s : Step) → length x.sent ≤ length (next deal x s).sent
+pub sent_more : (deal : Dealing) (x : WorldState) (s : Step) → length x.sent ≤ length (next deal x s).sent
 sent_more deal x s = elim (step deal x s) as (λ r. step deal x s ≡ r → length x.sent ≤ length (after x r).sent) [
   | Ok o ↦ λ e.
       let adds = Adds-step deal x s o e in
@@ -188,7 +188,7 @@ answer_serves live deal u k first true least most =
     (least, arrivals_serve live (next deal u (Deliver k)).sent (length u.sent) (length (next deal u (Deliver k)).sent - length u.sent) first most)
 answer_serves live deal u k first false least most = tt
 
-answer_all_serves : (live : Live) (deal : Dealing) (sent : List Message) (u : WorldState) (low n first : ℕ) → first ≤ low → first ≤ length u.sent → AllByRecursion (Serves first) (answer_all live deal sent u low n)
+pub answer_all_serves : (live : Live) (deal : Dealing) (sent : List Message) (u : WorldState) (low n first : ℕ) → first ≤ low → first ≤ length u.sent → AllByRecursion (Serves first) (answer_all live deal sent u low n)
 unfolding answer_all
 answer_all_serves live deal sent u low zero first least most = tt
 answer_all_serves live deal sent u low (suc n) first least most =
@@ -237,7 +237,7 @@ step_in_time old low sent (RemindClient c) most serves = refl
 step_in_time old low sent (RemindVoter v) most serves = refl
 step_in_time old low sent Exchange most serves = absurd serves
 
-in_time : (old low : ℕ) (sent : List Message) (steps : List Step) → old ≤ low → AllByRecursion (Serves low) steps → late_steps old sent steps ≡ 0
+pub in_time : (old low : ℕ) (sent : List Message) (steps : List Step) → old ≤ low → AllByRecursion (Serves low) steps → late_steps old sent steps ≡ 0
 in_time old low sent [] most serve = refl
 in_time old low sent (s ∷ steps) most serve =
     let first = step_in_time old low sent s most serve.0 in
@@ -255,7 +255,7 @@ no_give_up low (RemindClient c) serves = refl
 no_give_up low (RemindVoter v) serves = refl
 no_give_up low Exchange serves = refl
 
-no_give_ups : (low : ℕ) (steps more : List Step) → AllByRecursion (Serves low) steps → give_ups_in more ≡ 0 → give_ups_in (steps ++ more) ≡ 0
+pub no_give_ups : (low : ℕ) (steps more : List Step) → AllByRecursion (Serves low) steps → give_ups_in more ≡ 0 → give_ups_in (steps ++ more) ≡ 0
 no_give_ups low [] more serve none = none
 no_give_ups low (s ∷ steps) more serve none =
     let first = no_give_up low s serve.0 in

@@ -19,7 +19,7 @@ use Rattle.progress.proofs.Longer.{contains_here}
 abbrev pub InOrder : {M : Type 0} → Kind M → Type 0
 InOrder {M} kind = (deal : Dealing) (a b : List M) (w : WorldState) → kind.run deal (a ++ b) w ≡ kind.run deal b (kind.run deal a w)
 
-answered_then : {M : Type 0} (kind : Kind M) (live : Live) (deal : Dealing) (w : WorldState) (moves rest : List M) (k : ℕ) → IsAnswered kind live deal w moves k → IsAnswered kind live deal w (moves ++ rest) k
+pub answered_then : {M : Type 0} (kind : Kind M) (live : Live) (deal : Dealing) (w : WorldState) (moves rest : List M) (k : ℕ) → IsAnswered kind live deal w moves k → IsAnswered kind live deal w (moves ++ rest) k
 answered_then kind live deal w moves rest k a = record {
   first = a.first;
   rest = a.rest ++ rest;
@@ -75,7 +75,7 @@ goes_in steps s there =
 moved_one : (deal : Dealing) (first : List Step) (s : Step) (w : WorldState) → moved deal (map Goes first ++ Goes s ∷ []) w ≡ run_of deal (first ++ s ∷ []) w
 moved_one deal first s w = ap (λ l. moved deal l w) (sym (map-append Goes first (s ∷ []))) ∙ moved_steps deal (first ++ s ∷ []) w
 
-answered_goes : (live : Live) (deal : Dealing) (w : WorldState) (steps : List Step) (k : ℕ) → IsAnswered of_steps live deal w steps k → IsAnswered of_moves live deal w (map Goes steps) k
+pub answered_goes : (live : Live) (deal : Dealing) (w : WorldState) (steps : List Step) (k : ℕ) → IsAnswered of_steps live deal w steps k → IsAnswered of_moves live deal w (map Goes steps) k
 answered_goes live deal w steps k a = record {
   first = map Goes a.first;
   rest = map Goes a.rest;

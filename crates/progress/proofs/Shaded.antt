@@ -65,19 +65,19 @@ Rests-run deal steps w r = record { bounds = r.bounds; given = r.given; deals = 
 -- ---- the dead end their requests
 
 -- what one client changes that ends its request
-record Quits (c : ℕ) (x y : WorldState) : Type 0 where
-  voters : y.voters ≡ x.voters
-  clients : length y.clients ≡ length x.clients
-  others : (q : ℕ) → q ≢ c → client_at y.clients q ≡ client_at x.clients q
-  idle : is_idle (client_at y.clients c).phase ≡ true
-  stamp : (client_at y.clients c).stamp ≡ (client_at x.clients c).stamp
-  draws : y.draws ≡ x.draws
-  draws2 : y.draws2 ≡ x.draws2
-  side : y.side ≡ x.side
-  more : List Message
-  sent : y.sent ≡ x.sent ++ more
+pub record Quits (c : ℕ) (x y : WorldState) : Type 0 where
+  pub voters : y.voters ≡ x.voters
+  pub clients : length y.clients ≡ length x.clients
+  pub others : (q : ℕ) → q ≢ c → client_at y.clients q ≡ client_at x.clients q
+  pub idle : is_idle (client_at y.clients c).phase ≡ true
+  pub stamp : (client_at y.clients c).stamp ≡ (client_at x.clients c).stamp
+  pub draws : y.draws ≡ x.draws
+  pub draws2 : y.draws2 ≡ x.draws2
+  pub side : y.side ≡ x.side
+  pub more : List Message
+  pub sent : y.sent ≡ x.sent ++ more
 
-quit_of : Phase → ℕ → List Step
+unfoldable pub quit_of : Phase → ℕ → List Step
 quit_of Idle c = []
 quit_of Asking c = GiveUp c ∷ []
 quit_of Inside c = Leave c ∷ []
@@ -99,7 +99,7 @@ quits_by x c what within =
       sent = refl;
     }
 
-quits : (deal : Dealing) (x : WorldState) (c : ℕ) → c < length x.clients → (q : Phase) → (client_at x.clients c).phase ≡ q → Quits c x (run_of deal (quit_of q c) x)
+pub quits : (deal : Dealing) (x : WorldState) (c : ℕ) → c < length x.clients → (q : Phase) → (client_at x.clients c).phase ≡ q → Quits c x (run_of deal (quit_of q c) x)
 unfolding quit_of step requester.step requester.give_up requester.leave
 quits deal x c within Idle is = record {
   voters = refl;
