@@ -20,6 +20,7 @@ pub mod Leading
 pub mod Lists
 pub mod LiveMade
 pub mod LiveMaking
+pub mod LiveSpending
 pub mod Longer
 pub mod Losses
 pub mod Makers

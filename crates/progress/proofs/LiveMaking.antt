@@ -226,7 +226,7 @@ not_voter v d same = subst IsVoter same tt
     IsVoter (OneVoter u) = Unit {0}
     IsVoter Nobody = ⊥
 
-allows_client : (live : Live) (w : WorldState) (deal : Dealing) (x : WorldState) (c : ℕ) → EachMove (Allows (all_dead live w) deal) deal x (client_block live deal x c)
+pub allows_client : (live : Live) (w : WorldState) (deal : Dealing) (x : WorldState) (c : ℕ) → EachMove (Allows (all_dead live w) deal) deal x (client_block live deal x c)
 unfolding client_block
 allows_client live w deal x c = elim (live.client c) as (λ b. live.client c ≡ b → EachMove (Allows (all_dead live w) deal) deal x (if b then map Goes (remind live deal x (RemindClient c)) else [])) [
   | true ↦ λ lives. allows_remind live w deal x (RemindClient c) (λ d. not_it live c d lives)
@@ -285,7 +285,7 @@ begins_moves : (deal : Dealing) (sent : List Message) (moves : List Move) (x : W
 begins_moves deal sent [] x h = h
 begins_moves deal sent (m ∷ moves) x h = begins_moves deal sent moves (move deal x m) (begins_move deal sent x m h)
 
-allows_voter : (live : Live) (w : WorldState) (deal : Dealing) (x : WorldState) (v : ℕ) → EachMove (Allows (all_dead live w) deal) deal x (voter_block live deal x v)
+pub allows_voter : (live : Live) (w : WorldState) (deal : Dealing) (x : WorldState) (v : ℕ) → EachMove (Allows (all_dead live w) deal) deal x (voter_block live deal x v)
 unfolding voter_block served
 allows_voter live w deal x v =
     let P = Allows (all_dead live w) deal in

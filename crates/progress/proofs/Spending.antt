@@ -66,7 +66,7 @@ few_by false y z (inr new) = let more = new.1.granted in omega arith
 abbrev pub Spent : ℕ → ℕ → WorldState → WorldState → Type 0
 Spent n v x z = Spends n (voter_at x.voters v) (voter_at z.voters v)
 
-Spent-same : (n v : ℕ) (x z : WorldState) → z.voters ≡ x.voters → Spent n v x z
+pub Spent-same : (n v : ℕ) (x z : WorldState) → z.voters ≡ x.voters → Spent n v x z
 Spent-same n v x z same = subst (λ (vs : List VoterState). Spends n (voter_at x.voters v) (voter_at vs v)) (sym same) (Spends-self n (voter_at x.voters v))
 
 -- ---- a message arrives
@@ -76,7 +76,7 @@ abbrev pub one_at : ℕ → ℕ → ℕ
 one_at v u = one_if (eqb u v)
 
 -- 1 if the message is to this voter, else 0
-abbrev hits : ℕ → Message → ℕ
+abbrev pub hits : ℕ → Message → ℕ
 hits v (kinds.ToVoter m) = one_at v m.voter
 hits v (kinds.ToClient m) = 0
 
@@ -102,7 +102,7 @@ arrives (RemindClient c) = None
 arrives (RemindVoter v) = None
 arrives Exchange = None
 
-delivers : (laws : Laws) (p : Course) (x : WorldState) (k v : ℕ) (m : Message) → IsSure p x → slice_get x.sent k ≡ Some m → Spent (hits v m) v x (next p.deal x (Deliver k))
+pub delivers : (laws : Laws) (p : Course) (x : WorldState) (k v : ℕ) (m : Message) → IsSure p x → slice_get x.sent k ≡ Some m → Spent (hits v m) v x (next p.deal x (Deliver k))
 unfolding arrives
 delivers laws p x k v m r is =
     let ok = (r []).coherent in
@@ -375,23 +375,32 @@ reminds_voter p x u v r within = said (nat_lt u (length x.voters))
         }
     said false = nothing (2 * one_at v u) v x
 
-pub remind_gives : (laws : Laws) (p : Course) (live : Live) (n v : ℕ) (x : WorldState) (s : Step) → IsSure p x → Reminds n v x (next p.deal x s) → Spent n v x (run_of p.deal (remind live p.deal x s) x)
-unfolding remind
-remind_gives laws p live n v x s r said =
+-- the reminder is made, then other steps are, and then its messages arrive
+pub said_gives : (laws : Laws) (p : Course) (live : Live) (n m v : ℕ) (x : WorldState) (s : Step) (others : List Step) → IsSure p x → Reminds n v x (next p.deal x s) → Spent m v (next p.deal x s) (run_of p.deal others (next p.deal x s))
+    → Spent (n + m) v x (run_of p.deal (answer_all live p.deal (next p.deal x s).sent (run_of p.deal others (next p.deal x s)) (length x.sent) (length (next p.deal x s).sent - length x.sent)) (run_of p.deal others (next p.deal x s)))
+said_gives laws p live n m v x s others r said spent =
     let y = next p.deal x s in
+    let u = run_of p.deal others y in
+    let ry = IsSure-after p x r s in
     let count : length said.more ≡ length y.sent - length x.sent = (let long = ap length said.sent in let both = length-append x.sent said.more in omega arith) in
     let are : Are y.sent (length x.sent) said.more = subst (λ l. Are l (length x.sent) said.more) (sym said.sent) (are_new x.sent said.more) in
-    let gives = answers_give laws p live y.sent v (length x.sent) said.more y (IsSure-after p x r s) are said.plain in
+    let gives = answers_give laws p live y.sent v (length x.sent) said.more u (IsSure-run p others y ry) (are_still p others y (length x.sent) said.more ry are) said.plain in
     let few = said.few in
-    let z = run_of p.deal (answer_all live p.deal y.sent y (length x.sent) (length said.more)) y in
-    let all : Spent n v y z = record { granted = (let most = gives.granted in omega arith); limit = gives.limit } in
-    subst (λ (vs : List VoterState). Spends n (voter_at vs v) (voter_at (run_of p.deal (answer_all live p.deal y.sent y (length x.sent) (length y.sent - length x.sent)) y).voters v)) said.voters
-    (subst (λ k. Spent n v y (run_of p.deal (answer_all live p.deal y.sent y (length x.sent) k) y)) count all)
+    let z = run_of p.deal (answer_all live p.deal y.sent u (length x.sent) (length said.more)) u in
+    let all : Spent (n + m) v y z = record { granted = (let most = gives.granted in let own = spent.granted in omega arith); limit = gives.limit ∙ spent.limit } in
+    subst (λ (vs : List VoterState). Spends (n + m) (voter_at vs v) (voter_at (run_of p.deal (answer_all live p.deal y.sent u (length x.sent) (length y.sent - length x.sent)) u).voters v)) said.voters
+    (subst (λ k. Spent (n + m) v y (run_of p.deal (answer_all live p.deal y.sent u (length x.sent) k) u)) count all)
+
+remind_gives : (laws : Laws) (p : Course) (live : Live) (n v : ℕ) (x : WorldState) (s : Step) → IsSure p x → Reminds n v x (next p.deal x s) → Spent n v x (run_of p.deal (remind live p.deal x s) x)
+unfolding remind
+remind_gives laws p live n v x s r said =
+    let gives = said_gives laws p live n 0 v x s [] r said (Spends-self 0 (voter_at (next p.deal x s).voters v)) in
+    record { granted = (let most = gives.granted in omega arith); limit = gives.limit }
 
 -- ---- reminders, one after the other
 
 -- how many of the n clients from this one on are among these
-abbrev count_from : (ℕ → Bool) → ℕ → ℕ → ℕ
+abbrev pub count_from : (ℕ → Bool) → ℕ → ℕ → ℕ
 count_from among low zero = 0
 count_from among low (suc n) = one_if (among low) + count_from among (low + 1) n
 
