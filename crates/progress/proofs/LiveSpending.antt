@@ -165,3 +165,94 @@ voter_gives laws live first p a b v u x s h within =
           record { granted = (let few = gives.granted in omega arith); limit = gives.limit }
       | false ↦ λ _. Spends-self (3 * one_at v u) (voter_at x.voters v)
     ] (allows_voter live first deal x u)
+
+-- ---- a round
+
+sum_from : (ℕ → ℕ) → ℕ → ℕ → ℕ
+sum_from g low zero = 0
+sum_from g low (suc n) = g low + sum_from g (low + 1) n
+
+-- each block takes so many grants at most
+blocks_give : (live : Live) (first : WorldState) (p : Course) (a b : List Event) (v : ℕ) (f : WorldState → ℕ → List Move) (g : ℕ → ℕ) → ((x : WorldState) (i : ℕ) → EachMove (Allows (all_dead live first) p.deal) p.deal x (f x i)) → (low n : ℕ)
+    → ((x s : WorldState) → Shades (all_dead live first) p a b x s → (i : ℕ) → i < low + n → Spent (g i) v x (moved p.deal (f x i) x)) → (x s : WorldState) → Shades (all_dead live first) p a b x s
+    → Spent (sum_from g low n) v x (moved p.deal (blocks p.deal f low n x) x)
+unfolding blocks sum_from
+blocks_give live first p a b v f g allow low zero gives x s h = Spends-self 0 (voter_at x.voters v)
+blocks_give live first p a b v f g allow low (suc n) gives x s h =
+    let k = all_dead live first in
+    let deal = p.deal in
+    let y = moved deal (f x low) x in
+    let at_y = moves_on k p a b (f x low) x s h (allow x low) in
+    let rest = blocks deal f (low + 1) n y in
+    subst (Spent (g low + sum_from g (low + 1) n) v x) (sym (moved_then deal (f x low) rest x))
+    (Spends-then (g low) (sum_from g (low + 1) n) (g low + sum_from g (low + 1) n) (voter_at x.voters v) (voter_at y.voters v) (voter_at (moved deal rest y).voters v) (omega arith)
+    (gives x s h low (omega arith)) (blocks_give live first p a b v f g allow (low + 1) n (λ u t at_u i less. gives u t at_u i (omega arith)) y _ at_y))
+
+twice_from : (low n : ℕ) → sum_from (λ c. 2) low n ≡ 2 * n
+unfolding sum_from
+twice_from low zero = omega arith
+twice_from low (suc n) = (let rest = twice_from (low + 1) n in omega arith)
+
+own_from : (v low n : ℕ) → sum_from (λ u. 3 * one_at v u) low n ≡ 3 * count_from (λ u. eqb u v) low n
+unfolding sum_from
+own_from v low zero = omega arith
+own_from v low (suc n) = (let rest = own_from v (low + 1) n in omega arith)
+
+-- a call changes no voter
+call_voters : (x : WorldState) (c : ℕ) (r : Result requester.Outcome ClientFault) → (after x (after_client x c r)).voters ≡ x.voters
+call_voters x c (Ok o) = refl
+call_voters x c (Err fault) = refl
+
+if_voters : (x : WorldState) (t : Bool) (c : ℕ) (r : Result requester.Outcome ClientFault) → (after x (if_client t c (after_client x c r))).voters ≡ x.voters
+if_voters x true c r = call_voters x c r
+if_voters x false c r = refl
+
+leave_voters : (deal : Dealing) (x : WorldState) (c : ℕ) → (next deal x (Leave c)).voters ≡ x.voters
+unfolding step
+leave_voters deal x c = if_voters x _ c _
+
+quit_voters : (deal : Dealing) (x : WorldState) (c : ℕ) → (next deal x (GiveUp c)).voters ≡ x.voters
+unfolding step
+quit_voters deal x c = if_voters x _ c _
+
+chosen_voters : (deal : Dealing) (test : ℕ → Bool) (f : ℕ → Step) → ((x : WorldState) (c : ℕ) → (next deal x (f c)).voters ≡ x.voters) → (n : ℕ) (x : WorldState) → (moved deal (chosen test f n) x).voters ≡ x.voters
+unfolding chosen
+chosen_voters deal test f same zero x = refl
+chosen_voters deal test f same (suc n) x =
+    let y = moved deal (chosen test f n) x in
+    ap (λ (u : WorldState). u.voters) (moved_then deal (chosen test f n) (if test n then Goes (f n) ∷ [] else []) x)
+    ∙ elim (test n) as (λ b. (moved deal (if b then Goes (f n) ∷ [] else []) y).voters ≡ y.voters) [ true ↦ same y n | false ↦ refl ]
+    ∙ chosen_voters deal test f same n x
+
+-- a round takes at most 2 n + 3 grants of a voter, for n clients
+pub round_gives : (laws : Laws) (live : Live) (first : WorldState) (p : Course) (a b : List Event) (v : ℕ) (w s : WorldState) → Shades (all_dead live first) p a b w s
+    → Spent (2 * length w.clients + 3) v w (moved p.deal (round live p.deal w) w)
+unfolding round duties
+round_gives laws live first p a b v w s h =
+    let k = all_dead live first in
+    let deal = p.deal in
+    let n = length w.clients in
+    let quit = chosen (is_caught live w) GiveUp n in
+    let x = moved deal quit w in
+    let cut = each_split (Allows k deal) deal quit (duties live deal x) w (allows_round live first deal w) in
+    let at_x = moves_on k p a b quit w s h cut.0 in
+    let m = length x.voters in
+    let clients = blocks deal (client_block live deal) 0 (length x.clients) x in
+    let y = moved deal clients x in
+    let voters = blocks deal (voter_block live deal) 0 m y in
+    let z = moved deal voters y in
+    let leaves = chosen live.client Leave (length x.clients) in
+    let parts = each_split (Allows k deal) deal clients (voters ++ leaves) x cut.1 in
+    let at_y = moves_on k p a b clients x _ at_x parts.0 in
+    let same_clients : length x.clients ≡ n = at_x.shade.many_clients ∙ sym h.shade.many_clients in
+    let own = (one_from (λ u. eqb u v) v 0 m (λ u other. (let e : eqb u v ≡ false = grind (arith, nat_tests) in e))).0 in
+    let one = ap (λ (vs : List VoterState). voter_at vs v) (chosen_voters deal (is_caught live w) GiveUp (quit_voters deal) n w) in
+    let two = blocks_give live first p a b v (client_block live deal) (λ c. 2) (allows_client live first deal) 0 (length x.clients) (λ u t g i less. client_gives laws live first p a b v u t g i) x _ at_x in
+    let three = blocks_give live first p a b v (voter_block live deal) (λ u. 3 * one_at v u) (allows_voter live first deal) 0 m
+    (λ u t g i less. voter_gives laws live first p a b v i u t g (let same : length u.voters ≡ m = g.shade.many_voters ∙ sym at_x.shade.many_voters in omega arith)) y _ at_y in
+    let four = ap (λ (vs : List VoterState). voter_at vs v) (chosen_voters deal live.client Leave (leave_voters deal) (length x.clients) z) in
+    let twice = twice_from 0 (length x.clients) in
+    let thrice = own_from v 0 m in
+    let goes : moved deal (round live deal w) w ≡ moved deal leaves z = moved_then deal quit (duties live deal x) w ∙ moved_then deal clients (voters ++ leaves) x ∙ moved_then deal voters leaves y in
+    subst (Spent (2 * n + 3) v w) (sym goes) (subst (λ (q : VoterState). Spends (2 * n + 3) (voter_at w.voters v) q) (sym four) (subst (λ (q : VoterState). Spends (2 * n + 3) q (voter_at z.voters v)) one
+    (record { granted = (let f = two.granted in let g = three.granted in omega arith); limit = three.limit ∙ two.limit })))

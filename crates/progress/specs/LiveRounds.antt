@@ -10,7 +10,8 @@ use Rattle.requester.specs.Words.{holds, is_asking, is_idle, is_inside, is_membe
 use Rattle.world_state.specs.declared.step.Step.{Step}
 use Rattle.world_state.specs.declared.step.Step.TheVariants.{Deliver, Leave, RemindClient, RemindVoter}
 use Rattle.world_state.specs.Steps.{Dealing, WorldState, client_at, voter_at}
-use Rattle.progress.specs.Moves.{EachMove, IsNotBy, Kind, LetsGo, Goes, Move, move}
+use Rattle.progress.specs.Moves.{EachMove, Goes, IsNotBy, Kind, LetsGo, Move, hasty_among, late_among, move, moves_of, of_moves, steps_among}
+use Rattle.progress.specs.Rounds.{DoesNotGiveUp, give_ups_in}
 
 -- which clients and which voters are live; of all others nothing is asked
 pub record Live : Type 0 where
@@ -114,3 +115,15 @@ HasGrantsThere live n w = (v : ℕ) → v < length w.voters → live.voter v ≡
 -- how many of the first n clients are live
 abbrev pub live_below : Live → ℕ → ℕ
 live_below live n = sum_below (λ c. if live.client c then 1 else 0) n
+
+-- k live rounds in which no REQUEST is late and no withdrawal is hasty, each live client gives up at most once, and
+-- not at all if it asks live voters alone. Who is not live is dead, and only grants of such clients are let go.
+pub record AreTimely (live : Live) (deal : Dealing) (w : WorldState) (k : ℕ) (rounds : List (List Move)) : Type 0 where
+  pub are_live : AreLiveRounds of_moves live deal w rounds
+  pub count : length rounds ≡ k
+  pub in_time : late_among deal 0 w rounds ≡ 0
+  pub patient : hasty_among deal w rounds ≡ 0
+  pub few : give_ups_in (steps_among (moves_of rounds)) ≤ live_below live (length w.clients)
+  pub stays : (c : ℕ) → ((v : ℕ) → is_member (client_at w.clients c) v ≡ true → live.voter v ≡ true) → DoesNotGiveUp c (steps_among (moves_of rounds))
+  pub dead : (c : ℕ) → live.client c ≡ false → IsDead deal w (moves_of rounds) c
+  pub spares : SparesLive live deal w (moves_of rounds)
