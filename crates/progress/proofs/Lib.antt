@@ -21,6 +21,7 @@ pub mod Lists
 pub mod LiveMade
 pub mod LiveMaking
 pub mod LiveSpending
+pub mod LiveTimely
 pub mod Longer
 pub mod Losses
 pub mod Makers

@@ -51,7 +51,7 @@ use Rattle.progress.proofs.Sure.{Course, IsSure, IsSure-after}
 
 -- ---- each step of the duties is a reminder, a Leave, or the arrival of a message that was sent in the round
 
-steps_append : (a b : List Move) → steps_among (a ++ b) ≡ steps_among a ++ steps_among b
+pub steps_append : (a b : List Move) → steps_among (a ++ b) ≡ steps_among a ++ steps_among b
 steps_append [] b = refl
 steps_append (Goes t ∷ a) b = ap (λ l. t ∷ l) (steps_append a b)
 steps_append (LetsGo v ∷ a) b = steps_append a b
@@ -61,13 +61,13 @@ steps_goes [] = refl
 steps_goes (t ∷ steps) = ap (λ l. t ∷ l) (steps_goes steps)
 
 -- so it is of these moves
-abbrev AllServe : ℕ → List Move → Type 0
+abbrev pub AllServe : ℕ → List Move → Type 0
 AllServe first moves = AllByRecursion (Serves first) (steps_among moves)
 
 serve_join : (first : ℕ) (a b : List Move) → AllServe first a → AllServe first b → AllServe first (a ++ b)
 serve_join first a b h g = subst (AllByRecursion (Serves first)) (sym (steps_append a b)) (AllByRecursion-append (Serves first) (steps_among a) (steps_among b) h g)
 
-sent_moved : (deal : Dealing) (moves : List Move) (x : WorldState) → length x.sent ≤ length (moved deal moves x).sent
+pub sent_moved : (deal : Dealing) (moves : List Move) (x : WorldState) → length x.sent ≤ length (moved deal moves x).sent
 sent_moved deal [] x = omega arith
 sent_moved deal (m ∷ moves) x =
     let more = begins_move deal x.sent x m ([], sym (append-nil x.sent)) in
@@ -116,7 +116,7 @@ serve_chosen first test f h zero = tt
 serve_chosen first test f h (suc n) = serve_join first (chosen test f n) (if test n then Goes (f n) ∷ [] else []) (serve_chosen first test f h n)
     (elim (test n) as (λ b. AllServe first (if b then Goes (f n) ∷ [] else [])) [ true ↦ (h n, tt) | false ↦ tt ])
 
-serve_duties : (live : Live) (deal : Dealing) (first : ℕ) (x : WorldState) → first ≤ length x.sent → AllServe first (duties live deal x)
+pub serve_duties : (live : Live) (deal : Dealing) (first : ℕ) (x : WorldState) → first ≤ length x.sent → AllServe first (duties live deal x)
 unfolding duties
 serve_duties live deal first x least =
     let n = length x.clients in
@@ -143,7 +143,7 @@ late_quits old sent test (suc n) =
     let both = ap (late_steps old sent) (steps_append (chosen test GiveUp n) (if test n then Goes (GiveUp n) ∷ [] else [])) ∙ late_join old sent (steps_among (chosen test GiveUp n)) (steps_among (if test n then Goes (GiveUp n) ∷ [] else [])) in
     omega arith
 
-late_round : (live : Live) (deal : Dealing) (old : ℕ) (w : WorldState) → old ≤ length w.sent → late_steps old w.sent (steps_among (round live deal w)) ≡ 0
+pub late_round : (live : Live) (deal : Dealing) (old : ℕ) (w : WorldState) → old ≤ length w.sent → late_steps old w.sent (steps_among (round live deal w)) ≡ 0
 unfolding round
 late_round live deal old w most =
     let quit = chosen (is_caught live w) GiveUp (length w.clients) in
@@ -157,7 +157,7 @@ late_round live deal old w most =
 -- ---- nobody asks anew
 
 -- the step is no Ask
-abbrev IsNoAsk : Step → Type 0
+abbrev pub IsNoAsk : Step → Type 0
 IsNoAsk (Ask c) = ⊥
 IsNoAsk (Deliver k) = Unit {0}
 IsNoAsk (Leave c) = Unit {0}
@@ -175,7 +175,7 @@ serves_no_ask first (RemindClient c) h = tt
 serves_no_ask first (RemindVoter v) h = tt
 serves_no_ask first Exchange h = tt
 
-abbrev NoAsks : List Move → Type 0
+abbrev pub NoAsks : List Move → Type 0
 NoAsks moves = AllByRecursion IsNoAsk (steps_among moves)
 
 no_asks_join : (a b : List Move) → NoAsks a → NoAsks b → NoAsks (a ++ b)
@@ -187,7 +187,7 @@ no_asks_quit test zero = tt
 no_asks_quit test (suc n) = no_asks_join (chosen test GiveUp n) (if test n then Goes (GiveUp n) ∷ [] else []) (no_asks_quit test n)
     (elim (test n) as (λ b. NoAsks (if b then Goes (GiveUp n) ∷ [] else [])) [ true ↦ (tt, tt) | false ↦ tt ])
 
-no_asks_round : (live : Live) (deal : Dealing) (w : WorldState) → NoAsks (round live deal w)
+pub no_asks_round : (live : Live) (deal : Dealing) (w : WorldState) → NoAsks (round live deal w)
 unfolding round
 no_asks_round live deal w =
     let quit = chosen (is_caught live w) GiveUp (length w.clients) in
@@ -196,10 +196,10 @@ no_asks_round live deal w =
     (AllByRecursion-weaker (Serves 0) IsNoAsk (serves_no_ask 0) (steps_among (duties live deal x)) (serve_duties live deal 0 x (omega arith)))
 
 -- The client made no new request: it has its stamp and its quorum, and asks only if it did.
-record Calm (x y : ClientState) : Type 0 where
-  stamp : y.stamp ≡ x.stamp
-  quorum : members y ≡ members x
-  asks : is_asking y.phase ≡ true → is_asking x.phase ≡ true
+pub record Calm (x y : ClientState) : Type 0 where
+  pub stamp : y.stamp ≡ x.stamp
+  pub quorum : members y ≡ members x
+  pub asks : is_asking y.phase ≡ true → is_asking x.phase ≡ true
 
 calm_self : (x : ClientState) → Calm x x
 calm_self x = record { stamp = refl; quorum = refl; asks = λ asks. asks }
@@ -273,7 +273,7 @@ no_ask_images k deal (LetsGo v ∷ moves) x h = AllByRecursion-append IsNoAsk (f
     (no_ask_freed k v (voter_at x.voters v).held) (no_ask_images k deal moves (move deal x (LetsGo v)) h)
 
 -- a client that is not dead makes no new request
-calm_moves : (k : Shading) (p : Course) (a b : List Event) (moves : List Move) (x s : WorldState) → Shades k p a b x s → EachMove (Allows k p.deal) p.deal x moves → NoAsks moves → (c : ℕ) → k.dead c ≡ false
+pub calm_moves : (k : Shading) (p : Course) (a b : List Event) (moves : List Move) (x s : WorldState) → Shades k p a b x s → EachMove (Allows k p.deal) p.deal x moves → NoAsks moves → (c : ℕ) → k.dead c ≡ false
     → Calm (client_at x.clients c) (client_at (moved p.deal moves x).clients c)
 calm_moves k p a b moves x s h allow none c lives =
     let end = moves_on k p a b moves x s h allow in
@@ -373,7 +373,7 @@ no_asks_last (Goes u ∷ before) t rest none = no_asks_last before t rest none.1
 no_asks_last (LetsGo v ∷ before) t rest none = no_asks_last before t rest none
 
 -- who is caught does not ask at the end of the round
-caught_ends : (live : Live) (first : WorldState) (p : Course) (a b : List Event) (w s : WorldState) → Shades (all_dead live first) p a b w s → (c : ℕ) → c < length w.clients → is_caught live w c ≡ true
+pub caught_ends : (live : Live) (first : WorldState) (p : Course) (a b : List Event) (w s : WorldState) → Shades (all_dead live first) p a b w s → (c : ℕ) → c < length w.clients → is_caught live w c ≡ true
     → is_asking (client_at (moved p.deal (round live p.deal w) w).clients c).phase ≡ true → ⊥
 unfolding all_dead
 caught_ends live first p a b w s h c within caught on =

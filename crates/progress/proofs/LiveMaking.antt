@@ -105,7 +105,7 @@ part_of deal f low (suc n) i x least less = elim (cases_eq low i) [
 ]
 
 -- what holds of the moves of each block holds of all
-each_join : (P : WorldState → Move → Type 0) (deal : Dealing) (a b : List Move) (w : WorldState) → EachMove P deal w a → EachMove P deal (moved deal a w) b → EachMove P deal w (a ++ b)
+pub each_join : (P : WorldState → Move → Type 0) (deal : Dealing) (a b : List Move) (w : WorldState) → EachMove P deal w a → EachMove P deal (moved deal a w) b → EachMove P deal w (a ++ b)
 each_join P deal [] b w h g = g
 each_join P deal (m ∷ a) b w h g = (h.0, each_join P deal a b (move deal w m) h.1 g)
 

@@ -211,20 +211,20 @@ first_part P [] ys h = tt
 first_part P (x ∷ xs) ys h = (h.0, first_part P xs ys h.1)
 
 -- a world in which the dead ended their requests, with the RELEASEs of all that are not live
-begun : Dealing → Shading → WorldState
+pub begun : Dealing → Shading → WorldState
 begun deal k = record (run_of deal (ends k.dead k.first (length k.first.clients)) k.first) { sent = extra k ++ k.first.sent }
 
 -- each client that is not live, and not dead, is idle
-abbrev AreIdle : Shading → Type 0
+abbrev pub AreIdle : Shading → Type 0
 AreIdle k = (c : ℕ) → k.live.client c ≡ false → k.dead c ≡ false → is_idle (client_at k.first.clients c).phase ≡ true
 
-record Begun (k : Shading) (p : Course) (s : WorldState) : Type 0 where
-  shades : Shades k p k.first.visible s.visible k.first s
-  few : AreOld p k.first → AreOld p s
-  heeds : (c : ℕ) → k.dead c ≡ false → Heeds c k.first → Heeds c s
-  idle : (c : ℕ) → k.live.client c ≡ false → is_idle (client_at s.clients c).phase ≡ true
+pub record Begun (k : Shading) (p : Course) (s : WorldState) : Type 0 where
+  pub shades : Shades k p k.first.visible s.visible k.first s
+  pub few : AreOld p k.first → AreOld p s
+  pub heeds : (c : ℕ) → k.dead c ≡ false → Heeds c k.first → Heeds c s
+  pub idle : (c : ℕ) → k.live.client c ≡ false → is_idle (client_at s.clients c).phase ≡ true
 
-begins : (laws : Laws) (k : Shading) (p : Course) → Rests p.deal k.first → IsSure p k.first → AreIdle k → Begun k p (begun p.deal k)
+pub begins : (laws : Laws) (k : Shading) (p : Course) → Rests p.deal k.first → IsSure p k.first → AreIdle k → Begun k p (begun p.deal k)
 unfolding begun client_at
 begins laws k p rests sure idle =
     let deal = p.deal in
@@ -488,7 +488,7 @@ lets_everybody_in laws p w c olds rounds more r most lives heeds asks stays long
 abbrev pub AllDeal : Type 0
 AllDeal = (w : Planned) → IsReached w → (quorums : List (List ℕ)) × DoMeet w.plans.first.system.voters quorums × DealsFrom quorums (dealing_of w.plans)
 
-rests_reached : ClientLaws → VoterLaws → AllDeal → (w : Planned) → IsReached w → Rests (dealing_of w.plans) w.state
+pub rests_reached : ClientLaws → VoterLaws → AllDeal → (w : Planned) → IsReached w → Rests (dealing_of w.plans) w.state
 rests_reached clients voters dealt w r =
     let d = dealt w r in
     let deal = dealing_of w.plans in
