@@ -23,6 +23,7 @@ use Rattle.progress.proofs.Losses.{course_at}
 use Rattle.progress.proofs.Olds.{AreOld}
 use Rattle.progress.proofs.Outstanding.{IsNoted, IsNotedAt, Outstanding}
 use Rattle.progress.proofs.Lasting.{Goes-run}
+use Rattle.progress.proofs.Shaded.{Rests, Rests-run}
 use Rattle.progress.proofs.Sure.{IsSure, IsSure-first, IsSure-run}
 use Rattle.progress.specs.LiveRounds.{Live, everybody}
 use Rattle.progress.specs.Rules.{Laws}
@@ -94,6 +95,7 @@ no_mark x v sound idle marked = false≢true (sym (sound.held v (sound.inquired 
 -- given before are old.
 record Begun (deal : Dealing) (w : WorldState) : Type 0 where
   first : WorldState
+  rests : Rests deal first
   coherent : StaysCoherent deal first
   keeps : Keeps first
   out : Outstanding (course_at everybody deal first).old first
@@ -118,6 +120,7 @@ begun rules cs vs deal w r =
     let sound : (d : ℕ) → IsSound (client_at s.live.clients d) = (coherent []).clients in
     record {
       first = first;
+      rests = record { bounds = b; given = given; deals = r.deals; ok = ok };
       coherent = coherent;
       keeps = keeps_idle b t.lives s t.num t.settled r.idle;
       out = record {
@@ -137,6 +140,7 @@ kept_again rules cs vs deal w r =
 
 -- what its laws on rounds rest on
 pub record Resumes (live : Live) (deal : Dealing) (w : WorldState) : Type 0 where
+  pub rests : Rests deal w
   pub old : ℕ → ℕ
   pub few : AreOld (record { deal = deal; old = old; live = live }) w
   pub sure : IsSure (record { deal = deal; old = old; live = live }) w
@@ -149,6 +153,7 @@ resumes rules cs vs live deal w r =
     let sure = IsSure-first rules p g.first g.coherent (record { fits = g.keeps.fits; placed = g.keeps.placed; out = g.out }) in
     let goes = Goes-run rules p g.steps g.first (λ v. omega arith) sure in
     record {
+      rests = subst (Rests deal) (sym g.state) (Rests-run deal g.steps g.first g.rests);
       old = p.old;
       few = subst (AreOld p) (sym g.state) (λ v. (let rises = (goes.outlasts v).granted in omega arith));
       sure = subst (IsSure p) (sym g.state) (IsSure-run p g.steps g.first sure);

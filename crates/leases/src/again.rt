@@ -2,9 +2,9 @@
 ghost use Rattle.std.specs.Prelude.{◌≡◌, ◌≢◌, ◌≤◌, ◌+◌, ◌*◌, ◌++◌, ℕ, List, length, true};
 ghost use Rattle.leases.specs.Again.{IsReachedAgain};
 ghost use Rattle.progress.specs.LostVotes.{ComesBack, GoesOn, HasLostVote, HasReturnedVote};
-ghost use Rattle.progress.specs.LiveRounds.{AreLiveRounds, AreOut, HasGrantsThere, Live, live_below};
-ghost use Rattle.progress.specs.Patience.{hasty_in};
-ghost use Rattle.progress.specs.Rounds.{DoesNotGiveUp, IsStill, give_ups_in, grants_for, late_in, steps_of};
+ghost use Rattle.progress.specs.LiveRounds.{AreGone, AreLiveRounds, HasGrantsThere, Live, SparesLive, live_below};
+ghost use Rattle.progress.specs.Moves.{Move, hasty_among, late_among, moved, moves_of, of_moves, steps_among};
+ghost use Rattle.progress.specs.Rounds.{DoesNotGiveUp, IsStill, give_ups_in, grants_for};
 ghost use Rattle.progress.specs.Overtaking.{IsKnownEverywhere, StillRuns};
 ghost use Rattle.world.specs.Visible.{entries_of};
 ghost use Rattle.world.specs.Waiting.{live_block};
@@ -52,31 +52,35 @@ pub fn progress_comes_back()
 }
 
 /// Rounds count again: after evictions, rebirths, crashes and clients that start anew, once all clients were
-/// idle, the laws of `progress` on live rounds hold, whatever steps followed, while any voters are down and any
-/// clients are out. Clients may draw their quorums in any way, if any two meet, and each voter may have a limit of
-/// its own.
+/// idle, the laws of `progress` on live rounds hold, whatever steps followed, while any voters are down, and any
+/// clients are out or dead. Clients may draw their quorums in any way, if any two meet, and each voter may have a
+/// limit of its own.
 ///
 /// For n clients, c of them live, and v voters, g withdrawals, h of them hasty, and l arrivals of late REQUESTs, if
-/// a client asks:
+/// a live client asks:
 ///
 /// - Somebody asks, enters or gives up within (n + 9) * (1 + v) live rounds, if no REQUEST is late.
 /// - If the client does not give up, a live client enters within (n + 9) * (c + 2 g + l + v).
 /// - It enters itself within (n + 9) * (3 c + 2 h + l + v).
 ///
-/// The rounds themselves are without crashes and incidents. Each live voter has to have a grant left at the end. The
-/// v is for the grants that were given before all were idle: each of them may waste one block.
+/// In the rounds grants of clients that are not live may be let go. Beside that they are without crashes and
+/// incidents. Each live voter has to have a grant left at the end. The v is for the grants that were given before
+/// all were idle: each of them may waste one block.
 pub fn rounds_come_back()
-    ensures moved { (live : Live) (deal : Dealing) (w : WorldState) (client : ℕ) (rounds : List (List Step)) → IsReachedAgain deal w → Asks w client
-        → AreLiveRounds live deal w rounds → late_in deal 0 w rounds ≡ 0 → AreOut live w (run_of deal (steps_of rounds) w) → HasGrantsThere live 1 (run_of deal (steps_of rounds) w)
-        → (length w.voters + 1) * live_block (length w.clients) ≤ length rounds → IsStill w (run_of deal (steps_of rounds) w) → ⊥ }
-    ensures somebody { (live : Live) (deal : Dealing) (w : WorldState) (client : ℕ) (rounds : List (List Step)) (more : List Event) → IsReachedAgain deal w → Asks w client
-        → AreLiveRounds live deal w rounds → DoesNotGiveUp client (steps_of rounds) → AreOut live w (run_of deal (steps_of rounds) w) → HasGrantsThere live 1 (run_of deal (steps_of rounds) w)
-        → live_block (length w.clients) * (live_below live (length w.clients) + 2 * give_ups_in (steps_of rounds) + late_in deal 0 w rounds + length w.voters) ≤ length rounds
-        → (run_of deal (steps_of rounds) w).visible ≡ w.visible ++ more → (who : ℕ) × (live.client who ≡ true) × (1 ≤ entries_of who more) }
-    ensures everybody { (live : Live) (deal : Dealing) (w : WorldState) (client : ℕ) (rounds : List (List Step)) (more : List Event) → IsReachedAgain deal w → Asks w client
-        → AreLiveRounds live deal w rounds → DoesNotGiveUp client (steps_of rounds) → AreOut live w (run_of deal (steps_of rounds) w) → HasGrantsThere live 1 (run_of deal (steps_of rounds) w)
-        → live_block (length w.clients) * (3 * live_below live (length w.clients) + 2 * hasty_in deal w rounds + late_in deal 0 w rounds + length w.voters) ≤ length rounds
-        → (run_of deal (steps_of rounds) w).visible ≡ w.visible ++ more → 1 ≤ entries_of client more }
+    ensures moved { (live : Live) (deal : Dealing) (w : WorldState) (client : ℕ) (rounds : List (List Move)) → IsReachedAgain deal w → live.client client ≡ true → Asks w client
+        → AreLiveRounds of_moves live deal w rounds → late_among deal 0 w rounds ≡ 0 → AreGone live deal w (moves_of rounds) → SparesLive live deal w (moves_of rounds)
+        → HasGrantsThere live 1 (moved deal (moves_of rounds) w)
+        → (length w.voters + 1) * live_block (length w.clients) ≤ length rounds → IsStill w (moved deal (moves_of rounds) w) → ⊥ }
+    ensures somebody { (live : Live) (deal : Dealing) (w : WorldState) (client : ℕ) (rounds : List (List Move)) (more : List Event) → IsReachedAgain deal w → live.client client ≡ true
+        → Asks w client → AreLiveRounds of_moves live deal w rounds → DoesNotGiveUp client (steps_among (moves_of rounds)) → AreGone live deal w (moves_of rounds)
+        → SparesLive live deal w (moves_of rounds) → HasGrantsThere live 1 (moved deal (moves_of rounds) w)
+        → live_block (length w.clients) * (live_below live (length w.clients) + 2 * give_ups_in (steps_among (moves_of rounds)) + late_among deal 0 w rounds + length w.voters) ≤ length rounds
+        → (moved deal (moves_of rounds) w).visible ≡ w.visible ++ more → (who : ℕ) × (live.client who ≡ true) × (1 ≤ entries_of who more) }
+    ensures everybody { (live : Live) (deal : Dealing) (w : WorldState) (client : ℕ) (rounds : List (List Move)) (more : List Event) → IsReachedAgain deal w → live.client client ≡ true
+        → Asks w client → AreLiveRounds of_moves live deal w rounds → DoesNotGiveUp client (steps_among (moves_of rounds)) → AreGone live deal w (moves_of rounds)
+        → SparesLive live deal w (moves_of rounds) → HasGrantsThere live 1 (moved deal (moves_of rounds) w)
+        → live_block (length w.clients) * (3 * live_below live (length w.clients) + 2 * hasty_among deal w rounds + late_among deal 0 w rounds + length w.voters) ≤ length rounds
+        → (moved deal (moves_of rounds) w).visible ≡ w.visible ++ more → 1 ≤ entries_of client more }
 {
     worlds_keep_their_rules();
     parts_keep_their_rules();

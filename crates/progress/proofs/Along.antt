@@ -8,6 +8,7 @@ use Rattle.world.specs.Runs.{after, run_of}
 use Rattle.world_state.specs.Steps.{Dealing, WorldState, step, voter_at}
 use Rattle.world.proofs.Plans.{run_then}
 use Rattle.progress.specs.LiveRounds.{IsAnswered, IsReminded, IsServed, Live, is_between}
+use Rattle.progress.specs.Moves.{of_steps}
 use Rattle.message.specs.declared.message.Message.{Message}
 use Rattle.message.specs.declared.message.Message.TheVariants as kinds
 use Rattle.message.specs.declared.message.ToClient.{ToClient}
@@ -113,10 +114,10 @@ spot_through P R deal Q keep x z s spot q =
 pub spot_after : (P : WorldState → Type 0) (R : Step → WorldState → WorldState → Type 0) (deal : Dealing) (x z : WorldState) (s : Step) → (spot : Spot P R deal x z s) → P (next deal spot.before s)
 spot_after P R deal x z s spot = along-first P R deal spot.rest (next deal spot.before s) spot.follow
 
-contains_split : (xs : List Step) (x : Step) → Contains xs x → (first : List Step) × (rest : List Step) × (xs ≡ first ++ x ∷ rest)
-contains_split xs x there = go xs there.0 there.1 there.2
+pub contains_split : {A : Type 0} (xs : List A) (x : A) → Contains xs x → (first : List A) × (rest : List A) × (xs ≡ first ++ x ∷ rest)
+contains_split {A} xs x there = go xs there.0 there.1 there.2
   where
-    go : (xs : List Step) (k : ℕ) → k < length xs → slice_index_or xs k x ≡ x → (first : List Step) × (rest : List Step) × (xs ≡ first ++ x ∷ rest)
+    go : (xs : List A) (k : ℕ) → k < length xs → slice_index_or xs k x ≡ x → (first : List A) × (rest : List A) × (xs ≡ first ++ x ∷ rest)
     go [] k less is = absurd (omega arith)
     go (y ∷ ys) zero less is = ([], ys, ap (λ z. z ∷ ys) is)
     go (y ∷ ys) (suc k) less is = (let more = go ys k (omega arith) is in (y ∷ more.0, more.1, ap (λ l. y ∷ l) more.2))
@@ -136,7 +137,7 @@ pub record Reminded (P : WorldState → Type 0) (R : Step → WorldState → Wor
   pub heard : (k : ℕ) → length spot.before.sent ≤ k → is_between live (slice_get (next deal spot.before s).sent k) ≡ true → Heard P R live deal (next deal spot.before s) z k
 
 heard_at : (P : WorldState → Type 0) (R : Step → WorldState → WorldState → Type 0) (live : Live) (deal : Dealing) (steps : List Step) (x z : WorldState) (k : ℕ) → run_of deal steps x ≡ z → Along P R deal steps x
-    → IsAnswered live deal x steps k → Heard P R live deal x z k
+    → IsAnswered of_steps live deal x steps k → Heard P R live deal x z k
 unfolding spot_at
 heard_at P R live deal steps x z k ends h a = subst (λ (u : WorldState). Heard P R live deal x u k) ends (
     let spot = spot_at P R deal steps a.first a.rest x (Deliver k) h a.split in
@@ -148,7 +149,7 @@ heard_at P R live deal steps x z k ends h a = subst (λ (u : WorldState). Heard 
     })
 
 pub reminded_at : (P : WorldState → Type 0) (R : Step → WorldState → WorldState → Type 0) (live : Live) (deal : Dealing) (steps : List Step) (x : WorldState) (s : Step) → Along P R deal steps x
-    → IsReminded live deal x steps s → Reminded P R live deal x (run_of deal steps x) s
+    → IsReminded of_steps live deal x steps s → Reminded P R live deal x (run_of deal steps x) s
 unfolding spot_at
 reminded_at P R live deal steps x s h a =
     let spot = spot_at P R deal steps a.first a.rest x s h a.split in
@@ -156,7 +157,7 @@ reminded_at P R live deal steps x s h a =
     record {
       spot = spot;
       heard = λ k least between. heard_at P R live deal a.rest (next deal spot.before s) (run_of deal steps x) k spot.ends spot.follow
-          (subst (λ (u : WorldState). IsAnswered live deal u a.rest k) goes (a.arrive k least (ap (λ (u : WorldState). is_between live (slice_get u.sent k)) goes ∙ between)));
+          (subst (λ (u : WorldState). IsAnswered of_steps live deal u a.rest k) goes (a.arrive k least (ap (λ (u : WorldState). is_between live (slice_get u.sent k)) goes ∙ between)));
     }
 
 -- ---- messages between live ones
@@ -184,7 +185,7 @@ pub record Served (P : WorldState → Type 0) (R : Step → WorldState → World
   pub drops : (g : Grant) → (voter_at reminded.spot.before.voters v).held ≡ Some g → live.client g.client ≡ false → Dropped P R deal reminded.spot.before z v g.client g.stamp
 
 pub served_at : (P : WorldState → Type 0) (R : Step → WorldState → WorldState → Type 0) (live : Live) (deal : Dealing) (steps : List Step) (x : WorldState) (v : ℕ) → Along P R deal steps x
-    → IsServed live deal x steps v → Served P R live deal x (run_of deal steps x) v
+    → IsServed of_steps live deal x steps v → Served P R live deal x (run_of deal steps x) v
 unfolding reminded_at spot_at
 served_at P R live deal steps x v h a = record {
   reminded = reminded_at P R live deal steps x (RemindVoter v) h a.reminded;

@@ -23,6 +23,7 @@ use Rattle.world_state.specs.Steps.{Dealing, WorldState, client_at, voter_at}
 use Rattle.world.proofs.Exclusion.{inside_busy}
 use Rattle.world.proofs.Plans.{run_then}
 use Rattle.progress.specs.LiveRounds.{AreLiveRounds}
+use Rattle.progress.specs.Moves.{of_steps}
 use Rattle.progress.specs.Rounds.{late_body, late_in, late_message, late_step, late_steps, steps_of}
 use Rattle.progress.specs.Rules.{Laws}
 use Rattle.world.specs.WayIn.{Asks}
@@ -298,7 +299,7 @@ along-join P R deal (s ∷ a) b x h k = (h.0, h.1, along-join P R deal a b (next
 
 -- the votes of all members at the end
 has_all : (laws : Laws) (p : Course) (b : WorldState) (m v : ℕ) → Seeks p b (Only m) m v → (r1 r2 r3 r4 r5 r6 r7 : List Step) (rest : List (List Step))
-    → ClearRounds p b m (r1 ∷ r2 ∷ r3 ∷ r4 ∷ r5 ∷ r6 ∷ r7 ∷ rest) b → AreLiveRounds p.live p.deal b (r1 ∷ r2 ∷ r3 ∷ r4 ∷ r5 ∷ r6 ∷ r7 ∷ rest)
+    → ClearRounds p b m (r1 ∷ r2 ∷ r3 ∷ r4 ∷ r5 ∷ r6 ∷ r7 ∷ rest) b → AreLiveRounds of_steps p.live p.deal b (r1 ∷ r2 ∷ r3 ∷ r4 ∷ r5 ∷ r6 ∷ r7 ∷ rest)
     → length b.clients ≤ length rest → m < length b.clients
     → holds (client_at (run_of p.deal (steps_of (r1 ∷ r2 ∷ r3 ∷ r4 ∷ r5 ∷ r6 ∷ r7 ∷ rest)) b).clients m) v ≡ true
 has_all laws p b m v f r1 r2 r3 r4 r5 r6 r7 rest all fair long within =
@@ -325,10 +326,10 @@ has_all laws p b m v f r1 r2 r3 r4 r5 r6 r7 rest all fair long within =
     let A7 : Along P R deal seven b = along-join P R deal five (r6 ++ r7) b A5 (subst (Along P R deal (r6 ++ r7)) (sym to_five) A67) in
     let A4 : Along P R deal four b = along-join P R deal r1 (r2 ++ (r3 ++ r4)) b all.0 (along-join P R deal r2 (r3 ++ r4) x1 all.1.0 (along-join P R deal r3 r4 x2 all.1.1.0 all.1.1.1.0)) in
     let steadily : Along (Steady p b D) MovedBy deal seven b = along-weaker P (Steady p b D) MovedBy deal (λ y h. h.steady) seven b (along-quiet P p b m seven b A7) in
-    let fair_five : AreLiveRounds p.live deal b (r1 ∷ r2 ∷ r3 ∷ r4 ∷ r5 ∷ []) = (fair.0, (fair.1.0, (fair.1.1.0, (fair.1.1.1.0, (fair.1.1.1.1.0, tt))))) in
-    let fair_two : AreLiveRounds p.live deal x5 (r6 ∷ r7 ∷ []) = (fair.1.1.1.1.1.0, (fair.1.1.1.1.1.1.0, tt)) in
+    let fair_five : AreLiveRounds of_steps p.live deal b (r1 ∷ r2 ∷ r3 ∷ r4 ∷ r5 ∷ []) = (fair.0, (fair.1.0, (fair.1.1.0, (fair.1.1.1.0, (fair.1.1.1.1.0, tt))))) in
+    let fair_two : AreLiveRounds of_steps p.live deal x5 (r6 ∷ r7 ∷ []) = (fair.1.1.1.1.1.0, (fair.1.1.1.1.1.1.0, tt)) in
     let ahead7 : NotBehind b m v x7 = subst (NotBehind b m v) to_seven
-    (catches_up laws p b m v f r1 r2 r3 r4 r5 r6 r7 steadily fair_five (subst (λ (u : WorldState). AreLiveRounds p.live deal u (r6 ∷ r7 ∷ [])) (sym to_five) fair_two)) in
+    (catches_up laws p b m v f r1 r2 r3 r4 r5 r6 r7 steadily fair_five (subst (λ (u : WorldState). AreLiveRounds of_steps p.live deal u (r6 ∷ r7 ∷ [])) (sym to_five) fair_two)) in
     let quiet_four : Along (Steady p b D) R deal four b = along-weaker P (Steady p b D) R deal (λ y h. h.steady) four b A4 in
     let stage4 : OwnStage Never m v x4 = subst (OwnStage Never m v) to_four (four_settle laws p b m v f r1 r2 r3 r4 b quiet_four (fair.0, (fair.1.0, (fair.1.1.0, (fair.1.1.1.0, tt))))) in
     let keep : (s : Step) (x y : WorldState) → P x → P y → R s x y → OwnStage Never m v x → OwnStage Never m v y = λ s x y before after moved. own_stage_kept laws p b m v f Never (Never-lasting v) s x y before.steady after.steady moved in
@@ -345,7 +346,7 @@ has_all laws p b m v f r1 r2 r3 r4 r5 r6 r7 rest all fair long within =
     ∙ wins laws p b m v f rest x7 (remove_from m (range_with_len 0 (length b.clients))) all.1.1.1.1.1.1.1 fair.1.1.1.1.1.1.1 (omega arith) stage ahead7 (olds_others laws p b x7 m v f clear7)
 
 block_ends : (laws : Laws) (p : Course) (w : WorldState) (c : ℕ) (r0 r1 r2 r3 r4 r5 r6 r7 : List Step) (rest : List (List Step)) → IsSure p w → Asks w c
-    → AreLiveRounds p.live p.deal w (r0 ∷ r1 ∷ r2 ∷ r3 ∷ r4 ∷ r5 ∷ r6 ∷ r7 ∷ rest) → late_in p.deal 0 w (r0 ∷ r1 ∷ r2 ∷ r3 ∷ r4 ∷ r5 ∷ r6 ∷ r7 ∷ rest) ≡ 0
+    → AreLiveRounds of_steps p.live p.deal w (r0 ∷ r1 ∷ r2 ∷ r3 ∷ r4 ∷ r5 ∷ r6 ∷ r7 ∷ rest) → late_in p.deal 0 w (r0 ∷ r1 ∷ r2 ∷ r3 ∷ r4 ∷ r5 ∷ r6 ∷ r7 ∷ rest) ≡ 0
     → Serving p w (run_of p.deal (steps_of (r0 ∷ r1 ∷ r2 ∷ r3 ∷ r4 ∷ r5 ∷ r6 ∷ r7 ∷ rest)) w) → length w.clients ≤ length rest
     → AreOld p w → KeepsOlds p w (run_of p.deal (steps_of (r0 ∷ r1 ∷ r2 ∷ r3 ∷ r4 ∷ r5 ∷ r6 ∷ r7 ∷ rest)) w)
     → ((d : ℕ) → turns_up_to p.deal (client_at w.clients c).stamp d (steps_of (r0 ∷ r1 ∷ r2 ∷ r3 ∷ r4 ∷ r5 ∷ r6 ∷ r7 ∷ rest)) w ≡ 0)
@@ -388,7 +389,7 @@ block_ends laws p w c r0 r1 r2 r3 r4 r5 r6 r7 rest r asks fair late left long fe
     ] refl))
 
 -- the same of any n + 8 rounds
-eight_end : (laws : Laws) (p : Course) (w : WorldState) (c : ℕ) (rounds : List (List Step)) → length w.clients + 8 ≤ length rounds → IsSure p w → Asks w c → AreLiveRounds p.live p.deal w rounds
+eight_end : (laws : Laws) (p : Course) (w : WorldState) (c : ℕ) (rounds : List (List Step)) → length w.clients + 8 ≤ length rounds → IsSure p w → Asks w c → AreLiveRounds of_steps p.live p.deal w rounds
     → late_in p.deal 0 w rounds ≡ 0 → Serving p w (run_of p.deal (steps_of rounds) w) → AreOld p w → KeepsOlds p w (run_of p.deal (steps_of rounds) w)
     → ((d : ℕ) → turns_up_to p.deal (client_at w.clients c).stamp d (steps_of rounds) w ≡ 0)
     → ((m : ℕ) → asks_up_to (client_at w.clients c).stamp w m ≡ true → HoldsDown p (run_of p.deal (steps_of rounds) w) m) → ⊥
@@ -406,7 +407,7 @@ eight_end laws p w c (r0 ∷ r1 ∷ r2 ∷ r3 ∷ r4 ∷ r5 ∷ r6 ∷ []) long 
 -- In these rounds some request that is not later than that of the client c begins or ends, or an old grant is given
 -- back.
 abbrev pub MovesIn : Course → WorldState → ℕ → List (List Step) → Type 0
-MovesIn p w c rounds = AreLiveRounds p.live p.deal w rounds → late_in p.deal 0 w rounds ≡ 0 → Serving p w (run_of p.deal (steps_of rounds) w)
+MovesIn p w c rounds = AreLiveRounds of_steps p.live p.deal w rounds → late_in p.deal 0 w rounds ≡ 0 → Serving p w (run_of p.deal (steps_of rounds) w)
     → KeepsOlds p w (run_of p.deal (steps_of rounds) w) → ((d : ℕ) → turns_up_to p.deal (client_at w.clients c).stamp d (steps_of rounds) w ≡ 0) → ⊥
 
 -- the round after n + 8 others shows that the first request lacks no vote of a voter that is down

@@ -15,6 +15,7 @@ use Rattle.world_state.specs.declared.step.Step.TheVariants.{Ask, Deliver, Leave
 use Rattle.world.specs.Runs.{run_of}
 use Rattle.world_state.specs.Steps.{WorldState, client_at, voter_at, Dealing}
 use Rattle.progress.specs.LiveRounds.{AreLiveRounds, IsLiveRound}
+use Rattle.progress.specs.Moves.{of_steps}
 use Rattle.progress.specs.Patience.{hasty, hasty_from, hasty_steps}
 use Rattle.progress.specs.Rounds.{steps_of}
 use Rattle.progress.specs.Rules.{Laws}
@@ -309,7 +310,7 @@ runs_round : (laws : Laws) (p : Course) (w : WorldState) (c d : ℕ) (round : Li
 runs_round laws p w c d round x all same asks = runs_until laws p x (Trails p w c) (λ y h. h.reached) (λ y h. h.left) d round x all (Lasts-self (client_at x.clients d)) same asks
 
 heard_next : (laws : Laws) (p : Course) (w : WorldState) (c d : ℕ) (v x : WorldState) (round : List Step) → stamp_of v d ≤ stamp_of x d → KnownBy w d v x → Along (Trails p w c) MovedBy p.deal round x
-    → IsLiveRound p.live p.deal x round → HeardBy w c d v (run_of p.deal round x)
+    → IsLiveRound of_steps p.live p.deal x round → HeardBy w c d v (run_of p.deal round x)
 heard_next laws p w c d v x round least known all fair newer asks same =
     let deal = p.deal in
     let z = run_of deal round x in
@@ -334,7 +335,7 @@ heard_next laws p w c d v x round least known all fair newer asks same =
           (hears_by_vote p w c d q x here (omega arith) asked (runs_down p x d round x runs asks_x fair q common.first down))
     ] refl
 
-known_next : (laws : Laws) (p : Course) (w : WorldState) (c d : ℕ) (x : WorldState) (round : List Step) → Along (Trails p w c) MovedBy p.deal round x → IsLiveRound p.live p.deal x round → KnownBy w d x (run_of p.deal round x)
+known_next : (laws : Laws) (p : Course) (w : WorldState) (c d : ℕ) (x : WorldState) (round : List Step) → Along (Trails p w c) MovedBy p.deal round x → IsLiveRound of_steps p.live p.deal x round → KnownBy w d x (run_of p.deal round x)
 known_next laws p w c d x round all fair newer asks same q member =
     let deal = p.deal in
     let z = run_of deal round x in
@@ -348,7 +349,7 @@ known_next laws p w c d x round all fair newer asks same q member =
     (known_after laws p x round d q runs fair asks_x before)
 
 all_rounds : (laws : Laws) (p : Course) (w : WorldState) (c d : ℕ) → d ≢ c → (rounds : List (List Step)) (u v x : WorldState) → stamp_of u d ≤ stamp_of v d → stamp_of v d ≤ stamp_of x d
-    → HeardBy w c d u x → KnownBy w d v x → Along (Trails p w c) MovedBy p.deal (steps_of rounds) x → AreLiveRounds p.live p.deal x rounds → (k : ℕ) → Room w c d k x
+    → HeardBy w c d u x → KnownBy w d v x → Along (Trails p w c) MovedBy p.deal (steps_of rounds) x → AreLiveRounds of_steps p.live p.deal x rounds → (k : ℕ) → Room w c d k x
     → turns_up_to p.deal (stamp_of w c) d (steps_of rounds) x ≤ k + 2 * own_from p.deal d u v x rounds
 all_rounds laws p w c d other [] u v x first second heard known all fair k room = omega arith
 all_rounds laws p w c d other (r ∷ rs) u v x first second heard known all fair k room =
@@ -366,6 +367,6 @@ all_rounds laws p w c d other (r ∷ rs) u v x first second heard known all fair
 -- A client turns at most three times ahead of a request that is known everywhere, and twice more for each hasty
 -- withdrawal.
 pub three_turns : (laws : Laws) (p : Course) (w : WorldState) (c d : ℕ) → d ≢ c → (rounds : List (List Step)) (u v : WorldState) → stamp_of u d ≤ stamp_of v d → stamp_of v d ≤ stamp_of w d
-    → Along (Trails p w c) MovedBy p.deal (steps_of rounds) w → AreLiveRounds p.live p.deal w rounds → turns_up_to p.deal (stamp_of w c) d (steps_of rounds) w ≤ 3 + 2 * own_from p.deal d u v w rounds
+    → Along (Trails p w c) MovedBy p.deal (steps_of rounds) w → AreLiveRounds of_steps p.live p.deal w rounds → turns_up_to p.deal (stamp_of w c) d (steps_of rounds) w ≤ 3 + 2 * own_from p.deal d u v w rounds
 three_turns laws p w c d other rounds u v first second all fair =
     all_rounds laws p w c d other rounds u v w first second (λ newer. absurd (omega arith)) (λ newer. absurd (omega arith)) all fair 3 (inl (refl, refl))

@@ -24,6 +24,7 @@ use Rattle.world.specs.Runs.{after, run_of}
 use Rattle.world_state.specs.Steps.{Dealing, WorldState, after_client, client_at, client_did, if_client, step, voter_at}
 use Rattle.world.proofs.Exclusion.{held_under}
 use Rattle.progress.specs.LiveRounds.{AsksOn, IsLiveRound}
+use Rattle.progress.specs.Moves.{of_steps}
 use Rattle.progress.specs.Rules.{Laws}
 use Rattle.progress.proofs.Along.{Along, along-first, along-kept, along-last, between_to, next, reminded_at, spot_before, spot_end, spot_through}
 use Rattle.progress.proofs.Always.{asked_by}
@@ -124,7 +125,7 @@ abbrev pub HoldsDown : Course → WorldState → ℕ → Type 0
 HoldsDown p x d = (v : ℕ) → is_member (client_at x.clients d) v ≡ true → p.live.voter v ≡ false → holds (client_at x.clients d) v ≡ true
 
 -- a client that asks on through a round holds them when it begins
-pub holds_down : (p : Course) (x : WorldState) (d : ℕ) (round : List Step) → IsLiveRound p.live p.deal x round → p.live.client d ≡ true → is_asking (client_at x.clients d).phase ≡ true
+pub holds_down : (p : Course) (x : WorldState) (d : ℕ) (round : List Step) → IsLiveRound of_steps p.live p.deal x round → p.live.client d ≡ true → is_asking (client_at x.clients d).phase ≡ true
     → AsksOn x (run_of p.deal round x) d → HoldsDown p x d
 holds_down p x d round fair alive asks on v member down = by (holds (client_at x.clients d) v) refl
   where
@@ -134,7 +135,7 @@ holds_down p x d round fair alive asks on v member down = by (holds (client_at x
 
 -- so does one whose request runs on
 pub runs_down : (p : Course) (w : WorldState) (d : ℕ) (round : List Step) (x : WorldState) → Along (RunsOn p w d) MovedBy p.deal round x → is_asking (client_at w.clients d).phase ≡ true
-    → IsLiveRound p.live p.deal x round → HoldsDown p x d
+    → IsLiveRound of_steps p.live p.deal x round → HoldsDown p x d
 runs_down p w d round x all asking fair =
     let here = along-first (RunsOn p w d) MovedBy p.deal round x all in
     let first = here.same in
@@ -142,7 +143,7 @@ runs_down p w d round x all asking fair =
     holds_down p x d round fair (live_by p x d here.left (is_asking-busy (client_at x.clients d).phase (first.asks ∙ asking))) (first.asks ∙ asking) (record { asks = last.asks ∙ asking; same = last.stamp ∙ sym first.stamp })
 
 pub known_after : (laws : Laws) (p : Course) (w : WorldState) (round : List Step) (d v : ℕ) → Along (RunsOn p w d) MovedBy p.deal round w
-    → IsLiveRound p.live p.deal w round → is_asking (client_at w.clients d).phase ≡ true → is_member (client_at w.clients d) v ≡ true
+    → IsLiveRound of_steps p.live p.deal w round → is_asking (client_at w.clients d).phase ≡ true → is_member (client_at w.clients d) v ≡ true
     → IsEntry (voter_at (run_of p.deal round w).voters v) d (client_at w.clients d).stamp
 known_after laws p w round d v all fair asking member =
     let deal = p.deal in

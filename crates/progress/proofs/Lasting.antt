@@ -120,7 +120,7 @@ Gives-run laws p steps u r v = kept-by (λ x. Gives (voter_at u.voters v) (voter
     (λ x y ok now moved h. (let more = Gives-moved laws x y ok moved v in let a = h.granted in let b = more.granted in record { granted = omega arith; limit = more.limit ∙ h.limit }))
     p.deal steps u (stays_coherent p u r) (record { granted = omega arith; limit = refl })
 
-left_grants : (laws : Laws) (p : Course) (steps : List Step) (u : WorldState) → IsSure p u → HasGrantsThere p.live 1 (run_of p.deal steps u) → (v : ℕ) → v < length u.voters → p.live.voter v ≡ true
+pub left_grants : (laws : Laws) (p : Course) (steps : List Step) (u : WorldState) → IsSure p u → HasGrantsThere p.live 1 (run_of p.deal steps u) → (v : ℕ) → v < length u.voters → p.live.voter v ≡ true
     → (voter_at u.voters v).granted < (voter_at u.voters v).limit
 left_grants laws p steps u r left v within up =
     let gives = Gives-run laws p steps u r v in

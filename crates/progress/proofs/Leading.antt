@@ -22,6 +22,7 @@ use Rattle.world.specs.Runs.{run_of}
 use Rattle.world_state.specs.Steps.{WorldState, client_at, voter_at}
 use Rattle.world.proofs.Plans.{run_then}
 use Rattle.progress.specs.LiveRounds.{AreLiveRounds, IsLiveRound, IsReminded}
+use Rattle.progress.specs.Moves.{of_steps}
 use Rattle.progress.specs.Rules.{Laws}
 use Rattle.progress.proofs.Ahead.{asks_no_vote, grant_step}
 use Rattle.progress.proofs.Along.{Along, along-first, along-kept, along-last, along-or, along-split, next, reminded_at}
@@ -254,7 +255,7 @@ climbs laws p w m v f S T lasting round x all climb stage =
     ]
 
 own_told : (laws : Laws) (p : Course) (w : WorldState) (m v : ℕ) → Seeks p w (Only m) m v → (round : List Step) (x : WorldState) → Along (Steady p w (Only m)) (Quietly p w m) p.deal round x
-    → IsReminded p.live p.deal x round (RemindVoter v) → OwnStage (Told v) m v (run_of p.deal round x)
+    → IsReminded of_steps p.live p.deal x round (RemindVoter v) → OwnStage (Told v) m v (run_of p.deal round x)
 own_told laws p w m v f round x all fair =
     climbs laws p w m v f (λ _ _. Unit {0}) (Told v) (Told-lasting v) round x all
     (λ g of moves _. told laws p w (Only m) m v f g of x (run_of p.deal round x) (reminded_at (With p w (Only m) (HasVote v g)) MovedBy p.live p.deal round x (RemindVoter v) moves fair)) (λ g held own. inr tt)
@@ -267,7 +268,7 @@ inquiring_on v g s x y moved held is few now = elim ((Outlasts-moved x y (Moved-
 ]
 
 own_marked : (laws : Laws) (p : Course) (w : WorldState) (m v : ℕ) → Seeks p w (Only m) m v → (round : List Step) (x : WorldState) → Along (Steady p w (Only m)) (Quietly p w m) p.deal round x
-    → IsReminded p.live p.deal x round (RemindVoter v) → OwnStage (Told v) m v x → OwnStage (Marked v) m v (run_of p.deal round x)
+    → IsReminded of_steps p.live p.deal x round (RemindVoter v) → OwnStage (Told v) m v x → OwnStage (Marked v) m v (run_of p.deal round x)
 own_marked laws p w m v f round x all fair stage =
     let deal = p.deal in
     let D = Only m in
@@ -311,21 +312,21 @@ own_marked laws p w m v f round x all fair stage =
     ]
 
 own_given : (laws : Laws) (p : Course) (w : WorldState) (m v : ℕ) → Seeks p w (Only m) m v → (round : List Step) (x : WorldState) → Along (Steady p w (Only m)) (Quietly p w m) p.deal round x
-    → IsLiveRound p.live p.deal x round → OwnStage (Marked v) m v x → OwnStage (GivenBack v) m v (run_of p.deal round x)
+    → IsLiveRound of_steps p.live p.deal x round → OwnStage (Marked v) m v x → OwnStage (GivenBack v) m v (run_of p.deal round x)
 own_given laws p w m v f round x all fair =
     climbs laws p w m v f (Marked v) (GivenBack v) (GivenBack-lasting v) round x all
     (λ g of moves mark. gives_back laws p w (Only m) m v f g of round x moves fair mark)
 
 own_settled : (laws : Laws) (p : Course) (w : WorldState) (m v : ℕ) → Seeks p w (Only m) m v → (round : List Step) (x : WorldState) → Along (Steady p w (Only m)) (Quietly p w m) p.deal round x
-    → IsReminded p.live p.deal x round (RemindClient m) → OwnStage (GivenBack v) m v x → OwnStage Never m v (run_of p.deal round x)
+    → IsReminded of_steps p.live p.deal x round (RemindClient m) → OwnStage (GivenBack v) m v x → OwnStage Never m v (run_of p.deal round x)
 own_settled laws p w m v f round x all fair =
     climbs laws p w m v f (GivenBack v) Never (Never-lasting v) round x all
     (λ g of moves few. not_given_back laws p w (Only m) v (voter_below laws p w (Only m) x m v (along-first (Steady p w (Only m)) (Quietly p w m) p.deal round x all) f.asks f.member) f.up g of x (run_of p.deal round x)
-    (reminded_at (With p w (Only m) (HasVote v g)) MovedBy p.live p.deal round x (RemindClient g.client) moves (subst (λ c. IsReminded p.live p.deal x round (RemindClient c)) (sym of.0) fair)) few)
+    (reminded_at (With p w (Only m) (HasVote v g)) MovedBy p.live p.deal round x (RemindClient g.client) moves (subst (λ c. IsReminded of_steps p.live p.deal x round (RemindClient c)) (sym of.0) fair)) few)
 
 -- four rounds settle its grant
 pub four_settle : (laws : Laws) (p : Course) (w : WorldState) (m v : ℕ) → Seeks p w (Only m) m v → (a b c e : List Step) (x : WorldState)
-    → Along (Steady p w (Only m)) (Quietly p w m) p.deal (a ++ (b ++ (c ++ e))) x → AreLiveRounds p.live p.deal x (a ∷ b ∷ c ∷ e ∷ []) → OwnStage Never m v (run_of p.deal (a ++ (b ++ (c ++ e))) x)
+    → Along (Steady p w (Only m)) (Quietly p w m) p.deal (a ++ (b ++ (c ++ e))) x → AreLiveRounds of_steps p.live p.deal x (a ∷ b ∷ c ∷ e ∷ []) → OwnStage Never m v (run_of p.deal (a ++ (b ++ (c ++ e))) x)
 four_settle laws p w m v f a b c e x all fair =
     let deal = p.deal in
     let D = Only m in

@@ -18,6 +18,10 @@ pub mod Known
 pub mod Lasting
 pub mod Leading
 pub mod Lists
+pub mod LiveMade
+pub mod LiveMaking
+pub mod LiveSpending
+pub mod LiveTimely
 pub mod Longer
 pub mod Losses
 pub mod Makers
@@ -29,6 +33,10 @@ pub mod Overdue
 pub mod Parts
 pub mod Patient
 pub mod Placed
+pub mod Reminders
+pub mod Shade
+pub mod ShadeRounds
+pub mod Shaded
 pub mod Spending
 pub mod Steady
 pub mod Sure

@@ -32,24 +32,20 @@ use Rattle.world.proofs.Plans.{run_then}
 use Rattle.world.proofs.Reached.{Given, RunOk}
 use Rattle.world.proofs.Restarts.{Mix, MixBut, Mix-back, Mix-restarted, Mix-saved, Mix-with, SavedOk, begin_ok, happens_ok, live_ok, nothing_more, silent_parts, within_or}
 use Rattle.progress.specs.AfterLosses.{AskedSince, IsHeard, IsReachedAfterLosses}
-use Rattle.progress.specs.LiveRounds.{AreLiveRounds, Live, live_below}
-use Rattle.progress.specs.Patience.{hasty_in}
-use Rattle.progress.specs.Rounds.{DoesNotGiveUp, give_ups_in, late_in, steps_of}
+use Rattle.progress.specs.LiveRounds.{AreGone, AreLiveRounds, HasGrantsThere, Live, SparesLive}
+use Rattle.progress.specs.Moves.{Move, moved, moves_of, of_moves}
 use Rattle.progress.specs.Rules.{Laws}
 use Rattle.world.specs.WayIn.{Asks}
 use Rattle.world.specs.Waiting.{live_block}
 use Rattle.progress.proofs.Always.{HasSeen, Heeds, Seen-voter}
 use Rattle.progress.proofs.Behind.{IsLater-moved, is_current_of}
-use Rattle.progress.proofs.Blocks.{live_is_block}
 use Rattle.progress.proofs.Fitting.{current_stamp}
 use Rattle.progress.proofs.Forgetting.{Endures, Endures-client_lost, Endures-moved, Endures-same, Endures-start, Endures-voter_lost, beyond, outstanding_by}
 use Rattle.progress.proofs.Makers.{By, Says, coherent_world, made_by}
 use Rattle.progress.proofs.Moves.{Came, ClientMoved, Moved, StaysCoherent, VoterMoved, client_here, client_others, kept-by, voter_here, voter_others}
-use Rattle.progress.proofs.Olds.{olds_most}
 use Rattle.progress.proofs.Placed.{Seen-client}
-use Rattle.progress.proofs.Sure.{Course, IsSure, IsSure-first, Serving}
-use Rattle.progress.proofs.Patient.{everybody_by}
-use Rattle.progress.proofs.Waiting.{somebody_by}
+use Rattle.progress.proofs.Shaded.{Rests, Rests-run, Runs}
+use Rattle.progress.proofs.Sure.{Course, IsSure-first}
 
 -- ---- mixes
 
@@ -510,8 +506,11 @@ same_nodes laws b given cs vs mixed =
 
 -- all of this holds of the world
 record Lives (deal : Dealing) (w : WorldState) : Type 0 where
-  coherent : StaysCoherent deal w
+  rests : Rests deal w
   endures : Endures w
+
+stays_by : (deal : Dealing) (w : WorldState) → Rests deal w → StaysCoherent deal w
+stays_by deal w r = λ steps. coherent_by r.bounds r.given (run_of deal steps w) (run_from r.bounds r.given deal r.deals steps w r.ok)
 
 -- of the live world, when all has happened
 lives_first : Laws → ClientLaws → VoterLaws → (deal : Dealing) (w : WorldState) → (r : IsReachedAfterLosses deal w) → Lives deal (all_happen deal r.happenings (begin r.voters r.clients r.limit)).live
@@ -521,9 +520,8 @@ lives_first laws clients voters deal w r =
     let s = all_happen deal r.happenings (begin r.voters r.clients r.limit) in
     let both = all_on laws b given deal r.deals r.happenings (begin r.voters r.clients r.limit) (begin_ok b given) (same_nodes laws b given) in
     let ok = both.0 in
-    let run : RunOk b s.live = record { clients = ok.sizes.0; voters = ok.sizes.1; world = live_ok b s ok; walked = ok.walked } in
     record {
-      coherent = λ steps. coherent_by b given (run_of deal steps s.live) (run_from b given deal r.deals steps s.live run);
+      rests = record { bounds = b; given = given; deals = r.deals; ok = record { clients = ok.sizes.0; voters = ok.sizes.1; world = live_ok b s ok; walked = ok.walked } };
       endures = both.1 s.live.clients s.live.voters (live_mixed s);
     }
 
@@ -532,47 +530,37 @@ lives_after laws clients voters deal w r =
     let first = (all_happen deal r.happenings (begin r.voters r.clients r.limit)).live in
     let a = lives_first laws clients voters deal w r in
     subst (Lives deal) (sym r.state) (record {
-      coherent = λ steps. subst IsCoherent (run_then deal r.steps steps first) (a.coherent (r.steps ++ steps));
-      endures = kept-by Endures (Endures-moved laws) deal r.steps first a.coherent a.endures;
+      rests = Rests-run deal r.steps first a.rests;
+      endures = kept-by Endures (Endures-moved laws) deal r.steps first (stays_by deal first a.rests) a.endures;
     })
 
 -- each grant that was given so far is old
 abbrev pub course_at : Live → Dealing → WorldState → Course
 course_at live deal w = record { deal = deal; old = λ v. suc (voter_at w.voters v).granted; live = live }
 
-sure_after : (laws : Laws) (live : Live) (deal : Dealing) (w : WorldState) → Lives deal w → IsSure (course_at live deal w) w
-sure_after laws live deal w a = IsSure-first laws (course_at live deal w) w a.coherent (record {
-  fits = a.endures.fits;
-  placed = a.endures.placed;
-  out = outstanding_by beyond (course_at live deal w).old w (a.coherent []) (λ v. omega arith) a.endures.out;
-})
-
-pub after_losses_somebody : Laws → ClientLaws → VoterLaws → (live : Live) (deal : Dealing) (w : WorldState) (c : ℕ) (rounds : List (List Step)) (more : List Event) → IsReachedAfterLosses deal w → Asks w c
-    → AreLiveRounds live deal w rounds → DoesNotGiveUp c (steps_of rounds) → Serving (course_at live deal w) w (run_of deal (steps_of rounds) w)
-    → live_block (length w.clients) * (live_below live (length w.clients) + 2 * give_ups_in (steps_of rounds) + late_in deal 0 w rounds + length w.voters) ≤ length rounds
-    → (run_of deal (steps_of rounds) w).visible ≡ w.visible ++ more → (d : ℕ) × (live.client d ≡ true) × (1 ≤ entries_of d more)
-after_losses_somebody laws clients voters live deal w c rounds more r asks fair stays left long visible =
-    let p = course_at live deal w in
-    let most = olds_most p (length w.voters) w in
-    somebody_by laws p w c (live_block (length w.clients)) (live_below live (length w.clients) + 2 * give_ups_in (steps_of rounds) + late_in deal 0 w rounds + length w.voters) (live_is_block laws p (length w.clients)) rounds more (λ v. omega arith)
-    (sure_after laws live deal w (lives_after laws clients voters deal w r)) asks fair stays left (omega arith) long visible
-
-pub after_losses_everybody : Laws → ClientLaws → VoterLaws → (live : Live) (deal : Dealing) (w : WorldState) (c : ℕ) (rounds : List (List Step)) (more : List Event) → IsReachedAfterLosses deal w → IsHeard w c → Asks w c
-    → AreLiveRounds live deal w rounds → DoesNotGiveUp c (steps_of rounds) → Serving (course_at live deal w) w (run_of deal (steps_of rounds) w)
-    → live_block (length w.clients) * (3 * live_below live (length w.clients) + 2 * hasty_in deal w rounds + late_in deal 0 w rounds + length w.voters) ≤ length rounds
-    → (run_of deal (steps_of rounds) w).visible ≡ w.visible ++ more → 1 ≤ entries_of c more
-after_losses_everybody laws clients voters live deal w c rounds more r heard asks fair stays left long visible =
+pub after_losses_runs : Laws → ClientLaws → VoterLaws → (live : Live) (deal : Dealing) (w : WorldState) (rounds : List (List Move)) → IsReachedAfterLosses deal w → AreLiveRounds of_moves live deal w rounds
+    → AreGone live deal w (moves_of rounds) → SparesLive live deal w (moves_of rounds) → HasGrantsThere live 1 (moved deal (moves_of rounds) w) → Runs (course_at live deal w) w rounds
+after_losses_runs laws clients voters live deal w rounds r fair gone spares left =
     let p = course_at live deal w in
     let a = lives_after laws clients voters deal w r in
-    let most = olds_most p (length w.voters) w in
-    let heeded : Heeds c w = record {
-      seen = λ v s entry is.
-          let same = current_stamp (client_at w.clients c) s is in
-          subst (λ n. n ≤ (voter_at w.voters v).seen) (sym same) (heard v (subst (λ n. IsEntry (voter_at w.voters v) c n) same entry));
-      given = a.endures.given;
-    } in
-    everybody_by laws p w c (live_block (length w.clients)) (3 * live_below live (length w.clients) + 2 * hasty_in deal w rounds + late_in deal 0 w rounds + length w.voters) (live_is_block laws p (length w.clients)) (omega arith) rounds more (λ v. omega arith)
-    (sure_after laws live deal w a) heeded asks fair stays left (omega arith) long visible
+    let coherent = stays_by deal w a.rests in
+    record {
+      rests = a.rests;
+      few = λ v. omega arith;
+      sure = IsSure-first laws p w coherent (record { fits = a.endures.fits; placed = a.endures.placed; out = outstanding_by beyond p.old w (coherent []) (λ v. omega arith) a.endures.out });
+      live = fair;
+      gone = gone;
+      spares = spares;
+      left = left;
+    }
+
+pub after_losses_heeds : Laws → ClientLaws → VoterLaws → (deal : Dealing) (w : WorldState) (c : ℕ) → IsReachedAfterLosses deal w → IsHeard w c → Heeds c w
+after_losses_heeds laws clients voters deal w c r heard = record {
+  seen = λ v s entry is.
+      let same = current_stamp (client_at w.clients c) s is in
+      subst (λ n. n ≤ (voter_at w.voters v).seen) (sym same) (heard v (subst (λ n. IsEntry (voter_at w.voters v) c n) same entry));
+  given = (lives_after laws clients voters deal w r).endures.given;
+}
 
 -- ---- new requests
 
@@ -610,7 +598,7 @@ heard_anew laws clients voters deal w c r since asks v entry =
     let first = (all_happen deal r.happenings (begin r.voters r.clients r.limit)).live in
     let t = (client_at first.clients c).stamp in
     let a = lives_first laws clients voters deal w r in
-    let end : IsHeardOr c t w = subst (IsHeardOr c t) (sym r.state) (kept-by (IsHeardOr c t) (heard_moved laws c t) deal r.steps first a.coherent (inl refl)) in
+    let end : IsHeardOr c t w = subst (IsHeardOr c t) (sym r.state) (kept-by (IsHeardOr c t) (heard_moved laws c t) deal r.steps first (stays_by deal first a.rests) (inl refl)) in
     elim end [
       | inl same ↦ absurd (omega arith)
       | inr seen ↦ seen v (client_at w.clients c).stamp entry (is_current_of (client_at w.clients c) (client_at w.clients c).stamp (is_asking-busy (client_at w.clients c).phase asks.asks) refl)

@@ -30,11 +30,16 @@ use Rattle.progress.proofs.Behind.{meets}
 use Rattle.progress.proofs.Moves.{Makes, MovedBy, MovedBy-step}
 use Rattle.progress.proofs.Sure.{Course, IsSure, IsSure-after}
 use Rattle.progress.proofs.Turns.{asks_at}
-use Rattle.progress.specs.Rounds.{IsAnswered, IsFairRound, IsReminded, IsTimely, give_up, give_ups_in, late_body, late_message, late_step, late_steps, steps_of}
+use Rattle.progress.specs.LiveRounds.{IsAnswered, IsReminded, Live, everybody, is_between}
+use Rattle.progress.specs.Moves.{of_steps}
+use Rattle.progress.specs.Rounds as fair
+use Rattle.progress.specs.Rounds.{IsFairRound, IsTimely, give_up, give_ups_in, late_body, late_message, late_step, late_steps, steps_of}
 use Rattle.world.specs.WayIn.{Serves}
 use Rattle.progress.proofs.Along.{next}
 use Rattle.progress.proofs.Known.{within_by}
-use Rattle.progress.proofs.Longer.{IsAnswered-more, IsReminded-more, contains_here, contains_next}
+use Rattle.progress.proofs.Fair.{fair_reminded, was_sent}
+use Rattle.progress.proofs.Longer.{contains_here, contains_next}
+use Rattle.progress.proofs.Reminders.{answered_before, answered_more, reminded_more}
 use Rattle.progress.specs.Rules.{Laws}
 
 -- ---- the same step for each of some numbers
@@ -52,65 +57,78 @@ contains_each f low (suc n) k least less = elim (cases_eq low k) [
 
 -- ---- a message arrives, and then the replies to it
 
-unfoldable pub answer : Dealing → WorldState → ℕ → List Step
-answer deal u k = Deliver k ∷ each Deliver (length u.sent) (length (next deal u (Deliver k)).sent - length u.sent)
+-- the arrivals of those messages that are between live ones, of the n from this one on
+unfoldable pub arrivals : Live → List Message → ℕ → ℕ → List Step
+arrivals live sent low zero = []
+arrivals live sent low (suc n) = (if is_between live (slice_get sent low) then Deliver low ∷ [] else []) ++ arrivals live sent (low + 1) n
 
-is_answered : (deal : Dealing) (u : WorldState) (k : ℕ) → IsAnswered deal u (answer deal u k) k
+contains_arrival : (live : Live) (sent : List Message) (low n k : ℕ) → low ≤ k → k < low + n → is_between live (slice_get sent k) ≡ true → Contains (arrivals live sent low n) (Deliver k)
+unfolding arrivals
+contains_arrival live sent low zero k least less between = absurd (omega arith)
+contains_arrival live sent low (suc n) k least less between =
+    let rest = arrivals live sent (low + 1) n in
+    elim (cases_eq low k) [
+      | inl same ↦ subst (λ b. Contains ((if b then Deliver low ∷ [] else []) ++ rest) (Deliver k)) (sym (ap (λ i. is_between live (slice_get sent i)) same ∙ between)) (contains_here (Deliver low) (Deliver k) rest (ap Deliver same))
+      | inr other ↦ Contains-append_right (if is_between live (slice_get sent low) then Deliver low ∷ [] else []) rest (Deliver k) (contains_arrival live sent (low + 1) n k (omega arith) (omega arith) between)
+    ]
+
+unfoldable pub answer : Live → Dealing → WorldState → ℕ → List Step
+answer live deal u k = Deliver k ∷ arrivals live (next deal u (Deliver k)).sent (length u.sent) (length (next deal u (Deliver k)).sent - length u.sent)
+
+is_answered : (live : Live) (deal : Dealing) (u : WorldState) (k : ℕ) → IsAnswered of_steps live deal u (answer live deal u k) k
 unfolding answer
-is_answered deal u k = record {
-  first = [];
-  rest = each Deliver (length u.sent) (length (next deal u (Deliver k)).sent - length u.sent);
-  split = refl;
-  answers = λ j least less. contains_each Deliver (length u.sent) (length (next deal u (Deliver k)).sent - length u.sent) j least (omega arith);
-}
-
--- the n messages from this one on arrive, each with the replies to it
-unfoldable pub answer_all : Dealing → WorldState → ℕ → ℕ → List Step
-answer_all deal u low zero = []
-answer_all deal u low (suc n) = answer deal u low ++ answer_all deal (run_of deal (answer deal u low) u) (low + 1) n
-
-answered_before : (deal : Dealing) (w : WorldState) (before steps : List Step) (k : ℕ) → IsAnswered deal (run_of deal before w) steps k → IsAnswered deal w (before ++ steps) k
-answered_before deal w before steps k a =
-    let begins = run_then deal before a.first w in
-    let goes : run_of deal ((before ++ a.first) ++ Deliver k ∷ []) w ≡ run_of deal (a.first ++ Deliver k ∷ []) (run_of deal before w) =
-    ap (λ l. run_of deal l w) (append_assoc before a.first (Deliver k ∷ [])) ∙ run_then deal before (a.first ++ Deliver k ∷ []) w in
+is_answered live deal u k =
+    let y = next deal u (Deliver k) in
     record {
-      first = before ++ a.first;
-      rest = a.rest;
-      split = ap (λ l. before ++ l) a.split ∙ sym (append_assoc before a.first (Deliver k ∷ a.rest));
-      answers = λ j least less. a.answers j (subst (λ (u : WorldState). length u.sent ≤ j) begins least) (subst (λ (u : WorldState). j < length u.sent) goes less);
+      first = [];
+      rest = arrivals live y.sent (length u.sent) (length y.sent - length u.sent);
+      split = refl;
+      answers = λ j least between. (let less = was_sent live y.sent j between in contains_arrival live y.sent (length u.sent) (length y.sent - length u.sent) j least (omega arith) between);
     }
 
-all_answered : (deal : Dealing) (u : WorldState) (low n k : ℕ) → low ≤ k → k < low + n → IsAnswered deal u (answer_all deal u low n) k
-unfolding answer_all
-all_answered deal u low zero k least less = absurd (omega arith)
-all_answered deal u low (suc n) k least less =
-    let first = answer deal u low in
-    let y = run_of deal first u in
-    let rest = answer_all deal y (low + 1) n in
+unfoldable pub answer_if : Bool → Live → Dealing → WorldState → ℕ → List Step
+answer_if true live deal u k = answer live deal u k
+answer_if false live deal u k = []
+
+-- those of the n messages from this one on arrive that are between live ones, each with the replies to it
+unfoldable pub answer_all : Live → Dealing → List Message → WorldState → ℕ → ℕ → List Step
+answer_all live deal sent u low zero = []
+answer_all live deal sent u low (suc n) =
+    answer_if (is_between live (slice_get sent low)) live deal u low ++ answer_all live deal sent (run_of deal (answer_if (is_between live (slice_get sent low)) live deal u low) u) (low + 1) n
+
+pub all_answered : (live : Live) (deal : Dealing) (sent : List Message) (u : WorldState) (low n k : ℕ) → low ≤ k → k < low + n → is_between live (slice_get sent k) ≡ true → IsAnswered of_steps live deal u (answer_all live deal sent u low n) k
+unfolding answer_all answer_if
+all_answered live deal sent u low zero k least less between = absurd (omega arith)
+all_answered live deal sent u low (suc n) k least less between =
+    let b = is_between live (slice_get sent low) in
+    let first = answer_if b live deal u low in
+    let rest = answer_all live deal sent (run_of deal first u) (low + 1) n in
     elim (cases_eq low k) [
-      | inl same ↦ subst (λ i. IsAnswered deal u (first ++ rest) i) same (IsAnswered-more deal u first rest low (is_answered deal u low))
-      | inr other ↦ answered_before deal u first rest k (all_answered deal y (low + 1) n k (omega arith) (omega arith))
+      | inl same ↦ subst (λ i. IsAnswered of_steps live deal u (first ++ rest) i) same (answered_more of_steps run_then live deal u [] first rest low
+          (subst (λ t. IsAnswered of_steps live deal u (answer_if t live deal u low) low) (sym (ap (λ i. is_between live (slice_get sent i)) same ∙ between)) (is_answered live deal u low)))
+      | inr other ↦ answered_before of_steps run_then live deal u first rest k (all_answered live deal sent (run_of deal first u) (low + 1) n k (omega arith) (omega arith) between)
     ]
 
 -- ---- reminders
 
-unfoldable pub remind : Dealing → WorldState → Step → List Step
-remind deal x s = s ∷ answer_all deal (next deal x s) (length x.sent) (length (next deal x s).sent - length x.sent)
+unfoldable pub remind : Live → Dealing → WorldState → Step → List Step
+remind live deal x s = s ∷ answer_all live deal (next deal x s).sent (next deal x s) (length x.sent) (length (next deal x s).sent - length x.sent)
 
-is_reminded : (deal : Dealing) (x : WorldState) (s : Step) → IsReminded deal x (remind deal x s) s
+pub is_reminded : (live : Live) (deal : Dealing) (x : WorldState) (s : Step) → IsReminded of_steps live deal x (remind live deal x s) s
 unfolding remind
-is_reminded deal x s = record {
-  first = [];
-  rest = answer_all deal (next deal x s) (length x.sent) (length (next deal x s).sent - length x.sent);
-  split = refl;
-  arrive = λ k least less. all_answered deal (next deal x s) (length x.sent) (length (next deal x s).sent - length x.sent) k least (omega arith);
-}
+is_reminded live deal x s =
+    let y = next deal x s in
+    record {
+      first = [];
+      rest = answer_all live deal y.sent y (length x.sent) (length y.sent - length x.sent);
+      split = refl;
+      arrive = λ k least between. (let less = was_sent live y.sent k between in all_answered live deal y.sent y (length x.sent) (length y.sent - length x.sent) k least (omega arith) between);
+    }
 
 -- all of these reminders, one after the other
 unfoldable pub remind_all : Dealing → WorldState → List Step → List Step
 remind_all deal x [] = []
-remind_all deal x (s ∷ ss) = remind deal x s ++ remind_all deal (run_of deal (remind deal x s) x) ss
+remind_all deal x (s ∷ ss) = remind everybody deal x s ++ remind_all deal (run_of deal (remind everybody deal x s) x) ss
 
 only_one : (t s : Step) → Contains (t ∷ []) s → t ≡ s
 only_one t s there = go there.0 there.1 there.2
@@ -119,16 +137,16 @@ only_one t s there = go there.0 there.1 there.2
     go zero less is = is
     go (suc i) less is = absurd (omega arith)
 
-all_reminded : (deal : Dealing) (x : WorldState) (ss : List Step) (s : Step) → Contains ss s → IsReminded deal x (remind_all deal x ss) s
+all_reminded : (deal : Dealing) (x : WorldState) (ss : List Step) (s : Step) → Contains ss s → IsReminded of_steps everybody deal x (remind_all deal x ss) s
 unfolding remind_all
 all_reminded deal x [] s there = absurd (let less = there.1 in omega arith)
 all_reminded deal x (t ∷ ss) s there =
-    let first = remind deal x t in
+    let first = remind everybody deal x t in
     let y = run_of deal first x in
     let rest = remind_all deal y ss in
     elim (Contains-append_cases (t ∷ []) ss s there) [
-      | inl own ↦ subst (λ i. IsReminded deal x (first ++ rest) i) (only_one t s own) (IsReminded-more deal x [] first rest t (is_reminded deal x t))
-      | inr later ↦ subst (λ l. IsReminded deal x (first ++ l) s) (append-nil rest) (IsReminded-more deal x first rest [] s (all_reminded deal y ss s later))
+      | inl own ↦ subst (λ i. IsReminded of_steps everybody deal x (first ++ rest) i) (only_one t s own) (reminded_more of_steps run_then everybody deal x [] first rest t (is_reminded everybody deal x t))
+      | inr later ↦ subst (λ l. IsReminded of_steps everybody deal x (first ++ l) s) (append-nil rest) (reminded_more of_steps run_then everybody deal x first rest [] s (all_reminded deal y ss s later))
     ]
 
 -- ---- no other steps: each is a reminder, a Leave, or the arrival of a message that was sent in the round
@@ -138,7 +156,7 @@ unfolding each
 each_serves sent f low zero serves = tt
 each_serves sent f low (suc n) serves = (serves low (omega arith), each_serves sent f (low + 1) n (λ k least. serves k (omega arith)))
 
-sent_more : (deal : Dealing) (x : WorldState) (s : Step) → length x.sent ≤ length (next deal x s).sent
+pub sent_more : (deal : Dealing) (x : WorldState) (s : Step) → length x.sent ≤ length (next deal x s).sent
 sent_more deal x s = elim (step deal x s) as (λ r. step deal x s ≡ r → length x.sent ≤ length (after x r).sent) [
   | Ok o ↦ λ e.
       let adds = Adds-step deal x s o e in
@@ -154,34 +172,49 @@ sent_run deal (s ∷ steps) x =
     let rest = sent_run deal steps (next deal x s) in
     omega (arith, first, rest)
 
-answer_serves : (deal : Dealing) (u : WorldState) (k sent : ℕ) → sent ≤ k → sent ≤ length u.sent → AllByRecursion (Serves sent) (answer deal u k)
-unfolding answer
-answer_serves deal u k sent least most =
-    (least, each_serves sent Deliver (length u.sent) (length (next deal u (Deliver k)).sent - length u.sent) (λ j later. omega arith))
+arrivals_serve : (live : Live) (sent : List Message) (low n first : ℕ) → first ≤ low → AllByRecursion (Serves first) (arrivals live sent low n)
+unfolding arrivals
+arrivals_serve live sent low zero first least = tt
+arrivals_serve live sent low (suc n) first least = AllByRecursion-append (Serves first) (if is_between live (slice_get sent low) then Deliver low ∷ [] else []) (arrivals live sent (low + 1) n)
+    (by (is_between live (slice_get sent low))) (arrivals_serve live sent (low + 1) n first (omega arith))
+  where
+    by : (b : Bool) → AllByRecursion (Serves first) (if b then Deliver low ∷ [] else [])
+    by true = (least, tt)
+    by false = tt
 
-answer_all_serves : (deal : Dealing) (u : WorldState) (low n sent : ℕ) → sent ≤ low → sent ≤ length u.sent → AllByRecursion (Serves sent) (answer_all deal u low n)
+answer_serves : (live : Live) (deal : Dealing) (u : WorldState) (k first : ℕ) (b : Bool) → first ≤ k → first ≤ length u.sent → AllByRecursion (Serves first) (answer_if b live deal u k)
+unfolding answer answer_if
+answer_serves live deal u k first true least most =
+    (least, arrivals_serve live (next deal u (Deliver k)).sent (length u.sent) (length (next deal u (Deliver k)).sent - length u.sent) first most)
+answer_serves live deal u k first false least most = tt
+
+pub answer_all_serves : (live : Live) (deal : Dealing) (sent : List Message) (u : WorldState) (low n first : ℕ) → first ≤ low → first ≤ length u.sent → AllByRecursion (Serves first) (answer_all live deal sent u low n)
 unfolding answer_all
-answer_all_serves deal u low zero sent least most = tt
-answer_all_serves deal u low (suc n) sent least most =
-    let y = run_of deal (answer deal u low) u in
-    let grows = sent_run deal (answer deal u low) u in
-    AllByRecursion-append (Serves sent) (answer deal u low) (answer_all deal y (low + 1) n) (answer_serves deal u low sent least most)
-    (answer_all_serves deal y (low + 1) n sent (omega arith) (omega arith))
+answer_all_serves live deal sent u low zero first least most = tt
+answer_all_serves live deal sent u low (suc n) first least most =
+    let b = is_between live (slice_get sent low) in
+    let steps = answer_if b live deal u low in
+    let y = run_of deal steps u in
+    let grows = sent_run deal steps u in
+    AllByRecursion-append (Serves first) steps (answer_all live deal sent y (low + 1) n) (answer_serves live deal u low first b least most)
+    (answer_all_serves live deal sent y (low + 1) n first (omega arith) (omega arith))
 
-pub remind_serves : (deal : Dealing) (x : WorldState) (s : Step) (sent : ℕ) → Serves sent s → sent ≤ length x.sent → AllByRecursion (Serves sent) (remind deal x s)
+pub remind_serves : (live : Live) (deal : Dealing) (x : WorldState) (s : Step) (first : ℕ) → Serves first s → first ≤ length x.sent → AllByRecursion (Serves first) (remind live deal x s)
 unfolding remind
-remind_serves deal x s sent serves most =
+remind_serves live deal x s first serves most =
+    let y = next deal x s in
     let grows = sent_more deal x s in
-    (serves, answer_all_serves deal (next deal x s) (length x.sent) (length (next deal x s).sent - length x.sent) sent most (omega arith))
+    (serves, answer_all_serves live deal y.sent y (length x.sent) (length y.sent - length x.sent) first most (omega arith))
 
-remind_all_serves : (deal : Dealing) (x : WorldState) (ss : List Step) (sent : ℕ) → AllByRecursion (Serves sent) ss → sent ≤ length x.sent → AllByRecursion (Serves sent) (remind_all deal x ss)
+pub remind_all_serves : (deal : Dealing) (x : WorldState) (ss : List Step) (first : ℕ) → AllByRecursion (Serves first) ss → first ≤ length x.sent → AllByRecursion (Serves first) (remind_all deal x ss)
 unfolding remind_all
-remind_all_serves deal x [] sent serve most = tt
-remind_all_serves deal x (s ∷ ss) sent serve most =
-    let y = run_of deal (remind deal x s) x in
-    let grows = sent_run deal (remind deal x s) x in
-    AllByRecursion-append (Serves sent) (remind deal x s) (remind_all deal y ss) (remind_serves deal x s sent serve.0 most)
-    (remind_all_serves deal y ss sent serve.1 (omega arith))
+remind_all_serves deal x [] first serve most = tt
+remind_all_serves deal x (s ∷ ss) first serve most =
+    let steps = remind everybody deal x s in
+    let y = run_of deal steps x in
+    let grows = sent_run deal steps x in
+    AllByRecursion-append (Serves first) steps (remind_all deal y ss) (remind_serves everybody deal x s first serve.0 most)
+    (remind_all_serves deal y ss first serve.1 (omega arith))
 
 -- so no REQUEST is late
 
@@ -204,7 +237,7 @@ step_in_time old low sent (RemindClient c) most serves = refl
 step_in_time old low sent (RemindVoter v) most serves = refl
 step_in_time old low sent Exchange most serves = absurd serves
 
-in_time : (old low : ℕ) (sent : List Message) (steps : List Step) → old ≤ low → AllByRecursion (Serves low) steps → late_steps old sent steps ≡ 0
+pub in_time : (old low : ℕ) (sent : List Message) (steps : List Step) → old ≤ low → AllByRecursion (Serves low) steps → late_steps old sent steps ≡ 0
 in_time old low sent [] most serve = refl
 in_time old low sent (s ∷ steps) most serve =
     let first = step_in_time old low sent s most serve.0 in
@@ -222,7 +255,7 @@ no_give_up low (RemindClient c) serves = refl
 no_give_up low (RemindVoter v) serves = refl
 no_give_up low Exchange serves = refl
 
-no_give_ups : (low : ℕ) (steps more : List Step) → AllByRecursion (Serves low) steps → give_ups_in more ≡ 0 → give_ups_in (steps ++ more) ≡ 0
+pub no_give_ups : (low : ℕ) (steps more : List Step) → AllByRecursion (Serves low) steps → give_ups_in more ≡ 0 → give_ups_in (steps ++ more) ≡ 0
 no_give_ups low [] more serve none = none
 no_give_ups low (s ∷ steps) more serve none =
     let first = no_give_up low s serve.0 in
@@ -257,11 +290,11 @@ round_is_fair deal w =
     let all = each RemindClient 0 n ++ each RemindVoter 0 m in
     let reminders = remind_all deal w all in
     let leaves = each Leave 0 n in
+    let reminded : (s : Step) → Contains all s → fair.IsReminded deal w (reminders ++ leaves) s = λ s there.
+    fair_reminded deal w (reminders ++ leaves) s (reminded_more of_steps run_then everybody deal w [] reminders leaves s (all_reminded deal w all s there)) in
     record {
-      clients = λ c within. IsReminded-more deal w [] reminders leaves (RemindClient c)
-          (all_reminded deal w all (RemindClient c) (Contains-append_left (each RemindClient 0 n) (each RemindVoter 0 m) (RemindClient c) (contains_each RemindClient 0 n c (omega arith) (omega arith))));
-      voters = λ v within. IsReminded-more deal w [] reminders leaves (RemindVoter v)
-          (all_reminded deal w all (RemindVoter v) (Contains-append_right (each RemindClient 0 n) (each RemindVoter 0 m) (RemindVoter v) (contains_each RemindVoter 0 m v (omega arith) (omega arith))));
+      clients = λ c within. reminded (RemindClient c) (Contains-append_left (each RemindClient 0 n) (each RemindVoter 0 m) (RemindClient c) (contains_each RemindClient 0 n c (omega arith) (omega arith)));
+      voters = λ v within. reminded (RemindVoter v) (Contains-append_right (each RemindClient 0 n) (each RemindVoter 0 m) (RemindVoter v) (contains_each RemindVoter 0 m v (omega arith) (omega arith)));
       leaves = λ c inside.
           let within = within_by w c (is_inside-busy (client_at w.clients c).phase inside) in
           Contains-append_right reminders leaves (Leave c) (contains_each Leave 0 n c (omega arith) (omega arith));

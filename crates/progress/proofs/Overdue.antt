@@ -26,6 +26,7 @@ use Rattle.world_state.specs.declared.step.Step.TheVariants.{Deliver, Leave, Rem
 use Rattle.world.specs.Runs.{run_of}
 use Rattle.world_state.specs.Steps.{Dealing, WorldState, client_at, voter_at}
 use Rattle.progress.specs.LiveRounds.{AreLiveRounds, IsLiveRound, IsReminded}
+use Rattle.progress.specs.Moves.{of_steps}
 use Rattle.progress.specs.Rules.{Laws}
 use Rattle.progress.proofs.Ahead.{NotBehind, not_behind_kept, own_not, vote_or_ahead}
 use Rattle.progress.proofs.Along.{Along, Reminded, Served, along-first, along-kept, along-last, along-or, along-split, along-weaker, between_from, between_to, next, reminded_at, served_at, spot_after, spot_before, spot_end, spot_in}
@@ -145,7 +146,7 @@ given_kept laws p w D m v f g live s x y before after moved h =
 
 -- a marked vote is given back in a round
 pub gives_back : (laws : Laws) (p : Course) (w : WorldState) (D : ℕ → Type 0) (m v : ℕ) → Seeks p w D m v → (g : Grant) → IsOf w D g → (round : List Step) (x : WorldState)
-    → Along (With p w D (HasVote v g)) MovedBy p.deal round x → IsLiveRound p.live p.deal x round
+    → Along (With p w D (HasVote v g)) MovedBy p.deal round x → IsLiveRound of_steps p.live p.deal x round
     → (g.grant ≤ last_of (client_at x.clients g.client) v) ⊎ HasMarked g.client v x → GivenBack v (client_at (run_of p.deal round x).clients g.client) g
 gives_back laws p w D m v f g live round x all fair before =
     let deal = p.deal in
@@ -173,9 +174,9 @@ gives_back laws p w D m v f g live round x all fair before =
 -- four rounds in which the grant has the vote and its request runs
 four_rounds : (laws : Laws) (p : Course) (w : WorldState) (D : ℕ → Type 0) (m v : ℕ) → Seeks p w D m v → (g : Grant) → IsOf w D g → g.client ≢ m → precedes (the_request w m) (request_of g) ≡ true
     → (a b c e : List Step) (x : WorldState) → Along (With p w D (HasVote v g)) MovedBy p.deal (a ++ (b ++ (c ++ e))) x
-    → IsReminded p.live p.deal x a (RemindVoter v) → IsReminded p.live p.deal (run_of p.deal a x) b (RemindVoter v)
-    → IsLiveRound p.live p.deal (run_of p.deal b (run_of p.deal a x)) c
-    → IsReminded p.live p.deal (run_of p.deal c (run_of p.deal b (run_of p.deal a x))) e (RemindClient g.client) → ⊥
+    → IsReminded of_steps p.live p.deal x a (RemindVoter v) → IsReminded of_steps p.live p.deal (run_of p.deal a x) b (RemindVoter v)
+    → IsLiveRound of_steps p.live p.deal (run_of p.deal b (run_of p.deal a x)) c
+    → IsReminded of_steps p.live p.deal (run_of p.deal c (run_of p.deal b (run_of p.deal a x))) e (RemindClient g.client) → ⊥
 four_rounds laws p w D m v f g live other behind a b c e x all ra rb rc re =
     let deal = p.deal in
     let P = With p w D (HasVote v g) in
@@ -335,7 +336,7 @@ made_at laws p w D v g x here = ((steady_ok laws p w D x here.0).made v g.client
 
 -- the request of the grant does not run through the first five rounds
 runs_not : (laws : Laws) (p : Course) (w : WorldState) (m v : ℕ) → Seeks p w (Only m) m v → (g : Grant) → g.client ≢ m → precedes (the_request w m) (request_of g) ≡ true → (a b c d e : List Step)
-    → Along (With p w (Only m) (HasVote v g)) MovedBy p.deal (a ++ (b ++ (c ++ (d ++ e)))) w → AreLiveRounds p.live p.deal w (a ∷ b ∷ c ∷ d ∷ e ∷ [])
+    → Along (With p w (Only m) (HasVote v g)) MovedBy p.deal (a ++ (b ++ (c ++ (d ++ e)))) w → AreLiveRounds of_steps p.live p.deal w (a ∷ b ∷ c ∷ d ∷ e ∷ [])
     → g.stamp ≡ (client_at w.clients g.client).stamp → (client_at (run_of p.deal (a ++ (b ++ (c ++ (d ++ e)))) w).clients g.client).stamp ≡ (client_at w.clients g.client).stamp
     → is_asking (client_at (run_of p.deal (a ++ (b ++ (c ++ (d ++ e)))) w).clients g.client).phase ≡ true → ⊥
 runs_not laws p w m v f g other behind a b c d e all fair number stamp asks =
@@ -373,7 +374,7 @@ runs_not laws p w m v f g other behind a b c d e all fair number stamp asks =
 
 -- it is over before the last two rounds, and then the vote is free
 ends_not : (laws : Laws) (p : Course) (w : WorldState) (m v : ℕ) → Seeks p w (Only m) m v → (g : Grant) → (l q : List Step) (x : WorldState)
-    → Along (With p w (Only m) (HasVote v g)) MovedBy p.deal (l ++ q) x → AreLiveRounds p.live p.deal x (l ∷ q ∷ []) → HasEnded g.client g.stamp x → ⊥
+    → Along (With p w (Only m) (HasVote v g)) MovedBy p.deal (l ++ q) x → AreLiveRounds of_steps p.live p.deal x (l ∷ q ∷ []) → HasEnded g.client g.stamp x → ⊥
 ends_not laws p w m v f g l q x all fair ended =
     let deal = p.deal in
     let D = Only m in
@@ -389,8 +390,8 @@ ends_not laws p w m v f g l q x all fair ended =
 
 -- after seven rounds the voter's grant is not behind the request
 pub catches_up : (laws : Laws) (p : Course) (w : WorldState) (m v : ℕ) → Seeks p w (Only m) m v → (a b c d e l q : List Step)
-    → Along (Steady p w (Only m)) MovedBy p.deal ((a ++ (b ++ (c ++ (d ++ e)))) ++ (l ++ q)) w → AreLiveRounds p.live p.deal w (a ∷ b ∷ c ∷ d ∷ e ∷ [])
-    → AreLiveRounds p.live p.deal (run_of p.deal (a ++ (b ++ (c ++ (d ++ e)))) w) (l ∷ q ∷ []) → NotBehind w m v (run_of p.deal ((a ++ (b ++ (c ++ (d ++ e)))) ++ (l ++ q)) w)
+    → Along (Steady p w (Only m)) MovedBy p.deal ((a ++ (b ++ (c ++ (d ++ e)))) ++ (l ++ q)) w → AreLiveRounds of_steps p.live p.deal w (a ∷ b ∷ c ∷ d ∷ e ∷ [])
+    → AreLiveRounds of_steps p.live p.deal (run_of p.deal (a ++ (b ++ (c ++ (d ++ e)))) w) (l ∷ q ∷ []) → NotBehind w m v (run_of p.deal ((a ++ (b ++ (c ++ (d ++ e)))) ++ (l ++ q)) w)
 catches_up laws p w m v f a b c d e l q all fair last =
     let deal = p.deal in
     let D = Only m in

@@ -13,17 +13,18 @@ use Rattle.world.specs.Runs.{run_of}
 use Rattle.world_state.specs.Steps.{Dealing, WorldState}
 use Rattle.world.proofs.Plans.{run_then}
 use Rattle.progress.specs.LiveRounds.{AreLiveRounds, Live}
+use Rattle.progress.specs.Moves.{of_steps}
 use Rattle.progress.specs.Rounds.{late_body, late_in, late_message, late_step, late_steps, steps_of}
 
 pub steps-append : (a b : List (List Step)) → steps_of (a ++ b) ≡ steps_of a ++ steps_of b
 steps-append [] b = refl
 steps-append (r ∷ a) b = ap (λ l. r ++ l) (steps-append a b) ∙ sym (append_assoc r (steps_of a) (steps_of b))
 
-pub live-split : (live : Live) (deal : Dealing) (a b : List (List Step)) (x : WorldState) → AreLiveRounds live deal x (a ++ b) → AreLiveRounds live deal x a × AreLiveRounds live deal (run_of deal (steps_of a) x) b
+pub live-split : (live : Live) (deal : Dealing) (a b : List (List Step)) (x : WorldState) → AreLiveRounds of_steps live deal x (a ++ b) → AreLiveRounds of_steps live deal x a × AreLiveRounds of_steps live deal (run_of deal (steps_of a) x) b
 live-split live deal [] b x h = (tt, h)
 live-split live deal (r ∷ a) b x h =
     let rest = live-split live deal a b (run_of deal r x) h.1 in
-    ((h.0, rest.0), subst (λ (u : WorldState). AreLiveRounds live deal u b) (sym (run_then deal r (steps_of a) x)) rest.1)
+    ((h.0, rest.0), subst (λ (u : WorldState). AreLiveRounds of_steps live deal u b) (sym (run_then deal r (steps_of a) x)) rest.1)
 
 pub late-split : (deal : Dealing) (old : ℕ) (a b : List (List Step)) (x : WorldState)
     → (later : ℕ) × (late_in deal old x (a ++ b) ≡ late_in deal old x a + late_in deal later (run_of deal (steps_of a) x) b)

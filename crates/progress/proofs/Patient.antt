@@ -8,6 +8,7 @@ use Rattle.world.specs.Runs.{IsReached, run_of}
 use Rattle.world_state.specs.Steps.{Dealing, Planned, WorldState, dealing_of, client_at}
 use Rattle.world.specs.Visible.{entries_of}
 use Rattle.progress.specs.LiveRounds.{AreLiveRounds, Live, live_below}
+use Rattle.progress.specs.Moves.{of_steps}
 use Rattle.progress.specs.Patience.{hasty_in}
 use Rattle.progress.specs.Rounds.{DoesNotGiveUp, late_in, steps_of}
 use Rattle.progress.specs.Rules.{Laws}
@@ -48,7 +49,7 @@ unfolding all_up_to
 few_up_to deal s n e steps x l o within own one most = sum_three n e (λ d. turns_up_to deal s d steps x) l o within own one most
 
 -- each other live client turns three times at most, and twice more for each hasty withdrawal
-turns_after : (laws : Laws) (p : Course) (w : WorldState) (c : ℕ) (r : List Step) (rs : List (List Step)) → IsSure p w → Asks w c → AreLiveRounds p.live p.deal w (r ∷ rs) → AsksAfter p w c r (steps_of rs)
+turns_after : (laws : Laws) (p : Course) (w : WorldState) (c : ℕ) (r : List Step) (rs : List (List Step)) → IsSure p w → Asks w c → AreLiveRounds of_steps p.live p.deal w (r ∷ rs) → AsksAfter p w c r (steps_of rs)
     → all_up_to p.deal (stamp_of (run_of p.deal r w) c) (length w.clients) (steps_of rs) (run_of p.deal r w) + 3 ≤ 3 * live_below p.live (length w.clients) + 2 * hasty_in p.deal w (r ∷ rs)
 turns_after laws p w c r rs sure asks fair a =
     let deal = p.deal in
@@ -82,7 +83,7 @@ split_total b zero len some most = absurd (omega arith)
 split_total b (suc k) len some most = (k, refl, (let turned = mul_comm b (suc k) in let product = suc-mul k b in omega arith))
 
 -- t blocks are enough
-pub everybody_by : (laws : Laws) (p : Course) (w : WorldState) (c size t : ℕ) → IsBlock p (length w.clients) size → 1 ≤ size → (rounds : List (List Step)) (more : List Event) → AreOld p w → IsSure p w → Heeds c w → Asks w c → AreLiveRounds p.live p.deal w rounds
+pub everybody_by : (laws : Laws) (p : Course) (w : WorldState) (c size t : ℕ) → IsBlock p (length w.clients) size → 1 ≤ size → (rounds : List (List Step)) (more : List Event) → AreOld p w → IsSure p w → Heeds c w → Asks w c → AreLiveRounds of_steps p.live p.deal w rounds
     → DoesNotGiveUp c (steps_of rounds) → Serving p w (run_of p.deal (steps_of rounds) w)
     → 3 * live_below p.live (length w.clients) + 2 * hasty_in p.deal w rounds + late_in p.deal 0 w rounds + olds_of p (length w.voters) w ≤ t → size * t ≤ length rounds
     → (run_of p.deal (steps_of rounds) w).visible ≡ w.visible ++ more → 1 ≤ entries_of c more
@@ -121,7 +122,7 @@ everybody_by laws p w c size t is least (r ∷ rs) more few sure heeded asks fai
       absurd (omega arith)
 ]
 
-pub live_everybody : Laws → (live : Live) (w : Planned) (c size : ℕ) → IsBlock (course_of live w) (length w.state.clients) size → 1 ≤ size → (rounds : List (List Step)) (more : List Event) → IsReached w → Asks w.state c → AreLiveRounds live (dealing_of w.plans) w.state rounds
+pub live_everybody : Laws → (live : Live) (w : Planned) (c size : ℕ) → IsBlock (course_of live w) (length w.state.clients) size → 1 ≤ size → (rounds : List (List Step)) (more : List Event) → IsReached w → Asks w.state c → AreLiveRounds of_steps live (dealing_of w.plans) w.state rounds
     → DoesNotGiveUp c (steps_of rounds) → Serving (course_of live w) w.state (run_of (dealing_of w.plans) (steps_of rounds) w.state)
     → size * (3 * live_below live (length w.state.clients) + 2 * hasty_in (dealing_of w.plans) w.state rounds + late_in (dealing_of w.plans) 0 w.state rounds) ≤ length rounds
     → (run_of (dealing_of w.plans) (steps_of rounds) w.state).visible ≡ w.state.visible ++ more → 1 ≤ entries_of c more

@@ -1,6 +1,6 @@
 -- how many grants of a voter the rounds take that are made
 use Rattle.std.proofs.Common.{◌≡◌, ◌≢◌, ℕ, zero, suc, ◌+◌, ◌*◌, ◌-◌, ◌<◌, ◌≤◌, Bool, true, false, eqb, List, [], ◌∷◌, ◌++◌, length, map, Option, Some, None, Ok, refl, sym, ap, subst, ◌∙◌, inl, inr, arith, append_assoc, length-append}
-use Rattle.std.specs.Prelude.{nat_lt, slice_get}
+use Rattle.std.specs.Prelude.{if◌then◌else◌, nat_lt, slice_get}
 use Rattle.std.specs.List.{AllByRecursion, flat_map}
 use Rattle.std.proofs.Math.Nat.{suc-mul}
 use Rattle.std.proofs.lemmas.Bool.{cases_eq}
@@ -30,13 +30,14 @@ use Rattle.world.specs.Runs.{after, run_of}
 use Rattle.world.specs.WayIn.{HasGrants}
 use Rattle.world_state.specs.Steps.{Dealing, WorldState, after_voter, client_at, come, if_client, if_voter, say, step, voter_at}
 use Rattle.world.proofs.Plans.{run_then}
+use Rattle.progress.specs.LiveRounds.{Live, everybody, is_between}
 use Rattle.progress.specs.Rounds.{steps_of}
 use Rattle.progress.specs.Rules.{Laws}
 use Rattle.progress.proofs.Along.{next}
 use Rattle.progress.proofs.Arrivals.{client_takes, message_stays}
 use Rattle.progress.proofs.Exchanges.{get_next}
 use Rattle.progress.proofs.Longer.{Grows-run}
-use Rattle.progress.proofs.Making.{AskAmong, among_still, answer, answer_all, each, made_rounds, remind, remind_all, remind_serves, round_of, round_serves}
+use Rattle.progress.proofs.Making.{AskAmong, among_still, answer, answer_all, answer_if, arrivals, each, made_rounds, remind, remind_all, remind_serves, round_of, round_serves}
 use Rattle.progress.proofs.Moves.{Moved, MovedBy-step, Moved-step, VoterMoved, each_voter}
 use Rattle.progress.proofs.Sure.{Course, IsSure, IsSure-after, IsSure-run}
 use Rattle.progress.proofs.Turns.{asks_at, one_if}
@@ -45,14 +46,14 @@ use Rattle.progress.proofs.Waiting.{one_most}
 -- ---- grants of one voter
 
 -- the voter gave at most n grants more, and has the same limit
-record Spends (n : ℕ) (y z : VoterState) : Type 0 where
-  granted : z.granted ≤ y.granted + n
-  limit : z.limit ≡ y.limit
+pub record Spends (n : ℕ) (y z : VoterState) : Type 0 where
+  pub granted : z.granted ≤ y.granted + n
+  pub limit : z.limit ≡ y.limit
 
-Spends-self : (n : ℕ) (y : VoterState) → Spends n y y
+pub Spends-self : (n : ℕ) (y : VoterState) → Spends n y y
 Spends-self n y = record { granted = omega arith; limit = refl }
 
-Spends-then : (n m k : ℕ) (x y z : VoterState) → n + m ≤ k → Spends n x y → Spends m y z → Spends k x z
+pub Spends-then : (n m k : ℕ) (x y z : VoterState) → n + m ≤ k → Spends n x y → Spends m y z → Spends k x z
 Spends-then n m k x y z most a b = record { granted = (let first = a.granted in let rest = b.granted in omega arith); limit = b.limit ∙ a.limit }
 
 few_by : (frees : Bool) (y z : VoterState) → VoteMoves frees y z → z.granted ≤ y.granted + 1
@@ -62,20 +63,20 @@ few_by false y z (inl stays) = let same = stays.granted in omega arith
 few_by false y z (inr new) = let more = new.1.granted in omega arith
 
 -- so it was between these worlds
-abbrev Spent : ℕ → ℕ → WorldState → WorldState → Type 0
+abbrev pub Spent : ℕ → ℕ → WorldState → WorldState → Type 0
 Spent n v x z = Spends n (voter_at x.voters v) (voter_at z.voters v)
 
-Spent-same : (n v : ℕ) (x z : WorldState) → z.voters ≡ x.voters → Spent n v x z
+pub Spent-same : (n v : ℕ) (x z : WorldState) → z.voters ≡ x.voters → Spent n v x z
 Spent-same n v x z same = subst (λ (vs : List VoterState). Spends n (voter_at x.voters v) (voter_at vs v)) (sym same) (Spends-self n (voter_at x.voters v))
 
 -- ---- a message arrives
 
 -- 1 if these are the same, else 0
-abbrev one_at : ℕ → ℕ → ℕ
+abbrev pub one_at : ℕ → ℕ → ℕ
 one_at v u = one_if (eqb u v)
 
 -- 1 if the message is to this voter, else 0
-abbrev hits : ℕ → Message → ℕ
+abbrev pub hits : ℕ → Message → ℕ
 hits v (kinds.ToVoter m) = one_at v m.voter
 hits v (kinds.ToClient m) = 0
 
@@ -101,7 +102,7 @@ arrives (RemindClient c) = None
 arrives (RemindVoter v) = None
 arrives Exchange = None
 
-delivers : (laws : Laws) (p : Course) (x : WorldState) (k v : ℕ) (m : Message) → IsSure p x → slice_get x.sent k ≡ Some m → Spent (hits v m) v x (next p.deal x (Deliver k))
+pub delivers : (laws : Laws) (p : Course) (x : WorldState) (k v : ℕ) (m : Message) → IsSure p x → slice_get x.sent k ≡ Some m → Spent (hits v m) v x (next p.deal x (Deliver k))
 unfolding arrives
 delivers laws p x k v m r is =
     let ok = (r []).coherent in
@@ -140,35 +141,40 @@ are_still p [] x low ms r are = are
 are_still p (s ∷ steps) x low ms r are =
     are_still p steps (next p.deal x s) low ms (IsSure-after p x r s) (are_there x (next p.deal x s) low ms (Moved-step p.deal x ((r []).coherent).numbered s) are)
 
-each_gives : (laws : Laws) (p : Course) (v low : ℕ) (ms : List Message) (x : WorldState) → IsSure p x → Are x.sent low ms
-    → Spent (hits_in v ms) v x (run_of p.deal (each Deliver low (length ms)) x)
-unfolding each
-each_gives laws p v low [] x r are = Spends-self 0 (voter_at x.voters v)
-each_gives laws p v low (m ∷ ms) x r are =
+-- those of them arrive that are between live ones
+arrivals_give : (laws : Laws) (p : Course) (live : Live) (sent : List Message) (v low : ℕ) (ms : List Message) (x : WorldState) → IsSure p x → Are x.sent low ms
+    → Spent (hits_in v ms) v x (run_of p.deal (arrivals live sent low (length ms)) x)
+unfolding arrivals
+arrivals_give laws p live sent v low [] x r are = Spends-self 0 (voter_at x.voters v)
+arrivals_give laws p live sent v low (m ∷ ms) x r are =
+    let rest = arrivals live sent (low + 1) (length ms) in
     let y = next p.deal x (Deliver low) in
-    let z = run_of p.deal (each Deliver (low + 1) (length ms)) y in
-    Spends-then (hits v m) (hits_in v ms) (hits_in v (m ∷ ms)) (voter_at x.voters v) (voter_at y.voters v) (voter_at z.voters v) (omega arith)
-    (delivers laws p x low v m r are.0)
-    (each_gives laws p v (low + 1) ms y (IsSure-after p x r (Deliver low)) (are_still p (Deliver low ∷ []) x (low + 1) ms r are.1))
+    elim (is_between live (slice_get sent low)) as (λ b. Spent (hits_in v (m ∷ ms)) v x (run_of p.deal ((if b then Deliver low ∷ [] else []) ++ rest) x)) [
+      | true ↦ Spends-then (hits v m) (hits_in v ms) (hits_in v (m ∷ ms)) (voter_at x.voters v) (voter_at y.voters v) (voter_at (run_of p.deal rest y).voters v) (omega arith)
+          (delivers laws p x low v m r are.0)
+          (arrivals_give laws p live sent v (low + 1) ms y (IsSure-after p x r (Deliver low)) (are_still p (Deliver low ∷ []) x (low + 1) ms r are.1))
+      | false ↦ Spends-then 0 (hits_in v ms) (hits_in v (m ∷ ms)) (voter_at x.voters v) (voter_at x.voters v) (voter_at (run_of p.deal rest x).voters v) (omega arith)
+          (Spends-self 0 (voter_at x.voters v)) (arrivals_give laws p live sent v (low + 1) ms x r are.1)
+    ]
 
 -- ---- a message arrives, and then the replies to it
 
 -- a message of a reminder: no FAIL
-abbrev IsPlainBody : ClientBody → Type 0
+abbrev pub IsPlainBody : ClientBody → Type 0
 IsPlainBody (to_client.Locked stamp grant) = Unit {0}
 IsPlainBody (to_client.Fail stamp) = ⊥
 IsPlainBody (to_client.Inquire grant) = Unit {0}
 
-abbrev IsPlain : Message → Type 0
+abbrev pub IsPlain : Message → Type 0
 IsPlain (kinds.ToVoter m) = Unit {0}
 IsPlain (kinds.ToClient m) = IsPlainBody m.body
 
 -- 1 if the message is to this voter or from it, else 0
-abbrev meets : ℕ → Message → ℕ
+abbrev pub meets : ℕ → Message → ℕ
 meets v (kinds.ToVoter m) = one_at v m.voter
 meets v (kinds.ToClient m) = one_at v m.voter
 
-abbrev meets_in : ℕ → List Message → ℕ
+abbrev pub meets_in : ℕ → List Message → ℕ
 meets_in v [] = 0
 meets_in v (m ∷ ms) = meets v m + meets_in v ms
 
@@ -232,48 +238,55 @@ sends_client p x k v m r is plain =
     }
 
 -- the messages that were sent arrive
-replies_give : (laws : Laws) (p : Course) (n v : ℕ) (x y : WorldState) → IsSure p y → Sends n v x y → Spent n v y (run_of p.deal (each Deliver (length x.sent) (length y.sent - length x.sent)) y)
-replies_give laws p n v x y r s =
+replies_give : (laws : Laws) (p : Course) (live : Live) (n v : ℕ) (x y : WorldState) → IsSure p y → Sends n v x y → Spent n v y (run_of p.deal (arrivals live y.sent (length x.sent) (length y.sent - length x.sent)) y)
+replies_give laws p live n v x y r s =
     let count : length s.more ≡ length y.sent - length x.sent = (let long = ap length s.sent in let both = length-append x.sent s.more in omega arith) in
     let are : Are y.sent (length x.sent) s.more = subst (λ l. Are l (length x.sent) s.more) (sym s.sent) (are_new x.sent s.more) in
-    let gives = each_gives laws p v (length x.sent) s.more y r are in
-    let z = run_of p.deal (each Deliver (length x.sent) (length s.more)) y in
-    subst (λ k. Spent n v y (run_of p.deal (each Deliver (length x.sent) k) y)) count
+    let gives = arrivals_give laws p live y.sent v (length x.sent) s.more y r are in
+    let z = run_of p.deal (arrivals live y.sent (length x.sent) (length s.more)) y in
+    subst (λ k. Spent n v y (run_of p.deal (arrivals live y.sent (length x.sent) k) y)) count
     (record { granted = (let few = s.few in let most = gives.granted in omega arith); limit = gives.limit })
 
-answer_gives : (laws : Laws) (p : Course) (x : WorldState) (k v : ℕ) (m : Message) → IsSure p x → slice_get x.sent k ≡ Some m → IsPlain m
-    → Spent (meets v m) v x (run_of p.deal (answer p.deal x k) x)
+answer_gives : (laws : Laws) (p : Course) (live : Live) (x : WorldState) (k v : ℕ) (m : Message) → IsSure p x → slice_get x.sent k ≡ Some m → IsPlain m
+    → Spent (meets v m) v x (run_of p.deal (answer live p.deal x k) x)
 unfolding answer
-answer_gives laws p x k v (kinds.ToVoter m) r is plain =
+answer_gives laws p live x k v (kinds.ToVoter m) r is plain =
     let y = next p.deal x (Deliver k) in
     Spends-then (meets v (kinds.ToVoter m)) 0 (meets v (kinds.ToVoter m)) _ _ _ (omega arith) (delivers laws p x k v (kinds.ToVoter m) r is)
-    (replies_give laws p 0 v x y (IsSure-after p x r (Deliver k)) (sends_voter p.deal x k v m is))
-answer_gives laws p x k v (kinds.ToClient m) r is plain =
+    (replies_give laws p live 0 v x y (IsSure-after p x r (Deliver k)) (sends_voter p.deal x k v m is))
+answer_gives laws p live x k v (kinds.ToClient m) r is plain =
     let y = next p.deal x (Deliver k) in
     Spends-then 0 (meets v (kinds.ToClient m)) (meets v (kinds.ToClient m)) _ _ _ (omega arith) (delivers laws p x k v (kinds.ToClient m) r is)
-    (replies_give laws p (one_at v m.voter) v x y (IsSure-after p x r (Deliver k)) (sends_client p x k v m r is plain))
+    (replies_give laws p live (one_at v m.voter) v x y (IsSure-after p x r (Deliver k)) (sends_client p x k v m r is plain))
 
-answers_give : (laws : Laws) (p : Course) (v low : ℕ) (ms : List Message) (x : WorldState) → IsSure p x → Are x.sent low ms → AllByRecursion IsPlain ms
-    → Spent (meets_in v ms) v x (run_of p.deal (answer_all p.deal x low (length ms)) x)
+answer_if_gives : (laws : Laws) (p : Course) (live : Live) (b : Bool) (x : WorldState) (k v : ℕ) (m : Message) → IsSure p x → slice_get x.sent k ≡ Some m → IsPlain m
+    → Spent (meets v m) v x (run_of p.deal (answer_if b live p.deal x k) x)
+unfolding answer_if
+answer_if_gives laws p live true x k v m r is plain = answer_gives laws p live x k v m r is plain
+answer_if_gives laws p live false x k v m r is plain = Spends-self (meets v m) (voter_at x.voters v)
+
+answers_give : (laws : Laws) (p : Course) (live : Live) (sent : List Message) (v low : ℕ) (ms : List Message) (x : WorldState) → IsSure p x → Are x.sent low ms → AllByRecursion IsPlain ms
+    → Spent (meets_in v ms) v x (run_of p.deal (answer_all live p.deal sent x low (length ms)) x)
 unfolding answer_all
-answers_give laws p v low [] x r are plain = Spends-self 0 (voter_at x.voters v)
-answers_give laws p v low (m ∷ ms) x r are plain =
-    let first = answer p.deal x low in
+answers_give laws p live sent v low [] x r are plain = Spends-self 0 (voter_at x.voters v)
+answers_give laws p live sent v low (m ∷ ms) x r are plain =
+    let b = is_between live (slice_get sent low) in
+    let first = answer_if b live p.deal x low in
     let y = run_of p.deal first x in
-    let rest = answer_all p.deal y (low + 1) (length ms) in
+    let rest = answer_all live p.deal sent y (low + 1) (length ms) in
     subst (λ (z : WorldState). Spent (meets_in v (m ∷ ms)) v x z) (sym (run_then p.deal first rest x))
-    (Spends-then (meets v m) (meets_in v ms) (meets_in v (m ∷ ms)) _ _ _ (omega arith) (answer_gives laws p x low v m r are.0 plain.0)
-    (answers_give laws p v (low + 1) ms y (IsSure-run p first x r) (are_still p first x (low + 1) ms r are.1) plain.1))
+    (Spends-then (meets v m) (meets_in v ms) (meets_in v (m ∷ ms)) _ _ _ (omega arith) (answer_if_gives laws p live b x low v m r are.0 plain.0)
+    (answers_give laws p live sent v (low + 1) ms y (IsSure-run p first x r) (are_still p first x (low + 1) ms r are.1) plain.1))
 
 -- ---- a reminder
 
 -- what the reminder sends
-record Reminds (n v : ℕ) (x y : WorldState) : Type 0 where
-  more : List Message
-  sent : y.sent ≡ x.sent ++ more
-  voters : y.voters ≡ x.voters
-  plain : AllByRecursion IsPlain more
-  few : meets_in v more ≤ n
+pub record Reminds (n v : ℕ) (x y : WorldState) : Type 0 where
+  pub more : List Message
+  pub sent : y.sent ≡ x.sent ++ more
+  pub voters : y.voters ≡ x.voters
+  pub plain : AllByRecursion IsPlain more
+  pub few : meets_in v more ≤ n
 
 nothing : (n v : ℕ) (x : WorldState) → Reminds n v x x
 nothing n v x = record { more = []; sent = sym (append-nil x.sent); voters = refl; plain = tt; few = omega arith }
@@ -314,10 +327,10 @@ client_meets v x Asking set = (members_meet v 0 x (members x) set).0
 client_meets v x Inside set = omega arith
 
 fewer_if : (a b : Bool) → (a ≡ true → b ≡ true) → one_if a ≤ one_if b
-fewer_if true b then = (let one : one_if b ≡ 1 = ap one_if (then refl) in omega arith)
-fewer_if false b then = omega arith
+fewer_if true b so = (let one : one_if b ≡ 1 = ap one_if (so refl) in omega arith)
+fewer_if false b so = omega arith
 
-reminds_client : (p : Course) (among : ℕ → Bool) (x : WorldState) (c v : ℕ) → IsSure p x → AskAmong among x → Reminds (2 * one_if (among c)) v x (next p.deal x (RemindClient c))
+pub reminds_client : (p : Course) (among : ℕ → Bool) (x : WorldState) (c v : ℕ) → IsSure p x → AskAmong among x → Reminds (2 * one_if (among c)) v x (next p.deal x (RemindClient c))
 unfolding step requester.remind
 reminds_client p among x c v r ask = said (nat_lt c (length x.clients))
   where
@@ -343,7 +356,7 @@ voter_meets : (v : ℕ) (y : VoterState) (held : Option Grant) → AllByRecursio
 voter_meets v y None = (tt, omega arith)
 voter_meets v y (Some g) = again_meets v y g y.inquiring
 
-reminds_voter : (p : Course) (x : WorldState) (u v : ℕ) → IsSure p x → u < length x.voters → Reminds (2 * one_at v u) v x (next p.deal x (RemindVoter u))
+pub reminds_voter : (p : Course) (x : WorldState) (u v : ℕ) → IsSure p x → u < length x.voters → Reminds (2 * one_at v u) v x (next p.deal x (RemindVoter u))
 unfolding step voter.remind
 reminds_voter p x u v r within = said (nat_lt u (length x.voters))
   where
@@ -362,23 +375,32 @@ reminds_voter p x u v r within = said (nat_lt u (length x.voters))
         }
     said false = nothing (2 * one_at v u) v x
 
-remind_gives : (laws : Laws) (p : Course) (n v : ℕ) (x : WorldState) (s : Step) → IsSure p x → Reminds n v x (next p.deal x s) → Spent n v x (run_of p.deal (remind p.deal x s) x)
-unfolding remind
-remind_gives laws p n v x s r said =
+-- the reminder is made, then other steps are, and then its messages arrive
+pub said_gives : (laws : Laws) (p : Course) (live : Live) (n m v : ℕ) (x : WorldState) (s : Step) (others : List Step) → IsSure p x → Reminds n v x (next p.deal x s) → Spent m v (next p.deal x s) (run_of p.deal others (next p.deal x s))
+    → Spent (n + m) v x (run_of p.deal (answer_all live p.deal (next p.deal x s).sent (run_of p.deal others (next p.deal x s)) (length x.sent) (length (next p.deal x s).sent - length x.sent)) (run_of p.deal others (next p.deal x s)))
+said_gives laws p live n m v x s others r said spent =
     let y = next p.deal x s in
+    let u = run_of p.deal others y in
+    let ry = IsSure-after p x r s in
     let count : length said.more ≡ length y.sent - length x.sent = (let long = ap length said.sent in let both = length-append x.sent said.more in omega arith) in
     let are : Are y.sent (length x.sent) said.more = subst (λ l. Are l (length x.sent) said.more) (sym said.sent) (are_new x.sent said.more) in
-    let gives = answers_give laws p v (length x.sent) said.more y (IsSure-after p x r s) are said.plain in
+    let gives = answers_give laws p live y.sent v (length x.sent) said.more u (IsSure-run p others y ry) (are_still p others y (length x.sent) said.more ry are) said.plain in
     let few = said.few in
-    let z = run_of p.deal (answer_all p.deal y (length x.sent) (length said.more)) y in
-    let all : Spent n v y z = record { granted = (let most = gives.granted in omega arith); limit = gives.limit } in
-    subst (λ (vs : List VoterState). Spends n (voter_at vs v) (voter_at (run_of p.deal (answer_all p.deal y (length x.sent) (length y.sent - length x.sent)) y).voters v)) said.voters
-    (subst (λ k. Spent n v y (run_of p.deal (answer_all p.deal y (length x.sent) k) y)) count all)
+    let z = run_of p.deal (answer_all live p.deal y.sent u (length x.sent) (length said.more)) u in
+    let all : Spent (n + m) v y z = record { granted = (let most = gives.granted in let own = spent.granted in omega arith); limit = gives.limit ∙ spent.limit } in
+    subst (λ (vs : List VoterState). Spends (n + m) (voter_at vs v) (voter_at (run_of p.deal (answer_all live p.deal y.sent u (length x.sent) (length y.sent - length x.sent)) u).voters v)) said.voters
+    (subst (λ k. Spent (n + m) v y (run_of p.deal (answer_all live p.deal y.sent u (length x.sent) k) u)) count all)
+
+remind_gives : (laws : Laws) (p : Course) (live : Live) (n v : ℕ) (x : WorldState) (s : Step) → IsSure p x → Reminds n v x (next p.deal x s) → Spent n v x (run_of p.deal (remind live p.deal x s) x)
+unfolding remind
+remind_gives laws p live n v x s r said =
+    let gives = said_gives laws p live n 0 v x s [] r said (Spends-self 0 (voter_at (next p.deal x s).voters v)) in
+    record { granted = (let most = gives.granted in omega arith); limit = gives.limit }
 
 -- ---- reminders, one after the other
 
 -- how many of the n clients from this one on are among these
-abbrev count_from : (ℕ → Bool) → ℕ → ℕ → ℕ
+abbrev pub count_from : (ℕ → Bool) → ℕ → ℕ → ℕ
 count_from among low zero = 0
 count_from among low (suc n) = one_if (among low) + count_from among (low + 1) n
 
@@ -408,14 +430,14 @@ clients_give : (laws : Laws) (p : Course) (among : ℕ → Bool) (v low n : ℕ)
 unfolding remind_all each
 clients_give laws p among v low zero x r ask = Spends-self 0 (voter_at x.voters v)
 clients_give laws p among v low (suc n) x r ask =
-    let first = remind p.deal x (RemindClient low) in
+    let first = remind everybody p.deal x (RemindClient low) in
     let y = run_of p.deal first x in
     let rest = remind_all p.deal y (each RemindClient (low + 1) n) in
     let sent = length x.sent in
-    let ask_y = among_still laws p among sent first x r (remind_serves p.deal x (RemindClient low) sent tt (omega arith)) ask in
+    let ask_y = among_still laws p among sent first x r (remind_serves everybody p.deal x (RemindClient low) sent tt (omega arith)) ask in
     subst (λ (z : WorldState). Spent (2 * count_from among low (suc n)) v x z) (sym (run_then p.deal first rest x))
     (Spends-then (2 * one_if (among low)) (2 * count_from among (low + 1) n) (2 * count_from among low (suc n)) _ _ _ (omega arith)
-    (remind_gives laws p (2 * one_if (among low)) v x (RemindClient low) r (reminds_client p among x low v r ask))
+    (remind_gives laws p everybody (2 * one_if (among low)) v x (RemindClient low) r (reminds_client p among x low v r ask))
     (clients_give laws p among v (low + 1) n y (IsSure-run p first x r) ask_y))
 
 voters_give : (laws : Laws) (p : Course) (v low n : ℕ) (x : WorldState) → IsSure p x → low + n ≤ length x.voters
@@ -423,14 +445,14 @@ voters_give : (laws : Laws) (p : Course) (v low n : ℕ) (x : WorldState) → Is
 unfolding remind_all each
 voters_give laws p v low zero x r most = Spends-self 0 (voter_at x.voters v)
 voters_give laws p v low (suc n) x r most =
-    let first = remind p.deal x (RemindVoter low) in
+    let first = remind everybody p.deal x (RemindVoter low) in
     let y = run_of p.deal first x in
     let rest = remind_all p.deal y (each RemindVoter (low + 1) n) in
     let grows = Grows-run laws p first x r in
     let same = grows.voters in
     subst (λ (z : WorldState). Spent (2 * count_from (λ u. eqb u v) low (suc n)) v x z) (sym (run_then p.deal first rest x))
     (Spends-then (2 * one_at v low) (2 * count_from (λ u. eqb u v) (low + 1) n) (2 * count_from (λ u. eqb u v) low (suc n)) _ _ _ (omega arith)
-    (remind_gives laws p (2 * one_at v low) v x (RemindVoter low) r (reminds_voter p x low v r (omega arith)))
+    (remind_gives laws p everybody (2 * one_at v low) v x (RemindVoter low) r (reminds_voter p x low v r (omega arith)))
     (voters_give laws p v (low + 1) n y (IsSure-run p first x r) (omega arith)))
 
 reminders_then : (deal : Dealing) (a b : List Step) (x : WorldState)
@@ -438,7 +460,7 @@ reminders_then : (deal : Dealing) (a b : List Step) (x : WorldState)
 unfolding remind_all
 reminders_then deal [] b x = refl
 reminders_then deal (s ∷ a) b x =
-    let first = remind deal x s in
+    let first = remind everybody deal x s in
     let y = run_of deal first x in
     run_then deal first (remind_all deal y (a ++ b)) x ∙ reminders_then deal a b y
     ∙ ap (λ (z : WorldState). run_of deal (remind_all deal z b) z) (sym (run_then deal first (remind_all deal y a) x))

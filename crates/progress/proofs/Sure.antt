@@ -4,7 +4,7 @@ use Rattle.world.specs.Coherence.{IsCoherent}
 use Rattle.world_state.specs.declared.step.Step.{Step}
 use Rattle.world.specs.Runs.{IsReached, after, run_of, start_by}
 use Rattle.world_state.specs.Steps.{Dealing, Planned, WorldState, dealing_of, step, voter_at, client_at}
-use Rattle.progress.specs.LiveRounds.{AreOut, HasGrantsThere, Live}
+use Rattle.progress.specs.LiveRounds.{HasGrantsThere, Live}
 use Rattle.progress.specs.Rules.{Laws}
 use Rattle.progress.proofs.Fitting.{Fits, Fits-moved, Fits-start}
 use Rattle.progress.proofs.Kept.{IsKept-reached}
@@ -20,6 +20,10 @@ pub record Course : Type 0 where
   pub deal : Dealing
   pub old : ℕ → ℕ
   pub live : Live
+
+-- who is not live is idle in the world x, and has not asked anew in the world z: it has the same stamp there
+abbrev pub AreOut : Live → WorldState → WorldState → Type 0
+AreOut live x z = (c : ℕ) → live.client c ≡ false → (is_idle (client_at x.clients c).phase ≡ true) × ((client_at z.clients c).stamp ≡ (client_at x.clients c).stamp)
 
 -- each live voter has a grant left, and who is not live is idle
 pub record Serves (p : Course) (x : WorldState) : Type 0 where

@@ -18,6 +18,7 @@ use Rattle.world.specs.Runs.{IsReached, run_of}
 use Rattle.world_state.specs.Steps.{Dealing, Planned, WorldState, client_at, dealing_of, voter_at}
 use Rattle.world.proofs.Plans.{run_then}
 use Rattle.progress.specs.LiveRounds.{AreLiveRounds, IsLiveRound, Live, live_below}
+use Rattle.progress.specs.Moves.{of_steps}
 use Rattle.progress.specs.Overtaking.{IsKnownEverywhere, StillRuns}
 use Rattle.world.specs.Visible.{entries_of}
 use Rattle.progress.specs.Rounds.{DoesNotGiveUp, IsStill, give_ups_in, late_in, steps_of}
@@ -124,7 +125,7 @@ pub record Waits (p : Course) (c n m s : ℕ) (x : WorldState) : Type 0 where
 -- k blocks of rounds, in which the client c asks on, have k turns of clients under stamps up to its own, late
 -- REQUESTs or old grants that are given back
 abbrev pub HasTurns : Course → ℕ → ℕ → ℕ → ℕ → ℕ → WorldState → ℕ → List (List Step) → Type 0
-HasTurns p c n m s k x old rounds = AreLiveRounds p.live p.deal x rounds → Serving p x (run_of p.deal (steps_of rounds) x) → turns p.deal c (steps_of rounds) x ≡ 0
+HasTurns p c n m s k x old rounds = AreLiveRounds of_steps p.live p.deal x rounds → Serving p x (run_of p.deal (steps_of rounds) x) → turns p.deal c (steps_of rounds) x ≡ 0
     → k + olds_of p m (run_of p.deal (steps_of rounds) x) ≤ all_up_to p.deal s n (steps_of rounds) x + late_in p.deal old x rounds + olds_of p m x
 
 one_block : (laws : Laws) (p : Course) (c n m s size k : ℕ) → IsBlock p n size → (a b : List (List Step)) (x : WorldState) (old : ℕ) → Waits p c n m s x → length a ≡ size
@@ -201,7 +202,7 @@ still_turns laws p d (t ∷ steps) x r stamp asks =
     omega arith
 
 -- in more blocks than there are old grants somebody asks, enters or gives up
-pub moves_by : (laws : Laws) (p : Course) (w : WorldState) (c size k : ℕ) → IsBlock p (length w.clients) size → (rounds : List (List Step)) → AreOld p w → IsSure p w → Asks w c → AreLiveRounds p.live p.deal w rounds → late_in p.deal 0 w rounds ≡ 0
+pub moves_by : (laws : Laws) (p : Course) (w : WorldState) (c size k : ℕ) → IsBlock p (length w.clients) size → (rounds : List (List Step)) → AreOld p w → IsSure p w → Asks w c → AreLiveRounds of_steps p.live p.deal w rounds → late_in p.deal 0 w rounds ≡ 0
     → Serving p w (run_of p.deal (steps_of rounds) w) → olds_of p (length w.voters) w < k → k * size ≤ length rounds → IsStill w (run_of p.deal (steps_of rounds) w) → ⊥
 unfolding all_up_to
 moves_by laws p w c size k is rounds few r asks fair late left enough long still =
@@ -214,7 +215,7 @@ moves_by laws p w c size k is rounds few r asks fair late left enough long still
     let zeros = sum_below-zero n in
     omega arith
 
-pub live_move : Laws → (live : Live) (w : Planned) (c size : ℕ) → IsBlock (course_of live w) (length w.state.clients) size → (rounds : List (List Step)) → IsReached w → Asks w.state c → AreLiveRounds live (dealing_of w.plans) w.state rounds
+pub live_move : Laws → (live : Live) (w : Planned) (c size : ℕ) → IsBlock (course_of live w) (length w.state.clients) size → (rounds : List (List Step)) → IsReached w → Asks w.state c → AreLiveRounds of_steps live (dealing_of w.plans) w.state rounds
     → late_in (dealing_of w.plans) 0 w.state rounds ≡ 0 → Serving (course_of live w) w.state (run_of (dealing_of w.plans) (steps_of rounds) w.state) → size ≤ length rounds
     → IsStill w.state (run_of (dealing_of w.plans) (steps_of rounds) w.state) → ⊥
 live_move laws live w c size is rounds reached asks fair late left long still =
@@ -297,7 +298,7 @@ entered_live laws p steps x more r serving visible d some = by (p.live.client d)
     by false dead = (let few = entries_most laws p steps x more r visible d in let none = out_turns laws p d steps x r serving dead in absurd (omega arith))
 
 -- t blocks are enough
-pub somebody_by : (laws : Laws) (p : Course) (w : WorldState) (c size t : ℕ) → IsBlock p (length w.clients) size → (rounds : List (List Step)) (more : List Event) → AreOld p w → IsSure p w → Asks w c → AreLiveRounds p.live p.deal w rounds
+pub somebody_by : (laws : Laws) (p : Course) (w : WorldState) (c size t : ℕ) → IsBlock p (length w.clients) size → (rounds : List (List Step)) (more : List Event) → AreOld p w → IsSure p w → Asks w c → AreLiveRounds of_steps p.live p.deal w rounds
     → DoesNotGiveUp c (steps_of rounds) → Serving p w (run_of p.deal (steps_of rounds) w)
     → live_below p.live (length w.clients) + 2 * give_ups_in (steps_of rounds) + late_in p.deal 0 w rounds + olds_of p (length w.voters) w ≤ t → size * t ≤ length rounds
     → (run_of p.deal (steps_of rounds) w).visible ≡ w.visible ++ more → (d : ℕ) × (p.live.client d ≡ true) × (1 ≤ entries_of d more)
@@ -319,7 +320,7 @@ somebody_by laws p w c size t is rounds more few r asks fair stays left enough l
           absurd (omega arith)
     ]
 
-pub live_somebody : Laws → (live : Live) (w : Planned) (c size : ℕ) → IsBlock (course_of live w) (length w.state.clients) size → (rounds : List (List Step)) (more : List Event) → IsReached w → Asks w.state c → AreLiveRounds live (dealing_of w.plans) w.state rounds
+pub live_somebody : Laws → (live : Live) (w : Planned) (c size : ℕ) → IsBlock (course_of live w) (length w.state.clients) size → (rounds : List (List Step)) (more : List Event) → IsReached w → Asks w.state c → AreLiveRounds of_steps live (dealing_of w.plans) w.state rounds
     → DoesNotGiveUp c (steps_of rounds) → Serving (course_of live w) w.state (run_of (dealing_of w.plans) (steps_of rounds) w.state)
     → size * (live_below live (length w.state.clients) + 2 * give_ups_in (steps_of rounds) + late_in (dealing_of w.plans) 0 w.state rounds) ≤ length rounds
     → (run_of (dealing_of w.plans) (steps_of rounds) w.state).visible ≡ w.state.visible ++ more → (d : ℕ) × (live.client d ≡ true) × (1 ≤ entries_of d more)
@@ -369,7 +370,7 @@ pub record AsksAfter (p : Course) (x : WorldState) (c : ℕ) (r rest : List Step
   pub known : IsKnownEverywhere (run_of p.deal r x) c
   pub runs : StillRuns (run_of p.deal r x) (run_of p.deal rest (run_of p.deal r x)) c
 
-pub asks_after : (laws : Laws) (p : Course) (x : WorldState) (c : ℕ) (r rest : List Step) (more : List Event) → IsSure p x → Heeds c x → Asks x c → IsLiveRound p.live p.deal x r
+pub asks_after : (laws : Laws) (p : Course) (x : WorldState) (c : ℕ) (r rest : List Step) (more : List Event) → IsSure p x → Heeds c x → Asks x c → IsLiveRound of_steps p.live p.deal x r
     → own_give_ups c (r ++ rest) ≡ 0 → Serving p x (run_of p.deal (r ++ rest) x) → (run_of p.deal (r ++ rest) x).visible ≡ x.visible ++ more → entries_of c more ≡ 0 → AsksAfter p x c r rest
 asks_after laws p x c r rest more reached heeded asks fair stays left visible none =
     let deal = p.deal in

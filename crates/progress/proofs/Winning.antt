@@ -31,6 +31,7 @@ use Rattle.world.specs.Runs.{run_of}
 use Rattle.world_state.specs.Steps.{WorldState, client_at, voter_at}
 use Rattle.world.proofs.Plans.{run_then}
 use Rattle.progress.specs.LiveRounds.{AreLiveRounds, IsReminded}
+use Rattle.progress.specs.Moves.{of_steps}
 use Rattle.progress.specs.Rounds.{steps_of}
 use Rattle.progress.specs.Rules.{Laws}
 use Rattle.progress.proofs.Ahead.{NotBehind, not_behind_kept}
@@ -277,7 +278,7 @@ ClearRounds p w m [] x = Clear p w m x
 ClearRounds p w m (r ∷ rs) x = Along (Clear p w m) (Quietly p w m) p.deal r x × ClearRounds p w m rs (run_of p.deal r x)
 
 won_after : (laws : Laws) (p : Course) (w : WorldState) (m v : ℕ) → Seeks p w (Only m) m v → (g : Grant) → (round : List Step) (x : WorldState) → Along (Clear p w m) (Quietly p w m) p.deal round x
-    → IsReminded p.live p.deal x round (RemindVoter v) → IsIts m v g x → HasWon m v g (run_of p.deal round x)
+    → IsReminded of_steps p.live p.deal x round (RemindVoter v) → IsIts m v g x → HasWon m v g (run_of p.deal round x)
 won_after laws p w m v f g round x all fair h =
     let deal = p.deal in
     let D = Only m in
@@ -307,7 +308,7 @@ won_rounds laws p w m v f g (r ∷ rs) x all h =
     ap (λ (u : WorldState). holds (client_at u.clients m) v) (run_then deal r (steps_of rs) x) ∙ won_rounds laws p w m v f g rs (run_of deal r x) all.1 end
 
 its_rounds : (laws : Laws) (p : Course) (w : WorldState) (m v : ℕ) → Seeks p w (Only m) m v → (g : Grant) → (rounds : List (List Step)) (x : WorldState) → ClearRounds p w m rounds x
-    → AreLiveRounds p.live p.deal x rounds → 1 ≤ length rounds → IsIts m v g x → holds (client_at (run_of p.deal (steps_of rounds) x).clients m) v ≡ true
+    → AreLiveRounds of_steps p.live p.deal x rounds → 1 ≤ length rounds → IsIts m v g x → holds (client_at (run_of p.deal (steps_of rounds) x).clients m) v ≡ true
 its_rounds laws p w m v f g [] x all fair some h = absurd (omega arith)
 its_rounds laws p w m v f g (r ∷ rs) x all fair some h =
     let deal = p.deal in
@@ -317,7 +318,7 @@ its_rounds laws p w m v f g (r ∷ rs) x all fair some h =
 
 -- it has the vote after as many rounds as there are clients with older requests, and one more
 pub wins : (laws : Laws) (p : Course) (w : WorldState) (m v : ℕ) → Seeks p w (Only m) m v → (rounds : List (List Step)) (x : WorldState) (alive : List ℕ) → ClearRounds p w m rounds x
-    → AreLiveRounds p.live p.deal x rounds → length alive < length rounds → OwnStage Never m v x → NotBehind w m v x → OldsAmong w m v alive x
+    → AreLiveRounds of_steps p.live p.deal x rounds → length alive < length rounds → OwnStage Never m v x → NotBehind w m v x → OldsAmong w m v alive x
     → holds (client_at (run_of p.deal (steps_of rounds) x).clients m) v ≡ true
 wins laws p w m v f [] x alive all fair less stage ahead olds = absurd (omega arith)
 wins laws p w m v f (r ∷ rs) x alive all fair less stage ahead olds =

@@ -1,6 +1,7 @@
 pub mod AfterLosses
 pub mod LiveRounds
 pub mod LostVotes
+pub mod Moves
 pub mod Overtaking
 pub mod Patience
 pub mod Rounds

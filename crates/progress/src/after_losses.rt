@@ -2,13 +2,11 @@
 ghost use Rattle.std.specs.Prelude.{◌≡◌, ◌≤◌, ◌+◌, ◌*◌, ◌++◌, ℕ, List, length, true};
 ghost use Rattle.progress.specs.AfterLosses.{AskedSince, IsHeard, IsReachedAfterLosses};
 ghost use Rattle.world.specs.Visible.{entries_of};
-ghost use Rattle.progress.specs.LiveRounds.{AreLiveRounds, AreOut, HasGrantsThere, Live, live_below};
-ghost use Rattle.progress.specs.Patience.{hasty_in};
-ghost use Rattle.progress.specs.Rounds.{DoesNotGiveUp, give_ups_in, late_in, steps_of};
+ghost use Rattle.progress.specs.LiveRounds.{AreGone, AreLiveRounds, HasGrantsThere, Live, SparesLive, live_below};
+ghost use Rattle.progress.specs.Moves.{Move, hasty_among, late_among, moved, moves_of, of_moves, steps_among};
+ghost use Rattle.progress.specs.Rounds.{DoesNotGiveUp, give_ups_in};
 ghost use Rattle.world.specs.WayIn.{Asks};
 ghost use Rattle.world_state.specs.declared.step.Event.{Event};
-ghost use Rattle.world_state.specs.declared.step.Step.{Step};
-ghost use Rattle.world.specs.Runs.{run_of};
 ghost use Rattle.world.specs.Waiting.{live_block};
 ghost use Rattle.world_state.specs.Steps.{Dealing, WorldState};
 
@@ -23,10 +21,11 @@ use world::parts_keep_their_rules;
 /// asked for its vote: each voter may waste one block of n + 9 rounds. Each voter has to have a grant left
 /// at the end.
 pub fn live_rounds_let_somebody_in_after_losses()
-    ensures { (live : Live) (deal : Dealing) (w : WorldState) (c : ℕ) (rounds : List (List Step)) (more : List Event) → IsReachedAfterLosses deal w → Asks w c
-        → AreLiveRounds live deal w rounds → DoesNotGiveUp c (steps_of rounds) → AreOut live w (run_of deal (steps_of rounds) w) → HasGrantsThere live 1 (run_of deal (steps_of rounds) w)
-        → live_block (length w.clients) * (live_below live (length w.clients) + 2 * give_ups_in (steps_of rounds) + late_in deal 0 w rounds + length w.voters) ≤ length rounds
-        → (run_of deal (steps_of rounds) w).visible ≡ w.visible ++ more
+    ensures { (live : Live) (deal : Dealing) (w : WorldState) (c : ℕ) (rounds : List (List Move)) (more : List Event) → IsReachedAfterLosses deal w → live.client c ≡ true → Asks w c
+        → AreLiveRounds of_moves live deal w rounds → DoesNotGiveUp c (steps_among (moves_of rounds)) → AreGone live deal w (moves_of rounds) → SparesLive live deal w (moves_of rounds)
+        → HasGrantsThere live 1 (moved deal (moves_of rounds) w)
+        → live_block (length w.clients) * (live_below live (length w.clients) + 2 * give_ups_in (steps_among (moves_of rounds)) + late_among deal 0 w rounds + length w.voters) ≤ length rounds
+        → (moved deal (moves_of rounds) w).visible ≡ w.visible ++ more
         → (d : ℕ) × (live.client d ≡ true) × (1 ≤ entries_of d more) }
 {
     worlds_keep_their_rules();
@@ -41,10 +40,11 @@ pub fn live_rounds_let_somebody_in_after_losses()
 /// after the last crash, restart and loss ([`new_requests_are_heard`]). The rounds themselves are without
 /// crashes. Each voter has to have a grant left at the end.
 pub fn live_rounds_let_everybody_in_after_losses()
-    ensures { (live : Live) (deal : Dealing) (w : WorldState) (c : ℕ) (rounds : List (List Step)) (more : List Event) → IsReachedAfterLosses deal w → IsHeard w c → Asks w c
-        → AreLiveRounds live deal w rounds → DoesNotGiveUp c (steps_of rounds) → AreOut live w (run_of deal (steps_of rounds) w) → HasGrantsThere live 1 (run_of deal (steps_of rounds) w)
-        → live_block (length w.clients) * (3 * live_below live (length w.clients) + 2 * hasty_in deal w rounds + late_in deal 0 w rounds + length w.voters) ≤ length rounds
-        → (run_of deal (steps_of rounds) w).visible ≡ w.visible ++ more
+    ensures { (live : Live) (deal : Dealing) (w : WorldState) (c : ℕ) (rounds : List (List Move)) (more : List Event) → IsReachedAfterLosses deal w → live.client c ≡ true → IsHeard w c → Asks w c
+        → AreLiveRounds of_moves live deal w rounds → DoesNotGiveUp c (steps_among (moves_of rounds)) → AreGone live deal w (moves_of rounds) → SparesLive live deal w (moves_of rounds)
+        → HasGrantsThere live 1 (moved deal (moves_of rounds) w)
+        → live_block (length w.clients) * (3 * live_below live (length w.clients) + 2 * hasty_among deal w rounds + late_among deal 0 w rounds + length w.voters) ≤ length rounds
+        → (moved deal (moves_of rounds) w).visible ≡ w.visible ++ more
         → 1 ≤ entries_of c more }
 {
     worlds_keep_their_rules();

@@ -2,8 +2,9 @@
 ghost use Rattle.std.specs.Prelude.{◌≡◌, ◌≢◌, ◌≤◌, ◌+◌, ◌*◌, ◌++◌, ℕ, List, length, true};
 ghost use Rattle.progress.specs.LostVotes.{ComesBack, GoesOn, HasLostVote, HasReturnedVote};
 ghost use Rattle.progress.specs.Overtaking.{IsKnownEverywhere, StillRuns};
-ghost use Rattle.world.specs.Visible.{entries_of};
-ghost use Rattle.progress.specs.LiveRounds.{AreLiveRounds, AreOut, HasGrantsThere, Live, live_below};
+ghost use Rattle.world.specs.Visible.{DealsFrom, DoMeet, entries_of};
+ghost use Rattle.progress.specs.LiveRounds.{AreGone, AreLiveRounds, HasGrantsThere, Live, SparesLive, live_below};
+ghost use Rattle.progress.specs.Moves.{Move, hasty_among, late_among, moved, moves_of, of_moves, of_steps, steps_among};
 ghost use Rattle.progress.specs.Patience.{hasty_in};
 ghost use Rattle.progress.specs.Rounds.{AreFairRounds, DoesNotGiveUp, IsFairRound, IsStill, IsTimely, give_ups_in, grants_for, late_in, steps_of};
 ghost use Rattle.progress.specs.Rules.{Laws};
@@ -15,6 +16,8 @@ ghost use Rattle.world.specs.Runs.{IsReached, run_of};
 ghost use Rattle.world.specs.Waiting.{block, bound, live_block, patient_bound};
 ghost use Rattle.world_state.specs.Steps.{Dealing, Planned, WorldState, dealing_of};
 
+use dealer::tickets_name_quorums;
+use quorum_set::{bridges_meet, coteries_meet};
 use requester::{
     clocks_never_fall, hindered_clients_give_votes_back, messages_are_in_range,
     messages_move_votes, old_votes_go_back, phases_show_refusals, phases_show_votes,
@@ -26,7 +29,7 @@ use voter::{
     voters_meet_the_contract, voters_with_grants_take_messages, votes_are_asked_back,
     votes_given_back_go_on, votes_go_to_the_first,
 };
-use world::worlds_stay_coherent;
+use world::{parts_keep_their_rules, worlds_stay_coherent};
 
 /// The rules that clients, voters and worlds keep: all that proofs of progress use of them.
 pub fn worlds_keep_their_rules()
@@ -163,58 +166,80 @@ pub fn rounds_may_be_longer()
 /// Fair rounds are live rounds, if everybody is live: then nobody is stuck, and nothing is dropped.
 pub fn fair_rounds_are_live_rounds()
     ensures { (live : Live) (deal : Dealing) (w : WorldState) (rounds : List (List Step)) → ((c : ℕ) → live.client c ≡ true) → ((v : ℕ) → live.voter v ≡ true)
-        → AreFairRounds deal w rounds → AreLiveRounds live deal w rounds }
+        → AreFairRounds deal w rounds → AreLiveRounds of_steps live deal w rounds }
 {}
 
-/// If a client asks, somebody asks, enters or gives up within n + 9 live rounds, for n clients, while any voters
-/// are down and any clients are out: nothing stands still for longer.
-///
-/// A live round is a fair round of the clients and of the voters that are live. Clients that wait for a voter that
-/// is down end their request in it. A live voter whose grant is of a client that is not live drops that request.
-/// Clients that are not live are idle, and do not ask: they gave up before. Messages of theirs may still come. No
-/// REQUEST may come late, and each live voter has to have a grant left at the end.
-pub fn live_rounds_move_somebody()
-    ensures { (live : Live) (w : Planned) (c : ℕ) (rounds : List (List Step)) → IsReached w → Asks w.state c
-        → AreLiveRounds live (dealing_of w.plans) w.state rounds → late_in (dealing_of w.plans) 0 w.state rounds ≡ 0
-        → AreOut live w.state (run_of (dealing_of w.plans) (steps_of rounds) w.state) → HasGrantsThere live 1 (run_of (dealing_of w.plans) (steps_of rounds) w.state)
-        → live_block (length w.state.clients) ≤ length rounds
-        → IsStill w.state (run_of (dealing_of w.plans) (steps_of rounds) w.state) → ⊥ }
+/// The quorums that the tickets of a world stand for meet.
+fn tickets_deal_quorums_that_meet()
+    ensures { (w : Planned) → IsReached w
+        → (quorums : List (List ℕ)) × DoMeet w.plans.first.system.voters quorums × DealsFrom quorums (dealing_of w.plans) }
 {
-    worlds_keep_their_rules();
+    coteries_meet();
+    bridges_meet();
+    tickets_name_quorums();
 }
 
-/// If a client asks and does not give up, a live client enters within (n + 9) * (c + 2 g + l) live rounds, for n
-/// clients, c of them live, g withdrawals of others and l arrivals of late REQUESTs.
+/// If a live client asks, somebody asks, enters or gives up within n + 9 live rounds, for n clients, while any
+/// voters are down, and any clients are out or dead: nothing stands still for longer.
+///
+/// A live round is a fair round of the clients and of the voters that are live. Clients that wait for a voter that
+/// is down end their request in it. A live voter whose grant is of a client that is not live drops that request,
+/// for instance by an eviction: it lets the grant go. A client that is not live is out, if it is idle and does not
+/// ask. Or it is dead: whether it asks, is inside or is idle, it does nothing. Messages that it sent before may
+/// still come. No REQUEST may come late, and each live voter has to have a grant left at the end.
+pub fn live_rounds_move_somebody()
+    ensures { (live : Live) (w : Planned) (c : ℕ) (rounds : List (List Move)) → IsReached w → live.client c ≡ true → Asks w.state c
+        → AreLiveRounds of_moves live (dealing_of w.plans) w.state rounds → late_among (dealing_of w.plans) 0 w.state rounds ≡ 0
+        → AreGone live (dealing_of w.plans) w.state (moves_of rounds) → SparesLive live (dealing_of w.plans) w.state (moves_of rounds)
+        → HasGrantsThere live 1 (moved (dealing_of w.plans) (moves_of rounds) w.state)
+        → live_block (length w.state.clients) ≤ length rounds
+        → IsStill w.state (moved (dealing_of w.plans) (moves_of rounds) w.state) → ⊥ }
+{
+    worlds_keep_their_rules();
+    parts_keep_their_rules();
+    tickets_deal_quorums_that_meet();
+}
+
+/// If a live client asks and does not give up, a live client enters within (n + 9) * (c + 2 g + l) live rounds,
+/// for n clients, c of them live, g withdrawals of others and l arrivals of late REQUESTs, while any voters are
+/// down, and any clients are out or dead.
 pub fn live_rounds_let_somebody_in()
-    ensures { (live : Live) (w : Planned) (c : ℕ) (rounds : List (List Step)) (more : List Event) → IsReached w → Asks w.state c
-        → AreLiveRounds live (dealing_of w.plans) w.state rounds → DoesNotGiveUp c (steps_of rounds)
-        → AreOut live w.state (run_of (dealing_of w.plans) (steps_of rounds) w.state) → HasGrantsThere live 1 (run_of (dealing_of w.plans) (steps_of rounds) w.state)
+    ensures { (live : Live) (w : Planned) (c : ℕ) (rounds : List (List Move)) (more : List Event) → IsReached w → live.client c ≡ true → Asks w.state c
+        → AreLiveRounds of_moves live (dealing_of w.plans) w.state rounds → DoesNotGiveUp c (steps_among (moves_of rounds))
+        → AreGone live (dealing_of w.plans) w.state (moves_of rounds) → SparesLive live (dealing_of w.plans) w.state (moves_of rounds)
+        → HasGrantsThere live 1 (moved (dealing_of w.plans) (moves_of rounds) w.state)
         → live_block (length w.state.clients)
-        * (live_below live (length w.state.clients) + 2 * give_ups_in (steps_of rounds) + late_in (dealing_of w.plans) 0 w.state rounds)
+        * (live_below live (length w.state.clients) + 2 * give_ups_in (steps_among (moves_of rounds)) + late_among (dealing_of w.plans) 0 w.state rounds)
         ≤ length rounds
-        → (run_of (dealing_of w.plans) (steps_of rounds) w.state).visible ≡ w.state.visible ++ more
+        → (moved (dealing_of w.plans) (moves_of rounds) w.state).visible ≡ w.state.visible ++ more
         → (d : ℕ) × (live.client d ≡ true) × (1 ≤ entries_of d more) }
 {
     worlds_keep_their_rules();
+    parts_keep_their_rules();
+    tickets_deal_quorums_that_meet();
 }
 
-/// Whoever asks gets in, while any voters are down and any clients are out: a client that asks, and does not give
-/// up, enters within (n + 9) * (3 c + 2 h + l) live rounds, for n clients, c of them live, h hasty withdrawals and
-/// l arrivals of late REQUESTs.
+/// Whoever is live and asks gets in, while any voters are down, and any clients are out or dead: a live client that
+/// asks, and does not give up, enters within (n + 9) * (3 c + 2 h + l) live rounds, for n clients, c of them live,
+/// h hasty withdrawals and l arrivals of late REQUESTs.
 ///
 /// Who asks a voter that is down, and does not have its vote, ends that request in the round, and may ask another
-/// quorum. Such a withdrawal is hasty if its request did not run for two whole rounds.
+/// quorum. Such a withdrawal is hasty if its request did not run for two whole rounds. Who is dead may have died
+/// while it asked or was inside: it makes no step, and its grants are let go, at any time in the rounds.
 pub fn live_rounds_let_everybody_in()
-    ensures { (live : Live) (w : Planned) (c : ℕ) (rounds : List (List Step)) (more : List Event) → IsReached w → Asks w.state c
-        → AreLiveRounds live (dealing_of w.plans) w.state rounds → DoesNotGiveUp c (steps_of rounds)
-        → AreOut live w.state (run_of (dealing_of w.plans) (steps_of rounds) w.state) → HasGrantsThere live 1 (run_of (dealing_of w.plans) (steps_of rounds) w.state)
+    ensures { (live : Live) (w : Planned) (c : ℕ) (rounds : List (List Move)) (more : List Event) → IsReached w → live.client c ≡ true → Asks w.state c
+        → AreLiveRounds of_moves live (dealing_of w.plans) w.state rounds → DoesNotGiveUp c (steps_among (moves_of rounds))
+        → AreGone live (dealing_of w.plans) w.state (moves_of rounds) → SparesLive live (dealing_of w.plans) w.state (moves_of rounds)
+        → HasGrantsThere live 1 (moved (dealing_of w.plans) (moves_of rounds) w.state)
         → live_block (length w.state.clients)
-        * (3 * live_below live (length w.state.clients) + 2 * hasty_in (dealing_of w.plans) w.state rounds + late_in (dealing_of w.plans) 0 w.state rounds)
+        * (3 * live_below live (length w.state.clients) + 2 * hasty_among (dealing_of w.plans) w.state rounds + late_among (dealing_of w.plans) 0 w.state rounds)
         ≤ length rounds
-        → (run_of (dealing_of w.plans) (steps_of rounds) w.state).visible ≡ w.state.visible ++ more
+        → (moved (dealing_of w.plans) (moves_of rounds) w.state).visible ≡ w.state.visible ++ more
         → 1 ≤ entries_of c more }
 {
     worlds_keep_their_rules();
+    parts_keep_their_rules();
+    tickets_deal_quorums_that_meet();
 }
 
 /// If a client asks, somebody asks, enters or gives up within n + 8 fair rounds, for n clients: nothing

@@ -1,9 +1,8 @@
-use Rattle.std.proofs.Common.{length}
-use Rattle.world.specs.Waiting.{live_block}
-use Rattle.progress.proofs.Blocks.{live_is_block}
-use Rattle.progress.proofs.Waiting.{live_move}
+use Rattle.std.proofs.Common.{arith}
+use Rattle.progress.proofs.Shaded.{moves_somebody, reached_olds, reached_runs}
 use Rattle.progress.proofs.Sure.{course_of}
 use Rattle.progress.proofs.laws.live_rounds_move_somebody.Goals as goal
 
 pub returns : goal.returns
-returns c live w k rounds reached asks fair late out left = live_move c.worlds_keep_their_rules.ensures live w k (live_block (length w.state.clients)) (live_is_block c.worlds_keep_their_rules.ensures (course_of live w) (length w.state.clients)) rounds reached asks fair late (record { grants = left; out = out })
+returns c live w k rounds reached lives asks fair late gone spares left long = moves_somebody c.worlds_keep_their_rules.ensures (course_of live w) w.state k 0 rounds
+    (reached_runs c.worlds_keep_their_rules.ensures c.parts_keep_their_rules.ensures.clients c.parts_keep_their_rules.ensures.voters c.tickets_deal_quorums_that_meet.ensures live w rounds reached fair gone spares left) (reached_olds live w) lives asks late (omega arith)
