@@ -1,11 +1,11 @@
 -- A row as six numbers of 64 bits.
 use Rattle.std.specs.Prelude.{ℕ, ◌≤◌, ◌/◌, ◌%◌, ◌^◌, List, [], ◌∷◌, Option, Some, None}
 use Rattle.numbers.specs.Bounds.{max_limit}
-use Rattle.sessions.specs.Rows.{IsSound, Row}
+use Rattle.sessions.specs.Rows.{Row}
 
--- a row whose stamps are within the limit
+-- a row whose base is within what is reserved, and that within the limit
 pub record IsBounded (r : Row) : Type 0 where
-  pub sound : IsSound r
+  pub sound : r.base ≤ r.reserved
   pub few : r.reserved ≤ max_limit
 
 -- 1, and the session's upper and lower half; three times 0 if nobody has the number

@@ -4,7 +4,7 @@ use Rattle.std.specs.Prelude.{◌==◌, ◌&&◌, max, nat_le, nat_lt, if◌then
 use Rattle.std.proofs.lemmas.Bool.{and_parts, false≢true}
 use Rattle.std.proofs.lemmas.Option.{none-some, same_Some}
 use Rattle.std.proofs.lemmas.Bool.Decides.{nat_tests}
-use Rattle.sessions.specs.Rows.{AreOnce, Claim, Close, Crash, Deed, Drop, IsOneOf, IsSound, Request, Reserve, Row, Save, Use, Voter, begin, claimed, closed, does, does_all, dropped, has_number, is_name, is_taken, reserved}
+use Rattle.sessions.specs.Rows.{AreOnce, Claim, Close, Crash, Deed, Drop, IsOneOf, Request, Reserve, Row, Save, Use, Voter, begin, claimed, closed, does, does_all, dropped, has_number, is_name, is_taken, reserved}
 
 pub at_least : (a c m : ℕ) → m ≡ max a c → (a ≤ m) × (c ≤ m)
 at_least a c m e = (omega arith, omega arith)
@@ -13,6 +13,7 @@ at_least a c m e = (omega arith, omega arith)
 pub record IsPast (a b : Row) : Type 0 where
   pub older : a.epoch < b.epoch
   pub below : a.reserved ≤ b.base
+  pub grows : a.reserved ≤ b.reserved
 
 -- the number had the same session then
 pub record IsSame (a b : Row) : Type 0 where
@@ -34,15 +35,16 @@ Before a b = IsPast a b ⊎ (IsSame a b ⊎ IsFree a b)
 pub unchanged : (r : Row) → Before r r
 unchanged r = inr (inl (record { epoch = refl; session = refl; base = refl; grows = omega arith }))
 
-after_past : (a b c : Row) → IsSound b → IsPast a b → Before b c → Before a c
-after_past a b c sound p bc =
+after_past : (a b c : Row) → IsPast a b → Before b c → Before a c
+after_past a b c p bc =
     let older = p.older in
     let below = p.below in
+    let grows = p.grows in
     elim bc [
-      | inl q ↦ (let more = q.older in let past = q.below in inl (record { older = omega arith; below = omega arith }))
+      | inl q ↦ (let more = q.older in let past = q.below in let up = q.grows in inl (record { older = omega arith; below = omega arith; grows = omega arith }))
       | inr rest ↦ elim rest [
-        | inl q ↦ (let same = q.epoch in let base = q.base in inl (record { older = omega arith; below = omega arith }))
-        | inr q ↦ (let more = q.older in let grows = q.grows in inr (inr (record { nobody = q.nobody; older = omega arith; grows = omega arith })))
+        | inl q ↦ (let same = q.epoch in let base = q.base in let up = q.grows in inl (record { older = omega arith; below = omega arith; grows = omega arith }))
+        | inr q ↦ (let more = q.older in let up = q.grows in inr (inr (record { nobody = q.nobody; older = omega arith; grows = omega arith })))
       ]
     ]
 
@@ -52,7 +54,7 @@ after_same a b c p bc =
     let base = p.base in
     let grows = p.grows in
     elim bc [
-      | inl q ↦ (let more = q.older in let past = q.below in inl (record { older = omega arith; below = omega arith }))
+      | inl q ↦ (let more = q.older in let past = q.below in let up = q.grows in inl (record { older = omega arith; below = omega arith; grows = omega arith }))
       | inr rest ↦ elim rest [
         | inl q ↦ (let more = q.grows in inr (inl (record { epoch = p.epoch ∙ q.epoch; session = p.session ∙ q.session; base = p.base ∙ q.base; grows = omega arith })))
         | inr q ↦ (let more = q.older in let further = q.grows in inr (inr (record { nobody = q.nobody; older = omega arith; grows = omega arith })))
@@ -64,59 +66,56 @@ after_free a b c p bc =
     let older = p.older in
     let grows = p.grows in
     elim bc [
-      | inl q ↦ (let more = q.older in let past = q.below in inl (record { older = omega arith; below = omega arith }))
+      | inl q ↦ (let more = q.older in let past = q.below in let up = q.grows in inl (record { older = omega arith; below = omega arith; grows = omega arith }))
       | inr rest ↦ elim rest [
         | inl q ↦ (let same = q.epoch in let more = q.grows in inr (inr (record { nobody = sym q.session ∙ p.nobody; older = omega arith; grows = omega arith })))
         | inr q ↦ (let more = q.older in let further = q.grows in inr (inr (record { nobody = q.nobody; older = omega arith; grows = omega arith })))
       ]
     ]
 
-pub further : (a b c : Row) → IsSound b → Before a b → Before b c → Before a c
-further a b c sound ab bc = elim ab [
-  | inl p ↦ after_past a b c sound p bc
+pub further : (a b c : Row) → Before a b → Before b c → Before a c
+further a b c ab bc = elim ab [
+  | inl p ↦ after_past a b c p bc
   | inr rest ↦ elim rest [
     | inl p ↦ after_same a b c p bc
     | inr p ↦ after_free a b c p bc
   ]
 ]
 
--- what a step makes of a row is sound, and the row was before it
-pub record Goes (a b : Row) : Type 0 where
-  pub sound : IsSound b
-  pub before : Before a b
+-- each step: the row was before what it makes of it
 
-claim_goes : (r : Row) (session epoch : ℕ) (t : Bool) → nat_lt r.epoch epoch ≡ t → IsSound r
-    → Goes r (if t then record { epoch = epoch; session = Some session; base = r.reserved; reserved = r.reserved } else r)
-claim_goes r session epoch false e sound = record { sound = sound; before = unchanged r }
-claim_goes r session epoch true e sound =
+claim_goes : (r : Row) (session epoch : ℕ) (t : Bool) → nat_lt r.epoch epoch ≡ t
+    → Before r (if t then record { epoch = epoch; session = Some session; base = r.reserved; reserved = r.reserved } else r)
+claim_goes r session epoch false e = unchanged r
+claim_goes r session epoch true e =
     let newer : r.epoch < epoch = grind (arith, nat_tests) in
-    record { sound = omega arith; before = inl (record { older = newer; below = omega arith }) }
+    inl (record { older = newer; below = omega arith; grows = omega arith })
 
-pub claimed_goes : (r : Row) (session epoch : ℕ) → IsSound r → Goes r (claimed r session epoch)
-claimed_goes r session epoch sound = claim_goes r session epoch (nat_lt r.epoch epoch) refl sound
+pub claimed_goes : (r : Row) (session epoch : ℕ) → Before r (claimed r session epoch)
+claimed_goes r session epoch = claim_goes r session epoch (nat_lt r.epoch epoch) refl
 
-reserve_goes : (r : Row) (stamp : ℕ) (t : Bool) → IsSound r
-    → Goes r (if t then record { epoch = r.epoch; session = r.session; base = r.base; reserved = max r.reserved stamp } else r)
-reserve_goes r stamp false sound = record { sound = sound; before = unchanged r }
-reserve_goes r stamp true sound =
+reserve_goes : (r : Row) (stamp : ℕ) (t : Bool)
+    → Before r (if t then record { epoch = r.epoch; session = r.session; base = r.base; reserved = max r.reserved stamp } else r)
+reserve_goes r stamp false = unchanged r
+reserve_goes r stamp true =
     let up = (at_least r.reserved stamp (max r.reserved stamp) refl).0 in
-    record { sound = omega arith; before = inr (inl (record { epoch = refl; session = refl; base = refl; grows = up })) }
+    inr (inl (record { epoch = refl; session = refl; base = refl; grows = up }))
 
-pub reserved_goes : (r : Row) (session epoch stamp : ℕ) → IsSound r → Goes r (reserved r session epoch stamp)
-reserved_goes r session epoch stamp sound = reserve_goes r stamp (has_number r session epoch) sound
+pub reserved_goes : (r : Row) (session epoch stamp : ℕ) → Before r (reserved r session epoch stamp)
+reserved_goes r session epoch stamp = reserve_goes r stamp (has_number r session epoch)
 
-close_goes : (r : Row) (t : Bool) → IsSound r → Goes r (if t then record { epoch = r.epoch; session = None; base = r.base; reserved = r.reserved } else r)
-close_goes r false sound = record { sound = sound; before = unchanged r }
-close_goes r true sound = record { sound = sound; before = inr (inr (record { nobody = refl; older = omega arith; grows = omega arith })) }
+close_goes : (r : Row) (t : Bool) → Before r (if t then record { epoch = r.epoch; session = None; base = r.base; reserved = r.reserved } else r)
+close_goes r false = unchanged r
+close_goes r true = inr (inr (record { nobody = refl; older = omega arith; grows = omega arith }))
 
-pub closed_goes : (r : Row) (session epoch : ℕ) → IsSound r → Goes r (closed r session epoch)
-closed_goes r session epoch sound = close_goes r (has_number r session epoch) sound
+pub closed_goes : (r : Row) (session epoch : ℕ) → Before r (closed r session epoch)
+closed_goes r session epoch = close_goes r (has_number r session epoch)
 
-pub dropped_goes : (r : Row) (epoch stamp : ℕ) → Goes r (dropped r epoch stamp)
+pub dropped_goes : (r : Row) (epoch stamp : ℕ) → Before r (dropped r epoch stamp)
 dropped_goes r epoch stamp =
     let newer = (at_least r.epoch epoch (max r.epoch epoch) refl).0 in
     let up = (at_least r.reserved stamp (max r.reserved stamp) refl).0 in
-    record { sound = omega arith; before = inr (inr (record { nobody = refl; older = newer; grows = up })) }
+    inr (inr (record { nobody = refl; older = newer; grows = up }))
 
 -- ---- one voter alone
 
@@ -125,11 +124,11 @@ pub record IsSpent (u : Use) (r : Row) : Type 0 where
   pub few : u.stamp ≤ r.reserved
   pub of : ((r.session ≡ Some u.session) × (u.epoch ≡ r.epoch)) ⊎ ((u.stamp ≤ r.base) ⊎ (r.session ≡ None))
 
-spent_on : (u : Use) (a b : Row) → IsSound b → Before a b → IsSpent u a → IsSpent u b
-spent_on u a b sound ab is =
+spent_on : (u : Use) (a b : Row) → Before a b → IsSpent u a → IsSpent u b
+spent_on u a b ab is =
     let few = is.few in
     elim ab [
-      | inl p ↦ (let below = p.below in record { few = omega arith; of = inr (inl (omega arith)) })
+      | inl p ↦ (let below = p.below in let grows = p.grows in record { few = omega arith; of = inr (inl (omega arith)) })
       | inr rest ↦ elim rest [
         | inl p ↦ (let grows = p.grows in let base = p.base in record {
           few = omega arith;
@@ -172,8 +171,8 @@ pub record AreOf (uses : List Use) (r : Row) : Type 0 where
   pub once : AreOnce uses
   pub spent : (u : Use) → IsOneOf u uses → IsSpent u r
 
-of_next : (uses : List Use) (a b : Row) → Goes a b → AreOf uses a → AreOf uses b
-of_next uses a b goes of = record { once = of.once; spent = λ u among. spent_on u a b goes.sound goes.before (of.spent u among) }
+of_next : (uses : List Use) (a b : Row) → Before a b → AreOf uses a → AreOf uses b
+of_next uses a b ab of = record { once = of.once; spent = λ u among. spent_on u a b ab (of.spent u among) }
 
 same_taken : (u x : Use) (r : Row) → IsSpent u r → IsTaken r x.session x.epoch x.stamp → u.stamp ≡ x.stamp → (u.session ≡ x.session) × (u.epoch ≡ x.epoch)
 same_taken u x r is t at = elim is.of [
@@ -218,28 +217,22 @@ request_of uses r session epoch stamp false e of = of
 request_of uses r session epoch stamp true e of = once_more uses (record { session = session; epoch = epoch; stamp = stamp }) r (taken r session epoch stamp e) of
 
 pub record IsRight (v : Voter) : Type 0 where
-  pub live : IsSound v.live
-  pub saved : IsSound v.saved
   pub took : AreOf v.took v.live
   pub kept : AreOf v.kept v.saved
 
+-- of a voter whose live row alone changed
+right_next : (v : Voter) (r : Row) → Before v.live r → IsRight v → IsRight (record { live = r; saved = v.saved; took = v.took; kept = v.kept })
+right_next v r goes is = record { took = of_next v.took v.live r goes is.took; kept = is.kept }
+
 right_after : (v : Voter) (d : Deed) → IsRight v → IsRight (does v d)
-right_after v (Claim session epoch) is =
-    let goes = claimed_goes v.live session epoch is.live in
-    record { live = goes.sound; saved = is.saved; took = of_next v.took v.live (claimed v.live session epoch) goes is.took; kept = is.kept }
-right_after v (Reserve session epoch stamp) is =
-    let goes = reserved_goes v.live session epoch stamp is.live in
-    record { live = goes.sound; saved = is.saved; took = of_next v.took v.live (reserved v.live session epoch stamp) goes is.took; kept = is.kept }
-right_after v (Close session epoch) is =
-    let goes = closed_goes v.live session epoch is.live in
-    record { live = goes.sound; saved = is.saved; took = of_next v.took v.live (closed v.live session epoch) goes is.took; kept = is.kept }
-right_after v (Drop epoch stamp) is =
-    let goes = dropped_goes v.live epoch stamp in
-    record { live = goes.sound; saved = is.saved; took = of_next v.took v.live (dropped v.live epoch stamp) goes is.took; kept = is.kept }
+right_after v (Claim session epoch) is = right_next v (claimed v.live session epoch) (claimed_goes v.live session epoch) is
+right_after v (Reserve session epoch stamp) is = right_next v (reserved v.live session epoch stamp) (reserved_goes v.live session epoch stamp) is
+right_after v (Close session epoch) is = right_next v (closed v.live session epoch) (closed_goes v.live session epoch) is
+right_after v (Drop epoch stamp) is = right_next v (dropped v.live epoch stamp) (dropped_goes v.live epoch stamp) is
 right_after v (Request session epoch stamp) is =
-    record { live = is.live; saved = is.saved; took = request_of v.took v.live session epoch stamp (is_taken v.live session epoch stamp) refl is.took; kept = is.kept }
-right_after v Save is = record { live = is.live; saved = is.live; took = is.took; kept = is.took }
-right_after v Crash is = record { live = is.saved; saved = is.saved; took = is.kept; kept = is.kept }
+    record { took = request_of v.took v.live session epoch stamp (is_taken v.live session epoch stamp) refl is.took; kept = is.kept }
+right_after v Save is = record { took = is.took; kept = is.took }
+right_after v Crash is = record { took = is.kept; kept = is.kept }
 
 right_all : (v : Voter) (ds : List Deed) → IsRight v → IsRight (does_all v ds)
 right_all v [] is = is
@@ -248,5 +241,5 @@ right_all v (d ∷ ds) is = right_all (does v d) ds (right_after v d is)
 none_of : (r : Row) → AreOf [] r
 none_of r = record { once = λ first second one two at. absurd one; spent = λ u one. absurd one }
 
-pub own : (r : Row) (ds : List Deed) → IsSound r → AreOnce (does_all (begin r) ds).took
-own r ds sound = (right_all (begin r) ds (record { live = sound; saved = sound; took = none_of r; kept = none_of r })).took.once
+pub own : (r : Row) (ds : List Deed) → AreOnce (does_all (begin r) ds).took
+own r ds = (right_all (begin r) ds (record { took = none_of r; kept = none_of r })).took.once
