@@ -354,7 +354,7 @@ int32_t qlock_row_new(uint64_t epoch, uint64_t stamp, uint8_t *row, size_t n);
    be so far above the row's: `epochs`, at most 2 to the power of 20. The claim of the session that has the number changes nothing.
 
    QLOCK_BAD_STATE  the bytes are no row
-   QLOCK_OLD_EPOCH  the epoch is not above the row's
+   QLOCK_OLD_EPOCH  the epoch is not above the row's, nor the row's own after its session took the claim back
    QLOCK_FAR_EPOCH  it is too far above the row's
    QLOCK_IN_USE     a session has the number, and is not silent */
 int32_t qlock_row_claim(uint8_t *row, size_t n, uint64_t upper, uint64_t lower, uint64_t epoch, uint64_t stamps, uint32_t is_silent,
@@ -372,6 +372,13 @@ int32_t qlock_row_reserve(uint8_t *row, size_t n, uint64_t upper, uint64_t lower
    QLOCK_NOT_OWNER  the number is not this session's under this epoch */
 int32_t qlock_row_close(uint8_t *row, size_t n, uint64_t upper, uint64_t lower, uint64_t epoch);
 
+/* Frees the number, as the session takes its claim back, since no quorum granted it. Another session may claim this epoch. The
+   session that took it back never claims this epoch again, and asks nobody under it.
+
+   QLOCK_BAD_STATE  the bytes are no row
+   QLOCK_NOT_OWNER  the number is not this session's under this epoch */
+int32_t qlock_row_take_back(uint8_t *row, size_t n, uint64_t upper, uint64_t lower, uint64_t epoch);
+
 /* Ends the session that has the number, if one has: the number is nobody's, under the next epoch.
 
    QLOCK_BAD_STATE     the bytes are no row
@@ -388,7 +395,7 @@ int32_t qlock_row_drop(uint8_t *row, size_t n, uint64_t epoch, uint64_t stamp);
    row, and of the other one, was ever heard: of a claim alone it may not have been.
 
    - If the other row's epoch is newer, and its session was heard or the one here was not, the number is that session's, above all
-     that was reserved here.
+     that was reserved here. An epoch that may be claimed again there may be claimed here.
    - If two sessions that were heard have the number under one epoch, it is nobody's.
    - In any case what is reserved there is reserved here.
 
@@ -401,7 +408,7 @@ int32_t qlock_row_learn(uint8_t *row, size_t n, const uint8_t *other, size_t len
 int32_t qlock_row_takes(const uint8_t *row, size_t n, uint64_t upper, uint64_t lower, uint64_t epoch, uint64_t stamp, uint32_t *yes);
 
 /* Writes the numbers of a row: its epoch, its base, the highest stamp that is reserved, and 1 and the halves of the session that has
-   the number, or three times 0 if nobody has it.
+   the number. If nobody has it, it writes 0, or 2 if the epoch may be claimed again, and twice 0.
 
    QLOCK_BAD_STATE  the bytes are no row */
 int32_t qlock_row_shows(const uint8_t *row, size_t n, uint64_t *epoch, uint64_t *base, uint64_t *reserved, uint64_t *held,

@@ -2,7 +2,7 @@
 use Rattle.std.specs.Prelude.{ℕ, ℤ, ◌≡◌, ◌≢◌, ◌≤◌, ◌+◌, ◌*◌, ◌^◌, ◌==◌, Bool, not, List, [], ◌∷◌, length, Result, Ok, Err, if◌then◌else◌}
 use Rattle.numbers.specs.Bounds.{max_limit}
 use Rattle.sessions.specs.Rows.{Row, dropped, is_taken}
-use Rattle.session_rows.specs.Calls.{claim_of, close_of, evict_of, floor_row, learn_of, reserve_of}
+use Rattle.session_rows.specs.Calls.{claim_of, close_of, evict_of, floor_row, learn_of, reserve_of, take_back_of}
 use Rattle.session_rows.specs.Saved.{words_of}
 use Rattle.session_rows.specs.declared.claim.Bounds.{Bounds}
 use Rattle.session_rows.specs.declared.claim.Claim.{Claim}
@@ -49,6 +49,11 @@ pub record RowReserves (before : List ℕ) (session epoch stamp most : ℕ) (aft
 pub record RowCloses (before : List ℕ) (session epoch : ℕ) (after : List ℕ) (result : ℤ) : Type 0 where
   pub no_row : IsNoRow before → result ≡ refused BadState
   pub closes : (row : Row) → IsRow before row → Leaves (close_of row session epoch) after result
+
+-- a session takes its claim back
+pub record RowTakesBack (before : List ℕ) (session epoch : ℕ) (after : List ℕ) (result : ℤ) : Type 0 where
+  pub no_row : IsNoRow before → result ≡ refused BadState
+  pub back : (row : Row) → IsRow before row → Leaves (take_back_of row session epoch) after result
 
 -- the session that has the number is ended
 pub record RowEvicts (before after : List ℕ) (result : ℤ) : Type 0 where

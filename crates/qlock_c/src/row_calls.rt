@@ -1,7 +1,7 @@
 //! The calls of the row of a client number.
 ghost use Rattle.std.specs.Prelude.{◌≡◌, ◌≢◌, OnErr};
 ghost use Rattle.qlock_c.specs.Numbers.{done, returned};
-ghost use Rattle.qlock_c.specs.RowSteps.{RowClaims, RowCloses, RowDrops, RowEvicts, RowIsMade, RowLearns, RowReserves, RowShows, RowTakes, is_yes, named};
+ghost use Rattle.qlock_c.specs.RowSteps.{RowClaims, RowCloses, RowDrops, RowEvicts, RowIsMade, RowLearns, RowReserves, RowShows, RowTakes, RowTakesBack, is_yes, named};
 
 use crate::refusal::{Refusal, number_of};
 use crate::saved_bytes::{ROW_BYTES, load_row, store_row};
@@ -48,6 +48,16 @@ fn close(row: &mut [u8], session: u128, epoch: u64) -> Result<(), Refusal>
 {
     let mut it = load_row(row)?;
     it.close(session, epoch)?;
+    store_row(&it, row);
+    Ok(())
+}
+
+fn take_back(row: &mut [u8], session: u128, epoch: u64) -> Result<(), Refusal>
+    ensures back { RowTakesBack row.old session epoch row.new (returned result) }
+    ensures refused { OnErr result (row.new ≡ row.old) }
+{
+    let mut it = load_row(row)?;
+    it.take_back(session, epoch)?;
     store_row(&it, row);
     Ok(())
 }
@@ -187,6 +197,15 @@ pub extern "C" fn qlock_row_close(row: &mut [u8], upper: u64, lower: u64, epoch:
     number_of(close(row, joined(upper, lower), epoch))
 }
 
+/// Frees the number, as the session takes its claim back: no quorum granted it. Another session may claim the epoch.
+#[unsafe(no_mangle)]
+pub extern "C" fn qlock_row_take_back(row: &mut [u8], upper: u64, lower: u64, epoch: u64) -> i32
+    ensures refused { result ≢ done → row.new ≡ row.old }
+    ensures back { RowTakesBack row.old (named upper lower) epoch row.new result }
+{
+    number_of(take_back(row, joined(upper, lower), epoch))
+}
+
 /// Ends the session that has the number: the number is nobody's, under the next epoch.
 #[unsafe(no_mangle)]
 pub extern "C" fn qlock_row_evict(row: &mut [u8]) -> i32
@@ -241,7 +260,7 @@ pub extern "C" fn qlock_row_takes(
 }
 
 /// Writes the numbers of a row: its epoch, its base, its highest reserved stamp, and 1 and the halves of the
-/// session's name, or three times 0 if nobody has the number.
+/// session's name. If nobody has the number it writes 0, or 2 if the epoch may be claimed again, and twice 0.
 #[unsafe(no_mangle)]
 pub extern "C" fn qlock_row_shows(
     row: &[u8],

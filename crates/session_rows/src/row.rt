@@ -265,8 +265,7 @@ impl SessionRow {
         ensures unchanged { OnErr result (self.new ≡ self.old) }
     {
         if self.owns(session, epoch) {
-            self.session = None;
-            self.again = false;
+            self.vacate(false);
             Ok(())
         } else {
             Err(RowFault::NotOwner)
@@ -283,12 +282,19 @@ impl SessionRow {
         ensures unchanged { OnErr result (self.new ≡ self.old) }
     {
         if self.owns(session, epoch) {
-            self.session = None;
-            self.again = true;
+            self.vacate(true);
             Ok(())
         } else {
             Err(RowFault::NotOwner)
         }
+    }
+
+    /// Leaves the number to nobody. `again` says whether the epoch may be claimed again.
+    fn vacate(&mut self, again: bool)
+        ensures { self.new ≡ record { epoch = self.old.epoch; session = None; base = self.old.base; reserved = self.old.reserved; again = again } }
+    {
+        self.session = None;
+        self.again = again;
     }
 
     /// Drops the row: the number is nobody's, and its epochs and stamps are above this floor, and above what

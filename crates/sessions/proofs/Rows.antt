@@ -77,12 +77,12 @@ after_same T a b c p bc =
     let grows = p.grows in
     elim bc [
       | inl q ↦ (let more = q.older in let past = q.below in let up = q.grows in
-        inl (record { older = omega arith; below = omega arith; grows = omega arith; lets = λ e. lets_same T a b p (q.lets (sym p.epoch ∙ e)) }))
+          inl (record { older = omega arith; below = omega arith; grows = omega arith; lets = λ e. lets_same T a b p (q.lets (sym p.epoch ∙ e)) }))
       | inr rest ↦ elim rest [
         | inl q ↦ (let more = q.grows in
-          inr (inl (record { epoch = p.epoch ∙ q.epoch; session = p.session ∙ q.session; base = p.base ∙ q.base; grows = omega arith; again = p.again ∙ q.again })))
+            inr (inl (record { epoch = p.epoch ∙ q.epoch; session = p.session ∙ q.session; base = p.base ∙ q.base; grows = omega arith; again = p.again ∙ q.again })))
         | inr q ↦ (let more = q.older in let further = q.grows in
-          inr (inr (record { nobody = q.nobody; older = omega arith; grows = omega arith; lets = λ e is. lets_same T a b p (q.lets (sym p.epoch ∙ e) is) })))
+            inr (inr (record { nobody = q.nobody; older = omega arith; grows = omega arith; lets = λ e is. lets_same T a b p (q.lets (sym p.epoch ∙ e) is) })))
       ]
     ]
 
@@ -99,7 +99,7 @@ after_free T a b c p bc =
       }))
       | inr rest ↦ elim rest [
         | inl q ↦ (let same = q.epoch in let more = q.grows in
-          inr (inr (record { nobody = sym q.session ∙ p.nobody; older = omega arith; grows = omega arith; lets = λ e is. p.lets (omega arith) (q.again ∙ is) })))
+            inr (inr (record { nobody = sym q.session ∙ p.nobody; older = omega arith; grows = omega arith; lets = λ e is. p.lets (omega arith) (q.again ∙ is) })))
         | inr q ↦ (let more = q.older in let further = q.grows in inr (inr (record {
           nobody = q.nobody;
           older = omega arith;
