@@ -298,16 +298,16 @@ impl SessionRow {
     }
 
     /// Drops the row: the number is nobody's, and its epochs and stamps are above this floor, and above what
-    /// the row had.
+    /// the row had. An epoch that may be claimed again still may, if the floor has no newer one.
     pub fn drop_to(&mut self, epoch: u64, stamp: u64)
         requires { stamp ≤ max_limit }
         ensures { self.new ≡ dropped self.old epoch stamp }
     {
+        self.again = epoch <= self.epoch && self.again && self.session.is_none();
         self.epoch = self.epoch.max(epoch);
         self.session = None;
         self.reserved = self.reserved.max(stamp);
         self.base = self.reserved;
-        self.again = false;
     }
 
     /// Ends the session that has the number, if any does: the number is nobody's, under the next epoch. No

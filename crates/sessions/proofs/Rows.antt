@@ -188,7 +188,14 @@ pub dropped_goes : (T : ℕ → ℕ → Type 0) (r : Row) (epoch stamp : ℕ) �
 dropped_goes T r epoch stamp =
     let newer = (at_least r.epoch epoch (max r.epoch epoch) refl).0 in
     let up = (at_least r.reserved stamp (max r.reserved stamp) refl).0 in
-    inr (inr (record { nobody = refl; older = newer; grows = up; lets = λ e is. absurd (false≢true is) }))
+    inr (inr (record {
+      nobody = refl;
+      older = newer;
+      grows = up;
+      lets = λ e is.
+          let free = and_parts r.again (is_none r.session) (and_parts (nat_le epoch r.epoch) (r.again && is_none r.session) is).1 in
+          inl (free_of r.session free.1, free.0);
+    }))
 
 -- ---- one voter alone
 
