@@ -1,8 +1,8 @@
 -- what each step of a clock keeps
-use Rattle.std.proofs.Common.{◌≡◌, ℕ, ◌+◌, ◌-◌, ◌*◌, ◌<◌, ◌≤◌, Bool, true, false, List, [], ◌∷◌, ◌++◌, length, drop, refl, sym, ap, subst, ◌∙◌, arith, length-append, length-drop}
-use Rattle.std.specs.Prelude.{zero, suc, ◌==◌, max, min, nat_le, if◌then◌else◌}
+use Rattle.std.proofs.Common.{◌≡◌, ℕ, ◌+◌, ◌-◌, ◌*◌, ◌<◌, ◌≤◌, Bool, true, false, List, [], ◌∷◌, ◌++◌, length, drop, refl, subst, ◌∙◌, arith, length-append, length-drop}
+use Rattle.std.specs.Prelude.{zero, suc, ◌==◌, max, min, if◌then◌else◌}
 use Rattle.std.proofs.lemmas.Bool.Decides.{nat_tests}
-use Rattle.lease_clock.specs.Clocks.{AreInOrder, Clock, IsSound, at, begun, came_back, from_number, gap, is_due, is_silent, leaves, lost, make_room, most_away, reading, returned, sent, time_of}
+use Rattle.lease_clock.specs.Clocks.{AreInOrder, Clock, IsSound, at, begun, came_back, from_number, gap, is_due, is_silent, lost, make_room, most_away, reading, returned, sent, time_of}
 use Rattle.lease_clock.specs.declared.marker.Marker.{Marker}
 use Rattle.lease_clock.specs.Leases.{Leaves, Returns, Tick, all_count, all_ticked, counted, counts, ticked}
 
@@ -219,3 +219,22 @@ stays_for period begin heard ttl before since is =
     let behind = stays_behind period begin heard before in
     let over : at c heard + ttl ≤ reading d = grind (arith, nat_tests) in
     omega arith
+
+-- ---- what the code writes
+
+pub sound_so : (c : Clock) (now : ℕ) (ms : List Marker) (left : ℕ) → IsSound c → ms ≡ make_room c.away ++ record { number = c.last.number + 1; left = left } ∷ [] → left ≡ time_of c now
+    → IsSound (record { period = c.period; skipped = c.skipped; away = ms; last = record { number = c.last.number + 1; left = left }; back = c.back })
+sound_so c now ms left sound are is = rw (are, is) (sent_sound c now sound)
+
+-- a marker that is under way comes back
+pub record IsFound (c : Clock) (m : Marker) (later : List Marker) : Type 0 where
+  pub left : c.back.left ≤ m.left
+  pub fits : c.skipped + lost c m ≤ m.left
+  pub sound : IsSound (came_back c (m ∷ later))
+
+pub found_sound : (c : Clock) (number : ℕ) (m : Marker) (later : List Marker) → IsSound c → from_number number c.away ≡ m ∷ later → IsFound c m later
+found_sound c number m later sound is =
+    let part : IsPart c.back (m ∷ later) c.last most_away =
+    subst (λ (ms : List Marker). IsPart c.back ms c.last most_away) is (parts c.back number c.away c.last most_away sound.ordered sound.few) in
+    let goes = came_goes c (m ∷ later) sound part in
+    record { left = part.0; fits = goes.sound.behind; sound = goes.sound }

@@ -1,11 +1,11 @@
 -- who works has its grant
-use Rattle.std.proofs.Common.{◌≡◌, ℕ, ◌+◌, ◌*◌, ◌<◌, ◌≤◌, Bool, true, false, List, [], ◌∷◌, refl, sym, ap, subst, ◌∙◌, Option, Some, None, arith}
+use Rattle.std.proofs.Common.{◌≡◌, ℕ, ◌+◌, ◌*◌, ◌≤◌, Bool, true, false, List, [], ◌∷◌, refl, sym, subst, ◌∙◌, Option, Some, None, arith}
 use Rattle.std.specs.Prelude.{◌==◌, ◌||◌, max, nat_le, nat_lt, if◌then◌else◌}
 use Rattle.std.specs.List.{AllByRecursion}
 use Rattle.std.proofs.Math.Nat.{mul-add, mul-le-mul_left}
 use Rattle.std.proofs.lemmas.Bool.{false≢true}
 use Rattle.std.proofs.lemmas.Bool.Decides.{nat_tests}
-use Rattle.lease_clock.specs.Clocks.{Clock, IsSound, at, begun, is_due, came_back, from_number, is_silent, leaves, returned, sent, time_of}
+use Rattle.lease_clock.specs.Clocks.{Clock, IsSound, is_due, came_back, from_number, is_silent, leaves, returned, sent, time_of}
 use Rattle.lease_clock.specs.declared.marker.Marker.{Marker}
 use Rattle.lease_clock.specs.Leases.{Beats, Event, Hears, IsRated, LetsGo, Marked, Marks, Passes, Renews, World, after, after_all, beaten, begins, hears, is_among, is_working, lasts, lets_go, newer, passed, renews, with_clock}
 use Rattle.lease_clock.proofs.ClockLemmas.{Goes, at_least, back_early, begun_sound, heard_at, leave_goes, return_goes, silent_since}
@@ -31,8 +31,9 @@ pub record Given : Type 0 where
   pub b : ℕ
   pub ttl : ℕ
 
--- A heartbeat left at `beat`, by the client's clock, and the voter heard one at `time`, by its own. Since then the
--- voter's clock went on no faster than the rates let it. If the voter let the grant go a TTL has passed since.
+-- A heartbeat left at `beat`, by the client's clock, and the voter heard one at `time`, by its own.
+-- Since then the voter's clock went on no faster than the rates let it. If the voter let the grant
+-- go a TTL has passed since.
 pub record IsLate (g : Given) (w : World) (time beat : ℕ) : Type 0 where
   pub slow : g.a * w.voter_time + g.b * beat ≤ g.b * w.client_time + g.a * time
   pub over : w.is_gone ≡ true → g.a * g.ttl + g.b * beat ≤ g.b * w.client_time
@@ -131,7 +132,8 @@ beats_on g w was =
       };
     }
 
--- the voter hears a heartbeat now: each one before is as late, and the new one is not later than the client
+-- the voter hears a heartbeat now: each one before is as late, and the new one is not later than
+-- the client
 heard_later : (g : Given) (w : World) (beat time : ℕ) → time ≤ w.voter_time → (k : ℕ) → IsLate g w time k → IsLate g (hears w beat) w.voter_time k
 heard_later g w beat time past k late =
     let slow = late.slow in
@@ -207,7 +209,8 @@ clock_on g w d count goes marked was =
 
 -- ---- the voter lets the grant go
 
--- nothing was heard of the session for a TTL by the voter's clock, and so for as long by the client's, as the rates allow
+-- nothing was heard of the session for a TTL by the voter's clock, and so for as long by the
+-- client's, as the rates allow
 late_enough : (g : Given) (w : World) (time : ℕ) → time + g.ttl ≤ w.voter_time → (k : ℕ) → IsLate g w time k → IsLate g (lets_go w) time k
 late_enough g w time past k late =
     let slow = late.slow in

@@ -1,2 +1,3 @@
 pub mod ClockLemmas
 pub mod LeaseLemmas
+pub mod SavedLemmas

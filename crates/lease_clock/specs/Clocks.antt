@@ -1,5 +1,5 @@
 -- The lease clock of a voter. Times are nanoseconds of one clock of the voter.
-use Rattle.std.specs.Prelude.{ℕ, ◌≡◌, ◌<◌, ◌≤◌, ◌+◌, ◌-◌, ◌*◌, ◌^◌, ◌==◌, nat_le, nat_lt, max, min, Bool, ◌&&◌, ◌||◌, List, [], ◌∷◌, ◌++◌, drop, length, if◌then◌else◌}
+use Rattle.std.specs.Prelude.{ℕ, ◌<◌, ◌≤◌, ◌+◌, ◌-◌, ◌*◌, ◌^◌, ◌==◌, nat_le, nat_lt, max, Bool, ◌&&◌, ◌||◌, List, [], ◌∷◌, ◌++◌, drop, length, if◌then◌else◌}
 use Rattle.lease_clock.specs.declared.marker.Marker.{Marker}
 
 -- the most markers that may be under way
@@ -10,8 +10,9 @@ most_away = 16
 abbrev pub last_number : ℕ
 last_number = 2 ^ 64 - 1
 
--- The clock: how long it is from one marker to the next, for how long nobody could be heard, the markers that
--- are under way, the newest last, the last one that left, and the newest that came back.
+-- The clock: how long it is from one marker to the next, for how long nobody could be heard, the
+-- markers that are under way, the newest last, the last one that left, and the newest that came
+-- back.
 pub record Clock : Type 0 where
   pub period : ℕ
   pub skipped : ℕ
@@ -68,8 +69,8 @@ from_number number (m ∷ ms) = if m.number == number then m ∷ ms else from_nu
 abbrev pub gap : Clock → Marker → ℕ
 gap c m = m.left - c.back.left
 
--- Of the gap, the time in which nobody could be heard: all of it if markers between the two were lost, else what
--- it has above two periods, as this process stood still then.
+-- Of the gap, the time in which nobody could be heard: all of it if markers between the two were
+-- lost, else what it has above two periods, as this process stood still then.
 abbrev pub lost : Clock → Marker → ℕ
 lost c m = if m.number == c.back.number + 1 then gap c m - 2 * c.period else gap c m
 

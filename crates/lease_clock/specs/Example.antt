@@ -1,5 +1,5 @@
 -- A client that works, and later does not, as the voter let its grant go.
-use Rattle.std.specs.Prelude.{ℕ, List, [], ◌∷◌}
+use Rattle.std.specs.Prelude.{List, [], ◌∷◌}
 use Rattle.lease_clock.specs.Leases.{Beats, Event, Hears, LetsGo, Marked, Marks, Passes, Renews}
 
 -- The client's heartbeat is acknowledged. The client's clock is slower than the voter's by a tenth.

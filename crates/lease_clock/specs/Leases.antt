@@ -1,5 +1,6 @@
--- What may come to a lease clock; and leases by time, of one voter and one client (Gray and Cheriton, "Leases: An
--- Efficient Fault-Tolerant Mechanism for Distributed File Cache Consistency", SOSP 1989).
+-- What may come to a lease clock; and leases by time, of one voter and one client (Gray and
+-- Cheriton, "Leases: An Efficient Fault-Tolerant Mechanism for Distributed File Cache Consistency",
+-- SOSP 1989).
 use Rattle.std.specs.Prelude.{ℕ, ◌≤◌, ◌+◌, ◌*◌, ◌==◌, max, min, nat_lt, Bool, true, false, ◌||◌, List, [], ◌∷◌, Option, Some, None, if◌then◌else◌}
 use Rattle.lease_clock.specs.Clocks.{Clock, at, begun, from_number, gap, is_silent, leaves, returned}
 use Rattle.lease_clock.specs.declared.marker.Marker.{Marker}
@@ -53,7 +54,8 @@ pub record World : Type 0 where
   pub beats : List ℕ
   -- those that the voter acknowledged before it let the grant go
   pub acknowledged : List ℕ
-  -- when the newest heartbeat left of which an acknowledgement came back to the client; none at first
+  -- when the newest heartbeat left of which an acknowledgement came back to the client; none at
+  -- first
   pub lease : Option ℕ
 
 -- the voter and the client begin at any times
@@ -121,7 +123,8 @@ beaten w = record {
   lease = w.lease;
 }
 
--- The voter hears a heartbeat. It acknowledges it for the grant only if it did not let the grant go.
+-- The voter hears a heartbeat. It acknowledges it for the grant only if it did not let the grant
+-- go.
 abbrev pub hears : World → ℕ → World
 hears w beat = record {
   voter_time = w.voter_time;
@@ -173,8 +176,9 @@ lets_go w = record {
   lease = w.lease;
 }
 
--- The world after an event, where a voter lets a grant go after this TTL. An event that can't be changes nothing: a
--- heartbeat that never left, an acknowledgement that never left, a session that is not silent.
+-- The world after an event, where a voter lets a grant go after this TTL. An event that can't be
+-- changes nothing: a heartbeat that never left, an acknowledgement that never left, a session that
+-- is not silent.
 abbrev pub after : ℕ → World → Event → World
 after ttl w (Passes voter client) = passed w voter client
 after ttl w Beats = beaten w

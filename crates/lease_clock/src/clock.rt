@@ -2,13 +2,17 @@
 ghost use Rattle.std.specs.Prelude.{◌≡◌, ◌≤◌, ◌+◌, ℕ, Some, None, IfSome, if◌then◌else◌};
 ghost use Rattle.arrayvec.specs.ArrayVec.{array_vec_len};
 ghost use Rattle.lease_clock.specs.Clocks.{Clock, IsSound, at, begun, is_due, is_silent, leaves, lost, reading, returned};
+ghost use Rattle.lease_clock.specs.Saved.{words_of};
 
-use crate::marker::{Marker, Markers, add, copied, from_number};
+use crate::marker::{Marker, Markers, add, find};
+use crate::saved::{
+    HEAD_WORDS, SAVED_WORDS, SavedWords, are_in_order, are_slots_of, markers_in, slots_of,
+};
 use arrayvec::ArrayVec;
 use std::marker::Model;
 
-/// The lease clock of a voter, which goes on only while the voter can hear. Times are nanoseconds of one clock of
-/// the caller.
+/// The lease clock of a voter, which goes on only while the voter can hear. Times are nanoseconds
+/// of one clock of the caller.
 ///
 /// Contracts see it as a `Clock`.
 #[derive(Drop)]
@@ -48,7 +52,8 @@ impl LeaseClock {
         }
     }
 
-    /// Returns whether it is time for a marker: none left yet, or a period has passed since the last one did.
+    /// Returns whether it is time for a marker: none left yet, or a period has passed since the
+    /// last one did.
     pub fn is_due(&self, now: u64) -> bool
         ensures { result ≡ is_due self.now now }
     {
@@ -56,7 +61,8 @@ impl LeaseClock {
             && (self.last.number == 0 || now.saturating_sub(self.last.left) >= self.period)
     }
 
-    /// Notes that a marker leaves now, and returns its number. `None` if it is not time for one. The caller sends it.
+    /// Notes that a marker leaves now, and returns its number. `None` if it is not time for one.
+    /// The caller sends it.
     pub fn send(&mut self, now: u64) -> Option<u64>
         ensures leaves { self.new ≡ leaves self.old now }
         ensures number { result ≡ (if is_due self.old now then Some (self.old.last.number + 1) else None) }
@@ -77,14 +83,12 @@ impl LeaseClock {
     pub fn returns(&mut self, number: u64)
         ensures { self.new ≡ returned self.old number }
     {
-        let [back, later @ ..] = from_number(number, self.away.as_slice()) else {
+        let Some(found) = find(number, self.away.as_slice()) else {
             return;
         };
-        let back = *back;
-        let away = copied(later);
-        self.skipped += self.lost(&back);
-        self.away = away;
-        self.back = back;
+        self.skipped += self.lost(&found.marker);
+        self.away = found.later;
+        self.back = found.marker;
     }
 
     /// Returns for how long nobody could be heard before a marker left that comes back now.
@@ -119,9 +123,63 @@ impl LeaseClock {
     pub fn is_silent(&self, heard: u64, ttl: u64) -> bool
         ensures { result ≡ is_silent self.now heard ttl }
     {
+        let reading = self.reading();
         match heard.checked_add(ttl) {
-            Some(end) => end <= self.reading(),
+            Some(end) => end <= reading,
             None => false,
         }
+    }
+
+    /// Writes the numbers of the clock. Restored from them, it is the same clock.
+    pub fn save(&self, words: &mut SavedWords)
+        ensures words { words.new.items ≡ words_of self.now }
+        ensures len { array_vec_len words.new ≡ 38 }
+        // So it can be restored, whatever calls led to it.
+        ensures sound { IsSound self.now }
+    {
+        words.clear();
+        words.push(self.period);
+        words.push(self.skipped);
+        words.push(self.last.number);
+        words.push(self.last.left);
+        words.push(self.back.number);
+        words.push(self.back.left);
+        let slots = slots_of(self.away.as_slice());
+        let _ = words.try_extend_from_slice(slots.as_slice());
+    }
+
+    /// Returns the clock that was saved as these numbers. `None` if they are not those of a clock.
+    pub fn restore(words: &[u64]) -> Option<LeaseClock>
+        ensures sound { IfSome result IsSound }
+        // It is saved as exactly these numbers.
+        ensures text { IfSome result (λ c. words.now ≡ words_of c) }
+        // A saved clock is restored as it was.
+        ensures read { (c : Clock) → IsSound c → words.now ≡ words_of c → result ≡ Some c }
+    {
+        if words.len() != SAVED_WORDS {
+            return None;
+        }
+        let last = Marker {
+            number: words[2],
+            left: words[3],
+        };
+        let back = Marker {
+            number: words[4],
+            left: words[5],
+        };
+        let away = markers_in(&words[HEAD_WORDS..]);
+        if words[1] > back.left
+            || !are_in_order(back, away.as_slice(), last)
+            || !are_slots_of(&words[HEAD_WORDS..], away.as_slice())
+        {
+            return None;
+        }
+        Some(LeaseClock {
+            period: words[0],
+            skipped: words[1],
+            away,
+            last,
+            back,
+        })
     }
 }
