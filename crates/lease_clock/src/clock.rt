@@ -119,6 +119,13 @@ impl LeaseClock {
         self.back.left - self.skipped
     }
 
+    /// Returns when the newest marker left that came back.
+    pub fn newest_left(&self) -> u64
+        ensures { result ≡ self.now.back.left }
+    {
+        self.back.left
+    }
+
     /// Returns whether a session that was heard at this reading is silent for a TTL.
     pub fn is_silent(&self, heard: u64, ttl: u64) -> bool
         ensures { result ≡ is_silent self.now heard ttl }
