@@ -70,22 +70,33 @@ type asked struct {
 type table struct {
 	ttl     time.Duration
 	rows    [qlock.MaxClients]Session
-	names   [qlock.MaxClients]string    // of the sessions of these rows that were heard in this run; nothing can be sent to others
-	heard   [qlock.MaxClients]time.Time // on the lease clock
-	byWord  [qlock.MaxClients]bool      // another voter ended the session, which may not know so: its votes go by the lease
-	clock   leaseClock
-	changed map[int]Session // to be saved before anything leaves
-	later   map[int]Session // to be saved with the next save: after a crash a TTL makes up for it
+	names   [qlock.MaxClients]string        // of the sessions of these rows that were heard in this run; nothing can be sent to others
+	heard   [qlock.MaxClients]time.Duration // on the lease clock
+	byWord  [qlock.MaxClients]bool          // another voter ended the session, which may not know so: its votes go by the lease
+	began   time.Time                       // when this run began: times of the lease clock are since then
+	clock   qlock.Clock                     // says who was silent
+	changed map[int]Session                 // to be saved before anything leaves
+	later   map[int]Session                 // to be saved with the next save: after a crash a TTL makes up for it
 	epochs  [qlock.MaxClients]allowance
 	asked   [qlock.MaxClients]asked
 	stamps  allowance
 }
 
+// periodOf returns how long it is from one marker of a voter to the next. What came to the voter before a marker was sent is
+// heard once the marker is back. So a slow disk delays the end of a lease and does not prevent it, a link that is down ends
+// none, and one that flaps delays it.
+func periodOf(ttl time.Duration) time.Duration {
+	if ttl/8 > 250*time.Millisecond {
+		return 250 * time.Millisecond
+	}
+	return ttl / 8
+}
+
 // begin begins a run of a voter: all leases begin anew, and so does what numbers may grow.
 func (t *table) begin(now time.Time) {
-	t.clock = newLeaseClock(t.ttl, now)
+	t.began, t.clock = now, *qlock.NewClock(periodOf(t.ttl), 0)
 	for i := range t.heard {
-		t.heard[i] = now
+		t.heard[i] = 0
 	}
 	t.stamps = newAllowance(mostStamps, now)
 	for i := range t.epochs {
@@ -112,16 +123,19 @@ func (t *table) known() map[int]Session {
 }
 
 // hear notes that a number's session was heard.
-func (t *table) hear(number int, now time.Time) { t.heard[number] = t.clock.at(now) }
+func (t *table) hear(number int, now time.Time) { t.heard[number] = t.clock.At(now.Sub(t.began)) }
 
 // silent returns for how long nothing came of a number's session, up to when all that was sent was
 // heard.
-func (t *table) silent(number int) time.Duration { return t.clock.reading().Sub(t.heard[number]) }
+func (t *table) silent(number int) time.Duration {
+	reading, _ := t.clock.Shows()
+	return reading - t.heard[number]
+}
 
 // isDead returns whether the votes of a number may be let go: its session was ended, or silent for a TTL. One that another
 // voter ended counts as silent since then.
 func (t *table) isDead(number int) bool {
-	return !t.rows[number].Open && !t.byWord[number] || t.silent(number) >= t.ttl
+	return !t.rows[number].Open && !t.byWord[number] || t.clock.IsSilent(t.heard[number], t.ttl)
 }
 
 // lapse counts that a grant of a number's session is let go since it was silent. Whoever hears the

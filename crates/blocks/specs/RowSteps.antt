@@ -8,9 +8,9 @@ use Rattle.session_rows.specs.declared.claim.Bounds.{Bounds}
 use Rattle.session_rows.specs.declared.claim.Claim.{Claim}
 use Rattle.session_rows.specs.declared.claim.Heard.{Heard}
 use Rattle.session_rows.specs.declared.fault.RowFault.{RowFault}
-use Rattle.qlock_c.specs.Bytes.{IsNoRow, IsRow}
-use Rattle.qlock_c.specs.Numbers.{done, refused, row_refusal}
-use Rattle.qlock_c.specs.declared.refusal.Refusal.TheVariants.{BadArgument, BadState}
+use Rattle.blocks.specs.Bytes.{IsNoRow, IsRow}
+use Rattle.blocks.specs.Numbers.{done, refused, row_refusal}
+use Rattle.blocks.specs.declared.refusal.Refusal.TheVariants.{BadArgument, BadState}
 
 -- how many bytes a row has
 abbrev pub row_bytes : ℕ

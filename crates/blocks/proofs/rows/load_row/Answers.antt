@@ -2,8 +2,8 @@ use Rattle.std.proofs.Common.{◌∙◌, ap, refl, subst, sym}
 use Rattle.std.proofs.lemmas.Option.{none-some, same_Some}
 use Rattle.session_rows.specs.Saved.{words_of}
 use Rattle.words.specs.WordBytes.{FitIn64Bits, bytes_of}
-use Rattle.qlock_c.proofs.StateLemmas.{length-row}
-use Rattle.qlock_c.proofs.saved_bytes.load_row.Goals as goal
+use Rattle.blocks.proofs.BlockLemmas.{length-row}
+use Rattle.blocks.proofs.rows.load_row.Goals as goal
 
 pub returns-then-bytes-ne-ROW_BYTES-clause-refused : goal.returns-then-bytes-ne-ROW_BYTES-clause-refused
 returns-then-bytes-ne-ROW_BYTES-clause-refused c = (refl, λ it is. c.if-bytes-ne-ROW_BYTES.true (length-row c.args.bytes.now it is))

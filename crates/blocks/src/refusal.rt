@@ -1,6 +1,6 @@
 //! Why a call did nothing, and the numbers that C sees.
 ghost use Rattle.std.specs.Prelude.{◌≡◌, ◌≢◌, OnErr};
-ghost use Rattle.qlock_c.specs.Numbers.{client_refusal, done, fence_refusal, refused, returned};
+ghost use Rattle.blocks.specs.Numbers.{client_refusal, done, fence_refusal, refused, returned};
 
 use fence::FenceFault;
 use requester::ClientFault;
@@ -111,7 +111,7 @@ impl From<ClientFault> for Refusal {
 }
 
 impl From<VoterFault> for Refusal {
-    ghost use Rattle.qlock_c.specs.declared.refusal.Refusal.TheVariants.{GrantsSpent};
+    ghost use Rattle.blocks.specs.declared.refusal.Refusal.TheVariants.{GrantsSpent};
 
     ghost from_gives = { λ _ r. r ≡ GrantsSpent };
 
@@ -123,7 +123,7 @@ impl From<VoterFault> for Refusal {
 }
 
 impl From<RowFault> for Refusal {
-    ghost use Rattle.qlock_c.specs.Numbers.{row_refusal};
+    ghost use Rattle.blocks.specs.Numbers.{row_refusal};
 
     ghost from_gives = { λ fault r. r ≡ row_refusal fault };
 

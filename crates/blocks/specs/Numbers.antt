@@ -6,8 +6,8 @@ use Rattle.requester.specs.declared.fault.ClientFault.{ClientFault}
 use Rattle.requester.specs.declared.fault.ClientFault.TheVariants as client
 use Rattle.session_rows.specs.declared.fault.RowFault.{RowFault}
 use Rattle.session_rows.specs.declared.fault.RowFault.TheVariants as row
-use Rattle.qlock_c.specs.declared.refusal.Refusal.{Refusal}
-use Rattle.qlock_c.specs.declared.refusal.Refusal.TheVariants.{BadArgument, BadState, BadMessage, NoRoom, Busy, NotInside, NotAsking, StampsSpent, GrantsSpent, OlderGrant, NoPass, TurnsSpent, OldEpoch, FarEpoch, InUse, NotOwner, EpochsSpent}
+use Rattle.blocks.specs.declared.refusal.Refusal.{Refusal}
+use Rattle.blocks.specs.declared.refusal.Refusal.TheVariants.{BadArgument, BadState, BadMessage, NoRoom, Busy, NotInside, NotAsking, StampsSpent, GrantsSpent, OlderGrant, NoPass, TurnsSpent, OldEpoch, FarEpoch, InUse, NotOwner, EpochsSpent}
 
 -- the number of a refusal
 abbrev pub number_of : Refusal → ℕ
