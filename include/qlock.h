@@ -1,6 +1,7 @@
-/* qlock.h: the voter and the client of the voting lock, the guard of what the lock protects, and the row of a client's number.
+/* qlock.h: the voter and the client of the voting lock, the guard of what the lock protects, and the row of a client's number and
+   the lease clock of a voter.
 
-   A voter, a client, a guard or a row is a block of bytes of the caller's, its state. A call reads the state, and writes the new one
+   A voter, a client, a guard, a row or a lease clock is a block of bytes of the caller's, its state. A call reads the state, and writes the new one
    in its place. There are no other objects: nothing to free, no memory from malloc, no global, and calls on different states
    may run at once. Messages are lines of text. docs/embedding.md has the loop of a voter and of a client.
 
@@ -42,11 +43,12 @@ extern "C" {
 /* Returns the version of the library, in the same form. */
 uint32_t qlock_version(void);
 
-/* How many bytes the state of a voter, of a client, of a guard and of a row has. */
+/* How many bytes the state of a voter, of a client, of a guard, of a row and of a lease clock has. */
 #define QLOCK_VOTER_BYTES 1104
 #define QLOCK_CLIENT_BYTES 1104
 #define QLOCK_FENCE_BYTES 520
 #define QLOCK_ROW_BYTES 48
+#define QLOCK_CLOCK_BYTES 304
 
 /* How many bytes the pass has that a client shows to a guard. */
 #define QLOCK_PASS_BYTES 512
@@ -66,7 +68,7 @@ uint32_t qlock_version(void);
 enum {
     QLOCK_DONE = 0,
     QLOCK_BAD_ARGUMENT = 1, /* a number or the length of a pass is out of range, the mask of a quorum is 0, or there are none */
-    QLOCK_BAD_STATE = 2,    /* the bytes are no saved voter, client, guard or row, or not as many as it has */
+    QLOCK_BAD_STATE = 2,    /* the bytes are no saved voter, client, guard, row or lease clock, or not as many as it has */
     QLOCK_BAD_MESSAGE = 3,  /* the line is no message to this voter or client */
     QLOCK_NO_ROOM = 4,      /* `out` is too short for the lines */
     QLOCK_BUSY = 5,         /* C1: the client is asking already, or is inside */
@@ -354,7 +356,7 @@ int32_t qlock_row_new(uint64_t epoch, uint64_t stamp, uint8_t *row, size_t n);
    be so far above the row's: `epochs`, at most 2 to the power of 20. The claim of the session that has the number changes nothing.
 
    QLOCK_BAD_STATE  the bytes are no row
-   QLOCK_OLD_EPOCH  the epoch is not above the row's
+   QLOCK_OLD_EPOCH  the epoch is not above the row's, nor the row's own after its session took the claim back
    QLOCK_FAR_EPOCH  it is too far above the row's
    QLOCK_IN_USE     a session has the number, and is not silent */
 int32_t qlock_row_claim(uint8_t *row, size_t n, uint64_t upper, uint64_t lower, uint64_t epoch, uint64_t stamps, uint32_t is_silent,
@@ -372,6 +374,13 @@ int32_t qlock_row_reserve(uint8_t *row, size_t n, uint64_t upper, uint64_t lower
    QLOCK_NOT_OWNER  the number is not this session's under this epoch */
 int32_t qlock_row_close(uint8_t *row, size_t n, uint64_t upper, uint64_t lower, uint64_t epoch);
 
+/* Frees the number, as the session takes its claim back, since no quorum granted it. Another session may claim this epoch. The
+   session that took it back never claims this epoch again, and asks nobody under it.
+
+   QLOCK_BAD_STATE  the bytes are no row
+   QLOCK_NOT_OWNER  the number is not this session's under this epoch */
+int32_t qlock_row_take_back(uint8_t *row, size_t n, uint64_t upper, uint64_t lower, uint64_t epoch);
+
 /* Ends the session that has the number, if one has: the number is nobody's, under the next epoch.
 
    QLOCK_BAD_STATE     the bytes are no row
@@ -388,7 +397,7 @@ int32_t qlock_row_drop(uint8_t *row, size_t n, uint64_t epoch, uint64_t stamp);
    row, and of the other one, was ever heard: of a claim alone it may not have been.
 
    - If the other row's epoch is newer, and its session was heard or the one here was not, the number is that session's, above all
-     that was reserved here.
+     that was reserved here. An epoch that may be claimed again there may be claimed here.
    - If two sessions that were heard have the number under one epoch, it is nobody's.
    - In any case what is reserved there is reserved here.
 
@@ -401,11 +410,51 @@ int32_t qlock_row_learn(uint8_t *row, size_t n, const uint8_t *other, size_t len
 int32_t qlock_row_takes(const uint8_t *row, size_t n, uint64_t upper, uint64_t lower, uint64_t epoch, uint64_t stamp, uint32_t *yes);
 
 /* Writes the numbers of a row: its epoch, its base, the highest stamp that is reserved, and 1 and the halves of the session that has
-   the number, or three times 0 if nobody has it.
+   the number. If nobody has it, it writes 0, or 2 if the epoch may be claimed again, and twice 0.
 
    QLOCK_BAD_STATE  the bytes are no row */
 int32_t qlock_row_shows(const uint8_t *row, size_t n, uint64_t *epoch, uint64_t *base, uint64_t *reserved, uint64_t *held,
                         uint64_t *upper, uint64_t *lower);
+
+/* ---- The lease clock of a voter: for how long a session was silent. `n` is always QLOCK_CLOCK_BYTES.
+
+   Each voter has one, in memory: it is not saved, and a voter that starts makes a new one. The voter sends itself markers, through
+   the way by which its clients' messages come. The clock goes on up to the newest marker that came back, less the time in which
+   nobody could be heard: up to a marker before which another one was lost, and what is above two periods between two markers. So a
+   session that was heard at some time is silent for a TTL only if a TTL has passed since.
+
+   Times are nanoseconds of one clock of the caller that never falls. A time before the last marker left counts as when that left. */
+
+/* Makes a lease clock that begins now. A marker leaves each `period`.
+
+   QLOCK_BAD_STATE  `n` is not QLOCK_CLOCK_BYTES */
+int32_t qlock_clock_new(uint64_t period, uint64_t now, uint8_t *clock, size_t n);
+
+/* Writes the number of a marker that leaves now, if it is time for one, and 0 if not. The caller sends it. At most 16 are under way:
+   an older one is lost.
+
+   QLOCK_BAD_STATE  the bytes are no lease clock */
+int32_t qlock_clock_send(uint8_t *clock, size_t n, uint64_t now, uint64_t *number);
+
+/* Notes that the marker of this number came back. One that is not under way changes nothing.
+
+   QLOCK_BAD_STATE  the bytes are no lease clock */
+int32_t qlock_clock_returns(uint8_t *clock, size_t n, uint64_t number);
+
+/* Writes the reading at which a session is heard that is heard now. Read the time after its message was taken.
+
+   QLOCK_BAD_STATE  the bytes are no lease clock */
+int32_t qlock_clock_at(const uint8_t *clock, size_t n, uint64_t now, uint64_t *reading);
+
+/* Writes the reading up to which all that was sent was heard, and when the newest marker left that came back.
+
+   QLOCK_BAD_STATE  the bytes are no lease clock */
+int32_t qlock_clock_shows(const uint8_t *clock, size_t n, uint64_t *reading, uint64_t *left);
+
+/* Writes 1 to `*yes` if a session that was heard at this reading (qlock_clock_at) is silent for a TTL, and 0 if not.
+
+   QLOCK_BAD_STATE  the bytes are no lease clock */
+int32_t qlock_clock_is_silent(const uint8_t *clock, size_t n, uint64_t heard, uint64_t ttl, uint32_t *yes);
 
 #ifdef __cplusplus
 }

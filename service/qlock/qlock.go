@@ -1,4 +1,4 @@
-// Package qlock binds the proved voter, client, guard and row of libqlock, and the plans of libqlock_plan.
+// Package qlock binds the proved voter, client, guard, row and lease clock of libqlock, and the plans of libqlock_plan.
 //
 // It has no goroutine, socket, clock or file: a call takes a line and returns lines. Whoever calls it saves
 // a voter's new state before any of its lines leaves (docs/embedding.md). One call at a time uses a state.
@@ -18,6 +18,7 @@ const (
 	ClientBytes = C.QLOCK_CLIENT_BYTES
 	FenceBytes  = C.QLOCK_FENCE_BYTES
 	RowBytes    = C.QLOCK_ROW_BYTES
+	ClockBytes  = C.QLOCK_CLOCK_BYTES
 	PassBytes   = C.QLOCK_PASS_BYTES
 	MaxVoters   = C.QLOCK_MAX_VOTERS
 	MaxClients  = C.QLOCK_MAX_CLIENTS

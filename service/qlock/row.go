@@ -29,6 +29,30 @@ type RowShown struct {
 	Reserved uint64  // the highest stamp that is reserved
 	IsHeld   bool    // some session has the number
 	Session  Session // which
+	IsAgain  bool    // nobody has it, and another session may claim the epoch: the one that did took its claim back
+}
+
+// Row returns the row that has these numbers, or BadState if there is none.
+func (s RowShown) Row() (*Row, error) {
+	r := new(Row)
+	held := uint64(0)
+	switch {
+	case s.IsHeld && s.IsAgain:
+		return nil, BadState
+	case s.IsHeld:
+		held = 1
+	case s.IsAgain:
+		held = 2
+	}
+	upper, lower := uint64(0), uint64(0)
+	if s.IsHeld {
+		upper, lower = binary.BigEndian.Uint64(s.Session[:8]), binary.BigEndian.Uint64(s.Session[8:])
+	}
+	for i, word := range []uint64{s.Epoch, s.Base, s.Reserved, held, upper, lower} {
+		binary.LittleEndian.PutUint64(r.state[8*i:], word)
+	}
+	_, err := r.Shows()
+	return r, err
 }
 
 // NewRow makes the row of a number that nobody has. Its epochs and its stamps are above this floor.
@@ -71,6 +95,13 @@ func (r *Row) Close(session Session, epoch uint64) error {
 	return refusal(C.qlock_row_close(at(r.state[:]), RowBytes, upper, lower, C.uint64_t(epoch)))
 }
 
+// TakeBack frees the number, as the session takes its claim back: no quorum granted it. Another session may claim the epoch. It
+// returns NotOwner if the number is not the session's.
+func (r *Row) TakeBack(session Session, epoch uint64) error {
+	upper, lower := session.halves()
+	return refusal(C.qlock_row_take_back(at(r.state[:]), RowBytes, upper, lower, C.uint64_t(epoch)))
+}
+
 // Evict ends the session that has the number: the number is nobody's, under the next epoch.
 func (r *Row) Evict() error { return refusal(C.qlock_row_evict(at(r.state[:]), RowBytes)) }
 
@@ -97,7 +128,8 @@ func (r *Row) Takes(session Session, epoch, stamp uint64) (bool, error) {
 func (r *Row) Shows() (shown RowShown, err error) {
 	var epoch, base, reserved, held, upper, lower C.uint64_t
 	err = refusal(C.qlock_row_shows(at(r.state[:]), RowBytes, &epoch, &base, &reserved, &held, &upper, &lower))
-	shown = RowShown{Epoch: uint64(epoch), Base: uint64(base), Reserved: uint64(reserved), IsHeld: held != 0}
+	shown = RowShown{Epoch: uint64(epoch), Base: uint64(base), Reserved: uint64(reserved), IsHeld: held == 1,
+		IsAgain: held == 2}
 	binary.BigEndian.PutUint64(shown.Session[:8], uint64(upper))
 	binary.BigEndian.PutUint64(shown.Session[8:], uint64(lower))
 	return shown, err

@@ -8,10 +8,11 @@ import (
 )
 
 // tableRow is a row as the table of a voter of the service has it: by its rules, but for clocks and rates. Who has the
-// number is forgotten once it is free, and a claim that was taken back keeps its epoch.
+// number is forgotten once it is free.
 type tableRow struct {
 	epoch, base, reserved uint64
 	isOpen, isUsed        bool
+	isAgain               bool // its session took the claim back
 	session               Session
 }
 
@@ -43,7 +44,8 @@ func (t *tableRow) claim(c Claim) bool {
 	if stamps > 1<<12 {
 		stamps = 1 << 12
 	}
-	if c.Epoch <= t.epoch || t.isOpen && !c.IsSilent || c.Epoch-t.epoch > most {
+	isNew := c.Epoch > t.epoch || c.Epoch == t.epoch && t.isAgain
+	if !isNew || t.isOpen && !c.IsSilent || c.Epoch-t.epoch > most {
 		return false
 	}
 	*t = tableRow{epoch: c.Epoch, base: t.reserved, reserved: t.reserved, isOpen: true, session: c.Session}
@@ -61,6 +63,9 @@ func (t *tableRow) learn(other tableRow) {
 	if newer {
 		*t = other
 		t.base = greatest(before.reserved, other.base)
+		if other.isAgain { // others may claim that epoch here, too
+			t.epoch, t.isAgain = other.epoch-1, before.isAgain && before.epoch == other.epoch-1
+		}
 	}
 	t.reserved = greatest(before.reserved, greatest(other.reserved, t.base))
 }
@@ -86,7 +91,7 @@ func (p *pair) agrees(t *testing.T, call string) {
 		t.Fatal(call, err)
 	}
 	m := p.model
-	if shown.Epoch != m.epoch || shown.Reserved != m.reserved || shown.IsHeld != m.isOpen ||
+	if shown.Epoch != m.epoch || shown.Reserved != m.reserved || shown.IsHeld != m.isOpen || shown.IsAgain != m.isAgain ||
 		m.isOpen && (shown.Base != m.base || shown.Session != m.session) {
 		t.Fatalf("%s: %+v, and by the table %+v", call, shown, m)
 	}
@@ -142,7 +147,7 @@ func TestRowAndTable(t *testing.T) {
 			p.agrees(t, made.call)
 		}
 	}
-	for _, call := range []string{"takes", "claim", "reserve", "close"} {
+	for _, call := range []string{"takes", "claim", "reserve", "close", "take back"} {
 		for _, isDone := range []bool{true, false} {
 			if seen[outcome{call, isDone}] < 100 {
 				t.Errorf("%s was %v only %d times", call, isDone, seen[outcome{call, isDone}])
@@ -177,18 +182,25 @@ func (p *pair) step(t *testing.T, random *rand.Rand, session Session, epoch, sta
 		}
 		return same("reserve", p.row.Reserve(session, epoch, stamp, most), owns)
 	case 4:
-		if owns {
-			m.isOpen = false
+		if random.Intn(2) == 0 {
+			m.isOpen, m.isAgain = m.isOpen && !owns, m.isAgain || owns
+			return same("take back", p.row.TakeBack(session, epoch), owns)
 		}
+		m.isOpen = m.isOpen && !owns
 		return same("close", p.row.Close(session, epoch), owns)
 	case 5:
 		m.isUsed = m.isUsed || owns
 		restored, err := RestoreRow(p.row.State())
+		if shown, _ := restored.Shows(); random.Intn(2) == 0 {
+			restored, err = shown.Row()
+		}
 		p.row = restored
 		return same("restore", err, true)
 	case 6:
 		if random.Intn(4) > 0 {
+			floor := m.epoch // the newest epoch if the call raises none
 			m.epoch, m.base, m.reserved, m.isOpen = greatest(m.epoch, epoch), greatest(m.reserved, stamp), greatest(m.reserved, stamp), false
+			m.isAgain = m.isAgain && m.epoch == floor
 			return same("drop", p.row.Drop(epoch, stamp), true)
 		}
 		*m = tableRow{epoch: m.epoch + 1, base: m.reserved, reserved: m.reserved, isUsed: true}
@@ -232,7 +244,11 @@ func TestRowRefusals(t *testing.T) {
 		{"its own stamps", 0, row.Reserve(one, 6, 200, MaxStamp)},
 		{"another session's end", NotOwner, row.Close(two, 6)},
 		{"one that is silent", 0, claim(two, 7, true)},
-		{"its end", 0, row.Close(two, 7)},
+		{"another session takes the claim back", NotOwner, row.TakeBack(one, 7)},
+		{"it takes its claim back", 0, row.TakeBack(two, 7)},
+		{"another one claims the epoch", 0, claim(one, 7, false)},
+		{"its end", 0, row.Close(one, 7)},
+		{"the epoch again", OldEpoch, claim(two, 7, true)},
 		{"a drop above the last stamp", BadArgument, row.Drop(0, MaxStamp+1)},
 		{"an eviction after the last epoch", EpochsSpent, last.Evict()},
 	} {
@@ -240,7 +256,7 @@ func TestRowRefusals(t *testing.T) {
 			t.Errorf("%s: %v, not %v", it.call, it.got, it.want)
 		}
 	}
-	if shown, err := row.Shows(); err != nil || shown != (RowShown{Epoch: 7, Base: 200, Reserved: 210}) {
+	if shown, err := row.Shows(); err != nil || shown != (RowShown{Epoch: 7, Base: 210, Reserved: 220}) {
 		t.Error(shown, err)
 	}
 }

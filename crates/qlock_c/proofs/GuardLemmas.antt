@@ -8,7 +8,7 @@ use Rattle.fence.specs.declared.fault.FenceFault.{FenceFault}
 use Rattle.fence.specs.declared.fault.FenceFault.TheVariants as faults
 use Rattle.qlock_c.specs.Bytes.{AreGrants, IsGuard}
 use Rattle.qlock_c.specs.FenceSteps.{AdmitsPass, FenceAdmits, seen_with}
-use Rattle.qlock_c.specs.Numbers.{done, fence_refusal, refused}
+use Rattle.blocks.specs.Numbers.{done, fence_refusal, refused}
 use Rattle.qlock_c.proofs.StateLemmas.{length_grants, length_guard}
 
 -- what `Fence::admit` ensures of its result

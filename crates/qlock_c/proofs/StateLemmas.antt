@@ -1,19 +1,17 @@
 -- How long the states are.
-use Rattle.std.proofs.Common.{◌≡◌, ℕ, ◌*◌, ◌∷◌, List, Option, None, Some, length, ap, refl, ◌∙◌, arith}
+use Rattle.std.proofs.Common.{◌≡◌, ℕ, ◌*◌, ◌∷◌, List, length, ap, ◌∙◌, arith}
 use Rattle.std.specs.Prelude.{ℤ, ◌≢◌, OnErr, Result, Ok, Err}
-use Rattle.qlock_c.specs.Numbers.{done, returned}
-use Rattle.qlock_c.specs.declared.refusal.Refusal.{Refusal}
+use Rattle.blocks.specs.Numbers.{done, returned}
+use Rattle.blocks.specs.declared.refusal.Refusal.{Refusal}
 use Rattle.voter.specs.declared.state.VoterState.{VoterState}
 use Rattle.voter.specs.Saved as voters
 use Rattle.voter.proofs.SavedLemmas as voter_lemmas
 use Rattle.requester.specs.declared.state.ClientState.{ClientState}
 use Rattle.requester.specs.Saved as clients
 use Rattle.requester.proofs.SavedLemmas as client_lemmas
-use Rattle.sessions.specs.Rows.{Row}
-use Rattle.session_rows.specs.Saved as rows
 use Rattle.words.proofs.WordLemmas.{length-bytes_of}
 use Rattle.words.specs.WordBytes.{bytes_of}
-use Rattle.qlock_c.specs.Bytes.{AreGrants, IsClient, IsGuard, IsRow, IsVoter}
+use Rattle.qlock_c.specs.Bytes.{AreGrants, IsClient, IsGuard, IsVoter}
 
 length-words : (bytes words : List ℕ) (n : ℕ) → bytes ≡ bytes_of words → length words ≡ n → length bytes ≡ 8 * n
 length-words bytes words n is few = ap (λ (l : List ℕ). length l) is ∙ length-bytes_of words ∙ ap (λ k. 8 * k) few
@@ -29,13 +27,6 @@ length_grants bytes grants is = length-words bytes grants 64 is.bytes_are is.pla
 
 pub length_guard : (bytes seen : List ℕ) (turn : ℕ) → IsGuard bytes seen turn → length bytes ≡ 520
 length_guard bytes seen turn is = length-words bytes (turn ∷ seen) 65 is.bytes_are (let few = is.places in omega arith)
-
-length-session_words : (session : Option ℕ) → length (rows.session_words session) ≡ 3
-length-session_words None = refl
-length-session_words (Some session) = refl
-
-pub length-row : (bytes : List ℕ) (r : Row) → IsRow bytes r → length bytes ≡ 48
-length-row bytes r is = length-words bytes (rows.words_of r) 6 is.bytes_are (let few = length-session_words r.session in omega arith)
 
 -- what holds of each call that failed holds if its number is not that of a call that was done
 pub refused_by : {A : Type 0} (call : Result A Refusal) (P : Type 0) (n : ℤ) → n ≡ returned call → OnErr call P → n ≢ done → P

@@ -1,4 +1,4 @@
--- The states that C sees: the numbers of a voter, of a client, of a guard or of a row, as bytes.
+-- The states that C sees: the numbers of a voter, of a client or of a guard, as bytes.
 use Rattle.std.specs.Prelude.{ℕ, ◌≡◌, List, ◌∷◌, length}
 use Rattle.numbers.specs.Bounds.{max_voters}
 use Rattle.words.specs.WordBytes.{FitIn64Bits, bytes_of}
@@ -6,8 +6,6 @@ use Rattle.voter.specs.declared.state.VoterState.{VoterState}
 use Rattle.voter.specs.Saved as voters
 use Rattle.requester.specs.declared.state.ClientState.{ClientState}
 use Rattle.requester.specs.Saved as clients
-use Rattle.sessions.specs.Rows.{Row}
-use Rattle.session_rows.specs.Saved as rows
 
 -- The bytes are those of this voter: each of its numbers fits in 64 bits, and it can be read again.
 pub record IsVoter (bytes : List ℕ) (voter : VoterState) : Type 0 where
@@ -34,12 +32,6 @@ pub record IsGuard (bytes seen : List ℕ) (turn : ℕ) : Type 0 where
   pub fit : FitIn64Bits (turn ∷ seen)
   pub bytes_are : bytes ≡ bytes_of (turn ∷ seen)
 
--- The bytes are those of this row: each of its numbers fits in 64 bits, and it can be read again.
-pub record IsRow (bytes : List ℕ) (row : Row) : Type 0 where
-  pub bounded : rows.IsBounded row
-  pub fit : FitIn64Bits (rows.words_of row)
-  pub bytes_are : bytes ≡ bytes_of (rows.words_of row)
-
 -- the bytes are those of no voter
 abbrev pub IsNoVoter : List ℕ → Type 0
 IsNoVoter bytes = (voter : VoterState) → IsVoter bytes voter → ⊥
@@ -47,7 +39,3 @@ IsNoVoter bytes = (voter : VoterState) → IsVoter bytes voter → ⊥
 -- the bytes are those of no client
 abbrev pub IsNoClient : List ℕ → Type 0
 IsNoClient bytes = (client : ClientState) → IsClient bytes client → ⊥
-
--- the bytes are those of no row
-abbrev pub IsNoRow : List ℕ → Type 0
-IsNoRow bytes = (row : Row) → IsRow bytes row → ⊥

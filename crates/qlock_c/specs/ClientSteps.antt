@@ -14,8 +14,8 @@ use Rattle.requester.specs.Steps.{Outcome, remind, see, take}
 use Rattle.requester.specs.Words.{held_of, is_inside, members}
 use Rattle.qlock_c.specs.Bytes.{AreGrants, IsClient, IsNoClient}
 use Rattle.qlock_c.specs.Lines.{IsToClient, Sends, lines_to_voters}
-use Rattle.qlock_c.specs.Numbers.{client_refusal, done, refused}
-use Rattle.qlock_c.specs.declared.refusal.Refusal.TheVariants.{BadMessage, BadState, NotInside}
+use Rattle.blocks.specs.Numbers.{client_refusal, done, refused}
+use Rattle.blocks.specs.declared.refusal.Refusal.TheVariants.{BadMessage, BadState, NotInside}
 
 -- 1 if the client got the lock in the step
 abbrev pub entered_number : Seen → ℤ

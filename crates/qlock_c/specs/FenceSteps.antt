@@ -5,8 +5,8 @@ use Rattle.numbers.specs.Bounds.{max_voters}
 use Rattle.fence.specs.Passes.{Admits, HasGrant, Refuses, highest_with}
 use Rattle.fence.specs.Turns.{Raises, RaisesNone}
 use Rattle.qlock_c.specs.Bytes.{AreGrants, IsGuard}
-use Rattle.qlock_c.specs.Numbers.{done, refused}
-use Rattle.qlock_c.specs.declared.refusal.Refusal.TheVariants.{BadArgument, BadState, NoPass, OlderGrant, TurnsSpent}
+use Rattle.blocks.specs.Numbers.{done, refused}
+use Rattle.blocks.specs.declared.refusal.Refusal.TheVariants.{BadArgument, BadState, NoPass, OlderGrant, TurnsSpent}
 
 -- how many bytes a pass has
 abbrev pub grant_bytes : ℕ

@@ -3,8 +3,6 @@ pub mod ClientSteps
 pub mod FenceSteps
 pub mod Lines
 pub mod Made
-pub mod Numbers
 pub mod QuorumSteps
-pub mod RowSteps
 pub mod Sent
 pub mod VoterSteps

@@ -6,8 +6,8 @@ use Rattle.message.specs.declared.message.Message.TheVariants as kinds
 use Rattle.message.specs.declared.message.ToClient.{ToClient}
 use Rattle.message.specs.declared.message.ToVoter.{ToVoter}
 use Rattle.message.specs.Lines.{HasLine, message_line}
-use Rattle.qlock_c.specs.Numbers.{done, refused}
-use Rattle.qlock_c.specs.declared.refusal.Refusal.TheVariants.{NoRoom}
+use Rattle.blocks.specs.Numbers.{done, refused}
+use Rattle.blocks.specs.declared.refusal.Refusal.TheVariants.{NoRoom}
 
 -- the line of a message, and a newline
 abbrev pub line_of : Message → List ℕ

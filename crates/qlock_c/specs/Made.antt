@@ -1,8 +1,8 @@
 -- What a call returns and writes that makes a voter or a client.
 use Rattle.std.specs.Prelude.{ℕ, ℤ, ◌≡◌, ◌≢◌, ◌<◌, ◌≤◌, List, length}
 use Rattle.numbers.specs.Bounds.{max_limit, max_voters}
-use Rattle.qlock_c.specs.Numbers.{done, refused}
-use Rattle.qlock_c.specs.declared.refusal.Refusal.TheVariants.{BadArgument, BadState}
+use Rattle.blocks.specs.Numbers.{done, refused}
+use Rattle.blocks.specs.declared.refusal.Refusal.TheVariants.{BadArgument, BadState}
 
 -- how many bytes a voter has, and a client
 abbrev pub state_bytes : ℕ

@@ -3,8 +3,8 @@
 use Rattle.std.specs.Prelude.{ℕ, ℤ, pos, ◌≡◌, ◌==◌, ◌&&◌, nat_lt, not, Bool, true, false, List, length}
 use Rattle.std.specs.List.{list_all, list_any}
 use Rattle.numbers.specs.Sets.{meet, members_of, within}
-use Rattle.qlock_c.specs.Numbers.{done, refused}
-use Rattle.qlock_c.specs.declared.refusal.Refusal.TheVariants.{BadArgument}
+use Rattle.blocks.specs.Numbers.{done, refused}
+use Rattle.blocks.specs.declared.refusal.Refusal.TheVariants.{BadArgument}
 
 -- there are masks, and each has a member
 abbrev pub are_quorums : List ℕ → Bool

@@ -11,8 +11,8 @@ use Rattle.voter.specs.Steps.{Outcome, current_stamp, remind, step}
 use Rattle.voter_node.specs.LeftOut.{HaveSameLeast}
 use Rattle.qlock_c.specs.Bytes.{IsNoVoter, IsVoter}
 use Rattle.qlock_c.specs.Lines.{IsToVoter, Sends, lines_to_clients}
-use Rattle.qlock_c.specs.Numbers.{done, refused}
-use Rattle.qlock_c.specs.declared.refusal.Refusal.TheVariants.{BadArgument, BadMessage, BadState, GrantsSpent}
+use Rattle.blocks.specs.Numbers.{done, refused}
+use Rattle.blocks.specs.declared.refusal.Refusal.TheVariants.{BadArgument, BadMessage, BadState, GrantsSpent}
 
 -- by what the voter's own step gives: a refusal, or replies and the voter afterwards
 abbrev pub GoesOn : Option Outcome → (after out out_after : List ℕ) → ℕ → ℤ → Type 0

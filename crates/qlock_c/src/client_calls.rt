@@ -11,12 +11,12 @@ ghost use Rattle.qlock_c.specs.ClientSteps.{ClientDisclaims, ClientDoes, ClientF
 ghost use Rattle.qlock_c.specs.FenceSteps.{grant_bytes};
 ghost use Rattle.qlock_c.specs.Lines.{IsToClient};
 ghost use Rattle.qlock_c.specs.Made.{AreInRange, AreWithin, IsMade};
-ghost use Rattle.qlock_c.specs.Numbers.{done, refused, returned};
+ghost use Rattle.blocks.specs.Numbers.{done, refused, returned};
 
 use crate::lines::put_to_voters;
-use crate::refusal::{Refusal, number_of};
 use crate::saved_bytes::{GRANTS_BYTES, STATE_BYTES, load_client, store_client, store_grants};
 use arrayvec::ArrayVec;
+use blocks::{Refusal, number_of};
 use fence::pass_of;
 use message::{Message, ToClient, read_message};
 use numbers::{MAX_CLIENTS, MAX_LIMIT, MAX_VOTERS};

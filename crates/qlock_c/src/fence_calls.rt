@@ -1,10 +1,10 @@
 //! The calls of the guard of what the lock protects.
 ghost use Rattle.std.specs.Prelude.{◌≡◌, ◌≢◌, OnErr};
 ghost use Rattle.qlock_c.specs.FenceSteps.{FenceAdmits, FenceIsMade};
-ghost use Rattle.qlock_c.specs.Numbers.{done, returned};
+ghost use Rattle.blocks.specs.Numbers.{done, returned};
 
-use crate::refusal::{Refusal, number_of};
 use crate::saved_bytes::{FENCE_BYTES, load_fence, load_grants, store_fence};
+use blocks::{Refusal, number_of};
 use fence::{Fence, Pass};
 
 fn new(state: &mut [u8]) -> Result<(), Refusal>

@@ -1,16 +1,15 @@
 //! The library for C: the voter and the client of the lock, the guard of what the lock protects, and the row of
-//! a client number.
+//! a client number and the lease clock at a voter.
 //!
 //! A call gets the state as bytes, which are the caller's, and writes the new state in their place.
 //! Messages are lines of text, as `message` reads and writes them. No call takes memory, and there
 //! is nothing else that one call leaves to the next: calls on different states may run at once.
 //!
 //! - `src/voter_calls.rt`, `src/client_calls.rt`, `src/fence_calls.rt`, `src/quorum_calls.rt`,
-//!   `src/row_calls.rt`: the functions that C calls.
+//!   `src/row_calls.rt`, `src/clock_calls.rt`: the functions that C calls.
 //! - `src/version.rt`: the version, as a number.
 //! - `src/saved_bytes.rt`: the states as bytes.
 //! - `src/lines.rt`: messages as lines, in a text of fixed room.
-//! - `src/refusal.rt`: why a call was refused, and the numbers that C sees.
 //! - `src/laws.rt`: each message has a line that its receiver takes, and the rooms in the header are
 //!   enough.
 //!
@@ -19,19 +18,19 @@
 //!
 //! A call that does not return 0 writes nothing. Where a call that changes a state or sends returns 0,
 //! the automaton's own step gives the new state and the lines: `specs/VoterSteps.antt`,
-//! `specs/ClientSteps.antt`, `specs/FenceSteps.antt` and `specs/RowSteps.antt`. What is said of quorums is in
-//! `specs/QuorumSteps.antt`.
+//! `specs/ClientSteps.antt` and `specs/FenceSteps.antt`. What is said of quorums is in
+//! `specs/QuorumSteps.antt`. Rows, lease clocks and refusals are in the crate `blocks`.
 //!
-//! Depends on `voter`, `voter_node`, `requester`, `fence`, `session_rows`, `message`, `words`, `quorum_set`
-//! and `numbers`.
+//! Depends on `blocks`, `voter`, `voter_node`, `requester`, `fence`, `session_rows`, `message`, `words`,
+//! `quorum_set` and `numbers`.
 #![tactic(auto)]
 
 mod client_calls;
+mod clock_calls;
 mod fence_calls;
 mod laws;
 mod lines;
 mod quorum_calls;
-mod refusal;
 mod row_calls;
 mod saved_bytes;
 mod version;

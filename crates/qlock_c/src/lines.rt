@@ -5,8 +5,8 @@ ghost use Rattle.arrayvec.specs.ArrayString.{array_string_len};
 ghost use Rattle.message.specs.declared.message.Message.TheVariants as kinds;
 ghost use Rattle.qlock_c.specs.Lines.{Writes, lines_to_clients, lines_to_voters, line_of};
 
-use crate::refusal::Refusal;
 use arrayvec::ArrayString;
+use blocks::Refusal;
 use itoa::Buffer;
 use message::{ClientBody, ToClient, ToVoter, VoterBody};
 use texts::push_field_in_room;

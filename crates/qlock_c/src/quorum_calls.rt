@@ -2,10 +2,10 @@
 ghost use Rattle.std.specs.Prelude.{◌≡◌, ◌≢◌, ◌&&◌, OnErr, nat_lt};
 ghost use Rattle.std.specs.List.{list_all, list_any};
 ghost use Rattle.numbers.specs.Sets.{meet, members_of, within};
-ghost use Rattle.qlock_c.specs.Numbers.{done, returned};
+ghost use Rattle.blocks.specs.Numbers.{done, returned};
 ghost use Rattle.qlock_c.specs.QuorumSteps.{SaysOfQuorums, are_quorums, has_quorum, is_bridge, meets_all};
 
-use crate::refusal::{Refusal, number_of};
+use blocks::{Refusal, number_of};
 use quorum_set::QSet;
 
 /// Returns whether each mask has a member.

@@ -1,126 +1,10 @@
 //! The calls of the row of a client number.
-ghost use Rattle.std.specs.Prelude.{◌≡◌, ◌≢◌, OnErr};
-ghost use Rattle.qlock_c.specs.Numbers.{done, returned};
-ghost use Rattle.qlock_c.specs.RowSteps.{RowClaims, RowCloses, RowDrops, RowEvicts, RowIsMade, RowLearns, RowReserves, RowShows, RowTakes, is_yes, named};
+ghost use Rattle.std.specs.Prelude.{◌≡◌, ◌≢◌};
+ghost use Rattle.blocks.specs.Numbers.{done};
+ghost use Rattle.blocks.specs.RowSteps.{RowClaims, RowCloses, RowDrops, RowEvicts, RowIsMade, RowLearns, RowReserves, RowShows, RowTakes, RowTakesBack, is_yes, named};
 
-use crate::refusal::{Refusal, number_of};
-use crate::saved_bytes::{ROW_BYTES, load_row, store_row};
-use numbers::MAX_LIMIT;
-use session_rows::{Bounds, Claim, Heard, SessionRow, joined};
-
-fn new(epoch: u64, stamp: u64, row: &mut [u8]) -> Result<(), Refusal>
-    ensures made { RowIsMade epoch stamp row.old row.new (returned result) }
-    ensures refused { OnErr result (row.new ≡ row.old) }
-{
-    if stamp > MAX_LIMIT {
-        return Err(Refusal::BadArgument);
-    }
-    if row.len() != ROW_BYTES {
-        return Err(Refusal::BadState);
-    }
-    store_row(&SessionRow::new(epoch, stamp), row);
-    Ok(())
-}
-
-fn claim(row: &mut [u8], claim: Claim, is_silent: bool, bounds: Bounds) -> Result<(), Refusal>
-    ensures claims { RowClaims row.old claim is_silent bounds row.new (returned result) }
-    ensures refused { OnErr result (row.new ≡ row.old) }
-{
-    let mut it = load_row(row)?;
-    it.claim(claim, is_silent, bounds)?;
-    store_row(&it, row);
-    Ok(())
-}
-
-fn reserve(row: &mut [u8], session: u128, epoch: u64, stamp: u64, most: u64) -> Result<(), Refusal>
-    ensures reserves { RowReserves row.old session epoch stamp most row.new (returned result) }
-    ensures refused { OnErr result (row.new ≡ row.old) }
-{
-    let mut it = load_row(row)?;
-    it.reserve(session, epoch, stamp, most)?;
-    store_row(&it, row);
-    Ok(())
-}
-
-fn close(row: &mut [u8], session: u128, epoch: u64) -> Result<(), Refusal>
-    ensures closes { RowCloses row.old session epoch row.new (returned result) }
-    ensures refused { OnErr result (row.new ≡ row.old) }
-{
-    let mut it = load_row(row)?;
-    it.close(session, epoch)?;
-    store_row(&it, row);
-    Ok(())
-}
-
-fn evict(row: &mut [u8]) -> Result<(), Refusal>
-    ensures evicts { RowEvicts row.old row.new (returned result) }
-    ensures refused { OnErr result (row.new ≡ row.old) }
-{
-    let mut it = load_row(row)?;
-    it.evict()?;
-    store_row(&it, row);
-    Ok(())
-}
-
-fn drop_to(row: &mut [u8], epoch: u64, stamp: u64) -> Result<(), Refusal>
-    ensures drops { RowDrops row.old epoch stamp row.new (returned result) }
-    ensures refused { OnErr result (row.new ≡ row.old) }
-{
-    if stamp > MAX_LIMIT {
-        return Err(Refusal::BadArgument);
-    }
-    let mut it = load_row(row)?;
-    it.drop_to(epoch, stamp);
-    store_row(&it, row);
-    Ok(())
-}
-
-fn learn(row: &mut [u8], other: &[u8], heard: Heard) -> Result<(), Refusal>
-    ensures learns { RowLearns row.old other.now heard row.new (returned result) }
-    ensures refused { OnErr result (row.new ≡ row.old) }
-{
-    let mut it = load_row(row)?;
-    let there = load_row(other)?;
-    it.learn(&there, heard);
-    store_row(&it, row);
-    Ok(())
-}
-
-fn takes(row: &[u8], session: u128, epoch: u64, stamp: u64, yes: &mut u32) -> Result<(), Refusal>
-    ensures takes { RowTakes row.now session epoch stamp yes.new (returned result) }
-    ensures refused { OnErr result (yes.new ≡ yes.old) }
-{
-    let it = load_row(row)?;
-    *yes = if it.takes(session, epoch, stamp) {
-        1
-    } else {
-        0
-    };
-    Ok(())
-}
-
-fn shows(
-    row: &[u8],
-    epoch: &mut u64,
-    base: &mut u64,
-    reserved: &mut u64,
-    held: &mut u64,
-    upper: &mut u64,
-    lower: &mut u64,
-) -> Result<(), Refusal>
-    ensures shows { RowShows row.now epoch.new base.new reserved.new held.new upper.new lower.new (returned result) }
-    ensures refused { OnErr result ((epoch.new ≡ epoch.old) × (base.new ≡ base.old) × (reserved.new ≡ reserved.old)
-        × (held.new ≡ held.old) × (upper.new ≡ upper.old) × (lower.new ≡ lower.old)) }
-{
-    let [a, b, c, d, e, f] = load_row(row)?.save();
-    *epoch = a;
-    *base = b;
-    *reserved = c;
-    *held = d;
-    *upper = e;
-    *lower = f;
-    Ok(())
-}
+use blocks::{number_of, rows};
+use session_rows::{Bounds, Claim, Heard, joined};
 
 /// Makes the row of a number that nobody has, in 48 bytes. Its epochs and its stamps are above this floor.
 #[unsafe(no_mangle)]
@@ -129,7 +13,7 @@ pub extern "C" fn qlock_row_new(epoch: u64, stamp: u64, row: &mut [u8]) -> i32
     ensures refused { result ≢ done → row.new ≡ row.old }
     ensures made { RowIsMade epoch stamp row.old row.new result }
 {
-    number_of(new(epoch, stamp, row))
+    number_of(rows::new(epoch, stamp, row))
 }
 
 /// Gives the number to a session that claims it, with its first stamps. The claim of the session that has it
@@ -159,7 +43,7 @@ pub extern "C" fn qlock_row_claim(
         epochs,
         stamp: most,
     };
-    number_of(claim(row, wanted, is_silent != 0, bounds))
+    number_of(rows::claim(row, wanted, is_silent != 0, bounds))
 }
 
 /// Reserves stamps up to this one for the session that has the number, none above `most`.
@@ -175,7 +59,7 @@ pub extern "C" fn qlock_row_reserve(
     ensures refused { result ≢ done → row.new ≡ row.old }
     ensures reserves { RowReserves row.old (named upper lower) epoch stamp most row.new result }
 {
-    number_of(reserve(row, joined(upper, lower), epoch, stamp, most))
+    number_of(rows::reserve(row, joined(upper, lower), epoch, stamp, most))
 }
 
 /// Frees the number, which its session gives back.
@@ -184,7 +68,16 @@ pub extern "C" fn qlock_row_close(row: &mut [u8], upper: u64, lower: u64, epoch:
     ensures refused { result ≢ done → row.new ≡ row.old }
     ensures closes { RowCloses row.old (named upper lower) epoch row.new result }
 {
-    number_of(close(row, joined(upper, lower), epoch))
+    number_of(rows::close(row, joined(upper, lower), epoch))
+}
+
+/// Frees the number, as the session takes its claim back: no quorum granted it. Another session may claim the epoch.
+#[unsafe(no_mangle)]
+pub extern "C" fn qlock_row_take_back(row: &mut [u8], upper: u64, lower: u64, epoch: u64) -> i32
+    ensures refused { result ≢ done → row.new ≡ row.old }
+    ensures back { RowTakesBack row.old (named upper lower) epoch row.new result }
+{
+    number_of(rows::take_back(row, joined(upper, lower), epoch))
 }
 
 /// Ends the session that has the number: the number is nobody's, under the next epoch.
@@ -193,7 +86,7 @@ pub extern "C" fn qlock_row_evict(row: &mut [u8]) -> i32
     ensures refused { result ≢ done → row.new ≡ row.old }
     ensures evicts { RowEvicts row.old row.new result }
 {
-    number_of(evict(row))
+    number_of(rows::evict(row))
 }
 
 /// Drops the row: the number is nobody's, and its epochs and stamps are above this floor, and above what the
@@ -203,7 +96,7 @@ pub extern "C" fn qlock_row_drop(row: &mut [u8], epoch: u64, stamp: u64) -> i32
     ensures refused { result ≢ done → row.new ≡ row.old }
     ensures drops { RowDrops row.old epoch stamp row.new result }
 {
-    number_of(drop_to(row, epoch, stamp))
+    number_of(rows::drop_to(row, epoch, stamp))
 }
 
 /// Learns another voter's row of the number.
@@ -221,7 +114,7 @@ pub extern "C" fn qlock_row_learn(
         here: heard_here != 0,
         there: heard_there != 0,
     };
-    number_of(learn(row, other, heard))
+    number_of(rows::learn(row, other, heard))
 }
 
 /// Writes 1 if the voter takes a REQUEST of the session, under this epoch and stamp, and 0 if not.
@@ -237,11 +130,11 @@ pub extern "C" fn qlock_row_takes(
     ensures refused { result ≢ done → yes.new ≡ yes.old }
     ensures takes { RowTakes row.now (named upper lower) epoch stamp yes.new result }
 {
-    number_of(takes(row, joined(upper, lower), epoch, stamp, yes))
+    number_of(rows::takes(row, joined(upper, lower), epoch, stamp, yes))
 }
 
 /// Writes the numbers of a row: its epoch, its base, its highest reserved stamp, and 1 and the halves of the
-/// session's name, or three times 0 if nobody has the number.
+/// session's name. If nobody has the number it writes 0, or 2 if the epoch may be claimed again, and twice 0.
 #[unsafe(no_mangle)]
 pub extern "C" fn qlock_row_shows(
     row: &[u8],
@@ -256,5 +149,5 @@ pub extern "C" fn qlock_row_shows(
         × (held.new ≡ held.old) × (upper.new ≡ upper.old) × (lower.new ≡ lower.old) }
     ensures shows { RowShows row.now epoch.new base.new reserved.new held.new upper.new lower.new result }
 {
-    number_of(shows(row, epoch, base, reserved, held, upper, lower))
+    number_of(rows::shows(row, epoch, base, reserved, held, upper, lower))
 }

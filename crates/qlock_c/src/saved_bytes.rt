@@ -1,19 +1,16 @@
-//! Voters, clients, guards and rows as bytes.
-ghost use Rattle.std.specs.Prelude.{◌≡◌, ◌≢◌, ◌∷◌, [], ℕ, List, IfErr, IfOk, IfSome, Some, length};
+//! Voters, clients and guards as bytes.
+ghost use Rattle.std.specs.Prelude.{◌≡◌, ◌≢◌, ◌∷◌, [], ℕ, List, IfErr, IfOk, length};
 ghost use Rattle.arrayvec.specs.ArrayVec.{array_vec_len};
 ghost use Rattle.numbers.specs.Bounds.{max_voters};
 ghost use Rattle.requester.specs.declared.state.ClientState.{ClientState};
-ghost use Rattle.session_rows.specs.Saved.{IsBounded, words_of};
-ghost use Rattle.sessions.specs.Rows.{Row};
 ghost use Rattle.voter.specs.declared.state.VoterState.{VoterState};
-ghost use Rattle.qlock_c.specs.Bytes.{AreGrants, IsClient, IsGuard, IsNoClient, IsNoRow, IsNoVoter, IsRow, IsVoter};
+ghost use Rattle.qlock_c.specs.Bytes.{AreGrants, IsClient, IsGuard, IsNoClient, IsNoVoter, IsVoter};
 
-use crate::refusal::Refusal;
 use arrayvec::ArrayVec;
+use blocks::Refusal;
 use fence::Fence;
 use numbers::MAX_VOTERS;
 use requester::Requester;
-use session_rows::{SAVED_WORDS, SessionRow};
 use voter::Voter;
 use words::{read_words, write_words};
 
@@ -25,9 +22,6 @@ pub const GRANTS_BYTES: usize = 512;
 
 /// How many bytes a saved guard has.
 pub const FENCE_BYTES: usize = 520;
-
-/// How many bytes a saved row has.
-pub const ROW_BYTES: usize = 48;
 
 /// Returns the voter that was saved as these bytes. Fails with `BadState` if there is none.
 pub fn load_voter(state: &[u8]) -> Result<Voter, Refusal>
@@ -162,43 +156,4 @@ pub fn store_grants(grants: &[u64; MAX_VOTERS], bytes: &mut [u8])
     ensures { AreGrants bytes.new grants.now }
 {
     write_words(grants, bytes);
-}
-
-/// Returns the row that was saved as these bytes. Fails with `BadState` if there is none.
-pub fn load_row(bytes: &[u8]) -> Result<SessionRow, Refusal>
-    ensures loaded { IfOk result (IsRow bytes.now) }
-    // It is the only one.
-    ensures only { IfOk result (λ r. (s : Row) → IsRow bytes.now s → s ≡ r) }
-    ensures len { IfOk result (λ _. length bytes.now ≡ 48) }
-    ensures refused { IfErr result (λ r. (r ≡ Refusal.BadState) × IsNoRow bytes.now) }
-{
-    if bytes.len() != ROW_BYTES {
-        return Err(Refusal::BadState);
-    }
-    let mut words = ArrayVec::<u64, SAVED_WORDS>::new();
-    read_words(bytes, &mut words);
-    match row_of(words.as_slice()) {
-        Some(row) => Ok(row),
-        None => Err(Refusal::BadState),
-    }
-}
-
-/// Returns the row with these numbers. `None` if they are not those of a row.
-fn row_of(words: &[u64]) -> Option<SessionRow>
-    requires { length words.now ≡ 6 }
-    ensures bounded { IfSome result IsBounded }
-    ensures text { IfSome result (λ r. words.now ≡ words_of r) }
-    ensures read { (r : Row) → IsBounded r → words.now ≡ words_of r → result ≡ Some r }
-{
-    let mut numbers = [0; SAVED_WORDS];
-    numbers.copy_from_slice(words);
-    SessionRow::restore(&numbers)
-}
-
-/// Writes the bytes of a row.
-pub fn store_row(row: &SessionRow, bytes: &mut [u8])
-    requires { length bytes.old ≡ 48 }
-    ensures { IsRow bytes.new row.now }
-{
-    write_words(&row.save(), bytes);
 }

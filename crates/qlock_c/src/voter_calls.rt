@@ -7,13 +7,13 @@ ghost use Rattle.voter.specs.Steps.{start};
 ghost use Rattle.qlock_c.specs.Bytes.{IsVoter};
 ghost use Rattle.qlock_c.specs.Lines.{IsToVoter};
 ghost use Rattle.qlock_c.specs.Made.{AreInRange, AreWithin, IsMade};
-ghost use Rattle.qlock_c.specs.Numbers.{done, refused, returned};
+ghost use Rattle.blocks.specs.Numbers.{done, refused, returned};
 ghost use Rattle.qlock_c.specs.VoterSteps.{IsHeldBy, VoterEvicts, VoterExtends, VoterForgets, VoterMustSave, VoterRaises, VoterReminds, VoterShowsClient, VoterShowsHolder, VoterTakes};
 
 use crate::lines::put_to_clients;
-use crate::refusal::{Refusal, number_of};
 use crate::saved_bytes::{STATE_BYTES, load_voter, store_voter};
 use arrayvec::ArrayVec;
+use blocks::{Refusal, number_of};
 use message::{Message, ToVoter, read_message};
 use numbers::{MAX_CLIENTS, MAX_LIMIT, MAX_VOTERS};
 use voter::{Grant, Voter};

@@ -1,9 +1,9 @@
 -- each call of a row is a list of deeds
 use Rattle.std.proofs.Common.{◌≡◌, ℕ, Bool, true, false, List, [], ◌∷◌, ◌++◌, refl, ap, ◌∙◌, Option, Some, None, Result, Ok}
 use Rattle.std.specs.Prelude.{◌+◌, if◌then◌else◌}
-use Rattle.sessions.specs.Rows.{Claim, Close, Crash, Deed, Drop, Request, Reserve, Row, Save, Voter, claimed, closed, does, does_all, dropped, has_number, reserved}
-use Rattle.session_rows.specs.Calls.{allowed_stamp, claim_fault, followed_by, gives_way, is_split, new_claim, owner_fault, raised_by, unless}
-use Rattle.session_rows.specs.Runs.{Call, Calls, Claims, Closes, Crashes, Drops, Evicts, Learns, Requests, Reserves, Saves, Turn, after_call, after_turn, after_turns, row_or}
+use Rattle.sessions.specs.Rows.{Claim, Close, Crash, Deed, Drop, Request, Reserve, Row, Save, TakeBack, Voter, claimed, closed, does, does_all, dropped, has_number, reserved, taken_back}
+use Rattle.session_rows.specs.Calls.{allowed_stamp, claim_fault, closed_epoch, followed_by, gives_way, is_split, new_claim, owner_fault, raised_by, unless}
+use Rattle.session_rows.specs.Runs.{Call, Calls, Claims, Closes, Crashes, Drops, Evicts, Learns, Requests, Reserves, Saves, TakesBack, Turn, after_call, after_turn, after_turns, row_or}
 use Rattle.session_rows.specs.declared.fault.RowFault.{RowFault}
 
 -- deeds lead from one voter to the other
@@ -47,6 +47,9 @@ reserves r session epoch stamp v = by (with v r) (Reserve session epoch stamp)
 closes : (r : Row) (session epoch : ℕ) → Becomes r (closed r session epoch)
 closes r session epoch v = by (with v r) (Close session epoch)
 
+takes_back : (r : Row) (session epoch : ℕ) → Becomes r (taken_back r session epoch)
+takes_back r session epoch v = by (with v r) (TakeBack session epoch)
+
 drops : (r : Row) (epoch stamp : ℕ) → Becomes r (dropped r epoch stamp)
 drops r epoch stamp v = by (with v r) (Drop epoch stamp)
 
@@ -67,7 +70,7 @@ either_outcome r one two true first second = first
 either_outcome r one two false first second = second
 
 follows : (r other : Row) (name : Option ℕ) → Becomes r (followed_by r other name)
-follows r other None = drops r other.epoch other.reserved
+follows r other None = drops r (closed_epoch other) other.reserved
 follows r other (Some session) =
     let low = dropped r 0 other.base in
     let new = claimed low session other.epoch in
@@ -87,6 +90,7 @@ call_becomes r (Claims claim is_silent bounds) =
 call_becomes r (Reserves session epoch stamp most) =
     outcome r (reserved r session epoch (allowed_stamp stamp most)) (owner_fault r session epoch) (reserves r session epoch (allowed_stamp stamp most))
 call_becomes r (Closes session epoch) = outcome r (closed r session epoch) (owner_fault r session epoch) (closes r session epoch)
+call_becomes r (TakesBack session epoch) = outcome r (taken_back r session epoch) (owner_fault r session epoch) (takes_back r session epoch)
 call_becomes r Evicts = outcome r (dropped r (r.epoch + 1) 0) _ (drops r (r.epoch + 1) 0)
 call_becomes r (Drops epoch stamp) = drops r epoch stamp
 call_becomes r (Learns other heard) =

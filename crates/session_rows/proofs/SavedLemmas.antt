@@ -1,5 +1,5 @@
 -- a session's name as two halves
-use Rattle.std.proofs.Common.{◌≡◌, ℕ, ◌<◌, [], ◌∷◌, Some, sym, ap, ◌∙◌, arith}
+use Rattle.std.proofs.Common.{◌≡◌, ℕ, ◌<◌, false, [], ◌∷◌, Some, sym, ap, ◌∙◌, arith}
 use Rattle.std.specs.Prelude.{◌+◌, ◌*◌, ◌/◌, ◌%◌, ◌^◌}
 use Rattle.std.proofs.lemmas.Nat.{div-mul-add, div-add-mod'}
 use Rattle.session_rows.specs.Saved.{session_words}
@@ -10,7 +10,7 @@ halves upper lower few =
     let whole = div-add-mod' (upper * 2 ^ 64 + lower) (2 ^ 64) in
     (above, omega arith)
 
-pub joined_words : (upper lower : ℕ) → lower < 2 ^ 64 → 1 ∷ upper ∷ lower ∷ [] ≡ session_words (Some (upper * 2 ^ 64 + lower))
+pub joined_words : (upper lower : ℕ) → lower < 2 ^ 64 → 1 ∷ upper ∷ lower ∷ [] ≡ session_words (Some (upper * 2 ^ 64 + lower)) false
 joined_words upper lower few =
     let parts = halves upper lower few in
     let up = parts.0 in

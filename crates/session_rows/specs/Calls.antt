@@ -1,7 +1,7 @@
 -- What the calls of a row leave, and why they are refused: the steps of `sessions`, with bounds.
-use Rattle.std.specs.Prelude.{ℕ, ◌+◌, ◌^◌, ◌==◌, nat_le, nat_lt, min, Bool, false, ◌&&◌, ◌||◌, not, Option, Some, None, is_none, if◌then◌else◌, Result, Ok, Err}
+use Rattle.std.specs.Prelude.{ℕ, ◌+◌, ◌-◌, ◌^◌, ◌==◌, nat_lt, min, Bool, false, ◌&&◌, ◌||◌, not, Option, Some, None, is_none, if◌then◌else◌, Result, Ok, Err}
 use Rattle.numbers.specs.Bounds.{max_limit}
-use Rattle.sessions.specs.Rows.{Row, claimed, closed, dropped, has_number, reserved}
+use Rattle.sessions.specs.Rows.{Row, claimed, closed, dropped, has_number, is_new, reserved, taken_back}
 use Rattle.session_rows.specs.declared.claim.Bounds.{Bounds}
 use Rattle.session_rows.specs.declared.claim.Claim.{Claim}
 use Rattle.session_rows.specs.declared.claim.Heard.{Heard}
@@ -18,18 +18,18 @@ most_claimed = 2 ^ 12
 
 -- a number has a row before anybody had it: its epochs and its stamps are above this floor
 abbrev pub floor_row : ℕ → ℕ → Row
-floor_row epoch stamp = record { epoch = epoch; session = None; base = stamp; reserved = stamp }
+floor_row epoch stamp = record { epoch = epoch; session = None; base = stamp; reserved = stamp; again = false }
 
 -- the outcome, unless there is a fault
 abbrev pub unless : {F G : Type 0} → Option G → F → Result F G
 unless None outcome = Ok outcome
 unless (Some fault) outcome = Err fault
 
--- Why a new claim is refused: its epoch is not newer, or too far above the row's, or some session has the
+-- Why a new claim is refused: its epoch may not be claimed, or is too far above the row's, or some session has the
 -- number and was heard of late.
 abbrev pub claim_fault : Row → ℕ → Bool → ℕ → Option RowFault
 claim_fault r epoch is_silent epochs =
-    if nat_le epoch r.epoch then Some OldEpoch
+    if not (is_new r epoch) then Some OldEpoch
     else if nat_lt (r.epoch + min epochs most_epochs) epoch then Some FarEpoch
     else if is_none r.session || is_silent then None else Some InUse
 
@@ -60,15 +60,24 @@ reserve_of r session epoch stamp most = unless (owner_fault r session epoch) (re
 abbrev pub close_of : Row → ℕ → ℕ → Result Row RowFault
 close_of r session epoch = unless (owner_fault r session epoch) (closed r session epoch)
 
+-- the row after a session took its claim back
+abbrev pub take_back_of : Row → ℕ → ℕ → Result Row RowFault
+take_back_of r session epoch = unless (owner_fault r session epoch) (taken_back r session epoch)
+
 -- the row after its session was ended by somebody else: it is nobody's, under the next epoch
 abbrev pub evict_of : Row → Result Row RowFault
 evict_of r = unless (if nat_lt (r.epoch + 1) (2 ^ 64) then None else Some EpochsSpent) (dropped r (r.epoch + 1) 0)
 
 -- ---- what a voter learns from another voter's row
 
--- the other row's number has a session there, if any: it has it here too, above all that was reserved here
+-- the newest epoch that nobody may claim any more, by the other row, if nobody has the number there
+abbrev pub closed_epoch : Row → ℕ
+closed_epoch other = if other.again then other.epoch - 1 else other.epoch
+
+-- The other row's number has a session there, if any: it has it here too, above all that was reserved here. If nobody
+-- has it, an epoch that may be claimed again there may be claimed here.
 abbrev pub followed_by : Row → Row → Option ℕ → Row
-followed_by r other None = dropped r other.epoch other.reserved
+followed_by r other None = dropped r (closed_epoch other) other.reserved
 followed_by r other (Some session) = reserved (claimed (dropped r 0 other.base) session other.epoch) session other.epoch other.reserved
 
 -- whoever has the number here, this stamp is reserved

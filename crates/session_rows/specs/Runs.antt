@@ -1,7 +1,7 @@
 -- What may come to a voter that keeps a row by these calls.
 use Rattle.std.specs.Prelude.{ℕ, Bool, List, [], ◌∷◌, Result, Ok, Err, if◌then◌else◌}
 use Rattle.sessions.specs.Rows.{Row, Voter, dropped, is_taken}
-use Rattle.session_rows.specs.Calls.{claim_of, close_of, evict_of, learn_of, reserve_of}
+use Rattle.session_rows.specs.Calls.{claim_of, close_of, evict_of, learn_of, reserve_of, take_back_of}
 use Rattle.session_rows.specs.declared.claim.Bounds.{Bounds}
 use Rattle.session_rows.specs.declared.claim.Claim.{Claim}
 use Rattle.session_rows.specs.declared.claim.Heard.{Heard}
@@ -15,6 +15,8 @@ pub data Call : Type 0 where
   Reserves : ℕ → ℕ → ℕ → ℕ → Call
   -- session, epoch
   Closes : ℕ → ℕ → Call
+  -- session, epoch
+  TakesBack : ℕ → ℕ → Call
   Evicts : Call
   -- epoch, stamp
   Drops : ℕ → ℕ → Call
@@ -31,6 +33,7 @@ abbrev pub after_call : Row → Call → Row
 after_call r (Claims claim is_silent bounds) = row_or r (claim_of r claim is_silent bounds)
 after_call r (Reserves session epoch stamp most) = row_or r (reserve_of r session epoch stamp most)
 after_call r (Closes session epoch) = row_or r (close_of r session epoch)
+after_call r (TakesBack session epoch) = row_or r (take_back_of r session epoch)
 after_call r Evicts = row_or r (evict_of r)
 after_call r (Drops epoch stamp) = dropped r epoch stamp
 after_call r (Learns other heard) = learn_of r other heard

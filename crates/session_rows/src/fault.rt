@@ -4,7 +4,7 @@ use thiserror::Error;
 /// The reason why a row refuses a call. The row is unchanged.
 #[derive(Clone, Copy, Debug, PartialEq, Eq, Error)]
 pub enum RowFault {
-    /// The claim's epoch is not above the row's.
+    /// The claim's epoch is not above the row's, nor one that may be claimed again.
     #[error("OldEpoch")]
     OldEpoch,
     /// The claim's epoch is too far above the row's.

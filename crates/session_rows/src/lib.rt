@@ -3,10 +3,14 @@
 //!
 //! A [`SessionRow`] is what the laws of `sessions` call a row, and each call is a step of these laws, with
 //! bounds (`specs/Calls.antt`): [`SessionRow::claim`], [`SessionRow::reserve`], [`SessionRow::close`],
-//! [`SessionRow::evict`], [`SessionRow::drop_to`] and [`SessionRow::learn`]. [`SessionRow::takes`] says
+//! [`SessionRow::take_back`], [`SessionRow::evict`], [`SessionRow::drop_to`] and [`SessionRow::learn`]. [`SessionRow::takes`] says
 //! which REQUESTs the voter takes. Clocks are the caller's: it says whether a session was silent.
 //!
-//! A session is a number of 128 bits, a hash of its name. No call takes memory.
+//! A voter whose row changes by these calls takes the REQUESTs of a stamp from one session, under one epoch
+//! ([`rows_own_stamps`]).
+//!
+//! A session is a number of 128 bits, a hash of its name. A row is saved as six numbers
+//! ([`SessionRow::save`]), and restored as it was. No call takes memory.
 //!
 //! Depends on `sessions` and `numbers`.
 #![tactic(auto)]

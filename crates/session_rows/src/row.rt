@@ -1,8 +1,8 @@
 //! The row of a client number.
-ghost use Rattle.std.specs.Prelude.{◌≡◌, ◌<◌, ◌≤◌, IfErr, IfSome, OnOk, OnErr, Ok, Err, Some, None, Option, ℕ, max, min, nat_le, is_none};
+ghost use Rattle.std.specs.Prelude.{◌≡◌, ◌<◌, ◌≤◌, IfErr, IfSome, OnOk, OnErr, Ok, Err, Some, None, Option, ℕ, max, min, nat_le, is_none, true};
 ghost use Rattle.numbers.specs.Bounds.{max_limit};
-ghost use Rattle.sessions.specs.Rows.{Row, dropped, has_number, is_name, is_taken, reserved};
-ghost use Rattle.session_rows.specs.Calls.{allowed_stamp, are_two, claim_fault, claim_of, close_of, evict_of, floor_row, followed_by, gives_way, is_split, learn_of, new_claim, raised_by, reserve_of};
+ghost use Rattle.sessions.specs.Rows.{Row, dropped, has_number, is_name, is_new, is_taken, reserved};
+ghost use Rattle.session_rows.specs.Calls.{allowed_stamp, are_two, claim_fault, claim_of, close_of, evict_of, floor_row, followed_by, gives_way, is_split, learn_of, new_claim, raised_by, reserve_of, take_back_of};
 ghost use Rattle.session_rows.specs.Saved.{IsBounded, words_of};
 
 use crate::claim::{Bounds, Claim, Heard};
@@ -18,7 +18,7 @@ const MOST_EPOCHS: u64 = 1 << 20;
 const MOST_CLAIMED: u64 = 1 << 12;
 
 /// The row of one client number at one voter: its newest epoch, the session that has it, if any does, and
-/// between which stamps that session's are.
+/// between which stamps that session's are. If the session took its claim back, the epoch may be claimed again.
 ///
 /// Contracts see it as a `Row` of `sessions`.
 #[derive(Drop)]
@@ -27,6 +27,7 @@ pub struct SessionRow {
     session: Option<u128>,
     base: u64,
     reserved: u64,
+    again: bool,
 }
 
 impl Model for SessionRow {
@@ -35,9 +36,9 @@ impl Model for SessionRow {
 
     ghost Value = { Row };
 
-    ghost view = { λ r. record { epoch = r.epoch; session = r.session; base = r.base; reserved = r.reserved } };
+    ghost view = { λ r. record { epoch = r.epoch; session = r.session; base = r.base; reserved = r.reserved; again = r.again } };
 
-    ghost invariant = { λ r. IsBounded (record { epoch = r.epoch; session = r.session; base = r.base; reserved = r.reserved }) };
+    ghost invariant = { λ r. IsBounded (record { epoch = r.epoch; session = r.session; base = r.base; reserved = r.reserved; again = r.again }) };
 }
 
 /// Returns whether this is the name of the session.
@@ -79,6 +80,7 @@ impl SessionRow {
             session: None,
             base: stamp,
             reserved: stamp,
+            again: false,
         }
     }
 
@@ -94,6 +96,13 @@ impl SessionRow {
         ensures { result ≡ self.now.session }
     {
         self.session
+    }
+
+    /// Returns whether the epoch may be claimed again: its session took the claim back.
+    pub fn again(&self) -> bool
+        ensures { result ≡ self.now.again }
+    {
+        self.again
     }
 
     /// Returns the stamp above which all stamps of the session are.
@@ -117,7 +126,7 @@ impl SessionRow {
         // So it can be restored, whatever calls led to it.
         ensures bounded { IsBounded self.now }
     {
-        let [held, upper, lower] = words_of_session(self.session);
+        let [held, upper, lower] = words_of_session(self.session, self.again);
         [self.epoch, self.base, self.reserved, held, upper, lower]
     }
 
@@ -133,12 +142,13 @@ impl SessionRow {
         if base > reserved || reserved > MAX_LIMIT {
             return None;
         }
-        let session = session_of_words(held, upper, lower)?;
+        let (session, again) = session_of_words(held, upper, lower)?;
         Some(SessionRow {
             epoch,
             session,
             base,
             reserved,
+            again,
         })
     }
 
@@ -167,8 +177,9 @@ impl SessionRow {
     /// Gives the number to a session that claims it, with its first stamps. The claim of the session that
     /// has it changes nothing. The caller says whether the session that has it was silent for long enough.
     ///
-    /// Fails with `OldEpoch` if the epoch is not above the row's, with `FarEpoch` if it is too far above it,
-    /// and with `InUse` if a session has the number and is not silent, in this order.
+    /// Fails with `OldEpoch` if the epoch is not above the row's, nor is the row's and may be claimed again, with
+    /// `FarEpoch` if it is too far above it, and with `InUse` if a session has the number and is not silent, in
+    /// this order.
     pub fn claim(&mut self, claim: Claim, is_silent: bool, bounds: Bounds) -> Result<(), RowFault>
         ensures claimed { OnOk result (Ok self.new ≡ claim_of self.old claim is_silent bounds) }
         ensures refused { IfErr result (λ fault. Err fault ≡ claim_of self.old claim is_silent bounds) }
@@ -190,7 +201,7 @@ impl SessionRow {
     fn claim_fault(&self, epoch: u64, is_silent: bool, epochs: u64) -> Option<RowFault>
         ensures { result ≡ claim_fault self.now epoch is_silent epochs }
     {
-        if epoch <= self.epoch {
+        if !self.is_new(epoch) {
             Some(RowFault::OldEpoch)
         } else if epoch - self.epoch > epochs.min(MOST_EPOCHS) {
             Some(RowFault::FarEpoch)
@@ -201,15 +212,25 @@ impl SessionRow {
         }
     }
 
+    /// Returns whether a session may claim this epoch: it is newer, or the row is free and its epoch may be claimed
+    /// again.
+    fn is_new(&self, epoch: u64) -> bool
+        ensures new { result ≡ is_new self.now epoch }
+        ensures below { result ≡ true → self.now.epoch ≤ epoch }
+    {
+        self.epoch < epoch || self.epoch == epoch && self.again && self.session.is_none()
+    }
+
     /// Begins the session of a claim.
     fn begin(&mut self, claim: Claim, most: u64)
-        requires { self.old.epoch < claim.epoch }
+        requires { is_new self.old claim.epoch ≡ true }
         ensures { self.new ≡ new_claim self.old claim most }
     {
         let spent = self.reserved;
         self.epoch = claim.epoch;
         self.session = Some(claim.session);
         self.base = spent;
+        self.again = false;
         self.reserved = spent.max(allowed_stamp(spent + claim.stamps.min(MOST_CLAIMED), most));
     }
 
@@ -244,19 +265,45 @@ impl SessionRow {
         ensures unchanged { OnErr result (self.new ≡ self.old) }
     {
         if self.owns(session, epoch) {
-            self.session = None;
+            self.vacate(false);
             Ok(())
         } else {
             Err(RowFault::NotOwner)
         }
     }
 
+    /// Frees the number, as the session takes its claim back: no quorum granted it. The epoch may be claimed again.
+    /// A session that did so claims and uses this epoch never again.
+    ///
+    /// Fails with `NotOwner` if and only if the number is not the session's under this epoch.
+    pub fn take_back(&mut self, session: u128, epoch: u64) -> Result<(), RowFault>
+        ensures back { OnOk result (Ok self.new ≡ take_back_of self.old session epoch) }
+        ensures refused { IfErr result (λ fault. Err fault ≡ take_back_of self.old session epoch) }
+        ensures unchanged { OnErr result (self.new ≡ self.old) }
+    {
+        if self.owns(session, epoch) {
+            self.vacate(true);
+            Ok(())
+        } else {
+            Err(RowFault::NotOwner)
+        }
+    }
+
+    /// Leaves the number to nobody. `again` says whether the epoch may be claimed again.
+    fn vacate(&mut self, again: bool)
+        ensures { self.new ≡ record { epoch = self.old.epoch; session = None; base = self.old.base; reserved = self.old.reserved; again = again } }
+    {
+        self.session = None;
+        self.again = again;
+    }
+
     /// Drops the row: the number is nobody's, and its epochs and stamps are above this floor, and above what
-    /// the row had.
+    /// the row had. An epoch that may be claimed again still may, if the floor has no newer one.
     pub fn drop_to(&mut self, epoch: u64, stamp: u64)
         requires { stamp ≤ max_limit }
         ensures { self.new ≡ dropped self.old epoch stamp }
     {
+        self.again = epoch <= self.epoch && self.again && self.session.is_none();
         self.epoch = self.epoch.max(epoch);
         self.session = None;
         self.reserved = self.reserved.max(stamp);
@@ -310,12 +357,14 @@ impl SessionRow {
         ensures { self.new ≡ followed_by self.old other.now other.now.session }
     {
         match other.session {
+            None if other.again => self.drop_to(other.epoch - 1, other.reserved),
             None => self.drop_to(other.epoch, other.reserved),
             Some(session) => {
                 self.epoch = other.epoch;
                 self.session = Some(session);
                 self.base = self.reserved.max(other.base);
                 self.reserved = self.base.max(other.reserved);
+                self.again = false;
             }
         }
     }

@@ -160,6 +160,9 @@ func (d *Daemon) load(now time.Time) error {
 		votes = append(votes, saved{name, state})
 		return nil
 	}, func(number int, row Session, isOld bool) error {
+		if _, err := row.proved(); err != nil {
+			return fmt.Errorf("session of number %d: %w", number, err)
+		}
 		if d.table.rows[number] = row; isOld {
 			d.table.later[number] = row
 		}
@@ -398,12 +401,11 @@ func isToVoter(said wire.Line) bool {
 // base, and no stamp is above what it reserved. A RELINQUISH names a grant, and the automaton takes
 // the current one only.
 func (d *Daemon) isHis(said wire.Line) bool {
-	row := &d.table.rows[said.From]
 	switch string(said.Word) {
 	case "request":
-		return row.Base < said.Stamp && said.Stamp <= row.Reserved
+		return d.table.takes(said.From, said.Stamp)
 	case "release":
-		return said.Stamp <= row.Reserved
+		return said.Stamp <= d.table.rows[said.From].Reserved
 	}
 	return true
 }

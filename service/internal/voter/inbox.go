@@ -101,7 +101,7 @@ func (d *Daemon) receive() {
 
 // sendMarker sends a marker to this voter itself, if it is time for one.
 func (d *Daemon) sendMarker(now time.Time) {
-	if number, due := d.table.clock.isDue(now); due {
+	if number := d.table.clock.Send(now.Sub(d.table.began)); number > 0 {
 		h := d.header()
 		d.post(wire.VoterBox(h.Cluster, h.Number, strconv.Itoa(h.Number)), append(h.Append(nil), d.markerLine(number)...))
 	}
@@ -120,8 +120,9 @@ func (d *Daemon) isMarker(lines string) bool {
 	if _, err := fmt.Sscanf(lines, ". marker %d ", &number); err != nil || lines != d.markerLine(number) {
 		return false
 	}
-	d.table.clock.returns(number)
-	d.marked.Store(d.table.clock.back.left.UnixNano())
+	d.table.clock.Returns(number)
+	_, left := d.table.clock.Shows()
+	d.marked.Store(d.table.began.Add(left).UnixNano())
 	return true
 }
 

@@ -23,9 +23,9 @@ func newTide(t *testing.T, ttl time.Duration) *tide {
 // turn is a turn of a loop that takes some time. A marker that is due leaves, and comes back at its
 // end, if it does.
 func (c *tide) turn(takes time.Duration, comesBack bool) {
-	number, due := c.clock.isDue(c.now)
-	if c.now = c.now.Add(takes); due && comesBack {
-		c.clock.returns(number)
+	number := c.clock.Send(c.now.Sub(c.began))
+	if c.now = c.now.Add(takes); number > 0 && comesBack {
+		c.clock.Returns(number)
 	}
 }
 
@@ -80,21 +80,26 @@ func TestLeasesAndStandstill(t *testing.T) {
 	if c.turn(50*time.Millisecond, true); c.isDead(3) {
 		t.Error("a client is let go for a standstill of the voter")
 	}
-	if c.clock.reading().After(c.now) || c.clock.skipped > 31*time.Second {
+	if reading, left := c.clock.Shows(); c.began.Add(reading).After(c.now) || left-reading > 31*time.Second {
 		t.Error("the clock is ahead")
+	}
+	c.hear(3, c.now)
+	for begin := c.now; !c.isDead(3); c.turn(50*time.Millisecond, true) {
+		if c.now.Sub(begin) > 2*c.ttl {
+			t.Fatal("a session that is silent after a standstill keeps its votes")
+		}
 	}
 }
 
 // A marker that comes again, late, or from nowhere says nothing.
 func TestWhichMarkersCount(t *testing.T) {
 	c := newTide(t, 2*time.Second)
-	first, _ := c.clock.isDue(c.now)
-	c.now = c.now.Add(time.Second)
-	second, _ := c.clock.isDue(c.now)
-	c.clock.returns(second)
-	before := c.clock.back
+	first := c.clock.Send(0)
+	second := c.clock.Send(time.Second)
+	c.clock.Returns(second)
+	before := c.clock
 	for _, number := range []uint64{first, second, 77, 0} {
-		if c.clock.returns(number); c.clock.back != before {
+		if c.clock.Returns(number); c.clock != before {
 			t.Errorf("marker %d counts", number)
 		}
 	}

@@ -56,28 +56,47 @@ const (
 	stampRate   = 1 << 16 // a second
 )
 
+// asked is a row of which it was asked last whether it takes a REQUEST, with its proved row.
+type asked struct {
+	of      Session
+	row     *qlock.Row
+	session qlock.Session
+}
+
 // table has a row for each client number. A session claims its number, and is never learned from a
-// header. Stamps of a session are above its base and at most what it reserved, and the next
-// session's base is what was reserved. So a voter takes no stamp from two sessions. Two quorums
-// meet, so no two sessions use one stamp.
+// header. Which session has a number, under which epoch, and which stamps are its own, the proved rows
+// of package qlock say: so a voter takes no stamp from two sessions. Two quorums meet, so no two
+// sessions use one stamp. Here are clocks, rates, and whose messages were heard.
 type table struct {
 	ttl     time.Duration
 	rows    [qlock.MaxClients]Session
-	names   [qlock.MaxClients]string    // of the sessions of these rows that were heard in this run; nothing can be sent to others
-	heard   [qlock.MaxClients]time.Time // on the lease clock
-	byWord  [qlock.MaxClients]bool      // another voter ended the session, which may not know so: its votes go by the lease
-	clock   leaseClock
-	changed map[int]Session // to be saved before anything leaves
-	later   map[int]Session // to be saved with the next save: after a crash a TTL makes up for it
+	names   [qlock.MaxClients]string        // of the sessions of these rows that were heard in this run; nothing can be sent to others
+	heard   [qlock.MaxClients]time.Duration // on the lease clock
+	byWord  [qlock.MaxClients]bool          // another voter ended the session, which may not know so: its votes go by the lease
+	began   time.Time                       // when this run began: times of the lease clock are since then
+	clock   qlock.Clock                     // says who was silent
+	changed map[int]Session                 // to be saved before anything leaves
+	later   map[int]Session                 // to be saved with the next save: after a crash a TTL makes up for it
 	epochs  [qlock.MaxClients]allowance
+	asked   [qlock.MaxClients]asked
 	stamps  allowance
+}
+
+// periodOf returns how long it is from one marker of a voter to the next. What came to the voter before a marker was sent is
+// heard once the marker is back. So a slow disk delays the end of a lease and does not prevent it, a link that is down ends
+// none, and one that flaps delays it.
+func periodOf(ttl time.Duration) time.Duration {
+	if ttl/8 > 250*time.Millisecond {
+		return 250 * time.Millisecond
+	}
+	return ttl / 8
 }
 
 // begin begins a run of a voter: all leases begin anew, and so does what numbers may grow.
 func (t *table) begin(now time.Time) {
-	t.clock = newLeaseClock(t.ttl, now)
+	t.began, t.clock = now, *qlock.NewClock(periodOf(t.ttl), 0)
 	for i := range t.heard {
-		t.heard[i] = now
+		t.heard[i] = 0
 	}
 	t.stamps = newAllowance(mostStamps, now)
 	for i := range t.epochs {
@@ -104,16 +123,19 @@ func (t *table) known() map[int]Session {
 }
 
 // hear notes that a number's session was heard.
-func (t *table) hear(number int, now time.Time) { t.heard[number] = t.clock.at(now) }
+func (t *table) hear(number int, now time.Time) { t.heard[number] = t.clock.At(now.Sub(t.began)) }
 
 // silent returns for how long nothing came of a number's session, up to when all that was sent was
 // heard.
-func (t *table) silent(number int) time.Duration { return t.clock.reading().Sub(t.heard[number]) }
+func (t *table) silent(number int) time.Duration {
+	reading, _ := t.clock.Shows()
+	return reading - t.heard[number]
+}
 
 // isDead returns whether the votes of a number may be let go: its session was ended, or silent for a TTL. One that another
 // voter ended counts as silent since then.
 func (t *table) isDead(number int) bool {
-	return !t.rows[number].Open && !t.byWord[number] || t.silent(number) >= t.ttl
+	return !t.rows[number].Open && !t.byWord[number] || t.clock.IsSilent(t.heard[number], t.ttl)
 }
 
 // lapse counts that a grant of a number's session is let go since it was silent. Whoever hears the
@@ -232,19 +254,19 @@ func (t *table) admit(number int, name string, epoch uint64, now time.Time) verd
 
 // reserve notes which stamps the session of a number reserves, as far as it may.
 func (t *table) reserve(number int, wanted uint64, now time.Time) {
-	row := t.rows[number]
-	if wanted <= row.Reserved {
+	before := t.rows[number]
+	if wanted <= before.Reserved {
 		return
 	}
 	highest := t.highest()
-	reserved := smallest(wanted, smallest(highest+t.stamps.refill(stampRate, mostStamps, now), qlock.MaxStamp))
-	if reserved <= row.Reserved {
+	most := highest + t.stamps.refill(stampRate, mostStamps, now)
+	row, err := before.after(func(r *qlock.Row) error { return r.Reserve(before.session(), before.Epoch, wanted, most) })
+	if err != nil || row == before {
 		return
 	}
-	if reserved > highest {
-		t.stamps.spend(reserved - highest)
+	if row.Reserved > highest {
+		t.stamps.spend(row.Reserved - highest)
 	}
-	row.Reserved = reserved
 	t.put(number, row)
 }
 
@@ -256,64 +278,96 @@ func (t *table) highest() (stamp uint64) {
 	return stamp
 }
 
-// claim gives a number to a session, with so many stamps, and returns whether it did: the epoch is
-// new and not too far above the last one, and the number is free, or its session was silent for a
-// TTL. The same claim again is granted again.
+// claim gives a number to a session, with so many stamps, and returns whether it did: its session was silent for a TTL, or it is
+// free, and the proved row takes the claim. The same claim again is granted again.
 func (t *table) claim(number int, name string, epoch, stamps uint64, now time.Time) bool {
-	row := t.rows[number]
 	if t.judge(number, name, epoch) == known {
 		return true
 	}
-	growth, left := epoch-row.Epoch, t.epochs[number].refill(epochRate, mostEpochs, now)
-	if t.judge(number, name, epoch) == taken || !t.isDead(number) || growth > left {
+	if !t.isDead(number) {
 		return false
 	}
-	t.epochs[number].spend(growth)
-	t.put(number, Session{Hash: hashed(name), Epoch: epoch, Base: row.Reserved, Reserved: row.Reserved, Open: true})
+	before, highest := t.rows[number], t.highest()
+	claim := qlock.Claim{
+		Session: sessionOf(hashed(name)), Epoch: epoch, Stamps: smallest(stamps, mostClaimed), IsSilent: true,
+		Epochs: t.epochs[number].refill(epochRate, mostEpochs, now),
+		Most:   highest + t.stamps.refill(stampRate, mostStamps, now),
+	}
+	row, err := before.after(func(r *qlock.Row) error { return r.Claim(claim) })
+	if err != nil {
+		return false
+	}
+	t.epochs[number].spend(epoch - before.Epoch)
+	if row.Reserved > highest {
+		t.stamps.spend(row.Reserved - highest)
+	}
+	row.Hash, row.Used, row.Lapses = hashed(name), false, 0
+	t.put(number, row)
 	t.names[number], t.byWord[number] = name, false
 	t.hear(number, now)
-	t.reserve(number, row.Reserved+smallest(stamps, mostClaimed), now)
 	return true
 }
 
 // drop frees a number that was claimed here, and that the claimer did not get from a quorum. It
-// claims this epoch never again.
+// claims this epoch never again, and others may.
 func (t *table) drop(number int, name string, epoch uint64) {
-	if row := t.rows[number]; row.Epoch == epoch && row.Open && !row.Used && t.isOf(number, name) {
-		row.Open, row.Dropped = false, true
+	before := t.rows[number]
+	if before.Used || t.judge(number, name, epoch) != known {
+		return
+	}
+	if row, err := before.after(func(r *qlock.Row) error { return r.TakeBack(before.session(), epoch) }); err == nil {
 		t.put(number, row)
 	}
 }
 
 // end frees a number whose session says that it is over. After a crash it is silent.
 func (t *table) end(number int) {
-	if row := t.rows[number]; row.Open {
-		row.Open = false
+	before := t.rows[number]
+	if row, err := before.after(func(r *qlock.Row) error { return r.Close(before.session(), before.Epoch) }); err == nil {
 		t.note(number, row)
 	}
 }
 
-// learn takes what other voters know of a number, and returns whether it has another session now. A
+// takes returns whether a REQUEST of the session of a number counts under this stamp.
+func (t *table) takes(number int, stamp uint64) bool {
+	row, last := t.rows[number], &t.asked[number]
+	if last.row == nil || last.of != row {
+		r, err := row.proved()
+		if err != nil {
+			return false
+		}
+		*last = asked{row, r, row.session()}
+	}
+	takes, err := last.row.Takes(last.session, row.Epoch, stamp)
+	return err == nil && takes
+}
+
+// learn takes what another voter knows of a number, and returns whether it has another session now. A
 // session that is in use gives way to no claim alone. What was reserved here is below the stamps of
 // another session.
-func (t *table) learn(number int, row Session, now time.Time) bool {
-	own := t.rows[number]
-	newer := row.Epoch > own.Epoch && (row.Used || !own.Used)
-	if row.Epoch == own.Epoch && row.Hash != own.Hash && row.Used && own.Used {
-		row, newer = Session{Epoch: row.Epoch, Base: row.Reserved, Reserved: row.Reserved, Used: true}, true // nobody's
+func (t *table) learn(number int, there Session, now time.Time) bool {
+	before := t.rows[number]
+	other, err := there.proved()
+	if err != nil {
+		return false // it is no row
 	}
-	before := own
-	if newer {
-		own = row
-		own.Base, own.Lapses = greatest(before.Reserved, row.Base), 0
-		t.byWord[number] = !own.Open && (before.Open || t.byWord[number])
+	row, err := before.after(func(r *qlock.Row) error { return r.Learn(other, before.Used, there.Used) })
+	if err != nil {
+		return false
+	}
+	isOther := row.Epoch != before.Epoch || row.Open != before.Open
+	if isOther {
+		row.Hash, row.Used, row.Lapses = there.Hash, there.Used, 0
+		if there.Epoch == before.Epoch {
+			row.Hash = "" // two sessions have the epoch, so nobody has it
+		}
+		t.byWord[number] = !row.Open && (before.Open || t.byWord[number])
 		t.hear(number, now)
 	}
-	own.Reserved = greatest(before.Reserved, greatest(row.Reserved, own.Base))
-	if own != before {
-		t.put(number, own)
+	if row != before {
+		t.put(number, row)
 	}
-	return newer
+	return isOther
 }
 
 func greatest(a, b uint64) uint64 {
@@ -332,6 +386,38 @@ func smallest(a, b uint64) uint64 {
 
 // expel ends a number's session, which an operator wants. No message of its epoch counts any more.
 func (t *table) expel(number int) {
-	row := t.rows[number]
-	t.put(number, Session{Epoch: row.Epoch + 1, Base: row.Reserved, Reserved: row.Reserved, Used: true})
+	if row, err := t.rows[number].after((*qlock.Row).Evict); err == nil {
+		row.Hash, row.Used, row.Lapses = "", true, 0
+		t.put(number, row)
+	}
+}
+
+// session returns the session that has a row, as the proved row names it.
+func (s Session) session() qlock.Session { return sessionOf(s.Hash) }
+
+// sessionOf returns how a proved row names a session of this hash.
+func sessionOf(hash string) (session qlock.Session) {
+	sum := sha256.Sum256([]byte(hash))
+	copy(session[:], sum[:])
+	return session
+}
+
+// proved returns the proved row of what is kept of a number: which session has it, and under which stamps it may ask.
+func (s Session) proved() (*qlock.Row, error) {
+	return qlock.RowShown{Epoch: s.Epoch, Base: s.Base, Reserved: s.Reserved, IsHeld: s.Open, Session: s.session(),
+		IsAgain: s.Dropped && !s.Open}.Row()
+}
+
+// after returns what is kept after a call of the proved row. A call that is refused changes nothing.
+func (s Session) after(call func(*qlock.Row) error) (Session, error) {
+	r, err := s.proved()
+	if err == nil {
+		err = call(r)
+	}
+	if err != nil {
+		return s, err
+	}
+	shown, err := r.Shows()
+	s.Epoch, s.Base, s.Reserved, s.Open, s.Dropped = shown.Epoch, shown.Base, shown.Reserved, shown.IsHeld, shown.IsAgain
+	return s, err
 }

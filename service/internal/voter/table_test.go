@@ -15,7 +15,7 @@ func newTable(now time.Time) *table {
 }
 
 // passes lets a table's lease clock go on to a time.
-func passes(t *table, now time.Time) { t.clock.back.left = now.Add(t.clock.skipped) }
+func passes(t *table, now time.Time) { t.clock = *qlock.NewClock(periodOf(t.ttl), now.Sub(t.began)) }
 
 // claimAt claims at a time, up to which all that was sent was heard.
 func claimAt(t *table, number int, name string, epoch uint64, now time.Time) bool {

@@ -274,7 +274,8 @@ func FuzzSessions(f *testing.F) {
 			case 6:
 				lines = ". close\n"
 			case 7:
-				d.table.heard[3] = time.Now().Add(-2 * time.Hour) // silent for two TTL
+				reading, _ := d.table.clock.Shows()
+				passes(&d.table, d.table.began.Add(reading+2*d.table.ttl)) // silent for two TTL
 			}
 			hand(d, s.said(3, p.epoch, p.reserved, p.name, lines))
 			mustGrow(t, rows[3], d.table.rows[3], 3)

@@ -2,8 +2,8 @@ use Rattle.std.proofs.Common.{ℕ, List, Ok, Err, sym, subst}
 use Rattle.fence.specs.Passes.{SeesAlso}
 use Rattle.qlock_c.specs.Bytes.{IsGuard}
 use Rattle.qlock_c.specs.FenceSteps.{FenceAdmits}
-use Rattle.qlock_c.specs.Numbers.{refused}
-use Rattle.qlock_c.specs.declared.refusal.Refusal.{Refusal}
+use Rattle.blocks.specs.Numbers.{refused}
+use Rattle.blocks.specs.declared.refusal.Refusal.{Refusal}
 use Rattle.qlock_c.proofs.GuardLemmas.{admitted-as, admits, admits-pass, refuses}
 use Rattle.qlock_c.proofs.fence_calls.admit.Goals as goal
 

@@ -4,6 +4,6 @@ use Rattle.session_rows.proofs.Deeds.{turns_lead}
 use Rattle.session_rows.proofs.laws.rows_own_stamps.Goals as goal
 
 pub returns : goal.returns
-returns c row turns sound =
+returns c row turns =
     let leads = turns_lead (begin row) turns in
-    subst (λ (v : Voter). AreOnce v.took) leads.there (c.voters_own_stamps.ensures row leads.deeds sound)
+    subst (λ (v : Voter). AreOnce v.took) leads.there (c.voters_own_stamps.ensures row leads.deeds)

@@ -1,0 +1,4 @@
+pub mod Bytes
+pub mod ClockSteps
+pub mod Numbers
+pub mod RowSteps

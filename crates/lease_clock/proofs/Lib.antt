@@ -1,0 +1,3 @@
+pub mod ClockLemmas
+pub mod LeaseLemmas
+pub mod SavedLemmas

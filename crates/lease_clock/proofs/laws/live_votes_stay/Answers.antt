@@ -1,0 +1,8 @@
+use Rattle.lease_clock.proofs.ClockLemmas.{shows_more, stays_for}
+use Rattle.lease_clock.proofs.laws.live_votes_stay.Goals as goal
+
+pub returns-clause-shows : goal.returns-clause-shows
+returns-clause-shows c = shows_more
+
+pub returns-clause-stay : goal.returns-clause-stay
+returns-clause-stay c = stays_for

@@ -1,0 +1,4 @@
+pub mod Clocks
+pub mod Example
+pub mod Leases
+pub mod Saved
