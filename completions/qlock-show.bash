@@ -15,7 +15,7 @@ _qlock_show() {
                 near) COMPREPLY=($(compgen -W "--cycle --deal --down --above --text --json" -- "$word")) ;;
                 compare) COMPREPLY=($(compgen -f -W "--json" -- "$word")) ;;
                 coterie) COMPREPLY=($(compgen -W "racks centres votes any" -- "$word")) ;;
-                waiting) COMPREPLY=($(compgen -W "--round" -- "$word")) ;;
+                waiting) COMPREPLY=($(compgen -W "--round --down --dead" -- "$word")) ;;
                 explain) COMPREPLY=($(compgen -W "all $codes" -- "$word")) ;;
                 picture) COMPREPLY=($(compgen -W "load cycle world" -- "$word")) ;;
                 fault) COMPREPLY=($(compgen -W "make plan check deal world run replay" -- "$word")) ;;

@@ -212,6 +212,8 @@ shown explain-disjoint /dev/null explain E7
 shown waiting-five /dev/null waiting 5 --round 2
 shown waiting-nine-of-which-two-give-up /dev/null waiting 9 2
 shown waiting-most /dev/null waiting 64 1000000 --round 86400
+shown waiting-while-two-are-dead /dev/null waiting 5 --down 1 --dead 2 --round 2
+shown waiting-while-a-voter-is-down /dev/null waiting 9 2 --down 1
 shown explain-list /dev/null explain
 shown fault-disjoint refused-disjoint.toml fault plan
 shown fault-plan refused-plan.txt fault check
@@ -333,6 +335,7 @@ program=$show
 example show-unknown-voter three-racks.toml 1 without a1 a9
 example show-unknown-code /dev/null 2 explain E9
 example show-waiting-of-nobody /dev/null 2 waiting 0
+example show-waiting-while-all-are-dead /dev/null 2 waiting 5 --dead 5
 example show-unknown-picture /dev/null 2 picture plan
 example show-fault-of-no-command /dev/null 2 fault make circle 3
 # files that are not read, with the system's reason if it is a common one, and a file without a name

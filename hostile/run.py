@@ -230,6 +230,7 @@ def cases_of_show(room):
     of_grid = f"fault check -f {room / 'grid.toml'} -f -"
     yield case("fault check, from files", of_grid, written(room / "cycle", cycle), unread='I3 ReadFault "-"')
     yield case("waiting", "waiting 5 2 --round 2")
+    yield case("waiting, live rounds", "waiting 5 2 --down 1 --dead 2")
     yield case("explain E7", "explain E7")
 
 

@@ -1,12 +1,12 @@
 -- The command line: which command its words name.
-use Rattle.std.specs.Prelude.{◌≡◌, ◌⊎◌, ◌≤◌, ℕ, Bool, List, length, [], ◌∷◌, Option, None, Some, String, codes, false, map, string_bytes, true, unwrap_or, Vec, ⊤}
+use Rattle.std.specs.Prelude.{◌≡◌, ◌⊎◌, ◌<◌, ◌≤◌, ℕ, Bool, List, length, [], ◌∷◌, Option, None, Some, IfSome, String, codes, false, map, string_bytes, true, unwrap_or, Vec, ⊤}
 use Rattle.std.specs.declared.alloc.Global.{Global}
 use Rattle.clap.specs.Lexer.{usize_max}
 use Rattle.clap.specs.Words.{App, IsAmong, Row, Rule, Text, all_of, fault_of, first_of, kind_of, new_app, new_rule, subcommand_of, with_rule}
 use Rattle.clap.specs.declared.builder.action.ArgAction.TheVariants.{SetTrue}
 use Rattle.clap.specs.declared.builder.range.ValueRange.{ValueRange}
 use Rattle.clap.specs.declared.builder.value_parser.ValueParser.TheVariants.{Unsigned}
-use Rattle.numbers.specs.Bounds.{max_clients, max_cycle, max_dealt}
+use Rattle.numbers.specs.Bounds.{max_clients, max_cycle, max_dealt, max_voters}
 use Rattle.show_faults.specs.Codes.{IsFaultCode, code_in}
 use Rattle.show_faults.specs.declared.explanation.Explanation.{Explanation}
 use Rattle.command_line.specs.Words as qlock
@@ -86,11 +86,20 @@ optional_rule name least most = record (number_rule name least most) { required 
 abbrev pub round_rule : Rule
 round_rule = record (optional_rule (codes "round") 1 86400) { long = Some (codes "round"); value_names = 1 }
 
--- qlock-show waiting, with CLIENTS, WITHDRAWALS, which may be left out, and --round
+-- --down VOTERS, for `waiting`
+abbrev pub waiting_down_rule : Rule
+waiting_down_rule = record (optional_rule (codes "down") 1 max_voters) { long = Some (codes "down"); value_names = 1 }
+
+-- --dead CLIENTS, for `waiting`
+abbrev pub waiting_dead_rule : Rule
+waiting_dead_rule = record (optional_rule (codes "dead") 1 max_clients) { long = Some (codes "dead"); value_names = 1 }
+
+-- qlock-show waiting, with CLIENTS, WITHDRAWALS, which may be left out, --round, --down and --dead
 abbrev pub waiting_app : App
 waiting_app =
     with_rules (new_app (codes "waiting"))
-    (number_rule (codes "CLIENTS") 1 max_clients ∷ optional_rule (codes "WITHDRAWALS") 0 1000000 ∷ round_rule ∷ [])
+    (number_rule (codes "CLIENTS") 1 max_clients ∷ optional_rule (codes "WITHDRAWALS") 0 1000000 ∷ round_rule
+    ∷ waiting_down_rule ∷ waiting_dead_rule ∷ [])
 
 -- --deal N, for `near`
 abbrev pub near_deal_rule : Rule
@@ -241,6 +250,9 @@ IsNamedBy (Some used) (Waiting w) =
     × HasNumber (codes "CLIENTS") 1 max_clients used.1 w.clients
     × MayHaveNumber (codes "WITHDRAWALS") 0 1000000 used.1 w.withdrawals
     × MayHaveNumber (codes "round") 1 86400 used.1 w.round
+    × MayHaveNumber (codes "down") 1 max_voters used.1 w.down
+    × MayHaveNumber (codes "dead") 1 max_clients used.1 w.dead
+    × IfSome w.dead (λ d. d < w.clients)
 IsNamedBy (Some used) (Explain explanation) = (used.0 ≡ codes "explain") × HasCode used.1 explanation.now
 IsNamedBy (Some used) ExplainAll = (used.0 ≡ codes "explain") × (first_of (codes "CODE") used.1 ≡ Some (codes "all"))
 IsNamedBy (Some used) ListFaults = (used.0 ≡ codes "explain") × (first_of (codes "CODE") used.1 ≡ None)

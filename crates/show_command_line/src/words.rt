@@ -6,7 +6,7 @@ ghost use Rattle.command_line.specs.Words.{IsLocal, used_as};
 ghost use Rattle.command_line.specs.declared.usage.Usage.TheVariants.{Arguments, OutOfMemory};
 ghost use Rattle.show_command_line.specs.Commands.{IsShown};
 ghost use Rattle.show_command_line.specs.declared.command.Picture.{Picture};
-ghost use Rattle.show_command_line.specs.Words.{HasFlag, HasTexts, IsForm, IsNearForm, MayHaveCapacities, capacity_rule, coterie_app, planners_app, IsNamedBy, IsTicketForm, MayHaveNumber, Names, Refuses, RefusesUse, compare_app, coteries_app, explain_app, fault_app, files_rule, flag_rule, near_app, near_above_rule, near_cycle_rule, near_deal_rule, near_down_rule, optional_rule, pages_app, plan_app, picture_app, picture_word, qlock_words, resilience_app, round_rule, show_app, tickets_app, waiting_app, without_app, words_rule};
+ghost use Rattle.show_command_line.specs.Words.{HasFlag, HasTexts, IsForm, IsNearForm, MayHaveCapacities, capacity_rule, coterie_app, planners_app, IsNamedBy, IsTicketForm, MayHaveNumber, Names, Refuses, RefusesUse, compare_app, coteries_app, explain_app, fault_app, files_rule, flag_rule, near_app, near_above_rule, near_cycle_rule, near_deal_rule, near_down_rule, optional_rule, pages_app, plan_app, picture_app, picture_word, qlock_words, resilience_app, round_rule, show_app, tickets_app, waiting_app, waiting_dead_rule, waiting_down_rule, without_app, words_rule};
 
 use crate::command::{Dealing, Form, NearForm, NearPage, Picture, ShowCommand, TicketForm};
 use clap::builder::ValueParser;
@@ -17,7 +17,7 @@ use command_line::{
     without_commands, word_argument,
 };
 use commands::{Command, Usage, read_words};
-use numbers::{MAX_CLIENTS, MAX_CYCLE, MAX_DEALT};
+use numbers::{MAX_CLIENTS, MAX_CYCLE, MAX_DEALT, MAX_VOTERS};
 use show_coteries::{shape_of, widened};
 use show_faults::explanation_of;
 use show_waiting::Waiting;
@@ -31,6 +31,9 @@ const MOST_CAPACITY: u64 = 1_000;
 
 /// The most clients of `waiting`.
 const MOST_CLIENTS: u64 = MAX_CLIENTS as u64;
+
+/// The most voters of `waiting`.
+const MOST_VOTERS: u64 = MAX_VOTERS as u64;
 
 /// The most withdrawals of `waiting`.
 const MOST_WITHDRAWALS: u64 = 1_000_000;
@@ -314,7 +317,39 @@ fn round_argument<'a>(alloc: Global) -> Arg<'a>
     .value_name("SECONDS")
 }
 
-/// Returns the subcommand `waiting CLIENTS [WITHDRAWALS]`, with the option `--round`.
+/// Returns the option `--down VOTERS` of `waiting`.
+fn waiting_down_argument<'a>(alloc: Global) -> Arg<'a>
+    ensures rule { rule_of result ≡ waiting_down_rule }
+    ensures local { result.global ≡ false }
+{
+    optional_argument(
+        alloc,
+        "down",
+        "How many voters are down, 1 to 64: the page is about live rounds then",
+        1,
+        MOST_VOTERS,
+    )
+    .long("down")
+    .value_name("VOTERS")
+}
+
+/// Returns the option `--dead CLIENTS` of `waiting`.
+fn waiting_dead_argument<'a>(alloc: Global) -> Arg<'a>
+    ensures rule { rule_of result ≡ waiting_dead_rule }
+    ensures local { result.global ≡ false }
+{
+    optional_argument(
+        alloc,
+        "dead",
+        "How many of the clients are dead, or idle for good, fewer than there are: the page is about live rounds then",
+        1,
+        MOST_CLIENTS,
+    )
+    .long("dead")
+    .value_name("CLIENTS")
+}
+
+/// Returns the subcommand `waiting CLIENTS [WITHDRAWALS]`, with the options `--round`, `--down` and `--dead`.
 fn waiting_command<'a>(alloc: Global) -> Result<clap::Command<'a>, AllocError>
     ensures app { IfOk result (λ c. app_of c ≡ waiting_app) }
     ensures local { IfOk result IsLocal }
@@ -340,7 +375,9 @@ fn waiting_command<'a>(alloc: Global) -> Result<clap::Command<'a>, AllocError>
     );
     let command = with_argument(Ok(command), clients);
     let command = with_argument(command, withdrawals);
-    with_argument(command, round_argument(alloc))
+    let command = with_argument(command, round_argument(alloc));
+    let command = with_argument(command, waiting_down_argument(alloc));
+    with_argument(command, waiting_dead_argument(alloc))
 }
 
 /// Returns the subcommand `explain CODE`, of which the code may be left out.
@@ -599,10 +636,23 @@ fn waiting_of(used: &ArgMatches) -> Result<ShowCommand, Usage>
         Ok(round) => round,
         Err(usage) => return Err(usage),
     };
+    let down = match number_if_given(used, "down", 1, MOST_VOTERS) {
+        Ok(down) => down,
+        Err(usage) => return Err(usage),
+    };
+    let dead = match number_if_given(used, "dead", 1, MOST_CLIENTS) {
+        Ok(dead) => dead,
+        Err(usage) => return Err(usage),
+    };
+    if dead.is_some_and(|dead| dead >= clients) {
+        return Err(Usage::Arguments);
+    }
     Ok(ShowCommand::Waiting(Waiting {
         clients,
         withdrawals,
         round,
+        down,
+        dead,
     }))
 }
 

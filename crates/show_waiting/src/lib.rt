@@ -23,4 +23,4 @@
 
 mod waiting;
 
-pub use waiting::{Waiting, bound, longest_wait, waiting_page};
+pub use waiting::{Waiting, bound, live_bound, longest_wait, waiting_page};

@@ -1,17 +1,21 @@
 //! The page of how long a client waits at most.
 ghost use Rattle.std.specs.Prelude.{◌≡◌, ◌≤◌, ◌++◌, ◌*◌, IfOk, OnOk, string_bytes, unwrap_or};
 ghost use Rattle.numbers.specs.Bounds.{max_clients};
-ghost use Rattle.show_waiting.specs.Waiting.{IsInRange, head_text, longest_wait, patience_text, rounds_of, rounds_text, seconds_text, tested, waiting_text, withdrawals_of};
-ghost use Rattle.world.specs.Waiting.{bound, patient_bound};
+ghost use Rattle.show_waiting.specs.Waiting.{IsInRange, are_all_live, bound_in_seconds, clients_text, dead_text, down_text, fair_rounds_text, head_text, live_bound, live_clients, live_rounds_text, longest_in_seconds, longest_wait, patience_text, patient_rounds, premises_text, rounds_of, rounds_text, rounds_with, seconds_text, tested, waiting_text, withdrawals_of, withdrawals_text};
+ghost use Rattle.world.specs.Waiting.{bound};
 
 use std::alloc::{AllocError, Global};
 
 /// The most clients with which tests were made.
 const TESTED: u64 = 5;
 
-/// What a round is, and what the bound takes for granted.
+/// What a fair round is, and what the bound takes for granted.
 const PREMISES: &str =
     "In a round everybody is reminded, the messages of the reminders arrive, what is sent on their arrival arrives too, and whoever was inside at its beginning leaves. All else may be lost, late or repeated, but no REQUEST arrives later than in the round after that in which it was sent. Nobody crashes, whoever waits does not give up, and each voter has a grant left at the end. Timers and the network make the rounds: that they do is not proved.\n";
+
+/// What a live round is, and what its bound takes for granted.
+const LIVE_PREMISES: &str =
+    "In a live round everybody who is live is reminded, what is sent between live ones at a reminder arrives, and so does what is sent on its arrival. Who of them was inside at its beginning leaves, and who of them waits for a voter that is down ends the request. A live voter drops the request of a client that is not live, if that has its vote. Such a client is dead and does nothing, or it is idle and does not ask. All else may be lost, late or repeated, but no REQUEST arrives later than in the round after that in which it was sent. Nobody who is live crashes, whoever waits does not give up, and each live voter has a grant left at the end. Timers and the network make the rounds: that they do is not proved.\n";
 
 /// A question: how long does a client wait at most?
 #[derive(Clone, Copy)]
@@ -22,6 +26,25 @@ pub struct Waiting {
     pub withdrawals: Option<u64>,
     /// How many seconds a round takes: at most 86,400. If it is not said, the page is in rounds alone.
     pub round: Option<u64>,
+    /// How many of the voters are down, 1 to 64. None are, if it is not said.
+    pub down: Option<u64>,
+    /// How many of the clients are dead, or idle for good: fewer than there are clients. None are, if it is not said.
+    pub dead: Option<u64>,
+}
+
+/// Returns whether everybody is live.
+fn are_all_live(waiting: &Waiting) -> bool
+    ensures { result ≡ are_all_live waiting.now }
+{
+    waiting.down.is_none() && waiting.dead.is_none()
+}
+
+/// Returns how many clients are live.
+fn live_clients(waiting: &Waiting) -> u64
+    ensures value { result ≡ live_clients waiting.now }
+    ensures few { result ≤ waiting.now.clients }
+{
+    waiting.clients.saturating_sub(waiting.dead.unwrap_or(0))
 }
 
 /// Returns how many others give up.
@@ -44,23 +67,48 @@ pub fn bound(clients: u64, withdrawals: u64) -> u64
     (clients + 8) * (3 * clients + 2 * withdrawals)
 }
 
-/// Returns after how many fair rounds a client that asks has entered, if each request runs for two whole
-/// rounds before it is given up.
-fn patient_bound(clients: u64) -> u64
-    requires { clients ≤ max_clients }
-    ensures value { result ≡ patient_bound clients }
-    ensures small { result ≤ 13824 }
+/// Returns after how many live rounds a live client that asks has entered: the number of all clients, of those that
+/// are live, and of withdrawals of others, if no REQUEST comes late.
+pub fn live_bound(clients: u64, live: u64, withdrawals: u64) -> u64
+    requires clients { clients ≤ max_clients }
+    requires live { live ≤ clients }
+    requires few { withdrawals ≤ 1000000 }
+    ensures value { result ≡ live_bound clients live withdrawals }
+    ensures small { result ≤ 146014016 }
 {
-    (clients + 8) * (3 * clients)
+    (clients + 9) * (3 * live + 2 * withdrawals)
 }
 
-/// Returns after how many fair rounds a client has entered, for a question.
+/// Returns after how many rounds a client has entered, for a question and a number of withdrawals.
+fn rounds_with(waiting: &Waiting, withdrawals: u64) -> u64
+    requires range { IsInRange waiting.now }
+    requires few { withdrawals ≤ 1000000 }
+    ensures value { result ≡ rounds_with waiting.now withdrawals }
+    ensures small { result ≤ 146014016 }
+{
+    if are_all_live(waiting) {
+        bound(waiting.clients, withdrawals)
+    } else {
+        live_bound(waiting.clients, live_clients(waiting), withdrawals)
+    }
+}
+
+/// Returns after how many rounds a client has entered, for a question.
 fn rounds_of(waiting: &Waiting) -> u64
     requires { IsInRange waiting.now }
     ensures value { result ≡ rounds_of waiting.now }
-    ensures small { result ≤ 144013824 }
+    ensures small { result ≤ 146014016 }
 {
-    bound(waiting.clients, withdrawals_of(waiting))
+    rounds_with(waiting, withdrawals_of(waiting))
+}
+
+/// Returns the same if each request runs for two whole rounds before it is given up.
+fn patient_rounds(waiting: &Waiting) -> u64
+    requires { IsInRange waiting.now }
+    ensures value { result ≡ patient_rounds waiting.now }
+    ensures small { result ≤ 146014016 }
+{
+    rounds_with(waiting, 0)
 }
 
 /// Returns the number of clients, or the most with which tests were made.
@@ -86,23 +134,60 @@ pub fn longest_wait(clients: u64) -> u64
     }
 }
 
+/// Appends how many voters are down, if it was said.
+fn push_down(text: &mut String, down: Option<u64>) -> Result<(), AllocError>
+    ensures { OnOk result (string_bytes text.new ≡ string_bytes text.old ++ down_text down) }
+{
+    match down {
+        Some(down) => write!(text, "voters that are down: {down}\n"),
+        None => Ok(()),
+    }
+}
+
+/// Appends how many clients are dead, if it was said.
+fn push_dead(text: &mut String, dead: Option<u64>) -> Result<(), AllocError>
+    ensures { OnOk result (string_bytes text.new ≡ string_bytes text.old ++ dead_text dead) }
+{
+    match dead {
+        Some(dead) => write!(text, "of these clients dead or idle: {dead}\n"),
+        None => Ok(()),
+    }
+}
+
+/// Appends how many clients there are.
+fn push_clients(text: &mut String, clients: u64) -> Result<(), AllocError>
+    ensures { OnOk result (string_bytes text.new ≡ string_bytes text.old ++ clients_text clients) }
+{
+    write!(text, "clients: {clients}\n")
+}
+
+/// Appends how many others give up.
+fn push_withdrawals(text: &mut String, waiting: &Waiting) -> Result<(), AllocError>
+    requires { IsInRange waiting.now }
+    ensures { OnOk result (string_bytes text.new ≡ string_bytes text.old ++ withdrawals_text waiting.now) }
+{
+    let withdrawals = withdrawals_of(waiting);
+    write!(
+        text,
+        "withdrawals of others while one waits: {withdrawals}\n"
+    )
+}
+
 /// Appends what was asked.
 fn push_head(text: &mut String, waiting: &Waiting) -> Result<(), AllocError>
     requires { IsInRange waiting.now }
     ensures { OnOk result (string_bytes text.new ≡ string_bytes text.old ++ head_text waiting.now) }
 {
-    let clients = waiting.clients;
-    let withdrawals = withdrawals_of(waiting);
-    write!(
-        text,
-        "clients: {clients}\nwithdrawals of others while one waits: {withdrawals}\n"
-    )
+    push_clients(text, waiting.clients)?;
+    push_dead(text, waiting.dead)?;
+    push_down(text, waiting.down)?;
+    push_withdrawals(text, waiting)
 }
 
-/// Appends the bound in rounds, and the longest wait in tests.
-fn push_rounds(text: &mut String, waiting: &Waiting) -> Result<(), AllocError>
+/// Appends the bound in fair rounds, and the longest wait in tests.
+fn push_fair_rounds(text: &mut String, waiting: &Waiting) -> Result<(), AllocError>
     requires { IsInRange waiting.now }
-    ensures { OnOk result (string_bytes text.new ≡ string_bytes text.old ++ rounds_text waiting.now) }
+    ensures { OnOk result (string_bytes text.new ≡ string_bytes text.old ++ fair_rounds_text waiting.now) }
 {
     let rounds = rounds_of(waiting);
     let longest = longest_wait(waiting.clients);
@@ -113,12 +198,24 @@ fn push_rounds(text: &mut String, waiting: &Waiting) -> Result<(), AllocError>
     )
 }
 
+/// Appends the bound in live rounds.
+fn push_live_rounds(text: &mut String, waiting: &Waiting) -> Result<(), AllocError>
+    requires { IsInRange waiting.now }
+    ensures { OnOk result (string_bytes text.new ≡ string_bytes text.old ++ live_rounds_text waiting.now) }
+{
+    let rounds = rounds_of(waiting);
+    write!(
+        text,
+        "live rounds until a live client that asks is inside: at most {rounds} (proved)\n"
+    )
+}
+
 /// Appends the bound in rounds if clients are patient.
 fn push_patience(text: &mut String, waiting: &Waiting) -> Result<(), AllocError>
     requires { IsInRange waiting.now }
     ensures { OnOk result (string_bytes text.new ≡ string_bytes text.old ++ patience_text waiting.now) }
 {
-    let rounds = patient_bound(waiting.clients);
+    let rounds = patient_rounds(waiting);
     write!(
         text,
         "rounds if each request runs for two whole rounds before it is given up: at most {rounds} (proved), however many give up\n"
@@ -129,14 +226,26 @@ fn push_patience(text: &mut String, waiting: &Waiting) -> Result<(), AllocError>
 fn push_seconds(text: &mut String, waiting: &Waiting, seconds: u64) -> Result<(), AllocError>
     requires range { IsInRange waiting.now }
     requires day { seconds ≤ 86400 }
-    ensures { OnOk result (string_bytes text.new ≡ string_bytes text.old ++ seconds_text waiting.now (Some seconds)) }
+    ensures { OnOk result (string_bytes text.new ≡ string_bytes text.old ++ bound_in_seconds waiting.now seconds) }
 {
     let most = seconds * rounds_of(waiting);
-    let patient = seconds * patient_bound(waiting.clients);
+    let patient = seconds * patient_rounds(waiting);
+    write!(
+        text,
+        "seconds, if a round takes {seconds}: at most {most}, and {patient} if each request does that (proved)"
+    )
+}
+
+/// Appends the longest wait in tests, in seconds.
+fn push_longest(text: &mut String, waiting: &Waiting, seconds: u64) -> Result<(), AllocError>
+    requires range { IsInRange waiting.now }
+    requires day { seconds ≤ 86400 }
+    ensures { OnOk result (string_bytes text.new ≡ string_bytes text.old ++ longest_in_seconds waiting.now seconds) }
+{
     let longest = seconds * longest_wait(waiting.clients);
     write!(
         text,
-        "seconds, if a round takes {seconds}: at most {most}, and {patient} if each request does that (proved), far above the longest wait in tests: {longest}\n"
+        ", far above the longest wait in tests: {longest}"
     )
 }
 
@@ -145,14 +254,42 @@ fn push_time(text: &mut String, waiting: &Waiting) -> Result<(), AllocError>
     requires { IsInRange waiting.now }
     ensures { OnOk result (string_bytes text.new ≡ string_bytes text.old ++ seconds_text waiting.now waiting.now.round) }
 {
-    match waiting.round {
-        Some(seconds) => push_seconds(text, waiting, seconds),
-        None => Ok(()),
+    let Some(seconds) = waiting.round else {
+        return Ok(());
+    };
+    push_seconds(text, waiting, seconds)?;
+    if are_all_live(waiting) {
+        push_longest(text, waiting, seconds)?;
+    }
+    text.push('\n')
+}
+
+/// Appends the bounds in rounds.
+fn push_rounds(text: &mut String, waiting: &Waiting) -> Result<(), AllocError>
+    requires { IsInRange waiting.now }
+    ensures { OnOk result (string_bytes text.new ≡ string_bytes text.old ++ rounds_text waiting.now) }
+{
+    if are_all_live(waiting) {
+        push_fair_rounds(text, waiting)
+    } else {
+        push_live_rounds(text, waiting)
     }
 }
 
-/// Returns the page of how long a client waits at most until it is inside: in fair rounds, and in seconds
-/// if it was said how long a round takes. Beside it stands the longest wait in tests.
+/// Appends what a round is, and what the bound takes for granted.
+fn push_premises(text: &mut String, waiting: &Waiting) -> Result<(), AllocError>
+    ensures { OnOk result (string_bytes text.new ≡ string_bytes text.old ++ premises_text waiting.now) }
+{
+    if are_all_live(waiting) {
+        text.push_str(PREMISES)
+    } else {
+        text.push_str(LIVE_PREMISES)
+    }
+}
+
+/// Returns the page of how long a client waits at most until it is inside: in fair rounds, or in live rounds if voters
+/// are down or clients are dead, and in seconds if it was said how long a round takes. If everybody is live, the
+/// longest wait in tests is beside it.
 ///
 /// Fails only if it runs out of memory.
 pub fn waiting_page(alloc: Global, waiting: &Waiting) -> Result<String, AllocError>
@@ -164,6 +301,6 @@ pub fn waiting_page(alloc: Global, waiting: &Waiting) -> Result<String, AllocErr
     push_rounds(&mut text, waiting)?;
     push_patience(&mut text, waiting)?;
     push_time(&mut text, waiting)?;
-    text.push_str(PREMISES)?;
+    push_premises(&mut text, waiting)?;
     Ok(text)
 }

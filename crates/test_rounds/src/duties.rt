@@ -15,29 +15,9 @@ pub struct Duty {
     pub depth: u8,
 }
 
-/// Adds the reminders of all clients and all voters.
-pub fn add_reminders(duties: &mut Vec<Duty>, clients: u8, voters: u8) -> Result<(), AllocError> {
-    for client in 0..clients {
-        duties.push(Duty {
-            step: Step::RemindClient(client),
-            depth: 2,
-        })?;
-    }
-    for voter in 0..voters {
-        duties.push(Duty {
-            step: Step::RemindVoter(voter),
-            depth: 2,
-        })?;
-    }
-    Ok(())
-}
-
-/// Adds that a client leaves.
-pub fn add_leave(duties: &mut Vec<Duty>, client: u8) -> Result<(), AllocError> {
-    duties.push(Duty {
-        step: Step::Leave(client),
-        depth: 0,
-    })?;
+/// Adds a step, and how often messages that it leads to have to arrive.
+pub fn add(duties: &mut Vec<Duty>, step: Step, depth: u8) -> Result<(), AllocError> {
+    duties.push(Duty { step, depth })?;
     Ok(())
 }
 
@@ -48,24 +28,4 @@ pub fn take(duties: &mut Vec<Duty>, place: usize) -> Option<Duty> {
     } else {
         None
     }
-}
-
-/// Adds the arrival of each message that a duty sent: those from `first` on, and before `end`.
-pub fn follow(
-    duties: &mut Vec<Duty>,
-    duty: Duty,
-    first: usize,
-    end: usize,
-) -> Result<(), AllocError> {
-    if duty.depth == 0 {
-        return Ok(());
-    }
-    let depth = duty.depth - 1;
-    for number in first..end {
-        duties.push(Duty {
-            step: Step::Deliver(number as u64),
-            depth,
-        })?;
-    }
-    Ok(())
 }

@@ -3,25 +3,35 @@
 //! The adversary has idle clients ask, and clients leave early or give up. It has messages arrive
 //! again, late or out of order, and all that no duty names it may lose. If there are two plans, it
 //! exchanges the first.
+//!
+//! After some rounds clients may die, and voters may be down: then the rounds are live rounds. Who is dead
+//! or down does nothing more, and what is sent to it does not arrive. What it sent before may arrive.
 ghost use Rattle.std.specs.Prelude.{◌<◌, ◌≤◌};
 
-use crate::duties::{Duty, add_leave, add_reminders, follow, take};
+use crate::duties::{Duty, add, take};
 use crate::fair::{Made, is_fair};
-use crate::rules::{Rule, client_of, is_release, is_request, is_vote_of_other, message_of, takes};
+use crate::rules::{
+    Rule, client_of, is_release, is_request, is_stuck, is_vote_of_other, message_of, takes,
+    voter_of,
+};
 use crate::waits::Wait;
+use incidents::IncidentWorld;
 use message::Message;
 use rand_core::{Rng, SeedableRng};
 use rand_pcg::Pcg64;
 use requester::{Phase, Seen};
 use std::alloc::{AllocError, Global};
 use test_plans::Kind;
-use world::{Step, World};
+use world::Step;
 
 /// How many steps a round may have before it is given up. None needs this many.
 const MOST_STEPS: u32 = 4000;
 
 /// The greatest stamp and the greatest number of a grant: more than any schedule needs.
 const LIMIT: u64 = 1_000_000_000;
+
+/// After how many rounds clients die, and voters are down.
+const LOSS: u64 = 3;
 
 /// In which order duties are done.
 #[derive(Clone, Copy)]
@@ -56,6 +66,10 @@ pub struct Game {
     pub kind: Kind,
     /// How many clients there are.
     pub clients: u8,
+    /// How many of them die after some rounds: the last ones.
+    pub dead: u8,
+    /// How many voters are down after these rounds: the last ones.
+    pub down: u8,
     /// Whether clients give up, and REQUESTs come late.
     pub rough: bool,
     /// Whether each round is tested to be fair.
@@ -83,6 +97,10 @@ pub struct Tally {
     pub losses: u64,
     /// How often a plan was exchanged.
     pub exchanges: u64,
+    /// How many grants of dead clients were let go.
+    pub evictions: u64,
+    /// How many clients gave up since a voter was down.
+    pub fail_overs: u64,
     /// The longest wait, in rounds.
     pub longest: u64,
     /// How often a client was not inside in time.
@@ -96,7 +114,7 @@ pub struct Tally {
 /// A world that is played in fair rounds.
 #[derive(Drop)]
 struct Play {
-    world: World,
+    world: IncidentWorld,
     game: Game,
     style: Style,
     rng: Pcg64,
@@ -118,6 +136,8 @@ struct Play {
     made: Vec<Made>,
     /// Who was inside when this round began.
     inside: Option<u8>,
+    /// How many rounds were played.
+    played: u64,
     tally: Tally,
     ghost some: { 1 ≤ voters },
 }
@@ -128,9 +148,9 @@ fn count(number: &mut u64) {
 }
 
 /// Returns the new world of a game.
-fn new_world(alloc: Global, game: Game) -> Result<World, AllocError> {
+fn new_world(alloc: Global, game: Game) -> Result<IncidentWorld, AllocError> {
     let plans = game.kind.plans(alloc).ok_or(AllocError)?;
-    World::new(alloc, plans, game.clients, LIMIT)
+    IncidentWorld::new(alloc, plans, game.clients, LIMIT)
 }
 
 /// Returns a number below the bound.
@@ -159,7 +179,7 @@ fn draw_style(rng: &mut Pcg64, rough: bool) -> Style {
 }
 
 /// Returns the stamp of a client that asks, or 0 if it does not.
-fn asking_stamp(world: &World, client: u8) -> u64 {
+fn asking_stamp(world: &IncidentWorld, client: u8) -> u64 {
     match world.client(client) {
         Some(client) if client.phase() == Phase::Asking => client.stamp(),
         _ => 0,
@@ -167,7 +187,7 @@ fn asking_stamp(world: &World, client: u8) -> u64 {
 }
 
 /// Returns the client that is inside, if one is.
-fn inside_of(world: &World) -> Option<u8> {
+fn inside_of(world: &IncidentWorld) -> Option<u8> {
     match world.visible().last() {
         Some(event) if event.entered => Some(event.client),
         _ => None,
@@ -196,6 +216,7 @@ impl Play {
             late: 0,
             made: Vec::new(alloc),
             inside: None,
+            played: 0,
             tally,
         })
     }
@@ -205,6 +226,58 @@ impl Play {
         ensures { result < bound }
     {
         below(&mut self.rng, bound)
+    }
+
+    /// Returns whether there are dead clients or voters that are down by now.
+    fn is_struck(&self) -> bool {
+        self.played >= LOSS && (self.game.dead > 0 || self.game.down > 0)
+    }
+
+    /// Returns how many clients are live: those before the dead ones.
+    fn live_clients(&self) -> u8 {
+        if self.is_struck() {
+            self.game.clients.saturating_sub(self.game.dead)
+        } else {
+            self.game.clients
+        }
+    }
+
+    /// Returns how many voters are live.
+    fn live_voters(&self) -> u8 {
+        if self.is_struck() {
+            self.voters.saturating_sub(self.game.down)
+        } else {
+            self.voters
+        }
+    }
+
+    /// Returns whether a message is between a live client and a live voter.
+    fn is_between(&self, number: u64) -> bool {
+        message_of(&self.world, number).is_some_and(|message| {
+            client_of(message) < self.live_clients() && voter_of(message) < self.live_voters()
+        })
+    }
+
+    /// Returns whether a message can arrive: whoever it is sent to is live.
+    fn can_arrive(&self, number: u64) -> bool {
+        match message_of(&self.world, number) {
+            Some(Message::ToVoter(heard)) => heard.voter < self.live_voters(),
+            Some(Message::ToClient(heard)) => heard.client < self.live_clients(),
+            None => true,
+        }
+    }
+
+    /// Returns whether somebody who is live makes the step.
+    fn can_be_made(&self, step: Step) -> bool {
+        match step {
+            Step::Ask(client)
+            | Step::Leave(client)
+            | Step::GiveUp(client)
+            | Step::RemindClient(client) => client < self.live_clients(),
+            Step::RemindVoter(voter) => voter < self.live_voters(),
+            Step::Deliver(number) => self.can_arrive(number),
+            Step::Exchange => true,
+        }
     }
 
     /// Notes that a message arrives, and whether it comes again or late.
@@ -283,6 +356,9 @@ impl Play {
 
     /// Makes a step, and notes it.
     fn make(&mut self, step: Step) -> Result<(), AllocError> {
+        if !self.can_be_made(step) {
+            return Ok(());
+        }
         let first = self.world.sent() as u64;
         self.note(step)?;
         self.try_step(step);
@@ -318,7 +394,45 @@ impl Play {
         };
         let first = self.world.sent();
         self.make(duty.step)?;
-        follow(&mut self.duties, duty, first, self.world.sent())
+        let end = self.world.sent();
+        if let Step::RemindVoter(voter) = duty.step {
+            self.drop_dead(voter);
+        }
+        self.follow(duty, first, end)
+    }
+
+    /// Adds the arrival of each message that a duty sent: of those from `first` on, and before `end`, that are
+    /// between live ones.
+    fn follow(&mut self, duty: Duty, first: usize, end: usize) -> Result<(), AllocError> {
+        if duty.depth == 0 {
+            return Ok(());
+        }
+        let depth = duty.depth - 1;
+        for number in first..end {
+            if self.is_between(number as u64) {
+                add(&mut self.duties, Step::Deliver(number as u64), depth)?;
+            }
+        }
+        Ok(())
+    }
+
+    /// Returns whether a dead client has the vote of a voter.
+    fn is_held_by_dead(&self, voter: u8) -> bool {
+        let held = self.world.voter(voter).and_then(|voter| voter.held());
+        held.is_some_and(|grant| grant.client >= self.live_clients())
+    }
+
+    /// Has a voter let the grants of dead clients go.
+    fn drop_dead(&mut self, voter: u8) {
+        if self.game.rule == Rule::DeadKeepTheirVotes {
+            return;
+        }
+        for _ in 0..self.game.clients {
+            if !self.is_held_by_dead(voter) || self.world.evict(voter).is_err() {
+                return;
+            }
+            count(&mut self.tally.evictions);
+        }
     }
 
     /// Draws one of the last messages, or of all.
@@ -421,11 +535,39 @@ impl Play {
         self.young = self.world.sent();
         self.give_ups = 0;
         self.late = 0;
-        add_reminders(&mut self.duties, self.game.clients, self.voters)?;
-        match self.inside {
-            Some(client) => add_leave(&mut self.duties, client),
-            None => Ok(()),
+        self.add_reminders()?;
+        self.add_ends()
+    }
+
+    /// Adds the reminders of all who are live.
+    fn add_reminders(&mut self) -> Result<(), AllocError> {
+        for client in 0..self.live_clients() {
+            add(&mut self.duties, Step::RemindClient(client), 2)?;
         }
+        for voter in 0..self.live_voters() {
+            add(&mut self.duties, Step::RemindVoter(voter), 2)?;
+        }
+        Ok(())
+    }
+
+    /// Adds that live clients leave that are inside, and that those end their requests that wait for a voter that is
+    /// down.
+    fn add_ends(&mut self) -> Result<(), AllocError> {
+        let live = self.live_voters();
+        for number in 0..self.live_clients() {
+            let (is_inside, waits_in_vain) = match self.world.client(number) {
+                Some(client) => (client.phase() == Phase::Inside, is_stuck(client, live)),
+                None => (false, false),
+            };
+            if is_inside {
+                add(&mut self.duties, Step::Leave(number), 0)?;
+            }
+            if waits_in_vain && self.game.rule != Rule::StuckClientsWait {
+                count(&mut self.tally.fail_overs);
+                add(&mut self.duties, Step::GiveUp(number), 0)?;
+            }
+        }
+        Ok(())
     }
 
     /// Returns whether this round was fair.
@@ -436,6 +578,7 @@ impl Play {
     /// Counts the round for a client, if it waited all along.
     fn end_wait(&mut self, client: u8) {
         let stamp = asking_stamp(&self.world, client);
+        let (clients, live, is_struck) = (self.game.clients, self.live_clients(), self.is_struck());
         let Some(wait) = self.waits.get_mut(usize::from(client)) else {
             return;
         };
@@ -445,7 +588,7 @@ impl Play {
         }
         wait.pass(self.give_ups, self.late);
         self.tally.longest = self.tally.longest.max(wait.rounds);
-        if wait.is_over(self.game.clients) {
+        if wait.is_over(clients, live, is_struck) {
             count(&mut self.tally.overdue);
         }
     }
@@ -458,8 +601,12 @@ impl Play {
         if self.game.checked && !self.is_fair() {
             count(&mut self.tally.unfair);
         }
-        for client in 0..self.game.clients {
+        for client in 0..self.live_clients() {
             self.end_wait(client);
+        }
+        self.played = self.played.saturating_add(1);
+        if self.played == LOSS && self.is_struck() {
+            self.waits.fill(Wait::default());
         }
     }
 

@@ -2,9 +2,9 @@
 //!
 //! A wrong rule is expressed by messages that have no effect: whoever follows it does not take them.
 use arrayvec::ArrayVec;
+use incidents::IncidentWorld;
 use message::{ClientBody, Message, ToClient, VoterBody};
-use requester::Requester;
-use world::World;
+use requester::{Phase, Requester};
 
 /// Which rule voters and clients follow when a vote is asked back.
 #[derive(Clone, Copy, PartialEq, Eq)]
@@ -17,6 +17,10 @@ pub enum Rule {
     AskedVoteIsKept,
     /// A client that can't win yet keeps a vote that is asked back, as one that still may.
     HinderedClientWaits,
+    /// No voter lets a grant of a dead client go.
+    DeadKeepTheirVotes,
+    /// A client that waits for a voter that is down waits on.
+    StuckClientsWait,
 }
 
 /// Returns the client that sends or receives a message.
@@ -25,6 +29,30 @@ pub fn client_of(message: Message) -> u8 {
         Message::ToVoter(heard) => heard.client,
         Message::ToClient(heard) => heard.client,
     }
+}
+
+/// Returns the voter that sends or receives a message.
+pub fn voter_of(message: Message) -> u8 {
+    match message {
+        Message::ToVoter(heard) => heard.voter,
+        Message::ToClient(heard) => heard.voter,
+    }
+}
+
+/// Returns whether a client asks, and lacks the vote of a voter that is down: one from this number on. Of the numbers
+/// of a saved client the one at place 10 + v is its grant of voter v, 0 if it has none.
+pub fn is_stuck(client: &Requester, live: u8) -> bool {
+    let mut words = ArrayVec::new();
+    client.save(&mut words);
+    let grants = words.as_slice().get(10..74);
+    client.phase() == Phase::Asking
+        && client.quorum().iter().any(|voter| {
+            *voter >= live
+                && grants
+                    .and_then(|grants| grants.get(usize::from(*voter)))
+                    .copied()
+                    == Some(0)
+        })
 }
 
 /// Returns whether a message is a REQUEST.
@@ -53,12 +81,12 @@ fn is_hindered(client: &Requester) -> bool {
 }
 
 /// Returns whether a client takes a message, by the rule.
-pub fn takes(rule: Rule, world: &World, message: ToClient) -> bool {
+pub fn takes(rule: Rule, world: &IncidentWorld, message: ToClient) -> bool {
     let ClientBody::Inquire { .. } = message.body else {
         return true;
     };
     match rule {
-        Rule::Sound => true,
+        Rule::Sound | Rule::DeadKeepTheirVotes | Rule::StuckClientsWait => true,
         Rule::VoteIsNotAskedBack => message.voter != 0,
         Rule::AskedVoteIsKept => message.client != 0,
         Rule::HinderedClientWaits => !world.client(message.client).is_some_and(is_hindered),
@@ -66,7 +94,7 @@ pub fn takes(rule: Rule, world: &World, message: ToClient) -> bool {
 }
 
 /// Returns the message with this number, if it was sent.
-pub fn message_of(world: &World, number: u64) -> Option<Message> {
+pub fn message_of(world: &IncidentWorld, number: u64) -> Option<Message> {
     let number = number as usize;
     if number < world.sent() {
         Some(world.message(number))

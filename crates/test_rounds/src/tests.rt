@@ -47,6 +47,8 @@ fn tried_by_all(alloc: Global, clients: u8, rough: bool) -> Result<Tally, AllocE
         let game = Game {
             kind,
             clients,
+            dead: 0,
+            down: 0,
             rough,
             checked: false,
             rule: Rule::Sound,
@@ -104,6 +106,8 @@ fn is_fair_throughout(alloc: Global, kind: Kind, rough: bool) -> Result<bool, Al
     let game = Game {
         kind,
         clients: 4,
+        dead: 0,
+        down: 0,
         rough,
         checked: true,
         rule: Rule::Sound,
@@ -201,6 +205,8 @@ fn overdue(alloc: Global, rule: Rule, seed: u64) -> Result<u64, AllocError> {
     let game = Game {
         kind: Kind::Grid,
         clients: 2,
+        dead: 0,
+        down: 0,
         rough: false,
         checked: false,
         rule,
@@ -228,5 +234,63 @@ const RULES: [(Rule, usize); 4] = [
 fn wrong_rules_make_clients_wait_for_longer(rt: HostRuntime) {
     for (rule, wanted) in &RULES {
         assert!(rt; too_late(rt.alloc(), *rule) == *wanted);
+    }
+}
+
+/// Schedules in which clients die and voters are down: the coterie, how many clients there are, how many of them die,
+/// and how many voters are down.
+const LOSSES: [(Kind, u8, u8, u8); 7] = [
+    (Kind::Majority, 3, 1, 0),
+    (Kind::Majority, 3, 0, 1),
+    (Kind::Majority, 4, 2, 1),
+    (Kind::Grid, 4, 1, 0),
+    (Kind::Grid, 5, 2, 1),
+    (Kind::Wheel, 5, 2, 1),
+    (Kind::MajorityThenAll, 4, 2, 0),
+];
+
+/// Returns what schedules tried in which so many clients die and voters are down.
+fn tried_with_losses(
+    alloc: Global,
+    losses: (Kind, u8, u8, u8),
+    rough: bool,
+) -> Result<Tally, AllocError>
+    requires some { 1 ≤ losses.1 }
+    requires few { losses.1 ≤ 64 }
+{
+    let (kind, clients, dead, down) = losses;
+    let game = Game {
+        kind,
+        clients,
+        dead,
+        down,
+        rough,
+        checked: false,
+        rule: Rule::Sound,
+    };
+    tried(alloc, game, Tally::default())
+}
+
+/// Returns whether each live client was inside in time, while these clients are dead and these voters down.
+fn is_in_time_with_losses(
+    alloc: Global,
+    losses: (Kind, u8, u8, u8),
+    rough: bool,
+) -> Result<bool, AllocError>
+    requires some { 1 ≤ losses.1 }
+    requires few { losses.1 ≤ 64 }
+{
+    let tally = tried_with_losses(alloc, losses, rough)?;
+    let evicted = (losses.2 == 0) | (tally.evictions >= 10);
+    let failed_over = (losses.3 == 0) | (tally.fail_overs >= OFTEN);
+    Ok(is_in_time(&tally) & evicted & failed_over)
+}
+
+#[test]
+fn whoever_is_live_and_asks_is_inside_in_time(rt: HostRuntime) {
+    for losses in LOSSES {
+        for rough in [false, true] {
+            assert!(rt; is_in_time_with_losses(rt.alloc(), losses, rough) == Ok(true));
+        }
     }
 }

@@ -1,7 +1,7 @@
 //! How long a client waits, in fair rounds.
 ghost use Rattle.std.specs.Prelude.{◌≤◌};
 
-use show_waiting::bound;
+use show_waiting::{bound, live_bound};
 
 /// How many schedules there are for each number of clients.
 pub const SCHEDULES: u64 = 150;
@@ -39,13 +39,18 @@ impl Wait {
     }
 
     /// Returns whether the client has to be inside by now: whether as many rounds have passed as the
-    /// proved bound says. Each REQUEST that came late adds `clients + 8` rounds.
-    pub fn is_over(&self, clients: u8) -> bool
+    /// proved bound says, for all clients and those that are live. Each REQUEST that came late adds a block.
+    pub fn is_over(&self, clients: u8, live: u8, is_struck: bool) -> bool
         requires few { clients ≤ 64 }
     {
         let clients = u64::from(clients);
         let give_ups = self.give_ups.min(1_000_000);
-        let late = self.late.saturating_mul(clients + 8);
-        self.rounds >= bound(clients, give_ups).saturating_add(late)
+        let late = self.late.saturating_mul(clients + 9);
+        let most = if is_struck {
+            live_bound(clients, u64::from(live).min(clients), give_ups)
+        } else {
+            bound(clients, give_ups)
+        };
+        self.rounds >= most.saturating_add(late)
     }
 }
