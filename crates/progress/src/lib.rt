@@ -68,7 +68,8 @@ pub use after_losses::{
 pub use laws::{
     everybody_can_enter, fair_rounds_are_live_rounds, fair_rounds_can_be_made,
     fair_rounds_let_everybody_in, fair_rounds_let_somebody_in, fair_rounds_move_somebody,
-    live_rounds_let_everybody_in, live_rounds_let_somebody_in, live_rounds_move_somebody,
+    live_rounds_can_be_made, live_rounds_let_everybody_in, live_rounds_let_somebody_in,
+    live_rounds_move_somebody,
     lost_votes_come_back, nobody_overtakes_often, patient_rounds_are_enough, returned_votes_go_on,
     rounds_are_enough, rounds_may_be_longer, somebody_can_enter, who_asks_alone_gets_in,
     worlds_keep_their_rules,
