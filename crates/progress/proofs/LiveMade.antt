@@ -1,9 +1,9 @@
 -- the rounds of moves that are made are live, and in time; nobody asks anew in them
-use Rattle.std.proofs.Common.{◌≡◌, ◌≢◌, ℕ, zero, suc, ◌+◌, ◌-◌, ◌*◌, ◌<◌, ◌≤◌, Bool, true, false, List, [], ◌∷◌, ◌++◌, length, map, Option, None, Some, Ok, Err, refl, sym, ap, subst, ◌∙◌, ◌⊎◌, inl, inr, arith, append_assoc, length-append}
-use Rattle.std.specs.Prelude.{◌&&◌, if◌then◌else◌, nat_lt, not, slice_get}
+use Rattle.std.proofs.Common.{◌≡◌, ℕ, zero, suc, ◌+◌, ◌-◌, ◌<◌, ◌≤◌, Bool, true, false, List, [], ◌∷◌, ◌++◌, length, map, Option, None, Some, Ok, refl, sym, ap, subst, ◌∙◌, inl, inr, arith, length-append}
+use Rattle.std.specs.Prelude.{◌&&◌, if◌then◌else◌, not, slice_get}
 use Rattle.std.specs.List.{AllByRecursion, Contains, list_all}
-use Rattle.std.proofs.lemmas.Bool.{cases_eq, cases_lt, false≢true, false_from_ne_true}
-use Rattle.std.proofs.lemmas.List.{append-nil, map-append}
+use Rattle.std.proofs.lemmas.Bool.{cases_eq, false≢true, false_from_ne_true}
+use Rattle.std.proofs.lemmas.List.{append-nil}
 use Rattle.std.proofs.lemmas.List.Elements.{Contains-append_left, Contains-append_right}
 use Rattle.numbers.proofs.Lists.{AllByRecursion-append, AllByRecursion-weaker}
 use Rattle.message.specs.declared.message.Message.{Message}
@@ -21,22 +21,22 @@ use Rattle.requester.proofs.Members.{list_all-member}
 use Rattle.requester.proofs.RangeLemmas.{is_inside-busy}
 use Rattle.numbers.specs.Sets.{has}
 use Rattle.requester.specs.Steps as requester
-use Rattle.requester.specs.Words.{is_asking, is_covered, is_idle, is_inside, members}
+use Rattle.requester.specs.Words.{is_asking, is_covered, is_idle, members}
 use Rattle.requester.proofs.SoundSteps.{give_up-Ok, is_asking-busy, leave-Ok}
 use Rattle.world_state.specs.declared.step.Event.{Event}
 use Rattle.world_state.specs.declared.step.Step.{Step}
 use Rattle.world_state.specs.declared.step.Step.TheVariants.{Ask, Deliver, Exchange, GiveUp, Leave, RemindClient, RemindVoter}
 use Rattle.world.specs.Runs.{after, run_of}
 use Rattle.world.specs.WayIn.{Serves}
-use Rattle.world_state.specs.Steps.{Dealing, WorldState, after_voter, client_at, step, voter_at}
+use Rattle.world_state.specs.Steps.{Dealing, WorldState, after_voter, client_at, voter_at}
 use Rattle.world.proofs.Places.{voter_here}
 use Rattle.progress.specs.LiveRounds.{HasGrantsThere, IsAnswered, IsLiveRound, IsReminded, IsServed, Live, is_between}
-use Rattle.progress.specs.Moves.{EachMove, Goes, LetsGo, Move, late_among, let_go, move, moved, moves_of, of_moves, release_of, steps_among}
-use Rattle.progress.specs.Rounds.{give_ups_in, late_step, late_steps}
+use Rattle.progress.specs.Moves.{EachMove, Goes, LetsGo, Move, let_go, move, moved, of_moves, release_of, steps_among}
+use Rattle.progress.specs.Rounds.{late_steps}
 use Rattle.progress.proofs.Along.{contains_split, next}
 use Rattle.progress.proofs.Fitting.{Stays-fail, Stays-inquire, take-Ok}
-use Rattle.progress.proofs.LiveMaking.{Begins, Part, all_dead, allows_round, begins_move, blocks, chosen, client_block, duties, frees, is_caught, is_first, part_left, part_of, part_right, remind_voters, round, served, voter_block}
-use Rattle.progress.proofs.Making.{all_answered, answer_all, answer_all_serves, in_time, is_reminded, no_give_ups, remind, remind_serves, sent_more}
+use Rattle.progress.proofs.LiveMaking.{Part, all_dead, allows_round, begins_move, blocks, chosen, client_block, duties, frees, is_caught, is_first, part_left, part_of, part_right, remind_voters, round, served, voter_block}
+use Rattle.progress.proofs.Making.{all_answered, answer_all, answer_all_serves, in_time, is_reminded, remind, remind_serves, sent_more}
 use Rattle.progress.proofs.Reminders.{answered_before, answered_goes, answered_then, reminded_goes, reminded_more}
 use Rattle.progress.proofs.Shaded.{quit_of, quits}
 use Rattle.progress.proofs.Fair.{was_sent}
@@ -105,8 +105,11 @@ serve_voter live deal first x v least =
     let grows = sent_more deal x (RemindVoter v) in
     let more = sent_moved deal free y in
     elim (live.voter v) as (λ b. AllServe first (if b then Goes (RemindVoter v) ∷ served live deal x v else [])) [
-      | true ↦ (tt, serve_join first free (map Goes answers) (serve_free live first v (voter_at x.voters v).held)
-          (subst (AllByRecursion (Serves first)) (sym (steps_goes answers)) (answer_all_serves live deal y.sent z (length x.sent) (length y.sent - length x.sent) first least (omega arith))))
+      | true ↦ (
+        tt,
+        serve_join first free (map Goes answers) (serve_free live first v (voter_at x.voters v).held)
+            (subst (AllByRecursion (Serves first)) (sym (steps_goes answers)) (answer_all_serves live deal y.sent z (length x.sent) (length y.sent - length x.sent) first least (omega arith))),
+      )
       | false ↦ tt
     ]
 

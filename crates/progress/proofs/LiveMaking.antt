@@ -1,34 +1,29 @@
 -- How to make live rounds in which who is not live does nothing, and its grants are let go. Clients that wait for a
 -- voter that is down give up.
-use Rattle.std.proofs.Common.{◌≡◌, ◌≢◌, ℕ, zero, suc, ◌+◌, ◌-◌, ◌*◌, ◌<◌, ◌≤◌, Bool, true, false, List, [], ◌∷◌, ◌++◌, length, map, Option, None, Some, Ok, Err, refl, sym, ap, subst, ◌∙◌, inl, inr, arith, append_assoc, length-append}
+use Rattle.std.proofs.Common.{◌≡◌, ◌≢◌, ℕ, zero, suc, ◌+◌, ◌-◌, ◌<◌, ◌≤◌, Bool, true, false, List, [], ◌∷◌, ◌++◌, length, map, Option, None, Some, Ok, Err, refl, sym, ap, subst, ◌∙◌, inl, inr, arith, append_assoc}
 use Rattle.std.specs.Prelude.{◌&&◌, if◌then◌else◌, nat_lt, not, slice_get}
-use Rattle.std.specs.List.{Contains, list_all}
-use Rattle.std.proofs.lemmas.Bool.{cases_eq, cases_lt, false≢true}
+use Rattle.std.specs.List.{list_all}
+use Rattle.std.proofs.lemmas.Bool.{cases_eq, false≢true}
 use Rattle.std.proofs.lemmas.List.{append-nil, map-append}
 use Rattle.std.proofs.lemmas.Option.{same_Some}
-use Rattle.std.proofs.lemmas.List.Elements.{Contains-append_left, Contains-append_right}
 use Rattle.message.specs.declared.message.Message.{Message}
 use Rattle.message.specs.declared.message.Message.TheVariants as kinds
 use Rattle.voter.specs.declared.state.Grant.{Grant}
 use Rattle.voter.specs.declared.state.VoterState.{VoterState}
 use Rattle.voter.specs.Steps as voter
-use Rattle.requester.specs.Words.{is_asking, is_inside, members}
-use Rattle.requester.proofs.RangeLemmas.{is_inside-busy}
-use Rattle.world_state.specs.declared.step.Event.{Event}
+use Rattle.requester.specs.Words.{is_asking, members}
 use Rattle.world_state.specs.declared.step.Step.{Step}
-use Rattle.world_state.specs.declared.step.Step.TheVariants.{Ask, Deliver, Exchange, GiveUp, Leave, RemindClient, RemindVoter}
+use Rattle.world_state.specs.declared.step.Step.TheVariants.{Deliver, GiveUp, Leave, RemindClient, RemindVoter}
 use Rattle.world.specs.Restarts.{Node, OneClient, OneVoter, Nobody, maker, receiver}
 use Rattle.world.specs.Runs.{after, run_of}
 use Rattle.world_state.specs.Steps.{Dealing, WorldState, after_voter, client_at, if_voter, say, step, voter_at}
 use Rattle.world.proofs.Added.{Adds-step}
-use Rattle.progress.specs.LiveRounds.{IsReminded, IsServed, Live, SparesIn, is_between}
-use Rattle.progress.specs.Moves.{EachMove, Goes, IsNotBy, LetsGo, Move, let_go, move, moved, of_moves, of_steps}
+use Rattle.progress.specs.LiveRounds.{Live, is_between}
+use Rattle.progress.specs.Moves.{EachMove, Goes, LetsGo, Move, let_go, move, moved}
 use Rattle.progress.proofs.Along.{next}
-use Rattle.progress.proofs.Longer.{contains_here}
-use Rattle.progress.proofs.Making.{answer, answer_all, answer_if, arrivals, is_reminded, remind}
-use Rattle.progress.proofs.Reminders.{moved_steps, reminded_goes, reminded_more}
-use Rattle.progress.proofs.Shade.{Allows, IsShade, Shades, Shading, each_split, extra, get_after, images, images-append, moved_then, moves_on, shifted}
-use Rattle.progress.proofs.Sure.{Course}
+use Rattle.progress.proofs.Making.{answer, answer_all, answer_if, arrivals, remind}
+use Rattle.progress.proofs.Reminders.{moved_steps}
+use Rattle.progress.proofs.Shade.{Allows, Shading, moved_then}
 
 -- ---- the moves
 
@@ -141,6 +136,7 @@ to_live live (Some (kinds.ToClient m)) c is dead same = false≢true (sym (ap no
     Who (OneClient d) = d
     Who (OneVoter v) = 0
     Who Nobody = 0
+
     by : (a b : Bool) → (a && b) ≡ true → a ≡ true
     by true b is = refl
     by false b is = is

@@ -1,9 +1,8 @@
 -- how many grants of a voter the rounds of moves take that are made
-use Rattle.std.proofs.Common.{◌≡◌, ℕ, zero, suc, ◌+◌, ◌-◌, ◌*◌, ◌<◌, ◌≤◌, Bool, true, false, eqb, List, [], ◌∷◌, ◌++◌, length, map, Option, None, Some, Result, Ok, Err, refl, sym, ap, subst, ◌∙◌, inl, inr, arith, append_assoc, length-append}
-use Rattle.std.specs.Prelude.{if◌then◌else◌, nat_lt, slice_get}
-use Rattle.std.proofs.Math.Nat.{suc-mul}
+use Rattle.std.proofs.Common.{◌≡◌, ℕ, zero, suc, ◌+◌, ◌-◌, ◌*◌, ◌<◌, Bool, true, false, eqb, List, [], ◌∷◌, ◌++◌, length, map, Option, None, Some, Result, Ok, Err, refl, sym, ap, subst, ◌∙◌, arith, length-append}
+use Rattle.std.specs.Prelude.{if◌then◌else◌, slice_get}
 use Rattle.std.proofs.lemmas.Bool.Decides.{nat_tests}
-use Rattle.std.proofs.lemmas.List.{append-nil, map-append}
+use Rattle.std.proofs.lemmas.List.{map-append}
 use Rattle.message.specs.declared.message.Message.{Message}
 use Rattle.message.specs.declared.message.Message.TheVariants as kinds
 use Rattle.requester.specs.declared.fault.ClientFault.{ClientFault}
@@ -12,10 +11,9 @@ use Rattle.voter.specs.declared.state.Grant.{Grant}
 use Rattle.voter.specs.declared.state.VoterState.{VoterState}
 use Rattle.world_state.specs.declared.step.Event.{Event}
 use Rattle.world_state.specs.declared.step.Step.{Step}
-use Rattle.world_state.specs.declared.step.Step.TheVariants.{Ask, Deliver, Exchange, GiveUp, Leave, RemindClient, RemindVoter}
+use Rattle.world_state.specs.declared.step.Step.TheVariants.{Deliver, GiveUp, Leave, RemindClient, RemindVoter}
 use Rattle.world.specs.Runs.{after, run_of}
-use Rattle.world_state.specs.Steps.{Dealing, WorldState, act, after_client, client_at, if_client, step, voter_at}
-use Rattle.world.proofs.Plans.{run_then}
+use Rattle.world_state.specs.Steps.{Dealing, WorldState, after_client, if_client, step, voter_at}
 use Rattle.progress.specs.LiveRounds.{Live, is_between}
 use Rattle.progress.specs.Moves.{EachMove, Goes, LetsGo, Move, move, moved, release_of}
 use Rattle.progress.specs.Rules.{Laws}
@@ -23,8 +21,8 @@ use Rattle.progress.proofs.Along.{next}
 use Rattle.progress.proofs.LiveMaking.{all_dead, allows_round, allows_client, allows_voter, blocks, chosen, client_block, duties, frees, is_caught, remind_voters, round, served, voter_block}
 use Rattle.progress.proofs.Making.{answer, answer_all, answer_if, arrivals, remind}
 use Rattle.progress.proofs.Reminders.{moved_steps}
-use Rattle.progress.proofs.Shade.{Allows, IsShade, Shades, Shading, each_split, extra, freed, freed_is, get_after, get_before, image, images, images-append, moved_then, moves_on, moves_once, place, shifted, stands}
-use Rattle.progress.proofs.Spending.{Reminds, Spends, Spends-self, Spends-then, Spent, count_from, delivers, hits, one_at, one_from, reminds_client, reminds_voter, said_gives}
+use Rattle.progress.proofs.Shade.{Allows, IsShade, Shades, Shading, each_split, extra, freed, freed_is, get_after, get_before, image, images, moved_then, moves_on, moves_once, place, shifted, stands}
+use Rattle.progress.proofs.Spending.{Reminds, Spends, Spends-self, Spends-then, Spent, count_from, delivers, one_at, one_from, reminds_client, reminds_voter, said_gives}
 use Rattle.progress.proofs.Sure.{Course}
 
 -- ---- arrivals in the shade

@@ -1,9 +1,9 @@
 -- live rounds of moves that are made, one after the other, and what is counted in them
 use Rattle.std.proofs.Common.{◌≡◌, ◌≢◌, ℕ, zero, suc, ◌+◌, ◌*◌, ◌<◌, ◌≤◌, Bool, true, false, List, [], ◌∷◌, ◌++◌, length, refl, sym, ap, subst, ◌∙◌, inl, inr, arith}
-use Rattle.std.specs.Prelude.{◌&&◌, ◌||◌, ◌==◌, if◌then◌else◌, nat_lt, not}
-use Rattle.std.specs.List.{AllByRecursion, list_all, list_any}
+use Rattle.std.specs.Prelude.{◌&&◌, if◌then◌else◌, nat_lt, not}
+use Rattle.std.specs.List.{list_all}
 use Rattle.std.proofs.Math.Nat.{suc-mul}
-use Rattle.std.proofs.lemmas.Bool.{cases_eq, false≢true, false_from_ne_true}
+use Rattle.std.proofs.lemmas.Bool.{cases_eq, false≢true}
 use Rattle.std.proofs.lemmas.Bool.Decides.{nat_tests}
 use Rattle.numbers.specs.Sets.{has}
 use Rattle.numbers.specs.Sums.{sum_below}
@@ -11,15 +11,14 @@ use Rattle.numbers.proofs.Lists.{AllByRecursion-append, AllByRecursion-weaker}
 use Rattle.numbers.proofs.SetLemmas.{has-head, has-tail}
 use Rattle.numbers.proofs.SumsBelow.{sum_below-add, sum_below-le}
 use Rattle.requester.specs.Words.{is_asking, is_member, members}
-use Rattle.voter.specs.declared.state.VoterState.{VoterState}
 use Rattle.world_state.specs.declared.step.Event.{Event}
 use Rattle.world_state.specs.declared.step.Step.{Step}
 use Rattle.world_state.specs.declared.step.Step.TheVariants.{Ask, Deliver, Exchange, GiveUp, Leave, RemindClient, RemindVoter}
 use Rattle.world.specs.Rules.{ClientLaws, VoterLaws}
 use Rattle.world.specs.Runs.{IsReached}
 use Rattle.world.specs.WayIn.{Serves}
-use Rattle.world_state.specs.Steps.{Dealing, Planned, WorldState, client_at, dealing_of, voter_at}
-use Rattle.progress.specs.LiveRounds.{AreLiveRounds, AreTimely, HasGrantsThere, IsDead, Live, SparesIn, SparesLive, live_below}
+use Rattle.world_state.specs.Steps.{Dealing, Planned, WorldState, client_at, dealing_of}
+use Rattle.progress.specs.LiveRounds.{AreLiveRounds, AreTimely, HasGrantsThere, Live, SparesIn, live_below}
 use Rattle.progress.specs.Moves.{EachMove, Goes, IsNotBy, LetsGo, Move, hasty_among_from, hasty_moves, late_among, move, moved, moves_of, of_moves, steps_among}
 use Rattle.progress.specs.Patience.{hasty}
 use Rattle.progress.specs.Rounds.{DoesNotGiveUp, give_ups_in}
@@ -28,12 +27,10 @@ use Rattle.progress.proofs.LiveMade.{NoAsks, calm_moves, caught_ends, late_round
 use Rattle.progress.proofs.LiveMaking.{all_dead, allows_round, chosen, duties, each_join, is_caught, round}
 use Rattle.progress.proofs.LiveSpending.{round_gives}
 use Rattle.progress.proofs.Making.{no_give_ups}
-use Rattle.progress.proofs.Shade.{Allows, Shades, each_split, images, moved_then, moves_on, moves_once}
+use Rattle.progress.proofs.Shade.{Allows, Shades, moved_then, moves_on, moves_once}
 use Rattle.progress.proofs.Shaded.{AllDeal, begins, rests_reached}
-use Rattle.progress.proofs.Spending.{Spends, Spent}
 use Rattle.progress.proofs.Sure.{Course, IsSure-reached, course_of}
 use Rattle.progress.proofs.Turns.{asks_at, one_if}
-use Rattle.progress.proofs.Waiting.{one_most}
 
 -- k rounds, one after the other
 made : Live → Dealing → WorldState → ℕ → List (List Move)
@@ -205,6 +202,7 @@ not_hasty live first deal u x (GiveUp c) same allow =
     by : (b : Bool) → (not b ≡ true → ⊥) → b ≡ true
     by true h = refl
     by false h = absurd (h refl)
+
     none : (b : Bool) → ◌≡◌ {A = ℕ} (if b && false then 1 else 0) 0
     none true = refl
     none false = refl

@@ -1,5 +1,5 @@
 -- after any happenings, losses of saved states too, requests get on in fair rounds
-use Rattle.std.proofs.Common.{◌≡◌, ◌≢◌, ℕ, suc, ◌+◌, ◌*◌, ◌<◌, ◌≤◌, Bool, true, false, List, [], ◌∷◌, ◌++◌, length, map, Ok, Err, refl, sym, ap, subst, ◌∙◌, ◌⊎◌, inl, inr, arith}
+use Rattle.std.proofs.Common.{◌≡◌, ◌≢◌, ℕ, suc, ◌<◌, ◌≤◌, Bool, true, false, List, [], ◌∷◌, ◌++◌, length, map, Ok, Err, refl, sym, ap, subst, ◌∙◌, ◌⊎◌, inl, inr, arith}
 use Rattle.std.specs.Prelude.{Result, nat_lt, slice_set, Some}
 use Rattle.std.proofs.lemmas.Bool.{cases_eq, ltb-true}
 use Rattle.std.proofs.lemmas.List.{append-nil, length-set, set_past}
@@ -13,7 +13,6 @@ use Rattle.requester.specs.Saved.{least_client}
 use Rattle.requester.specs.Steps as requester
 use Rattle.requester.proofs.SoundSteps.{is_asking-busy}
 use Rattle.world_state.specs.declared.fault.WorldFault.{WorldFault}
-use Rattle.world_state.specs.declared.step.Event.{Event}
 use Rattle.world_state.specs.declared.step.Step.{Step}
 use Rattle.world.specs.Coherence.{IsCoherent}
 use Rattle.world.specs.Restarts.{Node, OneClient, OneVoter, Nobody, Saved, Happening, Goes, Saves, Forgets, Restarts, all_happen, begin, come_back, forget, happens, if_there, maker, restart, save, save_and_send, save_unless}
@@ -22,21 +21,19 @@ use Rattle.world.specs.Rules.{ClientLaws, VoterLaws}
 use Rattle.world.specs.Runs.{run_of}
 use Rattle.world.specs.SavedWorlds.{AreMixed, with_nodes}
 use Rattle.world_state.specs.Steps.{Adds, Dealing, Outcome, WorldState, client_at, events, step, voter_at}
-use Rattle.world.specs.Visible.{DealsFrom, entries_of}
+use Rattle.world.specs.Visible.{DealsFrom}
 use Rattle.world.proofs.Added.{Adds-step}
 use Rattle.world.proofs.Claims.{Bounds}
 use Rattle.world.proofs.EveryRun.{coherent_by, run_from}
 use Rattle.world.proofs.Mixes.{same_clients, same_voters}
 use Rattle.world.proofs.Places.{client_at-set, voter_at-set}
-use Rattle.world.proofs.Plans.{run_then}
-use Rattle.world.proofs.Reached.{Given, RunOk}
+use Rattle.world.proofs.Reached.{Given}
 use Rattle.world.proofs.Restarts.{Mix, MixBut, Mix-back, Mix-restarted, Mix-saved, Mix-with, SavedOk, begin_ok, happens_ok, live_ok, nothing_more, silent_parts, within_or}
 use Rattle.progress.specs.AfterLosses.{AskedSince, IsHeard, IsReachedAfterLosses}
 use Rattle.progress.specs.LiveRounds.{AreGone, AreLiveRounds, HasGrantsThere, Live, SparesLive}
 use Rattle.progress.specs.Moves.{Move, moved, moves_of, of_moves}
 use Rattle.progress.specs.Rules.{Laws}
 use Rattle.world.specs.WayIn.{Asks}
-use Rattle.world.specs.Waiting.{live_block}
 use Rattle.progress.proofs.Always.{HasSeen, Heeds, Seen-voter}
 use Rattle.progress.proofs.Behind.{IsLater-moved, is_current_of}
 use Rattle.progress.proofs.Fitting.{current_stamp}

@@ -1,5 +1,5 @@
 -- reminders in longer lists of moves, and reminders of steps as those of moves
-use Rattle.std.proofs.Common.{◌≡◌, ℕ, ◌≤◌, true, List, [], ◌∷◌, ◌++◌, length, map, refl, sym, ap, subst, ◌∙◌, append_assoc}
+use Rattle.std.proofs.Common.{◌≡◌, ℕ, ◌≤◌, List, [], ◌∷◌, ◌++◌, length, map, refl, sym, ap, subst, ◌∙◌, append_assoc}
 use Rattle.std.specs.Prelude.{slice_get}
 use Rattle.std.specs.List.{Contains}
 use Rattle.std.proofs.lemmas.List.{map-append}
@@ -9,7 +9,7 @@ use Rattle.world_state.specs.declared.step.Step.TheVariants.{Deliver}
 use Rattle.world.specs.Runs.{run_of}
 use Rattle.world_state.specs.Steps.{Dealing, WorldState}
 use Rattle.progress.specs.LiveRounds.{IsAnswered, IsReminded, Live, is_between}
-use Rattle.progress.specs.Moves.{Goes, Kind, Move, move, moved, of_moves, of_steps}
+use Rattle.progress.specs.Moves.{Goes, Kind, moved, of_moves, of_steps}
 use Rattle.progress.proofs.Along.{contains_split, next}
 use Rattle.progress.proofs.Longer.{contains_here}
 

@@ -114,6 +114,7 @@ each_extra P k h = each_below P (by_client k) (length k.first.clients) (λ c cli
     stamps : (c v t : ℕ) → k.live.client c ≡ false → c < length k.first.clients → v < length k.first.voters → t ≤ (client_at k.first.clients c).stamp → AllByRecursion P (by_stamp c v t)
     stamps c v zero gone client voter most = tt
     stamps c v (suc t) gone client voter most = (h c v (suc t) gone client voter (omega arith) most, tt)
+
     by : (c : ℕ) → c < length k.first.clients → (b : Bool) → k.live.client c ≡ b → AllByRecursion P (if b then [] else all_below (by_voter k c) (length k.first.voters))
     by c client true is = tt
     by c client false is = each_below P (by_voter k c) (length k.first.voters) (λ v voter. each_below P (by_stamp c v) (suc (client_at k.first.clients c).stamp)

@@ -1,7 +1,7 @@
 -- Live rounds of moves are live rounds of steps in the shade, and what is counted in them is the same.
-use Rattle.std.proofs.Common.{◌≡◌, ◌≢◌, ℕ, ◌+◌, ◌-◌, ◌<◌, ◌≤◌, Bool, true, false, List, [], ◌∷◌, ◌++◌, length, Option, Some, None, refl, sym, ap, subst, ◌∙◌, arith, append_assoc, length-append}
+use Rattle.std.proofs.Common.{◌≡◌, ◌≢◌, ℕ, ◌+◌, ◌-◌, ◌<◌, ◌≤◌, true, false, List, [], ◌∷◌, ◌++◌, length, Option, Some, None, refl, sym, ap, subst, ◌∙◌, arith, append_assoc, length-append}
 use Rattle.std.specs.Prelude.{◌&&◌, nat_lt, slice_get, if◌then◌else◌}
-use Rattle.std.specs.List.{AllByRecursion, Contains}
+use Rattle.std.specs.List.{Contains}
 use Rattle.std.proofs.lemmas.Bool.{false_from_ne_true}
 use Rattle.std.proofs.lemmas.Bool.Decides.{nat_tests}
 use Rattle.std.proofs.lemmas.List.Elements.{Contains-append_right}
@@ -13,21 +13,21 @@ use Rattle.voter.specs.declared.state.Grant.{Grant}
 use Rattle.voter.specs.declared.state.VoterState.{VoterState}
 use Rattle.voter.specs.VoterContract.{IsEntry}
 use Rattle.requester.specs.declared.state.ClientState.{ClientState}
-use Rattle.requester.specs.Words.{holds, is_asking, is_idle, is_inside, is_member}
+use Rattle.requester.specs.Words.{holds, is_asking, is_inside, is_member}
 use Rattle.world_state.specs.declared.step.Event.{Event}
 use Rattle.world_state.specs.declared.step.Step.{Step}
 use Rattle.world_state.specs.declared.step.Step.TheVariants.{Ask, Deliver, Leave, GiveUp, RemindClient, RemindVoter, Exchange}
-use Rattle.world.specs.Restarts.{OneClient, maker}
+use Rattle.world.specs.Restarts.{maker}
 use Rattle.world.specs.Runs.{run_of}
 use Rattle.world_state.specs.Steps.{Dealing, WorldState, client_at, voter_at}
-use Rattle.progress.specs.LiveRounds.{AreLiveRounds, AsksOn, Drops, IsAnswered, IsLiveRound, IsReminded, IsServed, IsStuck, is_between}
+use Rattle.progress.specs.LiveRounds.{AreLiveRounds, Drops, IsAnswered, IsLiveRound, IsReminded, IsServed, is_between}
 use Rattle.progress.specs.Moves.{EachMove, Goes, LetsGo, Move, hasty_among_from, hasty_moves, late_among, move, moved, moves_of, of_moves, of_steps, release_of, steps_among}
 use Rattle.progress.specs.Patience.{hasty, hasty_from, hasty_steps}
 use Rattle.progress.specs.Rounds.{DoesNotGiveUp, give_up, give_ups_in, late_body, late_in, late_message, late_step, late_steps, steps_of}
 use Rattle.progress.proofs.Along.{contains_split}
 use Rattle.progress.proofs.Longer.{contains_here}
 use Rattle.progress.proofs.Parts.{none_late}
-use Rattle.progress.proofs.Shade.{Allows, IsShade, Shades, Shading, each_split, extra, freed, freed_is, get_after, get_before, get_shade, image, images, images-append, images-one, moved_then, moves_on, moves_once, not_dead, place, shifted, stands}
+use Rattle.progress.proofs.Shade.{Allows, Shades, Shading, each_split, extra, freed, freed_is, get_after, get_before, get_shade, image, images, images-append, images-one, moved_then, moves_on, moves_once, place, shifted, stands}
 use Rattle.progress.proofs.Sure.{Course}
 
 -- ---- a step among these moves, and where it is in the shade
@@ -296,20 +296,20 @@ give_ups_shade k deal (Goes t ∷ moves) w =
     omega (arith, first, rest)
 give_ups_shade k deal (LetsGo v ∷ moves) w = freed_give_ups k v (voter_at w.voters v).held (images k deal (move deal w (LetsGo v)) moves) ∙ give_ups_shade k deal moves (move deal w (LetsGo v))
 
+abbrev IsDelivery : Step → Type 0
+IsDelivery (Ask d) = ⊥
+IsDelivery (Deliver i) = Unit {0}
+IsDelivery (Leave d) = ⊥
+IsDelivery (GiveUp d) = ⊥
+IsDelivery (RemindClient d) = ⊥
+IsDelivery (RemindVoter v) = ⊥
+IsDelivery Exchange = ⊥
+
 -- the step of which this is the image
 back_from : (n c : ℕ) (t : Step) → shifted n t ≡ GiveUp c → t ≡ GiveUp c
 unfolding shifted
 back_from n c (Ask d) same = same
 back_from n c (Deliver i) same = absurd (subst IsDelivery same tt)
-  where
-    IsDelivery : Step → Type 0
-    IsDelivery (Ask d) = ⊥
-    IsDelivery (Deliver i) = Unit {0}
-    IsDelivery (Leave d) = ⊥
-    IsDelivery (GiveUp d) = ⊥
-    IsDelivery (RemindClient d) = ⊥
-    IsDelivery (RemindVoter v) = ⊥
-    IsDelivery Exchange = ⊥
 back_from n c (Leave d) same = same
 back_from n c (GiveUp d) same = same
 back_from n c (RemindClient d) same = same
@@ -320,15 +320,6 @@ freed_stays : (k : Shading) (c v : ℕ) (held : Option Grant) (steps : List Step
 unfolding freed
 freed_stays k c v None steps stays = stays
 freed_stays k c v (Some g) steps stays = ((λ same. absurd (subst IsDelivery same tt)), stays)
-  where
-    IsDelivery : Step → Type 0
-    IsDelivery (Ask d) = ⊥
-    IsDelivery (Deliver i) = Unit {0}
-    IsDelivery (Leave d) = ⊥
-    IsDelivery (GiveUp d) = ⊥
-    IsDelivery (RemindClient d) = ⊥
-    IsDelivery (RemindVoter v) = ⊥
-    IsDelivery Exchange = ⊥
 
 pub stays_shade : (k : Shading) (deal : Dealing) (c : ℕ) (moves : List Move) (w : WorldState) → DoesNotGiveUp c (steps_among moves) → DoesNotGiveUp c (images k deal w moves)
 unfolding images image

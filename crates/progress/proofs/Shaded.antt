@@ -1,14 +1,13 @@
 -- The first shade: the dead end their requests. So the laws on live rounds of steps are laws on live rounds of
 -- moves.
-use Rattle.std.proofs.Common.{◌≡◌, ◌≢◌, ℕ, zero, suc, ◌+◌, ◌*◌, ◌<◌, ◌≤◌, Bool, true, false, List, [], ◌∷◌, ◌++◌, map, length, None, Some, Ok, refl, sym, ap, subst, ◌∙◌, ◌⊎◌, inl, inr, arith, append_assoc}
-use Rattle.std.specs.Prelude.{nat_lt, if◌then◌else◌}
+use Rattle.std.proofs.Common.{◌≡◌, ◌≢◌, ℕ, zero, suc, ◌+◌, ◌*◌, ◌<◌, ◌≤◌, Bool, true, false, List, [], ◌∷◌, ◌++◌, map, length, None, Some, refl, sym, ap, subst, ◌∙◌, ◌⊎◌, inl, inr, arith, append_assoc}
+use Rattle.std.specs.Prelude.{if◌then◌else◌}
 use Rattle.std.specs.List.{AllByRecursion}
 use Rattle.std.proofs.lemmas.Bool.{cases_eq, cases_lt, false≢true, lt-ltb}
 use Rattle.std.proofs.lemmas.List.{append-nil, append_cancel_left, get_or_past, length-set}
 use Rattle.numbers.proofs.Lists.{AllByRecursion-append}
 use Rattle.message.specs.declared.message.Message.{Message}
 use Rattle.message.specs.declared.message.Message.TheVariants as kinds
-use Rattle.message.specs.declared.message.VoterBody.TheVariants as asks
 use Rattle.voter.specs.declared.state.VoterState.{VoterState}
 use Rattle.requester.specs.declared.fault.ClientFault.TheVariants.{NotAsking, NotInside}
 use Rattle.requester.specs.declared.state.ClientState.{ClientState}
@@ -35,19 +34,18 @@ use Rattle.world.proofs.EveryRun.{coherent_by, run_from, run_ok}
 use Rattle.world.proofs.Places.{client_here, client_others}
 use Rattle.world.proofs.Plans.{run_then}
 use Rattle.world.proofs.Reached.{Given, RunOk}
-use Rattle.progress.specs.LiveRounds.{AreGone, AreLiveRounds, HasGrantsThere, IsDead, IsOut, Live, SparesIn, SparesLive, live_below}
+use Rattle.progress.specs.LiveRounds.{AreGone, AreLiveRounds, HasGrantsThere, IsOut, Live, SparesIn, SparesLive, live_below}
 use Rattle.progress.specs.Moves.{EachMove, IsNotBy, Move, hasty_among, late_among, move, moved, moves_of, of_moves, of_steps, steps_among}
 use Rattle.progress.specs.Patience.{hasty_in}
 use Rattle.progress.specs.Rounds.{DoesNotGiveUp, IsStill, give_ups_in, late_in, steps_of}
 use Rattle.progress.specs.Rules.{Laws}
 use Rattle.progress.proofs.Always.{HasSeen, Heeds, WasGiven}
 use Rattle.progress.proofs.Blocks.{live_is_block}
-use Rattle.progress.proofs.Known.{within_by}
 use Rattle.progress.proofs.Olds.{AreOld, no_olds, olds_of}
 use Rattle.progress.proofs.Outstanding.{IsNotedAt}
 use Rattle.progress.proofs.Patient.{everybody_by}
 use Rattle.progress.proofs.Placed.{AskedAt}
-use Rattle.progress.proofs.Shade.{Allows, Shades, Shading, each_extra, extra, images, moves_on, stands}
+use Rattle.progress.proofs.Shade.{Allows, Shades, Shading, each_extra, extra, moves_on, stands}
 use Rattle.progress.proofs.ShadeRounds.{all_images, give_ups_shade, hasty_shade, late_shade, length_images, live_rounds_shade, stays_shade, steps_images}
 use Rattle.progress.proofs.Sure.{Course, IsSure, IsSure-first, IsSure-reached, IsSure-run, Serving, Sure, course_of}
 use Rattle.progress.proofs.Waiting.{moves_by, somebody_by}

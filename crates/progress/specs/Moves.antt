@@ -1,6 +1,6 @@
 -- Moves: what may happen in a round while some clients are dead. A move is a step, or a voter lets its
 -- grant go.
-use Rattle.std.specs.Prelude.{ℕ, ◌≡◌, ◌≢◌, ◌+◌, List, [], ◌∷◌, ◌++◌, length, Option, None, Some}
+use Rattle.std.specs.Prelude.{ℕ, ◌≢◌, ◌+◌, List, [], ◌∷◌, ◌++◌, length, map, Option, None, Some}
 use Rattle.message.specs.declared.message.ToVoter.{ToVoter}
 use Rattle.message.specs.declared.message.VoterBody.TheVariants as asks
 use Rattle.voter.specs.declared.state.Grant.{Grant}
@@ -62,6 +62,10 @@ of_moves = record { goes = Goes; run = moved }
 abbrev pub moves_of : List (List Move) → List Move
 moves_of [] = []
 moves_of (r ∷ rs) = r ++ moves_of rs
+
+-- rounds of steps as rounds of moves
+abbrev pub all_go : List (List Step) → List (List Move)
+all_go rounds = map (map Goes) rounds
 
 -- the steps among these moves
 abbrev pub steps_among : List Move → List Step

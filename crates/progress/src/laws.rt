@@ -3,8 +3,8 @@ ghost use Rattle.std.specs.Prelude.{◌≡◌, ◌≢◌, ◌≤◌, ◌+◌, �
 ghost use Rattle.progress.specs.LostVotes.{ComesBack, GoesOn, HasLostVote, HasReturnedVote};
 ghost use Rattle.progress.specs.Overtaking.{IsKnownEverywhere, StillRuns};
 ghost use Rattle.world.specs.Visible.{DealsFrom, DoMeet, entries_of};
-ghost use Rattle.progress.specs.LiveRounds.{AreGone, AreLiveRounds, HasGrantsThere, Live, SparesLive, live_below};
-ghost use Rattle.progress.specs.Moves.{Move, hasty_among, late_among, moved, moves_of, of_moves, of_steps, steps_among};
+ghost use Rattle.progress.specs.LiveRounds.{AreGone, AreLiveRounds, AreTimely, HasGrantsThere, Live, SparesLive, live_below};
+ghost use Rattle.progress.specs.Moves.{Move, all_go, hasty_among, late_among, moved, moves_of, of_moves, steps_among};
 ghost use Rattle.progress.specs.Patience.{hasty_in};
 ghost use Rattle.progress.specs.Rounds.{AreFairRounds, DoesNotGiveUp, IsFairRound, IsStill, IsTimely, give_ups_in, grants_for, late_in, steps_of};
 ghost use Rattle.progress.specs.Rules.{Laws};
@@ -166,7 +166,7 @@ pub fn rounds_may_be_longer()
 /// Fair rounds are live rounds, if everybody is live: then nobody is stuck, and nothing is dropped.
 pub fn fair_rounds_are_live_rounds()
     ensures { (live : Live) (deal : Dealing) (w : WorldState) (rounds : List (List Step)) → ((c : ℕ) → live.client c ≡ true) → ((v : ℕ) → live.voter v ≡ true)
-        → AreFairRounds deal w rounds → AreLiveRounds of_steps live deal w rounds }
+        → AreFairRounds deal w rounds → AreLiveRounds of_moves live deal w (all_go rounds) }
 {}
 
 /// The quorums that the tickets of a world stand for meet.
@@ -236,6 +236,22 @@ pub fn live_rounds_let_everybody_in()
         ≤ length rounds
         → (moved (dealing_of w.plans) (moves_of rounds) w.state).visible ≡ w.state.visible ++ more
         → 1 ≤ entries_of c more }
+{
+    worlds_keep_their_rules();
+    parts_keep_their_rules();
+    tickets_deal_quorums_that_meet();
+}
+
+/// There are any number of live rounds in every world that was reached, whoever is live, one after the other. No
+/// REQUEST is late and no withdrawal is hasty. Each live client gives up at most once, and not at all if it asks live
+/// voters alone. Who is not live is dead, in whatever phase it is, and its grants are let go.
+///
+/// Each of these rounds takes at most 2 n + 3 grants of a live voter, for n clients. So all that the laws on live
+/// rounds ask for can be met together.
+pub fn live_rounds_can_be_made()
+    ensures { (live : Live) (w : Planned) (k left : ℕ) → IsReached w → 1 ≤ left → HasGrantsThere live (k * (2 * length w.state.clients + 3) + left) w.state
+        → (rounds : List (List Move)) × AreTimely live (dealing_of w.plans) w.state k rounds
+        × HasGrantsThere live left (moved (dealing_of w.plans) (moves_of rounds) w.state) }
 {
     worlds_keep_their_rules();
     parts_keep_their_rules();

@@ -22,11 +22,12 @@
 //!   l arrivals of late REQUESTs. A withdrawal is hasty if its request did not run for two whole rounds.
 //!   Somebody enters within (n + 8) * (n + 2 g + l), for g withdrawals ([`fair_rounds_let_somebody_in`]),
 //!   and nothing stands still for n + 8 rounds ([`fair_rounds_move_somebody`]).
-//! - **While voters are down and clients are out** the same holds in live rounds, with n + 9 for n + 8 and c live
+//! - **While voters are down and clients are dead** the same holds in live rounds, with n + 9 for n + 8 and c live
 //!   clients in the brackets ([`live_rounds_let_everybody_in`], [`live_rounds_let_somebody_in`], [`live_rounds_move_somebody`]):
 //!   fair rounds of those that are live, in which each client ends its request if it waits for a voter that is
-//!   down, and each voter drops the request of a client that is not live. If all are live, fair rounds are live
-//!   rounds ([`fair_rounds_are_live_rounds`]).
+//!   down, and each voter drops the request of a client that is not live, for instance by letting its grant go. If
+//!   all are live, fair rounds are live rounds ([`fair_rounds_are_live_rounds`]). Any number of live rounds can be
+//!   made, whoever is live, with all that these laws ask for ([`live_rounds_can_be_made`]).
 //! - **The numbers that `qlock-show waiting` shows are enough** ([`rounds_are_enough`],
 //!   [`patient_rounds_are_enough`]): these are the two bounds without late REQUESTs.
 //! - **Fair rounds need not be neighbours** ([`rounds_may_be_longer`]): steps before a fair round and after
@@ -68,8 +69,8 @@ pub use after_losses::{
 pub use laws::{
     everybody_can_enter, fair_rounds_are_live_rounds, fair_rounds_can_be_made,
     fair_rounds_let_everybody_in, fair_rounds_let_somebody_in, fair_rounds_move_somebody,
-    live_rounds_let_everybody_in, live_rounds_let_somebody_in, live_rounds_move_somebody,
-    lost_votes_come_back, nobody_overtakes_often, patient_rounds_are_enough, returned_votes_go_on,
-    rounds_are_enough, rounds_may_be_longer, somebody_can_enter, who_asks_alone_gets_in,
-    worlds_keep_their_rules,
+    live_rounds_can_be_made, live_rounds_let_everybody_in, live_rounds_let_somebody_in,
+    live_rounds_move_somebody, lost_votes_come_back, nobody_overtakes_often,
+    patient_rounds_are_enough, returned_votes_go_on, rounds_are_enough, rounds_may_be_longer,
+    somebody_can_enter, who_asks_alone_gets_in, worlds_keep_their_rules,
 };
