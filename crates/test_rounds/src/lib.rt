@@ -2,11 +2,12 @@
 //!
 //! In 1,350 schedules worlds are played in fair rounds: `duties` lists what a round owes, `rounds` plays,
 //! and between the duties an adversary does anything else. A generator with a known seed draws what it
-//! does.
+//! does. In 420 schedules more clients die after some rounds, or a voter is down, and the rounds are live
+//! rounds.
 //!
-//! Whoever asks is inside within the rounds that `progress` proves, and the longest waits are those that
-//! `show_waiting` prints. A separate checker, `fair`, tests by the definition that the rounds are fair.
-//! With each of three wrong rules a client waits for longer than the bound.
+//! Whoever asks, and is live, is inside within the rounds that `progress` proves, and the longest waits in
+//! fair rounds are those that `show_waiting` prints. A separate checker, `fair`, tests by the definition
+//! that fair rounds are fair. With each of five wrong rules a client waits for longer than the bound.
 #![tactic(auto)]
 
 #[cfg(test)]

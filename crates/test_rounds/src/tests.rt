@@ -294,3 +294,39 @@ fn whoever_is_live_and_asks_is_inside_in_time(rt: HostRuntime) {
         }
     }
 }
+
+/// Wrong rules while a client is dead or a voter is down: the rule, how many of two clients die, and how many voters are
+/// down.
+const RULES_WITH_LOSSES: [(Rule, u8, u8); 2] = [
+    (Rule::DeadKeepTheirVotes, 1, 0),
+    (Rule::StuckClientsWait, 0, 1),
+];
+
+/// Returns how often a client was not inside in time in schedules of two clients, of which so many die, while so many
+/// voters are down.
+fn overdue_with_losses(alloc: Global, rule: Rule, dead: u8, down: u8) -> Result<u64, AllocError> {
+    let game = Game {
+        kind: Kind::Majority,
+        clients: 2,
+        dead,
+        down,
+        rough: false,
+        checked: false,
+        rule,
+    };
+    let mut tally = Tally::default();
+    for seed in 0..20 {
+        tally = tally_of(alloc, game, seed, ROUNDS_OF_TWO, tally)?;
+    }
+    Ok(tally.overdue)
+}
+
+#[test]
+fn wrong_rules_make_clients_wait_while_others_are_dead_or_down(rt: HostRuntime) {
+    for (rule, dead, down) in &RULES_WITH_LOSSES {
+        let sound = overdue_with_losses(rt.alloc(), Rule::Sound, *dead, *down);
+        let wrong = overdue_with_losses(rt.alloc(), *rule, *dead, *down);
+        assert!(rt; sound == Ok(0));
+        assert!(rt; matches!(wrong, Ok(times) if times > 0));
+    }
+}
