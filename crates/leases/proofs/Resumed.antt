@@ -19,19 +19,19 @@ use Rattle.world_state.specs.declared.step.Step.{Step}
 use Rattle.world.proofs.Claims.{Bounds}
 use Rattle.world.proofs.EveryRun.{coherent_by, run_from}
 use Rattle.world.proofs.Reached.{Given, RunOk}
-use Rattle.progress.proofs.Losses.{course_at}
-use Rattle.progress.proofs.Olds.{AreOld}
-use Rattle.progress.proofs.Outstanding.{IsNoted, IsNotedAt, Outstanding}
-use Rattle.progress.proofs.Lasting.{Goes-run}
-use Rattle.progress.proofs.Shaded.{Rests, Rests-run}
-use Rattle.progress.proofs.Sure.{IsSure, IsSure-first, IsSure-run}
+use Rattle.progress.proofs.losses.Losses.{course_at}
+use Rattle.progress.proofs.losses.Olds.{AreOld}
+use Rattle.progress.proofs.invariants.Outstanding.{IsNoted, IsNotedAt, Outstanding}
+use Rattle.progress.proofs.losses.Lasting.{Goes-run}
+use Rattle.progress.proofs.shade.Shaded.{Rests, Rests-run}
+use Rattle.progress.proofs.invariants.Sure.{IsSure, IsSure-first, IsSure-run}
 use Rattle.progress.specs.LiveRounds.{Live, everybody}
 use Rattle.progress.specs.Rules.{Laws}
-use Rattle.progress.proofs.Always.{Heeds, IsUpTo, WasGiven, heeds}
-use Rattle.progress.proofs.Fitting.{current_busy}
-use Rattle.progress.proofs.Kept.{IsKept, IsKept-first, IsKept-run, Keeps}
-use Rattle.progress.proofs.Moves.{StaysCoherent}
-use Rattle.progress.proofs.Placed.{AskedAt, idle_ask}
+use Rattle.progress.proofs.invariants.Always.{Heeds, IsUpTo, WasGiven, heeds}
+use Rattle.progress.proofs.invariants.Fitting.{current_busy}
+use Rattle.progress.proofs.invariants.Kept.{IsKept, IsKept-first, IsKept-run, Keeps}
+use Rattle.progress.proofs.run.Moves.{StaysCoherent}
+use Rattle.progress.proofs.invariants.Placed.{AskedAt, idle_ask}
 use Rattle.leases.specs.Again.{IsReachedAgain}
 use Rattle.leases.specs.Comeback.{unseen}
 use Rattle.world.specs.Incidents.{all_befall}

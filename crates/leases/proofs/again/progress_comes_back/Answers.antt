@@ -1,10 +1,10 @@
 use Rattle.std.proofs.Common.{◌+◌, length, refl, arith}
-use Rattle.progress.proofs.Counting.{nobody_overtakes}
-use Rattle.progress.proofs.Exchanges.{comes_back, goes_on}
-use Rattle.progress.proofs.Olds.{olds_most}
-use Rattle.progress.proofs.Sure.{Course}
+use Rattle.progress.proofs.overtaking.Counting.{nobody_overtakes}
+use Rattle.progress.proofs.run.Exchanges.{comes_back, goes_on}
+use Rattle.progress.proofs.losses.Olds.{olds_most}
+use Rattle.progress.proofs.invariants.Sure.{Course}
 use Rattle.progress.specs.LiveRounds.{everybody}
-use Rattle.progress.proofs.WaysIn.{alone_gets_in, everybody_gets_in, somebody_gets_in}
+use Rattle.progress.proofs.rounds.WaysIn.{alone_gets_in, everybody_gets_in, somebody_gets_in}
 use Rattle.leases.proofs.Resumed.{kept_again, resumes}
 use Rattle.leases.proofs.again.progress_comes_back.Goals as goal
 

@@ -1,8 +1,8 @@
 use Rattle.std.proofs.Common.{List, length}
 use Rattle.world_state.specs.Steps.{Dealing, WorldState}
-use Rattle.progress.proofs.Olds.{olds_most}
-use Rattle.progress.proofs.Shaded.{Runs, lets_everybody_in, lets_somebody_in, moves_somebody}
-use Rattle.progress.proofs.Sure.{Course}
+use Rattle.progress.proofs.losses.Olds.{olds_most}
+use Rattle.progress.proofs.shade.Shaded.{Runs, lets_everybody_in, lets_somebody_in, moves_somebody}
+use Rattle.progress.proofs.invariants.Sure.{Course}
 use Rattle.progress.specs.LiveRounds.{AreGone, AreLiveRounds, HasGrantsThere, Live, SparesLive}
 use Rattle.progress.specs.Moves.{Move, moved, moves_of, of_moves}
 use Rattle.leases.proofs.Resumed.{Resumes, resumes}

@@ -1,7 +1,7 @@
 use Rattle.std.proofs.Common.{length}
-use Rattle.progress.proofs.Losses.{after_losses_runs, course_at}
-use Rattle.progress.proofs.Olds.{olds_most}
-use Rattle.progress.proofs.Shaded.{lets_somebody_in}
+use Rattle.progress.proofs.losses.Losses.{after_losses_runs, course_at}
+use Rattle.progress.proofs.losses.Olds.{olds_most}
+use Rattle.progress.proofs.shade.Shaded.{lets_somebody_in}
 use Rattle.progress.proofs.after_losses.live_rounds_let_somebody_in_after_losses.Goals as goal
 
 pub returns : goal.returns

@@ -1,4 +1,4 @@
-use Rattle.progress.proofs.Losses.{heard_anew}
+use Rattle.progress.proofs.losses.Losses.{heard_anew}
 use Rattle.progress.proofs.after_losses.new_requests_are_heard.Goals as goal
 
 pub returns : goal.returns

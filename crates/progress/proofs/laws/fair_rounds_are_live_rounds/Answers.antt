@@ -1,4 +1,4 @@
-use Rattle.progress.proofs.Fair.{fair_go}
+use Rattle.progress.proofs.rounds.Fair.{fair_go}
 use Rattle.progress.proofs.laws.fair_rounds_are_live_rounds.Goals as goal
 
 pub returns : goal.returns

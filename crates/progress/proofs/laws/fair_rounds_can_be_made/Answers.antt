@@ -1,9 +1,9 @@
 use Rattle.std.proofs.Common.{length}
 use Rattle.progress.specs.LiveRounds.{everybody}
-use Rattle.progress.proofs.Making.{are_timely, made_rounds}
-use Rattle.progress.proofs.Spending.{askers_most, rounds_leave, steps_leave}
-use Rattle.progress.proofs.Sure.{IsSure-reached, course_of}
-use Rattle.progress.proofs.Turns.{asks_at}
+use Rattle.progress.proofs.rounds.Making.{are_timely, made_rounds}
+use Rattle.progress.proofs.rounds.Spending.{askers_most, rounds_leave, steps_leave}
+use Rattle.progress.proofs.invariants.Sure.{IsSure-reached, course_of}
+use Rattle.progress.proofs.patience.Turns.{asks_at}
 use Rattle.progress.proofs.laws.fair_rounds_can_be_made.Goals as goal
 
 pub returns-clause-made : goal.returns-clause-made

@@ -6,10 +6,10 @@ use Rattle.world_state.specs.Steps.{dealing_of}
 use Rattle.progress.specs.LiveRounds.{everybody}
 use Rattle.progress.specs.Patience.{hasty_in}
 use Rattle.progress.specs.Rounds.{late_in, steps_of}
-use Rattle.progress.proofs.Blocks.{full_is_block}
-use Rattle.progress.proofs.Fair.{everybody_serves, fair_are_live}
-use Rattle.progress.proofs.Sure.{course_of}
-use Rattle.progress.proofs.Patient.{live_everybody}
+use Rattle.progress.proofs.block.Blocks.{full_is_block}
+use Rattle.progress.proofs.rounds.Fair.{everybody_serves, fair_are_live}
+use Rattle.progress.proofs.invariants.Sure.{course_of}
+use Rattle.progress.proofs.patience.Patient.{live_everybody}
 use Rattle.progress.proofs.laws.fair_rounds_let_everybody_in.Goals as goal
 
 pub returns : goal.returns

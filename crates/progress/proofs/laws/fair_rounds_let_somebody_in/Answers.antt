@@ -5,10 +5,10 @@ use Rattle.world.specs.Waiting.{block}
 use Rattle.world_state.specs.Steps.{dealing_of}
 use Rattle.progress.specs.LiveRounds.{everybody}
 use Rattle.progress.specs.Rounds.{give_ups_in, late_in, steps_of}
-use Rattle.progress.proofs.Blocks.{full_is_block}
-use Rattle.progress.proofs.Fair.{everybody_serves, fair_are_live}
-use Rattle.progress.proofs.Sure.{course_of}
-use Rattle.progress.proofs.Waiting.{live_somebody}
+use Rattle.progress.proofs.block.Blocks.{full_is_block}
+use Rattle.progress.proofs.rounds.Fair.{everybody_serves, fair_are_live}
+use Rattle.progress.proofs.invariants.Sure.{course_of}
+use Rattle.progress.proofs.patience.Waiting.{live_somebody}
 use Rattle.progress.proofs.laws.fair_rounds_let_somebody_in.Goals as goal
 
 pub returns : goal.returns

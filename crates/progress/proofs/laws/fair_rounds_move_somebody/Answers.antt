@@ -4,10 +4,10 @@ use Rattle.world.specs.Waiting.{block}
 use Rattle.world_state.specs.Steps.{dealing_of}
 use Rattle.progress.specs.LiveRounds.{everybody}
 use Rattle.progress.specs.Rounds.{steps_of}
-use Rattle.progress.proofs.Blocks.{full_is_block}
-use Rattle.progress.proofs.Fair.{everybody_serves, fair_are_live}
-use Rattle.progress.proofs.Sure.{course_of}
-use Rattle.progress.proofs.Waiting.{live_move}
+use Rattle.progress.proofs.block.Blocks.{full_is_block}
+use Rattle.progress.proofs.rounds.Fair.{everybody_serves, fair_are_live}
+use Rattle.progress.proofs.invariants.Sure.{course_of}
+use Rattle.progress.proofs.patience.Waiting.{live_move}
 use Rattle.progress.proofs.laws.fair_rounds_move_somebody.Goals as goal
 
 pub returns : goal.returns

@@ -1,4 +1,4 @@
-use Rattle.progress.proofs.LiveTimely.{timely_reached}
+use Rattle.progress.proofs.rounds.LiveTimely.{timely_reached}
 use Rattle.progress.proofs.laws.live_rounds_can_be_made.Goals as goal
 
 pub returns : goal.returns

@@ -3,10 +3,10 @@ use Rattle.world.specs.Waiting.{live_block}
 use Rattle.world_state.specs.Steps.{dealing_of}
 use Rattle.progress.specs.LiveRounds.{live_below}
 use Rattle.progress.specs.Moves.{hasty_among, late_among}
-use Rattle.progress.proofs.Always.{heeds}
-use Rattle.progress.proofs.Kept.{IsKept-reached}
-use Rattle.progress.proofs.Shaded.{lets_everybody_in, plus_none, reached_olds, reached_runs}
-use Rattle.progress.proofs.Sure.{course_of}
+use Rattle.progress.proofs.invariants.Always.{heeds}
+use Rattle.progress.proofs.invariants.Kept.{IsKept-reached}
+use Rattle.progress.proofs.shade.Shaded.{lets_everybody_in, plus_none, reached_olds, reached_runs}
+use Rattle.progress.proofs.invariants.Sure.{course_of}
 use Rattle.progress.proofs.laws.live_rounds_let_everybody_in.Goals as goal
 
 pub returns : goal.returns

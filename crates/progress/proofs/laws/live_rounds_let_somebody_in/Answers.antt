@@ -4,8 +4,8 @@ use Rattle.world_state.specs.Steps.{dealing_of}
 use Rattle.progress.specs.LiveRounds.{live_below}
 use Rattle.progress.specs.Moves.{late_among, moves_of, steps_among}
 use Rattle.progress.specs.Rounds.{give_ups_in}
-use Rattle.progress.proofs.Shaded.{lets_somebody_in, plus_none, reached_olds, reached_runs}
-use Rattle.progress.proofs.Sure.{course_of}
+use Rattle.progress.proofs.shade.Shaded.{lets_somebody_in, plus_none, reached_olds, reached_runs}
+use Rattle.progress.proofs.invariants.Sure.{course_of}
 use Rattle.progress.proofs.laws.live_rounds_let_somebody_in.Goals as goal
 
 pub returns : goal.returns

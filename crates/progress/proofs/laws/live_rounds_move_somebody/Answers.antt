@@ -1,6 +1,6 @@
 use Rattle.std.proofs.Common.{arith}
-use Rattle.progress.proofs.Shaded.{moves_somebody, reached_olds, reached_runs}
-use Rattle.progress.proofs.Sure.{course_of}
+use Rattle.progress.proofs.shade.Shaded.{moves_somebody, reached_olds, reached_runs}
+use Rattle.progress.proofs.invariants.Sure.{course_of}
 use Rattle.progress.proofs.laws.live_rounds_move_somebody.Goals as goal
 
 pub returns : goal.returns

@@ -1,5 +1,5 @@
-use Rattle.progress.proofs.Exchanges.{comes_back}
-use Rattle.progress.proofs.Kept.{IsKept-reached}
+use Rattle.progress.proofs.run.Exchanges.{comes_back}
+use Rattle.progress.proofs.invariants.Kept.{IsKept-reached}
 use Rattle.world_state.specs.Steps.{dealing_of}
 use Rattle.progress.proofs.laws.lost_votes_come_back.Goals as goal
 

@@ -1,5 +1,5 @@
-use Rattle.progress.proofs.Counting.{nobody_overtakes}
-use Rattle.progress.proofs.Kept.{IsKept-reached}
+use Rattle.progress.proofs.overtaking.Counting.{nobody_overtakes}
+use Rattle.progress.proofs.invariants.Kept.{IsKept-reached}
 use Rattle.world_state.specs.Steps.{dealing_of}
 use Rattle.progress.proofs.laws.nobody_overtakes_often.Goals as goal
 

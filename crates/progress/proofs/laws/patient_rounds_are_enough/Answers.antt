@@ -2,7 +2,7 @@ use Rattle.std.proofs.Common.{length}
 use Rattle.progress.specs.Patience.{hasty_in}
 use Rattle.progress.specs.Rounds.{late_in}
 use Rattle.world_state.specs.Steps.{dealing_of}
-use Rattle.progress.proofs.Bounds.{patient_bound-of_law}
+use Rattle.progress.proofs.patience.Bounds.{patient_bound-of_law}
 use Rattle.progress.proofs.laws.patient_rounds_are_enough.Goals as goal
 
 pub returns : goal.returns

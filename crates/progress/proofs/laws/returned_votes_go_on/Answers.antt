@@ -1,5 +1,5 @@
-use Rattle.progress.proofs.Exchanges.{goes_on}
-use Rattle.progress.proofs.Kept.{IsKept-reached}
+use Rattle.progress.proofs.run.Exchanges.{goes_on}
+use Rattle.progress.proofs.invariants.Kept.{IsKept-reached}
 use Rattle.world_state.specs.Steps.{dealing_of}
 use Rattle.progress.proofs.laws.returned_votes_go_on.Goals as goal
 

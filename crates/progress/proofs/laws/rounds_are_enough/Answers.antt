@@ -2,7 +2,7 @@ use Rattle.std.proofs.Common.{length}
 use Rattle.progress.specs.Patience.{hasty_in}
 use Rattle.progress.specs.Rounds.{give_ups_in, late_in, steps_of}
 use Rattle.world_state.specs.Steps.{dealing_of}
-use Rattle.progress.proofs.Bounds.{bound-of_law, few_hasty}
+use Rattle.progress.proofs.patience.Bounds.{bound-of_law, few_hasty}
 use Rattle.progress.proofs.laws.rounds_are_enough.Goals as goal
 
 pub returns : goal.returns

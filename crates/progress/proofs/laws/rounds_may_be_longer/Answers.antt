@@ -1,4 +1,4 @@
-use Rattle.progress.proofs.Longer.{IsFairRound-more}
+use Rattle.progress.proofs.rounds.Longer.{IsFairRound-more}
 use Rattle.progress.proofs.laws.rounds_may_be_longer.Goals as goal
 
 pub returns : goal.returns

@@ -1,8 +1,8 @@
 use Rattle.std.proofs.Common.{length, refl, arith}
 use Rattle.progress.specs.LiveRounds.{everybody}
-use Rattle.progress.proofs.Olds.{no_olds}
-use Rattle.progress.proofs.Sure.{IsSure-reached, course_of}
-use Rattle.progress.proofs.WaysIn.{somebody_gets_in}
+use Rattle.progress.proofs.losses.Olds.{no_olds}
+use Rattle.progress.proofs.invariants.Sure.{IsSure-reached, course_of}
+use Rattle.progress.proofs.rounds.WaysIn.{somebody_gets_in}
 use Rattle.progress.proofs.laws.somebody_can_enter.Goals as goal
 
 pub returns : goal.returns
