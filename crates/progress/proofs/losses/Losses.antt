@@ -1,7 +1,7 @@
 -- after any happenings, losses of saved states too, requests get on in fair rounds
 use Rattle.std.proofs.Common.{◌≡◌, ◌≢◌, ℕ, suc, ◌<◌, ◌≤◌, Bool, true, false, List, [], ◌∷◌, ◌++◌, length, map, Ok, Err, refl, sym, ap, subst, ◌∙◌, ◌⊎◌, inl, inr, arith}
 use Rattle.std.specs.Prelude.{Result, nat_lt, slice_set, Some}
-use Rattle.std.proofs.lemmas.Bool.{cases_eq, ltb-true}
+use Rattle.std.proofs.lemmas.Bool.{cases_eq, false≢true, ltb-true}
 use Rattle.std.proofs.lemmas.List.{append-nil, length-set, set_past}
 use Rattle.message.specs.declared.message.Message.TheVariants as kinds
 use Rattle.voter.specs.declared.state.VoterState.{VoterState}
@@ -41,7 +41,7 @@ use Rattle.progress.proofs.losses.Forgetting.{Endures, Endures-client_lost, Endu
 use Rattle.progress.proofs.run.Makers.{By, Says, coherent_world, made_by}
 use Rattle.progress.proofs.run.Moves.{Came, ClientMoved, Moved, StaysCoherent, VoterMoved, client_here, client_others, kept-by, voter_here, voter_others}
 use Rattle.progress.proofs.invariants.Placed.{Seen-client}
-use Rattle.progress.proofs.shade.Shaded.{Rests, Rests-run, Runs}
+use Rattle.progress.proofs.shade.Shaded.{Rests, Rests-run, Runs, nobody, under_self}
 use Rattle.progress.proofs.invariants.Sure.{Course, IsSure-first}
 
 -- ---- mixes
@@ -502,11 +502,11 @@ same_nodes laws b given cs vs mixed =
 -- ---- worlds after losses
 
 -- all of this holds of the world
-record Lives (deal : Dealing) (w : WorldState) : Type 0 where
-  rests : Rests deal w
-  endures : Endures w
+pub record Lives (deal : Dealing) (w : WorldState) : Type 0 where
+  pub rests : Rests deal w
+  pub endures : Endures w
 
-stays_by : (deal : Dealing) (w : WorldState) → Rests deal w → StaysCoherent deal w
+pub stays_by : (deal : Dealing) (w : WorldState) → Rests deal w → StaysCoherent deal w
 stays_by deal w r = λ steps. coherent_by r.bounds r.given (run_of deal steps w) (run_from r.bounds r.given deal r.deals steps w r.ok)
 
 -- of the live world, when all has happened
@@ -522,7 +522,7 @@ lives_first laws clients voters deal w r =
       endures = both.1 s.live.clients s.live.voters (live_mixed s);
     }
 
-lives_after : Laws → ClientLaws → VoterLaws → (deal : Dealing) (w : WorldState) → IsReachedAfterLosses deal w → Lives deal w
+pub lives_after : Laws → ClientLaws → VoterLaws → (deal : Dealing) (w : WorldState) → IsReachedAfterLosses deal w → Lives deal w
 lives_after laws clients voters deal w r =
     let first = (all_happen deal r.happenings (begin r.voters r.clients r.limit)).live in
     let a = lives_first laws clients voters deal w r in
@@ -535,13 +535,19 @@ lives_after laws clients voters deal w r =
 abbrev pub course_at : Live → Dealing → WorldState → Course
 course_at live deal w = record { deal = deal; old = λ v. suc (voter_at w.voters v).granted; live = live }
 
-pub after_losses_runs : Laws → ClientLaws → VoterLaws → (live : Live) (deal : Dealing) (w : WorldState) (rounds : List (List Move)) → IsReachedAfterLosses deal w → AreLiveRounds of_moves live deal w rounds
+unfoldable pub after_losses_runs : Laws → ClientLaws → VoterLaws → (live : Live) (deal : Dealing) (w : WorldState) (rounds : List (List Move)) → IsReachedAfterLosses deal w → AreLiveRounds of_moves live deal w rounds
     → AreGone live deal w (moves_of rounds) → SparesLive live deal w (moves_of rounds) → HasGrantsThere live 1 (moved deal (moves_of rounds) w) → Runs (course_at live deal w) w rounds
+unfolding nobody
 after_losses_runs laws clients voters live deal w rounds r fair gone spares left =
     let p = course_at live deal w in
     let a = lives_after laws clients voters deal w r in
     let coherent = stays_by deal w a.rests in
     record {
+      was = nobody;
+      others = [];
+      base = w;
+      under = under_self w;
+      passed = λ c is. absurd (false≢true is);
       rests = a.rests;
       few = λ v. omega arith;
       sure = IsSure-first laws p w coherent (record { fits = a.endures.fits; placed = a.endures.placed; out = outstanding_by beyond p.old w (coherent []) (λ v. omega arith) a.endures.out });

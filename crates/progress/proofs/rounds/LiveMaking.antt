@@ -113,7 +113,7 @@ each_block P deal f h low (suc n) x = each_join P deal (f x low) (blocks deal f 
 
 -- everybody that is not live is dead
 unfoldable pub all_dead : Live → WorldState → Shading
-all_dead live w = record { live = live; dead = λ c. not (live.client c); apart = λ c lives. ap not lives; first = w }
+all_dead live w = record { live = live; dead = λ c. not (live.client c); apart = λ c lives. ap not lives; first = w; others = [] }
 
 -- the message of this number is between live ones, now and later
 between_later : (live : Live) (sent more : List Message) (i : ℕ) → is_between live (slice_get sent i) ≡ true → is_between live (slice_get (sent ++ more) i) ≡ true

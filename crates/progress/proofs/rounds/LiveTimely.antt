@@ -28,7 +28,7 @@ use Rattle.progress.proofs.rounds.LiveMaking.{all_dead, allows_round, chosen, du
 use Rattle.progress.proofs.rounds.LiveSpending.{round_gives}
 use Rattle.progress.proofs.rounds.Making.{no_give_ups}
 use Rattle.progress.proofs.shade.Shade.{Allows, Shades, moved_then, moves_on, moves_once}
-use Rattle.progress.proofs.shade.Shaded.{AllDeal, begins, rests_reached}
+use Rattle.progress.proofs.shade.Shaded.{AllDeal, begins, nobody, rests_reached, under_self}
 use Rattle.progress.proofs.invariants.Sure.{Course, IsSure-reached, course_of}
 use Rattle.progress.proofs.patience.Turns.{asks_at, one_if}
 
@@ -285,13 +285,13 @@ kept laws live first p own a b (suc k) left old some u v w s h most one two has 
 -- so there are such rounds in each world that is reached
 pub timely_reached : Laws → ClientLaws → VoterLaws → AllDeal → (live : Live) (w : Planned) (k left : ℕ) → IsReached w → 1 ≤ left → HasGrantsThere live (k * (2 * length w.state.clients + 3) + left) w.state
     → (rounds : List (List Move)) × AreTimely live (dealing_of w.plans) w.state k rounds × HasGrantsThere live left (moved (dealing_of w.plans) (moves_of rounds) w.state)
-unfolding all_dead
+unfolding all_dead nobody
 timely_reached laws clients voters dealt live w k left r some has =
     let p = course_of live w in
     let deal = dealing_of w.plans in
     let u = w.state in
     let g = all_dead live u in
-    let begin = begins laws g p (rests_reached clients voters dealt w r) (IsSure-reached laws live w r) (λ c gone lives. absurd (false≢true (sym lives ∙ ap not gone))) in
+    let begin = begins laws g p nobody u (under_self u) (λ c _. refl) (rests_reached clients voters dealt w r) (IsSure-reached laws live w r) (λ c gone lives. absurd (false≢true (sym lives ∙ ap not gone))) in
     let all = kept laws live u p refl u.visible _ k left 0 some u u u _ begin.shades (omega arith) (λ c lives. refl) (λ c lives. refl) has in
     let rounds = made live deal u k in
     let allow = allows_made live u deal k u in (

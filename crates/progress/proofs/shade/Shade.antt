@@ -64,12 +64,14 @@ each_below P f (suc n) h = AllByRecursion-append P (all_below f n) (f n) (each_b
 
 -- ---- RELEASEs that were sent before all else
 
--- who is live, who is dead, and the world in which the moves begin
+-- Who is live, who is dead, and the world in which the moves begin. It may be a shade itself: then other messages
+-- were sent before all else.
 pub record Shading : Type 0 where
   pub live : Live
   pub dead : ℕ → Bool
   pub apart : (c : ℕ) → live.client c ≡ true → dead c ≡ false
   pub first : WorldState
+  pub others : List Message
 
 release : ℕ → ℕ → ℕ → Message
 release c v t = kinds.ToVoter (record { client = c; voter = v; body = asks.Release t })
@@ -85,8 +87,11 @@ by_voter k c v = all_below (by_stamp c v) (suc (client_at k.first.clients c).sta
 by_client : Shading → ℕ → List Message
 by_client k c = if k.live.client c then [] else all_below (by_voter k c) (length k.first.voters)
 
-pub extra : Shading → List Message
-extra k = all_below (by_client k) (length k.first.clients)
+pub releases : Shading → List Message
+releases k = all_below (by_client k) (length k.first.clients)
+
+unfoldable pub extra : Shading → List Message
+extra k = releases k ++ k.others
 
 -- the number of one of them
 pub place : Shading → ℕ → ℕ → ℕ → ℕ
@@ -94,22 +99,22 @@ place k c v t = length (all_below (by_client k) c) + (length (all_below (by_vote
 
 place_is : (k : Shading) (c v t : ℕ) → k.live.client c ≡ false → c < length k.first.clients → v < length k.first.voters → 1 ≤ t → t ≤ (client_at k.first.clients c).stamp
     → slice_get (extra k) (place k c v t) ≡ Some (release c v t)
-unfolding extra place by_client by_voter by_stamp
+unfolding extra releases place by_client by_voter by_stamp
 place_is k c v zero gone client voter some most = absurd (omega arith)
-place_is k c v (suc t) gone client voter some most =
+place_is k c v (suc t) gone client voter some most = get_before (releases k) k.others (place k c v (suc t)) (release c v (suc t)) (
     let stamps = by_stamp c v in
     let voters = by_voter k c in
     let one = get_below stamps (suc (client_at k.first.clients c).stamp) (suc t) 0 (release c v (suc t)) (omega arith) refl in
     let two = get_below voters (length k.first.voters) v (length (all_below stamps (suc t)) + 0) (release c v (suc t)) voter one in
     get_below (by_client k) (length k.first.clients) c (length (all_below voters v) + (length (all_below stamps (suc t)) + 0)) (release c v (suc t)) client
-    (subst (λ b. slice_get (if b then [] else all_below voters (length k.first.voters)) (length (all_below voters v) + (length (all_below stamps (suc t)) + 0)) ≡ Some (release c v (suc t))) (sym gone) two)
+    (subst (λ b. slice_get (if b then [] else all_below voters (length k.first.voters)) (length (all_below voters v) + (length (all_below stamps (suc t)) + 0)) ≡ Some (release c v (suc t))) (sym gone) two))
 
 -- what holds of each such RELEASE
-pub each_extra : (P : Message → Type 0) (k : Shading)
+pub each_release : (P : Message → Type 0) (k : Shading)
     → ((c v t : ℕ) → k.live.client c ≡ false → c < length k.first.clients → v < length k.first.voters → 1 ≤ t → t ≤ (client_at k.first.clients c).stamp → P (kinds.ToVoter (record { client = c; voter = v; body = asks.Release t })))
-    → AllByRecursion P (extra k)
-unfolding extra by_client by_voter by_stamp release
-each_extra P k h = each_below P (by_client k) (length k.first.clients) (λ c client. by c client (k.live.client c) refl)
+    → AllByRecursion P (releases k)
+unfolding releases by_client by_voter by_stamp release
+each_release P k h = each_below P (by_client k) (length k.first.clients) (λ c client. by c client (k.live.client c) refl)
   where
     stamps : (c v t : ℕ) → k.live.client c ≡ false → c < length k.first.clients → v < length k.first.voters → t ≤ (client_at k.first.clients c).stamp → AllByRecursion P (by_stamp c v t)
     stamps c v zero gone client voter most = tt

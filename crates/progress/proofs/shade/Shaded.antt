@@ -34,7 +34,7 @@ use Rattle.world.proofs.EveryRun.{coherent_by, run_from, run_ok}
 use Rattle.world.proofs.Places.{client_here, client_others}
 use Rattle.world.proofs.Plans.{run_then}
 use Rattle.world.proofs.Reached.{Given, RunOk}
-use Rattle.progress.specs.LiveRounds.{AreGone, AreLiveRounds, HasGrantsThere, IsOut, Live, SparesIn, SparesLive, live_below}
+use Rattle.progress.specs.LiveRounds.{AreGone, AreLiveRounds, HasGrantsThere, IsDead, IsOut, Live, SparesIn, SparesLive, live_below}
 use Rattle.progress.specs.Moves.{EachMove, IsNotBy, Move, hasty_among, late_among, move, moved, moves_of, of_moves, of_steps, steps_among}
 use Rattle.progress.specs.Patience.{hasty_in}
 use Rattle.progress.specs.Rounds.{DoesNotGiveUp, IsStill, give_ups_in, late_in, steps_of}
@@ -45,7 +45,7 @@ use Rattle.progress.proofs.losses.Olds.{AreOld, no_olds, olds_of}
 use Rattle.progress.proofs.invariants.Outstanding.{IsNotedAt}
 use Rattle.progress.proofs.patience.Patient.{everybody_by}
 use Rattle.progress.proofs.invariants.Placed.{AskedAt}
-use Rattle.progress.proofs.shade.Shade.{Allows, Shades, Shading, each_extra, extra, moves_on, stands}
+use Rattle.progress.proofs.shade.Shade.{Allows, Shades, Shading, each_release, extra, releases, moves_on, stands}
 use Rattle.progress.proofs.shade.ShadeRounds.{all_images, give_ups_shade, hasty_shade, late_shade, length_images, live_rounds_shade, stays_shade, steps_images}
 use Rattle.progress.proofs.invariants.Sure.{Course, IsSure, IsSure-first, IsSure-reached, IsSure-run, Serving, Sure, course_of}
 use Rattle.progress.proofs.patience.Waiting.{moves_by, somebody_by}
@@ -62,6 +62,10 @@ Rests-run deal steps w r = record { bounds = r.bounds; given = r.given; deals = 
 
 -- ---- the dead end their requests
 
+-- the client when its request has ended
+abbrev pub quit : ClientState → ClientState
+quit x = record (requester.clear_votes x) { phase = Idle }
+
 -- what one client changes that ends its request
 pub record Quits (c : ℕ) (x y : WorldState) : Type 0 where
   pub voters : y.voters ≡ x.voters
@@ -69,6 +73,7 @@ pub record Quits (c : ℕ) (x y : WorldState) : Type 0 where
   pub others : (q : ℕ) → q ≢ c → client_at y.clients q ≡ client_at x.clients q
   pub idle : is_idle (client_at y.clients c).phase ≡ true
   pub stamp : (client_at y.clients c).stamp ≡ (client_at x.clients c).stamp
+  pub own : (client_at y.clients c ≡ client_at x.clients c) ⊎ (client_at y.clients c ≡ quit (client_at x.clients c))
   pub draws : y.draws ≡ x.draws
   pub draws2 : y.draws2 ≡ x.draws2
   pub side : y.side ≡ x.side
@@ -90,6 +95,7 @@ quits_by x c what within =
       others = client_others x.clients c o.state;
       idle = ap (λ (z : ClientState). is_idle z.phase) here;
       stamp = ap (λ (z : ClientState). z.stamp) here;
+      own = inr here;
       draws = refl;
       draws2 = refl;
       side = refl;
@@ -105,6 +111,7 @@ quits deal x c within Idle is = record {
   others = λ q other. refl;
   idle = ap is_idle is;
   stamp = refl;
+  own = inl refl;
   draws = refl;
   draws2 = refl;
   side = refl;
@@ -121,21 +128,22 @@ quits deal x c within Inside is =
     ∙ ap (λ q. after x (after_client x c (requester.unless (if is_inside q then None else Some NotInside) end))) is)) (quits_by x c seen.Left within)
 
 -- those of the first n clients of the world w that are dead
-ends : (ℕ → Bool) → WorldState → ℕ → List Step
+pub ends : (ℕ → Bool) → WorldState → ℕ → List Step
 ends dead w zero = []
 ends dead w (suc n) = ends dead w n ++ (if dead n then quit_of (client_at w.clients n).phase n else [])
 
-record Ended (dead : ℕ → Bool) (n : ℕ) (w x : WorldState) : Type 0 where
-  voters : x.voters ≡ w.voters
-  clients : length x.clients ≡ length w.clients
-  same : (c : ℕ) → (dead c ≡ false) ⊎ (n ≤ c) → client_at x.clients c ≡ client_at w.clients c
-  idle : (c : ℕ) → dead c ≡ true → c < n → is_idle (client_at x.clients c).phase ≡ true
-  stamp : (c : ℕ) → (client_at x.clients c).stamp ≡ (client_at w.clients c).stamp
-  draws : x.draws ≡ w.draws
-  draws2 : x.draws2 ≡ w.draws2
-  side : x.side ≡ w.side
-  more : List Message
-  sent : x.sent ≡ w.sent ++ more
+pub record Ended (dead : ℕ → Bool) (n : ℕ) (w x : WorldState) : Type 0 where
+  pub voters : x.voters ≡ w.voters
+  pub clients : length x.clients ≡ length w.clients
+  pub same : (c : ℕ) → (dead c ≡ false) ⊎ (n ≤ c) → client_at x.clients c ≡ client_at w.clients c
+  pub idle : (c : ℕ) → dead c ≡ true → c < n → is_idle (client_at x.clients c).phase ≡ true
+  pub stamp : (c : ℕ) → (client_at x.clients c).stamp ≡ (client_at w.clients c).stamp
+  pub own : (c : ℕ) → (client_at x.clients c ≡ client_at w.clients c) ⊎ (client_at x.clients c ≡ quit (client_at w.clients c))
+  pub draws : x.draws ≡ w.draws
+  pub draws2 : x.draws2 ≡ w.draws2
+  pub side : x.side ≡ w.side
+  pub more : List Message
+  pub sent : x.sent ≡ w.sent ++ more
 
 -- the next client is not dead
 ended_on : (dead : ℕ → Bool) (n : ℕ) (w x : WorldState) → Ended dead n w x → dead n ≡ false → Ended dead (suc n) w x
@@ -148,6 +156,7 @@ ended_on dead n w x h lives = record {
     | inr other ↦ h.idle c gone (omega arith)
   ];
   stamp = h.stamp;
+  own = h.own;
   draws = h.draws;
   draws2 = h.draws2;
   side = h.side;
@@ -171,6 +180,13 @@ ended_one dead n w x y h q gone = record {
     | inl own ↦ subst (λ i. (client_at y.clients i).stamp ≡ (client_at w.clients i).stamp) (sym own) (q.stamp ∙ h.stamp n)
     | inr other ↦ ap (λ (z : ClientState). z.stamp) (q.others c other) ∙ h.stamp c
   ];
+  own = λ c. elim (cases_eq c n) [
+    | inl here ↦ subst (λ i. (client_at y.clients i ≡ client_at w.clients i) ⊎ (client_at y.clients i ≡ quit (client_at w.clients i))) (sym here) (elim q.own [
+      | inl still ↦ inl (still ∙ h.same n (inr (omega arith)))
+      | inr ends ↦ inr (ends ∙ ap (λ (z : ClientState). quit z) (h.same n (inr (omega arith))))
+    ])
+    | inr other ↦ subst (λ (z : ClientState). (z ≡ client_at w.clients c) ⊎ (z ≡ quit (client_at w.clients c))) (sym (q.others c other)) (h.own c)
+  ];
   draws = q.draws ∙ h.draws;
   draws2 = q.draws2 ∙ h.draws2;
   side = q.side ∙ h.side;
@@ -178,7 +194,7 @@ ended_one dead n w x y h q gone = record {
   sent = q.sent ∙ ap (λ l. l ++ q.more) h.sent ∙ append_assoc w.sent h.more q.more;
 }
 
-ended : (deal : Dealing) (dead : ℕ → Bool) (w : WorldState) (n : ℕ) → n ≤ length w.clients → Ended dead n w (run_of deal (ends dead w n) w)
+pub ended : (deal : Dealing) (dead : ℕ → Bool) (w : WorldState) (n : ℕ) → n ≤ length w.clients → Ended dead n w (run_of deal (ends dead w n) w)
 unfolding ends
 ended deal dead w zero within = record {
   voters = refl;
@@ -186,6 +202,7 @@ ended deal dead w zero within = record {
   same = λ c which. refl;
   idle = λ c gone less. absurd (omega arith);
   stamp = λ c. refl;
+  own = λ c. inl refl;
   draws = refl;
   draws2 = refl;
   side = refl;
@@ -210,21 +227,39 @@ first_part P (x ∷ xs) ys h = (h.0, first_part P xs ys h.1)
 
 -- a world in which the dead ended their requests, with the RELEASEs of all that are not live
 pub begun : Dealing → Shading → WorldState
-begun deal k = record (run_of deal (ends k.dead k.first (length k.first.clients)) k.first) { sent = extra k ++ k.first.sent }
+begun deal k = record (run_of deal (ends k.dead k.first (length k.first.clients)) k.first) { sent = releases k ++ k.first.sent }
 
 -- each client that is not live, and not dead, is idle
 abbrev pub AreIdle : Shading → Type 0
 AreIdle k = (c : ℕ) → k.live.client c ≡ false → k.dead c ≡ false → is_idle (client_at k.first.clients c).phase ≡ true
 
-pub record Begun (k : Shading) (p : Course) (s : WorldState) : Type 0 where
-  pub shades : Shades k p k.first.visible s.visible k.first s
+-- The world s is as the world w but for these clients, and these messages that were sent before all else.
+pub record Under (was : ℕ → Bool) (others : List Message) (w s : WorldState) : Type 0 where
+  pub voters : s.voters ≡ w.voters
+  pub clients : length s.clients ≡ length w.clients
+  pub same : (c : ℕ) → was c ≡ false → client_at s.clients c ≡ client_at w.clients c
+  pub sent : s.sent ≡ others ++ w.sent
+  pub draws : s.draws ≡ w.draws
+  pub draws2 : s.draws2 ≡ w.draws2
+  pub side : s.side ≡ w.side
+
+unfoldable pub nobody : ℕ → Bool
+nobody c = false
+
+pub under_self : (w : WorldState) → Under nobody [] w w
+under_self w = record { voters = refl; clients = refl; same = λ c _. refl; sent = refl; draws = refl; draws2 = refl; side = refl }
+
+-- what the shade has of the world that was sure, in `steps` of the dead
+pub record Begun (k : Shading) (p : Course) (w s : WorldState) : Type 0 where
+  pub shades : Shades k p w.visible s.visible w s
   pub few : AreOld p k.first → AreOld p s
   pub heeds : (c : ℕ) → k.dead c ≡ false → Heeds c k.first → Heeds c s
   pub idle : (c : ℕ) → k.live.client c ≡ false → is_idle (client_at s.clients c).phase ≡ true
 
-pub begins : (laws : Laws) (k : Shading) (p : Course) → Rests p.deal k.first → IsSure p k.first → AreIdle k → Begun k p (begun p.deal k)
-unfolding begun client_at
-begins laws k p rests sure idle =
+pub begins : (laws : Laws) (k : Shading) (p : Course) (was : ℕ → Bool) (w : WorldState) → Under was k.others w k.first → ((c : ℕ) → k.dead c ≡ false → was c ≡ false) → Rests p.deal k.first → IsSure p k.first → AreIdle k
+    → Begun k p w (begun p.deal k)
+unfolding begun client_at extra
+begins laws k p was real under still rests sure idle =
     let deal = p.deal in
     let w = k.first in
     let b = rests.bounds in
@@ -243,17 +278,17 @@ begins laws k p rests sure idle =
       | true ↦ gone c
       | false ↦ λ lives. subst (λ (z : ClientState). is_idle z.phase ≡ true) (sym (e.same c (inl lives))) (idle c down lives)
     ] refl in
-    let sent : (P : Message → Type 0) → AllByRecursion P x.sent → AllByRecursion P (extra k) → AllByRecursion P (extra k ++ w.sent) = λ P all extras.
-    AllByRecursion-append P (extra k) w.sent extras (first_part P w.sent e.more (subst (AllByRecursion P) e.sent all)) in
+    let sent : (P : Message → Type 0) → AllByRecursion P x.sent → AllByRecursion P (releases k) → AllByRecursion P (releases k ++ w.sent) = λ P all extras.
+    AllByRecursion-append P (releases k) w.sent extras (first_part P w.sent e.more (subst (AllByRecursion P) e.sent all)) in
     let fine : RunOk b s = record {
       clients = ok.clients;
       voters = ok.voters;
       world = record {
         messages = sent (MessageOk (client_at x.clients) (voter_at x.voters)) ok.world.messages
-            (each_extra (MessageOk (client_at x.clients) (voter_at x.voters)) k (λ c v t down client voter some most.
+            (each_release (MessageOk (client_at x.clients) (voter_at x.voters)) k (λ c v t down client voter some most.
             ((let stamp = e.stamp c in omega arith), λ busy. absurd (false≢true (sym busy ∙ rest c down)))));
         ranges = sent (IsInRange b.voters b.clients b.limit) ok.world.ranges
-            (each_extra (IsInRange b.voters b.clients b.limit) k (λ c v t down client voter some most.
+            (each_release (IsInRange b.voters b.clients b.limit) k (λ c v t down client voter some most.
             let below : c < b.clients = subst (λ m. c < m) rests.ok.clients client in
             let sound = (ok.world.clients c).sound.stamp in
             let limit = (ok.world.client_ids c below).limit in
@@ -270,34 +305,34 @@ begins laws k p rests sure idle =
     } in
     let sure_s : IsSure p s = IsSure-first laws p s (λ more. coherent_by b rests.given (run_of deal more s) (run_from b rests.given deal rests.deals more s fine)) (record {
       fits = kept.fits;
-      placed = record { asked = sent (AskedAt x.clients) kept.placed.asked (each_extra (AskedAt x.clients) k (λ c v t down client voter some most. tt)); places = kept.placed.places; back = kept.placed.back };
-      out = record { noted = sent (IsNotedAt p.old x.voters) kept.out.noted (each_extra (IsNotedAt p.old x.voters) k (λ c v t down client voter some most. tt)); marks = kept.out.marks; clear = kept.out.clear };
+      placed = record { asked = sent (AskedAt x.clients) kept.placed.asked (each_release (AskedAt x.clients) k (λ c v t down client voter some most. tt)); places = kept.placed.places; back = kept.placed.back };
+      out = record { noted = sent (IsNotedAt p.old x.voters) kept.out.noted (each_release (IsNotedAt p.old x.voters) k (λ c v t down client voter some most. tt)); marks = kept.out.marks; clear = kept.out.clear };
     }) in
     record {
       shades = record {
         shade = record {
-          voters = e.voters;
-          clients = e.clients;
-          many_clients = refl;
-          many_voters = refl;
-          same = λ c lives. e.same c (inl lives);
+          voters = e.voters ∙ under.voters;
+          clients = e.clients ∙ under.clients;
+          many_clients = sym under.clients;
+          many_voters = sym (ap length under.voters);
+          same = λ c lives. e.same c (inl lives) ∙ under.same c (still c lives);
           idle = gone;
           stamp = λ c dead. e.stamp c;
-          sent = refl;
-          draws = e.draws;
-          draws2 = e.draws2;
-          side = e.side;
+          sent = ap (λ l. releases k ++ l) under.sent ∙ sym (append_assoc (releases k) k.others real.sent);
+          draws = e.draws ∙ under.draws;
+          draws2 = e.draws2 ∙ under.draws2;
+          side = e.side ∙ under.side;
           seen = [];
-          real = sym (append-nil w.visible);
+          real = sym (append-nil real.visible);
           shown = sym (append-nil s.visible);
         };
         sure = sure_s;
-        stood = λ c down lives. refl;
+        stood = λ c down lives. sym (ap (λ (z : ClientState). z.stamp) (under.same c (still c lives)));
       };
       few = λ old v. subst (λ (vs : List VoterState). p.old v ≤ suc (voter_at vs v).granted) (sym e.voters) (old v);
       heeds = λ c lives h. record {
         seen = λ v. subst (λ (z : ClientState). HasSeen c z (voter_at x.voters v)) (sym (e.same c (inl lives))) (subst (λ (vs : List VoterState). HasSeen c (client_at w.clients c) (voter_at vs v)) (sym e.voters) (h.seen v));
-        given = AllByRecursion-append (WasGiven x.voters) (extra k) w.sent (each_extra (WasGiven x.voters) k (λ c v t down client voter some most. tt))
+        given = AllByRecursion-append (WasGiven x.voters) (releases k) w.sent (each_release (WasGiven x.voters) k (λ c v t down client voter some most. tt))
             (subst (λ (vs : List VoterState). AllByRecursion (WasGiven vs) w.sent) (sym e.voters) h.given);
       };
       idle = rest;
@@ -339,7 +374,7 @@ unfolding dead_by
 out_is true h down is = absurd (false≢true (sym down))
 out_is false h down is = take_first (h refl) is
 
-allowed : (k : Shading) (deal : Dealing) (moves : List Move) (w : WorldState) → ((c : ℕ) → k.dead c ≡ true → EachMove (IsNotBy c) deal w moves)
+pub allowed : (k : Shading) (deal : Dealing) (moves : List Move) (w : WorldState) → ((c : ℕ) → k.dead c ≡ true → EachMove (IsNotBy c) deal w moves)
     → ((c : ℕ) → k.live.client c ≡ false → k.dead c ≡ false → EachMove (λ x m. (client_at (move deal x m).clients c).stamp ≡ (client_at x.clients c).stamp) deal w moves)
     → EachMove (SparesIn k.live) deal w moves → EachMove (Allows k deal) deal w moves
 allowed k deal [] w rests stays spares = tt
@@ -350,18 +385,24 @@ allowed k deal (m ∷ moves) w rests stays spares = (
 
 -- ---- rounds of moves
 
--- rounds of moves that begin in this world, and what is asked of them
+-- Rounds of moves that begin in this world, and what is asked of them. The laws rest on a world that is as this one
+-- but for clients that were dead before.
 pub record Runs (p : Course) (w : WorldState) (rounds : List (List Move)) : Type 0 where
-  pub rests : Rests p.deal w
-  pub few : AreOld p w
-  pub sure : IsSure p w
+  pub was : ℕ → Bool
+  pub others : List Message
+  pub base : WorldState
+  pub under : Under was others w base
+  pub passed : (c : ℕ) → was c ≡ true → (p.live.client c ≡ false) × IsDead p.deal w (moves_of rounds) c
+  pub rests : Rests p.deal base
+  pub few : AreOld p base
+  pub sure : IsSure p base
   pub live : AreLiveRounds of_moves p.live p.deal w rounds
   pub gone : AreGone p.live p.deal w (moves_of rounds)
   pub spares : SparesLive p.live p.deal w (moves_of rounds)
   pub left : HasGrantsThere p.live 1 (moved p.deal (moves_of rounds) w)
 
 -- rounds of steps that begin in a shade of this world, and what they have in common with those of moves
-record Cast (p : Course) (w : WorldState) (rounds : List (List Move)) : Type 0 where
+record Cast (p : Course) (w : WorldState) (rounds : List (List Move)) (base : WorldState) : Type 0 where
   shade : WorldState
   steps : List (List Step)
   few : AreOld p shade
@@ -371,7 +412,7 @@ record Cast (p : Course) (w : WorldState) (rounds : List (List Move)) : Type 0 w
   clients : length shade.clients ≡ length w.clients
   voters : length shade.voters ≡ length w.voters
   same : (c : ℕ) → p.live.client c ≡ true → client_at shade.clients c ≡ client_at w.clients c
-  heeds : (c : ℕ) → p.live.client c ≡ true → Heeds c w → Heeds c shade
+  heeds : (c : ℕ) → p.live.client c ≡ true → Heeds c base → Heeds c shade
   many : length steps ≡ length rounds
   late : late_in p.deal 0 shade steps ≡ late_among p.deal 0 w rounds
   hasty : hasty_in p.deal shade steps ≡ hasty_among p.deal w rounds
@@ -380,21 +421,30 @@ record Cast (p : Course) (w : WorldState) (rounds : List (List Move)) : Type 0 w
   visible : (more : List Event) → (moved p.deal (moves_of rounds) w).visible ≡ w.visible ++ more → (run_of p.deal (steps_of steps) shade).visible ≡ shade.visible ++ more
   still : IsStill w (moved p.deal (moves_of rounds) w) → IsStill shade (run_of p.deal (steps_of steps) shade)
 
-cast : (laws : Laws) (p : Course) (w : WorldState) (rounds : List (List Move)) → Runs p w rounds → Cast p w rounds
+was_or : (a b : Bool) → (if a then true else b) ≡ false → (a ≡ false) × (b ≡ false)
+was_or true b is = absurd (false≢true (sym is))
+was_or false b is = (refl, is)
+
+cast : (laws : Laws) (p : Course) (w : WorldState) (rounds : List (List Move)) → (r : Runs p w rounds) → Cast p w rounds r.base
 cast laws p w rounds r =
     let deal = p.deal in
     let moves = moves_of rounds in
-    let k : Shading = record {
-      live = p.live;
-      dead = λ c. dead_by (p.live.client c) (r.gone c);
-      apart = λ c lives. dead_lives (p.live.client c) (r.gone c) lives;
-      first = w;
-    } in
-    let out : (c : ℕ) → p.live.client c ≡ false → k.dead c ≡ false → IsOut deal w moves c = λ c. out_is (p.live.client c) (r.gone c) in
-    let begin = begins laws k p r.rests r.sure (λ c down lives. (out c down lives).idle) in
+    let dead : ℕ → Bool = λ c. if r.was c then true else dead_by (p.live.client c) (r.gone c) in
+    let apart : (c : ℕ) → p.live.client c ≡ true → dead c ≡ false = λ c lives. elim (r.was c) as (λ t. r.was c ≡ t → (if t then true else dead_by (p.live.client c) (r.gone c)) ≡ false) [
+      | true ↦ λ is. absurd (false≢true (sym (r.passed c is).0 ∙ lives))
+      | false ↦ λ _. dead_lives (p.live.client c) (r.gone c) lives
+    ] refl in
+    let k : Shading = record { live = p.live; dead = dead; apart = apart; first = r.base; others = r.others } in
+    let rests : (c : ℕ) → dead c ≡ true → IsDead deal w moves c = λ c. elim (r.was c) as (λ t. r.was c ≡ t → (if t then true else dead_by (p.live.client c) (r.gone c)) ≡ true → IsDead deal w moves c) [
+      | true ↦ λ is _. (r.passed c is).1
+      | false ↦ λ _. dead_is (p.live.client c) (r.gone c)
+    ] refl in
+    let still : (c : ℕ) → dead c ≡ false → r.was c ≡ false = λ c lives. (was_or (r.was c) (dead_by (p.live.client c) (r.gone c)) lives).0 in
+    let out : (c : ℕ) → p.live.client c ≡ false → dead c ≡ false → IsOut deal w moves c = λ c down lives. out_is (p.live.client c) (r.gone c) down (was_or (r.was c) (dead_by (p.live.client c) (r.gone c)) lives).1 in
+    let begin = begins laws k p r.was w r.under still r.rests r.sure (λ c down lives. subst (λ (z : ClientState). is_idle z.phase ≡ true) (sym (r.under.same c (still c lives))) (out c down lives).idle) in
     let s = begun deal k in
     let h = begin.shades in
-    let allow = allowed k deal moves w (λ c. dead_is (p.live.client c) (r.gone c)) (λ c down lives. (out c down lives).stays) r.spares in
+    let allow = allowed k deal moves w rests (λ c down lives. (out c down lives).stays) r.spares in
     let steps = all_images k deal w rounds in
     let end = subst (λ l. Shades k p w.visible s.visible (moved deal moves w) (run_of deal l s)) (sym (steps_images k deal w rounds)) (moves_on k p w.visible s.visible moves w s h allow) in
     let z = run_of deal (steps_of steps) s in
@@ -435,21 +485,21 @@ cast laws p w rounds r =
 
 -- ---- the laws, over moves; the shade has at most `olds` old grants
 
-asks_there : (p : Course) (w : WorldState) (rounds : List (List Move)) (z : Cast p w rounds) (c : ℕ) → p.live.client c ≡ true → Asks w c → Asks z.shade c
-asks_there p w rounds z c lives asks = record {
+asks_there : (p : Course) (w : WorldState) (rounds : List (List Move)) (base : WorldState) (z : Cast p w rounds base) (c : ℕ) → p.live.client c ≡ true → Asks w c → Asks z.shade c
+asks_there p w rounds base z c lives asks = record {
   client = subst (λ n. c < n) (sym z.clients) asks.client;
   asks = subst (λ (x : ClientState). is_asking x.phase ≡ true) (sym (z.same c lives)) asks.asks;
 }
 
-long_there : (p : Course) (w : WorldState) (rounds : List (List Move)) (z : Cast p w rounds) (t : ℕ) → live_block (length w.clients) * t ≤ length rounds → live_block (length z.shade.clients) * t ≤ length z.steps
-long_there p w rounds z t long = subst (λ n. live_block n * t ≤ length z.steps) (sym z.clients) (subst (λ l. live_block (length w.clients) * t ≤ l) (sym z.many) long)
+long_there : (p : Course) (w : WorldState) (rounds : List (List Move)) (base : WorldState) (z : Cast p w rounds base) (t : ℕ) → live_block (length w.clients) * t ≤ length rounds → live_block (length z.shade.clients) * t ≤ length z.steps
+long_there p w rounds base z t long = subst (λ n. live_block n * t ≤ length z.steps) (sym z.clients) (subst (λ l. live_block (length w.clients) * t ≤ l) (sym z.many) long)
 
 pub moves_somebody : (laws : Laws) (p : Course) (w : WorldState) (c olds : ℕ) (rounds : List (List Move)) → Runs p w rounds → ((x : WorldState) → olds_of p (length w.voters) x ≤ olds) → p.live.client c ≡ true → Asks w c
     → late_among p.deal 0 w rounds ≡ 0 → (olds + 1) * live_block (length w.clients) ≤ length rounds → IsStill w (moved p.deal (moves_of rounds) w) → ⊥
 moves_somebody laws p w c olds rounds r most lives asks late long still =
     let z = cast laws p w rounds r in
     let few = subst (λ n. olds_of p n z.shade ≤ olds) (sym z.voters) (most z.shade) in
-    moves_by laws p z.shade c (live_block (length z.shade.clients)) (olds + 1) (live_is_block laws p (length z.shade.clients)) z.steps z.few z.sure (asks_there p w rounds z c lives asks) z.live (z.late ∙ late) z.serving
+    moves_by laws p z.shade c (live_block (length z.shade.clients)) (olds + 1) (live_is_block laws p (length z.shade.clients)) z.steps z.few z.sure (asks_there p w rounds r.base z c lives asks) z.live (z.late ∙ late) z.serving
     (omega arith) (subst (λ n. (olds + 1) * live_block n ≤ length z.steps) (sym z.clients) (subst (λ l. (olds + 1) * live_block (length w.clients) ≤ l) (sym z.many) long)) (z.still still)
 
 pub lets_somebody_in : (laws : Laws) (p : Course) (w : WorldState) (c olds : ℕ) (rounds : List (List Move)) (more : List Event) → Runs p w rounds → ((x : WorldState) → olds_of p (length w.voters) x ≤ olds) → p.live.client c ≡ true
@@ -463,11 +513,11 @@ lets_somebody_in laws p w c olds rounds more r most lives asks stays long visibl
     let live = ap (live_below p.live) z.clients in
     let late = z.late in
     let give_ups = z.give_ups in
-    somebody_by laws p z.shade c (live_block (length z.shade.clients)) t (live_is_block laws p (length z.shade.clients)) z.steps more z.few z.sure (asks_there p w rounds z c lives asks) z.live (z.stays c stays) z.serving
-    (omega arith) (long_there p w rounds z t long) (z.visible more visible)
+    somebody_by laws p z.shade c (live_block (length z.shade.clients)) t (live_is_block laws p (length z.shade.clients)) z.steps more z.few z.sure (asks_there p w rounds r.base z c lives asks) z.live (z.stays c stays) z.serving
+    (omega arith) (long_there p w rounds r.base z t long) (z.visible more visible)
 
-pub lets_everybody_in : (laws : Laws) (p : Course) (w : WorldState) (c olds : ℕ) (rounds : List (List Move)) (more : List Event) → Runs p w rounds → ((x : WorldState) → olds_of p (length w.voters) x ≤ olds) → p.live.client c ≡ true
-    → Heeds c w → Asks w c → DoesNotGiveUp c (steps_among (moves_of rounds))
+pub lets_everybody_in : (laws : Laws) (p : Course) (w : WorldState) (c olds : ℕ) (rounds : List (List Move)) (more : List Event) → (r : Runs p w rounds) → ((x : WorldState) → olds_of p (length w.voters) x ≤ olds) → p.live.client c ≡ true
+    → Heeds c r.base → Asks w c → DoesNotGiveUp c (steps_among (moves_of rounds))
     → live_block (length w.clients) * (3 * live_below p.live (length w.clients) + 2 * hasty_among p.deal w rounds + late_among p.deal 0 w rounds + olds) ≤ length rounds
     → (moved p.deal (moves_of rounds) w).visible ≡ w.visible ++ more → 1 ≤ entries_of c more
 lets_everybody_in laws p w c olds rounds more r most lives heeds asks stays long visible =
@@ -477,8 +527,8 @@ lets_everybody_in laws p w c olds rounds more r most lives heeds asks stays long
     let live = ap (live_below p.live) z.clients in
     let late = z.late in
     let hasty = z.hasty in
-    everybody_by laws p z.shade c (live_block (length z.shade.clients)) t (live_is_block laws p (length z.shade.clients)) (omega arith) z.steps more z.few z.sure (z.heeds c lives heeds) (asks_there p w rounds z c lives asks) z.live
-    (z.stays c stays) z.serving (omega arith) (long_there p w rounds z t long) (z.visible more visible)
+    everybody_by laws p z.shade c (live_block (length z.shade.clients)) t (live_is_block laws p (length z.shade.clients)) (omega arith) z.steps more z.few z.sure (z.heeds c lives heeds) (asks_there p w rounds r.base z c lives asks) z.live
+    (z.stays c stays) z.serving (omega arith) (long_there p w rounds r.base z t long) (z.visible more visible)
 
 -- ---- worlds that are reached
 
@@ -494,10 +544,16 @@ rests_reached clients voters dealt w r =
     let given : Given b = record { client = clients; voter = voters; limits = r.limits; meet = d.1 } in
     subst (Rests deal) (sym r.state) (record { bounds = b; given = given; deals = d.2; ok = run_ok b given deal d.2 r.steps })
 
-pub reached_runs : Laws → ClientLaws → VoterLaws → AllDeal → (live : Live) (w : Planned) (rounds : List (List Move)) → IsReached w → AreLiveRounds of_moves live (dealing_of w.plans) w.state rounds
+unfoldable pub reached_runs : Laws → ClientLaws → VoterLaws → AllDeal → (live : Live) (w : Planned) (rounds : List (List Move)) → IsReached w → AreLiveRounds of_moves live (dealing_of w.plans) w.state rounds
     → AreGone live (dealing_of w.plans) w.state (moves_of rounds) → SparesLive live (dealing_of w.plans) w.state (moves_of rounds) → HasGrantsThere live 1 (moved (dealing_of w.plans) (moves_of rounds) w.state)
     → Runs (course_of live w) w.state rounds
+unfolding nobody
 reached_runs laws clients voters dealt live w rounds r fair gone spares left = record {
+  was = nobody;
+  others = [];
+  base = w.state;
+  under = under_self w.state;
+  passed = λ c is. absurd (false≢true is);
   rests = rests_reached clients voters dealt w r;
   few = λ v. omega arith;
   sure = IsSure-reached laws live w r;
