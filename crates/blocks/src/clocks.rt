@@ -85,7 +85,8 @@ pub fn at(clock: &[u8], now: u64, reading: &mut u64) -> Result<(), Refusal>
     Ok(())
 }
 
-/// Writes the reading up to which all that was sent was heard, and when the newest marker left that came back.
+/// Writes the reading up to which all that was sent was heard, and when the newest marker left that
+/// came back.
 pub fn shows(clock: &[u8], reading: &mut u64, left: &mut u64) -> Result<(), Refusal>
     ensures shows { ClockShows clock.now reading.new left.new (returned result) }
     ensures refused { OnErr result ((reading.new ≡ reading.old) × (left.new ≡ left.old)) }

@@ -1,13 +1,17 @@
-//! Rows and lease clocks as bytes, and why a call for C is refused: what `qlock_c` exports of a voter's sessions.
+//! Rows and lease clocks as bytes, and why a call for C is refused: what `qlock_c` exports of a
+//! voter's sessions.
 //!
-//! A *block* is a state as bytes, which are the caller's. A call reads it, makes the step of the state, and writes
-//! it in place. A call that is refused writes nothing. No call takes memory.
+//! A *block* is a state as bytes, which are the caller's. A call reads it, makes the step of the
+//! state, and writes it in place. A call that is refused writes nothing. No call takes memory.
 //!
-//! - [`rows`]: the row of a client's number. Each call is a step of `session_rows` (`specs/RowSteps.antt`).
-//! - [`clocks`]: the lease clock of a voter. Each call is a step of `lease_clock` (`specs/ClockSteps.antt`).
+//! - [`rows`]: the row of a client's number. Each call is a step of `session_rows`
+//!   (`specs/RowSteps.antt`).
+//! - [`clocks`]: the lease clock of a voter. Each call is a step of `lease_clock`
+//!   (`specs/ClockSteps.antt`).
 //! - [`Refusal`]: why a call was refused, and the number that C sees ([`number_of`]).
 //!
-//! Depends on `session_rows`, `sessions`, `lease_clock`, `fence`, `requester`, `voter`, `words` and `numbers`.
+//! Depends on `session_rows`, `sessions`, `lease_clock`, `fence`, `requester`, `voter`, `words` and
+//! `numbers`.
 #![tactic(auto)]
 
 pub mod clocks;

@@ -168,11 +168,7 @@ pub fn takes(
     ensures refused { OnErr result (yes.new ≡ yes.old) }
 {
     let it = load_row(row)?;
-    *yes = if it.takes(session, epoch, stamp) {
-        1
-    } else {
-        0
-    };
+    *yes = u32::from(it.takes(session, epoch, stamp));
     Ok(())
 }
 

@@ -7,7 +7,7 @@ use Rattle.std.proofs.lemmas.Bool.{false≢true}
 use Rattle.std.proofs.lemmas.Bool.Decides.{nat_tests}
 use Rattle.lease_clock.specs.Clocks.{Clock, IsSound, is_due, came_back, from_number, is_silent, leaves, returned, sent, time_of}
 use Rattle.lease_clock.specs.declared.marker.Marker.{Marker}
-use Rattle.lease_clock.specs.Leases.{Beats, Event, Hears, IsRated, LetsGo, Marked, Marks, Passes, Renews, World, after, after_all, beaten, begins, hears, is_among, is_working, lasts, lets_go, newer, passed, renews, with_clock}
+use Rattle.lease_clock.specs.Leases.{Beats, Event, Hears, IsRated, LetsGo, Marked, Marks, Passes, Renews, Restarts, World, after, after_all, beaten, begins, hears, is_among, is_working, lasts, lets_go, newer, passed, renews, restarted, with_clock}
 use Rattle.lease_clock.proofs.ClockLemmas.{Goes, at_least, back_early, begun_sound, heard_at, leave_goes, return_goes, silent_since}
 
 -- ---- what holds of all members
@@ -132,13 +132,15 @@ beats_on g w was =
       };
     }
 
--- the voter hears a heartbeat now: each one before is as late, and the new one is not later than
--- the client
-heard_later : (g : Given) (w : World) (beat time : ℕ) → time ≤ w.voter_time → (k : ℕ) → IsLate g w time k → IsLate g (hears w beat) w.voter_time k
-heard_later g w beat time past k late =
+-- the voter takes the session as heard now: each heartbeat before is as late
+heard_later : (g : Given) (w x : World) (time : ℕ) → x.voter_time ≡ w.voter_time → x.client_time ≡ w.client_time → x.is_gone ≡ w.is_gone → time ≤ w.voter_time
+    → (k : ℕ) → IsLate g w time k → IsLate g x w.voter_time k
+heard_later g w x time v c gone past k late =
     let slow = late.slow in
     let up = mul-le-mul_left g.a past in
-    record { slow = omega arith; over = late.over }
+    record { slow = rw (v, c) (omega arith); over = λ is. rw c (late.over (sym gone ∙ is)) }
+
+-- the new heartbeat did not leave later than now
 
 heard_now : (g : Given) (w : World) (beat : ℕ) → beat ≤ w.client_time → w.is_gone ≡ false → IsLate g (hears w beat) w.voter_time beat
 heard_now g w beat early stays =
@@ -154,7 +156,7 @@ hears_on : (g : Given) (w : World) (beat : ℕ) → beat ≤ w.client_time → W
 hears_on g w beat early was =
     let h = was.holds in
     let marked = h.marked in
-    let more = heard_later g w beat was.time h.past in
+    let more = heard_later g w (hears w beat) was.time refl refl refl h.past in
     let at_now = heard_at w.clock w.voter_time h.sound in
     let now = (at_least w.voter_time w.clock.last.left (time_of w.clock w.voter_time) refl).0 in
     record {
@@ -200,6 +202,23 @@ clock_on g w d count goes marked was =
         sound = goes.sound;
         marked = marked;
         past = h.past;
+        heard = omega arith;
+        beats = h.beats;
+        told = all_more more w.acknowledged h.told;
+        lease = lease_more more w.lease h.lease;
+      };
+    }
+
+restart_on : (g : Given) (w : World) → Was g w → Was g (restarted w)
+restart_on g w was =
+    let h = was.holds in
+    let more = heard_later g w (restarted w) was.time refl refl refl h.past in
+    record {
+      time = w.voter_time;
+      holds = record {
+        sound = begun_sound w.clock.period w.voter_time;
+        marked = omega arith;
+        past = omega arith;
         heard = omega arith;
         beats = h.beats;
         told = all_more more w.acknowledged h.told;
@@ -265,6 +284,7 @@ event_on g w Marks rated was =
     clock_on g w (leaves w.clock w.voter_time) 0 (leave_goes w.clock w.voter_time (is_due w.clock w.voter_time) was.holds.sound) (marks_in_time w.clock w.voter_time (is_due w.clock w.voter_time) was.holds.marked) was
 event_on g w (Marked number) rated was = clock_on g w (returned w.clock number) _ (return_goes w.clock number was.holds.sound) (comes_in_time w.clock (from_number number w.clock.away) w.voter_time was.holds.marked) was
 event_on g w LetsGo rated was = if_so g w (lets_go w) (is_silent w.clock w.heard g.ttl) (λ silent. goes_on g w silent was) was
+event_on g w Restarts rated was = restart_on g w was
 
 events_on : (g : Given) (w : World) (es : List Event) → AllByRecursion (IsRated g.a g.b) es → Was g w → Was g (after_all g.ttl w es)
 events_on g w [] rated was = was

@@ -32,7 +32,7 @@ begun period now = record {
 
 -- ---- a marker leaves
 
--- none left yet, or a period has passed since the last one did
+-- none left yet, or a period has passed since the last one did; and there is a number for one more
 abbrev pub is_due : Clock → ℕ → Bool
 is_due c now = nat_lt c.last.number last_number && ((c.last.number == 0) || nat_le c.period (now - c.last.left))
 

@@ -84,8 +84,10 @@ pub data Event : Type 0 where
   Marks : Event
   -- the marker of this number comes back to the voter
   Marked : ℕ → Event
-  -- the voter lets the grant go, if the session is silent for a TTL
+  -- the voter lets the grant go, if the session is silent for a TTL, and saves that
   LetsGo : Event
+  -- the voter crashes, and restarts from what it saved: it takes the session as heard then
+  Restarts : Event
 
 -- x is among these
 abbrev pub is_among : ℕ → List ℕ → Bool
@@ -176,6 +178,19 @@ lets_go w = record {
   lease = w.lease;
 }
 
+-- the voter restarts, with a lease clock that begins anew
+abbrev pub restarted : World → World
+restarted w = record {
+  voter_time = w.voter_time;
+  client_time = w.client_time;
+  clock = begun w.clock.period w.voter_time;
+  heard = w.voter_time;
+  is_gone = w.is_gone;
+  beats = w.beats;
+  acknowledged = w.acknowledged;
+  lease = w.lease;
+}
+
 -- The world after an event, where a voter lets a grant go after this TTL. An event that can't be
 -- changes nothing: a heartbeat that never left, an acknowledgement that never left, a session that
 -- is not silent.
@@ -187,6 +202,7 @@ after ttl w (Renews beat) = if is_among beat w.acknowledged then renews w beat e
 after ttl w Marks = with_clock w (leaves w.clock w.voter_time)
 after ttl w (Marked number) = with_clock w (returned w.clock number)
 after ttl w LetsGo = if is_silent w.clock w.heard ttl then lets_go w else w
+after ttl w Restarts = restarted w
 
 -- the world after these, in order
 abbrev pub after_all : ℕ → World → List Event → World

@@ -53,7 +53,7 @@ impl LeaseClock {
     }
 
     /// Returns whether it is time for a marker: none left yet, or a period has passed since the
-    /// last one did.
+    /// last one did. None leaves after that with the number 2^64 - 1.
     pub fn is_due(&self, now: u64) -> bool
         ensures { result ≡ is_due self.now now }
     {

@@ -35,7 +35,8 @@ pub fn live_votes_stay()
 {}
 
 /// Who works has its grant: if the voter let the grant go the client does not work, whatever is
-/// late, lost, repeated or out of order.
+/// late, lost, repeated or out of order, and whenever the voter crashes and restarts from what it
+/// saved.
 ///
 /// The bound is b * (lease + stop) ≤ a * ttl. By the voter's clock, `ttl` is for how long nothing
 /// of the session came when the voter lets the grant go. By the client's clock, `lease` is for how

@@ -20,8 +20,8 @@
 //!   after the one before it ([`live_votes_stay`]).
 //! - Of one voter and one client that has its grant, whatever is late, lost, repeated or out of
 //!   order, and with clocks whose rates differ: who works has its grant
-//!   ([`who_works_has_its_grant`], by leases as Gray and Cheriton have them, SOSP 1989). No voter
-//!   restarts there, and no number is given to another client.
+//!   ([`who_works_has_its_grant`], by leases as Gray and Cheriton have them, SOSP 1989). The voter
+//!   may restart there, but loses no state, and the client's number is given to nobody else.
 //!
 //! Depends on the kit's `arrayvec`.
 #![tactic(auto)]

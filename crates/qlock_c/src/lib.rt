@@ -1,5 +1,5 @@
-//! The library for C: the voter and the client of the lock, the guard of what the lock protects, and the row of
-//! a client number and the lease clock at a voter.
+//! The library for C: the voter and the client of the lock, the guard of what the lock protects, and the
+//! row of a client number and the lease clock at a voter.
 //!
 //! A call gets the state as bytes, which are the caller's, and writes the new state in their place.
 //! Messages are lines of text, as `message` reads and writes them. No call takes memory, and there
@@ -21,8 +21,8 @@
 //! `specs/ClientSteps.antt` and `specs/FenceSteps.antt`. What is said of quorums is in
 //! `specs/QuorumSteps.antt`. Rows, lease clocks and refusals are in the crate `blocks`.
 //!
-//! Depends on `blocks`, `voter`, `voter_node`, `requester`, `fence`, `session_rows`, `message`, `words`,
-//! `quorum_set` and `numbers`.
+//! Depends on `blocks`, `voter`, `voter_node`, `requester`, `fence`, `session_rows`, `message`,
+//! `words`, `quorum_set` and `numbers`.
 #![tactic(auto)]
 
 mod client_calls;
