@@ -13,7 +13,7 @@ use coterie_file::Named;
 use near::weights_within;
 use plan_inputs::weights_text_of;
 use plan_texts::write_weights;
-use robust::{Found as Robust, weights_for_losses};
+use robust::{Found as Robust, weights_for_losses, weights_for_pairs};
 use show_command_line::{NearForm, NearPage};
 use show_json::found_json;
 use show_losses::losses_words;
@@ -107,7 +107,7 @@ fn near_page(alloc: Global, page: &NearPage, most: u64, input: &[u8]) -> Result<
     }
 }
 
-/// Returns what is shown of weights that bear the loss of a voter: JSON, their text, tickets, or a page in
+/// Returns what is shown of weights that bear the loss of voters: JSON, their text, tickets, or a page in
 /// words.
 fn robust_shown(
     alloc: Global,
@@ -129,8 +129,35 @@ fn robust_shown(
     }
 }
 
-/// Returns what is shown of weights that bear the loss of a voter for the coterie in an input.
-fn robust_page(alloc: Global, page: &NearPage, most: u64, input: &[u8]) -> Result<String, Fault>
+/// Finds weights for when so many voters are down.
+fn robust_of(
+    alloc: Global,
+    named: &Named,
+    down: u64,
+    most: u64,
+    thousandths: u64,
+) -> Result<Robust, AllocError>
+    requires most { (0 < most) × (most ≤ max_cycle) }
+    requires thousandths { thousandths ≤ 1000 }
+    ensures { IfOk result (λ found. found.weights.system ≡ named.now.system) }
+{
+    let coterie = named.coterie();
+    let capacities = named.capacities();
+    if down == 1 {
+        weights_for_losses(alloc, coterie, capacities, most, thousandths)
+    } else {
+        weights_for_pairs(alloc, coterie, capacities, most, thousandths)
+    }
+}
+
+/// Returns what is shown of weights that bear the loss of voters for the coterie in an input.
+fn robust_page(
+    alloc: Global,
+    page: &NearPage,
+    down: u64,
+    most: u64,
+    input: &[u8],
+) -> Result<String, Fault>
     requires tickets { IfSome page.now.tickets (λ n. n ≤ max_dealt) }
     requires above { IfSome page.now.above (λ n. n ≤ 100) }
     requires most { (0 < most) × (most ≤ max_cycle) }
@@ -143,13 +170,7 @@ fn robust_page(alloc: Global, page: &NearPage, most: u64, input: &[u8]) -> Resul
         Err(fault) => return Err(fault),
     };
     let thousandths = 10 * page.above.unwrap_or(ABOVE);
-    let Ok(found) = weights_for_losses(
-        alloc,
-        named.coterie(),
-        named.capacities(),
-        most,
-        thousandths,
-    ) else {
+    let Ok(found) = robust_of(alloc, &named, down, most, thousandths) else {
         return Err(Fault::OutOfMemory);
     };
     match robust_shown(alloc, page, named, found) {
@@ -195,8 +216,8 @@ pub(crate) fn near_weights_page(
     ensures own { IfErr result IsOwn }
 {
     let most = most_of(page);
-    if page.down.is_some() {
-        return robust_page(alloc, page, most, input);
+    if let Some(down) = page.down {
+        return robust_page(alloc, page, down, most, input);
     }
     match page.form {
         NearForm::Text => near_text(alloc, most, input),
