@@ -13,7 +13,7 @@ use coterie_file::Named;
 use near::weights_within;
 use plan_inputs::weights_text_of;
 use plan_texts::write_weights;
-use robust::{Found as Robust, weights_for_losses, weights_for_pairs};
+use robust::{Down, Found as Robust, weights_for_losses};
 use show_command_line::{NearForm, NearPage};
 use show_json::found_json;
 use show_losses::losses_words;
@@ -129,25 +129,9 @@ fn robust_shown(
     }
 }
 
-/// Finds weights for when so many voters are down.
-fn robust_of(
-    alloc: Global,
-    named: &Named,
-    down: u64,
-    most: u64,
-    thousandths: u64,
-) -> Result<Robust, AllocError>
-    requires most { (0 < most) × (most ≤ max_cycle) }
-    requires thousandths { thousandths ≤ 1000 }
-    ensures { IfOk result (λ found. found.weights.system ≡ named.now.system) }
-{
-    let coterie = named.coterie();
-    let capacities = named.capacities();
-    if down == 1 {
-        weights_for_losses(alloc, coterie, capacities, most, thousandths)
-    } else {
-        weights_for_pairs(alloc, coterie, capacities, most, thousandths)
-    }
+/// Returns how many voters may be down.
+fn down_of(down: u64) -> Down {
+    if down == 1 { Down::One } else { Down::OneOrTwo }
 }
 
 /// Returns what is shown of weights that bear the loss of voters for the coterie in an input.
@@ -170,7 +154,14 @@ fn robust_page(
         Err(fault) => return Err(fault),
     };
     let thousandths = 10 * page.above.unwrap_or(ABOVE);
-    let Ok(found) = robust_of(alloc, &named, down, most, thousandths) else {
+    let Ok(found) = weights_for_losses(
+        alloc,
+        named.coterie(),
+        named.capacities(),
+        most,
+        thousandths,
+        down_of(down),
+    ) else {
         return Err(Fault::OutOfMemory);
     };
     match robust_shown(alloc, page, named, found) {

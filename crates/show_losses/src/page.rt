@@ -31,20 +31,26 @@ fn losses_text(down: Down) -> &'static str {
     }
 }
 
-/// Appends what the worst loss costs.
+/// Appends what the worst loss costs. Each row's quotient is rounded down, so it is below the next thousandth.
 fn push_worst(text: &mut String, found: &Found, rows: &[Row]) -> Result<(), AllocError> {
     let losses = losses_text(found.down);
-    write!(
-        text,
-        "\nIf {losses}, the load of the tickets that are left is at most "
-    )?;
-    match rows.first() {
-        Some(worst) if rows.len() == found.failures.len() => push_thousandths(text, worst.times)?,
-        _ => return text.push_str(
-            "any number of times that of new weights: some loss leaves no ticket.\n",
-        ),
+    if rows.len() < found.failures.len() {
+        return write!(
+            text,
+            "\nIf {losses}, a quorum may be left, but no ticket.\n"
+        );
     }
-    text.push_str(" times that of new weights.\n")
+    match rows.first() {
+        Some(worst) => {
+            write!(
+                text,
+                "\nIf {losses}, the load of the tickets that are left is below "
+            )?;
+            push_thousandths(text, worst.times.saturating_add(1))?;
+            text.push_str(" times that of new weights.\n")
+        }
+        None => write!(text, "\nIf {losses}, no quorum is left.\n"),
+    }
 }
 
 /// Appends below which quotient no weights with a load up to the limit are, if something is shown of that.
@@ -117,6 +123,9 @@ fn push_rows(
     found: &Found,
     rows: &[Row],
 ) -> Result<(), AllocError> {
+    if rows.is_empty() {
+        return Ok(());
+    }
     text.push_str("\n   left    load  new weights  times  down\n")?;
     for row in rows.iter().take(MOST_ROWS) {
         if let Some(failure) = found.failures.get(row.place) {
