@@ -168,13 +168,14 @@ pub fn comparison_of(alloc: Global, named: &Named) -> Result<Comparison, AllocEr
     ensures losses { IfOk result (λ c. All (IsLoss named.now) c.losses.items) }
 {
     let coterie = named.coterie();
-    let weights = weights_of(alloc, coterie, named.capacities())?;
+    let capacities = named.capacities();
+    let weights = weights_of(alloc, coterie, capacities)?;
     Ok(Comparison {
         voters: coterie.voters(),
         quorums: coterie.count(),
         smallest: smallest_size(coterie),
         largest: largest_size(coterie),
-        is_unit: are_unit(named.capacities()),
+        is_unit: are_unit(capacities),
         loads: loads_of_weights(&weights),
         one_down: worst_one_down(&weights),
         borne: resilience_of(coterie),
