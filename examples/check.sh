@@ -300,6 +300,7 @@ shown near-text-wheel-3-fast-hub wheel-3-fast-hub.toml near --cycle 4 --text
 "$show" near --text < twenty-eight.toml > "$work/weights" || true
 shown check-twenty-eight /dev/null check -f twenty-eight.toml -f "$work/weights"
 shown near-down-tree-2 tree-2.toml near --down 1
+shown near-down-two-weighted-votes weighted-votes.toml near --down 2
 shown near-down-text-weighted-votes weighted-votes.toml near --down 1 --above 5 --text
 shown check-wheel-3 wheel-3-planned.txt check
 shown check-wheel-3-near wheel-3-near.txt check

@@ -2,8 +2,7 @@
 //!
 //! A plan has the smallest load while all voters are up. If some are down, the tickets that are left may load
 //! the busiest voter far more than a new plan would. [`weights_for_losses`] finds weights whose load is a
-//! little above the best, and that keep this *regret* small when any one voter is down,
-//! [`weights_for_pairs`] when any one or two are.
+//! little above the best, and that keep this *regret* small when any one voter is down, or any one or two.
 //!
 //! The regret is at most r if the weights satisfy a linear program. It has a row for each failure and each
 //! voter that is up then, and a row for each voter that keeps the load at a limit. The search plays this
@@ -23,7 +22,7 @@
 //! Depends on `near`, `losses`, `failures`, `certificate`, `quorum_set` and `numbers`.
 //!
 //! ```text
-//! let found = weights_for_losses(alloc, &coterie, &capacities, 1000, 20)?;
+//! let found = weights_for_losses(alloc, &coterie, &capacities, 1000, 20, Down::One)?;
 //! regret_of(&found.weights, &found.failures);
 //! regret_bound(&found.weights, found.limit, &found.multipliers, &found.failures);
 //! ```
@@ -34,4 +33,4 @@ mod game;
 mod rows;
 mod search;
 
-pub use search::{Down, Found, weights_for_losses, weights_for_pairs};
+pub use search::{Down, Found, weights_for_losses};

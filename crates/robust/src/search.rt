@@ -3,6 +3,7 @@ ghost use Rattle.std.specs.Prelude.{◌≡◌, ◌⊎◌, ℕ, ◌<◌, ◌≤�
 ghost use Rattle.numbers.specs.Bounds.{max_cycle};
 ghost use Rattle.quorum_set.specs.Capacities.{AreCapacities};
 ghost use Rattle.quorum_set.specs.Coteries.{QuorumSystem};
+ghost use Rattle.certificate.specs.Bounds.{IsBounded};
 ghost use Rattle.certificate.specs.Certificates.{AreWeights};
 ghost use Rattle.robust.specs.Robust.{AreWithin, IsPlanned, limit_above};
 
@@ -24,8 +25,12 @@ const GAMES: usize = 7;
 /// The most steps of a game.
 const MOST_STEPS: u64 = 3000;
 
-/// The most work of a game: steps, times rows, times quorums.
-const MOST_WORK: u64 = 300_000_000;
+/// The most work of a game: steps, times failures, times members of quorums. The rows of a failure cost as
+/// much as so many members more.
+const MOST_WORK: u64 = 1_500_000_000;
+
+/// How many members of quorums cost as much as the rows of a failure.
+const ROWS_COST: u64 = 1400;
 
 /// How many parts are tried at most of the weights near the best that are mixed into what a game finds. The
 /// more is mixed in, the smaller is the load, and the greater the regret.
@@ -37,6 +42,12 @@ const MOST_TRIED: u64 = 50_000_000;
 
 /// The part that is mixed in more each time.
 const PART: f64 = 0.02;
+
+/// The most voters of a coterie that is planned for without each two of them.
+const MOST_PLANNED: usize = 24;
+
+/// The most tickets of a cycle of the weights that stand for a plan where a coterie has more voters.
+const QUICK_CYCLE: u64 = 300;
 
 /// How many lengths of a cycle are tried, each a fortieth of the longest one shorter than the one before.
 const LENGTHS: u64 = 8;
@@ -58,7 +69,7 @@ pub struct Found {
     /// How many voters may be down at once.
     pub down: Down,
     /// The voters that may be down, if a quorum is left then. As the best load without them stands the load
-    /// of a plan of what is left, or, if none is found, of weights near the best.
+    /// of a plan of what is left, or, if none is found or looked for, of weights near the best.
     pub failures: Vec<Failure>,
     /// The limit of the load.
     pub limit: (u64, u64),
@@ -103,12 +114,42 @@ fn quotient_of(fraction: (u64, u64)) -> f64 {
     float_of(fraction.0) / float_of(fraction.1)
 }
 
+/// Returns whether a coterie of so many voters is planned for without the voters of each failure.
+fn is_planned_for(voters: usize, down: Down) -> bool {
+    match down {
+        Down::One => true,
+        Down::OneOrTwo => voters <= MOST_PLANNED,
+    }
+}
+
+/// Finds weights of what a failure leaves: those of a plan, if the coterie is planned for and one is found, and
+/// else weights near the best.
+fn weights_left(
+    alloc: Global,
+    left: &Coterie,
+    capacities: &[u64],
+    is_planned: bool,
+) -> Result<Weights, AllocError>
+    requires { AreCapacities capacities.now left.now.voters }
+    ensures coterie { IfOk result (λ w. w.system ≡ left.now) }
+    ensures capacities { IfOk result (λ w. w.capacities ≡ capacities.now) }
+    ensures weights { IfOk result AreWeights }
+    ensures bounded { IfOk result IsBounded }
+{
+    if is_planned {
+        weights(alloc, left, capacities, MAX_CYCLE)
+    } else {
+        near(alloc, left, capacities, QUICK_CYCLE)
+    }
+}
+
 /// Returns the failure of these voters, with the load of the weights that are found without them. Returns
 /// `None` if no quorum is left.
 fn failure_of(
     alloc: Global,
     coterie: &Coterie,
     capacities: &[u64],
+    is_planned: bool,
     down: QSet,
 ) -> Result<Option<Failure>, AllocError>
     requires { AreCapacities capacities.now coterie.now.voters }
@@ -117,7 +158,7 @@ fn failure_of(
     let Some(left) = coterie_without(alloc, coterie, &down)? else {
         return Ok(None);
     };
-    let found = weights(alloc, &left, capacities, MAX_CYCLE)?;
+    let found = weights_left(alloc, &left, capacities, is_planned)?;
     Ok(Some(Failure {
         down,
         best: found.load(),
@@ -132,13 +173,14 @@ fn push_failure(
     failures: &mut Vec<Failure>,
     coterie: &Coterie,
     capacities: &[u64],
+    is_planned: bool,
     down: QSet,
 ) -> Result<(), AllocError>
     requires { AreCapacities capacities.now coterie.now.voters }
     ensures { OnOk result (All (IsPlanned coterie.now capacities.now) failures.old.items
         → All (IsPlanned coterie.now capacities.now) failures.new.items) }
 {
-    if let Some(failure) = failure_of(alloc, coterie, capacities, down)? {
+    if let Some(failure) = failure_of(alloc, coterie, capacities, is_planned, down)? {
         failures.push(failure)?;
     }
     Ok(())
@@ -150,6 +192,7 @@ fn push_pairs(
     failures: &mut Vec<Failure>,
     coterie: &Coterie,
     capacities: &[u64],
+    is_planned: bool,
     voter: u8,
 ) -> Result<(), AllocError>
     requires capacities { AreCapacities capacities.now coterie.now.voters }
@@ -160,7 +203,7 @@ fn push_pairs(
     let one = with_voter(&QSet::empty(), voter);
     for other in usize::from(voter) + 1..coterie.voters() {
         let down = with_voter(&one, other as u8);
-        push_failure(alloc, failures, coterie, capacities, down)?;
+        push_failure(alloc, failures, coterie, capacities, is_planned, down)?;
     }
     Ok(())
 }
@@ -175,13 +218,14 @@ fn failures_of(
     requires { AreCapacities capacities.now coterie.now.voters }
     ensures { IfOk result (λ v. All (IsPlanned coterie.now capacities.now) v.items) }
 {
+    let is_planned = is_planned_for(coterie.voters(), down);
     let mut failures = Vec::new(alloc);
     for number in 0..coterie.voters() {
         let voter = number as u8;
         let alone = with_voter(&QSet::empty(), voter);
-        push_failure(alloc, &mut failures, coterie, capacities, alone)?;
+        push_failure(alloc, &mut failures, coterie, capacities, is_planned, alone)?;
         if down == Down::OneOrTwo {
-            push_pairs(alloc, &mut failures, coterie, capacities, voter)?;
+            push_pairs(alloc, &mut failures, coterie, capacities, is_planned, voter)?;
         }
     }
     Ok(failures)
@@ -216,10 +260,19 @@ fn shares_of(alloc: Global, weights: &Weights) -> Result<Vec<f64>, AllocError> {
     Ok(shares)
 }
 
-/// Returns how many steps a game has with so many rows and columns.
-fn steps_of(rows: usize, columns: usize) -> u32 {
-    let work = (rows as u64).saturating_mul(columns as u64).max(1);
-    (MOST_WORK / work).min(MOST_STEPS) as u32
+/// Returns how many members the quorums have together.
+fn members_of(coterie: &Coterie) -> u64 {
+    let mut members: u64 = 0;
+    for j in 0..coterie.count() {
+        members = members.saturating_add(coterie.quorum(j).len() as u64);
+    }
+    members
+}
+
+/// Returns how many steps a game has, with the rows of so many failures and so many members of quorums.
+fn steps_of(failures: usize, members: u64) -> u32 {
+    let work = (failures as u64).saturating_mul(members.saturating_add(ROWS_COST));
+    (MOST_WORK / work.max(1)).min(MOST_STEPS) as u32
 }
 
 /// Returns the board of the failures, for weights whose load is at most so many thousandths above these.
@@ -235,7 +288,7 @@ fn board_of(
     let limit = quotient_of(weights.load()) * float_of(1000 + thousandths) / 1000.0;
     let rows = rows_of(alloc, failures, limit)?;
     let columns = columns_of(alloc, coterie)?;
-    let steps = steps_of(rows.len(), columns.len());
+    let steps = steps_of(rows.len(), members_of(coterie));
     Ok(Board {
         rows,
         columns,
@@ -487,8 +540,16 @@ fn note(
     Ok(())
 }
 
-/// Finds weights for when so many voters are down.
-fn found_for(
+/// Finds weights whose load stays small when one voter is down, or when one or two are: those with the smallest
+/// *regret* of what is tried. That is the load of the tickets that are left, divided by the best load without
+/// the voters that are down, for the loss of which this is greatest. There has to be a capacity for each voter,
+/// 1 to 1000. `most` has to be 1 to 1,000,000, and `above` at most 1000.
+///
+/// A cycle has at most `most` tickets. The load is at most `above` thousandths above that of the weights that
+/// `near` finds. The coterie is planned for without the voters of each loss. Of 64 voters 2080 losses are of
+/// one or two. So if two of more than 24 may be down, no plans are looked for, but weights near the best with
+/// cycles of at most 300 tickets. Fails only if it runs out of memory.
+pub fn weights_for_losses(
     alloc: Global,
     coterie: &Coterie,
     capacities: &[u64],
@@ -500,6 +561,7 @@ fn found_for(
     requires most { (0 < most) × (most ≤ max_cycle) }
     requires above { above ≤ 1000 }
     ensures within { IfOk result (λ found. AreWithin coterie.now capacities.now most found.limit found.weights) }
+    // The best loads are those of weights, and the smallest ones where this is said.
     ensures planned { IfOk result (λ found. All (IsPlanned coterie.now capacities.now) found.failures.items) }
 {
     let mut weights = near(alloc, coterie, capacities, most)?;
@@ -532,47 +594,4 @@ fn found_for(
         limit,
         multipliers: shown.multipliers,
     })
-}
-
-/// Finds weights whose load stays small when a voter is down: those with the smallest *regret* of what is
-/// tried. That is the load of the tickets that are left, divided by the best load without the voter, for the
-/// voter of which this is greatest. There has to be a capacity for each voter, 1 to 1000. `most` has to be 1
-/// to 1,000,000, and `above` at most 1000.
-///
-/// A cycle has at most `most` tickets. The load is at most `above` thousandths above that of the weights that
-/// `near` finds. The coterie is planned for without each voter. Fails only if it runs out of memory.
-pub fn weights_for_losses(
-    alloc: Global,
-    coterie: &Coterie,
-    capacities: &[u64],
-    most: u64,
-    above: u64,
-) -> Result<Found, AllocError>
-    requires capacities { AreCapacities capacities.now coterie.now.voters }
-    requires most { (0 < most) × (most ≤ max_cycle) }
-    requires above { above ≤ 1000 }
-    ensures within { IfOk result (λ found. AreWithin coterie.now capacities.now most found.limit found.weights) }
-    // The best loads are those of weights, and the smallest ones where this is said.
-    ensures planned { IfOk result (λ found. All (IsPlanned coterie.now capacities.now) found.failures.items) }
-{
-    found_for(alloc, coterie, capacities, most, above, Down::One)
-}
-
-/// Finds weights as [`weights_for_losses`] does, for when one voter is down, or any two. Of 64 voters there are
-/// 2080 such losses, and the coterie is planned for without the voters of each.
-pub fn weights_for_pairs(
-    alloc: Global,
-    coterie: &Coterie,
-    capacities: &[u64],
-    most: u64,
-    above: u64,
-) -> Result<Found, AllocError>
-    requires capacities { AreCapacities capacities.now coterie.now.voters }
-    requires most { (0 < most) × (most ≤ max_cycle) }
-    requires above { above ≤ 1000 }
-    ensures within { IfOk result (λ found. AreWithin coterie.now capacities.now most found.limit found.weights) }
-    // The best loads are those of weights, and the smallest ones where this is said.
-    ensures planned { IfOk result (λ found. All (IsPlanned coterie.now capacities.now) found.failures.items) }
-{
-    found_for(alloc, coterie, capacities, most, above, Down::OneOrTwo)
 }

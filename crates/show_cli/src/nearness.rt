@@ -13,7 +13,7 @@ use coterie_file::Named;
 use near::weights_within;
 use plan_inputs::weights_text_of;
 use plan_texts::write_weights;
-use robust::{Found as Robust, weights_for_losses};
+use robust::{Down, Found as Robust, weights_for_losses};
 use show_command_line::{NearForm, NearPage};
 use show_json::found_json;
 use show_losses::losses_words;
@@ -107,7 +107,7 @@ fn near_page(alloc: Global, page: &NearPage, most: u64, input: &[u8]) -> Result<
     }
 }
 
-/// Returns what is shown of weights that bear the loss of a voter: JSON, their text, tickets, or a page in
+/// Returns what is shown of weights that bear the loss of voters: JSON, their text, tickets, or a page in
 /// words.
 fn robust_shown(
     alloc: Global,
@@ -129,8 +129,19 @@ fn robust_shown(
     }
 }
 
-/// Returns what is shown of weights that bear the loss of a voter for the coterie in an input.
-fn robust_page(alloc: Global, page: &NearPage, most: u64, input: &[u8]) -> Result<String, Fault>
+/// Returns how many voters may be down.
+fn down_of(down: u64) -> Down {
+    if down == 1 { Down::One } else { Down::OneOrTwo }
+}
+
+/// Returns what is shown of weights that bear the loss of voters for the coterie in an input.
+fn robust_page(
+    alloc: Global,
+    page: &NearPage,
+    down: u64,
+    most: u64,
+    input: &[u8],
+) -> Result<String, Fault>
     requires tickets { IfSome page.now.tickets (λ n. n ≤ max_dealt) }
     requires above { IfSome page.now.above (λ n. n ≤ 100) }
     requires most { (0 < most) × (most ≤ max_cycle) }
@@ -149,6 +160,7 @@ fn robust_page(alloc: Global, page: &NearPage, most: u64, input: &[u8]) -> Resul
         named.capacities(),
         most,
         thousandths,
+        down_of(down),
     ) else {
         return Err(Fault::OutOfMemory);
     };
@@ -195,8 +207,8 @@ pub(crate) fn near_weights_page(
     ensures own { IfErr result IsOwn }
 {
     let most = most_of(page);
-    if page.down.is_some() {
-        return robust_page(alloc, page, most, input);
+    if let Some(down) = page.down {
+        return robust_page(alloc, page, down, most, input);
     }
     match page.form {
         NearForm::Text => near_text(alloc, most, input),

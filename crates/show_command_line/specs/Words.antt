@@ -111,7 +111,7 @@ near_cycle_rule = record (optional_rule (codes "cycle") 1 max_cycle) { long = So
 
 -- --down N, for `near`
 abbrev pub near_down_rule : Rule
-near_down_rule = record (optional_rule (codes "down") 1 1) { long = Some (codes "down"); value_names = 1 }
+near_down_rule = record (optional_rule (codes "down") 1 2) { long = Some (codes "down"); value_names = 1 }
 
 -- --above PERCENT, for `near`
 abbrev pub near_above_rule : Rule
@@ -230,7 +230,7 @@ IsNamedBy (Some used) (Near page) =
     (used.0 ≡ codes "near")
     × MayHaveNumber (codes "cycle") 1 max_cycle used.1 page.cycle
     × MayHaveNumber (codes "deal") 0 max_dealt used.1 page.tickets
-    × MayHaveNumber (codes "down") 1 1 used.1 page.down
+    × MayHaveNumber (codes "down") 1 2 used.1 page.down
     × MayHaveNumber (codes "above") 0 100 used.1 page.above
     × IsNearForm used.1 page.form
 IsNamedBy (Some used) (Coterie shape capacities) =

@@ -67,7 +67,7 @@ pub struct NearPage {
     /// How many tickets are dealt by them, 0 to 100,000, in place of a page about them. Their text has no
     /// tickets.
     pub tickets: Option<u64>,
-    /// How many voters may be down, 1, if the weights have to bear that.
+    /// How many voters may be down at most, 1 or 2, if the weights have to bear that.
     pub down: Option<u64>,
     /// By how many percent the load of such weights may be above the smallest one, 0 to 100, if this was
     /// said.

@@ -42,7 +42,7 @@ const MOST_WITHDRAWALS: u64 = 1_000_000;
 const LONGEST_ROUND: u64 = 86_400;
 
 /// How many voters weights may have to bear the loss of.
-const MOST_DOWN: u64 = 1;
+const MOST_DOWN: u64 = 2;
 
 /// By how many percent the load of weights that bear a loss may be above the smallest one.
 const MOST_ABOVE: u64 = 100;
@@ -220,7 +220,7 @@ fn near_down_argument<'a>(alloc: Global) -> Arg<'a>
     optional_argument(
         alloc,
         "down",
-        "Find weights whose load stays small when so many voters are down, 1",
+        "Find weights whose load stays small when up to so many voters are down, 1 or 2",
         1,
         MOST_DOWN,
     )

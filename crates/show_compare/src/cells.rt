@@ -1,5 +1,6 @@
 //! The texts of figures in a table.
 
+use losses::OneDown;
 use show_failures::Resilience;
 use show_figures::{Comparison, Loads};
 use show_words::{push_excess, push_gap, push_percent, push_tenths};
@@ -29,10 +30,10 @@ pub(crate) fn borne_text(alloc: Global, borne: &Resilience) -> Result<String, Al
 /// Returns a load in percent, or the throughput in its place: 1 divided by the load.
 pub(crate) fn load_text(
     alloc: Global,
-    loads: Loads,
+    load: (u64, u64),
     is_throughput: bool,
 ) -> Result<String, AllocError> {
-    let (part, whole) = loads.load;
+    let (part, whole) = load;
     let mut text = String::new(alloc);
     if is_throughput {
         push_tenths(&mut text, whole, part)?;
@@ -48,9 +49,22 @@ pub(crate) fn marked_text(
     loads: Loads,
     is_throughput: bool,
 ) -> Result<String, AllocError> {
-    let mut text = load_text(alloc, loads, is_throughput)?;
+    let mut text = load_text(alloc, loads.load, is_throughput)?;
     push_gap(&mut text, loads, is_throughput)?;
     Ok(text)
+}
+
+/// Returns the worst load when one voter is down, or the throughput in its place.
+pub(crate) fn one_down_text(
+    alloc: Global,
+    one_down: OneDown,
+    is_throughput: bool,
+) -> Result<String, AllocError> {
+    match one_down {
+        OneDown::NoQuorum => String::from_str(alloc, "none left"),
+        OneDown::NoTicket => String::from_str(alloc, "no ticket"),
+        OneDown::Load(load) => load_text(alloc, load, is_throughput),
+    }
 }
 
 /// Returns a load as a fraction if it is the smallest possible one. Otherwise returns how far it is

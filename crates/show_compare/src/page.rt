@@ -1,8 +1,9 @@
 //! The page of coteries side by side.
 
-use crate::cells::{borne_text, exact_text, load_text, marked_text, members_text};
+use crate::cells::{borne_text, exact_text, load_text, marked_text, members_text, one_down_text};
 use crate::table::{Cells, cells_of, push_table};
 use coterie_file::Named;
+use losses::OneDown;
 use quorum_set::QSet;
 use show_figures::{Comparison, Loss, comparison_of};
 use show_words::push_members;
@@ -50,6 +51,11 @@ fn have_two_units(entries: &[Entry]) -> bool {
     have_capacities(entries) && entries.iter().any(|entry| entry.compared.is_unit)
 }
 
+/// Returns whether the loss of some voter leaves one of the candidates a quorum, but no ticket.
+fn has_mark(entries: &[Entry]) -> bool {
+    entries.iter().any(|entry| matches!(entry.compared.one_down, OneDown::NoTicket))
+}
+
 /// Returns the names of a group of voters.
 fn group_text(alloc: Global, named: &Named, group: &QSet) -> Result<String, AllocError> {
     let mut text = String::new(alloc);
@@ -67,7 +73,8 @@ fn entry_cells(alloc: Global, entry: &Entry, has_throughput: bool) -> Result<Cel
     cells.push(format!(in alloc; "{quorums}")?)?;
     cells.push(members_text(alloc, compared)?)?;
     cells.push(borne_text(alloc, &compared.borne)?)?;
-    cells.push(load_text(alloc, compared.loads, has_throughput)?)?;
+    cells.push(load_text(alloc, compared.loads.load, has_throughput)?)?;
+    cells.push(one_down_text(alloc, compared.one_down, has_throughput)?)?;
     cells.push(exact_text(alloc, compared.loads)?)?;
     Ok(cells)
 }
@@ -80,7 +87,11 @@ fn push_figures(
     has_throughput: bool,
 ) -> Result<(), AllocError> {
     let mut rows = Vec::new(alloc);
-    let figure = if has_throughput { "throughput" } else { "load" };
+    let (figure, worst) = if has_throughput {
+        ("throughput", "worst, one down")
+    } else {
+        ("load", "worst load, one down")
+    };
     let titles = cells_of(
         alloc,
         &[
@@ -90,6 +101,7 @@ fn push_figures(
             "members",
             "may fail",
             figure,
+            worst,
             "smallest load",
         ],
     )?;
@@ -192,6 +204,25 @@ fn push_losses(
     push_table(alloc, text, rows.as_slice(), columns)
 }
 
+/// Appends what the column of one voter down means.
+fn push_one_down_legend(
+    text: &mut String,
+    entries: &[Entry],
+    has_throughput: bool,
+) -> Result<(), AllocError> {
+    let figure = if has_throughput { "throughput" } else { "load" };
+    write!(
+        text,
+        "one down: the worst {figure} of the tickets that are left when one voter is down and a quorum is left\n"
+    )?;
+    if has_mark(entries) {
+        text.push_str(
+            "no ticket: some voter is in all quorums that are used, though not in all of the coterie\n",
+        )?;
+    }
+    Ok(())
+}
+
 /// Appends what the columns mean.
 fn push_legend(text: &mut String, entries: &[Entry]) -> Result<(), AllocError> {
     let has_throughput = have_capacities(entries);
@@ -203,6 +234,7 @@ fn push_legend(text: &mut String, entries: &[Entry]) -> Result<(), AllocError> {
     } else {
         "load: the share of the requests that the busiest voter gets\n"
     })?;
+    push_one_down_legend(text, entries, has_throughput)?;
     if have_two_units(entries) {
         text.push_str(
             "a coterie without capacities counts each voter as 1: compare throughputs only if the unit is the same\n",
@@ -212,8 +244,9 @@ fn push_legend(text: &mut String, entries: &[Entry]) -> Result<(), AllocError> {
 }
 
 /// Returns a page with the figures of these coteries side by side: how many voters and quorums each
-/// has, how many members its quorums have, how many voters may fail, and its load. If some capacity
-/// is not 1, it has the throughput in its place: 1 divided by the load.
+/// has, how many members its quorums have, how many voters may fail, its load, and the greatest load of
+/// the tickets that are left when one voter is down. If some capacity is not 1, it has throughputs in
+/// their place: 1 divided by the load.
 ///
 /// A second table has the load, or the throughput, of what is left when a group of voters fails. It is
 /// there if some coterie has several groups, and not each voter is its own. Fails only if it runs out

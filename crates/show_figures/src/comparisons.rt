@@ -7,13 +7,14 @@ ghost use Rattle.certificate.specs.Certificates.{load_of};
 ghost use Rattle.failures.specs.Failures.{Bears, IsSmallest, IsTransversal, MeetsEach, system_without};
 ghost use Rattle.known_loads.specs.SmallestQuorums.{smallest_size};
 ghost use Rattle.show_failures.specs.Groups.{groups_of};
-ghost use Rattle.show_figures.specs.Comparisons.{AreLoads, IsLoss, largest_size};
+ghost use Rattle.show_figures.specs.Comparisons.{AreLoads, IsLoss, IsOfWeights, largest_size};
 
 use crate::bounds::smallest_size;
 use crate::sizes::largest_size;
 use certificate::Weights;
 use coterie_file::Named;
 use failures::coterie_without;
+use losses::{OneDown, worst_one_down};
 use near::near;
 use planner::{PlannerFault, plan};
 use quorum_set::{Coterie, QSet, are_unit};
@@ -57,6 +58,8 @@ pub struct Comparison {
     pub is_unit: bool,
     /// The load, and a bound.
     pub loads: Loads,
+    /// What the same weights leave when one voter is down, at worst.
+    pub one_down: OneDown,
     /// How many voters may fail.
     pub borne: Resilience,
     /// For each group of voters, what its failure does, in the order of their first voters.
@@ -75,42 +78,27 @@ pub fn loads_of_weights(weights: &Weights) -> Loads
     }
 }
 
-/// Returns the load of the plan that the planner finds, which is its own bound. Returns `None` if the
-/// planner finds none.
-fn plan_loads(
-    alloc: Global,
-    coterie: &Coterie,
-    capacities: &[u64],
-) -> Result<Option<Loads>, AllocError>
+/// Returns the weights of the plan that the planner finds. If it finds none, returns those that `near`
+/// finds.
+fn weights_of(alloc: Global, coterie: &Coterie, capacities: &[u64]) -> Result<Weights, AllocError>
     requires { AreCapacities capacities.now coterie.now.voters }
-    ensures { IfOk result (λ loads. IfSome loads (AreLoads coterie.now capacities.now)) }
+    ensures coterie { IfOk result (λ w. w.system ≡ coterie.now) }
+    ensures capacities { IfOk result (λ w. w.capacities ≡ capacities.now) }
 {
     match plan(alloc, coterie, capacities) {
-        Ok(plan) => Ok(Some(loads_of_weights(plan.weights()))),
+        Ok(plan) => Ok(plan.into_weights()),
         Err(PlannerFault::OutOfMemory) => Err(AllocError),
-        Err(_) => Ok(None),
+        Err(_) => near(alloc, coterie, capacities, LONGEST),
     }
 }
 
-/// Returns the load of the weights that `near` finds, and its bound.
-fn near_loads(alloc: Global, coterie: &Coterie, capacities: &[u64]) -> Result<Loads, AllocError>
-    requires { AreCapacities capacities.now coterie.now.voters }
-    ensures { IfOk result (AreLoads coterie.now capacities.now) }
-{
-    let weights = near(alloc, coterie, capacities, LONGEST)?;
-    Ok(loads_of_weights(&weights))
-}
-
-/// Returns the load of the plan that the planner finds. If it finds none, returns the load of the
-/// weights that `near` finds, and its bound.
+/// Returns the load of the weights that are found, and its bound.
 fn loads_of(alloc: Global, coterie: &Coterie, capacities: &[u64]) -> Result<Loads, AllocError>
     requires { AreCapacities capacities.now coterie.now.voters }
     ensures { IfOk result (AreLoads coterie.now capacities.now) }
 {
-    match plan_loads(alloc, coterie, capacities)? {
-        Some(loads) => Ok(loads),
-        None => near_loads(alloc, coterie, capacities),
-    }
+    let weights = weights_of(alloc, coterie, capacities)?;
+    Ok(loads_of_weights(&weights))
 }
 
 /// Returns the loads of what is left when a group fails, or `None` if no quorum is left. All voters
@@ -163,6 +151,10 @@ pub fn comparison_of(alloc: Global, named: &Named) -> Result<Comparison, AllocEr
     // Of the load and its bound.
     ensures loads { IfOk result (λ c. AreLoads named.now.system named.now.capacities c.loads) }
 
+    // What weights with this load leave when one voter is down, at worst.
+    ensures one_down { IfOk result (λ c.
+        IsOfWeights named.now.system named.now.capacities c.loads c.one_down) }
+
     // How many voters may fail, as `resilience_of` says.
     ensures blocking { IfOk result (λ c. IsTransversal named.now.system c.borne.blocking) }
     ensures least { IfOk result (λ c.
@@ -176,13 +168,16 @@ pub fn comparison_of(alloc: Global, named: &Named) -> Result<Comparison, AllocEr
     ensures losses { IfOk result (λ c. All (IsLoss named.now) c.losses.items) }
 {
     let coterie = named.coterie();
+    let capacities = named.capacities();
+    let weights = weights_of(alloc, coterie, capacities)?;
     Ok(Comparison {
         voters: coterie.voters(),
         quorums: coterie.count(),
         smallest: smallest_size(coterie),
         largest: largest_size(coterie),
-        is_unit: are_unit(named.capacities()),
-        loads: loads_of(alloc, coterie, named.capacities())?,
+        is_unit: are_unit(capacities),
+        loads: loads_of_weights(&weights),
+        one_down: worst_one_down(&weights),
         borne: resilience_of(coterie),
         losses: losses_of(alloc, named)?,
     })

@@ -2,6 +2,7 @@
 
 use crate::parts::{Fraction, fraction_of, line_of, names_of};
 use coterie_file::Named;
+use losses::OneDown;
 use serde::Serialize;
 use show_compare::Candidate;
 use show_figures::{Loads, Loss, comparison_of};
@@ -32,6 +33,10 @@ struct ComparedPart<'a> {
     largest_quorum: usize,
     load: Fraction,
     bound: Fraction,
+    /// The worst load when one voter is down, or null if there is none.
+    load_one_down: Option<Fraction>,
+    /// Whether each voter's loss that leaves a quorum leaves a ticket.
+    keeps_tickets_one_down: bool,
     failures_borne: usize,
     is_exact: bool,
     losses: Vec<LossPart<'a>>,
@@ -67,6 +72,14 @@ fn loss_parts<'a>(
     Ok(parts)
 }
 
+/// Returns the worst load when one voter is down, if there is one.
+fn load_of_one_down(one_down: OneDown) -> Option<Fraction> {
+    match one_down {
+        OneDown::Load(load) => Some(fraction_of(load)),
+        OneDown::NoQuorum | OneDown::NoTicket => None,
+    }
+}
+
 /// Returns the figures of a candidate.
 fn compared_part<'a>(
     alloc: Global,
@@ -81,6 +94,8 @@ fn compared_part<'a>(
         largest_quorum: compared.largest,
         load: fraction_of(compared.loads.load),
         bound: fraction_of(compared.loads.bound),
+        load_one_down: load_of_one_down(compared.one_down),
+        keeps_tickets_one_down: !matches!(compared.one_down, OneDown::NoTicket),
         failures_borne: compared.borne.borne,
         is_exact: compared.borne.is_smallest,
         losses: loss_parts(alloc, &candidate.named, &compared.losses)?,

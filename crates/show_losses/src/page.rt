@@ -4,9 +4,12 @@ use crate::rows::{Row, rows_of, thousandths};
 use certificate::Weights;
 use coterie_file::Named;
 use losses::{Failure, regret_bound};
-use robust::Found;
+use robust::{Down, Found};
 use show_words::{push_members, push_percent, weights_words};
 use std::alloc::{AllocError, Global};
+
+/// The most losses that have a line.
+const MOST_ROWS: usize = 100;
 
 /// Appends thousandths as a number with three digits after the point, as `1.173`.
 fn push_thousandths(text: &mut String, thousandths: u64) -> Result<(), AllocError> {
@@ -20,16 +23,34 @@ fn push_decimal(text: &mut String, fraction: (u64, u64)) -> Result<(), AllocErro
     push_thousandths(text, thousandths(fraction.0, fraction.1))
 }
 
-/// Appends what the worst loss costs.
-fn push_worst(text: &mut String, rows: &[Row], losses: usize) -> Result<(), AllocError> {
-    text.push_str("\nIf one voter is down, the load of the tickets that are left is at most ")?;
-    match rows.first() {
-        Some(worst) if rows.len() == losses => push_thousandths(text, worst.times)?,
-        _ => return text.push_str(
-            "any number of times that of new weights: some loss leaves no ticket.\n",
-        ),
+/// Returns which losses the page is about.
+fn losses_text(down: Down) -> &'static str {
+    match down {
+        Down::One => "one voter is down",
+        Down::OneOrTwo => "one or two voters are down",
     }
-    text.push_str(" times that of new weights.\n")
+}
+
+/// Appends what the worst loss costs. Each row's quotient is rounded down, so it is below the next thousandth.
+fn push_worst(text: &mut String, found: &Found, rows: &[Row]) -> Result<(), AllocError> {
+    let losses = losses_text(found.down);
+    if rows.len() < found.failures.len() {
+        return write!(
+            text,
+            "\nIf {losses}, a quorum may be left, but no ticket.\n"
+        );
+    }
+    match rows.first() {
+        Some(worst) => {
+            write!(
+                text,
+                "\nIf {losses}, the load of the tickets that are left is below "
+            )?;
+            push_thousandths(text, worst.times.saturating_add(1))?;
+            text.push_str(" times that of new weights.\n")
+        }
+        None => write!(text, "\nIf {losses}, no quorum is left.\n"),
+    }
 }
 
 /// Appends below which quotient no weights with a load up to the limit are, if something is shown of that.
@@ -46,10 +67,19 @@ fn push_bound(text: &mut String, found: &Found) -> Result<(), AllocError> {
             push_decimal(text, found.limit)?;
             text.push_str(" keep it below ")?;
             push_thousandths(text, (millionths / 1000).min(1_000_000_000) as u64)?;
-            text.push_str(" times for each voter.\n")
+            text.push_str(match found.down {
+                Down::One => " times for each voter.\n",
+                Down::OneOrTwo => " times for each loss of one or two voters.\n",
+            })
         }
         _ => Ok(()),
     }
+}
+
+/// Appends the load of new weights. One that may not be the best is marked.
+fn push_best(text: &mut String, row: &Row) -> Result<(), AllocError> {
+    text.push_str(if row.is_best { "  " } else { "<=" })?;
+    push_decimal(text, row.best)
 }
 
 /// Appends the line of a loss.
@@ -63,8 +93,8 @@ fn push_row(
     push_percent(text, row.tickets, weights.cycle_len())?;
     text.push_str("   ")?;
     push_decimal(text, row.load)?;
-    text.push_str("        ")?;
-    push_decimal(text, row.best)?;
+    text.push_str("      ")?;
+    push_best(text, row)?;
     text.push_str("  ")?;
     push_thousandths(text, row.times)?;
     text.push_str("  ")?;
@@ -72,29 +102,46 @@ fn push_row(
     text.push('\n')
 }
 
-/// Appends the table of losses.
+/// Appends how many losses have no line, and what marks mean, if there are some.
+fn push_notes(text: &mut String, rows: &[Row]) -> Result<(), AllocError> {
+    let others = rows.len().saturating_sub(MOST_ROWS);
+    if others > 0 {
+        write!(text, "and {others} others, of which none is worse\n")?;
+    }
+    if rows.iter().take(MOST_ROWS).any(|row| !row.is_best) {
+        text.push_str(
+            "\n<=: new weights with this load were found, and some with a smaller one may be possible\n",
+        )?;
+    }
+    Ok(())
+}
+
+/// Appends the table of the worst losses.
 fn push_rows(
     text: &mut String,
     named: &Named,
     found: &Found,
     rows: &[Row],
 ) -> Result<(), AllocError> {
+    if rows.is_empty() {
+        return Ok(());
+    }
     text.push_str("\n   left    load  new weights  times  down\n")?;
-    for row in rows {
+    for row in rows.iter().take(MOST_ROWS) {
         if let Some(failure) = found.failures.get(row.place) {
             push_row(text, named, &found.weights, failure, row)?;
         }
     }
-    Ok(())
+    push_notes(text, rows)
 }
 
-/// Returns weights that were found for when a voter is down, in words: the page of the weights, what the
-/// worst loss costs, a bound of that, and what each loss leaves. The weights are of the named coterie.
-/// Fails only if memory runs out.
+/// Returns weights that were found for when voters are down, in words: the page of the weights, what the
+/// worst loss costs, a bound of that, and what the worst losses leave, up to a hundred. The weights are of the
+/// named coterie. Fails only if memory runs out.
 pub fn losses_words(alloc: Global, named: &Named, found: &Found) -> Result<String, AllocError> {
     let rows = rows_of(alloc, &found.weights, &found.failures)?;
     let mut text = weights_words(alloc, named, &found.weights)?;
-    push_worst(&mut text, &rows, found.failures.len())?;
+    push_worst(&mut text, found, &rows)?;
     push_bound(&mut text, found)?;
     push_rows(&mut text, named, found, &rows)?;
     Ok(text)

@@ -1,7 +1,7 @@
 //! Weights for when voters are down.
 use crate::shapes::{Shape, built};
 use losses::{regret_bound, regret_of};
-use robust::{Down, weights_for_losses, weights_for_pairs};
+use robust::{Down, weights_for_losses};
 use std::alloc::Global;
 use std::test::Fail;
 use test_plans::unit_capacities;
@@ -22,10 +22,7 @@ fn is_small(alloc: Global, row: (Shape, Down, u64, u64, u128)) -> Result<bool, F
     let coterie = built(alloc, shape)?;
     let capacities = unit_capacities(alloc, coterie.voters())?;
     let above = above.min(1000);
-    let found = match down {
-        Down::One => weights_for_losses(alloc, &coterie, &capacities, 1000, above)?,
-        Down::OneOrTwo => weights_for_pairs(alloc, &coterie, &capacities, 1000, above)?,
-    };
+    let found = weights_for_losses(alloc, &coterie, &capacities, 1000, above, down)?;
     let regret = regret_of(&found.weights, &found.failures).unwrap_or((1, 0));
     let bound = regret_bound(
         &found.weights,

@@ -1,6 +1,6 @@
 use Rattle.std.specs.List.{All}
 use Rattle.robust.specs.Robust.{AreWithin, IsPlanned}
-use Rattle.robust.proofs.search.found_for.Given as goal
+use Rattle.robust.proofs.search.weights_for_losses.Given as goal
 
 abbrev pub invariant-loop : goal.invariant-loop
 invariant-loop l = record {

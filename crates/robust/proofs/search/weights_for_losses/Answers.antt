@@ -2,7 +2,7 @@ use Rattle.std.proofs.Common.{sym, subst}
 use Rattle.certificate.specs.Certificates.{load_of}
 use Rattle.certificate.specs.Ratios.{IsAtMost}
 use Rattle.robust.proofs.LimitLemmas.{load-limit_above}
-use Rattle.robust.proofs.search.found_for.Goals as goal
+use Rattle.robust.proofs.search.weights_for_losses.Goals as goal
 
 pub loop-init : goal.loop-init
 loop-init c =
