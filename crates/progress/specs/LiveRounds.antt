@@ -116,8 +116,9 @@ HasGrantsThere live n w = (v : ℕ) → v < length w.voters → live.voter v ≡
 abbrev pub live_below : Live → ℕ → ℕ
 live_below live n = sum_below (λ c. if live.client c then 1 else 0) n
 
--- k live rounds in which no REQUEST is late and no withdrawal is hasty, each live client gives up at most once, and
--- not at all if it asks live voters alone. Who is not live is dead, and only grants of such clients are let go.
+-- k live rounds in which no REQUEST is late and no withdrawal is hasty. There are at most as many withdrawals as live
+-- clients, and a client that asks live voters alone does not give up. Who is not live is dead, and only grants of such
+-- clients are let go.
 pub record AreTimely (live : Live) (deal : Dealing) (w : WorldState) (k : ℕ) (rounds : List (List Move)) : Type 0 where
   pub are_live : AreLiveRounds of_moves live deal w rounds
   pub count : length rounds ≡ k
