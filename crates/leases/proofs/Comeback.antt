@@ -785,15 +785,15 @@ held_holds : (x : ClientState) (v g : ℕ) → holds_under x v g ≡ true → ho
 held_holds x v g is = grind (arith, nat_tests)
 
 -- what is known of a client, live or saved
-record ClientKnown (b : Bounds) (N : ℕ → ℕ) (l : List ClientState) (c : ℕ) (x : ClientState) : Type 0 where
-  sound : sound.IsSound x
-  quorum : (members x ≡ []) ⊎ IsAmong b.quorums (members x)
-  id : c < b.clients → IsClient c b.limit x
-  idle : is_idle x.phase ≡ true
-  on : NotBehind (client_at l c) x
-  last : IsCounted N x
+pub record ClientKnown (b : Bounds) (N : ℕ → ℕ) (l : List ClientState) (c : ℕ) (x : ClientState) : Type 0 where
+  pub sound : sound.IsSound x
+  pub quorum : (members x ≡ []) ⊎ IsAmong b.quorums (members x)
+  pub id : c < b.clients → IsClient c b.limit x
+  pub idle : is_idle x.phase ≡ true
+  pub on : NotBehind (client_at l c) x
+  pub last : IsCounted N x
 
-idle_world : (b : Bounds) (G : Lives) (s : Saved) → Numbered b G s → Settled b s → (X : ℕ → ClientState) (Y : ℕ → VoterState) → ((c : ℕ) → ClientKnown b (count s.voters) s.clients c (X c))
+pub idle_world : (b : Bounds) (G : Lives) (s : Saved) → Numbered b G s → Settled b s → (X : ℕ → ClientState) (Y : ℕ → VoterState) → ((c : ℕ) → ClientKnown b (count s.voters) s.clients c (X c))
     → ((v : ℕ) → Votes b v (Y v) × VoterFits b s.clients (Y v) × (count s.voters v ≤ (Y v).granted)) → WorldOk b X Y s.live.sent
 idle_world b G s num st X Y clients voters = record {
   messages = AllByRecursion-weaker (Fits b (count s.voters) s.clients) (MessageOk X Y)
@@ -825,17 +825,11 @@ idle_out Idle e = refl
 idle_out Asking e = absurd (false≢true e)
 idle_out Inside e = absurd (false≢true e)
 
-live_known : (b : Bounds) (G : Lives) (s : Saved) → Numbered b G s → Settled b s → (c : ℕ) → is_idle (client_at s.live.clients c).phase ≡ true
+pub live_known : (b : Bounds) (G : Lives) (s : Saved) → Numbered b G s → Settled b s → (c : ℕ) → is_idle (client_at s.live.clients c).phase ≡ true
     → ClientKnown b (count s.voters) s.clients c (client_at s.live.clients c)
 live_known b G s num st c idle =
     let k = num.live_clients c in
     record { sound = k.sound; quorum = k.quorum; id = λ w. record { id = k.id w; limit = k.limit w }; idle = idle; on = st.behind c; last = st.last c }
-
--- it is enough for the live world that the clients are idle as they are
-pub idle_live : (b : Bounds) (G : Lives) (s : Saved) → Numbered b G s → Settled b s → ((c : ℕ) → is_idle (client_at s.live.clients c).phase ≡ true)
-    → WorldOk b (client_at s.live.clients) (voter_at s.live.voters) s.live.sent
-idle_live b G s num st idle = idle_world b G s num st (client_at s.live.clients) (voter_at s.live.voters) (λ c. live_known b G s num st c (idle c))
-    (λ v. (num.live_voters v, st.live_voters v, num.behind v))
 
 idle_ok : (b : Bounds) (G : Lives) (s : Saved) → Numbered b G s → Settled b s → AllIdle s → SavedOk b (unseen s)
 idle_ok b G s num st idle =

@@ -1,41 +1,54 @@
--- requests get on after incidents, once all clients were idle
-use Rattle.std.proofs.Common.{◌≡◌, ℕ, suc, ◌≤◌, true, List, [], sym, subst, ◌∙◌, arith}
+-- requests get on after incidents, once all clients were idle but those that are dead
+use Rattle.std.proofs.Common.{◌≡◌, ℕ, suc, ◌<◌, ◌≤◌, Bool, true, false, List, [], ◌∷◌, ◌++◌, length, map, refl, sym, ap, subst, ◌∙◌, ◌⊎◌, inl, inr, arith}
+use Rattle.std.specs.Prelude.{not}
+use Rattle.std.specs.List.{AllByRecursion}
 use Rattle.std.proofs.lemmas.Bool.{false≢true, false_from_ne_true}
-use Rattle.numbers.proofs.Lists.{AllByRecursion-weaker}
+use Rattle.std.proofs.lemmas.List.{append-nil}
+use Rattle.numbers.proofs.Lists.{AllByRecursion-append, AllByRecursion-weaker}
 use Rattle.message.specs.declared.message.Message.{Message}
 use Rattle.message.specs.declared.message.Message.TheVariants as kinds
 use Rattle.message.specs.declared.message.ClientBody.{ClientBody}
 use Rattle.message.specs.declared.message.ClientBody.TheVariants as to_client
+use Rattle.message.specs.declared.message.ToVoter.{ToVoter}
+use Rattle.message.specs.declared.message.VoterBody.TheVariants as asks
 use Rattle.voter.specs.declared.state.VoterState.{VoterState}
-use Rattle.requester.proofs.SoundSteps.{is_asking-busy}
+use Rattle.requester.proofs.SoundSteps.{IsSound-clear_votes, is_asking-busy}
 use Rattle.requester.specs.Soundness.{IsSound}
 use Rattle.requester.specs.Words.{is_idle, is_inquired}
 use Rattle.requester.specs.declared.state.ClientState.{ClientState}
+use Rattle.requester.specs.declared.state.Phase.TheVariants.{Idle}
+use Rattle.world.specs.Coherence.{MessageOk}
+use Rattle.world.specs.Ranges.{IsInRange}
 use Rattle.world.specs.Restarts.{Saved, begin}
 use Rattle.world.specs.Rules.{ClientLaws, VoterLaws}
 use Rattle.world.specs.Runs.{run_of}
+use Rattle.world.specs.Visible.{DealsFrom}
 use Rattle.world_state.specs.Steps.{Dealing, WorldState, client_at, voter_at}
 use Rattle.world_state.specs.declared.step.Step.{Step}
 use Rattle.world.proofs.Claims.{Bounds}
 use Rattle.world.proofs.EveryRun.{coherent_by, run_from}
-use Rattle.world.proofs.Reached.{Given, RunOk}
+use Rattle.world.proofs.Reached.{Given}
 use Rattle.progress.proofs.losses.Losses.{course_at}
 use Rattle.progress.proofs.losses.Olds.{AreOld}
 use Rattle.progress.proofs.invariants.Outstanding.{IsNoted, IsNotedAt, Outstanding}
+use Rattle.progress.proofs.block.Known.{within_by}
 use Rattle.progress.proofs.losses.Lasting.{Goes-run}
-use Rattle.progress.proofs.shade.Shaded.{Rests, Rests-run}
+use Rattle.progress.proofs.rounds.Reminders.{moved_steps}
+use Rattle.progress.proofs.shade.Shade.{IsShade, Shades, Shading, each_release, each_split, extra, images, moves_on, releases}
+use Rattle.progress.proofs.shade.Shaded.{Rests, Rests-run, Under, allowed, ended, ends, quit}
 use Rattle.progress.proofs.invariants.Sure.{IsSure, IsSure-first, IsSure-run}
-use Rattle.progress.specs.LiveRounds.{Live, everybody}
+use Rattle.progress.specs.LiveRounds.{IsDead, Live, SparesIn, everybody}
+use Rattle.progress.specs.Moves.{EachMove, Goes, IsNotBy, Move, move, moved}
 use Rattle.progress.specs.Rules.{Laws}
 use Rattle.progress.proofs.invariants.Always.{Heeds, IsUpTo, WasGiven, heeds}
 use Rattle.progress.proofs.invariants.Fitting.{current_busy}
 use Rattle.progress.proofs.invariants.Kept.{IsKept, IsKept-first, IsKept-run, Keeps}
 use Rattle.progress.proofs.run.Moves.{StaysCoherent}
 use Rattle.progress.proofs.invariants.Placed.{AskedAt, idle_ask}
-use Rattle.leases.specs.Again.{IsReachedAgain}
+use Rattle.leases.specs.Again.{IsReachedAgain, IsReachedLive}
 use Rattle.leases.specs.Comeback.{unseen}
 use Rattle.world.specs.Incidents.{all_befall}
-use Rattle.leases.proofs.Comeback.{EndLaws, Settled, idle_live, idle_out, reaches_all}
+use Rattle.leases.proofs.Comeback.{ClientKnown, EndLaws, Settled, idle_out, idle_world, live_known, reaches_all}
 use Rattle.leases.proofs.Numbers.{IsNamed, Lives, Numbered, Told, count}
 
 -- a LOCKED that was ever sent reports a grant that its voter gave
@@ -48,34 +61,9 @@ told_given : (b : Bounds) (N : ℕ → ℕ) (vs : List VoterState) → ((v : ℕ
 told_given b N vs most (kinds.ToVoter m) told = tt
 told_given b N vs most (kinds.ToClient m) told = named_given b N m.voter (voter_at vs m.voter).granted m.body (most m.voter) told.2
 
-told_asked : (b : Bounds) (s : Saved) → ((c : ℕ) → is_idle (client_at s.live.clients c).phase ≡ true) → (m : Message) → Told b (count s.voters) m → AskedAt s.live.clients m
-told_asked b s idle (kinds.ToVoter m) told = idle_ask (client_at s.live.clients m.client) m.voter m.body (idle m.client)
-told_asked b s idle (kinds.ToClient m) told = tt
-
--- what `progress` keeps, of a world in which all clients are idle
-keeps_idle : (b : Bounds) (G : Lives) (s : Saved) → Numbered b G s → Settled b s → ((c : ℕ) → is_idle (client_at s.live.clients c).phase ≡ true) → Keeps (unseen s).live
-keeps_idle b G s num st idle = record {
-  always = record {
-    seen = λ v c t entry runs. absurd (false≢true (sym (current_busy (client_at s.live.clients c) t runs) ∙ idle c));
-    given = AllByRecursion-weaker (Told b (count s.voters)) (WasGiven s.live.voters) (told_given b (count s.voters) s.live.voters num.behind) s.live.sent num.told;
-  };
-  fits = record {
-    pairs = λ c v. record {
-      unfinished = record {
-        most = (let low = (st.live_voters v).finished c in let behind = st.behind c in omega arith);
-        busy = λ busy. absurd (false≢true (sym busy ∙ idle c));
-      };
-      last = (let few = st.last c v in let behind = num.behind v in omega arith);
-      given = λ below g held own asks. absurd (false≢true (sym (is_asking-busy (client_at s.live.clients c).phase asks) ∙ idle c));
-    };
-    lacks = λ c asks. absurd (false≢true (sym (is_asking-busy (client_at s.live.clients c).phase asks) ∙ idle c));
-  };
-  placed = record {
-    asked = AllByRecursion-weaker (Told b (count s.voters)) (AskedAt s.live.clients) (told_asked b s idle) s.live.sent num.told;
-    places = λ v c t entry runs. absurd (false≢true (sym (current_busy (client_at s.live.clients c) t runs) ∙ idle c));
-    back = λ v. (st.live_voters v).back;
-  };
-}
+told_asked : (b : Bounds) (N : ℕ → ℕ) (cs : List ClientState) → ((c : ℕ) → is_idle (client_at cs c).phase ≡ true) → (m : Message) → Told b N m → AskedAt cs m
+told_asked b N cs idle (kinds.ToVoter m) told = idle_ask (client_at cs m.client) m.voter m.body (idle m.client)
+told_asked b N cs idle (kinds.ToClient m) told = tt
 
 -- an INQUIRE that was ever sent names a grant that is old
 named_old : (b : Bounds) (N : ℕ → ℕ) (v : ℕ) (y : VoterState) (body : ClientBody) → N v ≤ y.granted → IsNamed b N v body → IsNoted (suc y.granted) y body
@@ -91,71 +79,264 @@ told_old b N u most deal (kinds.ToClient m) told = named_old b N m.voter (voter_
 no_mark : (x : ClientState) (v : ℕ) → IsSound x → is_idle x.phase ≡ true → is_inquired x v ≡ true → ⊥
 no_mark x v sound idle marked = false≢true (sym (sound.held v (sound.inquired v marked)).busy ∙ idle)
 
--- A world in which all clients were idle, and the steps that led from there to this one. All grants that were
--- given before are old.
+-- ---- the world in which all clients were idle, or those that were not have given up
+
+-- the live world with these clients, nothing seen, and these messages before all that was sent
+abbrev eased : Saved → List ClientState → List Message → WorldState
+eased s cs front = record (unseen s).live { clients = cs; sent = front ++ s.live.sent }
+
+-- what `progress` rests on in such a world: all grants that were given before are old
+record Eased (deal : Dealing) (u : WorldState) : Type 0 where
+  rests : Rests deal u
+  keeps : Keeps u
+  out : Outstanding (course_at everybody deal u).old u
+
+ease : Laws → (b : Bounds) → Given b → (deal : Dealing) → DealsFrom b.quorums deal → (G : Lives) (s : Saved) → Numbered b G s → Settled b s → (cs : List ClientState) → length cs ≡ length s.live.clients
+    → ((c : ℕ) → ClientKnown b (count s.voters) s.clients c (client_at cs c)) → (front : List Message) → AllByRecursion (MessageOk (client_at cs) (voter_at s.live.voters)) front → AllByRecursion (IsInRange b.voters b.clients b.limit) front
+    → ((P : Message → Type 0) → ((m : ToVoter) → P (kinds.ToVoter m)) → AllByRecursion P front) → Eased deal (eased s cs front)
+ease rules b given deal deals G s num st cs many known front fine range each =
+    let N = count s.voters in
+    let vs = s.live.voters in
+    let idle : (c : ℕ) → is_idle (client_at cs c).phase ≡ true = λ c. (known c).idle in
+    let world = idle_world b G s num st (client_at cs) (voter_at vs) known (λ v. (num.live_voters v, st.live_voters v, num.behind v)) in
+    let old = (course_at everybody deal (eased s cs front)).old in
+    record {
+      rests = record {
+        bounds = b;
+        given = given;
+        deals = deals;
+        ok = record {
+          clients = many ∙ num.sizes.0;
+          voters = num.sizes.1;
+          world = record {
+            messages = AllByRecursion-append (MessageOk (client_at cs) (voter_at vs)) front s.live.sent fine world.messages;
+            ranges = AllByRecursion-append (IsInRange b.voters b.clients b.limit) front s.live.sent range world.ranges;
+            held = world.held;
+            last = world.last;
+            clients = world.clients;
+            voters = world.voters;
+            client_ids = world.client_ids;
+            voter_ids = world.voter_ids;
+          };
+          walked = record { list = tt; inside = λ c. idle_out (client_at cs c).phase (idle c) };
+        };
+      };
+      keeps = record {
+        always = record {
+          seen = λ v c t entry runs. absurd (false≢true (sym (current_busy (client_at cs c) t runs) ∙ idle c));
+          given = AllByRecursion-append (WasGiven vs) front s.live.sent (each (WasGiven vs) (λ m. tt)) (AllByRecursion-weaker (Told b N) (WasGiven vs) (told_given b N vs num.behind) s.live.sent num.told);
+        };
+        fits = record {
+          pairs = λ c v. record {
+            unfinished = record {
+              most = (let low = (st.live_voters v).finished c in let behind = (known c).on in omega arith);
+              busy = λ busy. absurd (false≢true (sym busy ∙ idle c));
+            };
+            last = (let few = (known c).last v in let behind = num.behind v in omega arith);
+            given = λ below g held own asks. absurd (false≢true (sym (is_asking-busy (client_at cs c).phase asks) ∙ idle c));
+          };
+          lacks = λ c asks. absurd (false≢true (sym (is_asking-busy (client_at cs c).phase asks) ∙ idle c));
+        };
+        placed = record {
+          asked = AllByRecursion-append (AskedAt cs) front s.live.sent (each (AskedAt cs) (λ m. idle_ask (client_at cs m.client) m.voter m.body (idle m.client)))
+              (AllByRecursion-weaker (Told b N) (AskedAt cs) (told_asked b N cs idle) s.live.sent num.told);
+          places = λ v c t entry runs. absurd (false≢true (sym (current_busy (client_at cs c) t runs) ∙ idle c));
+          back = λ v. (st.live_voters v).back;
+        };
+      };
+      out = record {
+        noted = AllByRecursion-append (IsNotedAt old vs) front s.live.sent (each (IsNotedAt old vs) (λ m. tt))
+            (AllByRecursion-weaker (Told b N) (IsNotedAt old vs) (told_old b N (eased s cs front) num.behind deal) s.live.sent num.told);
+        marks = λ d v marked new. absurd (no_mark (client_at cs d) v (known d).sound (idle d) marked);
+        clear = λ d hindered v below. false_from_ne_true (is_inquired (client_at cs d) v) (no_mark (client_at cs d) v (known d).sound (idle d));
+      };
+    }
+
+-- a client whose request has ended
+quit_known : (b : Bounds) (G : Lives) (s : Saved) → Numbered b G s → Settled b s → (c : ℕ) → ClientKnown b (count s.voters) s.clients c (quit (client_at s.live.clients c))
+quit_known b G s num st c =
+    let k = num.live_clients c in
+    record { sound = (let x = client_at s.live.clients c in let o = k.sound in IsSound-clear_votes x Idle refl o.id o.some o.limit o.places.last o.stamp o.clock o.quorum (λ busy. absurd (false≢true (sym busy)))); quorum = k.quorum; id = λ w. record { id = k.id w; limit = k.limit w }; idle = refl; on = st.behind c; last = st.last c }
+
+-- what incidents lead to
+record Befallen (deal : Dealing) (s : Saved) : Type 0 where
+  b : Bounds
+  given : Given b
+  deals : DealsFrom b.quorums deal
+  G : Lives
+  num : Numbered b G s
+  settled : Settled b s
+
+befallen : Laws → ClientLaws → VoterLaws → (live : Live) (deal : Dealing) (w : WorldState) (more : List Move) → (r : IsReachedLive live deal w more) → Befallen deal (all_befall deal r.incidents (begin r.voters r.clients r.limit))
+befallen rules cs vs live deal w more r =
+    let b : Bounds = record { voters = r.voters; clients = r.clients; limit = r.limit; quorums = r.quorums } in
+    let given : Given b = record { client = cs; voter = vs; limits = r.limits; meet = r.meet } in
+    let end : EndLaws = record { finishes = rules.voter.finishes; asks_back = rules.voter.asks_back } in
+    let t = reaches_all b given end deal r.deals r.incidents r.lawful in
+    record { b = b; given = given; deals = r.deals; G = t.lives; num = t.num; settled = t.settled }
+
+-- ---- all were idle
+
+all_idle : (deal : Dealing) (w : WorldState) → (r : IsReachedAgain deal w) → (c : ℕ) → is_idle (client_at (all_befall deal r.incidents (begin r.voters r.clients r.limit)).live.clients c).phase ≡ true
+all_idle deal w r c = elim (r.idle c) [ inl idle ↦ idle | inr dead ↦ absurd (false≢true (sym dead.0)) ]
+
+-- what the laws of `progress` that name no rounds rest on
 record Begun (deal : Dealing) (w : WorldState) : Type 0 where
   first : WorldState
-  rests : Rests deal first
-  coherent : StaysCoherent deal first
-  keeps : Keeps first
-  out : Outstanding (course_at everybody deal first).old first
+  eased : Eased deal first
   steps : List Step
   state : w ≡ run_of deal steps first
 
 begun : Laws → ClientLaws → VoterLaws → (deal : Dealing) (w : WorldState) → IsReachedAgain deal w → Begun deal w
 begun rules cs vs deal w r =
-    let b : Bounds = record { voters = r.voters; clients = r.clients; limit = r.limit; quorums = r.quorums } in
-    let given : Given b = record { client = cs; voter = vs; limits = r.limits; meet = r.meet } in
     let s = all_befall deal r.incidents (begin r.voters r.clients r.limit) in
-    let end : EndLaws = record { finishes = rules.voter.finishes; asks_back = rules.voter.asks_back } in
-    let t = reaches_all b given end deal r.deals r.incidents r.lawful in
-    let first = (unseen s).live in
-    let ok : RunOk b first = record {
-      clients = t.num.sizes.0;
-      voters = t.num.sizes.1;
-      world = idle_live b t.lives s t.num t.settled r.idle;
-      walked = record { list = tt; inside = λ c. idle_out (client_at s.live.clients c).phase (r.idle c) };
-    } in
-    let coherent : StaysCoherent deal first = λ steps. coherent_by b given (run_of deal steps first) (run_from b given deal r.deals steps first ok) in
-    let sound : (d : ℕ) → IsSound (client_at s.live.clients d) = (coherent []).clients in
+    let f = befallen rules cs vs everybody deal w [] r in
     record {
-      first = first;
-      rests = record { bounds = b; given = given; deals = r.deals; ok = ok };
-      coherent = coherent;
-      keeps = keeps_idle b t.lives s t.num t.settled r.idle;
-      out = record {
-        noted = AllByRecursion-weaker (Told b (count s.voters)) (IsNotedAt (course_at everybody deal first).old s.live.voters) (told_old b (count s.voters) first t.num.behind deal) s.live.sent t.num.told;
-        marks = λ d v marked new. absurd (no_mark (client_at s.live.clients d) v (sound d) (r.idle d) marked);
-        clear = λ d hindered v below. false_from_ne_true (is_inquired (client_at s.live.clients d) v) (no_mark (client_at s.live.clients d) v (sound d) (r.idle d));
-      };
+      first = eased s s.live.clients [];
+      eased = ease rules f.b f.given deal f.deals f.G s f.num f.settled s.live.clients refl (λ c. live_known f.b f.G s f.num f.settled c (all_idle deal w r c)) [] tt tt (λ P each. tt);
       steps = r.steps;
       state = r.state;
     }
 
--- what the laws of `progress` that name no rounds rest on
+stays_so : (deal : Dealing) (u : WorldState) → Eased deal u → StaysCoherent deal u
+stays_so deal u e = λ steps. coherent_by e.rests.bounds e.rests.given (run_of deal steps u) (run_from e.rests.bounds e.rests.given deal e.rests.deals steps u e.rests.ok)
+
+eased_sure : Laws → (live : Live) (deal : Dealing) (u : WorldState) → Eased deal u → IsSure (course_at live deal u) u
+eased_sure rules live deal u e = IsSure-first rules (course_at live deal u) u (stays_so deal u e) (record { fits = e.keeps.fits; placed = e.keeps.placed; out = e.out })
+
 pub kept_again : Laws → ClientLaws → VoterLaws → (deal : Dealing) (w : WorldState) → IsReachedAgain deal w → IsKept deal w
 kept_again rules cs vs deal w r =
     let g = begun rules cs vs deal w r in
-    subst (IsKept deal) (sym g.state) (IsKept-run deal g.steps g.first (IsKept-first rules deal g.first g.coherent g.keeps))
+    subst (IsKept deal) (sym g.state) (IsKept-run deal g.steps g.first (IsKept-first rules deal g.first (stays_so deal g.first g.eased) g.eased.keeps))
 
--- what its laws on rounds rest on
-pub record Resumes (live : Live) (deal : Dealing) (w : WorldState) : Type 0 where
-  pub rests : Rests deal w
+-- what its laws on ways in rest on
+pub record Resumes (deal : Dealing) (w : WorldState) : Type 0 where
   pub old : ℕ → ℕ
-  pub few : AreOld (record { deal = deal; old = old; live = live }) w
-  pub sure : IsSure (record { deal = deal; old = old; live = live }) w
-  pub heeded : (c : ℕ) → Heeds c w
+  pub few : AreOld (record { deal = deal; old = old; live = everybody }) w
+  pub sure : IsSure (record { deal = deal; old = old; live = everybody }) w
 
-pub resumes : Laws → ClientLaws → VoterLaws → (live : Live) (deal : Dealing) (w : WorldState) → IsReachedAgain deal w → Resumes live deal w
-resumes rules cs vs live deal w r =
+pub resumes : Laws → ClientLaws → VoterLaws → (deal : Dealing) (w : WorldState) → IsReachedAgain deal w → Resumes deal w
+resumes rules cs vs deal w r =
     let g = begun rules cs vs deal w r in
-    let p = course_at live deal g.first in
-    let sure = IsSure-first rules p g.first g.coherent (record { fits = g.keeps.fits; placed = g.keeps.placed; out = g.out }) in
+    let p = course_at everybody deal g.first in
+    let sure = eased_sure rules everybody deal g.first g.eased in
     let goes = Goes-run rules p g.steps g.first (λ v. omega arith) sure in
     record {
-      rests = subst (Rests deal) (sym g.state) (Rests-run deal g.steps g.first g.rests);
       old = p.old;
       few = subst (AreOld p) (sym g.state) (λ v. (let rises = (goes.outlasts v).granted in omega arith));
       sure = subst (IsSure p) (sym g.state) (IsSure-run p g.steps g.first sure);
-      heeded = λ c. heeds c w (kept_again rules cs vs deal w r []).always;
+    }
+
+-- ---- some were dead: they have given up in the shade
+
+-- what the laws of `progress` on live rounds rest on
+pub record Relies (live : Live) (deal : Dealing) (w : WorldState) (more : List Move) : Type 0 where
+  pub was : ℕ → Bool
+  pub others : List Message
+  pub base : WorldState
+  pub under : Under was others w base
+  pub passed : (c : ℕ) → was c ≡ true → (live.client c ≡ false) × IsDead deal w more c
+  pub old : ℕ → ℕ
+  pub rests : Rests deal base
+  pub few : AreOld (record { deal = deal; old = old; live = live }) base
+  pub sure : IsSure (record { deal = deal; old = old; live = live }) base
+  pub heeded : (c : ℕ) → Heeds c base
+
+-- a client that ran, and is idle now, has ended its request
+ends_busy : (x y : ClientState) → (y ≡ x) ⊎ (y ≡ quit x) → is_idle x.phase ≡ false → is_idle y.phase ≡ true → y ≡ quit x
+ends_busy x y own runs idle = elim own [
+  | inl same ↦ absurd (false≢true (sym runs ∙ ap (λ (z : ClientState). is_idle z.phase) (sym same) ∙ idle))
+  | inr ends ↦ ends
+]
+
+front_sent : (k : Shading) (real : WorldState) → k.others ≡ [] → releases k ++ real.sent ≡ extra k ++ real.sent
+unfolding extra
+front_sent k real none = ap (λ l. l ++ real.sent) (sym (append-nil (releases k)) ∙ ap (λ l. releases k ++ l) (sym none))
+
+-- no step lets a grant go
+spares_steps : (live : Live) (deal : Dealing) (steps : List Step) (x : WorldState) → EachMove (SparesIn live) deal x (map Goes steps)
+spares_steps live deal [] x = tt
+spares_steps live deal (t ∷ steps) x = (tt, spares_steps live deal steps (move deal x (Goes t)))
+
+pub relies : Laws → ClientLaws → VoterLaws → (live : Live) (deal : Dealing) (w : WorldState) (more : List Move) → IsReachedLive live deal w more → Relies live deal w more
+relies rules cs vs live deal w more r =
+    let s = all_befall deal r.incidents (begin r.voters r.clients r.limit) in
+    let f = befallen rules cs vs live deal w more r in
+    let real = (unseen s).live in
+    let n = length real.clients in
+    let dead : ℕ → Bool = λ c. not (is_idle (client_at real.clients c).phase) in
+    let k : Shading = record {
+      live = record { client = λ c. is_idle (client_at real.clients c).phase; voter = λ v. true };
+      dead = dead;
+      apart = λ c idle. ap not idle;
+      first = real;
+      others = [];
+    } in
+    let moves = map Goes r.steps in
+    let busy : (c : ℕ) → dead c ≡ true → (live.client c ≡ false) × IsDead deal real (moves ++ more) c = λ c is. elim (r.idle c) [
+      | inl idle ↦ absurd (false≢true (sym (ap not idle) ∙ is))
+      | inr gone ↦ gone
+    ] in
+    let e = ended deal dead real n (omega arith) in
+    let xs = (run_of deal (ends dead real n) real).clients in
+    let known : (c : ℕ) → ClientKnown f.b (count s.voters) s.clients c (client_at xs c) = λ c. elim (is_idle (client_at real.clients c).phase) as (λ t. is_idle (client_at real.clients c).phase ≡ t → ClientKnown f.b (count s.voters) s.clients c (client_at xs c)) [
+      | true ↦ λ idle. subst (ClientKnown f.b (count s.voters) s.clients c) (sym (e.same c (inl (ap not idle)))) (live_known f.b f.G s f.num f.settled c idle)
+      | false ↦ λ runs. subst (ClientKnown f.b (count s.voters) s.clients c) (sym (ends_busy (client_at real.clients c) (client_at xs c) (e.own c) runs (e.idle c (ap not runs) (within_by real c runs)))) (quit_known f.b f.G s f.num f.settled c)
+    ] refl in
+    let front = releases k in
+    let u = eased s xs front in
+    let reached : (c : ℕ) → (client_at xs c).stamp ≡ (client_at real.clients c).stamp = e.stamp in
+    let eas = ease rules f.b f.given deal f.deals f.G s f.num f.settled xs e.clients known front
+    (each_release (MessageOk (client_at xs) (voter_at s.live.voters)) k (λ c v t down client voter some most. ((let stamp = reached c in omega arith), λ runs. absurd (false≢true (sym runs ∙ (known c).idle)))))
+    (each_release (IsInRange f.b.voters f.b.clients f.b.limit) k (λ c v t down client voter some most.
+    let below : c < f.b.clients = subst (λ m. c < m) f.num.sizes.0 client in
+    let sound = (known c).sound.stamp in
+    let limit = ((known c).id below).limit in
+    let stamp = reached c in
+    (below, subst (λ m. v < m) f.num.sizes.1 voter, (some, omega arith))))
+    (λ P each. each_release P k (λ c v t down client voter some most. each (record { client = c; voter = v; body = asks.Release t }))) in
+    let p = course_at live deal u in
+    let sure = eased_sure rules live deal u eas in
+    let first : IsShade k [] [] real u = record {
+      voters = refl;
+      clients = e.clients;
+      many_clients = refl;
+      many_voters = refl;
+      same = λ c lives. e.same c (inl lives);
+      idle = λ c is. (known c).idle;
+      stamp = λ c is. e.stamp c;
+      sent = front_sent k real refl;
+      draws = refl;
+      draws2 = refl;
+      side = refl;
+      seen = [];
+      real = refl;
+      shown = refl;
+    } in
+    let allow = allowed k deal moves real (λ c is. (each_split (IsNotBy c) deal moves more real (busy c is).1).0) (λ c down lives. absurd (false≢true (sym lives ∙ ap not down))) (spares_steps k.live deal r.steps real) in
+    let start : Shades k p [] [] real u = record { shade = first; sure = sure; stood = λ c down lives. refl } in
+    let end = moves_on k p [] [] moves real u start allow in
+    let steps = images k deal real moves in
+    let base = run_of deal steps u in
+    let there : moved deal moves real ≡ w = moved_steps deal r.steps real ∙ sym r.state in
+    let goes = Goes-run rules p steps u (λ v. omega arith) sure in
+    record {
+      was = dead;
+      others = extra k;
+      base = base;
+      under = subst (λ (x : WorldState). Under dead (extra k) x base) there (record {
+        voters = end.shade.voters;
+        clients = end.shade.clients;
+        same = end.shade.same;
+        sent = end.shade.sent;
+        draws = end.shade.draws;
+        draws2 = end.shade.draws2;
+        side = end.shade.side;
+      });
+      passed = λ c is. ((busy c is).0, subst (λ (x : WorldState). IsDead deal x more c) there (each_split (IsNotBy c) deal moves more real (busy c is).1).1);
+      old = p.old;
+      rests = Rests-run deal steps u eas.rests;
+      few = λ v. (let rises = (goes.outlasts v).granted in omega arith);
+      sure = IsSure-run p steps u sure;
+      heeded = λ c. heeds c base (IsKept-run deal steps u (IsKept-first rules deal u (stays_so deal u eas) eas.keeps) []).always;
     }

@@ -1,18 +1,20 @@
--- Worlds that steps lead to after incidents, once all clients were idle.
-use Rattle.std.specs.Prelude.{ℕ, ◌≡◌, true, List}
+-- Worlds that steps lead to after incidents, once all clients were idle but those that are dead.
+use Rattle.std.specs.Prelude.{ℕ, ◌≡◌, ◌⊎◌, ◌++◌, true, false, List, [], map}
 use Rattle.requester.specs.Words.{is_idle}
 use Rattle.world_state.specs.declared.step.Step.{Step}
 use Rattle.world.specs.Restarts.{begin}
 use Rattle.world.specs.Runs.{AreLimits, run_of}
 use Rattle.world_state.specs.Steps.{Dealing, WorldState, client_at}
 use Rattle.world.specs.Visible.{DealsFrom, DoMeet}
+use Rattle.progress.specs.LiveRounds.{IsDead, Live, everybody}
+use Rattle.progress.specs.Moves.{Goes, Move}
 use Rattle.leases.specs.Comeback.{AreLawful, unseen}
 use Rattle.world.specs.Incidents.{Incident, all_befall}
 
 -- Incidents befell a new world, and no message was made up but evictions and those that end a request
--- which is over. Then all clients were idle, and these steps led to this world. What was seen before is
--- left out.
-pub record IsReachedAgain (deal : Dealing) (w : WorldState) : Type 0 where
+-- which is over. Then each client was idle, or it is not live, and dead from then on, also in the moves that
+-- follow. From there these steps led to this world. What was seen before is left out.
+pub record IsReachedLive (live : Live) (deal : Dealing) (w : WorldState) (more : List Move) : Type 0 where
   pub voters : ℕ
   pub clients : ℕ
   pub limit : ℕ
@@ -22,6 +24,11 @@ pub record IsReachedAgain (deal : Dealing) (w : WorldState) : Type 0 where
   pub deals : DealsFrom quorums deal
   pub incidents : List Incident
   pub lawful : AreLawful deal (begin voters clients limit) incidents
-  pub idle : (c : ℕ) → is_idle (client_at (all_befall deal incidents (begin voters clients limit)).live.clients c).phase ≡ true
   pub steps : List Step
+  pub idle : (c : ℕ) → (is_idle (client_at (all_befall deal incidents (begin voters clients limit)).live.clients c).phase ≡ true)
+      ⊎ ((live.client c ≡ false) × IsDead deal (unseen (all_befall deal incidents (begin voters clients limit))).live (map Goes steps ++ more) c)
   pub state : w ≡ run_of deal steps (unseen (all_befall deal incidents (begin voters clients limit))).live
+
+-- the same if all clients were idle
+abbrev pub IsReachedAgain : Dealing → WorldState → Type 0
+IsReachedAgain deal w = IsReachedLive everybody deal w []

@@ -1,6 +1,6 @@
 //! Laws: requests get on after incidents, once all clients were idle.
 ghost use Rattle.std.specs.Prelude.{◌≡◌, ◌≢◌, ◌≤◌, ◌+◌, ◌*◌, ◌++◌, ℕ, List, length, true};
-ghost use Rattle.leases.specs.Again.{IsReachedAgain};
+ghost use Rattle.leases.specs.Again.{IsReachedAgain, IsReachedLive};
 ghost use Rattle.progress.specs.LostVotes.{ComesBack, GoesOn, HasLostVote, HasReturnedVote};
 ghost use Rattle.progress.specs.LiveRounds.{AreGone, AreLiveRounds, HasGrantsThere, Live, SparesLive, live_below};
 ghost use Rattle.progress.specs.Moves.{Move, hasty_among, late_among, moved, moves_of, of_moves, steps_among};
@@ -53,8 +53,8 @@ pub fn progress_comes_back()
 
 /// Rounds count again: after evictions, rebirths, crashes and clients that start anew, once all clients were
 /// idle, the laws of `progress` on live rounds hold, whatever steps followed, while any voters are down, and any
-/// clients are out or dead. Clients may draw their quorums in any way, if any two meet, and each voter may have a
-/// limit of its own.
+/// clients are out or dead. A client that was dead at that moment, and is not live, need not have been idle. Clients
+/// may draw their quorums in any way, if any two meet, and each voter may have a limit of its own.
 ///
 /// For n clients, c of them live, and v voters, g withdrawals, h of them hasty, and l arrivals of late REQUESTs, if
 /// a live client asks:
@@ -67,16 +67,16 @@ pub fn progress_comes_back()
 /// incidents. Each live voter has to have a grant left at the end. The v is for the grants that were given before
 /// all were idle: each of them may waste one block.
 pub fn rounds_come_back()
-    ensures moved { (live : Live) (deal : Dealing) (w : WorldState) (client : ℕ) (rounds : List (List Move)) → IsReachedAgain deal w → live.client client ≡ true → Asks w client
+    ensures moved { (live : Live) (deal : Dealing) (w : WorldState) (client : ℕ) (rounds : List (List Move)) → IsReachedLive live deal w (moves_of rounds) → live.client client ≡ true → Asks w client
         → AreLiveRounds of_moves live deal w rounds → late_among deal 0 w rounds ≡ 0 → AreGone live deal w (moves_of rounds) → SparesLive live deal w (moves_of rounds)
         → HasGrantsThere live 1 (moved deal (moves_of rounds) w)
         → (length w.voters + 1) * live_block (length w.clients) ≤ length rounds → IsStill w (moved deal (moves_of rounds) w) → ⊥ }
-    ensures somebody { (live : Live) (deal : Dealing) (w : WorldState) (client : ℕ) (rounds : List (List Move)) (more : List Event) → IsReachedAgain deal w → live.client client ≡ true
+    ensures somebody { (live : Live) (deal : Dealing) (w : WorldState) (client : ℕ) (rounds : List (List Move)) (more : List Event) → IsReachedLive live deal w (moves_of rounds) → live.client client ≡ true
         → Asks w client → AreLiveRounds of_moves live deal w rounds → DoesNotGiveUp client (steps_among (moves_of rounds)) → AreGone live deal w (moves_of rounds)
         → SparesLive live deal w (moves_of rounds) → HasGrantsThere live 1 (moved deal (moves_of rounds) w)
         → live_block (length w.clients) * (live_below live (length w.clients) + 2 * give_ups_in (steps_among (moves_of rounds)) + late_among deal 0 w rounds + length w.voters) ≤ length rounds
         → (moved deal (moves_of rounds) w).visible ≡ w.visible ++ more → (who : ℕ) × (live.client who ≡ true) × (1 ≤ entries_of who more) }
-    ensures everybody { (live : Live) (deal : Dealing) (w : WorldState) (client : ℕ) (rounds : List (List Move)) (more : List Event) → IsReachedAgain deal w → live.client client ≡ true
+    ensures everybody { (live : Live) (deal : Dealing) (w : WorldState) (client : ℕ) (rounds : List (List Move)) (more : List Event) → IsReachedLive live deal w (moves_of rounds) → live.client client ≡ true
         → Asks w client → AreLiveRounds of_moves live deal w rounds → DoesNotGiveUp client (steps_among (moves_of rounds)) → AreGone live deal w (moves_of rounds)
         → SparesLive live deal w (moves_of rounds) → HasGrantsThere live 1 (moved deal (moves_of rounds) w)
         → live_block (length w.clients) * (3 * live_below live (length w.clients) + 2 * hasty_among deal w rounds + late_among deal 0 w rounds + length w.voters) ≤ length rounds

@@ -108,6 +108,13 @@ SparesIn live w (LetsGo v) = (g : Grant) → (voter_at w.voters v).held ≡ Some
 abbrev pub SparesLive : Live → Dealing → WorldState → List Move → Type 0
 SparesLive live deal w moves = EachMove (SparesIn live) deal w moves
 
+-- grants are let go only of clients that are not live, and that are dead from then on, also in the moves that follow
+abbrev pub LetsGoOfDead : Live → Dealing → WorldState → List Move → List Move → Type 0
+LetsGoOfDead live deal w [] more = Unit {0}
+LetsGoOfDead live deal w (Goes t ∷ moves) more = LetsGoOfDead live deal (move deal w (Goes t)) moves more
+LetsGoOfDead live deal w (LetsGo v ∷ moves) more =
+    ((g : Grant) → (voter_at w.voters v).held ≡ Some g → (live.client g.client ≡ false) × IsDead deal w (LetsGo v ∷ (moves ++ more)) g.client) × LetsGoOfDead live deal (move deal w (LetsGo v)) moves more
+
 -- each live voter has so many grants left
 abbrev pub HasGrantsThere : Live → ℕ → WorldState → Type 0
 HasGrantsThere live n w = (v : ℕ) → v < length w.voters → live.voter v ≡ true → (voter_at w.voters v).granted + n ≤ (voter_at w.voters v).limit
@@ -116,8 +123,9 @@ HasGrantsThere live n w = (v : ℕ) → v < length w.voters → live.voter v ≡
 abbrev pub live_below : Live → ℕ → ℕ
 live_below live n = sum_below (λ c. if live.client c then 1 else 0) n
 
--- k live rounds in which no REQUEST is late and no withdrawal is hasty, each live client gives up at most once, and
--- not at all if it asks live voters alone. Who is not live is dead, and only grants of such clients are let go.
+-- k live rounds in which no REQUEST is late and no withdrawal is hasty. There are at most as many withdrawals as live
+-- clients, and a client that asks live voters alone does not give up. Who is not live is dead, and only grants of such
+-- clients are let go.
 pub record AreTimely (live : Live) (deal : Dealing) (w : WorldState) (k : ℕ) (rounds : List (List Move)) : Type 0 where
   pub are_live : AreLiveRounds of_moves live deal w rounds
   pub count : length rounds ≡ k

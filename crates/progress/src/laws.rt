@@ -243,8 +243,9 @@ pub fn live_rounds_let_everybody_in()
 }
 
 /// There are any number of live rounds in every world that was reached, whoever is live, one after the other. No
-/// REQUEST is late and no withdrawal is hasty. Each live client gives up at most once, and not at all if it asks live
-/// voters alone. Who is not live is dead, in whatever phase it is, and its grants are let go.
+/// REQUEST is late and no withdrawal is hasty. There are at most as many withdrawals as live clients, and a client
+/// that asks live voters alone does not give up. Who is not live is dead, in whatever phase it is, and its grants are
+/// let go.
 ///
 /// Each of these rounds takes at most 2 n + 3 grants of a live voter, for n clients. So all that the laws on live
 /// rounds ask for can be met together.

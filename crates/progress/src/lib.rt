@@ -53,8 +53,8 @@
 //! (n + 9) * (3 c + 2 h + l + v) ([`live_rounds_let_everybody_in_after_losses`]), and each request that was
 //! made after the last loss is heard ([`new_requests_are_heard`]).
 //!
-//! After crashes and incidents these laws hold once all clients were idle: `progress_comes_back` and
-//! `rounds_come_back` of `leases`.
+//! After crashes and incidents these laws hold once all clients were idle: `progress_comes_back` of `leases`, and
+//! `rounds_come_back`, for which it is enough that each was idle or dead.
 //!
 //! Depends on `world`, `world_state`, `voter` and `requester`, and on the crates that these are made of.
 #![tactic(auto)]

@@ -1,9 +1,12 @@
 -- The first shade: the dead end their requests. So the laws on live rounds of steps are laws on live rounds of
 -- moves.
 use Rattle.std.proofs.Common.{◌≡◌, ◌≢◌, ℕ, zero, suc, ◌+◌, ◌*◌, ◌<◌, ◌≤◌, Bool, true, false, List, [], ◌∷◌, ◌++◌, map, length, None, Some, refl, sym, ap, subst, ◌∙◌, ◌⊎◌, inl, inr, arith, append_assoc}
-use Rattle.std.specs.Prelude.{if◌then◌else◌}
+use Rattle.std.specs.Prelude.{◌==◌, ◌||◌, if◌then◌else◌, not, Option}
 use Rattle.std.specs.List.{AllByRecursion}
 use Rattle.std.proofs.lemmas.Bool.{cases_eq, cases_lt, false≢true, lt-ltb}
+use Rattle.std.proofs.lemmas.Bool.Decides.{nat_tests}
+use Rattle.std.proofs.lemmas.Option.{none-some, same_Some}
+use Rattle.voter.specs.declared.state.Grant.{Grant}
 use Rattle.std.proofs.lemmas.List.{append-nil, append_cancel_left, get_or_past, length-set}
 use Rattle.numbers.proofs.Lists.{AllByRecursion-append}
 use Rattle.message.specs.declared.message.Message.{Message}
@@ -34,8 +37,8 @@ use Rattle.world.proofs.EveryRun.{coherent_by, run_from, run_ok}
 use Rattle.world.proofs.Places.{client_here, client_others}
 use Rattle.world.proofs.Plans.{run_then}
 use Rattle.world.proofs.Reached.{Given, RunOk}
-use Rattle.progress.specs.LiveRounds.{AreGone, AreLiveRounds, HasGrantsThere, IsDead, IsOut, Live, SparesIn, SparesLive, live_below}
-use Rattle.progress.specs.Moves.{EachMove, IsNotBy, Move, hasty_among, late_among, move, moved, moves_of, of_moves, of_steps, steps_among}
+use Rattle.progress.specs.LiveRounds.{AreGone, AreLiveRounds, HasGrantsThere, IsDead, IsOut, LetsGoOfDead, Live, SparesIn, SparesLive, live_below}
+use Rattle.progress.specs.Moves.{EachMove, Goes, IsNotBy, LetsGo, Move, hasty_among, late_among, move, moved, moves_of, of_moves, of_steps, steps_among}
 use Rattle.progress.specs.Patience.{hasty_in}
 use Rattle.progress.specs.Rounds.{DoesNotGiveUp, IsStill, give_ups_in, late_in, steps_of}
 use Rattle.progress.specs.Rules.{Laws}
@@ -44,10 +47,12 @@ use Rattle.progress.proofs.block.Blocks.{live_is_block}
 use Rattle.progress.proofs.losses.Olds.{AreOld, no_olds, olds_of}
 use Rattle.progress.proofs.invariants.Outstanding.{IsNotedAt}
 use Rattle.progress.proofs.patience.Patient.{everybody_by}
-use Rattle.progress.proofs.invariants.Placed.{AskedAt}
-use Rattle.progress.proofs.shade.Shade.{Allows, Shades, Shading, each_release, extra, releases, moves_on, stands}
+use Rattle.progress.proofs.invariants.Placed.{AskedAt, Heeds-moved}
+use Rattle.progress.proofs.shade.Shade.{Allows, Shades, Shading, each_release, extra, image, moves_on, moves_once, releases, stands}
+use Rattle.progress.proofs.losses.Lasting.{Goes-run}
+use Rattle.progress.proofs.run.Moves.{kept-by}
 use Rattle.progress.proofs.shade.ShadeRounds.{all_images, give_ups_shade, hasty_shade, late_shade, length_images, live_rounds_shade, stays_shade, steps_images}
-use Rattle.progress.proofs.invariants.Sure.{Course, IsSure, IsSure-first, IsSure-reached, IsSure-run, Serving, Sure, course_of}
+use Rattle.progress.proofs.invariants.Sure.{Course, IsSure, IsSure-first, IsSure-reached, IsSure-run, Serving, Sure, course_of, stays_coherent}
 use Rattle.progress.proofs.patience.Waiting.{moves_by, somebody_by}
 
 -- what a world rests on, beside what is sure: its quorums meet
@@ -255,6 +260,7 @@ pub record Begun (k : Shading) (p : Course) (w s : WorldState) : Type 0 where
   pub few : AreOld p k.first → AreOld p s
   pub heeds : (c : ℕ) → k.dead c ≡ false → Heeds c k.first → Heeds c s
   pub idle : (c : ℕ) → k.live.client c ≡ false → is_idle (client_at s.clients c).phase ≡ true
+  pub rests : Rests p.deal s
 
 pub begins : (laws : Laws) (k : Shading) (p : Course) (was : ℕ → Bool) (w : WorldState) → Under was k.others w k.first → ((c : ℕ) → k.dead c ≡ false → was c ≡ false) → Rests p.deal k.first → IsSure p k.first → AreIdle k
     → Begun k p w (begun p.deal k)
@@ -336,6 +342,7 @@ begins laws k p was real under still rests sure idle =
             (subst (λ (vs : List VoterState). AllByRecursion (WasGiven vs) w.sent) (sym e.voters) h.given);
       };
       idle = rest;
+      rests = record { bounds = b; given = rests.given; deals = rests.deals; ok = fine };
     }
 
 -- ---- who is dead
@@ -569,3 +576,104 @@ reached_olds live w x = (let none = no_olds (course_of live w) (length w.state.v
 
 pub plus_none : (b t len : ℕ) → b * t ≤ len → b * (t + 0) ≤ len
 plus_none b t len most = subst (λ i. b * i ≤ len) (let e : t ≡ t + 0 = omega arith in e) most
+
+-- ---- moves before the rounds: clients die, and their grants are let go
+
+-- a world that is sure, as this one but for clients that are dead in these moves
+pub record Covers (p : Course) (w : WorldState) (moves : List Move) : Type 0 where
+  pub was : ℕ → Bool
+  pub others : List Message
+  pub base : WorldState
+  pub under : Under was others w base
+  pub passed : (c : ℕ) → was c ≡ true → (p.live.client c ≡ false) × IsDead p.deal w moves c
+  pub rests : Rests p.deal base
+  pub few : AreOld p base
+  pub sure : IsSure p base
+  pub heeded : (c : ℕ) → p.live.client c ≡ true → Heeds c base
+
+-- one more client is dead
+also : ℕ → (ℕ → Bool) → ℕ → Bool
+also d was c = (c == d) || was c
+
+also_is : (d : ℕ) (was : ℕ → Bool) (c : ℕ) → also d was c ≡ true → (c ≡ d) ⊎ (was c ≡ true)
+unfolding also
+also_is d was c is = elim (was c) as (λ t. was c ≡ t → (c ≡ d) ⊎ (was c ≡ true)) [
+  | true ↦ λ e. inr e
+  | false ↦ λ e. inl (let own : (c == d) ≡ true = or_left (c == d) (was c) is e in grind (arith, nat_tests))
+] refl
+  where
+    or_left : (a b : Bool) → (a || b) ≡ true → b ≡ false → a ≡ true
+    or_left true b is e = refl
+    or_left false b is e = absurd (false≢true (sym e ∙ is))
+
+also_not : (d : ℕ) (was : ℕ → Bool) (c : ℕ) → also d was c ≡ false → was c ≡ false
+unfolding also
+also_not d was c is = by (c == d) (was c) is
+  where
+    by : (a b : Bool) → (a || b) ≡ false → b ≡ false
+    by true b is = absurd (false≢true (sym is))
+    by false b is = is
+
+also_own : (d : ℕ) (was : ℕ → Bool) → also d was d ≡ true
+unfolding also
+also_own d was = ap (λ b. b || was d) (let e : (d == d) ≡ true = grind (arith, nat_tests) in e)
+
+-- a move, after which these clients are dead
+cover_move : (laws : Laws) (p : Course) (w : WorldState) (m : Move) (rest : List Move) → (r : Covers p w (m ∷ rest)) → (dead : ℕ → Bool) → ((c : ℕ) → dead c ≡ false → r.was c ≡ false)
+    → ((c : ℕ) → dead c ≡ true → (p.live.client c ≡ false) × IsDead p.deal w (m ∷ rest) c) → SparesIn (record { client = λ c. not (dead c); voter = λ v. true }) w m → Covers p (move p.deal w m) rest
+cover_move laws p w m rest r dead still passed spares =
+    let deal = p.deal in
+    let k : Shading = record { live = record { client = λ c. not (dead c); voter = λ v. true }; dead = dead; apart = λ c lives. by (dead c) lives; first = r.base; others = r.others } in
+    let begin = begins laws k p r.was w r.under still r.rests r.sure (λ c down lives. absurd (false≢true (sym down ∙ ap not lives))) in
+    let s = begun deal k in
+    let allow : Allows k deal w m = record {
+      rests = λ c is. (passed c is).1.0;
+      stays = λ c down lives. absurd (false≢true (sym down ∙ ap not lives));
+      spares = spares;
+    } in
+    let end = moves_once k p w.visible s.visible w s begin.shades m allow in
+    let steps = image k w m in
+    let z = run_of deal steps s in
+    let goes = Goes-run laws p steps s (begin.few r.few) begin.shades.sure in
+    record {
+      was = dead;
+      others = extra k;
+      base = z;
+      under = record {
+        voters = end.shade.voters;
+        clients = end.shade.clients;
+        same = end.shade.same;
+        sent = end.shade.sent;
+        draws = end.shade.draws;
+        draws2 = end.shade.draws2;
+        side = end.shade.side;
+      };
+      passed = λ c is. ((passed c is).0, (passed c is).1.1);
+      rests = Rests-run deal steps s begin.rests;
+      few = λ v. (let most = begin.few r.few v in let rises = (goes.outlasts v).granted in omega arith);
+      sure = end.sure;
+      heeded = λ c lives. kept-by (Heeds c) (Heeds-moved laws c) deal steps s (stays_coherent p s begin.shades.sure) (begin.heeds c (alive c lives) (r.heeded c lives));
+    }
+  where
+    by : (b : Bool) → not b ≡ true → b ≡ false
+    by true lives = absurd (false≢true lives)
+    by false lives = refl
+    alive : (c : ℕ) → p.live.client c ≡ true → dead c ≡ false
+    alive c lives = elim (dead c) as (λ t. dead c ≡ t → t ≡ false) [ true ↦ λ is. absurd (false≢true (sym (passed c is).0 ∙ lives)) | false ↦ λ _. refl ] refl
+
+pub cover_moves : (laws : Laws) (p : Course) (moves more : List Move) (w : WorldState) → Covers p w (moves ++ more) → LetsGoOfDead p.live p.deal w moves more → Covers p (moved p.deal moves w) more
+cover_moves laws p [] more w r lets = r
+cover_moves laws p (Goes t ∷ moves) more w r lets =
+    cover_moves laws p moves more (move p.deal w (Goes t)) (cover_move laws p w (Goes t) (moves ++ more) r r.was (λ c alive. alive) r.passed tt) lets
+cover_moves laws p (LetsGo v ∷ moves) more w r lets = cover_moves laws p moves more (move p.deal w (LetsGo v)) (by (voter_at w.voters v).held refl) lets.1
+  where
+    by : (held : Option Grant) → (voter_at w.voters v).held ≡ held → Covers p (move p.deal w (LetsGo v)) (moves ++ more)
+    by None is = cover_move laws p w (LetsGo v) (moves ++ more) r r.was (λ c alive. alive) r.passed (λ g held. absurd (none-some g (sym is ∙ held)))
+    by (Some g) is =
+        let gone = lets.0 g is in
+        cover_move laws p w (LetsGo v) (moves ++ more) r (also g.client r.was) (also_not g.client r.was)
+        (λ c dead. elim (also_is g.client r.was c dead) [
+          | inl own ↦ subst (λ i. (p.live.client i ≡ false) × IsDead p.deal w (LetsGo v ∷ (moves ++ more)) i) (sym own) gone
+          | inr was ↦ r.passed c was
+        ])
+        (λ h held. ap not (subst (λ (i : Grant). also g.client r.was i.client ≡ true) (same_Some g h (sym is ∙ held)) (also_own g.client r.was)))

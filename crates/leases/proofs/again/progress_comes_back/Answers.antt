@@ -22,21 +22,21 @@ returns-clause-returned c deal w voter grant r = goes_on c.worlds_keep_their_rul
 
 pub returns-clause-alone : goal.returns-clause-alone
 returns-clause-alone c deal w client r asks left =
-    let again = resumes c.worlds_keep_their_rules.ensures c.parts_keep_their_rules.ensures.clients c.parts_keep_their_rules.ensures.voters everybody deal w r in
+    let again = resumes c.worlds_keep_their_rules.ensures c.parts_keep_their_rules.ensures.clients c.parts_keep_their_rules.ensures.voters deal w r in
     let p : Course = record { deal = deal; old = again.old; live = everybody } in
     let most = olds_most p (length w.voters) w in
     alone_gets_in c.worlds_keep_their_rules.ensures p w client (length w.voters + 1) (λ d. refl) (λ v. refl) again.few again.sure asks (omega arith) left
 
 pub returns-clause-somebody : goal.returns-clause-somebody
 returns-clause-somebody c deal w client r asks free left =
-    let again = resumes c.worlds_keep_their_rules.ensures c.parts_keep_their_rules.ensures.clients c.parts_keep_their_rules.ensures.voters everybody deal w r in
+    let again = resumes c.worlds_keep_their_rules.ensures c.parts_keep_their_rules.ensures.clients c.parts_keep_their_rules.ensures.voters deal w r in
     let p : Course = record { deal = deal; old = again.old; live = everybody } in
     let most = olds_most p (length w.voters) w in
     somebody_gets_in c.worlds_keep_their_rules.ensures p w client (length w.voters + 1) (λ d. refl) (λ v. refl) again.few again.sure asks free (omega arith) left
 
 pub returns-clause-everybody : goal.returns-clause-everybody
 returns-clause-everybody c deal w client r asks left =
-    let again = resumes c.worlds_keep_their_rules.ensures c.parts_keep_their_rules.ensures.clients c.parts_keep_their_rules.ensures.voters everybody deal w r in
+    let again = resumes c.worlds_keep_their_rules.ensures c.parts_keep_their_rules.ensures.clients c.parts_keep_their_rules.ensures.voters deal w r in
     let p : Course = record { deal = deal; old = again.old; live = everybody } in
     let most = olds_most p (length w.voters) w in
     everybody_gets_in c.worlds_keep_their_rules.ensures p w client (length w.clients + length w.voters) (λ d. refl) (λ v. refl) again.few again.sure asks (omega arith) left
