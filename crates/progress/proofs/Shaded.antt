@@ -658,6 +658,7 @@ cover_move laws p w m rest r dead still passed spares =
     by : (b : Bool) → not b ≡ true → b ≡ false
     by true lives = absurd (false≢true lives)
     by false lives = refl
+
     alive : (c : ℕ) → p.live.client c ≡ true → dead c ≡ false
     alive c lives = elim (dead c) as (λ t. dead c ≡ t → t ≡ false) [ true ↦ λ is. absurd (false≢true (sym (passed c is).0 ∙ lives)) | false ↦ λ _. refl ] refl
 
