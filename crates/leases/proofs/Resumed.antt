@@ -1,9 +1,8 @@
 -- requests get on after incidents, once all clients were idle but those that are dead
-use Rattle.std.proofs.Common.{◌≡◌, ℕ, suc, ◌<◌, ◌≤◌, Bool, true, false, List, [], ◌∷◌, ◌++◌, length, map, refl, sym, ap, subst, ◌∙◌, ◌⊎◌, inl, inr, arith}
+use Rattle.std.proofs.Common.{◌≡◌, ℕ, suc, ◌<◌, ◌≤◌, Bool, true, false, List, [], ◌∷◌, ◌++◌, length, Option, None, Some, refl, sym, ap, subst, ◌∙◌, ◌⊎◌, inl, inr, arith}
 use Rattle.std.specs.Prelude.{not}
 use Rattle.std.specs.List.{AllByRecursion}
 use Rattle.std.proofs.lemmas.Bool.{false≢true, false_from_ne_true}
-use Rattle.std.proofs.lemmas.List.{append-nil}
 use Rattle.numbers.proofs.Lists.{AllByRecursion-append, AllByRecursion-weaker}
 use Rattle.message.specs.declared.message.Message.{Message}
 use Rattle.message.specs.declared.message.Message.TheVariants as kinds
@@ -11,6 +10,7 @@ use Rattle.message.specs.declared.message.ClientBody.{ClientBody}
 use Rattle.message.specs.declared.message.ClientBody.TheVariants as to_client
 use Rattle.message.specs.declared.message.ToVoter.{ToVoter}
 use Rattle.message.specs.declared.message.VoterBody.TheVariants as asks
+use Rattle.voter.specs.declared.state.Grant.{Grant}
 use Rattle.voter.specs.declared.state.VoterState.{VoterState}
 use Rattle.requester.proofs.SoundSteps.{IsSound-clear_votes, is_asking-busy}
 use Rattle.requester.specs.Soundness.{IsSound}
@@ -33,14 +33,13 @@ use Rattle.progress.proofs.losses.Olds.{AreOld}
 use Rattle.progress.proofs.invariants.Outstanding.{IsNoted, IsNotedAt, Outstanding}
 use Rattle.progress.proofs.block.Known.{within_by}
 use Rattle.progress.proofs.losses.Lasting.{Goes-run}
-use Rattle.progress.proofs.rounds.Reminders.{moved_steps}
-use Rattle.progress.proofs.shade.Shade.{IsShade, Shades, Shading, each_release, each_split, extra, images, moves_on, releases}
-use Rattle.progress.proofs.shade.Shaded.{Rests, Rests-run, Under, allowed, ended, ends, quit}
+use Rattle.progress.proofs.shade.Shade.{Shading, each_release, releases}
+use Rattle.progress.proofs.shade.Shaded.{Covers, Rests, cover_moves, ended, ends, quit}
 use Rattle.progress.proofs.invariants.Sure.{IsSure, IsSure-first, IsSure-run}
-use Rattle.progress.specs.LiveRounds.{IsDead, Live, SparesIn, everybody}
-use Rattle.progress.specs.Moves.{EachMove, Goes, IsNotBy, Move, move, moved}
+use Rattle.progress.specs.LiveRounds.{LetsGoOfDead, Live, everybody}
+use Rattle.progress.specs.Moves.{Goes, LetsGo, Move, let_go, move, moved, steps_among}
 use Rattle.progress.specs.Rules.{Laws}
-use Rattle.progress.proofs.invariants.Always.{Heeds, IsUpTo, WasGiven, heeds}
+use Rattle.progress.proofs.invariants.Always.{IsUpTo, WasGiven, heeds}
 use Rattle.progress.proofs.invariants.Fitting.{current_busy}
 use Rattle.progress.proofs.invariants.Kept.{IsKept, IsKept-first, IsKept-run, Keeps}
 use Rattle.progress.proofs.run.Moves.{StaysCoherent}
@@ -180,6 +179,16 @@ befallen rules cs vs live deal w more r =
 all_idle : (deal : Dealing) (w : WorldState) → (r : IsReachedAgain deal w) → (c : ℕ) → is_idle (client_at (all_befall deal r.incidents (begin r.voters r.clients r.limit)).live.clients c).phase ≡ true
 all_idle deal w r c = elim (r.idle c) [ inl idle ↦ idle | inr dead ↦ absurd (false≢true (sym dead.0)) ]
 
+-- where everybody is live, no grant was let go
+only_steps : (deal : Dealing) (moves : List Move) (x : WorldState) → LetsGoOfDead everybody deal x moves [] → moved deal moves x ≡ run_of deal (steps_among moves) x
+only_steps deal [] x lets = refl
+only_steps deal (Goes t ∷ moves) x lets = only_steps deal moves (move deal x (Goes t)) lets
+only_steps deal (LetsGo v ∷ moves) x lets = only_steps deal moves (move deal x (LetsGo v)) lets.1 ∙ ap (λ (u : WorldState). run_of deal (steps_among moves) u) (by (voter_at x.voters v).held refl)
+  where
+    by : (held : Option Grant) → (voter_at x.voters v).held ≡ held → let_go x v held ≡ x
+    by None is = refl
+    by (Some g) is = absurd (false≢true (sym (lets.0 g is).0))
+
 -- what the laws of `progress` that name no rounds rest on
 record Begun (deal : Dealing) (w : WorldState) : Type 0 where
   first : WorldState
@@ -194,8 +203,8 @@ begun rules cs vs deal w r =
     record {
       first = eased s s.live.clients [];
       eased = ease rules f.b f.given deal f.deals f.G s f.num f.settled s.live.clients refl (λ c. live_known f.b f.G s f.num f.settled c (all_idle deal w r c)) [] tt tt (λ P each. tt);
-      steps = r.steps;
-      state = r.state;
+      steps = steps_among r.moves;
+      state = r.state ∙ only_steps deal r.moves (unseen s).live r.evictions;
     }
 
 stays_so : (deal : Dealing) (u : WorldState) → Eased deal u → StaysCoherent deal u
@@ -229,19 +238,6 @@ resumes rules cs vs deal w r =
 
 -- ---- some were dead: they have given up in the shade
 
--- what the laws of `progress` on live rounds rest on
-pub record Relies (live : Live) (deal : Dealing) (w : WorldState) (more : List Move) : Type 0 where
-  pub was : ℕ → Bool
-  pub others : List Message
-  pub base : WorldState
-  pub under : Under was others w base
-  pub passed : (c : ℕ) → was c ≡ true → (live.client c ≡ false) × IsDead deal w more c
-  pub old : ℕ → ℕ
-  pub rests : Rests deal base
-  pub few : AreOld (record { deal = deal; old = old; live = live }) base
-  pub sure : IsSure (record { deal = deal; old = old; live = live }) base
-  pub heeded : (c : ℕ) → Heeds c base
-
 -- a client that ran, and is idle now, has ended its request
 ends_busy : (x y : ClientState) → (y ≡ x) ⊎ (y ≡ quit x) → is_idle x.phase ≡ false → is_idle y.phase ≡ true → y ≡ quit x
 ends_busy x y own runs idle = elim own [
@@ -249,14 +245,10 @@ ends_busy x y own runs idle = elim own [
   | inr ends ↦ ends
 ]
 
-front_sent : (k : Shading) (real : WorldState) → k.others ≡ [] → releases k ++ real.sent ≡ extra k ++ real.sent
-unfolding extra
-front_sent k real none = ap (λ l. l ++ real.sent) (sym (append-nil (releases k)) ∙ ap (λ l. releases k ++ l) (sym none))
-
--- no step lets a grant go
-spares_steps : (live : Live) (deal : Dealing) (steps : List Step) (x : WorldState) → EachMove (SparesIn live) deal x (map Goes steps)
-spares_steps live deal [] x = tt
-spares_steps live deal (t ∷ steps) x = (tt, spares_steps live deal steps (move deal x (Goes t)))
+-- what the laws of `progress` on live rounds rest on
+pub record Relies (live : Live) (deal : Dealing) (w : WorldState) (more : List Move) : Type 0 where
+  pub old : ℕ → ℕ
+  pub covers : Covers (record { deal = deal; old = old; live = live }) w more
 
 pub relies : Laws → ClientLaws → VoterLaws → (live : Live) (deal : Dealing) (w : WorldState) (more : List Move) → IsReachedLive live deal w more → Relies live deal w more
 relies rules cs vs live deal w more r =
@@ -272,11 +264,6 @@ relies rules cs vs live deal w more r =
       first = real;
       others = [];
     } in
-    let moves = map Goes r.steps in
-    let busy : (c : ℕ) → dead c ≡ true → (live.client c ≡ false) × IsDead deal real (moves ++ more) c = λ c is. elim (r.idle c) [
-      | inl idle ↦ absurd (false≢true (sym (ap not idle) ∙ is))
-      | inr gone ↦ gone
-    ] in
     let e = ended deal dead real n (omega arith) in
     let xs = (run_of deal (ends dead real n) real).clients in
     let known : (c : ℕ) → ClientKnown f.b (count s.voters) s.clients c (client_at xs c) = λ c. elim (is_idle (client_at real.clients c).phase) as (λ t. is_idle (client_at real.clients c).phase ≡ t → ClientKnown f.b (count s.voters) s.clients c (client_at xs c)) [
@@ -285,58 +272,28 @@ relies rules cs vs live deal w more r =
     ] refl in
     let front = releases k in
     let u = eased s xs front in
-    let reached : (c : ℕ) → (client_at xs c).stamp ≡ (client_at real.clients c).stamp = e.stamp in
     let eas = ease rules f.b f.given deal f.deals f.G s f.num f.settled xs e.clients known front
-    (each_release (MessageOk (client_at xs) (voter_at s.live.voters)) k (λ c v t down client voter some most. ((let stamp = reached c in omega arith), λ runs. absurd (false≢true (sym runs ∙ (known c).idle)))))
+    (each_release (MessageOk (client_at xs) (voter_at s.live.voters)) k (λ c v t down client voter some most. ((let stamp = e.stamp c in omega arith), λ runs. absurd (false≢true (sym runs ∙ (known c).idle)))))
     (each_release (IsInRange f.b.voters f.b.clients f.b.limit) k (λ c v t down client voter some most.
     let below : c < f.b.clients = subst (λ m. c < m) f.num.sizes.0 client in
     let sound = (known c).sound.stamp in
     let limit = ((known c).id below).limit in
-    let stamp = reached c in
+    let stamp = e.stamp c in
     (below, subst (λ m. v < m) f.num.sizes.1 voter, (some, omega arith))))
     (λ P each. each_release P k (λ c v t down client voter some most. each (record { client = c; voter = v; body = asks.Release t }))) in
     let p = course_at live deal u in
-    let sure = eased_sure rules live deal u eas in
-    let first : IsShade k [] [] real u = record {
-      voters = refl;
-      clients = e.clients;
-      many_clients = refl;
-      many_voters = refl;
-      same = λ c lives. e.same c (inl lives);
-      idle = λ c is. (known c).idle;
-      stamp = λ c is. e.stamp c;
-      sent = front_sent k real refl;
-      draws = refl;
-      draws2 = refl;
-      side = refl;
-      seen = [];
-      real = refl;
-      shown = refl;
-    } in
-    let allow = allowed k deal moves real (λ c is. (each_split (IsNotBy c) deal moves more real (busy c is).1).0) (λ c down lives. absurd (false≢true (sym lives ∙ ap not down))) (spares_steps k.live deal r.steps real) in
-    let start : Shades k p [] [] real u = record { shade = first; sure = sure; stood = λ c down lives. refl } in
-    let end = moves_on k p [] [] moves real u start allow in
-    let steps = images k deal real moves in
-    let base = run_of deal steps u in
-    let there : moved deal moves real ≡ w = moved_steps deal r.steps real ∙ sym r.state in
-    let goes = Goes-run rules p steps u (λ v. omega arith) sure in
-    record {
+    let covers : Covers p real (r.moves ++ more) = record {
       was = dead;
-      others = extra k;
-      base = base;
-      under = subst (λ (x : WorldState). Under dead (extra k) x base) there (record {
-        voters = end.shade.voters;
-        clients = end.shade.clients;
-        same = end.shade.same;
-        sent = end.shade.sent;
-        draws = end.shade.draws;
-        draws2 = end.shade.draws2;
-        side = end.shade.side;
-      });
-      passed = λ c is. ((busy c is).0, subst (λ (x : WorldState). IsDead deal x more c) there (each_split (IsNotBy c) deal moves more real (busy c is).1).1);
-      old = p.old;
-      rests = Rests-run deal steps u eas.rests;
-      few = λ v. (let rises = (goes.outlasts v).granted in omega arith);
-      sure = IsSure-run p steps u sure;
-      heeded = λ c. heeds c base (IsKept-run deal steps u (IsKept-first rules deal u (stays_so deal u eas) eas.keeps) []).always;
-    }
+      others = front;
+      base = u;
+      under = record { voters = refl; clients = e.clients; same = λ c alive. e.same c (inl alive); sent = refl; draws = refl; draws2 = refl; side = refl };
+      passed = λ c is. elim (r.idle c) [
+        | inl idle ↦ absurd (false≢true (sym (ap not idle) ∙ is))
+        | inr gone ↦ gone
+      ];
+      rests = eas.rests;
+      few = λ v. omega arith;
+      sure = eased_sure rules live deal u eas;
+      heeded = λ c lives. heeds c u eas.keeps.always;
+    } in
+    record { old = p.old; covers = subst (λ (x : WorldState). Covers p x more) (sym r.state) (cover_moves rules p r.moves more real covers r.evictions) }

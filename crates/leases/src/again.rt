@@ -53,8 +53,9 @@ pub fn progress_comes_back()
 
 /// Rounds count again: after evictions, rebirths, crashes and clients that start anew, once all clients were
 /// idle, the laws of `progress` on live rounds hold, whatever steps followed, while any voters are down, and any
-/// clients are out or dead. A client that was dead at that moment, and is not live, need not have been idle. Clients
-/// may draw their quorums in any way, if any two meet, and each voter may have a limit of its own.
+/// clients are out or dead. A client that was dead at that moment need not have been idle. Others may have died since,
+/// and grants of the dead may have been let go. Clients may draw their quorums in any way, if any two meet, and each
+/// voter may have a limit of its own.
 ///
 /// For n clients, c of them live, and v voters, g withdrawals, h of them hasty, and l arrivals of late REQUESTs, if
 /// a live client asks:
