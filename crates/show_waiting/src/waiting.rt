@@ -243,10 +243,7 @@ fn push_longest(text: &mut String, waiting: &Waiting, seconds: u64) -> Result<()
     ensures { OnOk result (string_bytes text.new ≡ string_bytes text.old ++ longest_in_seconds waiting.now seconds) }
 {
     let longest = seconds * longest_wait(waiting.clients);
-    write!(
-        text,
-        ", far above the longest wait in tests: {longest}"
-    )
+    write!(text, ", far above the longest wait in tests: {longest}")
 }
 
 /// Appends the bound in seconds, if it was said how long a round takes.
