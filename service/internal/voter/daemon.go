@@ -86,7 +86,7 @@ type Daemon struct {
 	returns         uint64       // of the link, as they were logged
 	away            time.Time    // when there was a connection last, or it was logged that there is none
 	lively          atomic.Int64 // when the loop last went round
-	marked          atomic.Int64 // when the last marker left that came back
+	marked          atomic.Int64 // when the last marker left that came back, since the start, whatever the clock on the wall does
 	waits           atomic.Int64 // messages in the inbox
 	noRoom          atomic.Uint64
 }
@@ -122,7 +122,6 @@ func Open(own *config.Voter, cluster *config.Cluster, carrier transport.Transpor
 	}
 	d.link, _ = carrier.(transport.Link)
 	d.watch()
-	d.marked.Store(d.started.UnixNano())
 	if err := d.load(time.Now()); err != nil {
 		d.store.db.Close()
 		return nil, err
@@ -330,7 +329,7 @@ func (d *Daemon) line(l *letter, speaker verdict, lock, line []byte, now time.Ti
 		!isToVoter(said) {
 		return false
 	}
-	if !d.isHis(said) {
+	if !d.isHis(l, said) {
 		d.m.refused.Inc()
 		return true
 	}
@@ -400,10 +399,10 @@ func isToVoter(said wire.Line) bool {
 // isHis returns whether a number's session may say a line: the stamp of its REQUEST is above its
 // base, and no stamp is above what it reserved. A RELINQUISH names a grant, and the automaton takes
 // the current one only.
-func (d *Daemon) isHis(said wire.Line) bool {
+func (d *Daemon) isHis(l *letter, said wire.Line) bool {
 	switch string(said.Word) {
 	case "request":
-		return d.table.takes(said.From, said.Stamp)
+		return d.table.takes(said.From, l.Name, l.Epoch, said.Stamp)
 	case "release":
 		return said.Stamp <= d.table.rows[said.From].Reserved
 	}
@@ -592,7 +591,7 @@ func (d *Daemon) open(l *letter, speaker verdict, oldest []byte) bool {
 // shut ends a session that says that it is over.
 func (d *Daemon) shut(l *letter, speaker verdict) {
 	if speaker == known {
-		d.table.end(l.Number)
+		d.table.end(l.Number, l.Name, l.Epoch)
 		d.log.Write(event.Debug, "session-ended", "client", l.Number, "epoch", l.Epoch)
 		d.tell(l.Name, "closed %d %d", l.Number, l.Epoch)
 	}

@@ -122,7 +122,7 @@ func (d *Daemon) isMarker(lines string) bool {
 	}
 	d.table.clock.Returns(number)
 	_, left := d.table.clock.Shows()
-	d.marked.Store(d.table.began.Add(left).UnixNano())
+	d.marked.Store(int64(d.table.began.Add(left).Sub(d.started)))
 	return true
 }
 
@@ -210,7 +210,7 @@ func (d *Daemon) greet(l *letter, now time.Time) (speaker verdict, ok bool) {
 	switch {
 	case speaker == known:
 		d.levels[l.Number] = l.Level
-		d.table.reserve(l.Number, l.Reserved, now)
+		d.table.reserve(l.Number, l.Name, l.Epoch, l.Reserved, now)
 	case speaker == unknown && first:
 		d.tell(l.Name, "unknown %d %d", l.Number, l.Epoch)
 	case speaker == taken && first:

@@ -221,7 +221,7 @@ type Health struct {
 func (d *Daemon) health() Health {
 	silent := time.Since(time.Unix(0, d.lively.Load()))
 	broker := d.link == nil || d.link.Connected()
-	marker := time.Since(time.Unix(0, d.marked.Load()))
+	marker := time.Since(d.started) - time.Duration(d.marked.Load())
 	healthy := silent < 2*time.Second && marker < mostMarker && broker
 	return Health{Healthy: healthy, LoopSilent: silent.Seconds(), Marker: marker.Seconds(), Broker: broker,
 		Voter: d.store.meta.Voter, Identity: d.store.meta.Identity}

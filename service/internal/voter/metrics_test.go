@@ -67,7 +67,7 @@ func TestNumbersOfAVoter(t *testing.T) {
 	}
 	d.lively.Store(time.Now().UnixNano())
 	for marked, want := range map[time.Duration]int{0: 200, time.Minute: 503} {
-		d.marked.Store(time.Now().Add(-marked).UnixNano())
+		d.marked.Store(int64(time.Since(d.started) - marked))
 		page := httptest.NewRecorder()
 		if d.Handler().ServeHTTP(page, httptest.NewRequest("GET", "/healthz", nil)); page.Code != want {
 			t.Errorf("a marker of %v ago: status %d", marked, page.Code)

@@ -253,14 +253,14 @@ func (t *table) admit(number int, name string, epoch uint64, now time.Time) verd
 }
 
 // reserve notes which stamps the session of a number reserves, as far as it may.
-func (t *table) reserve(number int, wanted uint64, now time.Time) {
+func (t *table) reserve(number int, name string, epoch, wanted uint64, now time.Time) {
 	before := t.rows[number]
 	if wanted <= before.Reserved {
 		return
 	}
 	highest := t.highest()
 	most := highest + t.stamps.refill(stampRate, mostStamps, now)
-	row, err := before.after(func(r *qlock.Row) error { return r.Reserve(before.session(), before.Epoch, wanted, most) })
+	row, err := before.after(func(r *qlock.Row) error { return r.Reserve(t.session(number, name), epoch, wanted, most) })
 	if err != nil || row == before {
 		return
 	}
@@ -315,21 +315,20 @@ func (t *table) drop(number int, name string, epoch uint64) {
 	if before.Used || t.judge(number, name, epoch) != known {
 		return
 	}
-	if row, err := before.after(func(r *qlock.Row) error { return r.TakeBack(before.session(), epoch) }); err == nil {
+	if row, err := before.after(func(r *qlock.Row) error { return r.TakeBack(t.session(number, name), epoch) }); err == nil {
 		t.put(number, row)
 	}
 }
 
 // end frees a number whose session says that it is over. After a crash it is silent.
-func (t *table) end(number int) {
-	before := t.rows[number]
-	if row, err := before.after(func(r *qlock.Row) error { return r.Close(before.session(), before.Epoch) }); err == nil {
+func (t *table) end(number int, name string, epoch uint64) {
+	if row, err := t.rows[number].after(func(r *qlock.Row) error { return r.Close(t.session(number, name), epoch) }); err == nil {
 		t.note(number, row)
 	}
 }
 
-// takes returns whether a REQUEST of the session of a number counts under this stamp.
-func (t *table) takes(number int, stamp uint64) bool {
+// takes returns whether a REQUEST of this session of a number counts under this stamp.
+func (t *table) takes(number int, name string, epoch, stamp uint64) bool {
 	row, last := t.rows[number], &t.asked[number]
 	if last.row == nil || last.of != row {
 		r, err := row.proved()
@@ -338,7 +337,11 @@ func (t *table) takes(number int, stamp uint64) bool {
 		}
 		*last = asked{row, r, row.session()}
 	}
-	takes, err := last.row.Takes(last.session, row.Epoch, stamp)
+	session := last.session
+	if t.names[number] != name {
+		session = sessionOf(hashed(name))
+	}
+	takes, err := last.row.Takes(session, epoch, stamp)
 	return err == nil && takes
 }
 
@@ -394,6 +397,14 @@ func (t *table) expel(number int) {
 
 // session returns the session that has a row, as the proved row names it.
 func (s Session) session() qlock.Session { return sessionOf(s.Hash) }
+
+// session returns how the proved rows name the session that speaks for a number.
+func (t *table) session(number int, name string) qlock.Session {
+	if t.names[number] == name {
+		return t.rows[number].session()
+	}
+	return sessionOf(hashed(name))
+}
 
 // sessionOf returns how a proved row names a session of this hash.
 func sessionOf(hash string) (session qlock.Session) {

@@ -33,7 +33,7 @@ func isDeadAt(t *table, number int, now time.Time) bool {
 func admits(t *table, number int, name string, epoch, reserved uint64, now time.Time) verdict {
 	judged := t.admit(number, name, epoch, now)
 	if judged == known {
-		t.reserve(number, reserved, now)
+		t.reserve(number, name, epoch, reserved, now)
 	}
 	return judged
 }
@@ -103,23 +103,23 @@ func TestGrowthIsBounded(t *testing.T) {
 	for i := 0; i < 100000; i++ {
 		now = now.Add(100 * time.Microsecond)
 		table.admit(3, "a", 1, now)
-		table.reserve(3, table.rows[3].Reserved+mostStamps, now)
+		table.reserve(3, "a", 1, table.rows[3].Reserved+mostStamps, now)
 	}
 	if most := uint64(mostStamps + 10*stampRate); table.rows[3].Reserved > most || table.rows[3].Reserved < most/2 {
 		t.Errorf("after ten seconds %d stamps are reserved", table.rows[3].Reserved)
 	}
 	table.claim(4, "b", 1, 0, now)
-	if table.reserve(4, table.rows[3].Reserved, now); table.rows[4].Reserved != table.rows[3].Reserved {
+	if table.reserve(4, "b", 1, table.rows[3].Reserved, now); table.rows[4].Reserved != table.rows[3].Reserved {
 		t.Error("a session can't follow the stamps of another one")
 	}
-	table.reserve(4, 1<<62, now.Add(1000000*time.Hour))
-	if table.reserve(4, 1<<63, now.Add(2000000*time.Hour)); table.rows[4].Reserved > qlock.MaxStamp {
+	table.reserve(4, "b", 1, 1<<62, now.Add(1000000*time.Hour))
+	if table.reserve(4, "b", 1, 1<<63, now.Add(2000000*time.Hour)); table.rows[4].Reserved > qlock.MaxStamp {
 		t.Error("a stamp is reserved that there is not")
 	}
 	for i := 0; i < 1000; i++ {
 		table.claim(5, "x", table.rows[5].Epoch+mostEpochs, 0, now)
 		table.claim(5, "x", table.rows[5].Epoch+mostEpochs/2, 0, now)
-		table.end(5)
+		table.end(5, "x", table.rows[5].Epoch)
 	}
 	if table.rows[5].Epoch > mostEpochs {
 		t.Errorf("a number has the epoch %d", table.rows[5].Epoch)

@@ -122,7 +122,7 @@ func TestDeadSessionsMakeRoom(t *testing.T) {
 	d, _ := alone(t, 100)
 	d.repliesTo("jobs", 1, ". claim 1 1 1000\n")
 	d.repliesTo("jobs", 1, "a request 1 0 1\n")
-	d.table.end(1)
+	d.table.end(1, d.table.names[1], d.table.rows[1].Epoch)
 	if d.round(time.Now()); d.votes["a"].held.Number > 0 {
 		t.Error("a session that is over keeps its vote")
 	}
