@@ -74,7 +74,8 @@ pub record IsServed {M : Type 0} (kind : Kind M) (live : Live) (deal : Dealing) 
       → Drops kind deal (kind.run deal reminded.first w) (kind.goes (RemindVoter v) ∷ reminded.rest) v g.client g.stamp
 
 -- A round: each live client and voter is reminded, and who of them is inside when it begins leaves. Who of them
--- is stuck when it begins ends that request. A live voter drops the request of a client that is not live.
+-- is stuck when it begins ends that request. A live voter whose grant is of a client that is not live, when it is
+-- reminded, drops that request.
 pub record IsLiveRound {M : Type 0} (kind : Kind M) (live : Live) (deal : Dealing) (w : WorldState) (moves : List M) : Type 0 where
   pub clients : (c : ℕ) → c < length w.clients → live.client c ≡ true → IsReminded kind live deal w moves (RemindClient c)
   pub voters : (v : ℕ) → v < length w.voters → live.voter v ≡ true → IsServed kind live deal w moves v

@@ -186,7 +186,8 @@ fn tickets_deal_quorums_that_meet()
 /// is down end their request in it. A live voter whose grant is of a client that is not live drops that request,
 /// for instance by an eviction: it lets the grant go. A client that is not live is out, if it is idle and does not
 /// ask. Or it is dead: whether it asks, is inside or is idle, it does nothing. Messages that it sent before may
-/// still come. No REQUEST may come late, and each live voter has to have a grant left at the end.
+/// still come. No grant of a live client is let go. No REQUEST may come late, and each live voter has to have a
+/// grant left at the end.
 pub fn live_rounds_move_somebody()
     ensures { (live : Live) (w : Planned) (c : ℕ) (rounds : List (List Move)) → IsReached w → live.client c ≡ true → Asks w.state c
         → AreLiveRounds of_moves live (dealing_of w.plans) w.state rounds → late_among (dealing_of w.plans) 0 w.state rounds ≡ 0
@@ -202,7 +203,8 @@ pub fn live_rounds_move_somebody()
 
 /// If a live client asks and does not give up, a live client enters within (n + 9) * (c + 2 g + l) live rounds,
 /// for n clients, c of them live, g withdrawals of others and l arrivals of late REQUESTs, while any voters are
-/// down, and any clients are out or dead.
+/// down, and any clients are out or dead. No grant of a live client is let go, and each live voter has to have a grant
+/// left at the end.
 pub fn live_rounds_let_somebody_in()
     ensures { (live : Live) (w : Planned) (c : ℕ) (rounds : List (List Move)) (more : List Event) → IsReached w → live.client c ≡ true → Asks w.state c
         → AreLiveRounds of_moves live (dealing_of w.plans) w.state rounds → DoesNotGiveUp c (steps_among (moves_of rounds))
@@ -225,7 +227,8 @@ pub fn live_rounds_let_somebody_in()
 ///
 /// Who asks a voter that is down, and does not have its vote, ends that request in the round, and may ask another
 /// quorum. Such a withdrawal is hasty if its request did not run for two whole rounds. Who is dead may have died
-/// while it asked or was inside: it makes no step, and its grants are let go, at any time in the rounds.
+/// while it asked or was inside: it makes no step, and its grants are let go, at any time in the rounds. No grant of a
+/// live client is let go, and each live voter has to have a grant left at the end.
 pub fn live_rounds_let_everybody_in()
     ensures { (live : Live) (w : Planned) (c : ℕ) (rounds : List (List Move)) (more : List Event) → IsReached w → live.client c ≡ true → Asks w.state c
         → AreLiveRounds of_moves live (dealing_of w.plans) w.state rounds → DoesNotGiveUp c (steps_among (moves_of rounds))
@@ -247,8 +250,8 @@ pub fn live_rounds_let_everybody_in()
 /// that asks live voters alone does not give up. Who is not live is dead, in whatever phase it is, and its grants are
 /// let go.
 ///
-/// Each of these rounds takes at most 2 n + 3 grants of a live voter, for n clients. So all that the laws on live
-/// rounds ask for can be met together.
+/// Each of these rounds takes at most 2 n + 3 grants of a live voter, for n clients, and at least one has to be left.
+/// So all that the laws on live rounds ask for can be met together.
 pub fn live_rounds_can_be_made()
     ensures { (live : Live) (w : Planned) (k left : ℕ) → IsReached w → 1 ≤ left → HasGrantsThere live (k * (2 * length w.state.clients + 3) + left) w.state
         → (rounds : List (List Move)) × AreTimely live (dealing_of w.plans) w.state k rounds

@@ -273,7 +273,7 @@ impl SessionRow {
     }
 
     /// Frees the number, as the session takes its claim back: no quorum granted it. The epoch may be claimed again.
-    /// A session that did so claims and uses this epoch never again.
+    /// The caller's sessions see to it that one which did so claims and uses this epoch never again.
     ///
     /// Fails with `NotOwner` if and only if the number is not the session's under this epoch.
     pub fn take_back(&mut self, session: u128, epoch: u64) -> Result<(), RowFault>
