@@ -1,0 +1,45 @@
+-- What a voter takes from a session, and which session hears what the voter of a lock says: by the rows of
+-- `sessions`.
+use Rattle.std.specs.Prelude.{ℕ, nat_le, nat_lt, Bool, ◌&&◌, List, [], ◌∷◌, ◌++◌, Option, Some, None, if◌then◌else◌, unwrap_or}
+use Rattle.message.specs.declared.message.ClientBody.{ClientBody}
+use Rattle.message.specs.declared.message.ClientBody.TheVariants as to_client
+use Rattle.message.specs.declared.message.ToClient.{ToClient}
+use Rattle.message.specs.declared.message.VoterBody.{VoterBody}
+use Rattle.message.specs.declared.message.VoterBody.TheVariants as asks
+use Rattle.sessions.specs.Rows.{Row, has_number, is_taken}
+use Rattle.voter.specs.declared.state.Grant.{Grant}
+use Rattle.voter.specs.Steps.{held_stamp}
+
+-- A voter takes this of a session, by the row of its number. The number has to be the session's, under this epoch. A
+-- REQUEST has one of its own stamps, and a RELEASE none above them. A RELINQUISH names a grant.
+abbrev pub may_say : Row → ℕ → ℕ → VoterBody → Bool
+may_say r session epoch (asks.Request stamp) = is_taken r session epoch stamp
+may_say r session epoch (asks.Relinquish grant) = has_number r session epoch
+may_say r session epoch (asks.Release stamp) = has_number r session epoch && nat_le stamp r.reserved
+
+-- the stamp of the request that this is about; an INQUIRE is about the one that has the vote, 0 if the client has
+-- none
+abbrev pub subject : Option Grant → ℕ → ClientBody → ℕ
+subject held client (to_client.Locked stamp grant) = stamp
+subject held client (to_client.Fail stamp) = stamp
+subject held client (to_client.Inquire grant) = unwrap_or (held_stamp held client) 0
+
+-- the session that hears of a stamp: the one that has the number, if the stamp is above its base
+abbrev pub hearer : Row → ℕ → Option ℕ
+hearer r stamp = if nat_lt r.base stamp then r.session else None
+
+-- what a voter tells a session about a lock
+pub record Letter : Type 0 where
+  pub lock : ℕ
+  pub session : ℕ
+  pub message : ToClient
+
+-- the letter with this message, if somebody hears it
+abbrev pub letter_to : Option ℕ → ℕ → ToClient → List Letter
+letter_to None lock message = []
+letter_to (Some session) lock message = record { lock = lock; session = session; message = message } ∷ []
+
+-- the letters with these messages of a lock: its vote is granted so, and these are the rows of all numbers
+abbrev pub letters_of : (ℕ → Row) → ℕ → Option Grant → List ToClient → List Letter
+letters_of rows lock held [] = []
+letters_of rows lock held (m ∷ ms) = letter_to (hearer (rows m.client) (subject held m.client m.body)) lock m ++ letters_of rows lock held ms

@@ -1,0 +1,139 @@
+-- A voter's process of many locks: a row for each number of a client, and for each lock a node of `voter_node`.
+use Rattle.std.specs.Prelude.{ℕ, ◌≡◌, ◌==◌, Bool, true, false, List, [], ◌∷◌, ◌++◌, Option, Some, None, if◌then◌else◌}
+use Rattle.message.specs.declared.message.ToVoter.{ToVoter}
+use Rattle.message.specs.declared.message.VoterBody.{VoterBody}
+use Rattle.message.specs.declared.message.VoterBody.TheVariants as asks
+use Rattle.sessions.specs.Rows.{Row}
+use Rattle.session_rows.specs.Runs as rows
+use Rattle.voter.specs.declared.state.VoterState.{VoterState}
+use Rattle.voter.specs.Leases.{evict}
+use Rattle.voter.specs.Steps.{Outcome, remind, step}
+use Rattle.voter.specs.VoterContract.{IsEntry}
+use Rattle.voter_node.specs.Nodes as nodes
+use Rattle.lock_node.specs.Letters.{Letter, letters_of, may_say}
+
+-- the row of each number, live and saved, the node of each lock, and the letters that wait for the next save
+pub record LockNode : Type 0 where
+  pub rows : ℕ → Row
+  pub saved : ℕ → Row
+  pub locks : ℕ → nodes.Node
+  pub outbox : List Letter
+
+-- what may happen to a voter's process
+pub data Event : Type 0 where
+  -- a call of the row of a number: number, call
+  Calls : ℕ → rows.Call → Event
+  -- a session says something about a lock, under an epoch: lock, session, epoch, message
+  Speaks : ℕ → ℕ → ℕ → ToVoter → Event
+  -- the voter lets the grant of a lock with this number go, if it is the current one: lock, grant
+  LetsGo : ℕ → ℕ → Event
+  -- the voter reminds the holder of a lock
+  Reminds : ℕ → Event
+  -- all that changed is saved, in one write, and the letters leave
+  Saves : Event
+  -- the process crashes, and restarts from the least of what was saved
+  Crashes : Event
+
+-- a function that has this value at one place
+abbrev pub set : {X : Type 0} → (ℕ → X) → ℕ → X → ℕ → X
+set f place value other = if place == other then value else f other
+
+-- what the voter of a lock says by an event, and its state then, unless it refuses
+abbrev pub outcome_at : nodes.Node → nodes.Event → Option Outcome
+outcome_at n (nodes.Takes m) = step n.live m
+outcome_at n (nodes.Evicts grant) = evict n.live grant
+outcome_at n nodes.Reminds = Some (record { replies = remind n.live; state = n.live })
+outcome_at n nodes.IsSaved = None
+outcome_at n nodes.Restarts = None
+outcome_at n nodes.Forgets = None
+
+-- the letters with what it says, if its node has room for that
+abbrev pub letters_by : Bool → (ℕ → Row) → ℕ → Option Outcome → List Letter
+letters_by true rows lock (Some o) = letters_of rows lock o.state.held o.replies
+letters_by true rows lock None = []
+letters_by false rows lock o = []
+
+-- the node of one lock makes a step
+abbrev pub moves : LockNode → ℕ → nodes.Event → LockNode
+moves n lock e = record {
+  rows = n.rows;
+  saved = n.saved;
+  locks = set n.locks lock (nodes.after (n.locks lock) (nodes.node_step (n.locks lock) e));
+  outbox = n.outbox ++ letters_by (nodes.has_room (n.locks lock)) n.rows lock (outcome_at (n.locks lock) e);
+}
+
+-- the node of each lock makes this step
+abbrev pub all_move : (ℕ → nodes.Node) → nodes.Event → ℕ → nodes.Node
+all_move locks e lock = nodes.after (locks lock) (nodes.node_step (locks lock) e)
+
+-- the process after an event
+abbrev pub happens : LockNode → Event → LockNode
+happens n (Calls number call) =
+    record { rows = set n.rows number (rows.after_call (n.rows number) call); saved = n.saved; locks = n.locks; outbox = n.outbox }
+happens n (Speaks lock session epoch m) =
+    if may_say (n.rows m.client) session epoch m.body then moves n lock (nodes.Takes m) else n
+happens n (LetsGo lock grant) = moves n lock (nodes.Evicts grant)
+happens n (Reminds lock) = moves n lock nodes.Reminds
+happens n Saves = record { rows = n.rows; saved = n.rows; locks = all_move n.locks nodes.IsSaved; outbox = [] }
+happens n Crashes = record { rows = n.saved; saved = n.saved; locks = all_move n.locks nodes.Forgets; outbox = [] }
+
+-- the letters that leave by an event
+abbrev pub leaves : LockNode → Event → List Letter
+leaves n (Calls number call) = []
+leaves n (Speaks lock session epoch m) = []
+leaves n (LetsGo lock grant) = []
+leaves n (Reminds lock) = []
+leaves n Saves = n.outbox
+leaves n Crashes = []
+
+-- the process after these events, in order
+abbrev pub all_happen : LockNode → List Event → LockNode
+all_happen n [] = n
+all_happen n (e ∷ es) = all_happen (happens n e) es
+
+-- all letters that leave by these events, in order
+abbrev pub all_leave : LockNode → List Event → List Letter
+all_leave n [] = []
+all_leave n (e ∷ es) = leaves n e ++ all_leave (happens n e) es
+
+-- A process begins: its rows are saved, nothing waits, and no vote is granted or waited for.
+pub record Begins (n : LockNode) : Type 0 where
+  pub rows : (number : ℕ) → n.saved number ≡ n.rows number
+  pub nobody : (lock client stamp : ℕ) → IsEntry (n.locks lock).live client stamp → ⊥
+  pub saved : (lock : ℕ) → (n.locks lock).saved ≡ (n.locks lock).live
+  pub waits : n.outbox ≡ []
+
+-- ---- the same, number by number and lock by lock
+
+-- what a session says is a REQUEST under a stamp
+abbrev pub request_turn : ℕ → ℕ → VoterBody → List rows.Turn
+request_turn session epoch (asks.Request stamp) = rows.Requests session epoch stamp ∷ []
+request_turn session epoch (asks.Relinquish grant) = []
+request_turn session epoch (asks.Release stamp) = []
+
+-- what an event is to the row of a number
+abbrev pub turn_of : ℕ → Event → List rows.Turn
+turn_of number (Calls other call) = if other == number then rows.Calls call ∷ [] else []
+turn_of number (Speaks lock session epoch m) = if m.client == number then request_turn session epoch m.body else []
+turn_of number (LetsGo lock grant) = []
+turn_of number (Reminds lock) = []
+turn_of number Saves = rows.Saves ∷ []
+turn_of number Crashes = rows.Crashes ∷ []
+
+abbrev pub turns_of : ℕ → List Event → List rows.Turn
+turns_of number [] = []
+turns_of number (e ∷ es) = turn_of number e ++ turns_of number es
+
+-- what an event is to the node of a lock
+abbrev pub event_at : ℕ → LockNode → Event → List nodes.Event
+event_at lock n (Calls number call) = []
+event_at lock n (Speaks other session epoch m) =
+    if may_say (n.rows m.client) session epoch m.body then (if other == lock then nodes.Takes m ∷ [] else []) else []
+event_at lock n (LetsGo other grant) = if other == lock then nodes.Evicts grant ∷ [] else []
+event_at lock n (Reminds other) = if other == lock then nodes.Reminds ∷ [] else []
+event_at lock n Saves = nodes.IsSaved ∷ []
+event_at lock n Crashes = nodes.Forgets ∷ []
+
+abbrev pub events_at : ℕ → LockNode → List Event → List nodes.Event
+events_at lock n [] = []
+events_at lock n (e ∷ es) = event_at lock n e ++ events_at lock (happens n e) es

@@ -1,0 +1,33 @@
+//! Laws: what holds of a voter's process of many locks.
+ghost use Rattle.std.specs.Prelude.{◌≡◌, ℕ, List};
+ghost use Rattle.message.specs.declared.message.ClientBody.TheVariants as to_client;
+ghost use Rattle.sessions.specs.Rows.{IsOneOf, Use, begin};
+ghost use Rattle.session_rows.specs.Runs.{after_turns};
+ghost use Rattle.voter_node.specs.Nodes.{gives, run};
+ghost use Rattle.lock_node.specs.Letters.{Letter};
+ghost use Rattle.lock_node.specs.Locks.{Begins, Event, LockNode, all_happen, all_leave, events_at, turns_of};
+
+use voter::voters_meet_the_contract;
+
+/// Each LOCKED that ever leaves goes to a session from which this voter took a REQUEST of that number, under that
+/// stamp, and saved it. This holds whatever sessions say, and whenever the voter saves and crashes.
+pub fn letters_reach_who_asked()
+    ensures { (n : LockNode) (events : List Event) (l : Letter) (stamp grant : ℕ) → Begins n
+        → IsOneOf l (all_leave n events) → l.message.body ≡ to_client.Locked stamp grant
+        → (epoch : ℕ) × IsOneOf (record { session = l.session; epoch = epoch; stamp = stamp })
+            (after_turns (begin (n.rows l.message.client)) (turns_of l.message.client events)).kept }
+{
+    voters_meet_the_contract();
+}
+
+/// The node of each lock is, at any time, the node of `voter_node` after the events of this lock.
+pub fn locks_run_as_nodes()
+    ensures { (n : LockNode) (events : List Event) (lock : ℕ)
+        → (all_happen n events).locks lock ≡ run (n.locks lock) (events_at lock n events) }
+{}
+
+/// Each letter that leaves has a message that the node of its lock gives out: once what led to it was saved.
+pub fn letters_are_given_out()
+    ensures { (n : LockNode) (events : List Event) (l : Letter) → Begins n
+        → IsOneOf l (all_leave n events) → IsOneOf l.message (gives (n.locks l.lock) (events_at l.lock n events)) }
+{}
