@@ -1,6 +1,6 @@
 -- lock by lock, the process is a node, and its letters are what the nodes say
 use Rattle.std.proofs.Common.{◌≡◌, ℕ, Bool, true, false, List, [], ◌∷◌, ◌++◌, refl, sym, ap, subst, ◌∙◌, ◌⊎◌, inl, inr, Option, Some, None, Result, Ok, Err}
-use Rattle.std.specs.Prelude.{◌==◌, if◌then◌else◌}
+use Rattle.std.specs.Prelude.{◌==◌, if◌then◌else◌, is_some, map}
 use Rattle.std.proofs.lemmas.Bool.{eq-eqb, eqb-true}
 use Rattle.message.specs.declared.message.ToClient.{ToClient}
 use Rattle.message.specs.declared.message.ToVoter.{ToVoter}
@@ -10,7 +10,7 @@ use Rattle.voter.specs.declared.state.Grant.{Grant}
 use Rattle.voter.specs.Leases.{evict}
 use Rattle.voter.specs.Steps.{Outcome, step}
 use Rattle.voter_node.specs.Nodes as nodes
-use Rattle.lock_node.specs.Letters.{Letter, hearer, letter_to, letters_of, may_say, subject}
+use Rattle.lock_node.specs.Letters.{Letter, heard, hearer, letter_to, letters_of, may_say, subject}
 use Rattle.lock_node.specs.Locks.{Begins, Calls, Crashes, Event, LetsGo, LockNode, Reminds, Saves, Speaks, all_happen, all_leave, all_move, event_at, events_at, happens, leaves, letters_by, moves, outcome_at, set}
 
 -- ---- lists
@@ -117,6 +117,19 @@ letters_are r lock held (m ∷ ms) l is =
       | inl here ↦ (let at = letter_is (hearer (r m.client) (subject held m.client m.body)) lock m l here in record { of_lock = at.0; among = inl at.1 })
       | inr there ↦ (let at = letters_are r lock held ms l there in record { of_lock = at.of_lock; among = inr at.among })
     ]
+
+-- ---- what is heard
+
+heard_first : (o : Option ℕ) (lock : ℕ) (m : ToClient) (rest : List Letter) (kept : List ToClient) → map (λ (l : Letter). l.message) rest ≡ kept
+    → map (λ (l : Letter). l.message) (letter_to o lock m ++ rest) ≡ (if is_some o then m ∷ kept else kept)
+heard_first None lock m rest kept same = same
+heard_first (Some session) lock m rest kept same = ap (λ (ms : List ToClient). m ∷ ms) same
+
+pub letters_heard : (r : ℕ → Row) (lock : ℕ) (held : Option Grant) (messages : List ToClient)
+    → map (λ (l : Letter). l.message) (letters_of r lock held messages) ≡ heard r held messages
+letters_heard r lock held [] = refl
+letters_heard r lock held (m ∷ ms) =
+    heard_first (hearer (r m.client) (subject held m.client m.body)) lock m (letters_of r lock held ms) (heard r held ms) (letters_heard r lock held ms)
 
 -- each letter that waits has a message that waits at its lock
 abbrev pub AllWait : LockNode → Type 0

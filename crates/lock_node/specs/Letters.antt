@@ -1,6 +1,7 @@
 -- What a voter takes from a session, and which session hears what the voter of a lock says: by the rows of
 -- `sessions`.
-use Rattle.std.specs.Prelude.{ℕ, nat_le, nat_lt, Bool, ◌&&◌, List, [], ◌∷◌, ◌++◌, Option, Some, None, if◌then◌else◌, unwrap_or}
+use Rattle.std.specs.Prelude.{ℕ, nat_le, nat_lt, Bool, ◌&&◌, List, [], ◌∷◌, ◌++◌, Option, Some, None, if◌then◌else◌, is_some, unwrap_or}
+use Rattle.std.specs.List.{filter}
 use Rattle.message.specs.declared.message.ClientBody.{ClientBody}
 use Rattle.message.specs.declared.message.ClientBody.TheVariants as to_client
 use Rattle.message.specs.declared.message.ToClient.{ToClient}
@@ -28,6 +29,14 @@ subject held client (to_client.Inquire grant) = unwrap_or (held_stamp held clien
 abbrev pub hearer : Row → ℕ → Option ℕ
 hearer r stamp = if nat_lt r.base stamp then r.session else None
 
+-- whether somebody hears this: the vote is granted so, and these are the rows of all numbers
+abbrev pub is_heard : (ℕ → Row) → Option Grant → ToClient → Bool
+is_heard rows held m = is_some (hearer (rows m.client) (subject held m.client m.body))
+
+-- what of these messages somebody hears
+abbrev pub heard : (ℕ → Row) → Option Grant → List ToClient → List ToClient
+heard rows held messages = filter (is_heard rows held) messages
+
 -- what a voter tells a session about a lock
 pub record Letter : Type 0 where
   pub lock : ℕ
@@ -39,7 +48,7 @@ abbrev pub letter_to : Option ℕ → ℕ → ToClient → List Letter
 letter_to None lock message = []
 letter_to (Some session) lock message = record { lock = lock; session = session; message = message } ∷ []
 
--- the letters with these messages of a lock: its vote is granted so, and these are the rows of all numbers
+-- the letters with these messages of a lock
 abbrev pub letters_of : (ℕ → Row) → ℕ → Option Grant → List ToClient → List Letter
 letters_of rows lock held [] = []
 letters_of rows lock held (m ∷ ms) = letter_to (hearer (rows m.client) (subject held m.client m.body)) lock m ++ letters_of rows lock held ms

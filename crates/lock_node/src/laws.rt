@@ -1,10 +1,12 @@
 //! Laws: what holds of a voter's process of many locks.
-ghost use Rattle.std.specs.Prelude.{◌≡◌, ℕ, List};
+ghost use Rattle.std.specs.Prelude.{◌≡◌, ℕ, List, Option, map};
 ghost use Rattle.message.specs.declared.message.ClientBody.TheVariants as to_client;
-ghost use Rattle.sessions.specs.Rows.{IsOneOf, Use, begin};
+ghost use Rattle.message.specs.declared.message.ToClient.{ToClient};
+ghost use Rattle.sessions.specs.Rows.{IsOneOf, Row, Use, begin};
 ghost use Rattle.session_rows.specs.Runs.{after_turns};
+ghost use Rattle.voter.specs.declared.state.Grant.{Grant};
 ghost use Rattle.voter_node.specs.Nodes.{gives, run};
-ghost use Rattle.lock_node.specs.Letters.{Letter};
+ghost use Rattle.lock_node.specs.Letters.{Letter, heard, letters_of};
 ghost use Rattle.lock_node.specs.Locks.{Begins, Event, LockNode, all_happen, all_leave, events_at, turns_of};
 
 use voter::voters_meet_the_contract;
@@ -30,4 +32,10 @@ pub fn locks_run_as_nodes()
 pub fn letters_are_given_out()
     ensures { (n : LockNode) (events : List Event) (l : Letter) → Begins n
         → IsOneOf l (all_leave n events) → IsOneOf l.message (gives (n.locks l.lock) (events_at l.lock n events)) }
+{}
+
+/// The letters with what a vote says have the messages that somebody hears ([`hears`](crate::hears)), in order.
+pub fn letters_have_what_is_heard()
+    ensures { (rows : ℕ → Row) (lock : ℕ) (held : Option Grant) (messages : List ToClient)
+        → map (λ (l : Letter). l.message) (letters_of rows lock held messages) ≡ heard rows held messages }
 {}

@@ -1,5 +1,5 @@
 //! Whose messages count, and who hears the answers.
-ghost use Rattle.std.specs.Prelude.{◌≡◌};
+ghost use Rattle.std.specs.Prelude.{◌≡◌, is_some};
 ghost use Rattle.lock_node.specs.Letters.{hearer, may_say, subject};
 
 use message::{ClientBody, ToClient, VoterBody};
@@ -44,4 +44,11 @@ pub fn hearer(row: &SessionRow, stamp: u64) -> Option<u128>
     } else {
         row.session()
     }
+}
+
+/// Returns whether a session hears this message, by the row of its number and by who has the vote.
+pub fn hears(row: &SessionRow, held: Option<Grant>, message: &ToClient) -> bool
+    ensures { result ≡ is_some (hearer row.now (subject held message.now.client message.now.body)) }
+{
+    hearer(row, subject(held, message)).is_some()
 }

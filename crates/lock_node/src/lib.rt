@@ -6,7 +6,7 @@
 //! - A message of a session counts if the row of its number says that the number is the session's. A REQUEST has
 //!   a stamp of its own, and a RELEASE none above these ([`may_say`]).
 //! - What a vote says goes to the session that has the number now, if the stamp is one of its own: nobody hears of
-//!   a request of an earlier session ([`hearer`], [`subject`]).
+//!   a request of an earlier session ([`hears`]).
 //! - All that changed is saved in one write, and only then letters leave.
 //!
 //! The host keeps the votes and the rows, each under a key, and makes these calls for the one that a message
@@ -26,5 +26,7 @@
 mod laws;
 mod letters;
 
-pub use laws::{letters_are_given_out, letters_reach_who_asked, locks_run_as_nodes};
-pub use letters::{hearer, may_say, subject};
+pub use laws::{
+    letters_are_given_out, letters_have_what_is_heard, letters_reach_who_asked, locks_run_as_nodes,
+};
+pub use letters::{hearer, hears, may_say, subject};
