@@ -2,3 +2,4 @@ pub mod Bytes
 pub mod ClockSteps
 pub mod Numbers
 pub mod RowSteps
+pub mod Tables

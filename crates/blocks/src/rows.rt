@@ -1,9 +1,10 @@
 //! The row of a client number as bytes, and what its calls do.
-ghost use Rattle.std.specs.Prelude.{◌≡◌, IfErr, IfOk, IfSome, OnErr, Some, length};
+ghost use Rattle.std.specs.Prelude.{◌≡◌, ℕ, IfErr, IfOk, IfSome, OnErr, Option, Some, length};
 ghost use Rattle.session_rows.specs.Saved.{IsBounded, words_of};
 ghost use Rattle.sessions.specs.Rows.{Row};
 ghost use Rattle.blocks.specs.Bytes.{IsNoRow, IsRow};
 ghost use Rattle.blocks.specs.Numbers.{returned};
+ghost use Rattle.blocks.specs.Tables.{AreRows};
 ghost use Rattle.blocks.specs.RowSteps.{RowClaims, RowCloses, RowDrops, RowEvicts, RowIsMade, RowLearns, RowReserves, RowShows, RowTakes, RowTakesBack};
 
 use crate::refusal::Refusal;
@@ -44,6 +45,22 @@ fn row_of(words: &[u64]) -> Option<SessionRow>
     let mut numbers = [0; SAVED_WORDS];
     numbers.copy_from_slice(words);
     SessionRow::restore(&numbers)
+}
+
+/// Returns the row of a number in a table: 48 bytes for each number, one after the other. `None` if its bytes
+/// are those of no row, or are not there.
+pub fn row_in(table: &[u8], number: u8) -> Option<SessionRow>
+    // So there is one answer, whatever the bytes of the other numbers are.
+    ensures { (rows : ℕ → Option Row) → AreRows table.now rows → result ≡ rows number }
+{
+    let start = ROW_BYTES * usize::from(number);
+    if table.len() < start + ROW_BYTES {
+        return None;
+    }
+    match load_row(&table[start..start + ROW_BYTES]) {
+        Ok(row) => Some(row),
+        Err(_) => None,
+    }
 }
 
 /// Writes the bytes of a row.

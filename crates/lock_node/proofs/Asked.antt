@@ -77,9 +77,9 @@ same_session r v s e t now led among is less =
     let more : List Deed = Reserve now v.live.epoch t ∷ Request now v.live.epoch t ∷ [] in
     let there : does_all (begin r) leads.deeds ≡ v = leads.there ∙ led.1 in
     let once : AreOnce (does_all v more).took =
-        subst (λ (w : Voter). AreOnce w.took) (all_deeds (begin r) leads.deeds more ∙ ap (λ (w : Voter). does_all w more) there) (own r (leads.deeds ++ more)) in
+    subst (λ (w : Voter). AreOnce w.took) (all_deeds (begin r) leads.deeds more ∙ ap (λ (w : Voter). does_all w more) there) (own r (leads.deeds ++ more)) in
     let took : is_taken (reserved v.live now v.live.epoch t) now v.live.epoch t ≡ true =
-        taken_by v.live now t (has_number v.live now v.live.epoch) (names v.live now is) (names v.live now is) less in
+    taken_by v.live now t (has_number v.live now v.live.epoch) (names v.live now is) (names v.live now is) less in
     let two : AreOnce (u ∷ v.took) = subst (λ (b : Bool). AreOnce (if b then u ∷ v.took else v.took)) took once in
     (two u (record { session = s; epoch = e; stamp = t }) (inl refl) (inr among) refl).0
 
@@ -161,11 +161,11 @@ one_heard h rs r lock v m led live asked reports l t grant is body =
     let of_m : m.body ≡ to_client.Locked t grant = ap (λ (x : ToClient). x.body) (sym at.1) ∙ body in
     let stamp : subject v.held c m.body ≡ t = about v.held c t grant m.body of_m in
     let held : v.held ≡ Some (record { client = c; stamp = t; grant = grant }) =
-        subst (λ (b : ClientBody). ReportsVote v.held c b) of_m reports in
+    subst (λ (b : ClientBody). ReportsVote v.held c b) of_m reports in
     let one = asked c t (inl (record { client = c; stamp = t; grant = grant }, held, refl, refl)) in
     let now : l.session ≡ one.0 = same_session (r c) (h c) one.0 one.1 t l.session (led c) one.2
-        (ap (λ (x : Row). x.session) (sym (live c)) ∙ at.0.of_session)
-        (subst (λ (x : Row). x.base < t) (live c) (subst (λ (k : ℕ). (rs c).base < k) stamp at.0.above)) in
+    (ap (λ (x : Row). x.session) (sym (live c)) ∙ at.0.of_session)
+    (subst (λ (x : Row). x.base < t) (live c) (subst (λ (k : ℕ). (rs c).base < k) stamp at.0.above)) in
     subst (λ (k : ToClient). (epoch : ℕ) × IsOneOf (record { session = l.session; epoch = epoch; stamp = t }) (h k.client).took) (sym at.1)
     (one.1, subst (λ (s : ℕ). IsOneOf (record { session = s; epoch = one.1; stamp = t }) (h c).took) (sym now) one.2)
 
@@ -264,7 +264,7 @@ moves_served r h n lock e New is of tells new =
     let node = n.locks lock in
     let next = nodes.after node (nodes.node_step node e) in
     let by : next ≡ nodes.after node (nodes.if_room (nodes.has_room node) (nodes.after_voter node (outcome_at node e))) =
-        ap (λ (t : Result nodes.Turn _). nodes.after node t) (of.is node) in
+    ap (λ (t : Result nodes.Turn _). nodes.after node t) (of.is node) in
     record {
       led = is.led;
       live = is.live;
@@ -285,10 +285,13 @@ moves_served r h n lock e New is of tells new =
 -- the REQUEST that a number may say is one that it asked
 brought : (n : LockNode) (v : Voter) (session epoch : ℕ) (client : ℕ) (body : VoterBody) (c t : ℕ) → n.rows client ≡ v.live
     → may_say (n.rows client) session epoch body ≡ true → Brings client body c t → Asked (rows.after_turns v (request_turn session epoch body)).took t
-brought n v session epoch client (asks.Request stamp) c t live may new =
-    (session, epoch, subst (λ (b : Bool). IsOneOf (record { session = session; epoch = epoch; stamp = t }) (if b then record { session = session; epoch = epoch; stamp = stamp } ∷ v.took else v.took))
+brought n v session epoch client (asks.Request stamp) c t live may new = (
+  session,
+  epoch,
+  subst (λ (b : Bool). IsOneOf (record { session = session; epoch = epoch; stamp = t }) (if b then record { session = session; epoch = epoch; stamp = stamp } ∷ v.took else v.took))
       (sym (subst (λ (x : Row). is_taken x session epoch stamp ≡ true) live may))
-      (inl (ap (λ (s : ℕ). record { session = session; epoch = epoch; stamp = s }) new.1)))
+      (inl (ap (λ (s : ℕ). record { session = session; epoch = epoch; stamp = s }) new.1)),
+)
 brought n v session epoch client (asks.Relinquish grant) c t live may new = absurd new
 brought n v session epoch client (asks.Release stamp) c t live may new = absurd new
 
@@ -322,7 +325,7 @@ speaks_served : (r : ℕ → Row) (h : ℕ → Voter) (n : LockNode) (lock sessi
 speaks_served r h n lock session epoch m b may is =
     let k = lives h (Speaks lock session epoch m) in
     let more : IsServed r k n = grown r h k n is (λ c. led_on (r c) (h c) (turn_of c (Speaks lock session epoch m)) (is.led c))
-        (λ c. speaks_grows (h c) (m.client == c) session epoch m.body) in
+    (λ c. speaks_grows (h c) (m.client == c) session epoch m.body) in
     speaks_by r h n lock session epoch m b may is more
 
 called : (rs : ℕ → Row) (h : ℕ → Voter) (number : ℕ) (call : rows.Call) (c : ℕ) (b : Bool) → (number == c) ≡ b → ((x : ℕ) → rs x ≡ (h x).live)

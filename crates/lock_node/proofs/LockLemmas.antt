@@ -50,7 +50,6 @@ set_by P f place value other here there = set_test P f place value other (place 
 pub set_here : {X : Type 0} (P : X → Type 0) (f : ℕ → X) (place : ℕ) (value : X) → P value → P (set f place value place)
 set_here P f place value here = subst (λ (b : Bool). P (if b then value else f place)) (sym (eq-eqb place place refl)) here
 
-
 pub run_more : (n : nodes.Node) (es fs : List nodes.Event) → nodes.run n (es ++ fs) ≡ nodes.run (nodes.run n es) fs
 run_more n [] fs = refl
 run_more n (e ∷ es) fs = run_more (nodes.after n (nodes.node_step n e)) es fs
@@ -170,7 +169,7 @@ moves_wait n lock e of wait l is =
     let node = n.locks lock in
     let next = nodes.after node (nodes.node_step node e) in
     let by : (m : ToClient) → IsOneOf m (nodes.after node (nodes.if_room (nodes.has_room node) (nodes.after_voter node (outcome_at node e)))).outbox → IsOneOf m next.outbox =
-        λ m at. subst (λ (t : Result nodes.Turn _). IsOneOf m (nodes.after node t).outbox) (sym (of.is node)) at in
+    λ m at. subst (λ (t : Result nodes.Turn _). IsOneOf m (nodes.after node t).outbox) (sym (of.is node)) at in
     elim (one_of_two l n.outbox (letters_by (nodes.has_room node) n.rows lock (outcome_at node e)) is) [
       | inl old ↦ set_by (λ (k : ℕ) (x : nodes.Node). k ≡ l.lock → IsOneOf l.message x.outbox) n.locks lock next l.lock
           (λ same. by l.message (still_waits node (nodes.has_room node) (outcome_at node e) l.message (subst (λ (k : ℕ). IsOneOf l.message (n.locks k).outbox) (sym same) (wait l old))))

@@ -17,7 +17,7 @@ pub fn letters_reach_who_asked()
     ensures { (n : LockNode) (events : List Event) (l : Letter) (stamp grant : ℕ) → Begins n
         → IsOneOf l (all_leave n events) → l.message.body ≡ to_client.Locked stamp grant
         → (epoch : ℕ) × IsOneOf (record { session = l.session; epoch = epoch; stamp = stamp })
-            (after_turns (begin (n.rows l.message.client)) (turns_of l.message.client events)).kept }
+        (after_turns (begin (n.rows l.message.client)) (turns_of l.message.client events)).kept }
 {
     voters_meet_the_contract();
 }

@@ -1,5 +1,6 @@
 pub mod ClientLines
 pub mod GuardLemmas
 pub mod LineLengths
+pub mod LockLemmas
 pub mod ReplyLines
 pub mod StateLemmas

@@ -2,6 +2,7 @@ pub mod Bytes
 pub mod ClientSteps
 pub mod FenceSteps
 pub mod Lines
+pub mod LockSteps
 pub mod Made
 pub mod QuorumSteps
 pub mod Sent

@@ -30,6 +30,7 @@ mod clock_calls;
 mod fence_calls;
 mod laws;
 mod lines;
+mod lock_calls;
 mod quorum_calls;
 mod row_calls;
 mod saved_bytes;

@@ -19,7 +19,7 @@ use numbers::{MAX_CLIENTS, MAX_LIMIT, MAX_VOTERS};
 use voter::{Grant, Voter};
 
 /// Reads the line of a message to the voter with this number.
-fn read_to_voter(line: &[u8], id: u8) -> Result<ToVoter, Refusal>
+pub fn read_to_voter(line: &[u8], id: u8) -> Result<ToVoter, Refusal>
     ensures read { IfOk result (IsToVoter line.now id) }
     // It is the only one.
     ensures only { IfOk result (λ m. (n : ToVoter) → IsToVoter line.now id n → n ≡ m) }
@@ -67,7 +67,7 @@ fn remind(state: &[u8], out: &mut [u8], written: &mut usize) -> Result<(), Refus
 }
 
 /// Writes the client, the stamp and the number of a grant, three times 0 if there is none.
-fn show_grant(held: Option<Grant>, client: &mut u64, stamp: &mut u64, grant: &mut u64)
+pub fn show_grant(held: Option<Grant>, client: &mut u64, stamp: &mut u64, grant: &mut u64)
     ensures { IsHeldBy held client.new stamp.new grant.new }
 {
     match held {
