@@ -153,7 +153,7 @@ func (d *Daemon) isKept(now time.Time) {
 	j.done = true
 	d.raiseAll()
 	d.table.hearAll(now)
-	for v := range d.busy {
+	for _, v := range d.busy.all {
 		client := int(v.held.Client)
 		d.table.byWord[client] = d.table.byWord[client] || v.held.Number > 0 && !d.table.rows[client].Open
 	}

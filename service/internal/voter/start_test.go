@@ -266,7 +266,7 @@ func TestEndWhileQuiet(t *testing.T) {
 		}
 		carrier := d.carrier.(*post)
 		carrier.sent = nil
-		if err := d.end(); err != nil {
+		if err := d.End(); err != nil {
 			t.Fatal(err)
 		}
 		said := 0
