@@ -304,7 +304,8 @@ func (d *Daemon) hearAnswer(h wire.Header, w word, now time.Time) {
 	switch {
 	case w.Known == nil || !isKnown:
 		d.m.foreign.Inc() // it is not the voter that is known there
-	case w.Process != j.process && w.Why == "" && w.Start > d.store.own.Start && p.Identity == h.Name:
+	case w.Process != j.process && w.Why == "" && w.Start > d.store.own.Start && p.Identity == h.Name &&
+		w.Known.Identity == d.store.meta.Identity: // else it is a late word to the one whose state was lost
 		d.beRefused(ErrOlder, fmt.Sprintf("voter %s says that a later process of this voter started", w.Voter))
 	case w.Process != j.process:
 		// it is of an earlier process of this voter
