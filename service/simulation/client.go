@@ -107,7 +107,7 @@ type client struct {
 
 // newClient starts a process.
 func newClient(w *world, id int) *client {
-	c := &client{world: w, id: id, clock: clock{since: w.now, base: 2*time.Hour + w.upTo(time.Hour), rate: w.rate()}}
+	c := &client{world: w, id: id, clock: clock{since: w.now, base: 2*time.Hour + w.upTo(time.Hour), rate: w.rate(false)}}
 	c.beats = w.ttl / 4
 	if c.beats > 500*time.Millisecond {
 		c.beats = 500 * time.Millisecond

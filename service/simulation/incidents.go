@@ -95,6 +95,25 @@ var ofVoters = []kind{
 		w.loses(p)
 		return true
 	}},
+	{"clients that stand still once voters go on", func(w *world) bool {
+		c := w.someClient()
+		if c == nil || c.still > w.now || c.stage != isOpen {
+			return false
+		}
+		ends := after(c.clock.when(c.beat+c.beats+ticks), w.upTo(10*time.Millisecond)) // its next heartbeat waits for them
+		for _, p := range w.voters {
+			if p.run != nil && p.run.present <= w.now && w.random.Intn(8) > 0 {
+				p.run.still = ends
+			}
+		}
+		w.log("voters stand still until %v, then client %d", time.Duration(ends), c.id)
+		w.at(after(ends, w.upTo(20*time.Millisecond)), func() {
+			if c.stage != isEnded && c.still <= w.now && w.healed == 0 {
+				c.standsStill(w.upTo(3 * w.ttl))
+			}
+		})
+		return true
+	}},
 	{"older copies of states", func(w *world) bool { return w.putsCopy() }},
 	{"servers frozen", func(w *world) bool {
 		w.broker.thawsAt = after(w.now, w.upTo(2*w.ttl))
@@ -156,11 +175,11 @@ var ofClients = []kind{
 	{"clocks that change their rates", func(w *world) bool {
 		if w.random.Intn(2) == 0 {
 			p := w.voters[w.random.Intn(len(w.voters))]
-			p.clock.sets(w.now, w.rate())
+			p.clock.sets(w.now, w.rate(true))
 			return true
 		}
 		c := w.clients[w.random.Intn(len(w.clients))]
-		c.clock.sets(w.now, w.rate())
+		c.clock.sets(w.now, w.rate(false))
 		return true
 	}},
 }
@@ -473,8 +492,8 @@ func (w *world) heal() {
 			c.still = w.now
 		}
 		for _, l := range c.locks {
-			if l.wants && l.since < w.now {
-				l.since = w.now
+			if c.stage != isEnded {
+				l.think()
 			}
 		}
 	}

@@ -73,6 +73,9 @@ func (h *held) leaseEnds() time.Duration {
 func (l *lock) think() {
 	c := l.client
 	most := c.incidents.thinks
+	if l.isRare {
+		most = 90 * time.Second // it is forgotten meanwhile
+	}
 	if c.healed > 0 {
 		most = 50 * time.Millisecond
 	}

@@ -27,11 +27,15 @@ const (
 	fastest = 1050000
 )
 
-// rate returns a rate of a clock.
-func (w *world) rate() int64 {
+// rate returns a rate of a clock, of a voter or a client.
+func (w *world) rate(ofVoter bool) int64 {
 	switch least, most := int64(slowest), int64(fastest); {
 	case w.Wrong.Clocks:
 		return []int64{700000, 1300000}[w.random.Intn(2)]
+	case w.isWorst && ofVoter:
+		return most
+	case w.isWorst:
+		return least
 	case w.random.Intn(4) == 0:
 		return least
 	case w.random.Intn(3) == 0:
@@ -90,7 +94,7 @@ type stampOf struct {
 func newPlace(w *world, number int, name string) *place {
 	p := &place{world: w, number: number, disk: newDisk(), own: &config.Voter{Voter: name, Data: name, MaxLocks: 100,
 		First: config.Duration{Duration: 250 * time.Millisecond}, Most: config.Duration{Duration: time.Second}}}
-	p.clock = clock{base: time.Hour + w.upTo(time.Hour), rate: w.rate()}
+	p.clock = clock{base: time.Hour + w.upTo(time.Hour), rate: w.rate(true)}
 	p.disk.saving = p.saving
 	return p
 }
@@ -102,7 +106,7 @@ func (s source) Read(into []byte) (int, error) { return s.random.Read(into) }
 
 // around returns the surroundings of a process, nil for one that only makes a state.
 func (p *place) around(r *process) voter.Surroundings {
-	return voter.Surroundings{Random: source{p.world}, Disk: p.disk, Aside: func(work func()) { work() },
+	return voter.Surroundings{Random: source{p.world}, Disk: p.disk, Block: p.block, Aside: func(work func()) { work() },
 		Now: func() time.Time { return p.date(r) }}
 }
 

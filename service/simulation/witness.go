@@ -54,6 +54,7 @@ func newWatch() watch {
 type witness struct {
 	*world
 	name   string
+	isRare bool // it is wanted seldom
 	inside []*held
 	guard  *qlock.Fence
 	last   *held // whose pass was admitted last
@@ -63,7 +64,7 @@ type witness struct {
 func newWitness(w *world, name string) (*witness, error) {
 	guard, err := qlock.NewFence()
 	w.watch.entered[name] = map[stampOf]string{}
-	return &witness{world: w, name: name, guard: guard}, err
+	return &witness{world: w, name: name, isRare: w.random.Intn(6) == 0, guard: guard}, err
 }
 
 // enters notes that a client is inside.

@@ -139,6 +139,8 @@ type world struct {
 
 	cluster *config.Cluster
 	ttl     time.Duration
+	isWorst bool   // all voters have the fastest clock, and all clients the slowest one
+	block   uint64 // how many grants a voter may give before it asks for more
 	broker  broker
 	voters  []*place
 	clients []*client
@@ -180,8 +182,7 @@ func planOf(coterie string) (*qlock.Plan, error) {
 
 // Run makes a run.
 func Run(o Options) Result {
-	w := &world{Options: o, random: rand.New(rand.NewSource(o.Seed)), hash: 14695981039346656037}
-	w.Incidents = map[string]uint64{}
+	w := newWorld(o)
 	if err := w.begin(); err != nil {
 		return Result{Fault: err}
 	}
@@ -192,6 +193,12 @@ func Run(o Options) Result {
 	return Result{Figures: w.Figures, Hash: w.hash, Fault: w.fault}
 }
 
+func newWorld(o Options) *world {
+	w := &world{Options: o, random: rand.New(rand.NewSource(o.Seed)), hash: 14695981039346656037}
+	w.Incidents = map[string]uint64{}
+	return w
+}
+
 // begin makes voters and clients.
 func (w *world) begin() error {
 	plan, err := planOf(coteries[w.random.Intn(len(coteries))])
@@ -199,6 +206,8 @@ func (w *world) begin() error {
 		return err
 	}
 	w.ttl = time.Second * time.Duration(1+w.random.Intn(3))
+	w.isWorst = w.random.Intn(4) == 0
+	w.block = []uint64{0, 4, 64}[w.random.Intn(3)]
 	w.bound = longestWait + 6*w.ttl
 	w.cluster = &config.Cluster{ID: "sim", Servers: []string{"none"}, TTL: config.Duration{Duration: w.ttl},
 		Coterie: plan.Coterie, Plan: plan.Text}

@@ -55,6 +55,7 @@ func (r *process) forged(m transport.Message) transport.Message {
 	known := voter.Peer{Identity: meta.Identity, Run: meta.Run, Ended: r.saves}
 	_, known.Ceiling, _ = r.disk.starts()
 	known.Process, _ = said["process"].(string)
+	said["start"] = 0 // of the process that asked, which may be the other one
 	said["known"] = known
 	delete(said, "why")
 	var text bytes.Buffer

@@ -20,6 +20,7 @@ type Surroundings struct {
 	Random io.Reader        // for what nobody may guess: identities, words of processes, keys of markers
 	Disk   Disk             // has the state; the file in the folder of the voter's settings if nil
 	Aside  func(func())     // runs what may take long beside the loop
+	Block  uint64           // how many grants a voter may give above what is known, at first
 }
 
 // complete returns surroundings of which nothing is missing, but for the disk.
@@ -29,6 +30,9 @@ func (s Surroundings) complete() Surroundings {
 	}
 	if s.Random == nil {
 		s.Random = rand.Reader
+	}
+	if s.Block == 0 {
+		s.Block = firstCeiling
 	}
 	if s.Aside == nil {
 		s.Aside = func(work func()) { go work() }
@@ -45,6 +49,14 @@ func (d *Daemon) now() time.Time {
 		return time.Now()
 	}
 	return d.around.Now()
+}
+
+// firstBlock returns how many grants a voter may give above what is known, at first.
+func (d *Daemon) firstBlock() uint64 {
+	if d.around.Block == 0 {
+		return firstCeiling
+	}
+	return d.around.Block
 }
 
 // aside runs what may take long beside the loop.

@@ -121,8 +121,8 @@ func (d *Daemon) start(now time.Time) {
 // askCeiling asks the others to keep a higher ceiling than this one.
 func (d *Daemon) askCeiling(above uint64, now time.Time) {
 	j := &d.join
-	if j.block = 2 * j.block; j.block < firstCeiling {
-		j.block = firstCeiling
+	if j.block = 2 * j.block; j.block < d.firstBlock() {
+		j.block = d.firstBlock()
 	} else if j.block > mostCeiling {
 		j.block = mostCeiling
 	}
