@@ -9,6 +9,7 @@ import (
 	"encoding/hex"
 	"errors"
 	"fmt"
+	"io"
 	"os"
 	"strconv"
 	"time"
@@ -296,9 +297,12 @@ func Mark(generation uint64, coterie string) string {
 }
 
 // Nonce returns 128 random bits in hexadecimal.
-func Nonce() (string, error) {
+func Nonce() (string, error) { return NonceOf(rand.Reader) }
+
+// NonceOf returns 128 bits in hexadecimal, of a source of random ones.
+func NonceOf(random io.Reader) (string, error) {
 	b := make([]byte, 16)
-	if _, err := rand.Read(b); err != nil {
+	if _, err := io.ReadFull(random, b); err != nil {
 		return "", err
 	}
 	return hex.EncodeToString(b), nil

@@ -5,9 +5,10 @@ package voter
 import (
 	"bytes"
 	"context"
-	"crypto/rand"
 	"errors"
 	"fmt"
+	"io"
+	"sort"
 	"strconv"
 	"sync/atomic"
 	"time"
@@ -38,10 +39,11 @@ type Daemon struct {
 	link    transport.Link // nil if the transport has none
 	log     *event.Log
 	m       *metrics
+	around  Surroundings
 
 	votes    map[string]*vote
-	busy     map[*vote]struct{} // votes that somebody has or waits for
-	users    map[string]*usage  // of the users that have some vote or wait for one
+	busy     busyVotes
+	users    map[string]*usage // of the users that have some vote or wait for one
 	table    table
 	requests [qlock.MaxClients]int    // requests of a session that have a vote here, or wait for one
 	asksBy   [qlock.MaxClients]uint64 // the oldest plan of which a session has a request, as it said; 0 before
@@ -57,6 +59,7 @@ type Daemon struct {
 	savedAll time.Time          // when nothing was left to save
 	out      map[string][]byte  // lines that leave after the save, by session
 	outBytes int
+	order    []string          // of what leaves
 	replies  map[string]answer // what operators get after the save, by mailbox
 	room     []byte
 	before   qlock.Voter // of the step that is made
@@ -82,6 +85,7 @@ type Daemon struct {
 	writes          <-chan transport.Message // what operators want done
 	inbox           inbox
 	started         time.Time
+	next            time.Time    // when the next round is due
 	granted         uint64       // grants given since then
 	returns         uint64       // of the link, as they were logged
 	away            time.Time    // when there was a connection last, or it was logged that there is none
@@ -97,39 +101,52 @@ func Owner(own *config.Voter, cluster *config.Cluster) Meta {
 		Voter: cluster.Number(own.Voter)}
 }
 
-// Open opens the state of a voter, and listens. Its state has to be there (Init, Rejoin).
+// Open opens the state of a voter, and listens. Its state has to be there (Init, InitLost).
 func Open(own *config.Voter, cluster *config.Cluster, carrier transport.Transport, log *event.Log) (*Daemon, error) {
-	state, err := openStore(own.Data, Owner(own, cluster))
+	return OpenIn(Surroundings{}, own, cluster, carrier, log)
+}
+
+// OpenIn is Open in other surroundings than those of this machine.
+func OpenIn(around Surroundings, own *config.Voter, cluster *config.Cluster, carrier transport.Transport, log *event.Log) (*Daemon, error) {
+	var state *store
+	var err error
+	if around = around.complete(); around.Disk == nil {
+		state, err = openStore(own.Data, Owner(own, cluster))
+	} else {
+		state, err = openOn(around.Disk, own.Data, Owner(own, cluster))
+	}
 	if err != nil {
 		return nil, err
 	}
-	d := &Daemon{cluster: cluster, own: own, store: state, carrier: carrier, log: log, m: newMetrics(),
-		votes: map[string]*vote{}, busy: map[*vote]struct{}{}, users: map[string]*usage{},
+	now := around.Now()
+	d := &Daemon{cluster: cluster, own: own, store: state, carrier: carrier, log: log, m: newMetrics(), around: around,
+		votes: map[string]*vote{}, users: map[string]*usage{},
 		dirty: map[*vote]struct{}{}, silent: map[*vote]struct{}{},
 		table: table{ttl: cluster.TTL.Duration, changed: map[int]Session{}, later: map[int]Session{}},
-		out:   map[string][]byte{}, replies: map[string]answer{}, started: time.Now(), away: time.Now(),
+		out:   map[string][]byte{}, replies: map[string]answer{}, started: now, away: now,
 		done: map[string][]byte{}, newPeers: map[int]Peer{}, gone: map[string]struct{}{}, restsFor: shortestRest}
 	if d.restsFor < 2*cluster.TTL.Duration {
 		d.restsFor = 2 * cluster.TTL.Duration
 	}
 	if err := d.begin(); err != nil {
-		state.db.Close()
+		state.disk.Close()
 		return nil, err
 	}
 	if err := d.markPlans(); err != nil {
-		state.db.Close()
+		state.disk.Close()
 		return nil, err
 	}
 	d.link, _ = carrier.(transport.Link)
 	d.watch()
-	if err := d.load(time.Now()); err != nil {
-		d.store.db.Close()
+	if err := d.load(d.now()); err != nil {
+		d.store.disk.Close()
 		return nil, err
 	}
 	if err := d.listen(); err != nil {
-		d.store.db.Close()
+		d.store.disk.Close()
 		return nil, err
 	}
+	d.next = d.now()
 	return d, nil
 }
 
@@ -139,11 +156,11 @@ func (d *Daemon) begin() (err error) {
 	if err != nil {
 		return fmt.Errorf("%s: %w: of another plan than that of the cluster's file", file(d.own.Data), err)
 	}
-	if _, err := rand.Read(d.markers[:]); err != nil {
+	if _, err := io.ReadFull(d.around.Random, d.markers[:]); err != nil {
 		return err
 	}
-	d.join = joining{began: time.Now(), saves: d.store.saves}
-	d.join.process, err = newProcess()
+	d.join = joining{began: d.now(), saves: d.store.saves}
+	d.join.process, err = d.newProcess()
 	return err
 }
 
@@ -191,34 +208,45 @@ func (d *Daemon) listen() (err error) {
 
 // Run is the loop. It returns nil when the context ends, and ErrSave when a save fails.
 func (d *Daemon) Run(ctx context.Context) error {
-	defer d.store.db.Close()
+	defer d.store.disk.Close()
 	d.log.Write(event.Info, "start", "voter", d.own.Voter, "number", d.store.meta.Voter, "cluster", d.cluster.ID,
 		"run", d.store.meta.Run, "start", d.store.own.Start, "identity", d.store.meta.Identity, "locks", len(d.votes))
-	next := time.Now()
 	for {
-		now := time.Now()
-		d.look(now)
-		if !now.Before(next) {
-			d.sendMarker(now)
-			d.round(now)
-			next = now.Add(tick)
-		}
-		if d.start(now); d.join.refused != nil {
-			return d.endRefused()
-		}
-		if err := d.commit(now); err != nil {
-			d.log.Write(event.Error, "save-failed", "why", err)
+		until, err := d.Turn()
+		if err != nil {
 			return err
 		}
-		d.lively.Store(now.UnixNano())
-		until := next
-		if !d.join.done {
-			until = earlier(until, d.join.next)
-		}
 		if !d.wait(ctx, until) {
-			return d.end()
+			return d.End()
 		}
 	}
+}
+
+// Turn does what time asks for, saves what changed, and sends. It returns until when it need not be called again if nothing
+// comes, or why the voter ends.
+func (d *Daemon) Turn() (until time.Time, err error) {
+	now := d.now()
+	d.look(now)
+	if !now.Before(d.next) {
+		d.sendMarker(now)
+		d.round(now)
+		d.next = now.Add(tick)
+	}
+	if d.start(now); d.join.refused != nil {
+		return now, d.endRefused()
+	}
+	if err := d.commit(now); err != nil {
+		d.log.Write(event.Error, "save-failed", "why", err)
+		return now, err
+	}
+	d.lively.Store(now.UnixNano())
+	switch until = d.next; {
+	case d.inbox.count > 0:
+		until = now // the rest of the last turn waits
+	case !d.join.done:
+		until = earlier(until, d.join.next)
+	}
+	return until, nil
 }
 
 // endRefused notes in the state that it never starts again, and returns why.
@@ -232,42 +260,67 @@ func (d *Daemon) endRefused() error {
 	return d.join.refused
 }
 
+// From says in which mailbox of a voter a message came.
+type From int
+
+// The mailboxes.
+const (
+	Nobody    From = iota // nothing came: it is time for a turn
+	Clients               // what users' sessions say, and markers
+	Voters                // what other voters say
+	Readers               // what operators want to know
+	Operators             // what operators want done
+)
+
 // wait waits for messages until a time, and takes all that are there. It returns false when the context has ended.
 func (d *Daemon) wait(ctx context.Context, until time.Time) bool {
-	if d.inbox.count > 0 {
-		until = time.Now() // the rest of the last turn waits
-	}
-	timer := time.NewTimer(time.Until(until))
+	timer := time.NewTimer(until.Sub(d.now()))
 	defer timer.Stop()
 	select {
 	case <-ctx.Done():
 		return false
 	case m := <-d.messages:
-		d.sort(m)
+		d.Take(Clients, m)
 	case m := <-d.voters:
-		d.hearPeer(m, time.Now())
+		d.Take(Voters, m)
 	case m := <-d.reads:
-		d.operate(m, false, time.Now())
+		d.Take(Readers, m)
 	case m := <-d.writes:
-		d.operate(m, true, time.Now())
+		d.Take(Operators, m)
 	case <-timer.C:
+		d.Take(Nobody, transport.Message{})
+	}
+	return true
+}
+
+// Take takes a message, and all of clients that are there besides. A turn has to follow. The clock is read after the message was
+// taken.
+func (d *Daemon) Take(from From, m transport.Message) {
+	switch from {
+	case Clients:
+		d.sort(m)
+	case Voters:
+		d.hearPeer(m, d.now())
+	case Readers:
+		d.operate(m, false, d.now())
+	case Operators:
+		d.operate(m, true, d.now())
 	}
 	d.receive()
 	d.work()
 	d.waits.Store(int64(d.inbox.count))
-	return true
 }
 
-// end saves what nothing waited for, and tells all sessions that this voter leaves, so that they
+// End saves what nothing waited for, and tells all sessions that this voter leaves, so that they
 // ask others at once.
-func (d *Daemon) end() error {
+func (d *Daemon) End() error {
 	d.savedAll = time.Time{}
 	for number, row := range d.table.rows {
 		if row.Open {
 			d.tellNumber(number, "leaving")
 		}
 	}
-	if err := d.commit(time.Now()); err != nil {
+	if err := d.commit(d.now()); err != nil {
 		return err
 	}
 	if d.join.done && !d.isQuiet() { // else the next start has to be quiet, too: this one did not come to know its grants
@@ -303,7 +356,7 @@ func (d *Daemon) look(now time.Time) {
 
 // IsLively returns whether the loop went round within some time.
 func (d *Daemon) IsLively(within time.Duration) bool {
-	return time.Since(time.Unix(0, d.lively.Load())) < within
+	return d.now().Sub(time.Unix(0, d.lively.Load())) < within
 }
 
 // isOurs returns whether a message is of this cluster, and of a plan that is not retired.
@@ -645,30 +698,33 @@ func (d *Daemon) round(now time.Time) {
 	}
 	d.endQuiet(now)
 	d.forget(now)
-	for v := range d.busy {
-		if v.isOld && d.isQuiet() {
-			continue // it may be somebody else's by now
+	d.busy.each(func(v *vote) { d.roundOf(v, now) })
+	d.measure(now)
+}
+
+// roundOf does what time asks for of a vote.
+func (d *Daemon) roundOf(v *vote, now time.Time) {
+	if v.isOld && d.isQuiet() {
+		return // it may be somebody else's by now
+	}
+	d.endInside(v)
+	for v.held.Number > 0 && (v.isWanted() || d.isInTheWay(v)) && d.isOver(v.held) {
+		held := v.held
+		if !d.letGo(v, now) {
+			break
 		}
-		d.endInside(v)
-		for v.held.Number > 0 && (v.isWanted() || d.isInTheWay(v)) && d.isOver(v.held) {
-			held := v.held
-			if !d.letGo(v, now) {
-				break
-			}
-			if row := d.table.rows[held.Client]; row.Open && held.Stamp > row.Base {
-				d.table.lapse(int(held.Client))
-			}
-			d.m.expired.Inc()
-			d.log.Write(event.Warning, "lease-expired", "lock", v.name, "client", held.Client, "stamp", held.Stamp, "grant", held.Number)
+		if row := d.table.rows[held.Client]; row.Open && held.Stamp > row.Base {
+			d.table.lapse(int(held.Client))
 		}
-		if v.timer.IsDue(now) {
-			if lines, err := v.Remind(nil); err == nil && len(lines) > 0 {
-				d.m.reminders.Inc()
-				d.send(v, lines)
-			}
+		d.m.expired.Inc()
+		d.log.Write(event.Warning, "lease-expired", "lock", v.name, "client", held.Client, "stamp", held.Stamp, "grant", held.Number)
+	}
+	if v.timer.IsDue(now) {
+		if lines, err := v.Remind(nil); err == nil && len(lines) > 0 {
+			d.m.reminders.Inc()
+			d.send(v, lines)
 		}
 	}
-	d.measure(now)
 }
 
 // endQuiet lets the grants of before the start go of which nobody said that he is inside.
@@ -677,7 +733,7 @@ func (d *Daemon) endQuiet(now time.Time) {
 		return
 	}
 	d.quietUntil = time.Time{}
-	for v := range d.busy {
+	d.busy.each(func(v *vote) {
 		if held := v.held; v.isOld && held.Number > 0 && d.letGo(v, now) {
 			if row := d.table.rows[held.Client]; row.Open && held.Stamp > row.Base {
 				d.table.lapse(int(held.Client)) // what tells its client so may be lost
@@ -685,7 +741,7 @@ func (d *Daemon) endQuiet(now time.Time) {
 			d.log.Write(event.Warning, "not-renewed", "lock", v.name, "client", held.Client, "stamp", held.Stamp, "grant", held.Number)
 		}
 		v.isOld = false
-	}
+	})
 }
 
 // isOver returns whether a grant may be let go: its session is dead, or its number has a later one.
@@ -731,7 +787,7 @@ func (d *Daemon) commit(now time.Time) error {
 
 // save saves all that is not saved.
 func (d *Daemon) save(now time.Time) error {
-	began := time.Now()
+	began := d.now()
 	for v := range d.silent {
 		d.dirty[v] = struct{}{}
 	}
@@ -745,7 +801,7 @@ func (d *Daemon) save(now time.Time) error {
 	if err := d.store.save(c); err != nil {
 		return fmt.Errorf("%w: %v", ErrSave, err)
 	}
-	d.m.commit.Observe(time.Since(began).Seconds())
+	d.m.commit.Observe(d.now().Sub(began).Seconds())
 	d.m.batch.Observe(float64(len(d.dirty)))
 	d.table.saved()
 	d.dirty, d.silent, d.newPeers = map[*vote]struct{}{}, map[*vote]struct{}{}, map[int]Peer{}
@@ -758,16 +814,28 @@ func (d *Daemon) deliver() {
 	header := d.header()
 	d.outBytes = 0
 	d.deliverLetters()
-	for session, lines := range d.out {
+	d.order = d.order[:0]
+	for session := range d.out {
+		d.order = append(d.order, session)
+	}
+	sort.Strings(d.order)
+	for _, session := range d.order {
+		lines := d.out[session]
 		box := wire.SessionBox(header.Cluster, session, header.Number)
 		header.Coterie, header.Lapses = d.speaks(session), d.table.lapses(session)
 		header.Split(lines, func(message []byte) { d.post(box, message) })
 		delete(d.out, session)
 	}
-	for box, reply := range d.replies {
+	d.order = d.order[:0]
+	for box := range d.replies {
+		d.order = append(d.order, box)
+	}
+	sort.Strings(d.order)
+	for _, box := range d.order {
+		box, reply := box, d.replies[box]
 		header.Coterie, header.Lapses = reply.mark, 0
 		if begin := header.Append(nil); reply.status != nil {
-			go func(box string, reply answer) { d.post(box, append(begin, reply.text()...)) }(box, reply)
+			d.aside(func() { d.post(box, append(begin, reply.text()...)) })
 		} else {
 			d.post(box, append(begin, reply.text()...))
 		}

@@ -42,10 +42,10 @@ func (s *slow) Send(_ string, message []byte) error { s.sent <- message; return 
 func TestStatusOutsideOfTheLoop(t *testing.T) {
 	now, carrier := time.Unix(1000, 0), &slow{sent: make(chan []byte)}
 	d := &Daemon{cluster: &config.Cluster{ID: "test"}, own: &config.Voter{}, carrier: carrier, m: newMetrics(),
-		store: &store{meta: Meta{Cluster: "test", Identity: "copy"}}, mark: "mark", busy: map[*vote]struct{}{},
+		store: &store{meta: Meta{Cluster: "test", Identity: "copy"}}, mark: "mark",
 		replies: map[string]answer{}, done: map[string][]byte{}, table: *newTable(now)}
 	for i := 0; i < 3*mostShown; i++ {
-		d.busy[&vote{name: fmt.Sprintf("orders-%05d", i)}] = struct{}{}
+		d.busy.add(&vote{name: fmt.Sprintf("orders-%05d", i)})
 	}
 	header := wire.Header{Cluster: "test", Coterie: "mark", Kind: wire.FromOperator, Name: "op"}
 	d.operate(transport.Message{Mailbox: wire.ReadBox("test", 0, "alice"), Data: append(header.Append(nil), "status\n"...)}, false, now)
@@ -78,7 +78,7 @@ func (p *post) Listen(string) (<-chan transport.Message, error) { return nil, ni
 func TestSpentLock(t *testing.T) {
 	var log bytes.Buffer
 	now := time.Unix(1000, 0)
-	d := &Daemon{own: &config.Voter{}, store: &store{}, ceiling: 1, join: joining{done: true}, m: newMetrics(), log: event.To(&log), votes: map[string]*vote{}, busy: map[*vote]struct{}{},
+	d := &Daemon{own: &config.Voter{}, store: &store{}, ceiling: 1, join: joining{done: true}, m: newMetrics(), log: event.To(&log), votes: map[string]*vote{},
 		dirty: map[*vote]struct{}{}, silent: map[*vote]struct{}{}, out: map[string][]byte{}, table: table{ttl: time.Second, changed: map[int]Session{}, later: map[int]Session{}}}
 	voter, err := qlock.NewVoter(0, 1)
 	if err != nil {
@@ -100,7 +100,7 @@ func TestSpentLock(t *testing.T) {
 // Each line of a vote leaves: LOCKED, FAIL to whom waits behind another one, and INQUIRE.
 func TestEachLineLeaves(t *testing.T) {
 	now := time.Unix(1000, 0)
-	d := &Daemon{own: &config.Voter{}, store: &store{}, ceiling: 10, m: newMetrics(), votes: map[string]*vote{}, busy: map[*vote]struct{}{},
+	d := &Daemon{own: &config.Voter{}, store: &store{}, ceiling: 10, m: newMetrics(), votes: map[string]*vote{},
 		users: map[string]*usage{}, dirty: map[*vote]struct{}{}, silent: map[*vote]struct{}{}, out: map[string][]byte{},
 		table: *newTable(now)}
 	voter, err := qlock.NewVoter(0, 10)

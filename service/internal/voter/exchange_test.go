@@ -153,7 +153,7 @@ func TestLearn(t *testing.T) {
 func TestRetire(t *testing.T) {
 	now := time.Unix(1000, 0)
 	d := &Daemon{cluster: &config.Cluster{}, plans: Generations{Now: texts(t, two), Settled: true},
-		table: *newTable(now), busy: map[*vote]struct{}{}, newPeers: map[int]Peer{}, store: &store{}, log: event.To(io.Discard)}
+		table: *newTable(now), newPeers: map[int]Peer{}, store: &store{}, log: event.To(io.Discard)}
 	if err := d.markPlans(); err != nil {
 		t.Fatal(err)
 	}

@@ -1,4 +1,4 @@
 package voter
 
 // FailSaves lets all saves of a daemon fail from now on.
-func FailSaves(d *Daemon) { d.store.db.Close() }
+func FailSaves(d *Daemon) { d.store.disk.Close() }

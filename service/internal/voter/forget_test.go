@@ -32,7 +32,7 @@ func alone(t *testing.T, most int) (*Daemon, func(lines string)) {
 	if err != nil {
 		t.Fatal(err)
 	}
-	t.Cleanup(func() { d.store.db.Close() })
+	t.Cleanup(func() { d.store.disk.Close() })
 	d.start(time.Now())
 	if !d.join.done {
 		t.Fatal("it waits for nobody")
@@ -70,7 +70,7 @@ func TestOneTimeNames(t *testing.T) {
 		t.Fatal(err)
 	}
 	rows := 0
-	_ = d.store.db.View(func(tx *bbolt.Tx) error { rows = tx.Bucket(voteBucket).Stats().KeyN; return nil })
+	_ = d.store.disk.(*fileDisk).db.View(func(tx *bbolt.Tx) error { rows = tx.Bucket(voteBucket).Stats().KeyN; return nil })
 	if len(d.votes) > 10 || rows > 10 || len(d.resting) > 10 {
 		t.Errorf("%d locks are kept, %d in the file", len(d.votes), rows)
 	}

@@ -94,7 +94,7 @@ func (b *inbox) done() {
 
 // receive puts all messages that are there into the inbox, and drops what is not of this protocol.
 func (d *Daemon) receive() {
-	for began := time.Now(); len(d.messages) > 0 && time.Since(began) < longestTurn; {
+	for began := d.now(); len(d.messages) > 0 && d.now().Sub(began) < longestTurn; {
 		d.sort(<-d.messages)
 	}
 }
@@ -149,7 +149,7 @@ func (d *Daemon) sort(m transport.Message) {
 	queue := strangers
 	if h.Epoch > 0 && d.table.judge(h.Number, h.Name, h.Epoch) == known {
 		queue = h.Number
-		d.table.hear(h.Number, time.Now()) // it may wait for its turn
+		d.table.hear(h.Number, d.now()) // it may wait for its turn
 	}
 	if !d.inbox.put(queue, &letter{Header: h, lines: lines, size: len(m.Data)}) {
 		d.noRoom.Add(1)
@@ -159,13 +159,13 @@ func (d *Daemon) sort(m transport.Message) {
 // work takes lines of the messages that wait, of one sender after the other, until there is none or
 // this turn had enough.
 func (d *Daemon) work() {
-	began, taken := time.Now(), 0
-	for taken < mostLines && d.outBytes < mostOut && time.Since(began) < longestTurn {
+	began, taken := d.now(), 0
+	for taken < mostLines && d.outBytes < mostOut && d.now().Sub(began) < longestTurn {
 		l := d.inbox.next()
 		if l == nil {
 			return
 		}
-		lines, ended := d.read(l, time.Now())
+		lines, ended := d.read(l, d.now())
 		if taken += lines; ended {
 			d.inbox.done()
 		}

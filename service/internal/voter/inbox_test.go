@@ -18,7 +18,7 @@ import (
 func reader() *Daemon {
 	now := time.Unix(1000, 0)
 	d := &Daemon{cluster: &config.Cluster{ID: "test"}, store: &store{meta: Meta{Cluster: "test"}}, mark: "mark",
-		m: newMetrics(), busy: map[*vote]struct{}{},
+		m:     newMetrics(),
 		table: table{ttl: time.Second, changed: map[int]Session{}, later: map[int]Session{}}, out: map[string][]byte{},
 		join: joining{done: true}, ceiling: 1 << 20, log: event.To(io.Discard)}
 	d.table.begin(now)

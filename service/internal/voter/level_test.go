@@ -9,7 +9,6 @@ import (
 
 	"calvundek.example/service/internal/event"
 	"calvundek.example/service/internal/level"
-	"go.etcd.io/bbolt"
 )
 
 // A level is raised by one, and only if this program and all sessions know it. A program that does not
@@ -43,7 +42,7 @@ func TestLevels(t *testing.T) {
 		t.Fatal(err)
 	}
 	own, cluster := d.own, d.cluster
-	d.store.db.Close()
+	d.store.disk.Close()
 	if _, err := Open(own, cluster, &post{}, event.To(io.Discard)); !errors.Is(err, ErrNewer) {
 		t.Errorf("a state of a newer level: %v", err)
 	}
@@ -52,14 +51,14 @@ func TestLevels(t *testing.T) {
 // formatIn returns the format of a voter's file, and the number of its last transaction.
 func formatIn(t *testing.T, d *Daemon) (format, transaction int) {
 	t.Helper()
-	if err := d.store.db.View(func(tx *bbolt.Tx) error {
+	if err := d.store.disk.View(func(rows Rows) error {
 		var meta Meta
-		value, err := get(tx, metaBucket, metaBucket)
+		value, err := get(rows, metaBucket, metaBucket)
 		if err != nil {
 			return err
 		}
 		err = json.Unmarshal(value, &meta)
-		format, transaction = meta.Format, tx.ID()
+		format, transaction = meta.Format, rows.(fileRows).tx.ID()
 		return err
 	}); err != nil {
 		t.Fatal(err)
@@ -85,7 +84,7 @@ func TestFormatFollowsTheLevel(t *testing.T) {
 		t.Errorf("format %d, and %d transactions", after, is-was)
 	}
 	own, cluster := d.own, d.cluster
-	d.store.db.Close()
+	d.store.disk.Close()
 	again, err := Open(own, cluster, &post{}, event.To(io.Discard))
 	switch {
 	case level.Newest < level.Greets && !errors.Is(err, ErrNewer):
@@ -93,7 +92,7 @@ func TestFormatFollowsTheLevel(t *testing.T) {
 	case level.Newest >= level.Greets && err != nil:
 		t.Error(err)
 	case err == nil:
-		defer again.store.db.Close()
+		defer again.store.disk.Close()
 		if v := again.votes["orders"]; v == nil || v.held.Stamp != 1 || again.store.own.Raised != d.store.own.Start {
 			t.Errorf("%+v, %+v", v, again.store.own)
 		}
@@ -109,7 +108,7 @@ func TestFormatsThatAreRefused(t *testing.T) {
 		if err := d.store.update(d.store.saves, func(b *batch) error { return b.putMeta(meta) }); err != nil {
 			t.Fatal(err)
 		}
-		if err := d.store.db.View((&store{}).read); !errors.Is(err, want) {
+		if err := d.store.disk.View((&store{}).read); !errors.Is(err, want) {
 			t.Errorf("format %d: %v", format, err)
 		}
 	}

@@ -21,7 +21,12 @@ var (
 
 // Init makes the state of a new voter, once. Its first start asks the others whether there was one.
 func Init(own *config.Voter, cluster *config.Cluster) (Meta, error) {
-	return create(own, cluster, Knows{}, 0)
+	return InitIn(Surroundings{}, own, cluster)
+}
+
+// InitIn is Init in other surroundings than those of this machine.
+func InitIn(around Surroundings, own *config.Voter, cluster *config.Cluster) (Meta, error) {
+	return create(around, own, cluster, Knows{}, 0)
 }
 
 // InitLost makes the state of a voter in place of one that was lost. Its grants are numbered above all that it gave, and
@@ -37,48 +42,55 @@ func InitLost(ctx context.Context, own *config.Voter, cluster *config.Cluster, c
 		}
 	}
 	for {
-		known, missing, err := askOthers(ctx, cluster, console, others)
-		switch {
-		case err != nil:
+		replies, err := askOthers(ctx, console, others)
+		if err != nil {
 			return Meta{}, err
-		case missing == "" && known.Peers[place].Identity == "":
-			return Meta{}, ErrNew
-		case missing == "":
-			return create(own, cluster, known, known.Peers[place].Run+1)
-		case ctx.Err() != nil:
-			return Meta{}, fmt.Errorf("%w: %s did not", ErrFewer, missing)
+		}
+		if meta, err := MakeAgain(Surroundings{}, own, cluster, replies); !errors.Is(err, ErrFewer) || ctx.Err() != nil {
+			return meta, err
 		}
 	}
 }
 
-// askOthers asks other voters what they know, and returns which ones are missing. Whatever a quorum with this voter keeps, one of
-// those that replied keeps, if the others are no quorum with it: then none is missing.
-func askOthers(ctx context.Context, cluster *config.Cluster, console *operator.Console, others []int) (known Knows,
-	missing string, err error) {
+// MakeAgain makes the state of a voter in place of one that was lost, of what other voters replied that were asked what they
+// know. Whatever a quorum with this voter keeps, one of those that replied keeps, if the others are no quorum with it. Else it
+// returns ErrFewer.
+func MakeAgain(around Surroundings, own *config.Voter, cluster *config.Cluster, replies []operator.Reply) (Meta, error) {
+	known, heard, err := Merge(replies)
+	place := cluster.Number(own.Voter)
+	switch {
+	case err != nil:
+		return Meta{}, err
+	case cluster.HasAny(^heard):
+		return Meta{}, fmt.Errorf("%w: %s did not", ErrFewer, silent(replies))
+	case known.Peers[place].Identity == "":
+		return Meta{}, ErrNew
+	}
+	return create(around, own, cluster, known, known.Peers[place].Run+1)
+}
+
+// askOthers asks other voters what they know.
+func askOthers(ctx context.Context, console *operator.Console, others []int) ([]operator.Reply, error) {
 	ctx, cancel := context.WithTimeout(ctx, 2*time.Second)
 	defer cancel()
-	replies, err := console.Ask(ctx, "knows", others...)
-	if err != nil {
-		return known, "", err
-	}
-	known, heard, err := Merge(replies)
-	if cluster.HasAny(^heard) {
-		missing = silent(replies)
-	}
-	return known, missing, err
+	return console.Ask(ctx, "knows", others...)
 }
 
 // create makes a state with a new identity.
-func create(own *config.Voter, cluster *config.Cluster, known Knows, run uint64) (Meta, error) {
+func create(around Surroundings, own *config.Voter, cluster *config.Cluster, known Knows, run uint64) (Meta, error) {
+	around = around.complete()
 	meta := Owner(own, cluster)
 	meta.Run = run
 	var err error
-	if meta.Identity, err = config.Nonce(); err != nil {
+	if meta.Identity, err = around.nonce(); err != nil {
 		return meta, err
 	}
-	meta.Made = time.Now().UTC()
+	meta.Made = around.Now().UTC()
 	ceiling := known.Peers[meta.Voter].Ceiling
 	delete(known.Peers, meta.Voter)
+	if around.Disk != nil {
+		return meta, fill(around.Disk, meta, NewGenerations(cluster), known, ceiling)
+	}
 	return meta, Create(own.Data, meta, NewGenerations(cluster), known, ceiling)
 }
 

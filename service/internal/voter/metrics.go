@@ -48,12 +48,12 @@ func (o *oldest) note(began, now time.Time) {
 }
 
 // age returns for how many seconds there is one.
-func (o *oldest) age() float64 {
+func (o *oldest) age(now time.Time) float64 {
 	began := o.Load()
 	if began == 0 {
 		return 0
 	}
-	return time.Since(time.Unix(0, began)).Seconds()
+	return now.Sub(time.Unix(0, began)).Seconds()
 }
 
 func newMetrics() *metrics {
@@ -81,8 +81,6 @@ func newMetrics() *metrics {
 	m.numbers = m.gauge("numbers_free", "Client numbers that are free, or whose session was silent for the TTL.")
 	m.plan = m.gauge("plan", "How often the plan was exchanged.")
 	m.left = m.gauge("grants_left", "How many grants may follow the highest one that this run saw.")
-	m.read("held_oldest_seconds", "How long the grant lasts that has lasted longest.", m.lasting.age)
-	m.read("waiting_oldest_seconds", "How long the request waits that has waited longest.", m.waiting.age)
 	return m
 }
 
@@ -99,6 +97,10 @@ func (d *Daemon) watch() {
 	}
 	counter("broker_reconnects_total", "How often the connection to the broker came back.",
 		func() float64 { return float64(link.Returns()) })
+	d.m.read("held_oldest_seconds", "How long the grant lasts that has lasted longest.",
+		func() float64 { return d.m.lasting.age(d.now()) })
+	d.m.read("waiting_oldest_seconds", "How long the request waits that has waited longest.",
+		func() float64 { return d.m.waiting.age(d.now()) })
 	d.m.read("file_bytes", "How long the file of the state is.", func() float64 { return length(file(d.own.Data)) })
 	info := prometheus.NewGauge(prometheus.GaugeOpts{Name: "qlock_voter_build_info",
 		Help:        "The version, as a label of 1.",
@@ -164,7 +166,7 @@ func (m *metrics) histogram(name, help string, buckets []float64) prometheus.His
 // measure sets the numbers that are looked at from time to time.
 func (d *Daemon) measure(now time.Time) {
 	lasting, waiting, held, open, free := now, now, 0, 0, 0
-	for v := range d.busy {
+	for _, v := range d.busy.all {
 		if v.held.Number > 0 {
 			held++
 			lasting = earlier(lasting, v.since)
@@ -192,7 +194,7 @@ func (d *Daemon) measure(now time.Time) {
 	d.m.userLocks.Set(float64(ofUser))
 	d.m.lasting.note(lasting, now)
 	d.m.waiting.note(waiting, now)
-	d.m.busy.Set(float64(len(d.busy)))
+	d.m.busy.Set(float64(len(d.busy.all)))
 	d.m.held.Set(float64(held))
 	d.m.sessions.Set(float64(open))
 	d.m.numbers.Set(float64(free))
@@ -219,9 +221,10 @@ type Health struct {
 
 // health looks at the loop and the broker.
 func (d *Daemon) health() Health {
-	silent := time.Since(time.Unix(0, d.lively.Load()))
+	now := d.now()
+	silent := now.Sub(time.Unix(0, d.lively.Load()))
 	broker := d.link == nil || d.link.Connected()
-	marker := time.Since(d.started) - time.Duration(d.marked.Load())
+	marker := now.Sub(d.started) - time.Duration(d.marked.Load())
 	healthy := silent < 2*time.Second && marker < mostMarker && broker
 	return Health{Healthy: healthy, LoopSilent: silent.Seconds(), Marker: marker.Seconds(), Broker: broker,
 		Voter: d.store.meta.Voter, Identity: d.store.meta.Identity}

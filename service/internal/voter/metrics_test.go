@@ -36,7 +36,7 @@ func TestNumbersOfAVoter(t *testing.T) {
 	if err != nil {
 		t.Fatal(err)
 	}
-	defer d.store.db.Close()
+	defer d.store.disk.Close()
 	d.ceiling = 100
 	voter, err := d.newVoter()
 	if err != nil {

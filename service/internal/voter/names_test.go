@@ -11,18 +11,17 @@ import (
 
 	"calvundek.example/service/internal/event"
 	"calvundek.example/service/internal/wire"
-	"go.etcd.io/bbolt"
 )
 
 // reopened returns a voter that starts again from the state of one that was killed, and is not quiet.
 func reopened(t *testing.T, d *Daemon) *Daemon {
 	t.Helper()
-	d.store.db.Close()
+	d.store.disk.Close()
 	again, err := Open(d.own, d.cluster, &post{}, event.To(io.Discard))
 	if err != nil {
 		t.Fatal(err)
 	}
-	t.Cleanup(func() { again.store.db.Close() })
+	t.Cleanup(func() { again.store.disk.Close() })
 	again.start(time.Now())
 	again.quietUntil = time.Time{}
 	return again
@@ -103,8 +102,8 @@ func TestRowsWithNames(t *testing.T) {
 	if err := d.save(time.Now()); err != nil {
 		t.Fatal(err)
 	}
-	if err := d.store.db.View(func(tx *bbolt.Tx) error {
-		return each(tx, sessionBucket, func(_, value []byte) error {
+	if err := d.store.disk.View(func(rows Rows) error {
+		return each(rows, sessionBucket, func(_, value []byte) error {
 			if bytes.Contains(value, []byte("session-1")) {
 				t.Errorf("saved: %s", value)
 			}

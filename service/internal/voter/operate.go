@@ -183,11 +183,11 @@ func (d *Daemon) obey(words []string, by string, now time.Time) interface{} {
 func (d *Daemon) evict(number int, by string, now time.Time) LetGo {
 	d.table.expel(number)
 	gone := 0
-	for v := range d.busy {
+	d.busy.each(func(v *vote) {
 		if v.isHolder(number) && d.letGo(v, now) {
 			gone++
 		}
-	}
+	})
 	d.recount(number)
 	d.log.Write(event.Warning, "evicted", "client", number, "grants", gone, "by", by)
 	return LetGo{gone}
@@ -204,7 +204,7 @@ func (d *Daemon) unlock(lock string, grant uint64, by string, now time.Time) Let
 }
 
 func (d *Daemon) status(now time.Time) Status {
-	s := Status{Meta: d.store.meta, Locks: len(d.votes), Busy: len(d.busy), Granted: d.granted, Saves: d.store.saves,
+	s := Status{Meta: d.store.meta, Locks: len(d.votes), Busy: len(d.busy.all), Granted: d.granted, Saves: d.store.saves,
 		Start: d.store.own.Start, Ceiling: d.ceiling, Level: d.store.own.level(), Serves: d.join.done, Quiet: d.quiet(now).Seconds(), Runs: now.Sub(d.started).Seconds(),
 		Planned: Planned{d.plans.Number, d.plans.oldest(), d.plans.Settled}, Sessions: []SessionView{}, Votes: []VoteView{}}
 	for number, row := range d.table.rows {
@@ -213,10 +213,7 @@ func (d *Daemon) status(now time.Time) Status {
 				d.table.silent(number).Seconds(), d.requests[number]})
 		}
 	}
-	shown := make([]*vote, 0, len(d.busy))
-	for v := range d.busy {
-		shown = append(shown, v)
-	}
+	shown := append([]*vote(nil), d.busy.all...)
 	sort.Slice(shown, func(i, j int) bool { return shown[i].name < shown[j].name })
 	if len(shown) > mostShown {
 		s.Dropped = len(shown) - mostShown

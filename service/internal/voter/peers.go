@@ -5,7 +5,6 @@ import (
 	"fmt"
 	"time"
 
-	"calvundek.example/service/internal/config"
 	"calvundek.example/service/internal/event"
 	"calvundek.example/service/internal/wire"
 	"calvundek.example/service/qlock"
@@ -149,8 +148,8 @@ func laterPeer(a, b Peer) Peer {
 }
 
 // newProcess returns a word for a process.
-func newProcess() (string, error) {
-	text, err := config.Nonce()
+func (d *Daemon) newProcess() (string, error) {
+	text, err := d.around.nonce()
 	if err != nil {
 		return "", err
 	}

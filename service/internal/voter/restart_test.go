@@ -29,7 +29,7 @@ func TestStartEndsNoLease(t *testing.T) {
 	if err != nil {
 		t.Fatal(err)
 	}
-	defer d.store.db.Close()
+	defer d.store.disk.Close()
 	now := time.Now()
 	if d.table.isDead(3) || claimAt(&d.table, 3, "another", 2, now) || d.isOver(qlock.Grant{Client: 3, Stamp: 1,
 		Number: 1}) {

@@ -30,21 +30,21 @@ func sum(bucket, key, value []byte) uint32 {
 // batch writes rows in one transaction. It keeps their tally, the sum of the checksums of all rows
 // but that of the counts: so a row that is gone, or older than the others, is found.
 type batch struct {
-	tx    *bbolt.Tx
+	rows  Rows
 	tally uint64
 }
 
 // put saves a row.
 func (b *batch) put(bucket, key, value []byte) error {
 	row := rowOf(bucket, key, value)
-	b.tally += sumIn(row) - sumIn(b.tx.Bucket(bucket).Get(key))
-	return b.tx.Bucket(bucket).Put(key, row)
+	b.tally += sumIn(row) - sumIn(b.rows.Get(bucket, key))
+	return b.rows.Put(bucket, key, row)
 }
 
 // remove takes a row out.
 func (b *batch) remove(bucket, key []byte) error {
-	b.tally -= sumIn(b.tx.Bucket(bucket).Get(key))
-	return b.tx.Bucket(bucket).Delete(key)
+	b.tally -= sumIn(b.rows.Get(bucket, key))
+	return b.rows.Remove(bucket, key)
 }
 
 // rowOf returns a row: its checksum, and its value.
@@ -62,8 +62,8 @@ func sumIn(row []byte) uint64 {
 }
 
 // get returns the value of a row, nil if there is none.
-func get(tx *bbolt.Tx, bucket, key []byte) ([]byte, error) {
-	row := tx.Bucket(bucket).Get(key)
+func get(rows Rows, bucket, key []byte) ([]byte, error) {
+	row := rows.Get(bucket, key)
 	if row == nil {
 		return nil, nil
 	}
@@ -83,8 +83,8 @@ func value(bucket, key, row []byte) ([]byte, error) {
 }
 
 // each hands all rows of a bucket to a function.
-func each(tx *bbolt.Tx, bucket []byte, use func(key, value []byte) error) error {
-	return tx.Bucket(bucket).ForEach(func(key, row []byte) error {
+func each(rows Rows, bucket []byte, use func(key, value []byte) error) error {
+	return rows.Each(bucket, func(key, row []byte) error {
 		v, err := value(bucket, key, row)
 		if err != nil {
 			return err
@@ -117,15 +117,15 @@ func verify(path string) (err error) {
 		return err
 	}
 	return db.View(func(tx *bbolt.Tx) error {
-		tally := uint64(0)
+		tally, rows := uint64(0), fileRows{tx}
 		for _, bucket := range buckets {
 			if tx.Bucket(bucket) == nil {
 				return fmt.Errorf("%w: there is no bucket %q", ErrDamaged, bucket)
 			}
-			if isOldFormat(tx) {
+			if isOldFormat(rows) {
 				return nil // it is refused for that
 			}
-			if err := each(tx, bucket, func(key, value []byte) error {
+			if err := each(rows, bucket, func(key, value []byte) error {
 				if string(bucket) != string(metaBucket) || string(key) != string(countsKey) {
 					tally += uint64(sum(bucket, key, value))
 				}
@@ -134,7 +134,7 @@ func verify(path string) (err error) {
 				return err
 			}
 		}
-		if _, saved, err := counts(tx); err != nil {
+		if _, saved, err := counts(rows); err != nil {
 			return err
 		} else if saved != tally {
 			return fmt.Errorf("%w: a row is missing, or older than the others", ErrDamaged)
@@ -204,8 +204,8 @@ func verifyRoots(path string) error {
 }
 
 // counts returns how often a state was saved, and the tally of its rows.
-func counts(tx *bbolt.Tx) (saves, tally uint64, err error) {
-	row, err := get(tx, metaBucket, countsKey)
+func counts(rows Rows) (saves, tally uint64, err error) {
+	row, err := get(rows, metaBucket, countsKey)
 	if err == nil && len(row) != 16 {
 		err = fmt.Errorf("%w: there is no count of saves", ErrDamaged)
 	}
@@ -216,7 +216,7 @@ func counts(tx *bbolt.Tx) (saves, tally uint64, err error) {
 }
 
 // putCounts saves how often a state was saved, and the tally of its rows.
-func putCounts(tx *bbolt.Tx, saves, tally uint64) error {
+func putCounts(rows Rows, saves, tally uint64) error {
 	value := binary.LittleEndian.AppendUint64(binary.LittleEndian.AppendUint64(nil, saves), tally)
-	return tx.Bucket(metaBucket).Put(countsKey, rowOf(metaBucket, countsKey, value))
+	return rows.Put(metaBucket, countsKey, rowOf(metaBucket, countsKey, value))
 }

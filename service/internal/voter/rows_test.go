@@ -33,7 +33,7 @@ func aState(t *testing.T, votes int) (folder string, meta Meta) {
 	if err != nil {
 		t.Fatal(err)
 	}
-	defer s.db.Close()
+	defer s.disk.Close()
 	for i := 0; i < votes; i++ {
 		one, err := qlock.NewVoter(0, 100)
 		if err != nil {
@@ -57,7 +57,7 @@ func read(folder string, meta Meta) (content, error) {
 	if err != nil {
 		return content{}, err
 	}
-	defer s.db.Close()
+	defer s.disk.Close()
 	return contentOf(s)
 }
 
@@ -81,8 +81,8 @@ func look(folder string) (content, error) {
 		return content{}, err
 	}
 	defer db.Close()
-	s := &store{db: db}
-	if err := db.View(s.read); err != nil {
+	s := &store{disk: &fileDisk{db, folder}}
+	if err := s.disk.View(s.read); err != nil {
 		return content{}, err
 	}
 	return contentOf(s)
@@ -151,8 +151,8 @@ func TestRowsOfOneTransaction(t *testing.T) {
 			t.Fatal(err)
 		}
 		var older []byte
-		_ = s.db.View(func(tx *bbolt.Tx) error {
-			older = append(older, tx.Bucket(bucket).Get([]byte(row))...)
+		_ = s.disk.View(func(rows Rows) error {
+			older = append(older, rows.Get(bucket, []byte(row))...)
 			return nil
 		})
 		changed, err := qlock.NewVoter(0, 100)
@@ -164,7 +164,7 @@ func TestRowsOfOneTransaction(t *testing.T) {
 			plans: &Generations{Now: texts(t, all)}}); err != nil {
 			t.Fatal(err)
 		}
-		s.db.Close()
+		s.disk.Close()
 		for _, value := range [][]byte{older, nil} {
 			db, err := bbolt.Open(file(folder), 0o600, nil)
 			if err != nil {

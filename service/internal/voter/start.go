@@ -121,8 +121,8 @@ func (d *Daemon) start(now time.Time) {
 // askCeiling asks the others to keep a higher ceiling than this one.
 func (d *Daemon) askCeiling(above uint64, now time.Time) {
 	j := &d.join
-	if j.block = 2 * j.block; j.block < firstCeiling {
-		j.block = firstCeiling
+	if j.block = 2 * j.block; j.block < d.firstBlock() {
+		j.block = d.firstBlock()
 	} else if j.block > mostCeiling {
 		j.block = mostCeiling
 	}
@@ -153,7 +153,7 @@ func (d *Daemon) isKept(now time.Time) {
 	j.done = true
 	d.raiseAll()
 	d.table.hearAll(now)
-	for v := range d.busy {
+	for _, v := range d.busy.all {
 		client := int(v.held.Client)
 		d.table.byWord[client] = d.table.byWord[client] || v.held.Number > 0 && !d.table.rows[client].Open
 	}
@@ -304,7 +304,8 @@ func (d *Daemon) hearAnswer(h wire.Header, w word, now time.Time) {
 	switch {
 	case w.Known == nil || !isKnown:
 		d.m.foreign.Inc() // it is not the voter that is known there
-	case w.Process != j.process && w.Why == "" && w.Start > d.store.own.Start && p.Identity == h.Name:
+	case w.Process != j.process && w.Why == "" && w.Start > d.store.own.Start && p.Identity == h.Name &&
+		w.Known.Identity == d.store.meta.Identity: // else it is a late word to the one whose state was lost
 		d.beRefused(ErrOlder, fmt.Sprintf("voter %s says that a later process of this voter started", w.Voter))
 	case w.Process != j.process:
 		// it is of an earlier process of this voter

@@ -64,6 +64,25 @@ func TestFloorIsAboveAllThatIsKnown(t *testing.T) {
 	}
 }
 
+// A reply to a later process of this voter ends it. One to a process of before its state was lost may be late, and does not: that
+// one had started more often.
+func TestLaterProcessOfThisVoter(t *testing.T) {
+	for _, one := range []struct {
+		identity string // of whom the other voter knew
+		ends     bool
+	}{{"mine", true}, {"lost", false}, {"", false}} {
+		d, now := pair(t), time.Now()
+		d.store.meta.Identity = "mine"
+		d.hearAnswer(heard(1), answered(1, Peer{}), now)
+		late := answered(1, Peer{Identity: one.identity, Start: 70})
+		late.Process, late.Start = "another", 71
+		d.hearAnswer(heard(1), late, now)
+		if ended := d.join.refused != nil; ended != one.ends {
+			t.Errorf("the other voter knew %q: %v", one.identity, d.join.refused)
+		}
+	}
+}
+
 // A voter that never served waits until the silent ones and it contain no quorum, however long that takes.
 func TestNewVoterNeedsMoreAnswers(t *testing.T) {
 	d, now := pair(t), time.Now()
@@ -266,7 +285,7 @@ func TestEndWhileQuiet(t *testing.T) {
 		}
 		carrier := d.carrier.(*post)
 		carrier.sent = nil
-		if err := d.end(); err != nil {
+		if err := d.End(); err != nil {
 			t.Fatal(err)
 		}
 		said := 0

@@ -58,7 +58,7 @@ var buckets = [][]byte{metaBucket, voteBucket, sessionBucket, peerBucket}
 
 // store is the file of a voter's state. One transaction saves any number of votes and sessions.
 type store struct {
-	db    *bbolt.DB
+	disk  Disk
 	meta  Meta
 	plans Generations // as they were read
 	own   own         // of its starts
@@ -91,16 +91,20 @@ func Create(folder string, meta Meta, plans Generations, known Knows, ceiling ui
 }
 
 func write(path string, meta Meta, plans Generations, known Knows, ceiling uint64) error {
-	db, err := bbolt.Open(path, 0o600, &bbolt.Options{Timeout: lockTimeout})
+	disk, err := makeFile(path)
 	if err != nil {
 		return err
 	}
-	err = (&store{db: db}).update(0, func(b *batch) error {
-		for _, name := range buckets {
-			if _, err := b.tx.CreateBucket(name); err != nil {
-				return err
-			}
-		}
+	err = fill(disk, meta, plans, known, ceiling)
+	if closed := disk.Close(); err == nil {
+		err = closed
+	}
+	return err
+}
+
+// fill writes the state of a voter to a disk that has none.
+func fill(disk Disk, meta Meta, plans Generations, known Knows, ceiling uint64) error {
+	return (&store{disk: disk}).update(0, func(b *batch) error {
 		if err := b.putMeta(meta); err != nil {
 			return err
 		}
@@ -115,10 +119,6 @@ func write(path string, meta Meta, plans Generations, known Knows, ceiling uint6
 		}
 		return b.putSessions(known.Sessions)
 	})
-	if closed := db.Close(); err == nil {
-		err = closed
-	}
-	return err
 }
 
 // syncFolders syncs a folder and the one that it is in.
@@ -137,21 +137,25 @@ func syncFolders(folder string) error {
 	return nil
 }
 
-// openStore opens the state of a voter, which has to be there, and this voter's, and counts the start. One process has it
+// openStore opens the state in a folder, which has to be there, and this voter's, and counts the start. One process has it
 // at a time.
 func openStore(folder string, want Meta) (*store, error) {
-	if _, err := os.Stat(file(folder)); errors.Is(err, os.ErrNotExist) {
-		return nil, fmt.Errorf("%s: %w", file(folder), ErrMissing)
-	} else if err != nil {
+	if err := isThere(folder); err != nil {
 		return nil, err
 	}
-	db, err := openDatabase(file(folder))
+	disk, err := openFile(folder)
 	if err != nil {
-		return nil, named(file(folder), err)
+		return nil, err
 	}
-	s := &store{db: db}
-	if err := s.begin(folder, want); err != nil {
-		db.Close()
+	return openOn(disk, folder, want)
+}
+
+// openOn opens the state on a disk, which has the name of a folder, and counts the start. It closes a disk that it does not
+// take.
+func openOn(disk Disk, folder string, want Meta) (*store, error) {
+	s := &store{disk: disk}
+	if err := s.begin(want); err != nil {
+		disk.Close()
 		return nil, fmt.Errorf("%s: %w", file(folder), err)
 	}
 	return s, nil
@@ -183,8 +187,8 @@ func openDatabase(path string) (*bbolt.DB, error) {
 // begin checks whose state it is. What a killed process wrote may not be durable yet, also if a
 // sync after the one that failed says so. So a start writes a transaction before anything depends
 // on what was read, and another one, for the other root page.
-func (s *store) begin(folder string, want Meta) error {
-	if err := s.db.View(s.read); err != nil {
+func (s *store) begin(want Meta) error {
+	if err := s.disk.View(s.read); err != nil {
 		return err
 	}
 	if s.meta.owner() != want.owner() {
@@ -193,7 +197,7 @@ func (s *store) begin(folder string, want Meta) error {
 	if err := s.own.refusal(); err != nil {
 		return err
 	}
-	if err := s.db.View(check); err != nil {
+	if err := s.disk.Check(); err != nil {
 		return err
 	}
 	s.own.Start++
@@ -202,28 +206,18 @@ func (s *store) begin(folder string, want Meta) error {
 			return err
 		}
 	}
-	return syncFolders(folder)
-}
-
-// check looks at all pages of the file.
-func check(tx *bbolt.Tx) (err error) {
-	for fault := range tx.Check() {
-		if err == nil {
-			err = fmt.Errorf("%w: %v", ErrDamaged, fault)
-		}
-	}
-	return err
+	return s.disk.Sync()
 }
 
 // isOldFormat returns whether a file has the format of before there were checksums of all rows.
-func isOldFormat(tx *bbolt.Tx) bool {
+func isOldFormat(rows Rows) bool {
 	var meta Meta
-	return json.Unmarshal(tx.Bucket(metaBucket).Get(metaBucket), &meta) == nil
+	return json.Unmarshal(rows.Get(metaBucket, metaBucket), &meta) == nil
 }
 
 // read reads whose state it is, and what there is but votes and sessions.
-func (s *store) read(tx *bbolt.Tx) (err error) {
-	if isOldFormat(tx) {
+func (s *store) read(rows Rows) (err error) {
+	if isOldFormat(rows) {
 		return fmt.Errorf("%w: it has format 1, which `qlock-voter upgrade` takes over", ErrFormat)
 	}
 	var meta, plans, own []byte
@@ -231,7 +225,7 @@ func (s *store) read(tx *bbolt.Tx) (err error) {
 		key  []byte
 		into *[]byte
 	}{{metaBucket, &meta}, {plansKey, &plans}, {ownKey, &own}} {
-		if *one.into, err = get(tx, metaBucket, one.key); err != nil {
+		if *one.into, err = get(rows, metaBucket, one.key); err != nil {
 			return err
 		}
 	}
@@ -241,7 +235,7 @@ func (s *store) read(tx *bbolt.Tx) (err error) {
 	if err := s.checkFormat(); err != nil {
 		return err
 	}
-	s.saves, s.tally, err = counts(tx)
+	s.saves, s.tally, err = counts(rows)
 	return err
 }
 
@@ -249,8 +243,8 @@ func (s *store) read(tx *bbolt.Tx) (err error) {
 // in another form.
 func (s *store) load(vote func(name string, state []byte) error, session func(number int, row Session, isOld bool) error,
 	peer func(place int, p Peer)) error {
-	return s.db.View(func(tx *bbolt.Tx) error {
-		err := each(tx, voteBucket, func(key, value []byte) error {
+	return s.disk.View(func(rows Rows) error {
+		err := each(rows, voteBucket, func(key, value []byte) error {
 			state, ok := unpack(value)
 			if !ok {
 				return fmt.Errorf("vote %q: %w", key, ErrDamaged)
@@ -260,7 +254,7 @@ func (s *store) load(vote func(name string, state []byte) error, session func(nu
 		if err != nil {
 			return err
 		}
-		err = each(tx, sessionBucket, func(key, value []byte) error {
+		err = each(rows, sessionBucket, func(key, value []byte) error {
 			var row Session
 			if err := json.Unmarshal(value, &row); err != nil || len(key) != 1 || key[0] >= qlock.MaxClients {
 				return fmt.Errorf("session %x: %w", key, ErrDamaged)
@@ -274,7 +268,7 @@ func (s *store) load(vote func(name string, state []byte) error, session func(nu
 		if err != nil {
 			return err
 		}
-		return each(tx, peerBucket, func(key, value []byte) error {
+		return each(rows, peerBucket, func(key, value []byte) error {
 			var p Peer
 			if err := json.Unmarshal(value, &p); err != nil || len(key) != 1 || key[0] >= places {
 				return fmt.Errorf("place %x: %w", key, ErrDamaged)
@@ -339,13 +333,13 @@ func (s *store) save(c changes) error {
 // update writes rows in one transaction, and with them how often the state was saved.
 func (s *store) update(saves uint64, write func(*batch) error) error {
 	tally := s.tally
-	err := s.db.Update(func(tx *bbolt.Tx) error {
-		b := batch{tx, s.tally}
+	err := s.disk.Update(func(rows Rows) error {
+		b := batch{rows, s.tally}
 		err := write(&b)
 		if tally = b.tally; err != nil {
 			return err
 		}
-		return putCounts(tx, saves, tally)
+		return putCounts(rows, saves, tally)
 	})
 	if err == nil {
 		s.saves, s.tally = saves, tally

@@ -74,7 +74,7 @@ func TestUpgrade(t *testing.T) {
 	if err != nil {
 		t.Fatal(err)
 	}
-	defer d.store.db.Close()
+	defer d.store.disk.Close()
 	d.start(time.Now())
 	if d.quiet(time.Now()) == 0 {
 		t.Error("it is not quiet, though nobody knows how it ended")

@@ -68,12 +68,12 @@ func TestLocksOfAUser(t *testing.T) {
 	if err := d.save(time.Now()); err != nil {
 		t.Fatal(err)
 	}
-	d.store.db.Close()
+	d.store.disk.Close()
 	again, err := Open(d.own, d.cluster, &post{}, event.To(io.Discard))
 	if err != nil {
 		t.Fatal(err)
 	}
-	defer again.store.db.Close()
+	defer again.store.disk.Close()
 	if again.users["jobs"].votes != 2 || again.users["web"].votes != 3 { // who waits asks again
 		t.Errorf("after a start jobs has %v, web %v", again.users["jobs"], again.users["web"])
 	}

@@ -35,6 +35,7 @@ type vote struct {
 	letGo     time.Time // when a grant of it was let go
 	highest   uint64    // no grant of it has a greater number
 	isResting bool      // nobody has it or waits for it, and it is among those that are forgotten after a while
+	place     int       // among the busy ones, from 1 on, 0 if it is none
 }
 
 // isHolder returns whether the client has the vote.
@@ -110,10 +111,10 @@ func (d *Daemon) noteAsk(v *vote, client int, now time.Time) error {
 	}
 	if len(v.asks) == 0 {
 		v.asks, v.users = nil, nil
-		delete(d.busy, v)
+		d.busy.remove(v)
 		d.rest(v, now)
 	} else {
-		d.busy[v] = struct{}{}
+		d.busy.add(v)
 	}
 	return nil
 }
@@ -129,7 +130,7 @@ func (d *Daemon) count(client int, one ask, by int) {
 // recount counts anew, once a number has a new session.
 func (d *Daemon) recount(client int) {
 	d.requests[client] = 0
-	for v := range d.busy {
+	for _, v := range d.busy.all {
 		if one, asked := v.asks[client]; asked {
 			d.count(client, one, 1)
 		}

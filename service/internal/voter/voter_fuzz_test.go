@@ -70,7 +70,7 @@ func newStage(f *testing.F) *stage {
 	if err := d.commit(time.Now()); err != nil {
 		f.Fatal(err)
 	}
-	d.store.db.Close()
+	d.store.disk.Close()
 	s.state = s.read(f)
 	return s
 }
@@ -143,7 +143,7 @@ func (s *stage) again(t testing.TB) *Daemon {
 	t.Helper()
 	s.put(t)
 	d := s.open(t)
-	t.Cleanup(func() { d.store.db.Close() })
+	t.Cleanup(func() { d.store.disk.Close() })
 	return d
 }
 
@@ -390,8 +390,8 @@ func FuzzRows(f *testing.F) {
 	s := newStage(f)
 	d := s.open(f)
 	rows, held := d.table.rows, d.votes["orders"].held
-	places := rowsOf(f, d.store.db)
-	d.store.db.Close()
+	places := rowsOf(f, d.store.disk.(*fileDisk).db)
+	d.store.disk.Close()
 	s.state = s.read(f) // each start changes a row
 	for i, place := range places {
 		f.Add(uint8(i), uint16(0), []byte{})
@@ -422,7 +422,7 @@ func FuzzRows(f *testing.F) {
 			}
 			return
 		}
-		defer d.store.db.Close()
+		defer d.store.disk.Close()
 		if !same || d.table.rows != rows || len(d.votes) != 1 || d.votes["orders"].held != held {
 			t.Fatalf("%q starts as row %q of %s", value, place[1], place[0])
 		}

@@ -1,0 +1,91 @@
+package voter
+
+import (
+	"fmt"
+	"os"
+
+	"go.etcd.io/bbolt"
+)
+
+// fileDisk is a disk in a file of bbolt.
+type fileDisk struct {
+	db     *bbolt.DB
+	folder string
+}
+
+// openFile opens the file in a folder, all of whose rows are as they were saved. It has to be there.
+func openFile(folder string) (*fileDisk, error) {
+	db, err := openDatabase(file(folder))
+	if err != nil {
+		return nil, named(file(folder), err)
+	}
+	return &fileDisk{db, folder}, nil
+}
+
+// makeFile makes a file with empty buckets, or opens one that is half made.
+func makeFile(path string) (*fileDisk, error) {
+	db, err := bbolt.Open(path, 0o600, &bbolt.Options{Timeout: lockTimeout})
+	if err != nil {
+		return nil, err
+	}
+	err = db.Update(func(tx *bbolt.Tx) error {
+		for _, name := range buckets {
+			if _, err := tx.CreateBucket(name); err != nil {
+				return err
+			}
+		}
+		return nil
+	})
+	if err != nil {
+		db.Close()
+		return nil, err
+	}
+	return &fileDisk{db: db}, nil
+}
+
+func (f *fileDisk) View(read func(Rows) error) error {
+	return f.db.View(func(tx *bbolt.Tx) error { return read(fileRows{tx}) })
+}
+
+func (f *fileDisk) Update(change func(Rows) error) error {
+	return f.db.Update(func(tx *bbolt.Tx) error { return change(fileRows{tx}) })
+}
+
+// Check looks at all pages of the file.
+func (f *fileDisk) Check() error { return f.db.View(check) }
+
+func (f *fileDisk) Sync() error { return syncFolders(f.folder) }
+
+func (f *fileDisk) Close() error { return f.db.Close() }
+
+// check looks at all pages of a file.
+func check(tx *bbolt.Tx) (err error) {
+	for fault := range tx.Check() {
+		if err == nil {
+			err = fmt.Errorf("%w: %v", ErrDamaged, fault)
+		}
+	}
+	return err
+}
+
+// fileRows are the rows of a file.
+type fileRows struct{ tx *bbolt.Tx }
+
+func (r fileRows) Get(bucket, key []byte) []byte { return r.tx.Bucket(bucket).Get(key) }
+
+func (r fileRows) Put(bucket, key, row []byte) error { return r.tx.Bucket(bucket).Put(key, row) }
+
+func (r fileRows) Remove(bucket, key []byte) error { return r.tx.Bucket(bucket).Delete(key) }
+
+func (r fileRows) Each(bucket []byte, use func(key, row []byte) error) error {
+	return r.tx.Bucket(bucket).ForEach(use)
+}
+
+// isThere returns an error unless a folder has a state, or it is not known.
+func isThere(folder string) error {
+	_, err := os.Stat(file(folder))
+	if os.IsNotExist(err) {
+		return fmt.Errorf("%s: %w", file(folder), ErrMissing)
+	}
+	return err
+}

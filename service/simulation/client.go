@@ -1,0 +1,857 @@
+package simulation
+
+import (
+	"bytes"
+	"encoding/hex"
+	"fmt"
+	"strconv"
+	"time"
+
+	"calvundek.example/service/internal/level"
+	"calvundek.example/service/internal/wire"
+	"calvundek.example/service/qlock"
+	"calvundek.example/service/transport"
+)
+
+// The clients of a run.
+//
+// They follow the rules of package locks (session.go, request.go, watch.go), whose client has goroutines and reads the
+// machine's clock, and so can't be stepped. Shared with it are the proved client of package qlock, the messages (wire), the
+// plans, and the timer of reminders (remind). What is here is the simulation's own: it is kept in the order of package locks,
+// under the same names, so that both can be laid side by side. There are no plans that are exchanged, and no calls that only
+// try.
+
+const (
+	firstBlock = 64 // as in package locks
+	mostBlock  = 4096
+	brief      = 2 * time.Second
+	ticks      = 25 * time.Millisecond // of the loop, and of who looks after leases
+)
+
+// leaseOf returns for how long a vote counts after its client's heartbeat left.
+func leaseOf(ttl time.Duration) time.Duration { return ttl * 8 / 10 }
+
+// stopOf returns how long a program takes to stop, at most.
+func stopOf(ttl time.Duration) time.Duration { return ttl / 10 }
+
+// stage says how far a session is.
+type stage int
+
+const (
+	choosing  stage = iota // it asks which numbers are free
+	waiting                // there is none
+	claiming               // it claims one
+	reserving              // it reserves its first stamps
+	isOpen
+	isEnded
+)
+
+// peer is a voter, as a session knows it.
+type peer struct {
+	identity string
+	run      uint64
+	start    uint64
+	unsure   bool                     // it started again, and some vote of it was not renewed yet
+	quiet    time.Duration            // until then it takes only requests of who is inside
+	heard    time.Duration            // when a message came
+	known    time.Duration            // when the newest heartbeat left that it acknowledged
+	sent     map[uint64]time.Duration // when heartbeats left that it did not acknowledge
+	accepts  bool                     // it accepted this session's claim of its number
+	base     uint64                   // all stamps of this session are above it there
+	reserved uint64                   // what it acknowledged as reserved
+	claimed  uint64                   // with which heartbeat the number was claimed there again
+	taken    bool                     // it said that this session is over
+	lapses   uint64                   // how often it let a grant of this session go since it was silent
+	stale    bool                     // the message that is taken is from before the last time
+	requests uint64                   // how many of this session it said that it has
+	drained  bool                     // it has no request of this session any more
+	closed   bool                     // it ended this session
+}
+
+// client is a process with one session, and a program that wants each lock from time to time.
+type client struct {
+	*world
+	id    int
+	clock clock
+	cut   bool
+	still instant // it stands still until then
+	queue []transport.Message
+	box   *box
+	beats time.Duration // how long it is from one heartbeat to the next one
+	over  time.Duration // after which silence a voter is passed over
+
+	name     string // of the session
+	header   wire.Header
+	peers    []peer
+	stage    stage
+	replied  uint64 // the voters that replied to what is asked now
+	epochs   [qlock.MaxClients]uint64
+	states   [qlock.MaxClients]int // the worst that a voter said of a number: 0 taken, 2 silent for the TTL, 1 free
+	asked    int
+	claimed  uint64
+	refused  bool
+	saysAt   time.Duration // when what is asked is asked again
+	pause    time.Duration
+	ends     time.Duration // when a claim is given up
+	beat     time.Duration // when the last heartbeat left
+	used     uint64
+	block    uint64
+	idle     uint64 // the first heartbeat since nothing is asked or held any more, 0 if something is
+	draining bool
+
+	locks  []*lock
+	ticket int
+	out    [qlock.MaxVoters][]byte
+	room   []byte
+}
+
+// newClient starts a process.
+func newClient(w *world, id int) *client {
+	c := &client{world: w, id: id, clock: clock{since: w.now, base: 2*time.Hour + w.upTo(time.Hour), rate: w.rate(false)}}
+	c.beats = w.ttl / 4
+	if c.beats > 500*time.Millisecond {
+		c.beats = 500 * time.Millisecond
+	}
+	c.over = 4 * c.beats
+	for i := range w.locks {
+		c.locks = append(c.locks, &lock{witness: w.locks[i], client: c})
+	}
+	c.open()
+	c.tick()
+	for _, l := range c.locks {
+		l.think()
+	}
+	return c
+}
+
+// open begins a session.
+func (c *client) open() {
+	random := make([]byte, 16)
+	_, _ = c.random.Read(random)
+	c.header = wire.Header{Cluster: c.cluster.ID, Coterie: c.cluster.Marks()[0], Kind: wire.FromClient, Name: hex.EncodeToString(random), Level: level.Newest}
+	c.name = wire.SessionName(wire.NoUser, c.header.Name)
+	c.peers = make([]peer, len(c.cluster.Names()))
+	now := c.shows()
+	for v := range c.peers {
+		c.peers[v] = peer{sent: map[uint64]time.Duration{}, heard: now, known: now}
+	}
+	c.asked, c.claimed, c.draining, c.idle, c.beat = -1, 0, false, 0, 0
+	c.epochs = [qlock.MaxClients]uint64{}
+	c.sessions[c.name] = c
+	c.box = &box{takes: c.takes}
+	c.broker.listen(c.boxes(), c.box)
+	c.stage = choosing
+	c.choose()
+}
+
+func (c *client) boxes() string { return wire.SessionBoxes(c.cluster.ID, c.name) }
+
+// shows returns what the client's clock shows.
+func (c *client) shows() time.Duration { return c.clock.shows(c.now) }
+
+// atShown plans an event by the client's clock. A session that is over by then does nothing.
+func (c *client) atShown(shown time.Duration, do func()) {
+	name := c.name
+	c.at(c.clock.when(shown), func() { c.whenUp(name, do) })
+}
+
+// whenUp does something for a session once the process does not stand still.
+func (c *client) whenUp(name string, do func()) {
+	switch {
+	case c.name != name || c.stage == isEnded:
+	case c.now < c.still:
+		c.at(c.still, func() { c.whenUp(name, do) })
+	default:
+		do()
+		c.flush()
+	}
+}
+
+// tick goes round: it does what time asks for.
+func (c *client) tick() {
+	c.atShown(c.shows()+ticks, func() {
+		c.look()
+		c.round()
+		c.tick()
+	})
+}
+
+// takes takes a message of a voter. While the process stands still it waits.
+func (c *client) takes(m transport.Message) {
+	switch {
+	case c.cut || c.stage == isEnded:
+	case c.now < c.still:
+		if len(c.queue) < room {
+			c.queue = append(c.queue, m)
+		}
+	default:
+		c.takeQueue()
+		c.message(m)
+		c.flush()
+	}
+}
+
+// takeQueue takes what came while the process stood still.
+func (c *client) takeQueue() {
+	for len(c.queue) > 0 && c.stage != isEnded {
+		m := c.queue[0]
+		c.queue = c.queue[1:]
+		c.message(m)
+	}
+}
+
+// standsStill lets the process stand still for a while.
+func (c *client) standsStill(d time.Duration) {
+	c.still = after(c.now, d)
+	name := c.name
+	c.at(c.still, func() { c.whenUp(name, c.takeQueue) })
+}
+
+// isOver ends the session, and with it what it has. The process opens another one.
+func (c *client) isOver() {
+	for _, l := range c.locks {
+		l.isOver()
+	}
+	c.broker.leave(c.boxes(), c.box)
+	delete(c.sessions, c.name)
+	c.stage = isEnded
+	c.queue = nil
+	for v := range c.out {
+		c.out[v] = nil
+	}
+}
+
+// opensAgain opens another session after a while.
+func (c *client) opensAgain(d time.Duration) {
+	c.in(d, func() {
+		if c.stage != isEnded {
+			return
+		}
+		c.log("client %d opens another session", c.id)
+		c.open()
+		c.flush()
+		c.tick()
+		for _, l := range c.locks {
+			l.think()
+		}
+	})
+}
+
+// choose asks the voters which numbers are free.
+func (c *client) choose() {
+	c.stage, c.replied, c.claimed = choosing, 0, 0
+	for i := range c.states {
+		c.states[i] = 1
+	}
+	c.begins()
+}
+
+// begins begins to say what the stage says, again and again.
+func (c *client) begins() {
+	c.pause, c.saysAt = 0, c.shows()
+	c.goesOn()
+}
+
+// goesOn says what the stage says, once it is time to.
+func (c *client) goesOn() {
+	now := c.shows()
+	if c.stage == claiming && now >= c.ends {
+		c.abandon()
+		return
+	}
+	if now < c.saysAt {
+		return
+	}
+	c.pause += 100 * time.Millisecond
+	c.saysAt = now + c.pause
+	switch c.stage {
+	case choosing:
+		c.say("hello")
+	case waiting:
+		c.choose()
+	case claiming:
+		c.say(fmt.Sprintf("claim %d %d %d", c.asked, c.claimed, firstBlock))
+	case reserving:
+		c.heartbeat()
+	}
+}
+
+// hears goes on to the next stage once enough is known.
+func (c *client) hears() {
+	switch {
+	case c.stage == choosing && c.isAnswered():
+		c.claim()
+	case c.stage == claiming && c.refused:
+		c.abandon()
+	case c.stage == claiming && c.isAnswered():
+		c.reserveFirst()
+	case c.stage == reserving && c.refused:
+		c.abandon()
+	case c.stage == reserving && c.hasQuorum(c.owners(c.used+1)):
+		c.stage = isOpen
+		c.ticket = c.header.Number * len(c.cluster.Planned.Quorums) / qlock.MaxClients
+		c.log("client %d has number %d and epoch %d", c.id, c.header.Number, c.header.Epoch)
+		for _, l := range c.locks {
+			l.pump()
+		}
+	}
+}
+
+func (c *client) hasQuorum(voters uint64) bool { return c.cluster.Planned.HasQuorum(voters) }
+
+// isAnswered returns whether a quorum replied.
+func (c *client) isAnswered() bool { return c.hasQuorum(c.replied) }
+
+// claim claims a number under a new epoch.
+func (c *client) claim() {
+	c.asked = -1
+	few := 1 + c.random.Intn(8) // so that numbers are given on
+	for _, want := range []int{1, 2} {
+		for i, first := 0, c.random.Intn(few); i < qlock.MaxClients && c.asked < 0; i++ {
+			if number := (first + i) % qlock.MaxClients; c.states[number] == want {
+				c.asked = number
+			}
+		}
+	}
+	if c.asked < 0 {
+		c.stage, c.pause, c.saysAt = waiting, 0, c.shows()+c.ttl/10
+		return
+	}
+	c.stage, c.claimed = claiming, c.epochs[c.asked]+1
+	c.replied, c.refused, c.used, c.block = 0, false, 0, firstBlock
+	for v := range c.peers {
+		c.peers[v].forget()
+	}
+	c.ends, c.beat = c.shows()+brief, c.shows() // when the claim leaves
+	c.begins()
+}
+
+// reserveFirst reserves the first stamps of a number that a quorum gave to this session.
+func (c *client) reserveFirst() {
+	now := c.shows()
+	for v := range c.peers {
+		c.peers[v].heard = now
+		c.peers[v].known = c.beat
+	}
+	c.stage, c.refused = reserving, false
+	c.header.Number, c.header.Epoch, c.header.Reserved = c.asked, c.claimed, c.used+firstBlock
+	if c.hears(); c.stage == reserving {
+		c.begins()
+	}
+}
+
+// abandon gives a number back that some voters gave to this session, or will give it.
+func (c *client) abandon() {
+	for _, l := range c.locks {
+		l.Client = nil
+		l.shown = qlock.Shown{}
+	}
+	c.header.Number, c.header.Epoch, c.header.Reserved = 0, 0, 0
+	for v := range c.peers {
+		c.peers[v].sent = map[uint64]time.Duration{}
+		c.peers[v].forget()
+		c.out[v] = append(c.out[v][:0], fmt.Sprintf(". drop %d %d\n", c.asked, c.claimed)...)
+	}
+	c.epochs[c.asked] = c.claimed
+	c.flush()
+	c.choose()
+}
+
+// say says a control line to all voters.
+func (c *client) say(text string) {
+	for v := range c.peers {
+		c.out[v] = append(c.out[v], ". "+text+"\n"...)
+	}
+}
+
+// forget forgets what a voter said of a number.
+func (p *peer) forget() {
+	p.accepts, p.taken, p.base, p.reserved, p.claimed, p.lapses = false, false, 0, 0, 0, 0
+}
+
+// use notes that a stamp is used. It reserves more before the block is spent.
+func (c *client) use(stamp uint64) {
+	if stamp > c.used {
+		c.used = stamp
+	}
+	c.reserve(stamp)
+}
+
+// reserve asks the voters to keep that stamps above this one may be used.
+func (c *client) reserve(stamp uint64) {
+	if c.header.Reserved >= stamp+c.block/2 {
+		return
+	}
+	if c.block < mostBlock {
+		c.block *= 2
+	}
+	c.header.Reserved = stamp + c.block
+	c.heartbeat()
+}
+
+// noteStamps notes which stamps are this session's at a voter.
+func (c *client) noteStamps(v int, base, reserved uint64) {
+	p := &c.peers[v]
+	if reserved > qlock.MaxStamp || base > reserved {
+		return
+	}
+	before := *p
+	p.accepts, p.base, p.reserved = true, greatest(p.base, base), greatest(p.reserved, reserved)
+	if p.accepts == before.accepts && p.base == before.base && p.reserved == before.reserved {
+		return
+	}
+	for _, l := range c.locks {
+		if l.isBusy() && l.shown.Phase == qlock.Idle {
+			l.pump()
+		}
+	}
+}
+
+func greatest(a, b uint64) uint64 {
+	if a > b {
+		return a
+	}
+	return b
+}
+
+// owners returns the voters that said that a stamp is this session's.
+func (c *client) owners(stamp uint64) (mask uint64) {
+	for v := range c.peers {
+		if p := &c.peers[v]; p.accepts && p.base < stamp && stamp <= p.reserved {
+			mask |= 1 << v
+		}
+	}
+	return mask
+}
+
+// floor returns the highest base that a voter told this session.
+func (c *client) floor() (base uint64) {
+	for v := range c.peers {
+		base = greatest(base, c.peers[v].base)
+	}
+	return base
+}
+
+// mayAsk returns whether a quorum may be asked under a stamp.
+func (c *client) mayAsk(quorum, stamp uint64) bool {
+	owners := c.owners(stamp)
+	return quorum&^owners == 0 && c.hasQuorum(owners)
+}
+
+// isBusy returns whether something is asked, held or wanted.
+func (c *client) isBusy() bool {
+	for _, l := range c.locks {
+		if l.isBusy() {
+			return true
+		}
+	}
+	return false
+}
+
+// heartbeat shows that the session is there. What may have been lost before is lost first.
+func (c *client) heartbeat() {
+	c.lapse()
+	now := c.shows()
+	c.beat = now
+	c.header.Seq++
+	switch {
+	case c.isBusy():
+		c.idle = 0
+	case c.idle == 0:
+		c.idle = c.header.Seq
+	default:
+		c.disclaim()
+	}
+	for v := range c.peers {
+		p := &c.peers[v]
+		for seq, left := range p.sent {
+			if now-left > c.ttl {
+				delete(p.sent, seq)
+			}
+		}
+		if p.closed {
+			continue
+		}
+		p.sent[c.header.Seq] = now
+		c.out[v] = append(c.out[v], ". open 0\n"...)
+		if c.draining && p.drained {
+			c.out[v] = append(c.out[v], ". close\n"...)
+		}
+	}
+}
+
+// disclaim ends what voters still have of a session that wants nothing.
+func (c *client) disclaim() {
+	var voters uint64
+	for v := range c.peers {
+		if c.peers[v].requests > 0 {
+			voters |= 1 << v
+		}
+	}
+	for _, l := range c.locks {
+		if voters == 0 || l.Client == nil {
+			continue
+		}
+		if lines, err := l.Disclaim(voters, c.room[:0]); err == nil {
+			c.room = lines
+			l.send(lines)
+		}
+	}
+}
+
+// doubtful returns the voters that may have let votes go.
+func (c *client) doubtful() (mask uint64) {
+	now := c.shows()
+	for v := range c.peers {
+		if now-c.peers[v].known > leaseOf(c.ttl) {
+			mask |= 1 << v
+		}
+	}
+	return mask
+}
+
+// avoided returns the voters that are asked only if nobody else would do: they are silent, or quiet.
+func (c *client) avoided() (mask uint64) {
+	now := c.shows()
+	for v := range c.peers {
+		if p := &c.peers[v]; now-p.heard > c.over || now < p.quiet {
+			mask |= 1 << v
+		}
+	}
+	return mask
+}
+
+// message takes a message of a voter.
+func (c *client) message(m transport.Message) {
+	h, lines, err := wire.Read(m.Data)
+	if err != nil || h.Cluster != c.header.Cluster || h.Kind != wire.FromVoter || h.Number >= len(c.peers) ||
+		m.Sender() != strconv.Itoa(h.Number) || h.Coterie != c.header.Coterie || !c.recognise(h) {
+		return
+	}
+	c.peers[h.Number].heard = c.shows()
+	c.noteLapses(h)
+	for c.stage != isEnded {
+		lock, line, rest, found := wire.Next(lines)
+		if !found {
+			break
+		}
+		lines = rest
+		if string(lock) == "." {
+			c.control(h.Number, bytes.Fields(line))
+		} else if wire.ReadLine(line).From == h.Number && c.header.Epoch > 0 && !c.peers[h.Number].stale {
+			c.take(string(lock), line)
+		}
+	}
+	c.hears()
+}
+
+// recognise returns whether a message is of the voter that was there before, or of one that takes its place.
+func (c *client) recognise(h wire.Header) bool {
+	p := &c.peers[h.Number]
+	before := *p
+	switch {
+	case h.Name == p.identity && h.Start == p.start:
+		return true
+	case p.identity == "" || h.Name != p.identity && h.Run > p.run || h.Name == p.identity && h.Start > p.start:
+		p.identity, p.run, p.start = h.Name, h.Run, h.Start
+	default:
+		return false
+	}
+	switch {
+	case before.identity == "":
+	case before.identity != h.Name:
+		p.forget()
+		c.spoilAll(1 << h.Number)
+	default:
+		if h.Lapses < p.lapses {
+			p.lapses = h.Lapses
+		}
+		c.restarted(h.Number)
+	}
+	return true
+}
+
+// isUnsure returns whether a request is inside by the vote of a voter that started again, and did not say since that it is.
+func (c *client) isUnsure(v int) bool {
+	p := &c.peers[v]
+	if p.unsure {
+		p.unsure = false
+		for _, l := range c.locks {
+			p.unsure = p.unsure || l.unrenewed>>v&1 == 1 && (l.held == nil || !l.held.isLost)
+		}
+	}
+	return p.unsure
+}
+
+// restarted renews at a voter that started again the requests that are inside by its vote. Others that have its vote are given
+// up.
+func (c *client) restarted(v int) {
+	for _, l := range c.locks {
+		switch {
+		case l.shown.Phase == qlock.Idle || l.votes()>>v&1 == 0:
+		case l.shown.Phase == qlock.Inside:
+			l.unrenewed |= 1 << v
+			c.peers[v].unsure = true
+			l.remind()
+		default:
+			l.askAgain()
+		}
+	}
+}
+
+// noteLapses notes how often a voter let a grant of this session go since it was silent.
+func (c *client) noteLapses(h wire.Header) {
+	p := &c.peers[h.Number]
+	p.stale = h.Lapses < p.lapses
+	if h.Lapses <= p.lapses {
+		return
+	}
+	p.lapses = h.Lapses
+	for _, l := range c.locks {
+		if l.shown.Phase != qlock.Idle && l.votes()>>h.Number&1 == 1 {
+			l.spoil()
+		}
+	}
+}
+
+// spoilAll ends all requests to these voters.
+func (c *client) spoilAll(voters uint64) {
+	for _, l := range c.locks {
+		if l.shown.Phase != qlock.Idle && l.shown.Quorum&voters != 0 {
+			l.spoil()
+		}
+	}
+}
+
+// control takes a control line of a voter.
+func (c *client) control(v int, words [][]byte) {
+	if len(words) == 0 {
+		return
+	}
+	word := string(words[0])
+	var n [6]uint64
+	switch {
+	case len(words) == 3 && word == "gone":
+		if stamp, ok := wire.Decimal(words[2]); ok {
+			c.gone(string(words[1]), stamp)
+		}
+		return
+	case len(words) == 1 && word == "leaving":
+		c.peers[v].heard = -time.Hour
+		c.avoid()
+		return
+	case len(words) == 2 && word == "quiet":
+		if left, ok := wire.Decimal(words[1]); ok {
+			c.isQuiet(v, left)
+		}
+		return
+	case len(words) < 3 || len(words) > 1+len(n):
+		return
+	}
+	for i, text := range words[1:] {
+		value, ok := wire.Decimal(text)
+		if !ok {
+			return
+		}
+		n[i] = value
+	}
+	if n[0] >= qlock.MaxClients {
+		return
+	}
+	mine := int(n[0]) == c.header.Number && n[1] == c.header.Epoch && c.header.Epoch > 0
+	switch word {
+	case "number":
+		if c.stage == choosing {
+			c.noteNumber(v, int(n[0]), n[1], int(n[2]))
+		}
+	case "claimed", "refused":
+		if c.stage == claiming && int(n[0]) == c.asked && n[1] == c.claimed || mine {
+			c.noteClaim(v, word == "claimed", n[2], n[3])
+		}
+	case "opened":
+		if mine && !c.peers[v].stale {
+			c.opened(v, n[2], n[3], n[4], n[5])
+		}
+	case "unknown":
+		if mine {
+			c.claimAgain(v)
+		}
+	case "closed", "taken":
+		if mine {
+			c.isOverAt(v)
+		}
+	}
+}
+
+// isQuiet notes that a voter takes no new request for so many milliseconds, at most a TTL.
+func (c *client) isQuiet(v int, left uint64) {
+	if most := uint64(c.ttl.Milliseconds()); left > most {
+		left = most
+	}
+	c.peers[v].quiet = c.shows() + time.Duration(left)*time.Millisecond
+	c.avoid()
+}
+
+// avoid lets requests that wait for a silent voter ask others, if they would do.
+func (c *client) avoid() {
+	for _, l := range c.locks {
+		if l.waitsFor(c.avoided()) {
+			l.askAgain()
+		}
+	}
+}
+
+// noteNumber notes what a voter says of a number.
+func (c *client) noteNumber(v, which int, epoch uint64, state int) {
+	if epoch > c.epochs[which] {
+		c.epochs[which] = epoch
+	}
+	if state == 0 || c.states[which] == 1 {
+		c.states[which] = state
+	}
+	c.replied |= 1 << v
+}
+
+// noteClaim notes a voter's reply to a claim.
+func (c *client) noteClaim(v int, granted bool, base, reserved uint64) {
+	if !granted {
+		c.refused = c.refused || c.header.Epoch == 0
+		return
+	}
+	c.replied |= 1 << v
+	if c.header.Epoch == 0 && base <= qlock.MaxStamp {
+		c.used = greatest(c.used, base)
+	}
+	c.noteStamps(v, base, reserved)
+}
+
+// claimAgain claims the number at a voter that does not know this session, once for each heartbeat.
+func (c *client) claimAgain(v int) {
+	if p := &c.peers[v]; p.claimed < c.header.Seq {
+		p.claimed = c.header.Seq
+		c.out[v] = append(c.out[v], fmt.Sprintf(". claim %d %d %d\n", c.header.Number, c.header.Epoch, firstBlock)...)
+	}
+}
+
+// opened takes the reply to a heartbeat.
+func (c *client) opened(v int, base, reserved, seq, requests uint64) {
+	p := &c.peers[v]
+	if left, ok := p.sent[seq]; ok && left > p.known && !c.isUnsure(v) {
+		if p.known = left; c.Wrong.LeaseFromReply {
+			p.known = c.shows()
+		}
+	}
+	p.requests = requests
+	if c.draining && requests == 0 && c.idle > 0 && seq >= c.idle {
+		p.drained = true
+	}
+	if p.drained && !p.closed {
+		c.out[v] = append(c.out[v], ". close\n"...)
+	}
+	c.noteStamps(v, base, reserved)
+}
+
+// isOverAt notes that this session is over at a voter. It ends once the other voters contain no quorum.
+func (c *client) isOverAt(v int) {
+	p := &c.peers[v]
+	switch {
+	case c.stage == reserving:
+		c.refused = true
+	case c.draining && p.drained:
+		p.closed = true
+		c.finish()
+	default:
+		p.accepts, p.taken = false, true
+		c.spoilAll(1 << v)
+		var takers uint64
+		for v := range c.peers {
+			if c.peers[v].taken {
+				takers |= 1 << v
+			}
+		}
+		if !c.hasQuorum(^takers) {
+			c.log("client %d lost its session", c.id)
+			c.isOver()
+			c.opensAgain(c.upTo(c.ttl))
+		}
+	}
+}
+
+// drain begins to close the session.
+func (c *client) drain() {
+	c.log("client %d closes its session", c.id)
+	c.draining, c.idle = true, 0
+	for _, l := range c.locks {
+		l.wants = false
+		l.pump()
+	}
+	c.heartbeat()
+}
+
+// finish ends a drain once all voters that are there have closed the session, and they contain a quorum.
+func (c *client) finish() {
+	var closed, open, silent uint64
+	for v := range c.peers {
+		if p := &c.peers[v]; p.closed {
+			closed |= 1 << v
+		} else if p.accepts {
+			open |= 1 << v
+		}
+		if c.shows()-c.peers[v].heard > c.over {
+			silent |= 1 << v
+		}
+	}
+	if c.draining && open&^silent == 0 && c.hasQuorum(closed) {
+		c.log("client %d closed its session", c.id)
+		c.Incidents["sessions closed"]++
+		c.isOver()
+		c.opensAgain(c.upTo(c.ttl))
+	}
+}
+
+// round does what time asks for: heartbeats, reminders, and other quorums in place of those with a silent voter.
+func (c *client) round() {
+	if c.stage != isOpen {
+		c.goesOn()
+		return
+	}
+	if c.shows()-c.beat >= c.beats {
+		c.heartbeat()
+	} else {
+		c.lapse()
+	}
+	avoided := c.avoided()
+	for _, l := range c.locks {
+		switch {
+		case !l.isBusy():
+		case l.shown.Phase == qlock.Idle:
+			l.pump()
+		case c.shows()-l.asked > c.over && l.waitsFor(avoided):
+			l.askAgain()
+		case l.timer.IsDue(dateOf(c.shows())):
+			l.remind()
+		}
+	}
+	if c.draining {
+		c.finish()
+	}
+}
+
+// flush sends what was made to be sent.
+func (c *client) flush() {
+	if c.stage == isEnded {
+		return
+	}
+	for v := range c.peers {
+		if len(c.out[v]) == 0 {
+			continue
+		}
+		box := wire.VoterBox(c.cluster.ID, v, wire.NoUser)
+		c.header.Split(c.out[v], func(message []byte) {
+			if !c.cut {
+				c.broker.send(c.now, box, message)
+			}
+		})
+		c.out[v] = c.out[v][:0]
+	}
+}

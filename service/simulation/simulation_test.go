@@ -1,0 +1,183 @@
+package simulation
+
+import (
+	"errors"
+	"strings"
+	"testing"
+	"time"
+
+	"calvundek.example/service/internal/wire"
+	"calvundek.example/service/qlock"
+)
+
+// Whatever happens, no check finds anything.
+func TestRuns(t *testing.T) {
+	var total Figures
+	for seed := int64(1); seed <= 16; seed++ {
+		r := Run(Options{Seed: seed, Events: 12000})
+		if r.Fault != nil {
+			t.Fatalf("seed %d: %v", seed, r.Fault)
+		}
+		total.Add(r.Figures)
+	}
+	for _, kind := range Kinds() {
+		if total.Incidents[kind] == 0 {
+			t.Errorf("there were no %s", kind)
+		}
+	}
+	if total.Passes < 500 || total.Lost == 0 || total.Refused == 0 {
+		t.Errorf("%+v", total)
+	}
+	t.Logf("%d passes, %d events, %.0f s", total.Passes, total.Steps, total.Virtual.Seconds())
+}
+
+// The same seed gives the same run, also if its schedule is written. Another seed gives another one.
+func TestSeedRepeatsItsRun(t *testing.T) {
+	hashes := map[uint64]bool{}
+	for seed := int64(20); seed < 24; seed++ {
+		lines := 0
+		first, second := Run(Options{Seed: seed, Events: 8000}),
+			Run(Options{Seed: seed, Events: 8000, ShowMessages: true, Trace: func(string) { lines++ }})
+		if first.Hash != second.Hash || first.Steps != second.Steps || first.Virtual != second.Virtual || lines == 0 {
+			t.Errorf("seed %d: %x in %d steps, then %x in %d", seed, first.Hash, first.Steps, second.Hash, second.Steps)
+		}
+		hashes[first.Hash] = true
+	}
+	if len(hashes) != 4 {
+		t.Errorf("%d hashes of four runs", len(hashes))
+	}
+}
+
+// Each duty of a host is needed: a run in which it is broken is found, and by which check. The same seed with right hosts is not.
+func TestWrongHosts(t *testing.T) {
+	for _, one := range []struct {
+		duty, only, checks string
+		seeds              int64
+	}{
+		{"sends-first", "voters killed", "unsaved", 3},
+		{"stale-time", "clients that stand still once voters go on", "exclusion guard", 200},
+		{"failed-save", "full disks", "unsaved", 10},
+		{"older-copy", "older copies of states", "grants exclusion", 20},
+		{"two-processes", "voters cut off", "unsaved exclusion", 20},
+		{"goes-on", "clients that stand still", "exclusion", 20},
+		{"lease-from-reply", "times of noise,clients cut off,clients that stand still", "exclusion guard", 200},
+		{"clocks", "clients cut off", "exclusion guard", 50},
+		{"starts-empty", "states lost", "exclusion guard", 100},
+	} {
+		o := Options{Events: 20000, Only: strings.Split(one.only, ",")}
+		for _, duty := range Duties {
+			if duty.Name == one.duty {
+				duty.Breaks(&o.Wrong)
+			}
+		}
+		if o.Wrong == (Wrong{}) {
+			t.Fatalf("there is no duty %q", one.duty)
+		}
+		var found *Violation
+		for o.Seed = 1; found == nil && o.Seed <= one.seeds; o.Seed++ {
+			if fault := Run(o).Fault; fault != nil && !errors.As(fault, &found) {
+				t.Fatal(fault)
+			}
+		}
+		if found == nil {
+			t.Errorf("%s is not found in %d runs", one.duty, one.seeds)
+			continue
+		}
+		if !strings.Contains(one.checks, found.Check) {
+			t.Errorf("%s is found by another check: %v", one.duty, found)
+		}
+		t.Logf("%s, seed %d: %v", one.duty, o.Seed-1, found)
+		o.Seed, o.Wrong = o.Seed-1, Wrong{}
+		if fault := Run(o).Fault; fault != nil {
+			t.Errorf("seed %d with right hosts: %v", o.Seed, fault)
+		}
+	}
+}
+
+// quiet returns a world in which no incident happens, after a while.
+func quiet(t *testing.T, events int) *world {
+	t.Helper()
+	w := newWorld(Options{Seed: 5, Events: 1 << 30, Calm: true})
+	if err := w.begin(); err != nil {
+		t.Fatal(err)
+	}
+	for i := 0; i < events && w.fault == nil; i++ {
+		w.next()
+	}
+	if w.fault != nil {
+		t.Fatal(w.fault)
+	}
+	return w
+}
+
+// mustFind fails unless a check found something.
+func mustFind(t *testing.T, w *world, check string) {
+	t.Helper()
+	var found *Violation
+	if !errors.As(w.fault, &found) || found.Check != check {
+		t.Errorf("%s: %v", check, w.fault)
+	}
+}
+
+// The checks that no broken duty leads to find what they are for.
+func TestChecks(t *testing.T) {
+	w := quiet(t, 3000)
+	for _, p := range w.voters {
+		p.cut = true
+	}
+	w.heal()
+	for _, p := range w.voters {
+		p.cut = true
+	}
+	for i := 0; i < 1<<20 && w.fault == nil; i++ {
+		w.next()
+	}
+	mustFind(t, w, "liveness")
+
+	w = quiet(t, 3000)
+	r := w.voters[0].run
+	said := wire.ReadLine([]byte("locked 0 5 70 9 70"))
+	r.checkStamp("-.one", said)
+	if r.checkStamp("-.one", said); w.fault != nil {
+		t.Fatal(w.fault)
+	}
+	r.checkStamp("-.two", said)
+	mustFind(t, w, "stamps")
+
+	w = quiet(t, 3000)
+	shown := w.locks[0].last
+	if shown == nil {
+		t.Fatal("nobody showed a pass")
+	}
+	for other := shown; other == shown; other = w.locks[0].last {
+		w.next()
+	}
+	var err error
+	if w.locks[0].guard, err = qlock.NewFence(); err != nil { // one that forgot what it admitted
+		t.Fatal(err)
+	}
+	w.locks[0].shows(shown)
+	mustFind(t, w, "guard")
+
+	w = quiet(t, 3000)
+	p := w.voters[0]
+	p.refused(p)
+	mustFind(t, w, "state")
+}
+
+// A clock shows a time no earlier than asked for, and goes at its rate.
+func TestClock(t *testing.T) {
+	for _, rate := range []int64{slowest, 1000000, fastest, 1300000} {
+		c := clock{base: time.Hour, rate: rate}
+		c.sets(7000000, rate)
+		for _, shown := range []time.Duration{0, time.Hour, time.Hour + time.Microsecond, 2 * time.Hour, 2*time.Hour + 12345} {
+			at := c.when(shown)
+			if c.shows(at) < shown || at >= 1000 && at > c.since && c.shows(at-1000) >= shown {
+				t.Errorf("rate %d: it shows %v at %d", rate, shown, at)
+			}
+		}
+		if second := c.shows(1007000000) - c.shows(7000000); second != time.Duration(rate)*1000 {
+			t.Errorf("rate %d: a second takes %v", rate, second)
+		}
+	}
+}
