@@ -1,5 +1,5 @@
-/* qlock.h: the voter and the client of the voting lock, the guard of what the lock protects, and the row of a client's number and
-   the lease clock of a voter.
+/* qlock.h: the voter and the client of the voting lock, the guard of what the lock protects, and of a voter
+   the row of a client's number, a lock with the rows that may speak about it, and the lease clock.
 
    A voter, a client, a guard, a row or a lease clock is a block of bytes of the caller's, its state. A call reads the state, and writes the new one
    in its place. There are no other objects: nothing to free, no memory from malloc, no global, and calls on different states
@@ -48,6 +48,7 @@ uint32_t qlock_version(void);
 #define QLOCK_CLIENT_BYTES 1104
 #define QLOCK_FENCE_BYTES 520
 #define QLOCK_ROW_BYTES 48
+#define QLOCK_TABLE_BYTES 3072 /* a row for each of 64 numbers, one after the other */
 #define QLOCK_CLOCK_BYTES 304
 
 /* How many bytes the pass has that a client shows to a guard. */
@@ -415,6 +416,58 @@ int32_t qlock_row_takes(const uint8_t *row, size_t n, uint64_t upper, uint64_t l
    QLOCK_BAD_STATE  the bytes are no row */
 int32_t qlock_row_shows(const uint8_t *row, size_t n, uint64_t *epoch, uint64_t *base, uint64_t *reserved, uint64_t *held,
                         uint64_t *upper, uint64_t *lower);
+
+/* ---- A lock at a voter that keeps rows: its vote, and the rows of the sessions that may speak about it. `n` is always
+   QLOCK_VOTER_BYTES, and `table` has QLOCK_TABLE_BYTES: the row of number 0, of number 1, and so on. Whose bytes are no row, or
+   are not there, is nobody's.
+
+   In place of qlock_voter_take, qlock_voter_evict and qlock_voter_remind, these calls also say whose messages count, and who
+   hears the replies. A call takes about the time of one of those.
+
+   - A message counts if the row of its number says that the number is the session's under this epoch. A REQUEST has one of the
+     session's own stamps, and a RELEASE none above them.
+   - A reply goes to the session that has its number, if it is about a stamp of that session. So a LOCKED reaches a session from
+     which this voter took the REQUEST, as long as votes and rows change by these calls alone, and are saved together. Lines of
+     others are left out.
+
+   Save a vote before anything leaves if it has to be (`changed`), and with it the rows as they are. The caller forgets at each
+   start (qlock_voter_forget). */
+
+/* What is shown of a lock after a call. */
+struct qlock_lock_shown {
+    uint64_t changed;  /* 0: nothing happened, it was not the session's to say; 1: what has to survive is as it was; 2: save it */
+    uint64_t stamp;    /* of the client's request that has the vote or waits, 0 for none */
+    uint64_t finished; /* the highest stamp of the client's requests that are finished */
+    uint64_t holder;   /* the client that has the vote, 0 for none */
+    uint64_t held;     /* the stamp of its request, 0 for none */
+    uint64_t grant;    /* the number of its grant, 0 for none: so look here */
+};
+
+/* Takes what a session, named by these halves, says under this epoch: one line of `len` bytes, without its newline. Writes the lines
+   of the replies that somebody hears, and shows the lock to the client that the line is from. If it is not the session's to say,
+   the call is done, `shown->changed` is 0, and nothing else of `shown` is written.
+
+   QLOCK_BAD_STATE     the bytes are no voter, or there is no row for the number
+   QLOCK_BAD_MESSAGE   the line is not REQUEST, RELINQUISH or RELEASE to this voter
+   QLOCK_GRANTS_SPENT  the message needs a new grant, and none is left
+   QLOCK_NO_ROOM       `room` is too small; QLOCK_VOTER_OUT is always enough */
+int32_t qlock_lock_take(const uint8_t *table, size_t rows, uint8_t *vote, size_t n, uint64_t upper, uint64_t lower, uint64_t epoch,
+                        const uint8_t *line, size_t len, uint8_t *out, size_t room, size_t *written, struct qlock_lock_shown *shown);
+
+/* Lets the current grant go if it has this number, as qlock_voter_evict does, and shows the lock to a client, 0 to 63.
+
+   QLOCK_BAD_ARGUMENT  there is no such client
+   QLOCK_BAD_STATE     the bytes are no voter
+   QLOCK_GRANTS_SPENT  a request waits, and no grant is left
+   QLOCK_NO_ROOM       `room` is too small; QLOCK_VOTER_OUT is always enough */
+int32_t qlock_lock_let_go(const uint8_t *table, size_t rows, uint8_t *vote, size_t n, uint64_t grant, uint8_t client, uint8_t *out,
+                          size_t room, size_t *written, struct qlock_lock_shown *shown);
+
+/* Writes what to send to the holder again, as qlock_voter_remind does, if somebody hears it.
+
+   QLOCK_BAD_STATE  the bytes are no voter
+   QLOCK_NO_ROOM    `room` is too small; QLOCK_VOTER_OUT is always enough */
+int32_t qlock_lock_remind(const uint8_t *table, size_t rows, const uint8_t *vote, size_t n, uint8_t *out, size_t room, size_t *written);
 
 /* ---- The lease clock of a voter: for how long a session was silent. `n` is always QLOCK_CLOCK_BYTES.
 

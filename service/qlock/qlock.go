@@ -18,6 +18,7 @@ const (
 	ClientBytes = C.QLOCK_CLIENT_BYTES
 	FenceBytes  = C.QLOCK_FENCE_BYTES
 	RowBytes    = C.QLOCK_ROW_BYTES
+	TableBytes  = C.QLOCK_TABLE_BYTES
 	ClockBytes  = C.QLOCK_CLOCK_BYTES
 	PassBytes   = C.QLOCK_PASS_BYTES
 	MaxVoters   = C.QLOCK_MAX_VOTERS

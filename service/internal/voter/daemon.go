@@ -62,7 +62,6 @@ type Daemon struct {
 	order    []string          // of what leaves
 	replies  map[string]answer // what operators get after the save, by mailbox
 	room     []byte
-	before   qlock.Voter // of the step that is made
 
 	isFull          bool // it was logged that there is no room for another lock
 	join            joining
@@ -179,7 +178,7 @@ func (d *Daemon) load(now time.Time) error {
 		if _, err := row.proved(); err != nil {
 			return fmt.Errorf("session of number %d: %w", number, err)
 		}
-		if d.table.rows[number] = row; isOld {
+		if d.table.set(number, row); isOld {
 			d.table.later[number] = row
 		}
 		return nil
@@ -382,10 +381,6 @@ func (d *Daemon) line(l *letter, speaker verdict, lock, line []byte, now time.Ti
 		!isToVoter(said) {
 		return false
 	}
-	if !d.isHis(l, said) {
-		d.m.refused.Inc()
-		return true
-	}
 	v := d.votes[string(lock)]
 	if v != nil && v.isOld && d.isQuiet() && string(said.Word) == "relinquish" {
 		d.takeBack(v, said, now)
@@ -408,9 +403,14 @@ func (d *Daemon) line(l *letter, speaker verdict, lock, line []byte, now time.Ti
 		d.m.refused.Inc()
 		return true
 	}
+	shown, ok := d.step(v, said.From, now, func(out []byte) ([]byte, qlock.LockShown, error) {
+		return v.TakeFrom(&d.table.proved, d.table.speaker(l.Number, l.Name, l.Epoch), line, out)
+	})
+	if !ok {
+		return true
+	}
 	v.heard = now
-	d.step(v, said.From, now, func(out []byte) ([]byte, error) { return v.Take(line, out) })
-	d.deny(v, l.Header, said)
+	d.deny(v, l.Header, said, shown)
 	switch word {
 	case inside:
 		d.noteInside(v, said, now)
@@ -449,23 +449,10 @@ func isToVoter(said wire.Line) bool {
 	return word == "request" || word == "release" || word == "relinquish"
 }
 
-// isHis returns whether a number's session may say a line: the stamp of its REQUEST is above its
-// base, and no stamp is above what it reserved. A RELINQUISH names a grant, and the automaton takes
-// the current one only.
-func (d *Daemon) isHis(l *letter, said wire.Line) bool {
-	switch string(said.Word) {
-	case "request":
-		return d.table.takes(said.From, l.Name, l.Epoch, said.Stamp)
-	case "release":
-		return said.Stamp <= d.table.rows[said.From].Reserved
-	}
-	return true
-}
-
 // first makes the vote for a lock, if a line is its first REQUEST and there is room. If there is
 // none, it says so.
 func (d *Daemon) first(l *letter, lock []byte, said wire.Line, now time.Time) *vote {
-	if string(said.Word) != "request" {
+	if string(said.Word) != "request" || !d.table.takes(said.From, l.Name, l.Epoch, said.Stamp) {
 		return nil
 	}
 	if len(d.votes) >= d.own.MaxLocks && !d.makeRoom(now) {
@@ -486,28 +473,28 @@ func (d *Daemon) newVoter() (*qlock.Voter, error) {
 	return qlock.RebornVoter(uint8(d.store.meta.Voter), d.floor, d.ceiling)
 }
 
-// step makes a step that a client's line, or letting its grant go, leads to. Its lines leave after the next save.
-func (d *Daemon) step(v *vote, client int, now time.Time, take func(out []byte) ([]byte, error)) {
-	d.before = *v.Voter
-	lines, err := take(d.room[:0])
+// step makes a step that a client's line, or letting its grant go, leads to, and returns what is shown of the lock then. Its lines
+// leave after the next save. It returns false if nothing happened.
+func (d *Daemon) step(v *vote, client int, now time.Time, call func(out []byte) ([]byte, qlock.LockShown, error)) (shown qlock.LockShown, ok bool) {
+	lines, shown, err := call(d.room[:0])
 	if errors.Is(err, qlock.GrantsSpent) && v.limit < d.ceiling {
 		v.limit, v.isSpent = d.ceiling, false
 		_ = v.Extend(d.ceiling) // it never fails: the limit is below
-		lines, err = take(d.room[:0])
+		lines, shown, err = call(d.room[:0])
 	}
-	if err != nil {
+	if err != nil || !shown.IsTaken {
 		d.refuse(v, err)
-		return
+		return shown, false
 	}
 	d.room = lines
-	if v.MustSave(&d.before) || v.isRaised { // what was saved last differs in nothing else from the state before a step
+	if shown.MustSave || v.isRaised { // what was saved last differs in nothing else from the state before a step
 		v.isRaised = false
 		d.silent[v] = struct{}{}
 	}
-	if err := d.noteAsk(v, client, now); err == nil {
-		_ = d.noteGrant(v, now) // neither fails: the state is the one that a call wrote
-	}
+	d.noteAsk(v, client, shown.Stamp, now)
+	d.noteGrant(v, shown.Held, now)
 	d.send(v, lines)
+	return shown, true
 }
 
 func (d *Daemon) refuse(v *vote, why error) {
@@ -522,11 +509,8 @@ func (d *Daemon) refuse(v *vote, why error) {
 }
 
 // deny tells a client that its REQUEST is over here: it was let go. It would wait for a reply for ever.
-func (d *Daemon) deny(v *vote, h wire.Header, said wire.Line) {
-	if string(said.Word) != "request" || v.asks[h.Number].stamp == said.Stamp {
-		return
-	}
-	if known, err := v.Knows(uint8(h.Number)); err == nil && known.Finished >= said.Stamp {
+func (d *Daemon) deny(v *vote, h wire.Header, said wire.Line, shown qlock.LockShown) {
+	if string(said.Word) == "request" && shown.Stamp != said.Stamp && shown.Finished >= said.Stamp {
 		d.mustSave(v)
 		d.tell(h.Name, "gone %s %d", v.name, said.Stamp)
 	}
@@ -540,32 +524,22 @@ func (d *Daemon) mustSave(v *vote) {
 	}
 }
 
-// send puts the lines of a vote with those that leave after the save.
+// send puts the lines of a vote with those that leave after the save: each is for the session that its number has now. Who was not
+// heard in this run hears nothing: a reminder, or the reply to what he says next, repeats it.
 func (d *Daemon) send(v *vote, lines []byte) {
 	if len(lines) > 0 {
 		d.mustSave(v)
 	}
 	for len(lines) > 0 {
 		end := bytes.IndexByte(lines, '\n') + 1
-		if said := wire.ReadLine(lines[:end]); said.To >= 0 && said.To < qlock.MaxClients && d.mayHear(v, said) {
-			name := d.table.names[said.To]
+		if to := wire.ReadLine(lines[:end]).To; to >= 0 && to < qlock.MaxClients && d.table.names[to] != "" {
+			name := d.table.names[to]
 			out := append(append(d.out[name], v.name...), ' ')
 			d.out[name] = append(out, lines[:end]...)
 			d.outBytes += len(v.name) + 1 + end
 		}
 		lines = lines[end:]
 	}
-}
-
-// mayHear returns whether a line of a vote is for the session that a number has now: its stamp is
-// above that session's base. Only whoever has the vote gets an INQUIRE, which names the grant. Who was
-// not heard in this run hears nothing: a reminder, or the reply to what he says next, repeats it.
-func (d *Daemon) mayHear(v *vote, said wire.Line) bool {
-	stamp := said.Stamp
-	if string(said.Word) == "inquire" {
-		stamp = v.held.Stamp
-	}
-	return d.table.rows[said.To].Open && d.table.names[said.To] != "" && !d.table.isEarlier(said.To, stamp)
 }
 
 // tell puts a control line with those that leave after the save.
@@ -720,7 +694,7 @@ func (d *Daemon) roundOf(v *vote, now time.Time) {
 		d.log.Write(event.Warning, "lease-expired", "lock", v.name, "client", held.Client, "stamp", held.Stamp, "grant", held.Number)
 	}
 	if v.timer.IsDue(now) {
-		if lines, err := v.Remind(nil); err == nil && len(lines) > 0 {
+		if lines, err := v.RemindHolder(&d.table.proved, nil); err == nil && len(lines) > 0 {
 			d.m.reminders.Inc()
 			d.send(v, lines)
 		}
@@ -753,7 +727,9 @@ func (d *Daemon) isOver(held qlock.Grant) bool {
 // letGo lets the current grant of a vote go, and tells its client. It returns false if that did not succeed.
 func (d *Daemon) letGo(v *vote, now time.Time) bool {
 	held := v.held
-	d.step(v, int(held.Client), now, func(out []byte) ([]byte, error) { return v.Evict(held.Number, out) })
+	d.step(v, int(held.Client), now, func(out []byte) ([]byte, qlock.LockShown, error) {
+		return v.LetGo(&d.table.proved, held.Number, uint8(held.Client), out)
+	})
 	if v.held.Number == held.Number {
 		return false
 	}

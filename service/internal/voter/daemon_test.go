@@ -74,20 +74,29 @@ func (p *post) Send(_ string, message []byte) error { p.sent = append(p.sent, me
 
 func (p *post) Listen(string) (<-chan transport.Message, error) { return nil, nil }
 
+// says lets the session that has a number say a line about a lock.
+func says(d *Daemon, v *vote, client int, line string, now time.Time) {
+	from := qlock.Speaker{Session: d.table.hashes[client], Epoch: d.table.rows[client].Epoch}
+	d.step(v, client, now, func(out []byte) ([]byte, qlock.LockShown, error) {
+		return v.TakeFrom(&d.table.proved, from, []byte(line), out)
+	})
+}
+
 // A lock without a grant left is logged once, and nothing is let go there.
 func TestSpentLock(t *testing.T) {
 	var log bytes.Buffer
 	now := time.Unix(1000, 0)
 	d := &Daemon{own: &config.Voter{}, store: &store{}, ceiling: 1, join: joining{done: true}, m: newMetrics(), log: event.To(&log), votes: map[string]*vote{},
-		dirty: map[*vote]struct{}{}, silent: map[*vote]struct{}{}, out: map[string][]byte{}, table: table{ttl: time.Second, changed: map[int]Session{}, later: map[int]Session{}}}
+		dirty: map[*vote]struct{}{}, silent: map[*vote]struct{}{}, users: map[string]*usage{}, out: map[string][]byte{}, table: table{ttl: time.Second, changed: map[int]Session{}, later: map[int]Session{}}}
 	voter, err := qlock.NewVoter(0, 1)
 	if err != nil {
 		t.Fatal(err)
 	}
 	v := d.add("orders", voter)
 	for client := 0; client < 2; client++ {
-		line := []byte(fmt.Sprintf("request %d 0 1", client))
-		d.step(v, client, now, func(out []byte) ([]byte, error) { return v.Take(line, out) })
+		d.table.set(client, of("jobs.s", 1, 0, 10))
+		says(d, v, client, fmt.Sprintf("request %d 0 1", client), now)
+		d.table.set(client, Session{Reserved: 10})
 	}
 	for i := 0; i < 100; i++ {
 		d.round(now)
@@ -118,16 +127,16 @@ func TestEachLineLeaves(t *testing.T) {
 		{3, 103, "jobs.session-1", "orders inquire 0 1 1 107\n"},
 	} {
 		name := fmt.Sprint("jobs.session-", one.client)
-		d.table.rows[one.client], d.table.names[one.client] = of(name, 1, 100, 200), name
-		line := []byte(fmt.Sprintf("request %d 0 %d", one.client, one.stamp))
-		d.step(v, one.client, now, func(out []byte) ([]byte, error) { return v.Take(line, out) })
+		d.table.set(one.client, of(name, 1, 100, 200))
+		d.table.names[one.client] = name
+		says(d, v, one.client, fmt.Sprintf("request %d 0 %d", one.client, one.stamp), now)
 		if got := string(d.out[one.hears]); got != one.line {
 			t.Errorf("%s hears %q, not %q", one.hears, got, one.line)
 		}
 		delete(d.out, one.hears)
 	}
 	// who has the vote hears so again when it says so
-	d.step(v, 1, now, func(out []byte) ([]byte, error) { return v.Take([]byte("request 1 0 105"), out) })
+	says(d, v, 1, "request 1 0 105", now)
 	if got := string(d.out["jobs.session-1"]); got != "orders locked 0 1 105 1 107\n" {
 		t.Errorf("a renewal hears %q", got)
 	}

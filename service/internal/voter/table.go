@@ -56,13 +56,6 @@ const (
 	stampRate   = 1 << 16 // a second
 )
 
-// asked is a row of which it was asked last whether it takes a REQUEST, with its proved row.
-type asked struct {
-	of      Session
-	row     *qlock.Row
-	session qlock.Session
-}
-
 // table has a row for each client number. A session claims its number, and is never learned from a
 // header. Which session has a number, under which epoch, and which stamps are its own, the proved rows
 // of package qlock say: so a voter takes no stamp from two sessions. Two quorums meet, so no two
@@ -70,6 +63,8 @@ type asked struct {
 type table struct {
 	ttl     time.Duration
 	rows    [qlock.MaxClients]Session
+	proved  qlock.Table                     // the same rows, by which votes take what sessions say, and tell them
+	hashes  [qlock.MaxClients]qlock.Session // how the proved rows name the sessions of these
 	names   [qlock.MaxClients]string        // of the sessions of these rows that were heard in this run; nothing can be sent to others
 	heard   [qlock.MaxClients]time.Duration // on the lease clock
 	byWord  [qlock.MaxClients]bool          // another voter ended the session, which may not know so: its votes go by the lease
@@ -78,7 +73,6 @@ type table struct {
 	changed map[int]Session                 // to be saved before anything leaves
 	later   map[int]Session                 // to be saved with the next save: after a crash a TTL makes up for it
 	epochs  [qlock.MaxClients]allowance
-	asked   [qlock.MaxClients]asked
 	stamps  allowance
 }
 
@@ -185,12 +179,22 @@ func (t *table) state(number int) int {
 	return 2
 }
 
+// set sets a row. What is none is nobody's.
+func (t *table) set(number int, row Session) {
+	t.rows[number], t.hashes[number] = row, row.session()
+	if r, err := row.row(t.hashes[number]); err == nil {
+		t.proved.Put(number, r)
+	} else {
+		t.proved.Put(number, new(qlock.Row))
+	}
+}
+
 // put changes a row. It is saved before anything leaves.
 func (t *table) put(number int, row Session) {
 	if row.Hash != t.rows[number].Hash {
 		t.names[number] = ""
 	}
-	t.rows[number] = row
+	t.set(number, row)
 	t.changed[number] = row
 	delete(t.later, number)
 }
@@ -201,7 +205,7 @@ func (t *table) note(number int, row Session) {
 		t.put(number, row)
 		return
 	}
-	t.rows[number] = row
+	t.set(number, row)
 	t.later[number] = row
 }
 
@@ -329,20 +333,17 @@ func (t *table) end(number int, name string, epoch uint64) {
 
 // takes returns whether a REQUEST of this session of a number counts under this stamp.
 func (t *table) takes(number int, name string, epoch, stamp uint64) bool {
-	row, last := t.rows[number], &t.asked[number]
-	if last.row == nil || last.of != row {
-		r, err := row.proved()
-		if err != nil {
-			return false
-		}
-		*last = asked{row, r, row.session()}
+	row, err := t.rows[number].proved()
+	if err != nil {
+		return false
 	}
-	session := last.session
-	if t.names[number] != name {
-		session = sessionOf(hashed(name))
-	}
-	takes, err := last.row.Takes(session, epoch, stamp)
+	takes, err := row.Takes(t.session(number, name), epoch, stamp)
 	return err == nil && takes
+}
+
+// speaker returns how the proved rows name a session that speaks, under its epoch.
+func (t *table) speaker(number int, name string, epoch uint64) qlock.Speaker {
+	return qlock.Speaker{Session: t.session(number, name), Epoch: epoch}
 }
 
 // learn takes what another voter knows of a number, and returns whether it has another session now. A
@@ -401,7 +402,7 @@ func (s Session) session() qlock.Session { return sessionOf(s.Hash) }
 // session returns how the proved rows name the session that speaks for a number.
 func (t *table) session(number int, name string) qlock.Session {
 	if t.names[number] == name {
-		return t.rows[number].session()
+		return t.hashes[number]
 	}
 	return sessionOf(hashed(name))
 }
@@ -414,8 +415,11 @@ func sessionOf(hash string) (session qlock.Session) {
 }
 
 // proved returns the proved row of what is kept of a number: which session has it, and under which stamps it may ask.
-func (s Session) proved() (*qlock.Row, error) {
-	return qlock.RowShown{Epoch: s.Epoch, Base: s.Base, Reserved: s.Reserved, IsHeld: s.Open, Session: s.session(),
+func (s Session) proved() (*qlock.Row, error) { return s.row(s.session()) }
+
+// row returns the proved row, whose session has this name there.
+func (s Session) row(session qlock.Session) (*qlock.Row, error) {
+	return qlock.RowShown{Epoch: s.Epoch, Base: s.Base, Reserved: s.Reserved, IsHeld: s.Open, Session: session,
 		IsAgain: s.Dropped && !s.Open}.Row()
 }
 

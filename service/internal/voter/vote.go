@@ -75,23 +75,17 @@ func (d *Daemon) restore(name string, state []byte, now time.Time) error {
 	if err != nil || held.Number == 0 {
 		return err
 	}
-	if err := d.noteAsk(v, int(held.Client), now); err != nil {
-		return err
-	}
-	err = d.noteGrant(v, now)
+	d.noteAsk(v, int(held.Client), held.Stamp, now)
+	d.noteGrant(v, held, now)
 	v.isOld = true
 	return err
 }
 
-// noteAsk notes whether a client has the vote or waits for it, after a step that may have changed it.
-func (d *Daemon) noteAsk(v *vote, client int, now time.Time) error {
-	known, err := v.Knows(uint8(client))
-	if err != nil {
-		return err
-	}
+// noteAsk notes under which stamp a client has the vote or waits for it, 0 for none, after a step that may have changed it.
+func (d *Daemon) noteAsk(v *vote, client int, stamp uint64, now time.Time) {
 	before, asked := v.asks[client]
-	if known.Stamp == before.stamp {
-		return nil
+	if stamp == before.stamp {
+		return
 	}
 	if asked {
 		d.count(client, before, -1)
@@ -99,11 +93,11 @@ func (d *Daemon) noteAsk(v *vote, client int, now time.Time) error {
 		delete(v.asks, client)
 		delete(v.insiders, client)
 	}
-	if known.Stamp > 0 {
+	if stamp > 0 {
 		if v.asks == nil {
 			v.asks = map[int]ask{}
 		}
-		one := ask{known.Stamp, now, d.asker(client, known.Stamp)}
+		one := ask{stamp, now, d.asker(client, stamp)}
 		v.asks[client] = one
 		d.count(client, one, 1)
 		d.countUser(v, one.user, 1)
@@ -116,7 +110,6 @@ func (d *Daemon) noteAsk(v *vote, client int, now time.Time) error {
 	} else {
 		d.busy.add(v)
 	}
-	return nil
 }
 
 // count counts the requests of the session that a number has now. Those of its earlier sessions don't count: nobody of
@@ -138,11 +131,7 @@ func (d *Daemon) recount(client int) {
 }
 
 // noteGrant notes who has the vote, after a step that may have changed it.
-func (d *Daemon) noteGrant(v *vote, now time.Time) error {
-	held, err := v.Held()
-	if err != nil {
-		return err
-	}
+func (d *Daemon) noteGrant(v *vote, held qlock.Grant, now time.Time) {
 	if held.Number != v.held.Number {
 		v.held, v.since, v.isOld = held, now, false
 		if held.Number > 0 {
@@ -155,5 +144,4 @@ func (d *Daemon) noteGrant(v *vote, now time.Time) error {
 		}
 	}
 	v.timer.Of(held.Number, now)
-	return nil
 }

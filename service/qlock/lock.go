@@ -1,0 +1,82 @@
+package qlock
+
+/*
+#include "qlock.h"
+
+static int64_t lock_take(const uint8_t *table, uint8_t *vote, uint64_t upper, uint64_t lower, uint64_t epoch, const uint8_t *line,
+                         size_t len, uint8_t *out, struct qlock_lock_shown *shown) {
+    size_t n = 0;
+    int32_t refusal = qlock_lock_take(table, QLOCK_TABLE_BYTES, vote, QLOCK_VOTER_BYTES, upper, lower, epoch, line, len, out,
+                                      QLOCK_VOTER_OUT, &n, shown);
+    return refusal ? -(int64_t)refusal : (int64_t)n;
+}
+
+static int64_t lock_let_go(const uint8_t *table, uint8_t *vote, uint64_t grant, uint8_t client, uint8_t *out,
+                           struct qlock_lock_shown *shown) {
+    size_t n = 0;
+    int32_t refusal = qlock_lock_let_go(table, QLOCK_TABLE_BYTES, vote, QLOCK_VOTER_BYTES, grant, client, out, QLOCK_VOTER_OUT, &n, shown);
+    return refusal ? -(int64_t)refusal : (int64_t)n;
+}
+
+static int64_t lock_remind(const uint8_t *table, const uint8_t *vote, uint8_t *out) {
+    size_t n = 0;
+    int32_t refusal = qlock_lock_remind(table, QLOCK_TABLE_BYTES, vote, QLOCK_VOTER_BYTES, out, QLOCK_VOTER_OUT, &n);
+    return refusal ? -(int64_t)refusal : (int64_t)n;
+}
+*/
+import "C"
+
+// Table has the row of each client's number at a voter. The zero Table has rows that nobody has.
+type Table struct{ rows [TableBytes]byte }
+
+// Put puts a row into the table.
+func (t *Table) Put(number int, r *Row) { copy(t.rows[RowBytes*number:], r.state[:]) }
+
+// Speaker is a session that speaks, and the epoch under which it does.
+type Speaker struct {
+	Session Session
+	Epoch   uint64
+}
+
+// LockShown is what is shown of a lock after a call.
+type LockShown struct {
+	IsTaken  bool   // it was the session's to say
+	MustSave bool   // what has to survive a crash changed
+	Stamp    uint64 // of the client's request that has the vote or waits, 0 for none
+	Finished uint64 // the highest stamp of the client's requests that are finished
+	Held     Grant  // who has the vote
+}
+
+func shownOf(s *C.struct_qlock_lock_shown) LockShown {
+	return LockShown{IsTaken: s.changed > 0, MustSave: s.changed > 1, Stamp: uint64(s.stamp), Finished: uint64(s.finished),
+		Held: Grant{uint64(s.holder), uint64(s.held), uint64(s.grant)}}
+}
+
+// TakeFrom takes the line of a message from a session, if the row of its number says that it may say this. It appends the lines of
+// the replies that a session hears to out, and shows the lock to the client that the line is from.
+func (v *Voter) TakeFrom(t *Table, from Speaker, line, out []byte) ([]byte, LockShown, error) {
+	var shown C.struct_qlock_lock_shown
+	out = grown(out, C.QLOCK_VOTER_OUT)
+	room := out[len(out) : len(out)+C.QLOCK_VOTER_OUT]
+	upper, lower := from.Session.halves()
+	out, err := appended(out, C.lock_take(at(t.rows[:]), at(v.state[:]), upper, lower, C.uint64_t(from.Epoch), at(line),
+		C.size_t(len(line)), at(room), &shown))
+	return out, shownOf(&shown), err
+}
+
+// LetGo lets the current grant go if it has this number. It appends the lines of the replies that a session hears to out, and shows
+// the lock to a client.
+func (v *Voter) LetGo(t *Table, grant uint64, client uint8, out []byte) ([]byte, LockShown, error) {
+	var shown C.struct_qlock_lock_shown
+	out = grown(out, C.QLOCK_VOTER_OUT)
+	room := out[len(out) : len(out)+C.QLOCK_VOTER_OUT]
+	out, err := appended(out, C.lock_let_go(at(t.rows[:]), at(v.state[:]), C.uint64_t(grant), C.uint8_t(client), at(room), &shown))
+	return out, shownOf(&shown), err
+}
+
+// RemindHolder appends the lines that remind whoever has the vote, if his session hears them.
+func (v *Voter) RemindHolder(t *Table, out []byte) ([]byte, error) {
+	out = grown(out, C.QLOCK_VOTER_OUT)
+	room := out[len(out) : len(out)+C.QLOCK_VOTER_OUT]
+	return appended(out, C.lock_remind(at(t.rows[:]), at(v.state[:]), at(room)))
+}
