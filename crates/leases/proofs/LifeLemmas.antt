@@ -18,7 +18,7 @@ use Rattle.voter.specs.Saved.{least_voter}
 use Rattle.voter.specs.Steps as voter
 use Rattle.voter_node.specs.Nodes as nodes
 use Rattle.passes.specs.Grants.{IsGiven, IsLocked}
-use Rattle.passes.specs.Lives.{Fate, Meets, IsReborn, HasLimit, IsSkipped, be_reborn, be_skipped, becomes, have_limit, node_after, says, sends}
+use Rattle.voter_node.specs.Lives.{Fate, Meets, IsReborn, HasLimit, IsSkipped, be_reborn, be_skipped, becomes, have_limit, node_after, says, sends}
 use Rattle.world.proofs.Claims.{put}
 use Rattle.world.specs.Restarts.{Saved}
 use Rattle.world_state.specs.Steps.{voter_at}

@@ -58,7 +58,7 @@ use Rattle.world.proofs.Reached.{Given, accepts_among, new_voters, start_ok, sta
 use Rattle.world.proofs.Restarts.{AreAll, within_or}
 use Rattle.passes.specs.Grants.{Gave, IsGiven, Voters}
 use Rattle.passes.specs.Grants as grants
-use Rattle.passes.specs.Lives.{Fate, lived, said}
+use Rattle.voter_node.specs.Lives.{Fate, lived, said}
 use Rattle.voter_node.specs.Nodes as nodes
 use Rattle.leases.specs.WorldVoters.{IsNodeOf, said_by}
 use Rattle.leases.proofs.LifeLemmas.{IsStep, LivesTo, as_mid, clients_say, forgets, given_before, has_limit, is_reborn, is_saved, is_skipped, given_by, given_or, lives_saved, lives_silently, locked_is, mid, node-append, others_say, put_at, reminds_step, restarts, said_all, said_there, says-append, says_more, set_own, takes_step}

@@ -7,7 +7,7 @@ use Rattle.voter.specs.declared.state.VoterState.{VoterState}
 use Rattle.voter.specs.Saved.{least_voter}
 use Rattle.voter_node.specs.Nodes as nodes
 use Rattle.passes.specs.Grants.{Gave, IsPass, Pass, Voters}
-use Rattle.passes.specs.Lives.{lived, said}
+use Rattle.voter_node.specs.Lives.{lived, said}
 use Rattle.world.specs.Restarts.{Saved}
 use Rattle.world_state.specs.Steps.{voter_at}
 use Rattle.world.specs.Incidents.{all_befall}

@@ -1,6 +1,7 @@
 -- whose REQUESTs the votes are granted to, and who hears so
 use Rattle.std.proofs.Common.{◌≡◌, ℕ, ◌<◌, ◌≤◌, Bool, true, false, List, [], ◌∷◌, ◌++◌, refl, sym, ap, ap₂, subst, ◌∙◌, ◌⊎◌, inl, inr, Option, Some, None, Result, Ok, Err, arith}
-use Rattle.std.specs.Prelude.{◌==◌, ◌&&◌, nat_le, nat_lt, max, if◌then◌else◌}
+use Rattle.std.specs.Prelude.{◌==◌, ◌&&◌, nat_le, nat_lt, max, if◌then◌else◌, not}
+use Rattle.numbers.specs.Bounds.{max_limit}
 use Rattle.std.specs.FinMap.{get, get-empty}
 use Rattle.std.specs.List.{AllByRecursion}
 use Rattle.std.proofs.lemmas.Bool.{and_from, eq-eqb, eqb-true, false≢true}
@@ -18,16 +19,18 @@ use Rattle.sessions.specs.Rows.{AreOnce, Deed, IsOneOf, Request, Reserve, Row, U
 use Rattle.sessions.proofs.Rows.{own}
 use Rattle.voter.specs.declared.state.Grant.{Grant}
 use Rattle.voter.specs.declared.state.VoterState.{VoterState}
-use Rattle.voter.specs.Leases.{evict, evict_held, release_of}
+use Rattle.voter.specs.Leases.{evict, evict_held, reborn, release_of}
 use Rattle.voter.specs.Saved.{least_voter}
 use Rattle.voter.specs.Steps.{Outcome, no_reply, remind, step}
 use Rattle.voter.specs.VoterContract.{AllReport, Brings, IsEntry, MeetsContract, ReportsVote}
 use Rattle.voter.proofs.Contract.{MeetsContract-step}
 use Rattle.voter.proofs.ReplyLemmas.{AllReport-remind}
+use Rattle.voter.specs.Waiting.{Waiting}
+use Rattle.voter_node.specs.Lives.{Fate, HasLimit, IsReborn, IsSkipped, be_reborn, becomes}
 use Rattle.voter_node.specs.Nodes as nodes
 use Rattle.lock_node.specs.Letters.{Letter, hearer, letter_to, letters_of, may_say, subject}
-use Rattle.lock_node.specs.Locks.{Begins, Calls, Crashes, Event, LetsGo, LockNode, Reminds, Saves, Speaks, all_happen, all_leave, all_move, happens, leaves, letters_by, moves, outcome_at, request_turn, set, turn_of, turns_of}
-use Rattle.lock_node.proofs.LockLemmas.{IsStep, evicts, one_left, one_of_two, reminds, set_by, takes}
+use Rattle.lock_node.specs.Locks.{Begins, Calls, Crashes, Event, Extends, IsForgotten, LetsGo, LockNode, Reminds, Saves, Skips, Speaks, all_happen, all_leave, all_move, alters, forgets, happens, leaves, letters_by, moves, outcome_at, request_turn, set, turn_of, turns_of}
+use Rattle.lock_node.proofs.LockLemmas.{IsAltered, IsStep, evicts, limit_keeps, one_filtered, one_left, one_of_two, reminds, set_by, skip_keeps, takes}
 
 -- ---- one number
 
@@ -388,6 +391,57 @@ crashes_served r h n is = record {
   letters = λ l t grant among body. absurd among;
 }
 
+same_entry : (v w : VoterState) (c t : ℕ) → w.held ≡ v.held → w.waiting ≡ v.waiting → IsEntry w c t → IsEntry v c t
+same_entry v w c t held waiting at = elim at [
+  | inl has ↦ inl (has.0, sym held ∙ has.1, has.2, has.3)
+  | inr waits ↦ inr (subst (λ (q : Waiting). get q c ≡ Some t) waiting waits)
+]
+
+alters_served : (r : ℕ → Row) (h : ℕ → Voter) (n : LockNode) (lock : ℕ) (f : Fate) → IsServed r h n → IsAltered (n.locks lock) (becomes (n.locks lock) f) → IsServed r h (alters n lock f)
+alters_served r h n lock f is same = record {
+  led = is.led;
+  live = is.live;
+  saved = is.saved;
+  grows = is.grows;
+  asked = λ k c t. set_by (λ (_ : ℕ) (x : nodes.Node). IsEntry x.live c t → Asked (h c).took t) n.locks lock (becomes (n.locks lock) f) k
+      (λ at. is.asked lock c t (same_entry (n.locks lock).live (becomes (n.locks lock) f).live c t same.held same.waiting at)) (is.asked k c t);
+  kept = λ k c t. set_by (λ (_ : ℕ) (x : nodes.Node). IsEntry x.saved c t → Asked (h c).kept t) n.locks lock (becomes (n.locks lock) f) k
+      (λ at. is.kept lock c t (subst (λ (v : VoterState). IsEntry v c t) same.saved at)) (is.kept k c t);
+  letters = is.letters;
+}
+
+-- a voter that is made anew has no entry; and one that is not, its own
+record HasNone (n m : nodes.Node) : Type 0 where
+  live : (c t : ℕ) → IsEntry m.live c t → IsEntry n.live c t
+  saved : (c t : ℕ) → IsEntry m.saved c t → IsEntry n.saved c t
+
+no_entry : (id above limit c t : ℕ) → IsEntry (reborn id above limit) c t → ⊥
+no_entry id above limit c t at = elim at [
+  | inl has ↦ none-some has.0 has.1
+  | inr waits ↦ none-some t (sym (get-empty _ c) ∙ waits)
+]
+
+reborn_entries : (n : nodes.Node) (above limit : ℕ) (b : Bool) → HasNone n (be_reborn b n above limit)
+reborn_entries n above limit true = record {
+  live = λ c t at. absurd (no_entry n.saved.id above limit c t at);
+  saved = λ c t at. absurd (no_entry n.saved.id above limit c t at);
+}
+reborn_entries n above limit false = record { live = λ c t at. at; saved = λ c t at. at }
+
+forgets_served : (r : ℕ → Row) (h : ℕ → Voter) (n : LockNode) (lock above limit : ℕ) → IsServed r h n → HasNone (n.locks lock) (becomes (n.locks lock) (IsReborn above limit))
+    → IsServed r h (forgets n lock (IsReborn above limit))
+forgets_served r h n lock above limit is none = record {
+  led = is.led;
+  live = is.live;
+  saved = is.saved;
+  grows = is.grows;
+  asked = λ k c t. set_by (λ (_ : ℕ) (x : nodes.Node). IsEntry x.live c t → Asked (h c).took t) n.locks lock (becomes (n.locks lock) (IsReborn above limit)) k
+      (λ at. is.asked lock c t (none.live c t at)) (is.asked k c t);
+  kept = λ k c t. set_by (λ (_ : ℕ) (x : nodes.Node). IsEntry x.saved c t → Asked (h c).kept t) n.locks lock (becomes (n.locks lock) (IsReborn above limit)) k
+      (λ at. is.kept lock c t (none.saved c t at)) (is.kept k c t);
+  letters = λ l t grant among body. is.letters l t grant (one_filtered (λ (x : Letter). not (lock == x.lock)) l n.outbox among).0 body;
+}
+
 served_after : (r : ℕ → Row) (h : ℕ → Voter) (n : LockNode) (e : Event) → IsServed r h n → IsServed r (lives h e) (happens n e)
 served_after r h n (Calls number call) is = calls_served r h n number call is
 served_after r h n (Speaks lock session epoch m) is = speaks_served r h n lock session epoch m (may_say (n.rows m.client) session epoch m.body) refl is
@@ -395,6 +449,12 @@ served_after r h n (LetsGo lock grant) is =
     moves_served r h n lock (nodes.Evicts grant) Nobody is (evicts grant) (λ x at. letting_go (n.locks lock).live.held (n.locks lock).live grant x at) (λ c t none. absurd none)
 served_after r h n (Reminds lock) is =
     moves_served r h n lock nodes.Reminds Nobody is reminds (λ x at. remind_tells (n.locks lock) x at) (λ c t none. absurd none)
+served_after r h n (Extends lock limit) is =
+    alters_served r h n lock (HasLimit limit) is (limit_keeps (n.locks lock) limit (nat_le (n.locks lock).live.granted limit && nat_le limit max_limit))
+served_after r h n (Skips lock above) is =
+    alters_served r h n lock (IsSkipped above) is (skip_keeps (n.locks lock) above (nat_le (n.locks lock).live.granted above && nat_le above (n.locks lock).live.limit))
+served_after r h n (IsForgotten lock above limit) is =
+    forgets_served r h n lock above limit is (reborn_entries (n.locks lock) above limit (nat_le (n.locks lock).saved.granted above && (nat_le above limit && nat_le limit max_limit)))
 served_after r h n Saves is = saves_served r h n is
 served_after r h n Crashes is = crashes_served r h n is
 
@@ -404,6 +464,9 @@ kept_now r h n (Calls number call) c u is among = subst (λ (us : List Use). IsO
 kept_now r h n (Speaks lock session epoch m) c u is among = subst (λ (us : List Use). IsOneOf u us) (sym (speaks_grows (h c) (m.client == c) session epoch m.body).kept) among
 kept_now r h n (LetsGo lock grant) c u is among = among
 kept_now r h n (Reminds lock) c u is among = among
+kept_now r h n (Extends lock limit) c u is among = among
+kept_now r h n (Skips lock above) c u is among = among
+kept_now r h n (IsForgotten lock above limit) c u is among = among
 kept_now r h n Saves c u is among = is.grows c u among
 kept_now r h n Crashes c u is among = among
 
@@ -421,6 +484,9 @@ left_now r h n (Calls number call) l t grant is among body = absurd among
 left_now r h n (Speaks lock session epoch m) l t grant is among body = absurd among
 left_now r h n (LetsGo lock g) l t grant is among body = absurd among
 left_now r h n (Reminds lock) l t grant is among body = absurd among
+left_now r h n (Extends lock limit) l t grant is among body = absurd among
+left_now r h n (Skips lock above) l t grant is among body = absurd among
+left_now r h n (IsForgotten lock above limit) l t grant is among body = absurd among
 left_now r h n Saves l t grant is among body = is.letters l t grant among body
 left_now r h n Crashes l t grant is among body = absurd among
 

@@ -1,7 +1,9 @@
 -- lock by lock, the process is a node, and its letters are what the nodes say
 use Rattle.std.proofs.Common.{◌≡◌, ℕ, Bool, true, false, List, [], ◌∷◌, ◌++◌, refl, sym, ap, subst, ◌∙◌, ◌⊎◌, inl, inr, Option, Some, None, Result, Ok, Err}
-use Rattle.std.specs.Prelude.{◌==◌, if◌then◌else◌, is_some, map}
-use Rattle.std.proofs.lemmas.Bool.{eq-eqb, eqb-true}
+use Rattle.std.specs.Prelude.{◌==◌, ◌&&◌, nat_le, cond, if◌then◌else◌, is_some, map, not}
+use Rattle.std.specs.List.{filter}
+use Rattle.numbers.specs.Bounds.{max_limit}
+use Rattle.std.proofs.lemmas.Bool.{eq-eqb, eqb-true, false≢true}
 use Rattle.message.specs.declared.message.ToClient.{ToClient}
 use Rattle.message.specs.declared.message.ToVoter.{ToVoter}
 use Rattle.session_rows.specs.Runs as rows
@@ -9,9 +11,10 @@ use Rattle.sessions.specs.Rows.{IsOneOf, Row}
 use Rattle.voter.specs.declared.state.Grant.{Grant}
 use Rattle.voter.specs.Leases.{evict}
 use Rattle.voter.specs.Steps.{Outcome, step}
+use Rattle.voter_node.specs.Lives.{Fate, HasLimit, IsReborn, IsSkipped, Meets, be_skipped, becomes, have_limit, node_after, says, sends}
 use Rattle.voter_node.specs.Nodes as nodes
 use Rattle.lock_node.specs.Letters.{Letter, heard, hearer, letter_to, letters_of, may_say, subject}
-use Rattle.lock_node.specs.Locks.{Begins, Calls, Crashes, Event, LetsGo, LockNode, Reminds, Saves, Speaks, all_happen, all_leave, all_move, event_at, events_at, happens, leaves, letters_by, moves, outcome_at, set}
+use Rattle.lock_node.specs.Locks.{Begins, Calls, Crashes, Event, Extends, IsForgotten, LetsGo, LockNode, Reminds, Saves, Skips, Speaks, all_happen, all_leave, all_move, alters, fate_at, forgets, happens, leaves, letters_by, life_at, moves, outcome_at, set}
 
 -- ---- lists
 
@@ -50,49 +53,51 @@ set_by P f place value other here there = set_test P f place value other (place 
 pub set_here : {X : Type 0} (P : X → Type 0) (f : ℕ → X) (place : ℕ) (value : X) → P value → P (set f place value place)
 set_here P f place value here = subst (λ (b : Bool). P (if b then value else f place)) (sym (eq-eqb place place refl)) here
 
-pub run_more : (n : nodes.Node) (es fs : List nodes.Event) → nodes.run n (es ++ fs) ≡ nodes.run (nodes.run n es) fs
-run_more n [] fs = refl
-run_more n (e ∷ es) fs = run_more (nodes.after n (nodes.node_step n e)) es fs
+pub life_more : (n : nodes.Node) (fs gs : List Fate) → node_after n (fs ++ gs) ≡ node_after (node_after n fs) gs
+life_more n [] gs = refl
+life_more n (f ∷ fs) gs = life_more (becomes n f) fs gs
 
-gives_more : (n : nodes.Node) (es fs : List nodes.Event) (m : ToClient) → IsOneOf m (nodes.gives n es) ⊎ IsOneOf m (nodes.gives (nodes.run n es) fs)
-    → IsOneOf m (nodes.gives n (es ++ fs))
-gives_more n [] fs m is = elim is [
+says_more : (n : nodes.Node) (fs gs : List Fate) (m : ToClient) → IsOneOf m (says n fs) ⊎ IsOneOf m (says (node_after n fs) gs) → IsOneOf m (says n (fs ++ gs))
+says_more n [] gs m is = elim is [
   | inl none ↦ absurd none
   | inr more ↦ more
 ]
-gives_more n (e ∷ es) fs m is = elim is [
-  | inl first ↦ elim (one_of_two m (nodes.sends_of (nodes.node_step n e)) (nodes.gives (nodes.after n (nodes.node_step n e)) es) first) [
-    | inl now ↦ one_left m (nodes.sends_of (nodes.node_step n e)) _ now
-    | inr later ↦ one_right m (nodes.sends_of (nodes.node_step n e)) _ (gives_more (nodes.after n (nodes.node_step n e)) es fs m (inl later))
+says_more n (f ∷ fs) gs m is = elim is [
+  | inl first ↦ elim (one_of_two m (sends n f) (says (becomes n f) fs) first) [
+    | inl now ↦ one_left m (sends n f) _ now
+    | inr later ↦ one_right m (sends n f) _ (says_more (becomes n f) fs gs m (inl later))
   ]
-  | inr more ↦ one_right m (nodes.sends_of (nodes.node_step n e)) _ (gives_more (nodes.after n (nodes.node_step n e)) es fs m (inr more))
+  | inr more ↦ one_right m (sends n f) _ (says_more (becomes n f) fs gs m (inr more))
 ]
 
-moved : (locks : ℕ → nodes.Node) (other lock : ℕ) (e : nodes.Event) (b : Bool) → (other == lock) ≡ b
-    → (if b then nodes.after (locks other) (nodes.node_step (locks other) e) else locks lock) ≡ nodes.run (locks lock) (if b then e ∷ [] else [])
-moved locks other lock e false at = refl
-moved locks other lock e true at = ap (λ (k : ℕ). nodes.after (locks k) (nodes.node_step (locks k) e)) (eqb-true other lock at)
+altered : (locks : ℕ → nodes.Node) (other lock : ℕ) (f : Fate) (b : Bool) → (other == lock) ≡ b
+    → (if b then becomes (locks other) f else locks lock) ≡ node_after (locks lock) (if b then f ∷ [] else [])
+altered locks other lock f false at = refl
+altered locks other lock f true at = ap (λ (k : ℕ). becomes (locks k) f) (eqb-true other lock at)
 
 spoken : (n : LockNode) (other lock session epoch : ℕ) (m : ToVoter) (b : Bool)
     → (if b then moves n other (nodes.Takes m) else n).locks lock
-    ≡ nodes.run (n.locks lock) (if b then (if other == lock then nodes.Takes m ∷ [] else []) else [])
+    ≡ node_after (n.locks lock) (if b then (if other == lock then Meets (nodes.Takes m) ∷ [] else []) else [])
 spoken n other lock session epoch m false = refl
-spoken n other lock session epoch m true = moved n.locks other lock (nodes.Takes m) (other == lock) refl
+spoken n other lock session epoch m true = altered n.locks other lock (Meets (nodes.Takes m)) (other == lock) refl
 
-lock_after : (n : LockNode) (e : Event) (lock : ℕ) → (happens n e).locks lock ≡ nodes.run (n.locks lock) (event_at lock n e)
+lock_after : (n : LockNode) (e : Event) (lock : ℕ) → (happens n e).locks lock ≡ node_after (n.locks lock) (fate_at lock n e)
 lock_after n (Calls number call) lock = refl
 lock_after n (Speaks other session epoch m) lock = spoken n other lock session epoch m (may_say (n.rows m.client) session epoch m.body)
-lock_after n (LetsGo other grant) lock = moved n.locks other lock (nodes.Evicts grant) (other == lock) refl
-lock_after n (Reminds other) lock = moved n.locks other lock nodes.Reminds (other == lock) refl
+lock_after n (LetsGo other grant) lock = altered n.locks other lock (Meets (nodes.Evicts grant)) (other == lock) refl
+lock_after n (Reminds other) lock = altered n.locks other lock (Meets nodes.Reminds) (other == lock) refl
+lock_after n (Extends other limit) lock = altered n.locks other lock (HasLimit limit) (other == lock) refl
+lock_after n (Skips other above) lock = altered n.locks other lock (IsSkipped above) (other == lock) refl
+lock_after n (IsForgotten other above limit) lock = altered n.locks other lock (IsReborn above limit) (other == lock) refl
 lock_after n Saves lock = refl
 lock_after n Crashes lock = refl
 
-pub locks_after : (n : LockNode) (es : List Event) (lock : ℕ) → (all_happen n es).locks lock ≡ nodes.run (n.locks lock) (events_at lock n es)
+pub locks_after : (n : LockNode) (es : List Event) (lock : ℕ) → (all_happen n es).locks lock ≡ node_after (n.locks lock) (life_at lock n es)
 locks_after n [] lock = refl
 locks_after n (e ∷ es) lock =
     locks_after (happens n e) es lock
-    ∙ ap (λ (k : nodes.Node). nodes.run k (events_at lock (happens n e) es)) (lock_after n e lock)
-    ∙ sym (run_more (n.locks lock) (event_at lock n e) (events_at lock (happens n e) es))
+    ∙ ap (λ (k : nodes.Node). node_after k (life_at lock (happens n e) es)) (lock_after n e lock)
+    ∙ sym (life_more (n.locks lock) (fate_at lock n e) (life_at lock (happens n e) es))
 
 -- ---- letters
 
@@ -180,6 +185,45 @@ moves_wait n lock e of wait l is =
           (set_here (λ (x : nodes.Node). IsOneOf l.message x.outbox) n.locks lock next (by l.message at.1)))
     ]
 
+-- a voter with another limit, or that skips numbers, is else as it was
+pub record IsAltered (n m : nodes.Node) : Type 0 where
+  pub outbox : m.outbox ≡ n.outbox
+  pub held : m.live.held ≡ n.live.held
+  pub waiting : m.live.waiting ≡ n.live.waiting
+  pub saved : m.saved ≡ n.saved
+
+pub limit_keeps : (n : nodes.Node) (limit : ℕ) (b : Bool) → IsAltered n (have_limit b n limit)
+limit_keeps n limit true = record { outbox = refl; held = refl; waiting = refl; saved = refl }
+limit_keeps n limit false = record { outbox = refl; held = refl; waiting = refl; saved = refl }
+
+pub skip_keeps : (n : nodes.Node) (above : ℕ) (b : Bool) → IsAltered n (be_skipped b n above)
+skip_keeps n above true = record { outbox = refl; held = refl; waiting = refl; saved = refl }
+skip_keeps n above false = record { outbox = refl; held = refl; waiting = refl; saved = refl }
+
+alters_wait : (n : LockNode) (lock : ℕ) (f : Fate) → (becomes (n.locks lock) f).outbox ≡ (n.locks lock).outbox → AllWait n → AllWait (alters n lock f)
+alters_wait n lock f same wait l is =
+    set_by (λ (k : ℕ) (x : nodes.Node). k ≡ l.lock → IsOneOf l.message x.outbox) n.locks lock (becomes (n.locks lock) f) l.lock
+    (λ at. subst (λ (ms : List ToClient). IsOneOf l.message ms) (sym same) (subst (λ (k : ℕ). IsOneOf l.message (n.locks k).outbox) (sym at) (wait l is)))
+    (λ at. wait l is) refl
+
+one_test : {A : Type 0} (p : A → Bool) (x y : A) (ys : List A) (b : Bool) → p y ≡ b → (IsOneOf x (filter p ys) → IsOneOf x ys × (p x ≡ true))
+    → IsOneOf x (cond b (y ∷ filter p ys) (filter p ys)) → IsOneOf x (y ∷ ys) × (p x ≡ true)
+one_test p x y ys false e rest is = (let at = rest is in (inr at.0, at.1))
+one_test p x y ys true e rest is = elim is [
+  | inl here ↦ (inl here, ap p here ∙ e)
+  | inr there ↦ (let at = rest there in (inr at.0, at.1))
+]
+
+pub one_filtered : {A : Type 0} (p : A → Bool) (x : A) (xs : List A) → IsOneOf x (filter p xs) → IsOneOf x xs × (p x ≡ true)
+one_filtered p x [] is = absurd is
+one_filtered p x (y ∷ ys) is = one_test p x y ys (p y) refl (one_filtered p x ys) is
+
+forgets_wait : (n : LockNode) (lock : ℕ) (f : Fate) → AllWait n → AllWait (forgets n lock f)
+forgets_wait n lock f wait l is =
+    let at = one_filtered (λ (x : Letter). not (lock == x.lock)) l n.outbox is in
+    set_by (λ (k : ℕ) (x : nodes.Node). k ≡ l.lock → IsOneOf l.message x.outbox) n.locks lock (becomes (n.locks lock) f) l.lock
+    (λ same. absurd (false≢true (sym (ap not (eq-eqb lock l.lock same)) ∙ at.1))) (λ same. wait l at.0) refl
+
 speaks_wait : (n : LockNode) (lock : ℕ) (m : ToVoter) (b : Bool) → AllWait n → AllWait (if b then moves n lock (nodes.Takes m) else n)
 speaks_wait n lock m false wait = wait
 speaks_wait n lock m true wait = moves_wait n lock (nodes.Takes m) (takes m) wait
@@ -189,30 +233,36 @@ all_wait n (Calls number call) wait = wait
 all_wait n (Speaks lock session epoch m) wait = speaks_wait n lock m (may_say (n.rows m.client) session epoch m.body) wait
 all_wait n (LetsGo lock grant) wait = moves_wait n lock (nodes.Evicts grant) (evicts grant) wait
 all_wait n (Reminds lock) wait = moves_wait n lock nodes.Reminds reminds wait
+all_wait n (Extends lock limit) wait = alters_wait n lock (HasLimit limit) (limit_keeps (n.locks lock) limit (nat_le (n.locks lock).live.granted limit && nat_le limit max_limit)).outbox wait
+all_wait n (Skips lock above) wait = alters_wait n lock (IsSkipped above) (skip_keeps (n.locks lock) above (nat_le (n.locks lock).live.granted above && nat_le above (n.locks lock).live.limit)).outbox wait
+all_wait n (IsForgotten lock above limit) wait = forgets_wait n lock (IsReborn above limit) wait
 all_wait n Saves wait = λ l is. absurd is
 all_wait n Crashes wait = λ l is. absurd is
 
 -- a letter that leaves by one event
-given_now : (n : LockNode) (e : Event) (l : Letter) → AllWait n → IsOneOf l (leaves n e) → IsOneOf l.message (nodes.gives (n.locks l.lock) (event_at l.lock n e))
+said_now : (n : LockNode) (e : Event) (l : Letter) → AllWait n → IsOneOf l (leaves n e) → IsOneOf l.message (says (n.locks l.lock) (fate_at l.lock n e))
 unfolding nodes.node_step
-given_now n (Calls number call) l wait is = absurd is
-given_now n (Speaks lock session epoch m) l wait is = absurd is
-given_now n (LetsGo lock grant) l wait is = absurd is
-given_now n (Reminds lock) l wait is = absurd is
-given_now n Saves l wait is = one_left l.message (n.locks l.lock).outbox [] (wait l is)
-given_now n Crashes l wait is = absurd is
+said_now n (Calls number call) l wait is = absurd is
+said_now n (Speaks lock session epoch m) l wait is = absurd is
+said_now n (LetsGo lock grant) l wait is = absurd is
+said_now n (Reminds lock) l wait is = absurd is
+said_now n (Extends lock limit) l wait is = absurd is
+said_now n (Skips lock above) l wait is = absurd is
+said_now n (IsForgotten lock above limit) l wait is = absurd is
+said_now n Saves l wait is = one_left l.message (n.locks l.lock).outbox [] (wait l is)
+said_now n Crashes l wait is = absurd is
 
-given_then : (n : LockNode) (es : List Event) (l : Letter) → AllWait n → IsOneOf l (all_leave n es)
-    → IsOneOf l.message (nodes.gives (n.locks l.lock) (events_at l.lock n es))
-given_then n [] l wait is = absurd is
-given_then n (e ∷ es) l wait is =
-    gives_more (n.locks l.lock) (event_at l.lock n e) (events_at l.lock (happens n e) es) l.message
+said_then : (n : LockNode) (es : List Event) (l : Letter) → AllWait n → IsOneOf l (all_leave n es)
+    → IsOneOf l.message (says (n.locks l.lock) (life_at l.lock n es))
+said_then n [] l wait is = absurd is
+said_then n (e ∷ es) l wait is =
+    says_more (n.locks l.lock) (fate_at l.lock n e) (life_at l.lock (happens n e) es) l.message
     (elim (one_of_two l (leaves n e) (all_leave (happens n e) es) is) [
-      | inl now ↦ inl (given_now n e l wait now)
-      | inr later ↦ inr (subst (λ (k : nodes.Node). IsOneOf l.message (nodes.gives k (events_at l.lock (happens n e) es))) (lock_after n e l.lock)
-          (given_then (happens n e) es l (all_wait n e wait) later))
+      | inl now ↦ inl (said_now n e l wait now)
+      | inr later ↦ inr (subst (λ (k : nodes.Node). IsOneOf l.message (says k (life_at l.lock (happens n e) es))) (lock_after n e l.lock)
+          (said_then (happens n e) es l (all_wait n e wait) later))
     ])
 
 pub given_out : (n : LockNode) (es : List Event) (l : Letter) → Begins n → IsOneOf l (all_leave n es)
-    → IsOneOf l.message (nodes.gives (n.locks l.lock) (events_at l.lock n es))
-given_out n es l begins is = given_then n es l (λ x at. absurd (subst (λ (ls : List Letter). IsOneOf x ls) begins.waits at)) is
+    → IsOneOf l.message (says (n.locks l.lock) (life_at l.lock n es))
+given_out n es l begins is = said_then n es l (λ x at. absurd (subst (λ (ls : List Letter). IsOneOf x ls) begins.waits at)) is

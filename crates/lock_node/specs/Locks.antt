@@ -1,5 +1,6 @@
 -- A voter's process of many locks: a row for each number of a client, and for each lock a node of `voter_node`.
-use Rattle.std.specs.Prelude.{ℕ, ◌≡◌, ◌==◌, Bool, true, false, List, [], ◌∷◌, ◌++◌, Option, Some, None, if◌then◌else◌}
+use Rattle.std.specs.Prelude.{ℕ, ◌≡◌, ◌==◌, Bool, true, false, List, [], ◌∷◌, ◌++◌, Option, Some, None, if◌then◌else◌, not}
+use Rattle.std.specs.List.{filter}
 use Rattle.message.specs.declared.message.ToVoter.{ToVoter}
 use Rattle.message.specs.declared.message.VoterBody.{VoterBody}
 use Rattle.message.specs.declared.message.VoterBody.TheVariants as asks
@@ -9,6 +10,7 @@ use Rattle.voter.specs.declared.state.VoterState.{VoterState}
 use Rattle.voter.specs.Leases.{evict}
 use Rattle.voter.specs.Steps.{Outcome, remind, step}
 use Rattle.voter.specs.VoterContract.{IsEntry}
+use Rattle.voter_node.specs.Lives.{Fate, HasLimit, IsReborn, IsSkipped, Meets, becomes}
 use Rattle.voter_node.specs.Nodes as nodes
 use Rattle.lock_node.specs.Letters.{Letter, letters_of, may_say}
 
@@ -29,6 +31,12 @@ pub data Event : Type 0 where
   LetsGo : ℕ → ℕ → Event
   -- the voter reminds the holder of a lock
   Reminds : ℕ → Event
+  -- the voter of a lock may give grants up to another number, no less than it gave: lock, limit
+  Extends : ℕ → ℕ → Event
+  -- it skips the numbers of grants up to this one: lock, number
+  Skips : ℕ → ℕ → Event
+  -- a lock is forgotten, and made anew above all grants that its voter saved: lock, grants, limit
+  IsForgotten : ℕ → ℕ → ℕ → Event
   -- all that changed is saved, in one write, and the letters leave
   Saves : Event
   -- the process crashes, and restarts from the least of what was saved
@@ -53,6 +61,19 @@ letters_by true rows lock (Some o) = letters_of rows lock o.state.held o.replies
 letters_by true rows lock None = []
 letters_by false rows lock o = []
 
+-- the node of one lock becomes another one
+abbrev pub alters : LockNode → ℕ → Fate → LockNode
+alters n lock fate = record { rows = n.rows; saved = n.saved; locks = set n.locks lock (becomes (n.locks lock) fate); outbox = n.outbox }
+
+-- the node of one lock becomes another one, and what it said is lost
+abbrev pub forgets : LockNode → ℕ → Fate → LockNode
+forgets n lock fate = record {
+  rows = n.rows;
+  saved = n.saved;
+  locks = set n.locks lock (becomes (n.locks lock) fate);
+  outbox = filter (λ l. not (lock == l.lock)) n.outbox;
+}
+
 -- the node of one lock makes a step
 abbrev pub moves : LockNode → ℕ → nodes.Event → LockNode
 moves n lock e = record {
@@ -74,6 +95,9 @@ happens n (Speaks lock session epoch m) =
     if may_say (n.rows m.client) session epoch m.body then moves n lock (nodes.Takes m) else n
 happens n (LetsGo lock grant) = moves n lock (nodes.Evicts grant)
 happens n (Reminds lock) = moves n lock nodes.Reminds
+happens n (Extends lock limit) = alters n lock (HasLimit limit)
+happens n (Skips lock above) = alters n lock (IsSkipped above)
+happens n (IsForgotten lock above limit) = forgets n lock (IsReborn above limit)
 happens n Saves = record { rows = n.rows; saved = n.rows; locks = all_move n.locks nodes.IsSaved; outbox = [] }
 happens n Crashes = record { rows = n.saved; saved = n.saved; locks = all_move n.locks nodes.Forgets; outbox = [] }
 
@@ -83,6 +107,9 @@ leaves n (Calls number call) = []
 leaves n (Speaks lock session epoch m) = []
 leaves n (LetsGo lock grant) = []
 leaves n (Reminds lock) = []
+leaves n (Extends lock limit) = []
+leaves n (Skips lock above) = []
+leaves n (IsForgotten lock above limit) = []
 leaves n Saves = n.outbox
 leaves n Crashes = []
 
@@ -117,6 +144,9 @@ turn_of number (Calls other call) = if other == number then rows.Calls call ∷ 
 turn_of number (Speaks lock session epoch m) = if m.client == number then request_turn session epoch m.body else []
 turn_of number (LetsGo lock grant) = []
 turn_of number (Reminds lock) = []
+turn_of number (Extends lock limit) = []
+turn_of number (Skips lock above) = []
+turn_of number (IsForgotten lock above limit) = []
 turn_of number Saves = rows.Saves ∷ []
 turn_of number Crashes = rows.Crashes ∷ []
 
@@ -125,15 +155,19 @@ turns_of number [] = []
 turns_of number (e ∷ es) = turn_of number e ++ turns_of number es
 
 -- what an event is to the node of a lock
-abbrev pub event_at : ℕ → LockNode → Event → List nodes.Event
-event_at lock n (Calls number call) = []
-event_at lock n (Speaks other session epoch m) =
-    if may_say (n.rows m.client) session epoch m.body then (if other == lock then nodes.Takes m ∷ [] else []) else []
-event_at lock n (LetsGo other grant) = if other == lock then nodes.Evicts grant ∷ [] else []
-event_at lock n (Reminds other) = if other == lock then nodes.Reminds ∷ [] else []
-event_at lock n Saves = nodes.IsSaved ∷ []
-event_at lock n Crashes = nodes.Forgets ∷ []
+abbrev pub fate_at : ℕ → LockNode → Event → List Fate
+fate_at lock n (Calls number call) = []
+fate_at lock n (Speaks other session epoch m) =
+    if may_say (n.rows m.client) session epoch m.body then (if other == lock then Meets (nodes.Takes m) ∷ [] else []) else []
+fate_at lock n (LetsGo other grant) = if other == lock then Meets (nodes.Evicts grant) ∷ [] else []
+fate_at lock n (Reminds other) = if other == lock then Meets nodes.Reminds ∷ [] else []
+fate_at lock n (Extends other limit) = if other == lock then HasLimit limit ∷ [] else []
+fate_at lock n (Skips other above) = if other == lock then IsSkipped above ∷ [] else []
+fate_at lock n (IsForgotten other above limit) = if other == lock then IsReborn above limit ∷ [] else []
+fate_at lock n Saves = Meets nodes.IsSaved ∷ []
+fate_at lock n Crashes = Meets nodes.Forgets ∷ []
 
-abbrev pub events_at : ℕ → LockNode → List Event → List nodes.Event
-events_at lock n [] = []
-events_at lock n (e ∷ es) = event_at lock n e ++ events_at lock (happens n e) es
+-- the life of the node of a lock
+abbrev pub life_at : ℕ → LockNode → List Event → List Fate
+life_at lock n [] = []
+life_at lock n (e ∷ es) = fate_at lock n e ++ life_at lock (happens n e) es

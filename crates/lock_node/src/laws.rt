@@ -5,9 +5,9 @@ ghost use Rattle.message.specs.declared.message.ToClient.{ToClient};
 ghost use Rattle.sessions.specs.Rows.{IsOneOf, Row, Use, begin};
 ghost use Rattle.session_rows.specs.Runs.{after_turns};
 ghost use Rattle.voter.specs.declared.state.Grant.{Grant};
-ghost use Rattle.voter_node.specs.Nodes.{gives, run};
+ghost use Rattle.voter_node.specs.Lives.{node_after, says};
 ghost use Rattle.lock_node.specs.Letters.{Letter, heard, letters_of};
-ghost use Rattle.lock_node.specs.Locks.{Begins, Event, LockNode, all_happen, all_leave, events_at, turns_of};
+ghost use Rattle.lock_node.specs.Locks.{Begins, Event, LockNode, all_happen, all_leave, life_at, turns_of};
 
 use voter::voters_meet_the_contract;
 
@@ -22,16 +22,16 @@ pub fn letters_reach_who_asked()
     voters_meet_the_contract();
 }
 
-/// The node of each lock is, at any time, the node of `voter_node` after the events of this lock.
+/// The node of each lock is, at any time, that of a voter alone after the life that it has here.
 pub fn locks_run_as_nodes()
     ensures { (n : LockNode) (events : List Event) (lock : ℕ)
-        → (all_happen n events).locks lock ≡ run (n.locks lock) (events_at lock n events) }
+        → (all_happen n events).locks lock ≡ node_after (n.locks lock) (life_at lock n events) }
 {}
 
-/// Each letter that leaves has a message that the node of its lock gives out: once what led to it was saved.
+/// Each letter that leaves has a message that the node of its lock sends in this life: once what led to it was saved.
 pub fn letters_are_given_out()
     ensures { (n : LockNode) (events : List Event) (l : Letter) → Begins n
-        → IsOneOf l (all_leave n events) → IsOneOf l.message (gives (n.locks l.lock) (events_at l.lock n events)) }
+        → IsOneOf l (all_leave n events) → IsOneOf l.message (says (n.locks l.lock) (life_at l.lock n events)) }
 {}
 
 /// The letters with what a vote says have the messages that somebody hears ([`hears`](crate::hears)), in order.

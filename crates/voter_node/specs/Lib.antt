@@ -1,2 +1,3 @@
 pub mod LeftOut
+pub mod Lives
 pub mod Nodes
