@@ -6,6 +6,7 @@ ghost use Rattle.sessions.specs.Rows.{IsOneOf, Row, Use, begin};
 ghost use Rattle.session_rows.specs.Runs.{after_turns};
 ghost use Rattle.voter.specs.declared.state.Grant.{Grant};
 ghost use Rattle.voter_node.specs.Lives.{node_after, says};
+ghost use Rattle.lock_node.specs.Example.{new_voter};
 ghost use Rattle.lock_node.specs.Letters.{Letter, heard, letters_of};
 ghost use Rattle.lock_node.specs.Locks.{Begins, Event, LockNode, all_happen, all_leave, life_at, turns_of};
 
@@ -38,4 +39,9 @@ pub fn letters_are_given_out()
 pub fn letters_have_what_is_heard()
     ensures { (rows : ℕ → Row) (lock : ℕ) (held : Option Grant) (messages : List ToClient)
         → map (λ (l : Letter). l.message) (letters_of rows lock held messages) ≡ heard rows held messages }
+{}
+
+/// A new voter begins as the laws ask.
+pub fn new_voters_begin()
+    ensures { (id limit : ℕ) → Begins (new_voter id limit) }
 {}

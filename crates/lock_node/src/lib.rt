@@ -28,5 +28,6 @@ mod letters;
 
 pub use laws::{
     letters_are_given_out, letters_have_what_is_heard, letters_reach_who_asked, locks_run_as_nodes,
+    new_voters_begin,
 };
 pub use letters::{hearer, hears, may_say, subject};
