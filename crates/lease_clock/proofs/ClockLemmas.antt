@@ -1,10 +1,10 @@
 -- what each step of a clock keeps
-use Rattle.std.proofs.Common.{◌≡◌, ℕ, ◌+◌, ◌-◌, ◌*◌, ◌<◌, ◌≤◌, Bool, true, false, List, [], ◌∷◌, ◌++◌, length, drop, refl, subst, ◌∙◌, arith, length-append, length-drop}
+use Rattle.std.proofs.Common.{◌≡◌, ◌≢◌, ℕ, ◌+◌, ◌-◌, ◌*◌, ◌<◌, ◌≤◌, Bool, true, false, List, [], ◌∷◌, ◌++◌, length, drop, refl, subst, ◌∙◌, arith, length-append, length-drop}
 use Rattle.std.specs.Prelude.{zero, suc, ◌==◌, max, min, if◌then◌else◌}
 use Rattle.std.proofs.lemmas.Bool.Decides.{nat_tests}
 use Rattle.lease_clock.specs.Clocks.{AreInOrder, Clock, IsSound, at, begun, came_back, from_number, gap, is_due, is_silent, lost, make_room, most_away, reading, returned, sent, time_of}
 use Rattle.lease_clock.specs.declared.marker.Marker.{Marker}
-use Rattle.lease_clock.specs.Leases.{Leaves, Returns, Tick, all_count, all_ticked, counted, counts, ticked}
+use Rattle.lease_clock.specs.Leases.{AreInTurn, IsInTurn, IsNext, Leaves, Returns, Tick, all_count, all_ticked, counted, counts, ticked}
 
 -- ---- markers in order
 
@@ -219,6 +219,51 @@ stays_for period begin heard ttl before since is =
     let behind = stays_behind period begin heard before in
     let over : at c heard + ttl ≤ reading d = grind (arith, nat_tests) in
     omega arith
+
+silent_from : (c d : Clock) (heard skipped delay now ttl : ℕ) → IsSound c → IsSound d → c.skipped ≤ d.skipped → c.last.left ≤ heard → d.skipped ≤ c.skipped + skipped
+    → now ≤ d.back.left + delay → heard + ttl + skipped + delay ≤ now → is_silent d (at c heard) ttl ≡ true
+silent_from c d heard skipped delay now ttl c_sound d_sound grows past lost late long =
+    let was = heard_at c heard c_sound in
+    let at_time : time_of c heard ≡ heard = omega arith in
+    let behind = d_sound.behind in
+    let over : at c heard + ttl ≤ reading d = omega arith in
+    grind (arith, nat_tests)
+
+pub dead_silent : (period begin heard skipped delay now ttl : ℕ) (before since : List Tick) → (clock_of period begin before).last.left ≤ heard
+    → (all_ticked (clock_of period begin before) since).skipped ≤ (clock_of period begin before).skipped + skipped
+    → now ≤ (all_ticked (clock_of period begin before) since).back.left + delay → heard + ttl + skipped + delay ≤ now
+    → is_silent (all_ticked (clock_of period begin before) since) (at (clock_of period begin before) heard) ttl ≡ true
+dead_silent period begin heard skipped delay now ttl before since past lost late long =
+    let sound = ticked_sound period begin before in
+    let goes = all_go (clock_of period begin before) since sound in
+    silent_from (clock_of period begin before) (all_ticked (clock_of period begin before) since) heard skipped delay now ttl sound goes.sound goes.grows past lost late long
+
+none_lost : (c : Clock) (m : Marker) (b : Bool) → (m.number == c.back.number + 1) ≡ b → m.number ≡ c.back.number + 1 → gap c m ≤ 2 * c.period
+    → (if b then gap c m - 2 * c.period else gap c m) ≡ 0
+none_lost c m true e next near = omega arith
+none_lost c m false e next near = absurd (let other : m.number ≢ c.back.number + 1 = grind (arith, nat_tests) in other next)
+
+next_skips : (c : Clock) (rest : List Marker) → IsNext c rest → (came_back c rest).skipped ≡ c.skipped
+next_skips c [] next = refl
+next_skips c (m ∷ later) next =
+    let none : lost c m ≡ 0 = none_lost c m (m.number == c.back.number + 1) refl next.0 next.1 in
+    omega arith
+
+leave_skips : (c : Clock) (now : ℕ) (b : Bool) → (if b then sent c now else c).skipped ≡ c.skipped
+leave_skips c now true = refl
+leave_skips c now false = refl
+
+turn_skips : (c : Clock) (t : Tick) → IsInTurn c t → (ticked c t).skipped ≡ c.skipped
+turn_skips c (Leaves now) turn = leave_skips c now (is_due c now)
+turn_skips c (Returns number) turn = next_skips c (from_number number c.away) turn
+
+turns_skip : (c : Clock) (ts : List Tick) → AreInTurn c ts → (all_ticked c ts).skipped ≡ c.skipped
+turns_skip c [] turns = refl
+turns_skip c (t ∷ ts) turns = turns_skip (ticked c t) ts turns.1 ∙ turn_skips c t turns.0
+
+pub skips_none : (period begin : ℕ) (before since : List Tick) → AreInTurn (clock_of period begin before) since
+    → (all_ticked (clock_of period begin before) since).skipped ≡ (clock_of period begin before).skipped
+skips_none period begin before since turns = turns_skip (clock_of period begin before) since turns
 
 -- ---- what the code writes
 

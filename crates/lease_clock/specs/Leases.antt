@@ -1,7 +1,7 @@
 -- What may come to a lease clock; and leases by time, of one voter and one client (Gray and
 -- Cheriton, "Leases: An Efficient Fault-Tolerant Mechanism for Distributed File Cache Consistency",
 -- SOSP 1989).
-use Rattle.std.specs.Prelude.{ℕ, ◌≤◌, ◌+◌, ◌*◌, ◌==◌, max, min, nat_lt, Bool, true, false, ◌||◌, List, [], ◌∷◌, Option, Some, None, if◌then◌else◌}
+use Rattle.std.specs.Prelude.{ℕ, ◌≡◌, ◌≤◌, ◌+◌, ◌*◌, ◌==◌, max, min, nat_lt, Bool, true, false, ◌||◌, List, [], ◌∷◌, Option, Some, None, if◌then◌else◌}
 use Rattle.lease_clock.specs.Clocks.{Clock, at, begun, from_number, gap, is_silent, leaves, returned}
 use Rattle.lease_clock.specs.declared.marker.Marker.{Marker}
 
@@ -37,6 +37,20 @@ counts c (Returns number) = counted c (from_number number c.away)
 abbrev pub all_count : Clock → List Tick → ℕ
 all_count c [] = 0
 all_count c (t ∷ ts) = counts c t + all_count (ticked c t) ts
+
+-- a marker that comes back is the next one, and left at most two periods after the one before it
+abbrev pub IsNext : Clock → List Marker → Type 0
+IsNext c [] = Unit {0}
+IsNext c (m ∷ later) = (m.number ≡ c.back.number + 1) × (gap c m ≤ 2 * c.period)
+
+abbrev pub IsInTurn : Clock → Tick → Type 0
+IsInTurn c (Leaves now) = Unit {0}
+IsInTurn c (Returns number) = IsNext c (from_number number c.away)
+
+-- markers come back one after the other, and each leaves at most two periods after the one before it
+abbrev pub AreInTurn : Clock → List Tick → Type 0
+AreInTurn c [] = Unit {0}
+AreInTurn c (t ∷ ts) = IsInTurn c t × AreInTurn (ticked c t) ts
 
 -- ---- a voter and a client that has its grant
 

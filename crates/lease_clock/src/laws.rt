@@ -2,7 +2,7 @@
 ghost use Rattle.std.specs.Prelude.{◌≡◌, ◌≤◌, ◌+◌, ◌*◌, ◌++◌, ℕ, List, true, false};
 ghost use Rattle.std.specs.List.{AllByRecursion};
 ghost use Rattle.lease_clock.specs.Clocks.{Clock, at, begun, is_silent, reading, time_of};
-ghost use Rattle.lease_clock.specs.Leases.{Event, IsRated, Tick, after_all, all_count, all_ticked, begins, is_working};
+ghost use Rattle.lease_clock.specs.Leases.{AreInTurn, Event, IsRated, Tick, after_all, all_count, all_ticked, begins, is_working};
 ghost use Rattle.lease_clock.specs.Example.{is_let_go, works};
 
 /// A lease clock is never ahead of the clock, whatever comes: markers leave at any times, and come
@@ -25,13 +25,31 @@ pub fn clocks_are_never_ahead()
 /// What a lease clock shows grows by exactly what counts: for each marker that came back and is the
 /// next one after the newest that came back before it, the time between their leavings, and at most
 /// two periods. So a session is silent for a TTL only if so much counted since it was heard.
-pub fn live_votes_stay()
+pub fn silence_is_counted()
     ensures shows { (period begin : ℕ) (before since : List Tick)
         → reading (all_ticked (all_ticked (begun period begin) before) since)
         ≡ reading (all_ticked (begun period begin) before) + all_count (all_ticked (begun period begin) before) since }
     ensures stay { (period begin heard ttl : ℕ) (before since : List Tick)
         → is_silent (all_ticked (all_ticked (begun period begin) before) since) (at (all_ticked (begun period begin) before) heard) ttl ≡ true
         → ttl ≤ all_count (all_ticked (begun period begin) before) since }
+{}
+
+/// A dead session is silent once a TTL has passed since it was heard, and the time that was skipped since, and for
+/// how long ago the newest marker left that came back: so at each time from then on the grants that it has may be let
+/// go. Nothing is skipped while markers come back one after the other, and none leaves more than two periods after the
+/// one before it.
+pub fn dead_sessions_are_silent()
+    // `heard` is when the session was heard last, no earlier than when the last marker left; `skipped` is the most that
+    // was skipped since, and `delay` how long ago, at most, the newest marker left that came back.
+    ensures silent { (period begin heard skipped delay now ttl : ℕ) (before since : List Tick)
+        → (all_ticked (begun period begin) before).last.left ≤ heard
+        → (all_ticked (all_ticked (begun period begin) before) since).skipped ≤ (all_ticked (begun period begin) before).skipped + skipped
+        → now ≤ (all_ticked (all_ticked (begun period begin) before) since).back.left + delay
+        → heard + ttl + skipped + delay ≤ now
+        → is_silent (all_ticked (all_ticked (begun period begin) before) since) (at (all_ticked (begun period begin) before) heard) ttl ≡ true }
+    ensures skips_nothing { (period begin : ℕ) (before since : List Tick)
+        → AreInTurn (all_ticked (begun period begin) before) since
+        → (all_ticked (all_ticked (begun period begin) before) since).skipped ≡ (all_ticked (begun period begin) before).skipped }
 {}
 
 /// Who works has its grant: if the voter let the grant go the client does not work, whatever is

@@ -17,7 +17,9 @@
 //! - The clock is never ahead: a session that was heard at some time is silent for a TTL only if a
 //!   TTL has passed since ([`clocks_are_never_ahead`]).
 //! - Its reading grows by exactly what counts: up to two periods for each marker that comes back
-//!   after the one before it ([`live_votes_stay`]).
+//!   after the one before it ([`silence_is_counted`]).
+//! - A dead session is silent at most a TTL, what was skipped, and the delay of markers after it was heard
+//!   ([`dead_sessions_are_silent`]).
 //! - Of one voter and one client that has its grant, whatever is late, lost, repeated or out of
 //!   order, and with clocks whose rates differ: who works has its grant
 //!   ([`who_works_has_its_grant`], by leases as Gray and Cheriton have them, SOSP 1989). The voter
@@ -33,6 +35,7 @@ mod saved;
 
 pub use clock::LeaseClock;
 pub use laws::{
-    a_client_works_and_is_let_go, clocks_are_never_ahead, live_votes_stay, who_works_has_its_grant,
+    a_client_works_and_is_let_go, clocks_are_never_ahead, dead_sessions_are_silent,
+    silence_is_counted, who_works_has_its_grant,
 };
 pub use saved::{SAVED_WORDS, SavedWords};

@@ -1,5 +1,5 @@
 use Rattle.lease_clock.proofs.ClockLemmas.{shows_more, stays_for}
-use Rattle.lease_clock.proofs.laws.live_votes_stay.Goals as goal
+use Rattle.lease_clock.proofs.laws.silence_is_counted.Goals as goal
 
 pub returns-clause-shows : goal.returns-clause-shows
 returns-clause-shows c = shows_more
