@@ -5,7 +5,8 @@
 //! state, and writes it in place. A call that is refused writes nothing. No call takes memory.
 //!
 //! - [`rows`]: the row of a client's number. Each call is a step of `session_rows`
-//!   (`specs/RowSteps.antt`).
+//!   (`specs/RowSteps.antt`). [`rows::row_in`] reads the row of a number in a table of all
+//!   (`specs/Tables.antt`).
 //! - [`clocks`]: the lease clock of a voter. Each call is a step of `lease_clock`
 //!   (`specs/ClockSteps.antt`).
 //! - [`Refusal`]: why a call was refused, and the number that C sees ([`number_of`]).
