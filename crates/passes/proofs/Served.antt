@@ -48,7 +48,7 @@ told_given out voting lock limit new session v client stamp grant told =
     let n = (voting v).first in
     let es = (voting v).events in
     let at : IsOneOf told.0.message (says (n.locks lock) (life_at lock n es)) =
-        subst (λ (k : ℕ). IsOneOf told.0.message (says (n.locks k) (life_at k n es))) told.2 (out n es told.0 (new v).begins told.1) in
+    subst (λ (k : ℕ). IsOneOf told.0.message (says (n.locks k) (life_at k n es))) told.2 (out n es told.0 (new v).begins told.1) in
     given_by (said v (limit v) (life_at lock n es)) told.0.message client stamp grant
     (subst (λ (x : Node). IsOneOf told.0.message (says x (life_at lock n es))) (new v).vote at) told.4 told.5
 
@@ -112,9 +112,9 @@ told_took reaches voting lock session v client stamp grant begins told =
     let use_of : ℕ → ℕ → Use = λ s e. record { session = s; epoch = e; stamp = stamp } in
     let one = reaches n es told.0 stamp grant begins told.1 told.5 in
     let by_client : IsOneOf (use_of told.0.session one.0) (rows.after_turns (begin (n.rows client)) (turns_of client es)).kept =
-        subst (λ (c : ℕ). IsOneOf (use_of told.0.session one.0) (rows.after_turns (begin (n.rows c)) (turns_of c es)).kept) told.4 one.1 in
+    subst (λ (c : ℕ). IsOneOf (use_of told.0.session one.0) (rows.after_turns (begin (n.rows c)) (turns_of c es)).kept) told.4 one.1 in
     let mine : IsOneOf (use_of session one.0) (rows.after_turns (begin (n.rows client)) (turns_of client es)).kept =
-        subst (λ (s : ℕ). IsOneOf (use_of s one.0) (rows.after_turns (begin (n.rows client)) (turns_of client es)).kept) told.3 by_client in
+    subst (λ (s : ℕ). IsOneOf (use_of s one.0) (rows.after_turns (begin (n.rows client)) (turns_of client es)).kept) told.3 by_client in
     let took = keeps_turns (begin (n.rows client)) (turns_of client es) (λ u is. is) (use_of session one.0) mine in
     (one.0, subst (λ (x : Voter). IsOneOf (use_of session one.0) x.took) (sym (turns_lead (begin (n.rows client)) (turns_of client es)).there) took)
 
