@@ -469,6 +469,29 @@ int32_t qlock_lock_let_go(const uint8_t *table, size_t rows, uint8_t *vote, size
    QLOCK_NO_ROOM    `room` is too small; QLOCK_VOTER_OUT is always enough */
 int32_t qlock_lock_remind(const uint8_t *table, size_t rows, const uint8_t *vote, size_t n, uint8_t *out, size_t room, size_t *written);
 
+/* How a session stands at a voter. */
+enum {
+    QLOCK_KNOWN = 0,   /* the number is the session's, under this epoch */
+    QLOCK_UNKNOWN = 1, /* it may claim the number under this epoch */
+    QLOCK_OVER = 2     /* the number has another session, or had one under a later epoch */
+};
+
+/* Writes how a session stands, named by these halves, under this epoch, by the row of a number, 0 to 63.
+
+   QLOCK_BAD_ARGUMENT  there is no such number
+   QLOCK_BAD_STATE     there is no row for the number */
+int32_t qlock_table_judge(const uint8_t *table, size_t rows, uint8_t number, uint64_t upper, uint64_t lower, uint64_t epoch,
+                          uint32_t *standing);
+
+/* Writes 1 to `*yes` if the grant of a request of this stamp may be let go, by the row of its number, 0 to 63, and 0 if not: the
+   session is silent, which the caller says, or nobody has the number, or a later session has it. If another voter ended the session
+   (`ended_elsewhere`), it may not know so, and silence alone counts.
+
+   QLOCK_BAD_ARGUMENT  there is no such number
+   QLOCK_BAD_STATE     there is no row for the number */
+int32_t qlock_table_lets_go(const uint8_t *table, size_t rows, uint8_t number, uint64_t stamp, uint32_t is_silent,
+                            uint32_t ended_elsewhere, uint32_t *yes);
+
 /* ---- The lease clock of a voter: for how long a session was silent. `n` is always QLOCK_CLOCK_BYTES.
 
    Each voter has one, in memory: it is not saved, and a voter that starts makes a new one. The voter sends itself markers, through

@@ -30,7 +30,7 @@ use Rattle.voter_node.specs.Lives.{Fate, HasLimit, IsReborn, IsSkipped, be_rebor
 use Rattle.voter_node.specs.Nodes as nodes
 use Rattle.lock_node.specs.Letters.{Letter, hearer, letter_to, letters_of, may_say, subject}
 use Rattle.lock_node.specs.Locks.{Begins, Calls, Crashes, Event, Extends, IsForgotten, LetsGo, LockNode, Reminds, Saves, Skips, Speaks, all_happen, all_leave, all_move, alters, forgets, happens, leaves, letters_by, moves, outcome_at, request_turn, set, turn_of, turns_of}
-use Rattle.lock_node.proofs.LockLemmas.{IsAltered, IsStep, evicts, limit_keeps, one_filtered, one_left, one_of_two, reminds, set_by, skip_keeps, takes}
+use Rattle.lock_node.proofs.LockLemmas.{IsAltered, IsStep, evicts, letter_lock, limit_keeps, one_filtered, one_left, one_of_two, reminds, set_by, skip_keeps, takes}
 
 -- ---- one number
 
@@ -118,15 +118,15 @@ remind_tells n o is =
 
 -- ---- all numbers and all locks
 
--- each session whose request is granted or waits asked, and so did whoever hears of a grant
-pub record IsServed (r : ℕ → Row) (h : ℕ → Voter) (n : LockNode) : Type 0 where
+-- of one lock: each session whose request is granted or waits asked, and so did whoever hears of a grant
+pub record IsServed (at : ℕ) (r : ℕ → Row) (h : ℕ → Voter) (n : LockNode) : Type 0 where
   pub led : (c : ℕ) → Led (r c) (h c)
   pub live : (c : ℕ) → n.rows c ≡ (h c).live
   pub saved : (c : ℕ) → n.saved c ≡ (h c).saved
   pub grows : (c : ℕ) (u : Use) → IsOneOf u (h c).kept → IsOneOf u (h c).took
-  pub asked : (lock c t : ℕ) → IsEntry (n.locks lock).live c t → Asked (h c).took t
-  pub kept : (lock c t : ℕ) → IsEntry (n.locks lock).saved c t → Asked (h c).kept t
-  pub letters : (l : Letter) (t grant : ℕ) → IsOneOf l n.outbox → l.message.body ≡ to_client.Locked t grant
+  pub asked : (c t : ℕ) → IsEntry (n.locks at).live c t → Asked (h c).took t
+  pub kept : (c t : ℕ) → IsEntry (n.locks at).saved c t → Asked (h c).kept t
+  pub letters : (l : Letter) (t grant : ℕ) → IsOneOf l n.outbox → l.lock ≡ at → l.message.body ≡ to_client.Locked t grant
       → (epoch : ℕ) × IsOneOf (record { session = l.session; epoch = epoch; stamp = t }) (h l.message.client).took
 
 -- who hears of a stamp
@@ -219,15 +219,15 @@ asked_more : (v w : Voter) (t : ℕ) → Grows v w → Asked v.took t → Asked 
 asked_more v w t grows asked = (asked.0, asked.1, grows.took _ asked.2)
 
 -- the same process, once numbers asked more
-grown : (r : ℕ → Row) (h k : ℕ → Voter) (n : LockNode) → IsServed r h n → ((c : ℕ) → Led (r c) (k c)) → ((c : ℕ) → Grows (h c) (k c)) → IsServed r k n
-grown r h k n is led grows = record {
+grown : (at : ℕ) (r : ℕ → Row) (h k : ℕ → Voter) (n : LockNode) → IsServed at r h n → ((c : ℕ) → Led (r c) (k c)) → ((c : ℕ) → Grows (h c) (k c)) → IsServed at r k n
+grown at r h k n is led grows = record {
   led = led;
   live = λ c. is.live c ∙ sym (grows c).live;
   saved = λ c. is.saved c ∙ sym (grows c).saved;
   grows = λ c u among. (grows c).took u (is.grows c u (subst (λ (us : List Use). IsOneOf u us) (grows c).kept among));
-  asked = λ lock c t at. asked_more (h c) (k c) t (grows c) (is.asked lock c t at);
-  kept = λ lock c t at. subst (λ (us : List Use). Asked us t) (sym (grows c).kept) (is.kept lock c t at);
-  letters = λ l t grant among body. (let one = is.letters l t grant among body in (one.0, (grows l.message.client).took _ one.1));
+  asked = λ c t has. asked_more (h c) (k c) t (grows c) (is.asked c t has);
+  kept = λ c t has. subst (λ (us : List Use). Asked us t) (sym (grows c).kept) (is.kept c t has);
+  letters = λ l t grant among of body. (let one = is.letters l t grant among of body in (one.0, (grows l.message.client).took _ one.1));
 }
 
 -- the vote of a lock makes a step
@@ -246,42 +246,47 @@ saved_after node false o = refl
 saved_after node true None = refl
 saved_after node true (Some x) = refl
 
-letters_after : (r : ℕ → Row) (h : ℕ → Voter) (n : LockNode) (lock : ℕ) (node : nodes.Node) (New : ℕ → ℕ → Type 0) (b : Bool) (o : Option Outcome)
-    → IsServed r h n → ((x : Outcome) → o ≡ Some x → Tells node.live New x) → ((c t : ℕ) → New c t → Asked (h c).took t)
+letters_after : (at : ℕ) (r : ℕ → Row) (h : ℕ → Voter) (n : LockNode) (lock : ℕ) (node : nodes.Node) (New : ℕ → ℕ → Type 0) (b : Bool) (o : Option Outcome)
+    → IsServed at r h n → ((x : Outcome) → o ≡ Some x → Tells node.live New x) → ((c t : ℕ) → New c t → Asked (h c).took t)
     → ((c t : ℕ) → IsEntry node.live c t → Asked (h c).took t)
     → (l : Letter) (t grant : ℕ) → IsOneOf l (letters_by b n.rows lock o) → l.message.body ≡ to_client.Locked t grant
     → (epoch : ℕ) × IsOneOf (record { session = l.session; epoch = epoch; stamp = t }) (h l.message.client).took
-letters_after r h n lock node New false o is tells new old l t grant among body = absurd among
-letters_after r h n lock node New true None is tells new old l t grant among body = absurd among
-letters_after r h n lock node New true (Some x) is tells new old l t grant among body =
+letters_after at r h n lock node New false o is tells new old l t grant among body = absurd among
+letters_after at r h n lock node New true None is tells new old l t grant among body = absurd among
+letters_after at r h n lock node New true (Some x) is tells new old l t grant among body =
     heard_asked h n.rows r lock x.state x.replies is.led is.live
     (λ c s at. elim ((tells x refl).entries c s at) [
       | inl before ↦ old c s before
       | inr now ↦ new c s now
     ]) (tells x refl).heard l t grant among body
 
-moves_served : (r : ℕ → Row) (h : ℕ → Voter) (n : LockNode) (lock : ℕ) (e : nodes.Event) (New : ℕ → ℕ → Type 0) → IsServed r h n → IsStep e
-    → ((x : Outcome) → outcome_at (n.locks lock) e ≡ Some x → Tells (n.locks lock).live New x) → ((c t : ℕ) → New c t → Asked (h c).took t)
-    → IsServed r h (moves n lock e)
-moves_served r h n lock e New is of tells new =
+moves_served : (at : ℕ) (r : ℕ → Row) (h : ℕ → Voter) (n : LockNode) (lock : ℕ) (e : nodes.Event) (New : ℕ → ℕ → Type 0) → IsServed at r h n → IsStep e
+    → ((x : Outcome) → outcome_at (n.locks lock) e ≡ Some x → Tells (n.locks lock).live New x) → (lock ≡ at → (c t : ℕ) → New c t → Asked (h c).took t)
+    → IsServed at r h (moves n lock e)
+moves_served at r h n lock e New is of tells new =
     let node = n.locks lock in
     let next = nodes.after node (nodes.node_step node e) in
     let by : next ≡ nodes.after node (nodes.if_room (nodes.has_room node) (nodes.after_voter node (outcome_at node e))) =
     ap (λ (t : Result nodes.Turn _). nodes.after node t) (of.is node) in
+    let old : lock ≡ at → (c t : ℕ) → IsEntry node.live c t → Asked (h c).took t =
+    λ same c t has. is.asked c t (subst (λ (k : ℕ). IsEntry (n.locks k).live c t) same has) in
     record {
       led = is.led;
       live = is.live;
       saved = is.saved;
       grows = is.grows;
-      asked = λ k c t. set_by (λ (_ : ℕ) (x : nodes.Node). IsEntry x.live c t → Asked (h c).took t) n.locks lock next k
-          (λ at. live_after r h node New (nodes.has_room node) (outcome_at node e) tells new (is.asked lock) c t (subst (λ (x : nodes.Node). IsEntry x.live c t) by at))
-          (is.asked k c t);
-      kept = λ k c t. set_by (λ (_ : ℕ) (x : nodes.Node). IsEntry x.saved c t → Asked (h c).kept t) n.locks lock next k
-          (λ at. is.kept lock c t (subst (λ (v : VoterState). IsEntry v c t) (ap (λ (x : nodes.Node). x.saved) by ∙ saved_after node (nodes.has_room node) (outcome_at node e)) at))
-          (is.kept k c t);
-      letters = λ l t grant among body. elim (one_of_two l n.outbox (letters_by (nodes.has_room node) n.rows lock (outcome_at node e)) among) [
-        | inl old ↦ is.letters l t grant old body
-        | inr fresh ↦ letters_after r h n lock node New (nodes.has_room node) (outcome_at node e) is tells new (is.asked lock) l t grant fresh body
+      asked = λ c t. set_by (λ (k : ℕ) (x : nodes.Node). k ≡ at → IsEntry x.live c t → Asked (h c).took t) n.locks lock next at
+          (λ same has. live_after r h node New (nodes.has_room node) (outcome_at node e) tells (new same) (old same) c t (subst (λ (x : nodes.Node). IsEntry x.live c t) by has))
+          (λ same has. is.asked c t has) refl;
+      kept = λ c t. set_by (λ (k : ℕ) (x : nodes.Node). k ≡ at → IsEntry x.saved c t → Asked (h c).kept t) n.locks lock next at
+          (λ same has. is.kept c t (subst (λ (k : ℕ). IsEntry (n.locks k).saved c t) same
+          (subst (λ (v : VoterState). IsEntry v c t) (ap (λ (x : nodes.Node). x.saved) by ∙ saved_after node (nodes.has_room node) (outcome_at node e)) has)))
+          (λ same has. is.kept c t has) refl;
+      letters = λ l t grant among its body. elim (one_of_two l n.outbox (letters_by (nodes.has_room node) n.rows lock (outcome_at node e)) among) [
+        | inl before ↦ is.letters l t grant before its body
+        | inr fresh ↦ (
+            let same : lock ≡ at = sym (letter_lock n.rows lock (nodes.has_room node) (outcome_at node e) l fresh) ∙ its in
+            letters_after at r h n lock node New (nodes.has_room node) (outcome_at node e) is tells (new same) (old same) l t grant fresh body)
       ];
     }
 
@@ -299,37 +304,38 @@ brought n v session epoch client (asks.Relinquish grant) c t live may new = absu
 brought n v session epoch client (asks.Release stamp) c t live may new = absurd new
 
 -- the lives of all numbers after an event
-abbrev lives : (ℕ → Voter) → Event → ℕ → Voter
-lives h e c = rows.after_turns (h c) (turn_of c e)
+abbrev lives : ℕ → (ℕ → Voter) → Event → ℕ → Voter
+lives at h e c = rows.after_turns (h c) (turn_of at c e)
 
 brings_client : (client : ℕ) (body : VoterBody) (c t : ℕ) → Brings client body c t → c ≡ client
 brings_client client (asks.Request stamp) c t new = new.0
 brings_client client (asks.Relinquish grant) c t new = absurd new
 brings_client client (asks.Release stamp) c t new = absurd new
 
-brings_asked : (h : ℕ → Voter) (n : LockNode) (lock session epoch : ℕ) (m : ToVoter) (c t : ℕ) → n.rows m.client ≡ (h m.client).live
-    → may_say (n.rows m.client) session epoch m.body ≡ true → Brings m.client m.body c t → Asked (lives h (Speaks lock session epoch m) c).took t
-brings_asked h n lock session epoch m c t live may new =
-    let at : c ≡ m.client = brings_client m.client m.body c t new in
-    subst (λ (k : ℕ). Asked (lives h (Speaks lock session epoch m) k).took t) (sym at)
-    (subst (λ (b : Bool). Asked (rows.after_turns (h m.client) (if b then request_turn session epoch m.body else [])).took t) (sym (eq-eqb m.client m.client refl))
+brings_asked : (at : ℕ) (h : ℕ → Voter) (n : LockNode) (lock session epoch : ℕ) (m : ToVoter) (c t : ℕ) → lock ≡ at → n.rows m.client ≡ (h m.client).live
+    → may_say (n.rows m.client) session epoch m.body ≡ true → Brings m.client m.body c t → Asked (lives at h (Speaks lock session epoch m) c).took t
+brings_asked at h n lock session epoch m c t same live may new =
+    let of : c ≡ m.client = brings_client m.client m.body c t new in
+    subst (λ (k : ℕ). Asked (lives at h (Speaks lock session epoch m) k).took t) (sym of)
+    (subst (λ (b : Bool). Asked (rows.after_turns (h m.client) (if b then request_turn session epoch m.body else [])).took t)
+    (sym (and_from (m.client == m.client) (lock == at) (eq-eqb m.client m.client refl) (eq-eqb lock at same)))
     (brought n (h m.client) session epoch m.client m.body c t live may new))
 
-speaks_by : (r : ℕ → Row) (h : ℕ → Voter) (n : LockNode) (lock session epoch : ℕ) (m : ToVoter) (b : Bool) → may_say (n.rows m.client) session epoch m.body ≡ b
-    → IsServed r h n → IsServed r (lives h (Speaks lock session epoch m)) n
-    → IsServed r (lives h (Speaks lock session epoch m)) (if b then moves n lock (nodes.Takes m) else n)
-speaks_by r h n lock session epoch m false may is more = more
-speaks_by r h n lock session epoch m true may is more =
-    moves_served r (lives h (Speaks lock session epoch m)) n lock (nodes.Takes m) (Brings m.client m.body) more (takes m) (λ x at. take_tells (n.locks lock).live m x at)
-    (λ c t new. brings_asked h n lock session epoch m c t (is.live m.client) may new)
+speaks_by : (at : ℕ) (r : ℕ → Row) (h : ℕ → Voter) (n : LockNode) (lock session epoch : ℕ) (m : ToVoter) (b : Bool) → may_say (n.rows m.client) session epoch m.body ≡ b
+    → IsServed at r h n → IsServed at r (lives at h (Speaks lock session epoch m)) n
+    → IsServed at r (lives at h (Speaks lock session epoch m)) (if b then moves n lock (nodes.Takes m) else n)
+speaks_by at r h n lock session epoch m false may is more = more
+speaks_by at r h n lock session epoch m true may is more =
+    moves_served at r (lives at h (Speaks lock session epoch m)) n lock (nodes.Takes m) (Brings m.client m.body) more (takes m) (λ x at. take_tells (n.locks lock).live m x at)
+    (λ same c t new. brings_asked at h n lock session epoch m c t same (is.live m.client) may new)
 
-speaks_served : (r : ℕ → Row) (h : ℕ → Voter) (n : LockNode) (lock session epoch : ℕ) (m : ToVoter) (b : Bool) → may_say (n.rows m.client) session epoch m.body ≡ b
-    → IsServed r h n → IsServed r (lives h (Speaks lock session epoch m)) (if b then moves n lock (nodes.Takes m) else n)
-speaks_served r h n lock session epoch m b may is =
-    let k = lives h (Speaks lock session epoch m) in
-    let more : IsServed r k n = grown r h k n is (λ c. led_on (r c) (h c) (turn_of c (Speaks lock session epoch m)) (is.led c))
-    (λ c. speaks_grows (h c) (m.client == c) session epoch m.body) in
-    speaks_by r h n lock session epoch m b may is more
+speaks_served : (at : ℕ) (r : ℕ → Row) (h : ℕ → Voter) (n : LockNode) (lock session epoch : ℕ) (m : ToVoter) (b : Bool) → may_say (n.rows m.client) session epoch m.body ≡ b
+    → IsServed at r h n → IsServed at r (lives at h (Speaks lock session epoch m)) (if b then moves n lock (nodes.Takes m) else n)
+speaks_served at r h n lock session epoch m b may is =
+    let k = lives at h (Speaks lock session epoch m) in
+    let more : IsServed at r k n = grown at r h k n is (λ c. led_on (r c) (h c) (turn_of at c (Speaks lock session epoch m)) (is.led c))
+    (λ c. speaks_grows (h c) ((m.client == c) && (lock == at)) session epoch m.body) in
+    speaks_by at r h n lock session epoch m b may is more
 
 called : (rs : ℕ → Row) (h : ℕ → Voter) (number : ℕ) (call : rows.Call) (c : ℕ) (b : Bool) → (number == c) ≡ b → ((x : ℕ) → rs x ≡ (h x).live)
     → (if b then rows.after_call (rs number) call else rs c) ≡ (rows.after_turns (h c) (if b then rows.Calls call ∷ [] else [])).live
@@ -345,32 +351,32 @@ calls_keep : (v : Voter) (call : rows.Call) (b : Bool) → IsCalled v (rows.afte
 calls_keep v call true = record { saved = refl; kept = refl; took = refl }
 calls_keep v call false = record { saved = refl; kept = refl; took = refl }
 
-calls_served : (r : ℕ → Row) (h : ℕ → Voter) (n : LockNode) (number : ℕ) (call : rows.Call) → IsServed r h n
-    → IsServed r (lives h (Calls number call)) (happens n (Calls number call))
-calls_served r h n number call is =
-    let keep : (c : ℕ) → IsCalled (h c) (lives h (Calls number call) c) = λ c. calls_keep (h c) call (number == c) in
+calls_served : (at : ℕ) (r : ℕ → Row) (h : ℕ → Voter) (n : LockNode) (number : ℕ) (call : rows.Call) → IsServed at r h n
+    → IsServed at r (lives at h (Calls number call)) (happens n (Calls number call))
+calls_served at r h n number call is =
+    let keep : (c : ℕ) → IsCalled (h c) (lives at h (Calls number call) c) = λ c. calls_keep (h c) call (number == c) in
     record {
-      led = λ c. led_on (r c) (h c) (turn_of c (Calls number call)) (is.led c);
+      led = λ c. led_on (r c) (h c) (turn_of at c (Calls number call)) (is.led c);
       live = λ c. called n.rows h number call c (number == c) refl is.live;
       saved = λ c. is.saved c ∙ sym (keep c).saved;
       grows = λ c u among. subst (λ (us : List Use). IsOneOf u us) (sym (keep c).took) (is.grows c u (subst (λ (us : List Use). IsOneOf u us) (keep c).kept among));
-      asked = λ lock c t at. subst (λ (us : List Use). Asked us t) (sym (keep c).took) (is.asked lock c t at);
-      kept = λ lock c t at. subst (λ (us : List Use). Asked us t) (sym (keep c).kept) (is.kept lock c t at);
-      letters = λ l t grant among body. (
-          let one = is.letters l t grant among body in
+      asked = λ c t has. subst (λ (us : List Use). Asked us t) (sym (keep c).took) (is.asked c t has);
+      kept = λ c t has. subst (λ (us : List Use). Asked us t) (sym (keep c).kept) (is.kept c t has);
+      letters = λ l t grant among its body. (
+          let one = is.letters l t grant among its body in
           (one.0, subst (λ (us : List Use). IsOneOf (record { session = l.session; epoch = one.0; stamp = t }) us) (sym (keep l.message.client).took) one.1));
     }
 
-saves_served : (r : ℕ → Row) (h : ℕ → Voter) (n : LockNode) → IsServed r h n → IsServed r (lives h Saves) (happens n Saves)
+saves_served : (at : ℕ) (r : ℕ → Row) (h : ℕ → Voter) (n : LockNode) → IsServed at r h n → IsServed at r (lives at h Saves) (happens n Saves)
 unfolding nodes.node_step
-saves_served r h n is = record {
-  led = λ c. led_on (r c) (h c) (turn_of c Saves) (is.led c);
+saves_served at r h n is = record {
+  led = λ c. led_on (r c) (h c) (turn_of at c Saves) (is.led c);
   live = is.live;
   saved = is.live;
   grows = λ c u among. among;
   asked = is.asked;
   kept = is.asked;
-  letters = λ l t grant among body. absurd among;
+  letters = λ l t grant among its body. absurd among;
 }
 
 least_entry : (v : VoterState) (c t : ℕ) → IsEntry (least_voter v) c t → IsEntry v c t
@@ -379,16 +385,16 @@ least_entry v c t at = elim at [
   | inr waits ↦ absurd (none-some t (sym (get-empty _ c) ∙ waits))
 ]
 
-crashes_served : (r : ℕ → Row) (h : ℕ → Voter) (n : LockNode) → IsServed r h n → IsServed r (lives h Crashes) (happens n Crashes)
+crashes_served : (at : ℕ) (r : ℕ → Row) (h : ℕ → Voter) (n : LockNode) → IsServed at r h n → IsServed at r (lives at h Crashes) (happens n Crashes)
 unfolding nodes.node_step
-crashes_served r h n is = record {
-  led = λ c. led_on (r c) (h c) (turn_of c Crashes) (is.led c);
+crashes_served at r h n is = record {
+  led = λ c. led_on (r c) (h c) (turn_of at c Crashes) (is.led c);
   live = is.saved;
   saved = is.saved;
   grows = λ c u among. among;
-  asked = λ lock c t at. is.kept lock c t (least_entry (n.locks lock).saved c t at);
-  kept = λ lock c t at. is.kept lock c t (least_entry (n.locks lock).saved c t at);
-  letters = λ l t grant among body. absurd among;
+  asked = λ c t has. is.kept c t (least_entry (n.locks at).saved c t has);
+  kept = λ c t has. is.kept c t (least_entry (n.locks at).saved c t has);
+  letters = λ l t grant among its body. absurd among;
 }
 
 same_entry : (v w : VoterState) (c t : ℕ) → w.held ≡ v.held → w.waiting ≡ v.waiting → IsEntry w c t → IsEntry v c t
@@ -397,16 +403,18 @@ same_entry v w c t held waiting at = elim at [
   | inr waits ↦ inr (subst (λ (q : Waiting). get q c ≡ Some t) waiting waits)
 ]
 
-alters_served : (r : ℕ → Row) (h : ℕ → Voter) (n : LockNode) (lock : ℕ) (f : Fate) → IsServed r h n → IsAltered (n.locks lock) (becomes (n.locks lock) f) → IsServed r h (alters n lock f)
-alters_served r h n lock f is same = record {
+alters_served : (at : ℕ) (r : ℕ → Row) (h : ℕ → Voter) (n : LockNode) (lock : ℕ) (f : Fate) → IsServed at r h n → IsAltered (n.locks lock) (becomes (n.locks lock) f) → IsServed at r h (alters n lock f)
+alters_served at r h n lock f is same = record {
   led = is.led;
   live = is.live;
   saved = is.saved;
   grows = is.grows;
-  asked = λ k c t. set_by (λ (_ : ℕ) (x : nodes.Node). IsEntry x.live c t → Asked (h c).took t) n.locks lock (becomes (n.locks lock) f) k
-      (λ at. is.asked lock c t (same_entry (n.locks lock).live (becomes (n.locks lock) f).live c t same.held same.waiting at)) (is.asked k c t);
-  kept = λ k c t. set_by (λ (_ : ℕ) (x : nodes.Node). IsEntry x.saved c t → Asked (h c).kept t) n.locks lock (becomes (n.locks lock) f) k
-      (λ at. is.kept lock c t (subst (λ (v : VoterState). IsEntry v c t) same.saved at)) (is.kept k c t);
+  asked = λ c t. set_by (λ (k : ℕ) (x : nodes.Node). k ≡ at → IsEntry x.live c t → Asked (h c).took t) n.locks lock (becomes (n.locks lock) f) at
+      (λ here has. is.asked c t (subst (λ (k : ℕ). IsEntry (n.locks k).live c t) here (same_entry (n.locks lock).live (becomes (n.locks lock) f).live c t same.held same.waiting has)))
+      (λ here has. is.asked c t has) refl;
+  kept = λ c t. set_by (λ (k : ℕ) (x : nodes.Node). k ≡ at → IsEntry x.saved c t → Asked (h c).kept t) n.locks lock (becomes (n.locks lock) f) at
+      (λ here has. is.kept c t (subst (λ (k : ℕ). IsEntry (n.locks k).saved c t) here (subst (λ (v : VoterState). IsEntry v c t) same.saved has)))
+      (λ here has. is.kept c t has) refl;
   letters = is.letters;
 }
 
@@ -428,90 +436,89 @@ reborn_entries n above limit true = record {
 }
 reborn_entries n above limit false = record { live = λ c t at. at; saved = λ c t at. at }
 
-forgets_served : (r : ℕ → Row) (h : ℕ → Voter) (n : LockNode) (lock above limit : ℕ) → IsServed r h n → HasNone (n.locks lock) (becomes (n.locks lock) (IsReborn above limit))
-    → IsServed r h (forgets n lock (IsReborn above limit))
-forgets_served r h n lock above limit is none = record {
+forgets_served : (at : ℕ) (r : ℕ → Row) (h : ℕ → Voter) (n : LockNode) (lock above limit : ℕ) → IsServed at r h n → HasNone (n.locks lock) (becomes (n.locks lock) (IsReborn above limit))
+    → IsServed at r h (forgets n lock (IsReborn above limit))
+forgets_served at r h n lock above limit is none = record {
   led = is.led;
   live = is.live;
   saved = is.saved;
   grows = is.grows;
-  asked = λ k c t. set_by (λ (_ : ℕ) (x : nodes.Node). IsEntry x.live c t → Asked (h c).took t) n.locks lock (becomes (n.locks lock) (IsReborn above limit)) k
-      (λ at. is.asked lock c t (none.live c t at)) (is.asked k c t);
-  kept = λ k c t. set_by (λ (_ : ℕ) (x : nodes.Node). IsEntry x.saved c t → Asked (h c).kept t) n.locks lock (becomes (n.locks lock) (IsReborn above limit)) k
-      (λ at. is.kept lock c t (none.saved c t at)) (is.kept k c t);
-  letters = λ l t grant among body. is.letters l t grant (one_filtered (λ (x : Letter). not (lock == x.lock)) l n.outbox among).0 body;
+  asked = λ c t. set_by (λ (k : ℕ) (x : nodes.Node). k ≡ at → IsEntry x.live c t → Asked (h c).took t) n.locks lock (becomes (n.locks lock) (IsReborn above limit)) at
+      (λ here has. is.asked c t (subst (λ (k : ℕ). IsEntry (n.locks k).live c t) here (none.live c t has))) (λ here has. is.asked c t has) refl;
+  kept = λ c t. set_by (λ (k : ℕ) (x : nodes.Node). k ≡ at → IsEntry x.saved c t → Asked (h c).kept t) n.locks lock (becomes (n.locks lock) (IsReborn above limit)) at
+      (λ here has. is.kept c t (subst (λ (k : ℕ). IsEntry (n.locks k).saved c t) here (none.saved c t has))) (λ here has. is.kept c t has) refl;
+  letters = λ l t grant among its body. is.letters l t grant (one_filtered (λ (x : Letter). not (lock == x.lock)) l n.outbox among).0 its body;
 }
 
-served_after : (r : ℕ → Row) (h : ℕ → Voter) (n : LockNode) (e : Event) → IsServed r h n → IsServed r (lives h e) (happens n e)
-served_after r h n (Calls number call) is = calls_served r h n number call is
-served_after r h n (Speaks lock session epoch m) is = speaks_served r h n lock session epoch m (may_say (n.rows m.client) session epoch m.body) refl is
-served_after r h n (LetsGo lock grant) is =
-    moves_served r h n lock (nodes.Evicts grant) Nobody is (evicts grant) (λ x at. letting_go (n.locks lock).live.held (n.locks lock).live grant x at) (λ c t none. absurd none)
-served_after r h n (Reminds lock) is =
-    moves_served r h n lock nodes.Reminds Nobody is reminds (λ x at. remind_tells (n.locks lock) x at) (λ c t none. absurd none)
-served_after r h n (Extends lock limit) is =
-    alters_served r h n lock (HasLimit limit) is (limit_keeps (n.locks lock) limit (nat_le (n.locks lock).live.granted limit && nat_le limit max_limit))
-served_after r h n (Skips lock above) is =
-    alters_served r h n lock (IsSkipped above) is (skip_keeps (n.locks lock) above (nat_le (n.locks lock).live.granted above && nat_le above (n.locks lock).live.limit))
-served_after r h n (IsForgotten lock above limit) is =
-    forgets_served r h n lock above limit is (reborn_entries (n.locks lock) above limit (nat_le (n.locks lock).saved.granted above && (nat_le above limit && nat_le limit max_limit)))
-served_after r h n Saves is = saves_served r h n is
-served_after r h n Crashes is = crashes_served r h n is
+served_after : (at : ℕ) (r : ℕ → Row) (h : ℕ → Voter) (n : LockNode) (e : Event) → IsServed at r h n → IsServed at r (lives at h e) (happens n e)
+served_after at r h n (Calls number call) is = calls_served at r h n number call is
+served_after at r h n (Speaks lock session epoch m) is = speaks_served at r h n lock session epoch m (may_say (n.rows m.client) session epoch m.body) refl is
+served_after at r h n (LetsGo lock grant) is =
+    moves_served at r h n lock (nodes.Evicts grant) Nobody is (evicts grant) (λ x at. letting_go (n.locks lock).live.held (n.locks lock).live grant x at) (λ same c t none. absurd none)
+served_after at r h n (Reminds lock) is =
+    moves_served at r h n lock nodes.Reminds Nobody is reminds (λ x at. remind_tells (n.locks lock) x at) (λ same c t none. absurd none)
+served_after at r h n (Extends lock limit) is =
+    alters_served at r h n lock (HasLimit limit) is (limit_keeps (n.locks lock) limit (nat_le (n.locks lock).live.granted limit && nat_le limit max_limit))
+served_after at r h n (Skips lock above) is =
+    alters_served at r h n lock (IsSkipped above) is (skip_keeps (n.locks lock) above (nat_le (n.locks lock).live.granted above && nat_le above (n.locks lock).live.limit))
+served_after at r h n (IsForgotten lock above limit) is =
+    forgets_served at r h n lock above limit is (reborn_entries (n.locks lock) above limit (nat_le (n.locks lock).saved.granted above && (nat_le above limit && nat_le limit max_limit)))
+served_after at r h n Saves is = saves_served at r h n is
+served_after at r h n Crashes is = crashes_served at r h n is
 
 -- what one number asked and saved stays so
-kept_now : (r : ℕ → Row) (h : ℕ → Voter) (n : LockNode) (e : Event) (c : ℕ) (u : Use) → IsServed r h n → IsOneOf u (h c).kept → IsOneOf u (lives h e c).kept
-kept_now r h n (Calls number call) c u is among = subst (λ (us : List Use). IsOneOf u us) (sym (calls_keep (h c) call (number == c)).kept) among
-kept_now r h n (Speaks lock session epoch m) c u is among = subst (λ (us : List Use). IsOneOf u us) (sym (speaks_grows (h c) (m.client == c) session epoch m.body).kept) among
-kept_now r h n (LetsGo lock grant) c u is among = among
-kept_now r h n (Reminds lock) c u is among = among
-kept_now r h n (Extends lock limit) c u is among = among
-kept_now r h n (Skips lock above) c u is among = among
-kept_now r h n (IsForgotten lock above limit) c u is among = among
-kept_now r h n Saves c u is among = is.grows c u among
-kept_now r h n Crashes c u is among = among
+kept_now : (at : ℕ) (r : ℕ → Row) (h : ℕ → Voter) (n : LockNode) (e : Event) (c : ℕ) (u : Use) → IsServed at r h n → IsOneOf u (h c).kept → IsOneOf u (lives at h e c).kept
+kept_now at r h n (Calls number call) c u is among = subst (λ (us : List Use). IsOneOf u us) (sym (calls_keep (h c) call (number == c)).kept) among
+kept_now at r h n (Speaks lock session epoch m) c u is among = subst (λ (us : List Use). IsOneOf u us) (sym (speaks_grows (h c) ((m.client == c) && (lock == at)) session epoch m.body).kept) among
+kept_now at r h n (LetsGo lock grant) c u is among = among
+kept_now at r h n (Reminds lock) c u is among = among
+kept_now at r h n (Extends lock limit) c u is among = among
+kept_now at r h n (Skips lock above) c u is among = among
+kept_now at r h n (IsForgotten lock above limit) c u is among = among
+kept_now at r h n Saves c u is among = is.grows c u among
+kept_now at r h n Crashes c u is among = among
 
-kept_on : (r : ℕ → Row) (h : ℕ → Voter) (n : LockNode) (es : List Event) (c : ℕ) (u : Use) → IsServed r h n → IsOneOf u (h c).kept
-    → IsOneOf u (rows.after_turns (h c) (turns_of c es)).kept
-kept_on r h n [] c u is among = among
-kept_on r h n (e ∷ es) c u is among =
-    subst (λ (v : Voter). IsOneOf u v.kept) (sym (turns_more (h c) (turn_of c e) (turns_of c es)))
-    (kept_on r (lives h e) (happens n e) es c u (served_after r h n e is) (kept_now r h n e c u is among))
+kept_on : (at : ℕ) (r : ℕ → Row) (h : ℕ → Voter) (n : LockNode) (es : List Event) (c : ℕ) (u : Use) → IsServed at r h n → IsOneOf u (h c).kept
+    → IsOneOf u (rows.after_turns (h c) (turns_of at c es)).kept
+kept_on at r h n [] c u is among = among
+kept_on at r h n (e ∷ es) c u is among =
+    subst (λ (v : Voter). IsOneOf u v.kept) (sym (turns_more (h c) (turn_of at c e) (turns_of at c es)))
+    (kept_on at r (lives at h e) (happens n e) es c u (served_after at r h n e is) (kept_now at r h n e c u is among))
 
-left_now : (r : ℕ → Row) (h : ℕ → Voter) (n : LockNode) (e : Event) (l : Letter) (t grant : ℕ) → IsServed r h n → IsOneOf l (leaves n e)
-    → l.message.body ≡ to_client.Locked t grant
-    → (epoch : ℕ) × IsOneOf (record { session = l.session; epoch = epoch; stamp = t }) (lives h e l.message.client).kept
-left_now r h n (Calls number call) l t grant is among body = absurd among
-left_now r h n (Speaks lock session epoch m) l t grant is among body = absurd among
-left_now r h n (LetsGo lock g) l t grant is among body = absurd among
-left_now r h n (Reminds lock) l t grant is among body = absurd among
-left_now r h n (Extends lock limit) l t grant is among body = absurd among
-left_now r h n (Skips lock above) l t grant is among body = absurd among
-left_now r h n (IsForgotten lock above limit) l t grant is among body = absurd among
-left_now r h n Saves l t grant is among body = is.letters l t grant among body
-left_now r h n Crashes l t grant is among body = absurd among
+left_now : (at : ℕ) (r : ℕ → Row) (h : ℕ → Voter) (n : LockNode) (e : Event) (l : Letter) (t grant : ℕ) → IsServed at r h n → IsOneOf l (leaves n e)
+    → l.lock ≡ at → l.message.body ≡ to_client.Locked t grant
+    → (epoch : ℕ) × IsOneOf (record { session = l.session; epoch = epoch; stamp = t }) (lives at h e l.message.client).kept
+left_now at r h n (Calls number call) l t grant is among its body = absurd among
+left_now at r h n (Speaks lock session epoch m) l t grant is among its body = absurd among
+left_now at r h n (LetsGo lock g) l t grant is among its body = absurd among
+left_now at r h n (Reminds lock) l t grant is among its body = absurd among
+left_now at r h n (Extends lock limit) l t grant is among its body = absurd among
+left_now at r h n (Skips lock above) l t grant is among its body = absurd among
+left_now at r h n (IsForgotten lock above limit) l t grant is among its body = absurd among
+left_now at r h n Saves l t grant is among its body = is.letters l t grant among its body
+left_now at r h n Crashes l t grant is among its body = absurd among
 
-left_then : (r : ℕ → Row) (h : ℕ → Voter) (n : LockNode) (es : List Event) (l : Letter) (t grant : ℕ) → IsServed r h n → IsOneOf l (all_leave n es)
-    → l.message.body ≡ to_client.Locked t grant
-    → (epoch : ℕ) × IsOneOf (record { session = l.session; epoch = epoch; stamp = t }) (rows.after_turns (h l.message.client) (turns_of l.message.client es)).kept
-left_then r h n [] l t grant is among body = absurd among
-left_then r h n (e ∷ es) l t grant is among body =
+left_then : (at : ℕ) (r : ℕ → Row) (h : ℕ → Voter) (n : LockNode) (es : List Event) (l : Letter) (t grant : ℕ) → IsServed at r h n → IsOneOf l (all_leave n es)
+    → l.lock ≡ at → l.message.body ≡ to_client.Locked t grant
+    → (epoch : ℕ) × IsOneOf (record { session = l.session; epoch = epoch; stamp = t }) (rows.after_turns (h l.message.client) (turns_of at l.message.client es)).kept
+left_then at r h n [] l t grant is among its body = absurd among
+left_then at r h n (e ∷ es) l t grant is among its body =
     let c = l.message.client in
-    let next = served_after r h n e is in
-    subst (λ (v : Voter). (epoch : ℕ) × IsOneOf (record { session = l.session; epoch = epoch; stamp = t }) v.kept) (sym (turns_more (h c) (turn_of c e) (turns_of c es)))
+    let next = served_after at r h n e is in
+    subst (λ (v : Voter). (epoch : ℕ) × IsOneOf (record { session = l.session; epoch = epoch; stamp = t }) v.kept) (sym (turns_more (h c) (turn_of at c e) (turns_of at c es)))
     (elim (one_of_two l (leaves n e) (all_leave (happens n e) es) among) [
-      | inl now ↦ (let one = left_now r h n e l t grant is now body in (one.0, kept_on r (lives h e) (happens n e) es c _ next one.1))
-      | inr later ↦ left_then r (lives h e) (happens n e) es l t grant next later body
+      | inl now ↦ (let one = left_now at r h n e l t grant is now its body in (one.0, kept_on at r (lives at h e) (happens n e) es c _ next one.1))
+      | inr later ↦ left_then at r (lives at h e) (happens n e) es l t grant next later its body
     ])
 
-pub reaches : (n : LockNode) (es : List Event) (l : Letter) (t grant : ℕ) → Begins n → IsOneOf l (all_leave n es)
-    → l.message.body ≡ to_client.Locked t grant
-    → (epoch : ℕ) × IsOneOf (record { session = l.session; epoch = epoch; stamp = t }) (rows.after_turns (begin (n.rows l.message.client)) (turns_of l.message.client es)).kept
-reaches n es l t grant begins among body = left_then n.rows (λ c. begin (n.rows c)) n es l t grant (record {
+pub reaches : (n : LockNode) (es : List Event) (l : Letter) (t grant : ℕ) → Begins n → IsOneOf l (all_leave n es) → l.message.body ≡ to_client.Locked t grant
+    → (epoch : ℕ) × IsOneOf (record { session = l.session; epoch = epoch; stamp = t }) (rows.after_turns (begin (n.rows l.message.client)) (turns_of l.lock l.message.client es)).kept
+reaches n es l t grant begins among body = left_then l.lock n.rows (λ c. begin (n.rows c)) n es l t grant (record {
   led = λ c. ([], refl);
   live = λ c. refl;
   saved = begins.rows;
   grows = λ c u none. none;
-  asked = λ lock c s at. absurd (begins.nobody lock c s at);
-  kept = λ lock c s at. absurd (begins.nobody lock c s (subst (λ (v : VoterState). IsEntry v c s) (begins.saved lock) at));
-  letters = λ x s g none at. absurd (subst (λ (ls : List Letter). IsOneOf x ls) begins.waits none);
-}) among body
+  asked = λ c s has. absurd (begins.nobody l.lock c s has);
+  kept = λ c s has. absurd (begins.nobody l.lock c s (subst (λ (v : VoterState). IsEntry v c s) (begins.saved l.lock) has));
+  letters = λ x s g none its at. absurd (subst (λ (ls : List Letter). IsOneOf x ls) begins.waits none);
+}) among refl body

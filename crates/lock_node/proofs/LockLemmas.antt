@@ -139,6 +139,11 @@ letters_heard r lock held (m ∷ ms) =
 abbrev pub AllWait : LockNode → Type 0
 AllWait n = (l : Letter) → IsOneOf l n.outbox → IsOneOf l.message (n.locks l.lock).outbox
 
+pub letter_lock : (r : ℕ → Row) (lock : ℕ) (b : Bool) (o : Option Outcome) (l : Letter) → IsOneOf l (letters_by b r lock o) → l.lock ≡ lock
+letter_lock r lock false o l is = absurd is
+letter_lock r lock true None l is = absurd is
+letter_lock r lock true (Some o) l is = (letters_are r lock o.state.held o.replies l is).of_lock
+
 -- an event of a node that is a step of its voter
 pub record IsStep (e : nodes.Event) : Type 0 where
   pub is : (n : nodes.Node) → nodes.node_step n e ≡ nodes.if_room (nodes.has_room n) (nodes.after_voter n (outcome_at n e))

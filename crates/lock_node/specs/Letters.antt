@@ -1,15 +1,27 @@
 -- What a voter takes from a session, and which session hears what the voter of a lock says: by the rows of
 -- `sessions`.
-use Rattle.std.specs.Prelude.{ℕ, nat_le, nat_lt, Bool, ◌&&◌, List, [], ◌∷◌, ◌++◌, Option, Some, None, if◌then◌else◌, is_some, unwrap_or}
+use Rattle.std.specs.Prelude.{ℕ, nat_le, nat_lt, Bool, ◌&&◌, ◌||◌, List, [], ◌∷◌, ◌++◌, Option, Some, None, if◌then◌else◌, is_none, is_some, not, unwrap_or}
 use Rattle.std.specs.List.{filter}
 use Rattle.message.specs.declared.message.ClientBody.{ClientBody}
 use Rattle.message.specs.declared.message.ClientBody.TheVariants as to_client
 use Rattle.message.specs.declared.message.ToClient.{ToClient}
 use Rattle.message.specs.declared.message.VoterBody.{VoterBody}
 use Rattle.message.specs.declared.message.VoterBody.TheVariants as asks
-use Rattle.sessions.specs.Rows.{Row, has_number, is_taken}
+use Rattle.sessions.specs.Rows.{Row, has_number, is_new, is_taken}
+use Rattle.lock_node.specs.declared.letters.Standing.{Standing}
+use Rattle.lock_node.specs.declared.letters.Standing.TheVariants.{Known, Over, Unknown}
 use Rattle.voter.specs.declared.state.Grant.{Grant}
 use Rattle.voter.specs.Steps.{held_stamp}
+
+-- How a session stands at a voter: its number is its own, under this epoch; or it may claim the number under this epoch;
+-- or it is over.
+abbrev pub standing_of : Row → ℕ → ℕ → Standing
+standing_of r session epoch = if has_number r session epoch then Known else if is_new r epoch then Unknown else Over
+
+-- The grant of a request of this stamp may be let go: the session of its number is silent, the number has no session, or
+-- one whose stamps are all above it. If another voter ended the session, it may not know so: then silence alone counts.
+abbrev pub may_let_go : Row → Bool → Bool → ℕ → Bool
+may_let_go r is_silent ended_elsewhere stamp = is_silent || (not ended_elsewhere && (is_none r.session || nat_le stamp r.base))
 
 -- A voter takes this of a session, by the row of its number. The number has to be the session's, under this epoch. A
 -- REQUEST has one of its own stamps, and a RELEASE none above them. A RELINQUISH names a grant.

@@ -1,5 +1,5 @@
 -- A voter's process of many locks: a row for each number of a client, and for each lock a node of `voter_node`.
-use Rattle.std.specs.Prelude.{ℕ, ◌≡◌, ◌==◌, Bool, true, false, List, [], ◌∷◌, ◌++◌, Option, Some, None, if◌then◌else◌, not}
+use Rattle.std.specs.Prelude.{ℕ, ◌≡◌, ◌==◌, Bool, true, false, ◌&&◌, List, [], ◌∷◌, ◌++◌, Option, Some, None, if◌then◌else◌, not}
 use Rattle.std.specs.List.{filter}
 use Rattle.message.specs.declared.message.ToVoter.{ToVoter}
 use Rattle.message.specs.declared.message.VoterBody.{VoterBody}
@@ -138,21 +138,21 @@ request_turn session epoch (asks.Request stamp) = rows.Requests session epoch st
 request_turn session epoch (asks.Relinquish grant) = []
 request_turn session epoch (asks.Release stamp) = []
 
--- what an event is to the row of a number
-abbrev pub turn_of : ℕ → Event → List rows.Turn
-turn_of number (Calls other call) = if other == number then rows.Calls call ∷ [] else []
-turn_of number (Speaks lock session epoch m) = if m.client == number then request_turn session epoch m.body else []
-turn_of number (LetsGo lock grant) = []
-turn_of number (Reminds lock) = []
-turn_of number (Extends lock limit) = []
-turn_of number (Skips lock above) = []
-turn_of number (IsForgotten lock above limit) = []
-turn_of number Saves = rows.Saves ∷ []
-turn_of number Crashes = rows.Crashes ∷ []
+-- what an event is to the row of a number, with the REQUESTs for one lock: lock, number
+abbrev pub turn_of : ℕ → ℕ → Event → List rows.Turn
+turn_of lock number (Calls other call) = if other == number then rows.Calls call ∷ [] else []
+turn_of lock number (Speaks other session epoch m) = if (m.client == number) && (other == lock) then request_turn session epoch m.body else []
+turn_of lock number (LetsGo other grant) = []
+turn_of lock number (Reminds other) = []
+turn_of lock number (Extends other limit) = []
+turn_of lock number (Skips other above) = []
+turn_of lock number (IsForgotten other above limit) = []
+turn_of lock number Saves = rows.Saves ∷ []
+turn_of lock number Crashes = rows.Crashes ∷ []
 
-abbrev pub turns_of : ℕ → List Event → List rows.Turn
-turns_of number [] = []
-turns_of number (e ∷ es) = turn_of number e ++ turns_of number es
+abbrev pub turns_of : ℕ → ℕ → List Event → List rows.Turn
+turns_of lock number [] = []
+turns_of lock number (e ∷ es) = turn_of lock number e ++ turns_of lock number es
 
 -- what an event is to the node of a lock
 abbrev pub fate_at : ℕ → LockNode → Event → List Fate

@@ -12,13 +12,13 @@ ghost use Rattle.lock_node.specs.Locks.{Begins, Event, LockNode, all_happen, all
 
 use voter::voters_meet_the_contract;
 
-/// Each LOCKED that ever leaves goes to a session from which this voter took a REQUEST of that number, under that
-/// stamp, and saved it. This holds whatever sessions say, and whenever the voter saves and crashes.
+/// Each LOCKED that ever leaves goes to a session from which this voter took a REQUEST for that lock, of that number
+/// and stamp, and saved that. This holds whatever sessions say, and whenever the voter saves and crashes.
 pub fn letters_reach_who_asked()
     ensures { (n : LockNode) (events : List Event) (l : Letter) (stamp grant : ℕ) → Begins n
         → IsOneOf l (all_leave n events) → l.message.body ≡ to_client.Locked stamp grant
         → (epoch : ℕ) × IsOneOf (record { session = l.session; epoch = epoch; stamp = stamp })
-        (after_turns (begin (n.rows l.message.client)) (turns_of l.message.client events)).kept }
+        (after_turns (begin (n.rows l.message.client)) (turns_of l.lock l.message.client events)).kept }
 {
     voters_meet_the_contract();
 }

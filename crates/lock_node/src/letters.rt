@@ -1,10 +1,44 @@
 //! Whose messages count, and who hears the answers.
 ghost use Rattle.std.specs.Prelude.{◌≡◌, is_some};
-ghost use Rattle.lock_node.specs.Letters.{hearer, may_say, subject};
+ghost use Rattle.lock_node.specs.Letters.{hearer, may_let_go, may_say, standing_of, subject};
 
 use message::{ClientBody, ToClient, VoterBody};
 use session_rows::SessionRow;
 use voter::Grant;
+
+/// How a session stands at a voter.
+#[derive(Clone, Copy, Debug, PartialEq, Eq)]
+pub enum Standing {
+    /// The number is the session's, under this epoch.
+    Known,
+    /// It may claim the number under this epoch.
+    Unknown,
+    /// The number has another session, or had one under a later epoch.
+    Over,
+}
+
+/// Returns how a session stands, by the row of its number.
+pub fn standing_of(row: &SessionRow, session: u128, epoch: u64) -> Standing
+    ensures { result ≡ standing_of row.now session epoch }
+{
+    if row.owns(session, epoch) {
+        Standing::Known
+    } else if row.is_new(epoch) {
+        Standing::Unknown
+    } else {
+        Standing::Over
+    }
+}
+
+/// Returns whether the grant of a request of this stamp may be let go, by the row of its number.
+///
+/// It may if the session is silent, if nobody has the number, or if a later session has it. If another voter ended
+/// the session, it may not know so: then silence alone counts.
+pub fn may_let_go(row: &SessionRow, is_silent: bool, ended_elsewhere: bool, stamp: u64) -> bool
+    ensures { result ≡ may_let_go row.now is_silent ended_elsewhere stamp }
+{
+    is_silent || !ended_elsewhere && (row.session().is_none() || row.is_before(stamp))
+}
 
 /// Returns whether a voter takes this of a session, under an epoch, by the row of its number.
 ///

@@ -7,6 +7,8 @@
 //!   a stamp of its own, and a RELEASE none above these ([`may_say`]).
 //! - What a vote says goes to the session that has the number now, if the stamp is one of its own: nobody hears of
 //!   a request of an earlier session ([`hears`]).
+//! - A session is known by the row of its number, may claim the number, or is over ([`standing_of`]). A grant may be let
+//!   go once its session is silent, gone, or followed by another one ([`may_let_go`]).
 //! - All that changed is saved in one write, and only then letters leave.
 //!
 //! The host keeps the votes and the rows, each under a key, and makes these calls for the one that a message
@@ -30,4 +32,4 @@ pub use laws::{
     letters_are_given_out, letters_have_what_is_heard, letters_reach_who_asked, locks_run_as_nodes,
     new_voters_begin,
 };
-pub use letters::{hearer, hears, may_say, subject};
+pub use letters::{Standing, hearer, hears, may_let_go, may_say, standing_of, subject};

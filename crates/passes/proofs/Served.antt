@@ -28,7 +28,7 @@ GivenOut = (n : LockNode) (events : List Event) (l : Letter) → Begins n → Is
 abbrev pub Reaches : Type 0
 Reaches = (n : LockNode) (events : List Event) (l : Letter) (stamp grant : ℕ) → Begins n → IsOneOf l (all_leave n events)
     → l.message.body ≡ to_client.Locked stamp grant
-    → (epoch : ℕ) × IsOneOf (record { session = l.session; epoch = epoch; stamp = stamp }) (rows.after_turns (begin (n.rows l.message.client)) (turns_of l.message.client events)).kept
+    → (epoch : ℕ) × IsOneOf (record { session = l.session; epoch = epoch; stamp = stamp }) (rows.after_turns (begin (n.rows l.message.client)) (turns_of l.lock l.message.client events)).kept
 
 -- ---- what was told was given
 
@@ -97,30 +97,32 @@ keeps_turns : (v : Voter) (ts : List rows.Turn) → Keeps v → Keeps (rows.afte
 keeps_turns v [] keeps = keeps
 keeps_turns v (t ∷ ts) keeps = keeps_turns (rows.after_turn v t) ts (keeps_turn v t keeps)
 
--- the rows that the voters' processes keep, as lives of each number
-abbrev pub rows_of : (ℕ → Voting) → Rows
-rows_of voting client = record {
+-- the rows that the voters' processes keep, as lives of each number, with the REQUESTs for a lock
+abbrev pub rows_of : (ℕ → Voting) → ℕ → Rows
+rows_of voting lock client = record {
   row = λ v. (voting v).first.rows client;
-  deeds = λ v. (turns_lead (begin ((voting v).first.rows client)) (turns_of client (voting v).events)).deeds;
+  deeds = λ v. (turns_lead (begin ((voting v).first.rows client)) (turns_of lock client (voting v).events)).deeds;
 }
 
 told_took : Reaches → (voting : ℕ → Voting) (lock session v client stamp grant : ℕ) → Begins (voting v).first → Told voting lock session v client stamp grant
-    → TookFrom (rows_of voting) v client session stamp
+    → TookFrom (rows_of voting lock) v client session stamp
 told_took reaches voting lock session v client stamp grant begins told =
     let n = (voting v).first in
     let es = (voting v).events in
     let use_of : ℕ → ℕ → Use = λ s e. record { session = s; epoch = e; stamp = stamp } in
     let one = reaches n es told.0 stamp grant begins told.1 told.5 in
-    let by_client : IsOneOf (use_of told.0.session one.0) (rows.after_turns (begin (n.rows client)) (turns_of client es)).kept =
-    subst (λ (c : ℕ). IsOneOf (use_of told.0.session one.0) (rows.after_turns (begin (n.rows c)) (turns_of c es)).kept) told.4 one.1 in
-    let mine : IsOneOf (use_of session one.0) (rows.after_turns (begin (n.rows client)) (turns_of client es)).kept =
-    subst (λ (s : ℕ). IsOneOf (use_of s one.0) (rows.after_turns (begin (n.rows client)) (turns_of client es)).kept) told.3 by_client in
-    let took = keeps_turns (begin (n.rows client)) (turns_of client es) (λ u is. is) (use_of session one.0) mine in
-    (one.0, subst (λ (x : Voter). IsOneOf (use_of session one.0) x.took) (sym (turns_lead (begin (n.rows client)) (turns_of client es)).there) took)
+    let by_lock : IsOneOf (use_of told.0.session one.0) (rows.after_turns (begin (n.rows told.0.message.client)) (turns_of lock told.0.message.client es)).kept =
+        subst (λ (k : ℕ). IsOneOf (use_of told.0.session one.0) (rows.after_turns (begin (n.rows told.0.message.client)) (turns_of k told.0.message.client es)).kept) told.2 one.1 in
+    let by_client : IsOneOf (use_of told.0.session one.0) (rows.after_turns (begin (n.rows client)) (turns_of lock client es)).kept =
+        subst (λ (c : ℕ). IsOneOf (use_of told.0.session one.0) (rows.after_turns (begin (n.rows c)) (turns_of lock c es)).kept) told.4 by_lock in
+    let mine : IsOneOf (use_of session one.0) (rows.after_turns (begin (n.rows client)) (turns_of lock client es)).kept =
+        subst (λ (s : ℕ). IsOneOf (use_of s one.0) (rows.after_turns (begin (n.rows client)) (turns_of lock client es)).kept) told.3 by_client in
+    let took = keeps_turns (begin (n.rows client)) (turns_of lock client es) (λ u is. is) (use_of session one.0) mine in
+    (one.0, subst (λ (x : Voter). IsOneOf (use_of session one.0) x.took) (sym (turns_lead (begin (n.rows client)) (turns_of lock client es)).there) took)
 
 pub served_by : Reaches → (quorums : List (List ℕ)) (voting : ℕ → Voting) (lock : ℕ) (session : ℕ → ℕ) (runs : ℕ → Run)
     → ((v : ℕ) → Begins (voting v).first) → ((w : Show) → WasInside runs w → IsPass quorums (Told voting lock (session w.process)) (shown runs w))
-    → ((k l : ℕ) → session k ≡ session l → k ≡ l) → AreServed (rows_of voting) session runs
+    → ((k l : ℕ) → session k ≡ session l → k ≡ l) → AreServed (rows_of voting lock) session runs
 served_by reaches quorums voting lock session runs begins show own = record {
   took = λ w inside v some. told_took reaches voting lock (session w.process) v (shown runs w).client (shown runs w).stamp _ (begins v) ((show w inside).given v some);
   own = own;

@@ -96,12 +96,12 @@ pub takes_with : (table before : List ℕ) (session epoch : ℕ) (line after out
     → LockTakes table before session epoch line after out out_after written shown result
 takes_with table before session epoch line after out out_after written shown result voter m row loaded only read only_read in_table foreign goes =
     let message : (w : VoterState) (n : ToVoter) → IsVoter before w → IsToVoter line w.id n → n ≡ m =
-        λ w n is at. only_read n (subst (λ (v : VoterState). IsToVoter line v.id n) (only w is) at) in
+    λ w n is at. only_read n (subst (λ (v : VoterState). IsToVoter line v.id n) (only w is) at) in
     let its : (w : VoterState) (n : ToVoter) (rows : ℕ → Option Row) (r : Row) → IsVoter before w → IsToVoter line w.id n → AreRows table rows → rows n.client ≡ Some r → row ≡ r =
-        λ w n rows r is at are has. same_Some row r (in_table rows are ∙ ap (λ (k : ToVoter). rows k.client) (sym (message w n is at)) ∙ has) in
+    λ w n rows r is at are has. same_Some row r (in_table rows are ∙ ap (λ (k : ToVoter). rows k.client) (sym (message w n is at)) ∙ has) in
     let may : (w : VoterState) (n : ToVoter) (rows : ℕ → Option Row) (r : Row) (b : Bool) → IsVoter before w → IsToVoter line w.id n → AreRows table rows → rows n.client ≡ Some r
-        → may_say r session epoch n.body ≡ b → may_say row session epoch m.body ≡ b =
-        λ w n rows r b is at are has says. ap₂ (λ (x : Row) (k : ToVoter). may_say x session epoch k.body) (its w n rows r is at are has) (sym (message w n is at)) ∙ says in
+    → may_say r session epoch n.body ≡ b → may_say row session epoch m.body ≡ b =
+    λ w n rows r b is at are has says. ap₂ (λ (x : Row) (k : ToVoter). may_say x session epoch k.body) (its w n rows r is at are has) (sym (message w n is at)) ∙ says in
     record {
       no_voter = λ none. absurd (none voter loaded);
       no_message = λ w is none. absurd (none m (subst (λ (v : VoterState). IsToVoter line v.id m) (sym (only w is)) read));

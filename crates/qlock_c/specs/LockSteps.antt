@@ -1,10 +1,12 @@
 -- What the calls of a lock at a voter return and write. Each is said for the one voter that the bytes are, for the
 -- one message that the line is, and for the rows that the table has.
-use Rattle.std.specs.Prelude.{ℕ, ℤ, ◌≡◌, List, Option, None, Some, false, slice_index, true, unwrap_or}
+use Rattle.std.specs.Prelude.{ℕ, ℤ, ◌≡◌, Bool, List, Option, None, Some, false, if◌then◌else◌, slice_index, true, unwrap_or}
 use Rattle.blocks.specs.Numbers.{done, refused}
 use Rattle.blocks.specs.Tables.{AreRows, row_or_none}
 use Rattle.blocks.specs.declared.refusal.Refusal.TheVariants.{BadArgument, BadMessage, BadState, GrantsSpent}
-use Rattle.lock_node.specs.Letters.{heard, may_say}
+use Rattle.lock_node.specs.Letters.{heard, may_let_go, may_say, standing_of}
+use Rattle.lock_node.specs.declared.letters.Standing.{Standing}
+use Rattle.lock_node.specs.declared.letters.Standing.TheVariants.{Known, Over, Unknown}
 use Rattle.message.specs.declared.message.ToVoter.{ToVoter}
 use Rattle.sessions.specs.Rows.{Row}
 use Rattle.voter.specs.declared.state.VoterState.{VoterState}
@@ -62,3 +64,21 @@ pub record LockReminds (table state out out_after : List ℕ) (written : ℕ) (r
   pub no_voter : IsNoVoter state → result ≡ refused BadState
   pub reminds : (voter : VoterState) (rows : ℕ → Option Row) → IsVoter state voter → AreRows table rows
       → Sends (lines_to_clients (heard (row_or_none rows) voter.held (remind voter))) out out_after written result (Unit {0})
+
+-- how C sees a standing
+abbrev pub number_of_standing : Standing → ℕ
+number_of_standing Known = 0
+number_of_standing Unknown = 1
+number_of_standing Over = 2
+
+-- how a session stands, by the row of a number below 64
+pub record TableJudges (table : List ℕ) (number session epoch standing : ℕ) (result : ℤ) : Type 0 where
+  pub no_row : (rows : ℕ → Option Row) → AreRows table rows → rows number ≡ None → result ≡ refused BadState
+  pub judges : (rows : ℕ → Option Row) (row : Row) → AreRows table rows → rows number ≡ Some row
+      → (result ≡ done) × (standing ≡ number_of_standing (standing_of row session epoch))
+
+-- whether a grant may be let go, by the row of a number below 64: 1 if it may, and 0 if not
+pub record TableLetsGo (table : List ℕ) (number stamp : ℕ) (is_silent ended_elsewhere : Bool) (yes : ℕ) (result : ℤ) : Type 0 where
+  pub no_row : (rows : ℕ → Option Row) → AreRows table rows → rows number ≡ None → result ≡ refused BadState
+  pub lets_go : (rows : ℕ → Option Row) (row : Row) → AreRows table rows → rows number ≡ Some row
+      → (result ≡ done) × (yes ≡ (if may_let_go row is_silent ended_elsewhere stamp then 1 else 0))

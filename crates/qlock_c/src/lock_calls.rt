@@ -1,8 +1,8 @@
 //! The calls of a lock at a voter: a vote, and the rows of the sessions that may speak about it.
-ghost use Rattle.std.specs.Prelude.{◌≡◌, ◌≢◌, ◌<◌, ◌≤◌, ◌++◌, ◌∷◌, [], ℕ, IfErr, OnErr, Option, if◌then◌else◌, length};
+ghost use Rattle.std.specs.Prelude.{◌≡◌, ◌≢◌, ◌<◌, ◌≤◌, ◌++◌, ◌∷◌, [], ℕ, IfErr, IfOk, IsErr, None, OnErr, Option, Some, if◌then◌else◌, length};
 ghost use Rattle.std.specs.Bool.{OnFalse, OnTrue};
 ghost use Rattle.blocks.specs.Numbers.{done, refused, returned};
-ghost use Rattle.blocks.specs.RowSteps.{named};
+ghost use Rattle.blocks.specs.RowSteps.{is_yes, named};
 ghost use Rattle.blocks.specs.Tables.{AreRows, row_or_none};
 ghost use Rattle.lock_node.specs.Letters.{heard, is_heard};
 ghost use Rattle.numbers.specs.Bounds.{max_clients};
@@ -11,7 +11,7 @@ ghost use Rattle.voter.specs.declared.state.VoterState.{VoterState};
 ghost use Rattle.voter_node.specs.LeftOut.{HaveSameLeast};
 ghost use Rattle.qlock_c.specs.Bytes.{IsVoter};
 ghost use Rattle.qlock_c.specs.Lines.{Sends};
-ghost use Rattle.qlock_c.specs.LockSteps.{IsShown, LockLetsGo, LockReminds, LockTakes, lines_heard};
+ghost use Rattle.qlock_c.specs.LockSteps.{IsShown, LockLetsGo, LockReminds, LockTakes, TableJudges, TableLetsGo, lines_heard, number_of_standing};
 
 use crate::lines::put_to_clients;
 use crate::saved_bytes::{load_voter, store_voter};
@@ -19,10 +19,10 @@ use crate::voter_calls::{read_to_voter, show_grant};
 use arrayvec::ArrayVec;
 use blocks::rows::row_in;
 use blocks::{Refusal, number_of};
-use lock_node::{hears, may_say};
+use lock_node::{Standing, hears, may_let_go, may_say, standing_of};
 use message::ToClient;
 use numbers::MAX_CLIENTS;
-use session_rows::joined;
+use session_rows::{SessionRow, joined};
 use voter::{Grant, Voter};
 
 /// What a call shows of a lock.
@@ -225,6 +225,66 @@ fn remind(table: &[u8], vote: &[u8], out: &mut [u8], written: &mut usize) -> Res
     put_to_clients(kept.as_slice(), out, written)
 }
 
+fn number_of_standing(standing: Standing) -> u32
+    ensures { result ≡ number_of_standing standing }
+{
+    match standing {
+        Standing::Known => 0,
+        Standing::Unknown => 1,
+        Standing::Over => 2,
+    }
+}
+
+/// Returns the row of a number in a table. Fails with `BadArgument` if there is no such number, and with `BadState` if
+/// it has no row.
+fn row_of(table: &[u8], number: u8) -> Result<SessionRow, Refusal>
+    ensures bad_argument { max_clients ≤ number → IfErr result (λ r. r ≡ Refusal.BadArgument) × IsErr result }
+    ensures read { IfOk result (λ row. (rows : ℕ → Option Row) → AreRows table.now rows → Some row ≡ rows number) }
+    ensures refused { number < max_clients → IfErr result (λ r. (r ≡ Refusal.BadState)
+        × ((rows : ℕ → Option Row) → AreRows table.now rows → None ≡ rows number)) }
+{
+    if usize::from(number) >= MAX_CLIENTS {
+        return Err(Refusal::BadArgument);
+    }
+    match row_in(table, number) {
+        Some(row) => Ok(row),
+        None => Err(Refusal::BadState),
+    }
+}
+
+fn judge(
+    table: &[u8],
+    number: u8,
+    session: u128,
+    epoch: u64,
+    standing: &mut u32,
+) -> Result<(), Refusal>
+    ensures bad_argument { max_clients ≤ number → returned result ≡ refused Refusal.BadArgument }
+    ensures judges { number < max_clients → TableJudges table.now number session epoch standing.new (returned result) }
+    ensures refused { OnErr result (standing.new ≡ standing.old) }
+{
+    let row = row_of(table, number)?;
+    *standing = number_of_standing(standing_of(&row, session, epoch));
+    Ok(())
+}
+
+fn lets_go(
+    table: &[u8],
+    number: u8,
+    stamp: u64,
+    is_silent: bool,
+    ended_elsewhere: bool,
+    yes: &mut u32,
+) -> Result<(), Refusal>
+    ensures bad_argument { max_clients ≤ number → returned result ≡ refused Refusal.BadArgument }
+    ensures lets_go { number < max_clients → TableLetsGo table.now number stamp is_silent ended_elsewhere yes.new (returned result) }
+    ensures refused { OnErr result (yes.new ≡ yes.old) }
+{
+    let row = row_of(table, number)?;
+    *yes = u32::from(may_let_go(&row, is_silent, ended_elsewhere, stamp));
+    Ok(())
+}
+
 /// Takes the line of a message that a session says about a lock, under an epoch, without its newline, if the row of
 /// its number says that it may. Writes the lines of the replies that somebody hears, and shows the lock.
 #[unsafe(no_mangle)]
@@ -281,4 +341,47 @@ pub extern "C" fn qlock_lock_remind(
     ensures reminds { LockReminds table.now vote.now out.old out.new written.new result }
 {
     number_of(remind(table, vote, out, written))
+}
+
+/// Writes how a session stands at a voter, by the row of its number, 0 to 63: 0 if it is known, 1 if it may claim the
+/// number, and 2 if it is over.
+#[unsafe(no_mangle)]
+pub extern "C" fn qlock_table_judge(
+    table: &[u8],
+    number: u8,
+    upper: u64,
+    lower: u64,
+    epoch: u64,
+    standing: &mut u32,
+) -> i32
+    ensures refused { result ≢ done → standing.new ≡ standing.old }
+    ensures bad_argument { max_clients ≤ number → result ≡ refused Refusal.BadArgument }
+    ensures judges { number < max_clients → TableJudges table.now number (named upper lower) epoch standing.new result }
+{
+    number_of(judge(table, number, joined(upper, lower), epoch, standing))
+}
+
+/// Writes 1 if the grant of a request of this stamp may be let go, by the row of its number, 0 to 63, and 0 if not.
+#[unsafe(no_mangle)]
+pub extern "C" fn qlock_table_lets_go(
+    table: &[u8],
+    number: u8,
+    stamp: u64,
+    is_silent: u32,
+    ended_elsewhere: u32,
+    yes: &mut u32,
+) -> i32
+    ensures refused { result ≢ done → yes.new ≡ yes.old }
+    ensures bad_argument { max_clients ≤ number → result ≡ refused Refusal.BadArgument }
+    ensures lets_go { number < max_clients
+        → TableLetsGo table.now number stamp (is_yes is_silent) (is_yes ended_elsewhere) yes.new result }
+{
+    number_of(lets_go(
+        table,
+        number,
+        stamp,
+        is_silent != 0,
+        ended_elsewhere != 0,
+        yes,
+    ))
 }

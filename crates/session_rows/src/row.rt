@@ -214,7 +214,7 @@ impl SessionRow {
 
     /// Returns whether a session may claim this epoch: it is newer, or the row is free and its epoch may be claimed
     /// again.
-    fn is_new(&self, epoch: u64) -> bool
+    pub fn is_new(&self, epoch: u64) -> bool
         ensures new { result ≡ is_new self.now epoch }
         ensures below { result ≡ true → self.now.epoch ≤ epoch }
     {

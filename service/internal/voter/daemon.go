@@ -368,7 +368,7 @@ func (d *Daemon) isOurs(h wire.Header) bool {
 
 // line takes one line of a message. It returns false if the line can't be right: then the rest of
 // the message doesn't count.
-func (d *Daemon) line(l *letter, speaker verdict, lock, line []byte, now time.Time) bool {
+func (d *Daemon) line(l *letter, speaker qlock.Standing, lock, line []byte, now time.Time) bool {
 	if len(line) > mostLine {
 		return false
 	}
@@ -377,7 +377,7 @@ func (d *Daemon) line(l *letter, speaker verdict, lock, line []byte, now time.Ti
 	}
 	line, word := cutWord(line)
 	said := wire.ReadLine(line)
-	if speaker != known || said.From != l.Number || said.To != d.store.meta.Voter || !wire.IsName(lock) ||
+	if speaker != qlock.SessionKnown || said.From != l.Number || said.To != d.store.meta.Voter || !wire.IsName(lock) ||
 		!isToVoter(said) {
 		return false
 	}
@@ -558,7 +558,7 @@ func (d *Daemon) tellNumber(number int, text string, words ...interface{}) {
 
 // control takes a control line of a client, and returns whether it is one. Who has no number here
 // may ask, and claim.
-func (d *Daemon) control(l *letter, speaker verdict, line []byte, now time.Time) bool {
+func (d *Daemon) control(l *letter, speaker qlock.Standing, line []byte, now time.Time) bool {
 	words := bytes.Fields(line)
 	if l.controls++; l.controls > mostControls || len(words) == 0 {
 		return false
@@ -600,12 +600,12 @@ func (d *Daemon) hello(name string) bool {
 }
 
 // open takes a heartbeat, which says the oldest plan of which the session has a request.
-func (d *Daemon) open(l *letter, speaker verdict, oldest []byte) bool {
+func (d *Daemon) open(l *letter, speaker qlock.Standing, oldest []byte) bool {
 	number, err := strconv.ParseUint(string(oldest), 10, 64)
 	if err != nil || l.Epoch == 0 {
 		return false
 	}
-	if speaker == known {
+	if speaker == qlock.SessionKnown {
 		row := d.table.rows[l.Number]
 		d.asksBy[l.Number] = number
 		d.tell(l.Name, "opened %d %d %d %d %d %d", l.Number, l.Epoch, row.Base, row.Reserved, l.Seq,
@@ -616,8 +616,8 @@ func (d *Daemon) open(l *letter, speaker verdict, oldest []byte) bool {
 }
 
 // shut ends a session that says that it is over.
-func (d *Daemon) shut(l *letter, speaker verdict) {
-	if speaker == known {
+func (d *Daemon) shut(l *letter, speaker qlock.Standing) {
+	if speaker == qlock.SessionKnown {
 		d.table.end(l.Number, l.Name, l.Epoch)
 		d.log.Write(event.Debug, "session-ended", "client", l.Number, "epoch", l.Epoch)
 		d.tell(l.Name, "closed %d %d", l.Number, l.Epoch)
@@ -719,10 +719,7 @@ func (d *Daemon) endQuiet(now time.Time) {
 }
 
 // isOver returns whether a grant may be let go: its session is dead, or its number has a later one.
-func (d *Daemon) isOver(held qlock.Grant) bool {
-	client := int(held.Client)
-	return d.table.isDead(client) || d.table.isEarlier(client, held.Stamp) && !d.table.byWord[client]
-}
+func (d *Daemon) isOver(held qlock.Grant) bool { return d.table.isOver(int(held.Client), held.Stamp) }
 
 // letGo lets the current grant of a vote go, and tells its client. It returns false if that did not succeed.
 func (d *Daemon) letGo(v *vote, now time.Time) bool {

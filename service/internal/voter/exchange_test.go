@@ -197,7 +197,7 @@ func TestRetire(t *testing.T) {
 		!d.table.rows[4].Open {
 		t.Error("client 3 is silent:", err)
 	}
-	if d.table.admit(3, "a", 1, now) != taken {
+	if d.table.admit(3, "a", 1, now) != qlock.SessionOver {
 		t.Error("a session that was ended goes on")
 	}
 	rows, err := json.Marshal(Knows{Sessions: map[int]Session{7: {Hash: hashed("c"), Epoch: 2, Reserved: 50}},

@@ -147,7 +147,7 @@ func (d *Daemon) sort(m transport.Message) {
 		return // nothing is taken before the others answered
 	}
 	queue := strangers
-	if h.Epoch > 0 && d.table.judge(h.Number, h.Name, h.Epoch) == known {
+	if h.Epoch > 0 && d.table.judge(h.Number, h.Name, h.Epoch) == qlock.SessionKnown {
 		queue = h.Number
 		d.table.hear(h.Number, d.now()) // it may wait for its turn
 	}
@@ -195,26 +195,26 @@ func (d *Daemon) read(l *letter, now time.Time) (lines int, ended bool) {
 
 // greet judges who sent a message, before a share of its lines is taken: much may have changed
 // since the last one. It returns false if no line counts.
-func (d *Daemon) greet(l *letter, now time.Time) (speaker verdict, ok bool) {
+func (d *Daemon) greet(l *letter, now time.Time) (speaker qlock.Standing, ok bool) {
 	if !d.isOurs(l.Header) {
 		d.m.foreign.Inc()
-		return taken, false
+		return qlock.SessionOver, false
 	}
 	d.hears(l.Header)
 	if l.Epoch == 0 {
-		return unknown, true
+		return qlock.SessionUnknown, true
 	}
 	speaker = d.table.admit(l.Number, l.Name, l.Epoch, now)
 	first := !l.begun
 	l.begun = true
 	switch {
-	case speaker == known:
+	case speaker == qlock.SessionKnown:
 		d.levels[l.Number] = l.Level
 		d.table.reserve(l.Number, l.Name, l.Epoch, l.Reserved, now)
-	case speaker == unknown && first:
+	case speaker == qlock.SessionUnknown && first:
 		d.tell(l.Name, "unknown %d %d", l.Number, l.Epoch)
-	case speaker == taken && first:
+	case speaker == qlock.SessionOver && first:
 		d.tell(l.Name, "taken %d %d", l.Number, l.Epoch)
 	}
-	return speaker, speaker != taken
+	return speaker, speaker != qlock.SessionOver
 }

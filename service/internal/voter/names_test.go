@@ -55,8 +55,8 @@ func TestNameOfASessionIsSecret(t *testing.T) {
 	}
 	_, by, _ := strings.Cut(hash, ".")
 	for _, one := range []*Daemon{d, reopened(t, d)} {
-		if one.table.judge(1, wire.SessionName("jobs", by), 1) != taken || one.table.judge(1, "jobs."+name, 1) != known ||
-			one.table.judge(1, "web."+name, 1) != taken {
+		if one.table.judge(1, wire.SessionName("jobs", by), 1) != qlock.SessionOver || one.table.judge(1, "jobs."+name, 1) != qlock.SessionKnown ||
+			one.table.judge(1, "web."+name, 1) != qlock.SessionOver {
 			t.Error("another one is taken for the session")
 		}
 	}
@@ -96,7 +96,7 @@ func TestRowsWithNames(t *testing.T) {
 		t.Fatal(err)
 	}
 	d := reopened(t, first)
-	if d.table.judge(1, "jobs.session-1", 1) != known {
+	if d.table.judge(1, "jobs.session-1", 1) != qlock.SessionKnown {
 		t.Errorf("the session is not known: %+v", d.table.rows[1])
 	}
 	if err := d.save(time.Now()); err != nil {
@@ -113,14 +113,14 @@ func TestRowsWithNames(t *testing.T) {
 		t.Fatal(err)
 	}
 	again := reopened(t, d)
-	if len(again.table.later) != 0 || again.table.judge(1, "jobs.session-1", 1) != known {
+	if len(again.table.later) != 0 || again.table.judge(1, "jobs.session-1", 1) != qlock.SessionKnown {
 		t.Errorf("after a save: %+v", again.table.later)
 	}
 	var theirs Knows
 	if err := json.Unmarshal([]byte(`{"sessions":{"1":`+string(row)+`}}`), &theirs); err != nil {
 		t.Fatal(err)
 	}
-	if again.learnAll(theirs, time.Now()); again.table.judge(1, "jobs.session-1", 1) != known {
+	if again.learnAll(theirs, time.Now()); again.table.judge(1, "jobs.session-1", 1) != qlock.SessionKnown {
 		t.Errorf("a word of another voter ends the session: %+v", again.table.rows[1])
 	}
 }

@@ -156,14 +156,6 @@ func (t *table) lapses(name string) (count uint64) {
 	return count
 }
 
-// isOf returns whether a number's row is that of a session.
-func (t *table) isOf(number int, name string) bool {
-	if t.names[number] != "" {
-		return t.names[number] == name
-	}
-	return t.rows[number].Hash == hashed(name)
-}
-
 // isEarlier returns whether a stamp of a number is that of an earlier session than the one that it
 // has now.
 func (t *table) isEarlier(number int, stamp uint64) bool { return stamp <= t.rows[number].Base }
@@ -220,31 +212,25 @@ func (t *table) unsaved() map[int]Session {
 // saved notes that all rows are saved.
 func (t *table) saved() { t.changed, t.later = map[int]Session{}, map[int]Session{} }
 
-// verdict is what a table says of a message.
-type verdict int
-
-const (
-	known   verdict = iota // it is of the number's session
-	unknown                // its session may claim the number here
-	taken                  // the number has another session, or had a later one
-)
-
 // judge judges a message by the session that sent it.
-func (t *table) judge(number int, name string, epoch uint64) verdict {
-	row := t.rows[number]
-	switch {
-	case epoch > row.Epoch || epoch == row.Epoch && row.Dropped:
-		return unknown
-	case epoch < row.Epoch || !row.Open || !t.isOf(number, name):
-		return taken
+func (t *table) judge(number int, name string, epoch uint64) qlock.Standing {
+	standing, err := t.proved.Judge(number, t.speaker(number, name, epoch))
+	if err != nil {
+		return qlock.SessionOver // there is no such number
 	}
-	return known
+	return standing
+}
+
+// isOver returns whether a grant of a number may be let go, by its stamp.
+func (t *table) isOver(number int, stamp uint64) bool {
+	isOver, err := t.proved.LetsGo(number, stamp, t.clock.IsSilent(t.heard[number], t.ttl), t.byWord[number])
+	return err == nil && isOver
 }
 
 // admit judges a message, and notes that its session was heard.
-func (t *table) admit(number int, name string, epoch uint64, now time.Time) verdict {
+func (t *table) admit(number int, name string, epoch uint64, now time.Time) qlock.Standing {
 	judged := t.judge(number, name, epoch)
-	if judged != known {
+	if judged != qlock.SessionKnown {
 		return judged
 	}
 	t.hear(number, now)
@@ -253,7 +239,7 @@ func (t *table) admit(number int, name string, epoch uint64, now time.Time) verd
 		row.Used = true
 		t.note(number, row)
 	}
-	return known
+	return qlock.SessionKnown
 }
 
 // reserve notes which stamps the session of a number reserves, as far as it may.
@@ -285,7 +271,7 @@ func (t *table) highest() (stamp uint64) {
 // claim gives a number to a session, with so many stamps, and returns whether it did: its session was silent for a TTL, or it is
 // free, and the proved row takes the claim. The same claim again is granted again.
 func (t *table) claim(number int, name string, epoch, stamps uint64, now time.Time) bool {
-	if t.judge(number, name, epoch) == known {
+	if t.judge(number, name, epoch) == qlock.SessionKnown {
 		return true
 	}
 	if !t.isDead(number) {
@@ -316,7 +302,7 @@ func (t *table) claim(number int, name string, epoch, stamps uint64, now time.Ti
 // claims this epoch never again, and others may.
 func (t *table) drop(number int, name string, epoch uint64) {
 	before := t.rows[number]
-	if before.Used || t.judge(number, name, epoch) != known {
+	if before.Used || t.judge(number, name, epoch) != qlock.SessionKnown {
 		return
 	}
 	if row, err := before.after(func(r *qlock.Row) error { return r.TakeBack(t.session(number, name), epoch) }); err == nil {

@@ -75,7 +75,7 @@ func TestClaims(t *testing.T) {
 			t.Error("a claim stays that was dropped")
 		}
 	}
-	if !claimAt(table, 6, "y", 1, now) || table.admit(6, "y", 1, now) != known || table.admit(6, "x", 1, now) != taken {
+	if !claimAt(table, 6, "y", 1, now) || table.admit(6, "y", 1, now) != qlock.SessionKnown || table.admit(6, "x", 1, now) != qlock.SessionOver {
 		t.Error("whoever has the quorum does not get an epoch that another one took back")
 	}
 	if table.drop(6, "y", 1); !table.rows[6].Open {
@@ -86,7 +86,7 @@ func TestClaims(t *testing.T) {
 		t.Error("a lease is not as long as the TTL")
 	}
 	table.expel(3)
-	if table.admit(3, "b", 2, later) != taken || !isDeadAt(table, 3, later) {
+	if table.admit(3, "b", 2, later) != qlock.SessionOver || !isDeadAt(table, 3, later) {
 		t.Error("a session that was expelled goes on")
 	}
 	if claimAt(table, 3, "d", 3, later) || !claimAt(table, 3, "d", 4, later) {

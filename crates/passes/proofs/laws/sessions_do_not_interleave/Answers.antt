@@ -15,5 +15,5 @@ returns c count quorums voting lock limit session runs seen shows coterie limits
     shows_pass c.parts_keep_their_rules.ensures.clients quorums (Told voting lock (session w.process)) (runs w.process).first (take w.moment (runs w.process).deeds)
     (are w.process).idle (may_until quorums (Told voting lock (session w.process)) (runs w.process) (are w.process) w.moment) inside in
     c.processes_do_not_interleave.ensures count quorums voters runs seen shows coterie limits run
-    (c.sessions_use_own_stamps.ensures count quorums voters (rows_of voting) session runs coterie run
+    (c.sessions_use_own_stamps.ensures count quorums voters (rows_of voting lock) session runs coterie run
     (served_by c.letters_reach_who_asked.ensures quorums voting lock session runs (λ v. (new v).begins) show own)) ins admitted

@@ -17,6 +17,6 @@ returns-clause-lets_go c = λ few. record {
       subst (λ (v : VoterState). GoesOnAt (evict v c.args.grant) v rows c.args.client c.finish.new.vote c.args.out.now c.finish.new.out c.finish.new.written c.finish.new.shown (returned c.finish.result))
       (sym (c.in_ok-voter.ensures.only voter is))
       (goes_on (evict loaded c.args.grant) c.in_ok-replies.replies.items c.as_slice.result.now after loaded rows c.args.client c.finish.new.vote c.args.out.now c.finish.new.out
-        c.finish.new.written c.finish.new.shown (returned c.finish.result) gives c.as_slice.ensures.value
-        (c.finish.ensures.tells loaded rows keeps.0 keeps.1 (sym c.held-held.ensures) (sym c.granted-granted.ensures.value) are));
+      c.finish.new.written c.finish.new.shown (returned c.finish.result) gives c.as_slice.ensures.value
+      (c.finish.ensures.tells loaded rows keeps.0 keeps.1 (sym c.held-held.ensures) (sym c.granted-granted.ensures.value) are));
 }

@@ -42,7 +42,7 @@ returns-clause-takes c =
     (λ rows are. sym c.in-Some.is ∙ c.row_in.ensures rows are)
     (λ says. absurd (false≢true (sym says ∙ sym c.may_say.ensures ∙ c.if-not-may_say.false)))
     (λ says rows are.
-        let keeps = step_keeps loaded m (record { replies = c.take_into.new.replies.items; state = after }) gives in
-        goes_on (step loaded m) c.take_into.new.replies.items c.as_slice.result.now after loaded rows m.client c.finish.new.vote c.args.out.now c.finish.new.out
-        c.finish.new.written c.finish.new.shown (returned c.finish.result) gives c.as_slice.ensures.value
-        (c.finish.ensures.tells loaded rows keeps.0 keeps.1 (sym c.held-held.ensures) (sym c.granted-granted.ensures.value) are))
+    let keeps = step_keeps loaded m (record { replies = c.take_into.new.replies.items; state = after }) gives in
+    goes_on (step loaded m) c.take_into.new.replies.items c.as_slice.result.now after loaded rows m.client c.finish.new.vote c.args.out.now c.finish.new.out
+    c.finish.new.written c.finish.new.shown (returned c.finish.result) gives c.as_slice.ensures.value
+    (c.finish.ensures.tells loaded rows keeps.0 keeps.1 (sym c.held-held.ensures) (sym c.granted-granted.ensures.value) are))
