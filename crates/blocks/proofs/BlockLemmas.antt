@@ -9,7 +9,7 @@ use Rattle.lease_clock.specs.Saved as clocks
 use Rattle.lease_clock.proofs.SavedLemmas.{length-slots}
 use Rattle.words.proofs.WordLemmas.{length-bytes_of}
 use Rattle.words.specs.WordBytes.{bytes_of}
-use Rattle.blocks.specs.Bytes.{IsClock, IsRow}
+use Rattle.blocks.specs.Bytes.{IsClock, IsNoRow, IsRow}
 use Rattle.blocks.specs.Tables.{AreRows, IsReadAs, row_at}
 
 length-words : (bytes words : List ℕ) (n : ℕ) → bytes ≡ bytes_of words → length words ≡ n → length bytes ≡ 8 * n
@@ -37,3 +37,9 @@ past_table table rows number are short =
     let dropped = length-drop (48 * number) table in
     let taken = length-take 48 (drop (48 * number) table) in
     no_room (row_at table number) (rows number) (are number) (omega arith)
+
+pub no_bytes : (table : List ℕ) (number : ℕ) → length table < 48 * number + 48 → IsNoRow (row_at table number)
+no_bytes table number short =
+    let dropped = length-drop (48 * number) table in
+    let taken = length-take 48 (drop (48 * number) table) in
+    λ row is. (let long = length-row (row_at table number) row is in absurd (omega arith))

@@ -4,7 +4,7 @@ ghost use Rattle.session_rows.specs.Saved.{IsBounded, words_of};
 ghost use Rattle.sessions.specs.Rows.{Row};
 ghost use Rattle.blocks.specs.Bytes.{IsNoRow, IsRow};
 ghost use Rattle.blocks.specs.Numbers.{returned};
-ghost use Rattle.blocks.specs.Tables.{AreRows};
+ghost use Rattle.blocks.specs.Tables.{AreRows, IsReadAs, row_at};
 ghost use Rattle.blocks.specs.RowSteps.{RowClaims, RowCloses, RowDrops, RowEvicts, RowIsMade, RowLearns, RowReserves, RowShows, RowTakes, RowTakesBack};
 
 use crate::refusal::Refusal;
@@ -50,8 +50,9 @@ fn row_of(words: &[u64]) -> Option<SessionRow>
 /// Returns the row of a number in a table: 48 bytes for each number, one after the other. `None` if its bytes
 /// are those of no row, or are not there.
 pub fn row_in(table: &[u8], number: u8) -> Option<SessionRow>
+    ensures read { IsReadAs (row_at table.now number) result }
     // So there is one answer, whatever the bytes of the other numbers are.
-    ensures { (rows : ℕ → Option Row) → AreRows table.now rows → result ≡ rows number }
+    ensures only { (rows : ℕ → Option Row) → AreRows table.now rows → result ≡ rows number }
 {
     let start = ROW_BYTES * usize::from(number);
     if table.len() < start + ROW_BYTES {

@@ -88,13 +88,13 @@ pub goes_not : (step_gives : Option Outcome) (voter : VoterState) (rows : ℕ �
 goes_not step_gives voter rows client after out out_after written shown result is spent =
     subst (λ (x : Option Outcome). GoesOnAt x voter rows client after out out_after written shown result) (sym is) spent
 
-pub takes_with : (table before : List ℕ) (session epoch : ℕ) (line after out out_after : List ℕ) (written : ℕ) (shown : LockShown) (result : ℤ) (voter : VoterState) (m : ToVoter) (row : Row)
+pub takes_with : (table before : List ℕ) (session epoch : ℕ) (line after out out_after : List ℕ) (written : ℕ) (shown_before shown : LockShown) (result : ℤ) (voter : VoterState) (m : ToVoter) (row : Row)
     → IsVoter before voter → ((w : VoterState) → IsVoter before w → w ≡ voter) → IsToVoter line voter.id m → ((n : ToVoter) → IsToVoter line voter.id n → n ≡ m)
     → ((rows : ℕ → Option Row) → AreRows table rows → Some row ≡ rows m.client)
-    → (may_say row session epoch m.body ≡ false → (result ≡ done) × (after ≡ before) × (out_after ≡ out) × (written ≡ 0) × (shown.changed ≡ 0))
+    → (may_say row session epoch m.body ≡ false → (result ≡ done) × (after ≡ before) × (out_after ≡ out) × (written ≡ 0) × (shown ≡ record shown_before { changed = 0 }))
     → (may_say row session epoch m.body ≡ true → (rows : ℕ → Option Row) → AreRows table rows → GoesOnAt (step voter m) voter rows m.client after out out_after written shown result)
-    → LockTakes table before session epoch line after out out_after written shown result
-takes_with table before session epoch line after out out_after written shown result voter m row loaded only read only_read in_table foreign goes =
+    → LockTakes table before session epoch line after out out_after written shown_before shown result
+takes_with table before session epoch line after out out_after written shown_before shown result voter m row loaded only read only_read in_table foreign goes =
     let message : (w : VoterState) (n : ToVoter) → IsVoter before w → IsToVoter line w.id n → n ≡ m =
     λ w n is at. only_read n (subst (λ (v : VoterState). IsToVoter line v.id n) (only w is) at) in
     let its : (w : VoterState) (n : ToVoter) (rows : ℕ → Option Row) (r : Row) → IsVoter before w → IsToVoter line w.id n → AreRows table rows → rows n.client ≡ Some r → row ≡ r =

@@ -39,16 +39,16 @@ GoesOnAt (Some o) voter rows client after out out_after written shown result =
     Sends (lines_heard rows o) out out_after written result (IsVoter after o.state × IsShown voter o.state client shown)
 
 -- a session says this under an epoch
-pub record LockTakes (table before : List ℕ) (session epoch : ℕ) (line after out out_after : List ℕ) (written : ℕ) (shown : LockShown) (result : ℤ) : Type 0 where
+pub record LockTakes (table before : List ℕ) (session epoch : ℕ) (line after out out_after : List ℕ) (written : ℕ) (shown_before shown : LockShown) (result : ℤ) : Type 0 where
   pub no_voter : IsNoVoter before → result ≡ refused BadState
   pub no_message : (voter : VoterState) → IsVoter before voter → ((m : ToVoter) → IsToVoter line voter.id m → ⊥)
       → result ≡ refused BadMessage
   pub no_row : (voter : VoterState) (m : ToVoter) (rows : ℕ → Option Row) → IsVoter before voter → IsToVoter line voter.id m
       → AreRows table rows → rows m.client ≡ None → result ≡ refused BadState
-  -- it is not the session's to say: nothing happens
+  -- it is not the session's to say: nothing happens, and nothing is written but that
   pub foreign : (voter : VoterState) (m : ToVoter) (rows : ℕ → Option Row) (row : Row) → IsVoter before voter → IsToVoter line voter.id m
       → AreRows table rows → rows m.client ≡ Some row → may_say row session epoch m.body ≡ false
-      → (result ≡ done) × (after ≡ before) × (out_after ≡ out) × (written ≡ 0) × (shown.changed ≡ 0)
+      → (result ≡ done) × (after ≡ before) × (out_after ≡ out) × (written ≡ 0) × (shown ≡ record shown_before { changed = 0 })
   pub takes : (voter : VoterState) (m : ToVoter) (rows : ℕ → Option Row) (row : Row) → IsVoter before voter → IsToVoter line voter.id m
       → AreRows table rows → rows m.client ≡ Some row → may_say row session epoch m.body ≡ true
       → GoesOnAt (step voter m) voter rows m.client after out out_after written shown result

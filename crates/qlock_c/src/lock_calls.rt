@@ -149,7 +149,7 @@ fn take(
     written: &mut usize,
     shown: &mut LockShown,
 ) -> Result<(), Refusal>
-    ensures takes { LockTakes table.now vote.old session epoch line.now vote.new out.old out.new written.new shown.new (returned result) }
+    ensures takes { LockTakes table.now vote.old session epoch line.now vote.new out.old out.new written.new shown.old shown.new (returned result) }
     ensures refused { OnErr result ((vote.new ≡ vote.old) × (out.new ≡ out.old) × (written.new ≡ written.old) × (shown.new ≡ shown.old)) }
 {
     let mut voter = load_voter(vote)?;
@@ -301,7 +301,7 @@ pub extern "C" fn qlock_lock_take(
 ) -> i32
     ensures refused { result ≢ done
         → (vote.new ≡ vote.old) × (out.new ≡ out.old) × (written.new ≡ written.old) × (shown.new ≡ shown.old) }
-    ensures takes { LockTakes table.now vote.old (named upper lower) epoch line.now vote.new out.old out.new written.new shown.new result }
+    ensures takes { LockTakes table.now vote.old (named upper lower) epoch line.now vote.new out.old out.new written.new shown.old shown.new result }
 {
     let session = joined(upper, lower);
     number_of(take(table, vote, session, epoch, line, out, written, shown))
