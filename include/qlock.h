@@ -418,20 +418,20 @@ int32_t qlock_row_shows(const uint8_t *row, size_t n, uint64_t *epoch, uint64_t 
                         uint64_t *upper, uint64_t *lower);
 
 /* ---- A lock at a voter that keeps rows: its vote, and the rows of the sessions that may speak about it. `n` is always
-   QLOCK_VOTER_BYTES, and `table` has QLOCK_TABLE_BYTES: the row of number 0, of number 1, and so on. Whose bytes are no row, or
-   are not there, is nobody's.
+   QLOCK_VOTER_BYTES, and `table` is of `rows` bytes, QLOCK_TABLE_BYTES: the row of number 0, of number 1, and so on. A number whose
+   bytes are no row, or are missing, hears nothing, and a line from it is refused.
 
    In place of qlock_voter_take, qlock_voter_evict and qlock_voter_remind, these calls also say whose messages count, and who
-   hears the replies. A call takes about the time of one of those.
+   hears the replies.
 
    - A message counts if the row of its number says that the number is the session's under this epoch. A REQUEST has one of the
-     session's own stamps, and a RELEASE none above them.
-   - A reply goes to the session that has its number, if it is about a stamp of that session. So a LOCKED reaches a session from
-     which this voter took the REQUEST, as long as votes and rows change by these calls alone, and are saved together. Lines of
-     others are left out.
+     session's own stamps. A RELEASE has at most the highest stamp that is reserved, so it may end requests of earlier sessions.
+   - A reply goes to the session that has its number when the call is made, if it is about a stamp above that session's base.
+     Lines that nobody hears are left out. So a LOCKED reaches a session from which this voter took the REQUEST, as long as the rows
+     change by qlock_row_* alone, votes by calls of this file, and both are saved together.
 
-   Save a vote before anything leaves if it has to be (`changed`), and with it the rows as they are. The caller forgets at each
-   start (qlock_voter_forget). */
+   Save a vote before anything leaves if any call since its last save showed that it has to be (`changed` is 2), and with it the rows as
+   they are. The caller forgets at each start (qlock_voter_forget). */
 
 /* What is shown of a lock after a call. */
 struct qlock_lock_shown {
@@ -445,7 +445,7 @@ struct qlock_lock_shown {
 
 /* Takes what a session, named by these halves, says under this epoch: one line of `len` bytes, without its newline. Writes the lines
    of the replies that somebody hears, and shows the lock to the client that the line is from. If it is not the session's to say,
-   the call is done, `shown->changed` is 0, and nothing else of `shown` is written.
+   the call is done, `shown->changed` and `*written` are 0, and nothing else is written.
 
    QLOCK_BAD_STATE     the bytes are no voter, or there is no row for the number
    QLOCK_BAD_MESSAGE   the line is not REQUEST, RELINQUISH or RELEASE to this voter
@@ -454,7 +454,8 @@ struct qlock_lock_shown {
 int32_t qlock_lock_take(const uint8_t *table, size_t rows, uint8_t *vote, size_t n, uint64_t upper, uint64_t lower, uint64_t epoch,
                         const uint8_t *line, size_t len, uint8_t *out, size_t room, size_t *written, struct qlock_lock_shown *shown);
 
-/* Lets the current grant go if it has this number, as qlock_voter_evict does, and shows the lock to a client, 0 to 63.
+/* Lets the current grant go if it has this number, as qlock_voter_evict does, but for the lines that nobody hears, and shows the lock
+   to a client, 0 to 63.
 
    QLOCK_BAD_ARGUMENT  there is no such client
    QLOCK_BAD_STATE     the bytes are no voter

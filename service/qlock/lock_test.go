@@ -77,15 +77,16 @@ func (b *beside) take(t *testing.T, from Speaker, client int, word string, stamp
 func TestLockAsSingleCalls(t *testing.T) {
 	random := rand.New(rand.NewSource(1))
 	words := []string{"request", "request", "release", "relinquish"}
+	spent := 0
 	for run := 0; run < 40; run++ {
-		one, err := NewVoter(3, 60)
+		one, err := NewVoter(3, 12)
 		if err != nil {
 			t.Fatal(err)
 		}
 		two := beside{Voter: new(Voter)}
 		*two.Voter = *one
 		var table Table
-		taken, heard, spent := 0, 0, 0
+		taken, heard := 0, 0
 		for step := 0; step < 400; step++ {
 			client := random.Intn(4)
 			switch kind := random.Intn(12); kind {
@@ -126,6 +127,9 @@ func TestLockAsSingleCalls(t *testing.T) {
 					from.Session[5]++
 				}
 				word, stamp := words[random.Intn(len(words))], row.Base+uint64(random.Intn(7))
+				if random.Intn(6) == 0 && row.Base > 0 {
+					stamp = 1 + uint64(random.Int63n(int64(row.Base))) // of an earlier session
+				}
 				if word == "relinquish" {
 					held, _ := one.Held()
 					stamp = held.Number
@@ -156,6 +160,9 @@ func TestLockAsSingleCalls(t *testing.T) {
 			t.Fatalf("run %d: %d taken, %d heard", run, taken, heard)
 		}
 	}
+	if spent == 0 {
+		t.Error("no voter gave all its grants")
+	}
 }
 
 // What is no voter, no message and no row is refused, and nothing is written.
@@ -184,7 +191,8 @@ func TestLockRefusals(t *testing.T) {
 			t.Errorf("%s: %v", what, err)
 		}
 	}
-	if lines, shown, err := voter.TakeFrom(&table, from, []byte("request 1 3 5"), nil); err != nil || shown.IsTaken || len(lines) > 0 {
+	lines, shown, err := voter.TakeFrom(&table, from, []byte("request 1 3 5"), nil)
+	if err != nil || shown != (LockShown{}) || len(lines) > 0 || *voter != before {
 		t.Errorf("a number that nobody has: %q %+v %v", lines, shown, err)
 	}
 }

@@ -386,15 +386,12 @@ func (d *Daemon) line(l *letter, speaker qlock.Standing, lock, line []byte, now 
 		d.takeBack(v, said, now)
 		return true
 	}
-	if left := d.quietOf(v, now); left > 0 && string(said.Word) == "request" && word != inside {
-		if l.once("quiet") {
-			d.tell(l.Name, "quiet %d", left.Milliseconds()+1)
+	if string(said.Word) == "request" {
+		left := d.quietOf(v, now)
+		if isQuiet := left > 0 && word != inside; isQuiet || d.isAtBound(v, userOf(l.Name)) {
+			d.putOff(l, lock, said, isQuiet, left)
+			return true
 		}
-		return true
-	}
-	if string(said.Word) == "request" && d.isAtBound(v, userOf(l.Name)) {
-		d.fullForUser(l, lock, said)
-		return true
 	}
 	if v == nil {
 		v = d.first(l, lock, said, now)
@@ -403,13 +400,15 @@ func (d *Daemon) line(l *letter, speaker qlock.Standing, lock, line []byte, now 
 		d.m.refused.Inc()
 		return true
 	}
-	shown, ok := d.step(v, said.From, now, func(out []byte) ([]byte, qlock.LockShown, error) {
+	shown, err := d.step(v, said.From, now, func(out []byte) ([]byte, qlock.LockShown, error) {
 		return v.TakeFrom(&d.table.proved, d.table.speaker(l.Number, l.Name, l.Epoch), line, out)
 	})
-	if !ok {
+	if err == nil && !shown.IsTaken {
 		return true
 	}
-	v.heard = now
+	if v.heard = now; err != nil {
+		return true
+	}
 	d.deny(v, l.Header, said, shown)
 	switch word {
 	case inside:
@@ -418,6 +417,19 @@ func (d *Daemon) line(l *letter, speaker qlock.Standing, lock, line []byte, now 
 		d.tellHeld(v, l, said, now)
 	}
 	return true
+}
+
+// putOff answers a REQUEST that gets no vote now: the voter is quiet, for so long, or its user is at its bound. One that is not the
+// session's is refused.
+func (d *Daemon) putOff(l *letter, lock []byte, said wire.Line, isQuiet bool, left time.Duration) {
+	switch {
+	case !d.table.takes(said.From, l.Name, l.Epoch, said.Stamp):
+		d.m.refused.Inc()
+	case !isQuiet:
+		d.fullForUser(l, lock, said)
+	case l.once("quiet"):
+		d.tell(l.Name, "quiet %d", left.Milliseconds()+1)
+	}
 }
 
 // What a client may write behind a REQUEST.
@@ -474,8 +486,8 @@ func (d *Daemon) newVoter() (*qlock.Voter, error) {
 }
 
 // step makes a step that a client's line, or letting its grant go, leads to, and returns what is shown of the lock then. Its lines
-// leave after the next save. It returns false if nothing happened.
-func (d *Daemon) step(v *vote, client int, now time.Time, call func(out []byte) ([]byte, qlock.LockShown, error)) (shown qlock.LockShown, ok bool) {
+// leave after the next save. Nothing happens if the call is refused, or the line is not its session's to say.
+func (d *Daemon) step(v *vote, client int, now time.Time, call func(out []byte) ([]byte, qlock.LockShown, error)) (qlock.LockShown, error) {
 	lines, shown, err := call(d.room[:0])
 	if errors.Is(err, qlock.GrantsSpent) && v.limit < d.ceiling {
 		v.limit, v.isSpent = d.ceiling, false
@@ -484,7 +496,7 @@ func (d *Daemon) step(v *vote, client int, now time.Time, call func(out []byte) 
 	}
 	if err != nil || !shown.IsTaken {
 		d.refuse(v, err)
-		return shown, false
+		return shown, err
 	}
 	d.room = lines
 	if shown.MustSave || v.isRaised { // what was saved last differs in nothing else from the state before a step
@@ -494,7 +506,7 @@ func (d *Daemon) step(v *vote, client int, now time.Time, call func(out []byte) 
 	d.noteAsk(v, client, shown.Stamp, now)
 	d.noteGrant(v, shown.Held, now)
 	d.send(v, lines)
-	return shown, true
+	return shown, nil
 }
 
 func (d *Daemon) refuse(v *vote, why error) {
@@ -724,7 +736,7 @@ func (d *Daemon) isOver(held qlock.Grant) bool { return d.table.isOver(int(held.
 // letGo lets the current grant of a vote go, and tells its client. It returns false if that did not succeed.
 func (d *Daemon) letGo(v *vote, now time.Time) bool {
 	held := v.held
-	d.step(v, int(held.Client), now, func(out []byte) ([]byte, qlock.LockShown, error) {
+	_, _ = d.step(v, int(held.Client), now, func(out []byte) ([]byte, qlock.LockShown, error) {
 		return v.LetGo(&d.table.proved, held.Number, uint8(held.Client), out)
 	})
 	if v.held.Number == held.Number {

@@ -77,7 +77,7 @@ func (p *post) Listen(string) (<-chan transport.Message, error) { return nil, ni
 // says lets the session that has a number say a line about a lock.
 func says(d *Daemon, v *vote, client int, line string, now time.Time) {
 	from := qlock.Speaker{Session: d.table.hashes[client], Epoch: d.table.rows[client].Epoch}
-	d.step(v, client, now, func(out []byte) ([]byte, qlock.LockShown, error) {
+	_, _ = d.step(v, client, now, func(out []byte) ([]byte, qlock.LockShown, error) {
 		return v.TakeFrom(&d.table.proved, from, []byte(line), out)
 	})
 }

@@ -46,7 +46,7 @@ func (d *Daemon) forget(now time.Time) {
 }
 
 // makeRoom forgets the lock that rested longest, and returns whether there was one. One of which a
-// grant was let go within a TTL stays: its client may not know yet.
+// grant was let go within a TTL stays: its client may not know yet. So does one of which lines wait for a save.
 func (d *Daemon) makeRoom(now time.Time) bool {
 	for n := len(d.resting); n > 0; n-- {
 		first := d.resting[0]
@@ -54,7 +54,7 @@ func (d *Daemon) makeRoom(now time.Time) bool {
 		switch d.resting = d.resting[1:]; {
 		case v.asks != nil:
 			v.isResting = false
-		case now.Sub(v.letGo) < d.table.ttl:
+		case now.Sub(v.letGo) < d.table.ttl || d.mustBeSaved(v):
 			d.resting = append(d.resting, first)
 		default:
 			v.isResting = false
@@ -63,6 +63,12 @@ func (d *Daemon) makeRoom(now time.Time) bool {
 		}
 	}
 	return false
+}
+
+// mustBeSaved returns whether lines of a vote leave after the next save: then the vote has to be in it.
+func (d *Daemon) mustBeSaved(v *vote) bool {
+	_, is := d.dirty[v]
+	return is
 }
 
 // forgetVote forgets a vote.

@@ -137,3 +137,20 @@ func TestCeilings(t *testing.T) {
 		t.Errorf("ceiling %d after %d", d.ceiling, before)
 	}
 }
+
+// A lock is not forgotten for another one before what it granted is saved.
+func TestNoLockIsForgottenUnsaved(t *testing.T) {
+	d, says := alone(t, 1)
+	h := wire.Header{Cluster: "test", Coterie: d.mark, Kind: wire.FromClient, Epoch: 1, Reserved: 1000, Name: "me"}
+	hand(d, append(h.Append(nil), "a request 0 0 1\na release 0 0 1\nb request 0 0 2\n"...))
+	if d.votes["a"] == nil || d.votes["b"] != nil {
+		t.Errorf("%d locks", len(d.votes))
+	}
+	if err := d.commit(time.Now()); err != nil {
+		t.Fatal(err)
+	}
+	says("b request 0 0 3\n")
+	if d.votes["a"] != nil || d.votes["b"] == nil {
+		t.Errorf("%d locks after the save", len(d.votes))
+	}
+}

@@ -2,6 +2,7 @@ package voter
 
 import (
 	"bytes"
+	"calvundek.example/service/qlock"
 	"encoding/json"
 	"io"
 	"os"

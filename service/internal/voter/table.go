@@ -63,7 +63,7 @@ const (
 type table struct {
 	ttl     time.Duration
 	rows    [qlock.MaxClients]Session
-	proved  qlock.Table                     // the same rows, by which votes take what sessions say, and tell them
+	proved  qlock.Table                     // the same rows, as the proved calls read them
 	hashes  [qlock.MaxClients]qlock.Session // how the proved rows name the sessions of these
 	names   [qlock.MaxClients]string        // of the sessions of these rows that were heard in this run; nothing can be sent to others
 	heard   [qlock.MaxClients]time.Duration // on the lease clock
@@ -171,7 +171,7 @@ func (t *table) state(number int) int {
 	return 2
 }
 
-// set sets a row. What is none is nobody's.
+// set sets a row. One that the proved rows refuse reads as nobody's.
 func (t *table) set(number int, row Session) {
 	t.rows[number], t.hashes[number] = row, row.session()
 	if r, err := row.row(t.hashes[number]); err == nil {

@@ -30,9 +30,9 @@ func isDeadAt(t *table, number int, now time.Time) bool {
 }
 
 // admits returns what a table says of a message that reserves stamps, too.
-func admits(t *table, number int, name string, epoch, reserved uint64, now time.Time) verdict {
+func admits(t *table, number int, name string, epoch, reserved uint64, now time.Time) qlock.Standing {
 	judged := t.admit(number, name, epoch, now)
-	if judged == known {
+	if judged == qlock.SessionKnown {
 		t.reserve(number, name, epoch, reserved, now)
 	}
 	return judged
@@ -48,20 +48,20 @@ func TestClaims(t *testing.T) {
 		got  bool
 		want bool
 	}{
-		{"a message of a session that claimed nothing", admits(table, 3, "a", 1, 100, now) == unknown, true},
+		{"a message of a session that claimed nothing", admits(table, 3, "a", 1, 100, now) == qlock.SessionUnknown, true},
 		{"it leaves nothing behind", row() == Session{}, true},
 		{"a free number", claimAt(table, 3, "a", 1, now), true},
 		{"the same claim again", claimAt(table, 3, "a", 1, now), true},
 		{"the epoch again", claimAt(table, 3, "b", 1, now), false},
 		{"a number in use", claimAt(table, 3, "b", 2, now), false},
-		{"a message of the session", admits(table, 3, "a", 1, 100, now) == known, true},
-		{"a message of another one", admits(table, 3, "b", 1, 0, now) == taken, true},
+		{"a message of the session", admits(table, 3, "a", 1, 100, now) == qlock.SessionKnown, true},
+		{"a message of another one", admits(table, 3, "b", 1, 0, now) == qlock.SessionOver, true},
 		{"a number whose session was silent for less than a TTL", claimAt(table, 3, "b", 2,
 			now.Add(900*time.Millisecond)), false},
 		{"a silent session's number", claimAt(table, 3, "b", 2, later), true},
-		{"the old session", admits(table, 3, "a", 1, 0, later) == taken, true},
+		{"the old session", admits(table, 3, "a", 1, 0, later) == qlock.SessionOver, true},
 		{"what it reserved is kept", row().Base == 100 && row().Reserved == 100, true},
-		{"a later session that did not claim here", admits(table, 3, "c", 4, 500, later) == unknown, true},
+		{"a later session that did not claim here", admits(table, 3, "c", 4, 500, later) == qlock.SessionUnknown, true},
 		{"it takes nothing over", row().Hash == hashed("b") && row().Reserved == 100, true},
 		{"a claim far above the epoch", claimAt(table, 5, "x", 1<<20+1, now), false},
 		{"one that is not", claimAt(table, 5, "x", 1<<18, now), true},
@@ -167,7 +167,7 @@ func stampsUsedTwice(meet int) (twice int) {
 			acknowledged := 0
 			for i := 0; i < 3; i++ {
 				name := string(rune('a' + session))
-				if random.Intn(3) > 0 && admits(tables[i], 0, name, epoch, base+10, now) == known &&
+				if random.Intn(3) > 0 && admits(tables[i], 0, name, epoch, base+10, now) == qlock.SessionKnown &&
 					tables[i].rows[0].Reserved >= base+10 {
 					acknowledged += weight(i, meet)
 				}

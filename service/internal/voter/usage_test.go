@@ -127,3 +127,17 @@ func TestDeadSessionsMakeRoom(t *testing.T) {
 		t.Error("a session that is over keeps its vote")
 	}
 }
+
+// A REQUEST that is not the session's says nothing of its user, though that is at its bound.
+func TestForeignRequestAtTheBound(t *testing.T) {
+	d, _ := alone(t, 100)
+	d.own.MaxLocksUser = 1
+	d.repliesTo("jobs", 1, ". claim 1 1 1000\n")
+	d.repliesTo("jobs", 1, "a request 1 0 1\n")
+	if reply := d.repliesTo("jobs", 1, "b request 1 0 5000\n"); strings.Contains(reply, "full") || d.users["jobs"].isFull {
+		t.Errorf("%q, and jobs is %+v", reply, d.users["jobs"])
+	}
+	if reply := d.repliesTo("jobs", 1, "b request 1 0 2\n"); !strings.Contains(reply, ". full b 2") || !d.users["jobs"].isFull {
+		t.Errorf("%q, and jobs is %+v", reply, d.users["jobs"])
+	}
+}
