@@ -1,0 +1,1 @@
+use Rattle.envelope.proofs.reading.level.Goals as goal
