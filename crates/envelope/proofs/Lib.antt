@@ -1,3 +1,5 @@
+pub mod HeadLemmas
 pub mod LevelLemmas
 pub mod NameLemmas
 pub mod SenderLemmas
+pub mod TestLemmas

@@ -27,7 +27,12 @@ parts (Client number epoch reserved seq) w rest = record { whole = refl; plain =
 parts (Voter number run start lapses) w rest = record { whole = refl; plain = search rules; border = refl }
 parts Operator w rest = record { whole = refl; plain = search rules; border = refl }
 
-pub one_kind : (s : Sender) → kind_of s ≢ codes "c" → kind_of s ≢ codes "v" → kind_of s ≢ codes "o" → ⊥
-one_kind (Client number epoch reserved seq) c v o = c refl
-one_kind (Voter number run start lapses) c v o = v refl
-one_kind Operator c v o = o refl
+pub one_kind : (s : Sender) (word : List ℕ) → word ≡ kind_of s → word ≢ codes "c" → word ≢ codes "v" → word ≢ codes "o" → ⊥
+one_kind (Client number epoch reserved seq) word is c v o = c is
+one_kind (Voter number run start lapses) word is c v o = v is
+one_kind Operator word is c v o = o is
+
+pub IsBorder-sender : (s : Sender) (w rest : List ℕ) → IsBorder (spaced (sender_words s w) rest)
+IsBorder-sender (Client number epoch reserved seq) w rest = refl
+IsBorder-sender (Voter number run start lapses) w rest = refl
+IsBorder-sender Operator w rest = refl

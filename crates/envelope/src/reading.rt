@@ -7,7 +7,7 @@ ghost use Rattle.envelope.specs.Names.{IsName};
 ghost use Rattle.envelope.specs.declared.header.Sender.{Sender};
 
 use crate::header::{Header, Sender};
-use crate::words::{name, numbers, word};
+use crate::words::{is, name, numbers, word};
 use texts::{cut, cut_at, number};
 
 /// The most bytes of a header's line, without its newline.
@@ -26,13 +26,13 @@ fn sender(bytes: &[u8]) -> Option<(Sender, &[u8], &[u8])>
     let Some((kind, rest)) = word(bytes) else {
         return None;
     };
-    if kind == b"c".as_slice() {
+    if is(kind, b"c") {
         return client(rest);
     }
-    if kind == b"v".as_slice() {
+    if is(kind, b"v") {
         return voter(rest);
     }
-    if kind == b"o".as_slice() {
+    if is(kind, b"o") {
         return operator(rest);
     }
     None
@@ -113,7 +113,7 @@ fn level(bytes: &[u8]) -> Option<(u64, &[u8])>
     let Some((key, value)) = cut_at(first, b'=') else {
         return Some((0, bytes));
     };
-    if key != b"level".as_slice() {
+    if !is(key, b"level") {
         return Some((0, bytes));
     }
     let Some(level) = number(value) else {
@@ -131,7 +131,7 @@ fn is_ignored(word: &[u8]) -> bool
     ensures { IsTrue result ↔ IsIgnored word.now }
 {
     match cut_at(word, b'=') {
-        Some((key, _)) => !key.is_empty() && key != b"level".as_slice(),
+        Some((key, _)) => !key.is_empty() && !is(key, b"level"),
         None => false,
     }
 }
@@ -162,7 +162,7 @@ fn header(line: &[u8]) -> Option<(Header<'_>, &[u8])>
         → MatchOption result ⊥ (λ x. (head_of x.0 ≡ h) × (x.1.now ≡ rest)) }
 {
     let (first, rest) = cut(line);
-    if first != b"qlock2".as_slice() {
+    if !is(first, b"qlock2") {
         return None;
     }
     let Some((cluster, rest)) = name(rest) else {

@@ -1,5 +1,5 @@
 //! Words of a line, each with a space in front.
-ghost use Rattle.std.specs.Prelude.{◌≡◌, ◌<◌, ◌≤◌, ◌^◌, ◌++◌, ◌∷◌, [], ℕ, List, IfSome, MatchOption};
+ghost use Rattle.std.specs.Prelude.{◌≡◌, ◌<◌, ◌≤◌, ◌^◌, ◌++◌, ◌∷◌, [], ℕ, List, IfSome, IsTrue, ◌↔◌, MatchOption};
 ghost use Rattle.std.specs.Fmt.{decimal};
 ghost use Rattle.texts.specs.Fields.{HasNoSpace, IsBorder};
 ghost use Rattle.envelope.specs.Headers.{spaced};
@@ -10,6 +10,13 @@ use texts::{cut, field};
 
 /// The highest number of a client or a voter.
 const HIGHEST: u64 = 63;
+
+/// Returns whether a word is a known one.
+pub fn is(word: &[u8], known: &[u8]) -> bool
+    ensures { IsTrue result ↔ (word.now ≡ known.now) }
+{
+    word == known
+}
 
 /// Reads a space and a word from the front. Returns the word and what follows it, or `None` if the
 /// bytes do not begin with a space.
