@@ -1,5 +1,6 @@
 pub mod HeadLemmas
 pub mod LevelLemmas
+pub mod LineLemmas
 pub mod NameLemmas
 pub mod SenderLemmas
 pub mod TestLemmas

@@ -1,4 +1,10 @@
 //! The header of a message: who sends it.
+ghost use Rattle.std.specs.Prelude.{IsTrue, ◌↔◌};
+ghost use Rattle.envelope.specs.Headers.{HasLine, NumbersFit};
+ghost use Rattle.envelope.specs.Heads.{head_of};
+ghost use Rattle.envelope.specs.Names.{IsName};
+
+use crate::names::is_name;
 
 /// What a sender is, and its numbers.
 #[derive(Clone, Copy, Debug, PartialEq, Eq)]
@@ -42,4 +48,32 @@ pub struct Header<'a> {
     pub name: &'a [u8],
     /// The level of the cluster, 0 if the header says none.
     pub level: u64,
+}
+
+impl Sender {
+    /// Returns whether the number of a client or a voter is at most 63.
+    fn has_words(self) -> bool
+        ensures { IsTrue result ↔ NumbersFit self }
+    {
+        match self {
+            Sender::Client { number, .. } | Sender::Voter { number, .. } => number <= 63,
+            Sender::Operator => true,
+        }
+    }
+}
+
+impl Header<'_> {
+    fn has_names(self) -> bool
+        ensures { IsTrue result ↔ (IsName self.entry.cluster.now × IsName self.entry.coterie.now × IsName self.entry.name.now) }
+    {
+        is_name(self.cluster) && is_name(self.coterie) && is_name(self.name)
+    }
+
+    /// Returns whether the header has a line: its names are names, and the number of a client or a
+    /// voter is at most 63.
+    pub fn has_line(self) -> bool
+        ensures { IsTrue result ↔ HasLine (head_of self.entry) }
+    {
+        self.has_names() && self.sender.has_words()
+    }
 }

@@ -189,3 +189,38 @@ fn header(line: &[u8]) -> Option<(Header<'_>, &[u8])>
     };
     Some((header, rest))
 }
+
+/// A message that was read: its header, and what is behind it.
+#[derive(Clone, Copy, Debug)]
+pub struct Envelope<'a> {
+    /// Who sends it.
+    pub header: Header<'a>,
+    /// The words of the header's line that a reader ignores, each with a space in front.
+    pub ignored: &'a [u8],
+    /// The lines behind the header's line.
+    pub lines: &'a [u8],
+}
+
+/// Reads the header of a message. Returns `None` if and only if the message begins with no header.
+pub fn read_header(message: &[u8]) -> Option<Envelope<'_>>
+    // What is read is the header of the message.
+    ensures written { IfSome result (λ x. IsMessage message.now (head_of x.header) x.ignored.now x.lines.now) }
+    // Each header is read, and a message has one.
+    ensures read { (h : Head) (ignored lines : List ℕ) → IsMessage message.now h ignored lines
+        → MatchOption result ⊥ (λ x. (head_of x.header ≡ h) × (x.ignored.now ≡ ignored) × (x.lines.now ≡ lines)) }
+{
+    let Some((line, lines)) = cut_at(message, b'\n') else {
+        return None;
+    };
+    if line.len() > MOST_HEADER {
+        return None;
+    }
+    let Some((header, ignored)) = header(line) else {
+        return None;
+    };
+    Some(Envelope {
+        header,
+        ignored,
+        lines,
+    })
+}
