@@ -1,5 +1,5 @@
 -- The header of a message: a line of words, with one space between any two.
-use Rattle.std.specs.Prelude.{ℕ, ◌≡◌, ◌≢◌, ◌<◌, ◌≤◌, ◌^◌, ◌++◌, ◌∷◌, ◌==◌, codes, List, [], length, Option, Some, None, option_map, if◌then◌else◌}
+use Rattle.std.specs.Prelude.{ℕ, ◌≡◌, ◌≢◌, ◌<◌, ◌≤◌, ◌+◌, ◌-◌, ◌^◌, ◌++◌, ◌∷◌, ◌==◌, codes, List, [], drop, length, take, Option, Some, None, option_map, if◌then◌else◌}
 use Rattle.std.specs.List.{AllByRecursion}
 use Rattle.std.specs.Fmt.{decimal}
 use Rattle.texts.specs.Cuts.{cut_at}
@@ -84,3 +84,25 @@ pub record IsMessage (text : List ℕ) (h : Head) (ignored lines : List ℕ) : T
   pub others : AreIgnored ignored
   pub first_line : cut_at 10 text ≡ Some (head_then h ignored, lines)
   pub short : length (head_then h ignored) ≤ 512
+
+-- the words of a sender in front of its name
+abbrev pub words_before_name : Sender → List (List ℕ)
+words_before_name (Client number epoch reserved seq) = codes "c" ∷ decimal number ∷ decimal epoch ∷ decimal reserved ∷ []
+words_before_name (Voter number run start lapses) = codes "v" ∷ decimal number ∷ decimal run ∷ decimal start ∷ []
+words_before_name Operator = codes "o" ∷ []
+
+-- where the name begins in the header's line
+abbrev pub name_at : Head → ℕ
+name_at h = length (codes "qlock2" ++ spaced (h.cluster ∷ h.coterie ∷ words_before_name h.sender) (32 ∷ []))
+
+-- the bytes of a text at this place
+abbrev pub part : ℕ → ℕ → List ℕ → List ℕ
+part at len text = take len (drop at text)
+
+-- The names of a header are at these places of its message, and the lines behind its first line are at its end.
+pub record ArePlaces (text : List ℕ) (h : Head) (lines : List ℕ) : Type 0 where
+  pub cluster : part 7 (length h.cluster) text ≡ h.cluster
+  pub coterie : part (8 + length h.cluster) (length h.coterie) text ≡ h.coterie
+  pub name : part (name_at h) (length h.name) text ≡ h.name
+  pub lines_fit : length lines ≤ length text
+  pub lines_are : drop (length text - length lines) text ≡ lines

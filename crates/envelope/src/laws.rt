@@ -1,6 +1,6 @@
 //! Laws: what is proved about headers and their lines.
 ghost use Rattle.std.specs.Prelude.{◌≡◌, ◌≤◌, ◌++◌, [], ℕ, List, length};
-ghost use Rattle.envelope.specs.Headers.{Head, HasLine, IsMessage, head_line};
+ghost use Rattle.envelope.specs.Headers.{ArePlaces, Head, HasLine, IsMessage, head_line};
 
 use crate::reading::read_header;
 
@@ -22,3 +22,8 @@ pub fn a_message_has_one_header(message: &[u8])
 {
     let _ = read_header(message);
 }
+
+/// In a message the names of the header are where the calls for C say, and so are the lines behind it.
+pub fn names_have_places()
+    ensures { (text : List ℕ) (h : Head) (ignored lines : List ℕ) → IsMessage text h ignored lines → ArePlaces text h lines }
+{}
