@@ -1,4 +1,5 @@
 pub mod Bytes
 pub mod ClockSteps
+pub mod HeaderSteps
 pub mod Numbers
 pub mod RowSteps
