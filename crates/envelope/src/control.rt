@@ -1,4 +1,6 @@
 //! Lines of control: what sessions of clients and voters say to each other about sessions.
+ghost use Rattle.std.specs.Prelude.{IsTrue, ◌↔◌};
+ghost use Rattle.envelope.specs.Control.{ClientWordFits, OpenedFits, SaysFits, VoterWordFits};
 
 /// What a session of a client says.
 #[derive(Clone, Copy, Debug, PartialEq, Eq)]
@@ -51,7 +53,7 @@ pub enum VoterWord {
         /// Its newest epoch.
         epoch: u64,
         /// 0 if it is taken, 1 if it is free, 2 if its session is silent.
-        state: u8,
+        state: u64,
     },
     /// `claimed N EPOCH BASE RESERVED`: the number is the session's.
     Claimed {
@@ -127,4 +129,58 @@ pub enum VoterSays {
     Word(VoterWord),
     /// The reply to a heartbeat.
     Opened(Opened),
+}
+
+impl ClientWord {
+    /// Returns whether it has a line: its number is at most 63, and its epoch is not 0.
+    pub fn has_line(self) -> bool
+        ensures { IsTrue result ↔ ClientWordFits self }
+    {
+        match self {
+            ClientWord::Claim { number, epoch }
+            | ClientWord::ClaimStamps { number, epoch, .. }
+            | ClientWord::Drop { number, epoch } => number <= 63 && epoch > 0,
+            ClientWord::Hello
+            | ClientWord::Plan
+            | ClientWord::Open { .. }
+            | ClientWord::Close
+            | ClientWord::Greet => true,
+        }
+    }
+}
+
+impl VoterWord {
+    fn has_line(self) -> bool
+        ensures { IsTrue result ↔ VoterWordFits self }
+    {
+        match self {
+            VoterWord::Number { number, state, .. } => number <= 63 && state <= 2,
+            VoterWord::Claimed { number, .. }
+            | VoterWord::Refused { number, .. }
+            | VoterWord::Closed { number, .. }
+            | VoterWord::Taken { number, .. }
+            | VoterWord::Unknown { number, .. } => number <= 63,
+            VoterWord::Quiet { .. } | VoterWord::Leaving | VoterWord::Greeted => true,
+        }
+    }
+}
+
+impl Opened {
+    fn has_line(self) -> bool
+        ensures { IsTrue result ↔ OpenedFits self }
+    {
+        self.number <= 63
+    }
+}
+
+impl VoterSays {
+    /// Returns whether it has a line: its number is at most 63, and a state at most 2.
+    pub fn has_line(self) -> bool
+        ensures { IsTrue result ↔ SaysFits self }
+    {
+        match self {
+            VoterSays::Word(word) => word.has_line(),
+            VoterSays::Opened(opened) => opened.has_line(),
+        }
+    }
 }

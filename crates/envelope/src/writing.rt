@@ -14,10 +14,10 @@ use itoa::Buffer;
 pub const HEADER_ROOM: usize = 320;
 
 /// A line in a room of its own.
-type Room = ArrayVec<u8, HEADER_ROOM>;
+pub type Room = ArrayVec<u8, HEADER_ROOM>;
 
 /// Appends bytes.
-fn push(text: &mut Room, bytes: &[u8])
+pub fn push(text: &mut Room, bytes: &[u8])
     requires { array_vec_len text.old + length bytes.now ≤ 320 }
     ensures bytes { text.new.items ≡ text.old.items ++ bytes.now }
     ensures len { array_vec_len text.new ≡ array_vec_len text.old + length bytes.now }
@@ -26,7 +26,7 @@ fn push(text: &mut Room, bytes: &[u8])
 }
 
 /// Appends a space and a word.
-fn push_word(text: &mut Room, word: &[u8])
+pub fn push_word(text: &mut Room, word: &[u8])
     requires { array_vec_len text.old + 1 + length word.now ≤ 320 }
     ensures bytes { text.new.items ≡ text.old.items ++ (32 ∷ word.now) }
     ensures len { array_vec_len text.new ≡ array_vec_len text.old + 1 + length word.now }
@@ -36,7 +36,7 @@ fn push_word(text: &mut Room, word: &[u8])
 }
 
 /// Appends a space and a number in decimal, at most 21 bytes.
-fn push_number(text: &mut Room, number: u64)
+pub fn push_number(text: &mut Room, number: u64)
     requires { array_vec_len text.old + 21 ≤ 320 }
     ensures bytes { text.new.items ≡ text.old.items ++ (32 ∷ decimal number) }
     ensures len { array_vec_len text.new ≤ array_vec_len text.old + 21 }
