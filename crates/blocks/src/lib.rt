@@ -15,6 +15,7 @@
 #![tactic(auto)]
 
 pub mod clocks;
+pub mod control;
 pub mod headers;
 mod refusal;
 pub mod rows;

@@ -5,7 +5,7 @@ ghost use Rattle.texts.specs.Fields.{fields};
 ghost use Rattle.envelope.specs.Control.{client_line, client_numbers, client_word, control_line, opened_numbers, says_line, voter_numbers, voter_word};
 
 use crate::control::{ClientWord, Opened, VoterSays, VoterWord};
-use crate::writing::{HEADER_ROOM, Room, push, push_number};
+use crate::writing::{LINE_ROOM, Room, push, push_number};
 use arrayvec::ArrayVec;
 
 /// Returns the word of what a client says.
@@ -50,7 +50,7 @@ fn push_client_numbers(text: &mut Room, word: ClientWord)
 }
 
 /// Returns the line of what a client says, as it is in a message. The room is always enough.
-pub fn client_word_line(word: ClientWord) -> ArrayVec<u8, HEADER_ROOM>
+pub fn client_word_line(word: ClientWord) -> ArrayVec<u8, LINE_ROOM>
     ensures { result.items ≡ control_line (client_line word) }
 {
     let mut text = ArrayVec::new();
@@ -133,7 +133,7 @@ fn push_opened_numbers(text: &mut Room, opened: &Opened)
 }
 
 /// Returns the line of what a voter says, as it is in a message. The room is always enough.
-pub fn voter_says_line(says: VoterSays) -> ArrayVec<u8, HEADER_ROOM>
+pub fn voter_says_line(says: VoterSays) -> ArrayVec<u8, LINE_ROOM>
     ensures { result.items ≡ control_line (says_line says) }
 {
     let mut text = ArrayVec::new();

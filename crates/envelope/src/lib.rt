@@ -21,4 +21,4 @@ pub use laws::{a_message_has_one_header, headers_are_read_back, headers_fit, nam
 pub use places::name_at;
 pub use reading::{Envelope, MOST_HEADER, read_header};
 pub use voter_words::read_voter_says;
-pub use writing::{HEADER_ROOM, header_line};
+pub use writing::{LINE_ROOM, header_line};

@@ -10,11 +10,11 @@ use crate::header::{Header, Sender};
 use arrayvec::ArrayVec;
 use itoa::Buffer;
 
-/// The room that is enough for the line of any header.
-pub const HEADER_ROOM: usize = 320;
+/// The room that is enough for the line of any header, and for any line of control.
+pub const LINE_ROOM: usize = 320;
 
 /// A line in a room of its own.
-pub type Room = ArrayVec<u8, HEADER_ROOM>;
+pub type Room = ArrayVec<u8, LINE_ROOM>;
 
 /// Appends bytes.
 pub fn push(text: &mut Room, bytes: &[u8])
@@ -107,7 +107,7 @@ fn push_level(text: &mut Room, level: u64)
 }
 
 /// Returns the line of a header, with its newline. The room is always enough.
-pub fn header_line(header: &Header<'_>) -> ArrayVec<u8, HEADER_ROOM>
+pub fn header_line(header: &Header<'_>) -> ArrayVec<u8, LINE_ROOM>
     requires { HasLine (head_of header.now) }
     ensures { result.items ≡ head_line (head_of header.now) }
 {
