@@ -1,9 +1,10 @@
-//! The calls of headers of messages.
+//! The calls of headers of messages, and of lines of control.
 ghost use Rattle.std.specs.Prelude.{◌≡◌, ◌≢◌};
+ghost use Rattle.blocks.specs.ControlSteps.{ClientWordIsRead, VoterSaysIsRead, WritesClientWord, WritesVoterSays, client_of, says_of};
 ghost use Rattle.blocks.specs.HeaderSteps.{HeaderIsRead, WritesHeader, sender_of};
 ghost use Rattle.blocks.specs.Numbers.{done};
 
-use blocks::{Refusal, headers, number_of};
+use blocks::{Refusal, control, headers, number_of};
 use envelope::Header;
 
 /// Reads the header of a message, as 13 words: the kind of its sender (a letter), the number of a client or a
@@ -47,4 +48,65 @@ pub extern "C" fn qlock_header_write(
         level,
     };
     number_of(headers::write(&header, out, written))
+}
+
+/// Reads a line of control of a client, without the dot in front and the newline behind, as 4 words: its kind, the
+/// number of the client, and two more. A line that begins with no known word is 0, and three times 0.
+#[unsafe(no_mangle)]
+pub extern "C" fn qlock_client_word_read(line: &[u8], words: &mut [u64]) -> i32
+    ensures refused { result ≢ done → words.new ≡ words.old }
+    ensures read { ClientWordIsRead line.now words.old words.new result }
+{
+    number_of(control::read_client(line, words))
+}
+
+/// Writes a line of control of a client to the front of `out`, as it is in a message, and how many bytes it has.
+#[unsafe(no_mangle)]
+pub extern "C" fn qlock_client_word_write(
+    kind: u8,
+    id: u8,
+    first: u64,
+    second: u64,
+    out: &mut [u8],
+    written: &mut usize,
+) -> i32
+    ensures refused { result ≢ done → (out.new ≡ out.old) × (written.new ≡ written.old) }
+    ensures writes { WritesClientWord (client_of kind id first second) out.old out.new written.new result }
+{
+    match control::client_of(kind, id, first, second) {
+        Some(word) => number_of(control::write_client(word, out, written)),
+        None => number_of(Err(Refusal::BadArgument)),
+    }
+}
+
+/// Reads a line of control of a voter, without the dot in front and the newline behind, as 7 words: its kind, the
+/// number of the client, and five more.
+#[unsafe(no_mangle)]
+pub extern "C" fn qlock_voter_word_read(line: &[u8], words: &mut [u64]) -> i32
+    ensures refused { result ≢ done → words.new ≡ words.old }
+    ensures read { VoterSaysIsRead line.now words.old words.new result }
+{
+    number_of(control::read_voter(line, words))
+}
+
+/// Writes a line of control of a voter to the front of `out`, as it is in a message, and how many bytes it has.
+#[unsafe(no_mangle)]
+pub extern "C" fn qlock_voter_word_write(
+    kind: u8,
+    id: u8,
+    first: u64,
+    second: u64,
+    third: u64,
+    fourth: u64,
+    fifth: u64,
+    out: &mut [u8],
+    written: &mut usize,
+) -> i32
+    ensures refused { result ≢ done → (out.new ≡ out.old) × (written.new ≡ written.old) }
+    ensures writes { WritesVoterSays (says_of kind id first second third fourth fifth) out.old out.new written.new result }
+{
+    match control::says_of(kind, id, first, second, third, fourth, fifth) {
+        Some(says) => number_of(control::write_voter(says, out, written)),
+        None => number_of(Err(Refusal::BadArgument)),
+    }
 }
