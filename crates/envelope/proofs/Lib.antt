@@ -1,3 +1,4 @@
+pub mod ControlLemmas
 pub mod HeadLemmas
 pub mod LevelLemmas
 pub mod LineLemmas

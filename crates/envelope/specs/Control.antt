@@ -3,7 +3,7 @@
 use Rattle.std.specs.Prelude.{ℕ, ◌≡◌, ◌≢◌, ◌<◌, ◌≤◌, ◌^◌, ◌==◌, List, [], ◌∷◌, ◌++◌, codes, length, Option, Some, None, if◌then◌else◌}
 use Rattle.std.specs.Str.{bytes_eq}
 use Rattle.std.proofs.Common.{ap₂, sym, ◌∙◌, refl, get_or, arith, rules}
-use Rattle.texts.specs.Fields.{AllFit, IsBorder, fields}
+use Rattle.texts.specs.Fields.{AllFit, HasNoSpace, IsBorder, fields}
 use Rattle.texts.specs.Forms.{Form, IsForm, IsWord, line_of}
 use Rattle.envelope.specs.declared.control.ClientWord.{ClientWord}
 use Rattle.envelope.specs.declared.control.ClientWord.TheVariants as client
@@ -53,9 +53,15 @@ client_form = record { word = client_word; numbers = client_numbers; fits = Clie
 abbrev pub client_line : ClientWord → List ℕ
 client_line w = line_of client_form w
 
--- the line begins with no word that clients say: who does not know its word ignores it
-abbrev pub IsUnknown : List ℕ → Type 0
-IsUnknown line = (w : ClientWord) (rest : List ℕ) → IsBorder rest → line ≢ client_word w ++ rest
+-- the line begins with a word, and clients say nothing that begins so: who does not know the word ignores the line
+pub record IsUnknown (line : List ℕ) : Type 0 where
+  pub word : List ℕ
+  pub rest : List ℕ
+  pub is : line ≡ word ++ rest
+  pub plain : HasNoSpace word
+  pub border : IsBorder rest
+  pub some : 0 < length word
+  pub none : (w : ClientWord) → word ≢ client_word w
 
 -- What voters say
 

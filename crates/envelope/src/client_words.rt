@@ -92,10 +92,15 @@ impl Line for ClientWord {
 pub fn read_client_word(line: &[u8]) -> Option<ClientWord>
     // What is read has this line.
     ensures written { IfSome result (λ w. ClientWordFits w × (line.now ≡ client_line w)) }
+    // It begins with a word that clients say.
+    ensures known { IfSome result (λ _. IsUnknown line.now → ⊥) }
     // The line of each word is read.
     ensures read { (w : ClientWord) → ClientWordFits w → line.now ≡ client_line w → result ≡ Some w }
 {
-    read_line::<ClientWord>(line)
+    match read_line::<ClientWord>(line) {
+        Some(word) => Some(word),
+        None => None,
+    }
 }
 
 /// Returns something that begins with this word, or `None` if nothing does that clients say.
@@ -120,11 +125,15 @@ fn example_of(word: &[u8]) -> Option<ClientWord>
     }
 }
 
-/// Returns whether a line begins with no word that clients say. Who does not know its word ignores it.
+/// Returns whether a line begins with a word, and clients say nothing that begins so. Who does not know
+/// the word ignores the line.
 pub fn is_unknown(line: &[u8]) -> bool
     ensures { IsTrue result ↔ IsUnknown line.now }
 {
     let (word, _rest) = cut(line);
+    if word.is_empty() {
+        return false;
+    }
     match example_of(word) {
         Some(_) => false,
         None => true,
