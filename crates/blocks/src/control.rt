@@ -191,11 +191,7 @@ pub fn read_voter(line: &[u8], words: &mut [u64]) -> Result<(), Refusal>
 }
 
 /// Writes a line of control of a client to the front of `out`, and how many bytes it has.
-pub fn write_client(
-    word: ClientWord,
-    out: &mut [u8],
-    written: &mut usize,
-) -> Result<(), Refusal>
+pub fn write_client(word: ClientWord, out: &mut [u8], written: &mut usize) -> Result<(), Refusal>
     ensures writes { WritesLine (ClientWordFits word) (control_line (client_line word)) out.old out.new written.new (returned result) }
     ensures refused { OnErr result ((out.new ≡ out.old) × (written.new ≡ written.old)) }
 {

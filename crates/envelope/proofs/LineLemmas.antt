@@ -1,5 +1,5 @@
 -- The line of a header is its words one after the other.
-use Rattle.std.proofs.Common.{◌≡◌, ◌<◌, ◌≤◌, ◌+◌, ◌^◌, ℕ, List, [], ◌∷◌, ◌++◌, length, inl, inr, refl, ap, ◌∙◌, append_assoc, length-append, arith, rules}
+use Rattle.std.proofs.Common.{◌≡◌, ◌<◌, ◌≤◌, ◌+◌, ◌^◌, ℕ, List, [], ◌∷◌, ◌++◌, length, inl, inr, refl, ap, append_assoc, length-append, arith, rules}
 use Rattle.std.specs.Prelude.{codes}
 use Rattle.std.specs.List.{AllByRecursion}
 use Rattle.std.specs.Fmt.{decimal}
@@ -23,14 +23,17 @@ pub built : (a b c d e f g start cluster coterie : List ℕ) (sender level : Lis
     → d ≡ c ++ (32 ∷ coterie) → e ≡ d ++ spaced sender [] → f ≡ e ++ spaced level [] → g ≡ f ++ 10 ∷ []
     → g ≡ start ++ spaced (cluster ∷ coterie ∷ []) (spaced sender (spaced level (10 ∷ [])))
 built a b c d e f g start cluster coterie sender level ha hb hc hd he hf hg =
-    rw (hg, hf, he, hd, hc, hb, ha, spaced_then sender (spaced level (10 ∷ [])), spaced_then level (10 ∷ [])) 
+    rw (hg, hf, he, hd, hc, hb, ha, spaced_then sender (spaced level (10 ∷ [])), spaced_then level (10 ∷ []))
     (chain start (32 ∷ cluster) (32 ∷ coterie) (spaced sender []) (spaced level []) (10 ∷ []))
 
 -- the header's words, and what is behind them
 pub head_then_rest : (h : Head) (rest : List ℕ) → head_then h rest ≡ head_then h [] ++ rest
 head_then_rest h rest =
-    rw (spaced_then (level_words h.level) rest, spaced_then (sender_words h.sender h.name) (spaced (level_words h.level) [] ++ rest),
-    spaced_then (sender_words h.sender h.name) (spaced (level_words h.level) []))
+    rw (
+      spaced_then (level_words h.level) rest,
+      spaced_then (sender_words h.sender h.name) (spaced (level_words h.level) [] ++ rest),
+      spaced_then (sender_words h.sender h.name) (spaced (level_words h.level) []),
+    )
     (pieces (codes "qlock2") (32 ∷ h.cluster) (32 ∷ h.coterie) (spaced (sender_words h.sender h.name) []) (spaced (level_words h.level) []) rest)
   where
     pieces : (q a b s l n : List ℕ) → q ++ (a ++ (b ++ (s ++ (l ++ n)))) ≡ (q ++ (a ++ (b ++ (s ++ l)))) ++ n

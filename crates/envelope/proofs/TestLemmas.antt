@@ -1,5 +1,5 @@
 -- Tests that failed or passed.
-use Rattle.std.proofs.Common.{◌≡◌, ◌↔◌, Bool, true, false, ◌∙◌, sym}
+use Rattle.std.proofs.Common.{◌≡◌, ◌↔◌, Bool, true, false}
 use Rattle.std.specs.Prelude.{IsTrue}
 
 pub fails : {P : Type 0} (b : Bool) → (IsTrue b ↔ P) → b ≡ false → P → ⊥

@@ -138,7 +138,7 @@ client_by word ns =
     if bytes_eq word (codes "open") then Some (client.Open (get_or ns 0 0)) else
     if bytes_eq word (codes "close") then Some client.Close else
     if bytes_eq word (codes "claim") then
-      (if length ns == 2 then Some (client.Claim (get_or ns 0 0) (get_or ns 1 0)) else Some (client.ClaimStamps (get_or ns 0 0) (get_or ns 1 0) (get_or ns 2 0))) else
+    (if length ns == 2 then Some (client.Claim (get_or ns 0 0) (get_or ns 1 0)) else Some (client.ClaimStamps (get_or ns 0 0) (get_or ns 1 0) (get_or ns 2 0))) else
     if bytes_eq word (codes "drop") then Some (client.Drop (get_or ns 0 0) (get_or ns 1 0)) else
     if bytes_eq word (codes "greet") then Some client.Greet else None
 

@@ -37,7 +37,10 @@ pub fn name_at(header: &Header<'_>) -> usize
             ..
         } => len_of_three(number, epoch, reserved),
         Sender::Voter {
-            number, run, start, ..
+            number,
+            run,
+            start,
+            ..
         } => len_of_three(number, run, start),
         Sender::Operator => 0,
     };

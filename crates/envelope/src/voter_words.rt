@@ -74,13 +74,7 @@ fn with_state(word: &[u8], number: u64, epoch: u64, state: u64) -> Option<VoterW
 }
 
 /// Returns what has a number, an epoch, a base and a reserved stamp: `claimed`.
-fn with_stamps(
-    word: &[u8],
-    number: u64,
-    epoch: u64,
-    base: u64,
-    reserved: u64,
-) -> Option<VoterWord>
+fn with_stamps(word: &[u8], number: u64, epoch: u64, base: u64, reserved: u64) -> Option<VoterWord>
     ensures written { IfSome result (λ w. IsLineOf voter_form w word.now (number ∷ epoch ∷ base ∷ reserved ∷ [])) }
     ensures read { (w : VoterWord) → IsLineOf voter_form w word.now (number ∷ epoch ∷ base ∷ reserved ∷ []) → result ≡ Some w }
 {

@@ -85,7 +85,7 @@ pub fn numbers(bytes: &[u8]) -> Option<(Counts, &[u8], &[u8])>
     ensures read { (n a b d : ℕ) (w rest : List ℕ) → n ≤ 63 → a < 2 ^ 64 → b < 2 ^ 64 → d < 2 ^ 64 → IsName w → IsBorder rest
         → bytes.now ≡ spaced (decimal n ∷ decimal a ∷ decimal b ∷ w ∷ decimal d ∷ []) rest
         → MatchOption result ⊥ (λ x. (x.0.id ≡ n) × (x.0.first ≡ a) × (x.0.second ≡ b) × (x.1.now ≡ w) × (x.0.third ≡ d)
-            × (x.2.now ≡ rest)) }
+        × (x.2.now ≡ rest)) }
 {
     let Some((id, rest)) = id(bytes) else {
         return None;

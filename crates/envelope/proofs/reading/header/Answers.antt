@@ -1,10 +1,10 @@
-use Rattle.std.proofs.Common.{◌≡◌, ◌++◌, ◌∷◌, [], ◌∙◌, sym, refl, ℕ, List, rules}
+use Rattle.std.proofs.Common.{◌∷◌, [], refl, rules}
 use Rattle.std.specs.Prelude.{codes}
 use Rattle.envelope.specs.Headers.{level_words, sender_words, spaced}
 use Rattle.envelope.proofs.HeadLemmas.{same_head}
 use Rattle.envelope.proofs.LevelLemmas.{IsBorder-level}
 use Rattle.envelope.proofs.SenderLemmas.{IsBorder-sender}
-use Rattle.envelope.proofs.TestLemmas.{fails, passes}
+use Rattle.envelope.proofs.TestLemmas.{fails}
 use Rattle.envelope.proofs.reading.header.Goals as goal
 
 pub returns-then-not-is-clause-read : goal.returns-then-not-is-clause-read
@@ -51,6 +51,8 @@ returns-clause-read c h rest fits others e =
     let first = c.in-Some.ensures.read h.cluster (spaced (h.coterie ∷ []) tail) fits.cluster refl start.1 in
     let second = c.in-Some-name.ensures.read h.coterie tail fits.coterie (IsBorder-sender h.sender h.name last) first.1 in
     let third = c.in-Some-sender.ensures.read h.sender h.name last fits.numbers fits.name (IsBorder-level h.level rest others) second.1 in
-    let fourth = c.in-Some-level.ensures.read h.level rest fits.level others third.2 in
-    (same_head h c.in-Some.cluster.now c.in-Some-name.coterie.now c.in-Some-sender.name.now c.in-Some-sender.sender c.in-Some-level.level first.0 second.0
-    third.0 third.1 fourth.0, fourth.1)
+    let fourth = c.in-Some-level.ensures.read h.level rest fits.level others third.2 in (
+      same_head h c.in-Some.cluster.now c.in-Some-name.coterie.now c.in-Some-sender.name.now c.in-Some-sender.sender c.in-Some-level.level first.0 second.0
+          third.0 third.1 fourth.0,
+      fourth.1,
+    )

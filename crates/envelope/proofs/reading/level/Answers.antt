@@ -33,10 +33,10 @@ returns-in_default-number-clause-read c n rest small others e =
     let key = passes c.is.result c.is.ensures c.if-not-is.false in
     elim (level_cases n c.args.bytes.now rest others e) [
       | inl h ↦ elim h.cases [
-          | inl none ↦ let no = sym none ∙ c.in-Some.ensures.written in cc
-          | inr o ↦ not_level c.in-Some.first.now o.word c.in-Some-cut_at.key.now c.in-Some-cut_at.value.now
-              (c.in-Some.ensures.read o.word o.more o.ignored.0 o.border o.is).0 o.ignored c.in-Some-cut_at.ensures key
-        ]
+        | inl none ↦ let no = sym none ∙ c.in-Some.ensures.written in cc
+        | inr o ↦ not_level c.in-Some.first.now o.word c.in-Some-cut_at.key.now c.in-Some-cut_at.value.now
+            (c.in-Some.ensures.read o.word o.more o.ignored.0 o.border o.is).0 o.ignored c.in-Some-cut_at.ensures key
+      ]
       | inr h ↦ let same = sym c.in_default-number.is ∙ c.number.ensures.read n small (cut_of_level n c.in-Some.first.now c.in-Some-cut_at.key.now c.in-Some-cut_at.value.now
           (c.in-Some.ensures.read (codes "level=" ++ decimal n) rest (level_word_plain n small) h.border h.is).0 c.in-Some-cut_at.ensures).1 in
           cc
@@ -47,10 +47,10 @@ returns-then-level-eq0-clause-read c n rest small others e =
     let key = passes c.is.result c.is.ensures c.if-not-is.false in
     elim (level_cases n c.args.bytes.now rest others e) [
       | inl h ↦ elim h.cases [
-          | inl none ↦ let no = sym none ∙ c.in-Some.ensures.written in cc
-          | inr o ↦ not_level c.in-Some.first.now o.word c.in-Some-cut_at.key.now c.in-Some-cut_at.value.now
-              (c.in-Some.ensures.read o.word o.more o.ignored.0 o.border o.is).0 o.ignored c.in-Some-cut_at.ensures key
-        ]
+        | inl none ↦ let no = sym none ∙ c.in-Some.ensures.written in cc
+        | inr o ↦ not_level c.in-Some.first.now o.word c.in-Some-cut_at.key.now c.in-Some-cut_at.value.now
+            (c.in-Some.ensures.read o.word o.more o.ignored.0 o.border o.is).0 o.ignored c.in-Some-cut_at.ensures key
+      ]
       | inr h ↦
           let same = sym c.in-Some-number.is ∙ c.number.ensures.read n small (cut_of_level n c.in-Some.first.now c.in-Some-cut_at.key.now c.in-Some-cut_at.value.now
           (c.in-Some.ensures.read (codes "level=" ++ decimal n) rest (level_word_plain n small) h.border h.is).0 c.in-Some-cut_at.ensures).1 in
@@ -64,10 +64,10 @@ returns-clause-read c n rest small others e =
     let key = passes c.is.result c.is.ensures c.if-not-is.false in
     elim (level_cases n c.args.bytes.now rest others e) [
       | inl h ↦ absurd (elim h.cases [
-          | inl none ↦ let no = sym none ∙ c.in-Some.ensures.written in cc
-          | inr o ↦ not_level c.in-Some.first.now o.word c.in-Some-cut_at.key.now c.in-Some-cut_at.value.now
-              (c.in-Some.ensures.read o.word o.more o.ignored.0 o.border o.is).0 o.ignored c.in-Some-cut_at.ensures key
-        ])
+        | inl none ↦ let no = sym none ∙ c.in-Some.ensures.written in cc
+        | inr o ↦ not_level c.in-Some.first.now o.word c.in-Some-cut_at.key.now c.in-Some-cut_at.value.now
+            (c.in-Some.ensures.read o.word o.more o.ignored.0 o.border o.is).0 o.ignored c.in-Some-cut_at.ensures key
+      ])
       | inr h ↦
           let parts = c.in-Some.ensures.read (codes "level=" ++ decimal n) rest (level_word_plain n small) h.border h.is in
           let same = sym c.in-Some-number.is ∙ c.number.ensures.read n small (cut_of_level n c.in-Some.first.now c.in-Some-cut_at.key.now c.in-Some-cut_at.value.now

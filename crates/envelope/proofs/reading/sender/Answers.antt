@@ -1,4 +1,4 @@
-use Rattle.std.proofs.Common.{◌∙◌, sym}
+use Rattle.std.proofs.Common.{◌∙◌}
 use Rattle.envelope.proofs.SenderLemmas.{behind, kind_of, one_kind, parts}
 use Rattle.envelope.proofs.TestLemmas.{fails}
 use Rattle.envelope.proofs.reading.sender.Goals as goal

@@ -1,9 +1,8 @@
-use Rattle.std.proofs.Common.{◌≡◌, None, Some, Option, rules, refl}
+use Rattle.std.proofs.Common.{rules}
 use Rattle.std.specs.Prelude.{codes}
 use Rattle.texts.specs.Fields.{fields}
 use Rattle.texts.proofs.FieldLemmas.{IsBorder-fields}
-use Rattle.envelope.specs.Control.{SaysFits, opened_numbers, says_line}
-use Rattle.envelope.specs.declared.control.VoterSays.{VoterSays}
+use Rattle.envelope.specs.Control.{opened_numbers}
 use Rattle.envelope.specs.declared.control.VoterSays.TheVariants as says
 use Rattle.envelope.proofs.TestLemmas.{fails}
 use Rattle.envelope.proofs.voter_words.read_voter_says.Goals as goal
