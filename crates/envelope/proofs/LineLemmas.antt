@@ -39,11 +39,11 @@ head_then_rest h rest =
     pieces : (q a b s l n : List ℕ) → q ++ (a ++ (b ++ (s ++ (l ++ n)))) ≡ (q ++ (a ++ (b ++ (s ++ l)))) ++ n
     pieces q a b s l n = simp append_assoc refl
 
-Lacks-spaced : (words : List (List ℕ)) (rest : List ℕ) → AllByRecursion (Lacks 10) words → Lacks 10 rest → Lacks 10 (spaced words rest)
+pub Lacks-spaced : (words : List (List ℕ)) (rest : List ℕ) → AllByRecursion (Lacks 10) words → Lacks 10 rest → Lacks 10 (spaced words rest)
 Lacks-spaced [] rest all h = h
 Lacks-spaced (w ∷ ws) rest all h = Lacks-append 10 (32 ∷ w) (spaced ws rest) (refl, all.0) (Lacks-spaced ws rest all.1 h)
 
-number_lacks : (n : ℕ) → n < 2 ^ 64 → Lacks 10 (decimal n)
+pub number_lacks : (n : ℕ) → n < 2 ^ 64 → Lacks 10 (decimal n)
 number_lacks n small = Lacks-decimal 10 n (omega arith) small
 
 sender_lacks : (s : Sender) (name : List ℕ) → NumbersFit s → IsName name → AllByRecursion (Lacks 10) (sender_words s name)

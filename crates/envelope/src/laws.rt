@@ -1,5 +1,9 @@
 //! Laws: what is proved about headers and their lines.
-ghost use Rattle.std.specs.Prelude.{◌≡◌, ◌≤◌, ◌++◌, [], ℕ, List, length};
+ghost use Rattle.std.specs.Prelude.{◌≡◌, ◌≤◌, ◌++◌, [], codes, ℕ, List, Some, length};
+ghost use Rattle.texts.specs.Cuts.{cut_at};
+ghost use Rattle.envelope.specs.Control.{ClientWordFits, SaysFits, client_line, control_line, says_line};
+ghost use Rattle.envelope.specs.declared.control.ClientWord.{ClientWord};
+ghost use Rattle.envelope.specs.declared.control.VoterSays.{VoterSays};
 ghost use Rattle.envelope.specs.Headers.{ArePlaces, Head, HasLine, IsMessage, head_line};
 
 use crate::reading::read_header;
@@ -26,4 +30,13 @@ pub fn a_message_has_one_header(message: &[u8])
 /// In a message the names of the header are where the calls for C say, and so are the lines behind it.
 pub fn names_have_places()
     ensures { (text : List ℕ) (h : Head) (ignored lines : List ℕ) → IsMessage text h ignored lines → ArePlaces text h lines }
+{}
+
+/// A text that begins with a line of control is cut at its first newline into a dot, a space and the words
+/// of the line, and what is behind it. So what is written in front of any lines is read back.
+pub fn control_lines_are_cut()
+    ensures clients { (w : ClientWord) (rest : List ℕ) → ClientWordFits w
+        → cut_at 10 (control_line (client_line w) ++ rest) ≡ Some (codes ". " ++ client_line w, rest) }
+    ensures voters { (s : VoterSays) (rest : List ℕ) → SaysFits s
+        → cut_at 10 (control_line (says_line s) ++ rest) ≡ Some (codes ". " ++ says_line s, rest) }
 {}

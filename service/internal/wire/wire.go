@@ -5,8 +5,14 @@
 //	qlock2 CLUSTER COTERIE v NUMBER RUN START IDENTITY LAPSES      from a voter
 //	qlock2 CLUSTER COTERIE o NAME                                  from an operator: the name of a question
 //
-// Behind these there may be words KEY=VALUE, as level=1 of clients and voters (package level). Who does not know a key
-// ignores it, and so it is with words of control. COTERIE is a part of
+// Behind these there may be level=LEVEL of clients and voters (package level), and then words KEY=VALUE. Who does not know a key
+// ignores it, and so it is with words of control. There is one space between two words, and no number has a leading zero. The
+// names CLUSTER, COTERIE, SESSION, IDENTITY and NAME are 1 to 64 of A-Z a-z 0-9 _ -
+//
+// The header, and lines of control that have numbers only, are read and written by proved calls of libqlock (package qlock): each
+// is read if and only if it is there, and what is written is read back. Mailboxes, how a message is cut into lines, and
+// lines of control with the name of a lock or with a text ("gone", "full", "held", "generation", "plan" of a voter, "marker") are not
+// proved. COTERIE is a part of
 // the SHA-256 of the TTL, the coterie, and how often the plan was exchanged. RUN is how often the
 // voter was made again after its state was lost, and START how often its process started. LAPSES
 // counts how often the voter let a grant of the session go since it was silent. Lines of control,
