@@ -1,5 +1,6 @@
-/* qlock.h: the voter and the client of the voting lock, the guard of what the lock protects, and of a voter
-   the row of a client's number, a lock with the rows that may speak about it, and the lease clock.
+/* qlock.h: the voter and the client of the voting lock, the guard of what the lock protects; of a voter the row of a client's number,
+   a lock with the rows that may speak about it, and the lease clock; and the headers and the lines of control of a service's
+   messages.
 
    A voter, a client, a guard, a row or a lease clock is a block of bytes of the caller's, its state. A call reads the state, and writes the new one
    in its place. There are no other objects: nothing to free, no memory from malloc, no global, and calls on different states
@@ -58,6 +59,14 @@ uint32_t qlock_version(void);
 #define QLOCK_VOTER_OUT 240
 #define QLOCK_CLIENT_OUT 4864
 
+/* How many words a header has that was read, a line of control of a client, and one of a voter. */
+#define QLOCK_HEADER_WORDS 13
+#define QLOCK_CLIENT_WORDS 4
+#define QLOCK_VOTER_WORDS 7
+
+/* The room that is always enough for the line of a header, and for a line of control. */
+#define QLOCK_LINE_OUT 320
+
 /* There are at most 64 voters and 64 clients, numbered from 0. */
 #define QLOCK_MAX_VOTERS 64
 #define QLOCK_MAX_CLIENTS 64
@@ -70,7 +79,7 @@ enum {
     QLOCK_DONE = 0,
     QLOCK_BAD_ARGUMENT = 1, /* a number or the length of a pass is out of range, the mask of a quorum is 0, or there are none */
     QLOCK_BAD_STATE = 2,    /* the bytes are no saved voter, client, guard, row or lease clock, or not as many as it has */
-    QLOCK_BAD_MESSAGE = 3,  /* the line is no message to this voter or client */
+    QLOCK_BAD_MESSAGE = 3,  /* the line is no message to this voter or client, or the bytes begin with no header, or are no line of control */
     QLOCK_NO_ROOM = 4,      /* `out` is too short for the lines */
     QLOCK_BUSY = 5,         /* C1: the client is asking already, or is inside */
     QLOCK_NOT_INSIDE = 6,   /* C2: the client is not inside */
@@ -92,6 +101,50 @@ enum {
     QLOCK_IDLE = 0,   /* it wants nothing */
     QLOCK_ASKING = 1, /* it asked a quorum, and waits for votes */
     QLOCK_INSIDE = 2  /* it has the vote of each member of its quorum: it has the lock */
+};
+
+/* The places of the words of a header. A name is at its place in the message, `.._LEN` bytes long. */
+enum {
+    QLOCK_HEADER_KIND = 0,    /* who sends it: a client 'c', a voter 'v', or an operator 'o' */
+    QLOCK_HEADER_NUMBER = 1,  /* of a client or a voter, 0 to 63; this and the next three are 0 of an operator */
+    QLOCK_HEADER_FIRST = 2,   /* the epoch of a client's session; the run of a voter */
+    QLOCK_HEADER_SECOND = 3,  /* what a session has reserved; the start of a voter */
+    QLOCK_HEADER_THIRD = 4,   /* which message of a session it is; the lapses of a voter */
+    QLOCK_HEADER_LEVEL = 5,   /* 0 if the header says none */
+    QLOCK_HEADER_CLUSTER = 6, /* where the cluster's name is */
+    QLOCK_HEADER_CLUSTER_LEN = 7,
+    QLOCK_HEADER_COTERIE = 8, /* where the mark of its coterie is */
+    QLOCK_HEADER_COTERIE_LEN = 9,
+    QLOCK_HEADER_NAME = 10,   /* where the name of the session or of the question, or the voter's identity is */
+    QLOCK_HEADER_NAME_LEN = 11,
+    QLOCK_HEADER_LINES = 12   /* where the lines behind the header begin */
+};
+
+/* What a client says in a line of control: its kind, the number of a client, and two words. */
+enum {
+    QLOCK_SAYS_UNKNOWN = 0, /* a line of which the first word is none of these: ignore it */
+    QLOCK_HELLO = 1,        /* hello */
+    QLOCK_PLAN = 2,         /* plan */
+    QLOCK_OPEN = 3,         /* open FIRST: the oldest plan of which the session has a request */
+    QLOCK_CLOSE = 4,        /* close */
+    QLOCK_CLAIM = 5,        /* claim NUMBER FIRST: an epoch, from 1 */
+    QLOCK_CLAIM_STAMPS = 6, /* claim NUMBER FIRST SECOND: an epoch, from 1, and how many stamps */
+    QLOCK_DROP = 7,         /* drop NUMBER FIRST: an epoch, from 1 */
+    QLOCK_GREET = 8         /* greet */
+};
+
+/* What a voter says in a line of control: its kind, the number of a client, and five words. FIRST is an epoch, except of `quiet`. */
+enum {
+    QLOCK_NUMBER = 1,   /* number NUMBER FIRST SECOND: 0 taken, 1 free, 2 silent */
+    QLOCK_CLAIMED = 2,  /* claimed NUMBER FIRST SECOND THIRD: the base, and what is reserved */
+    QLOCK_DENIED = 3,   /* refused NUMBER FIRST */
+    QLOCK_OPENED = 4,   /* opened NUMBER FIRST SECOND THIRD FOURTH FIFTH: the base, what is reserved, which heartbeat, how many requests */
+    QLOCK_CLOSED = 5,   /* closed NUMBER FIRST */
+    QLOCK_TAKEN = 6,    /* taken NUMBER FIRST */
+    QLOCK_UNKNOWN = 7,  /* unknown NUMBER FIRST */
+    QLOCK_QUIET = 8,    /* quiet FIRST: for how many milliseconds */
+    QLOCK_LEAVING = 9,  /* leaving */
+    QLOCK_GREETED = 10  /* greeted */
 };
 
 /* ---- A voter: it has one vote, and grants it to one client at a time. `n` is always QLOCK_VOTER_BYTES. */
@@ -532,6 +585,61 @@ int32_t qlock_clock_shows(const uint8_t *clock, size_t n, uint64_t *reading, uin
 
    QLOCK_BAD_STATE  the bytes are no lease clock */
 int32_t qlock_clock_is_silent(const uint8_t *clock, size_t n, uint64_t heard, uint64_t ttl, uint32_t *yes);
+
+/* ---- Messages of a lock service: a header line, and lines of locks, `LOCK LINE`, or of control, `. WORDS`.
+
+   The header's line is one of
+
+       qlock2 CLUSTER COTERIE c NUMBER EPOCH RESERVED SESSION SEQ     from a client's session
+       qlock2 CLUSTER COTERIE v NUMBER RUN START IDENTITY LAPSES      from a voter
+       qlock2 CLUSTER COTERIE o QUESTION                              from an operator
+
+   Behind these there is ` level=LEVEL` if the level is not 0, and then any number of words KEY=VALUE, which a reader ignores: their
+   key is not empty and not `level`. There is one space between two words. A number is in decimal, without a leading zero, and below 2
+   to the power of 64. The number of a client or a voter is at most 63. CLUSTER, COTERIE and the name have 1 to 64 bytes of A-Z a-z
+   0-9 _ -. The line has at most 512 bytes, without its newline. */
+
+/* Reads the header of a message, as QLOCK_HEADER_WORDS words.
+
+   QLOCK_BAD_ARGUMENT  `words` is not QLOCK_HEADER_WORDS
+   QLOCK_BAD_MESSAGE   the message begins with no header */
+int32_t qlock_header_read(const uint8_t *message, size_t n, uint64_t *header, size_t words);
+
+/* Writes the line of a header, with its newline and no ignored word, and how many bytes it has. `first`, `second` and `third` of an
+   operator say nothing, and neither does `number`.
+
+   QLOCK_BAD_ARGUMENT  `kind` is not 'c', 'v' or 'o', a name is no name, or the number of a client or a voter is above 63
+   QLOCK_NO_ROOM       `room` is too small; QLOCK_LINE_OUT is always enough */
+int32_t qlock_header_write(uint8_t kind, uint8_t number, uint64_t first, uint64_t second, uint64_t third, uint64_t level,
+                           const uint8_t *cluster, size_t cluster_len, const uint8_t *coterie, size_t coterie_len,
+                           const uint8_t *name, size_t name_len, uint8_t *out, size_t room, size_t *written);
+
+/* Reads a line of control of a client, without the dot and the space in front and without the newline, as QLOCK_CLIENT_WORDS words: its
+   kind, the number of a client, and two more. What it does not have is 0. If its first word is none of those above, the words are 0.
+
+   QLOCK_BAD_ARGUMENT  `n` is not QLOCK_CLIENT_WORDS
+   QLOCK_BAD_MESSAGE   the first word is known, and the line is wrong */
+int32_t qlock_client_word_read(const uint8_t *line, size_t len, uint64_t *words, size_t n);
+
+/* Writes a line of control of a client, with the dot and the space in front and with the newline, and how many bytes it has.
+
+   QLOCK_BAD_ARGUMENT  `kind` is none, `number` is above 63, or an epoch is 0, where the line has them
+   QLOCK_NO_ROOM       `room` is too small; QLOCK_LINE_OUT is always enough */
+int32_t qlock_client_word_write(uint8_t kind, uint8_t number, uint64_t first, uint64_t second, uint8_t *out, size_t room, size_t *written);
+
+/* Reads a line of control of a voter, as qlock_client_word_read does, as QLOCK_VOTER_WORDS words: its kind, the number of a client, and
+   five more.
+
+   QLOCK_BAD_ARGUMENT  `n` is not QLOCK_VOTER_WORDS
+   QLOCK_BAD_MESSAGE   the line is none of those above */
+int32_t qlock_voter_word_read(const uint8_t *line, size_t len, uint64_t *words, size_t n);
+
+/* Writes a line of control of a voter, as qlock_client_word_write does.
+
+   QLOCK_BAD_ARGUMENT  `kind` is none, or `number` is above 63 or a state above 2, where the line has them
+   QLOCK_NO_ROOM       `room` is too small; QLOCK_LINE_OUT is always enough */
+int32_t qlock_voter_word_write(uint8_t kind, uint8_t number, uint64_t first, uint64_t second, uint64_t third, uint64_t fourth,
+                               uint64_t fifth, uint8_t *out, size_t room, size_t *written);
 
 #ifdef __cplusplus
 }

@@ -248,6 +248,111 @@ static void one_quorum(void) {
     end(&second, 0, result);
 }
 
+/* the words of a call, which are numbers of 64 bits: mostly as many as it writes */
+static struct block words_of(size_t n) { return block_of(8 * (below(8) ? n : below(20))); }
+
+static uint64_t word(const struct block *words, size_t place) {
+    uint64_t it;
+    memcpy(&it, words->bytes + 8 * place, 8);
+    return it;
+}
+
+/* the header of a message, maybe with a fault, and lines behind it */
+static struct block message_of(void) {
+    static const char *ends[] = {"", " level=7", " level=0", " caps=a,b", " level=18446744073709551615 x==", " x=1 level=2", "  ", " y"};
+    char text[700];
+    const char *end = ends[below(8)], *lines = below(4) ? "\norders request 1 0 2\n" : below(2) ? "\n" : "";
+    int n;
+    if (below(16) == 0) return block_of(below(600));
+    if (below(3) == 0)
+        n = snprintf(text, sizeof text, "qlock2 prod 0a1b o question%s%s", end, lines);
+    else
+        n = snprintf(text, sizeof text, "qlock2 %s 0a1b %c %u %llu %llu id-%0*u %llu%s%s", below(8) ? "prod" : "p.d", below(2) ? 'c' : 'v',
+                     (unsigned)below(66), (unsigned long long)number(), (unsigned long long)number(), (int)below(70), 7u,
+                     (unsigned long long)number(), end, lines);
+    struct block b = copy_of((uint8_t *)text, (size_t)n);
+    if (below(4) == 0) spoil(&b);
+    return b;
+}
+
+/* a part of a header is in its first line */
+static void is_part(const struct block *words, size_t place, const struct block *message, int32_t result) {
+    uint64_t at = word(words, place), len = word(words, place + 1), lines = word(words, QLOCK_HEADER_LINES);
+    if (len < 1 || len > 64 || at < 7 || lines > message->n || at + len >= lines) fail("a name is elsewhere", result);
+}
+
+/* the calls of headers: what was read is written as it was, but for ignored words */
+static void one_header(void) {
+    struct block message = message_of(), words = words_of(QLOCK_HEADER_WORDS), out = block_of(below(4) ? QLOCK_LINE_OUT : below(200));
+    size_t written = 7777;
+    note(&message), note(&words), note(&out);
+    call = "qlock_header_read";
+    int32_t result = qlock_header_read(message.bytes, message.n, (uint64_t *)(void *)words.bytes, words.n / 8);
+    is_named(result, "013");
+    if ((result == QLOCK_BAD_ARGUMENT) != (words.n != 8 * QLOCK_HEADER_WORDS)) fail("refused", result);
+    int is_read = result == QLOCK_DONE, is_written = 0;
+    if (is_read) {
+        const uint8_t *bytes = message.bytes;
+        is_part(&words, QLOCK_HEADER_CLUSTER, &message, result);
+        is_part(&words, QLOCK_HEADER_COTERIE, &message, result);
+        is_part(&words, QLOCK_HEADER_NAME, &message, result);
+        call = "qlock_header_write";
+        result = qlock_header_write((uint8_t)word(&words, 0), (uint8_t)word(&words, 1), word(&words, 2), word(&words, 3), word(&words, 4),
+                                    word(&words, 5), bytes + word(&words, 6), word(&words, 7), bytes + word(&words, 8), word(&words, 9),
+                                    bytes + word(&words, 10), word(&words, 11), out.bytes, out.n, &written);
+        is_named(result, "04");
+        is_written = result == QLOCK_DONE;
+        if (is_written && (written > message.n || memcmp(out.bytes, bytes, written - 1) != 0)) fail("another line", result);
+    }
+    if (is_written) are_lines(&out, written, result);
+    else if (written != 7777) fail("wrote a count", result);
+    end(&message, 0, result);
+    end(&words, is_read, result);
+    end(&out, is_written, result);
+}
+
+/* a line of control, maybe with a fault */
+static struct block control_of(void) {
+    static const char *said[] = {"hello", "plan", "open", "close", "claim", "drop", "greet", "number", "claimed", "refused", "opened", "closed",
+                                 "taken", "unknown", "quiet", "leaving", "greeted", "what"};
+    char text[200];
+    int n = snprintf(text, sizeof text, "%s", said[below(18)]);
+    for (size_t k = below(8); k > 0; k--) n += snprintf(text + n, sizeof text - (size_t)n, " %llu", (unsigned long long)number());
+    struct block b = copy_of((uint8_t *)text, (size_t)n);
+    if (below(8) == 0) spoil(&b);
+    return b;
+}
+
+/* the calls of lines of control: what was read is written as it was */
+static void one_control(void) {
+    int is_client = below(2) == 0;
+    size_t wanted = is_client ? QLOCK_CLIENT_WORDS : QLOCK_VOTER_WORDS, written = 7777;
+    struct block line = control_of(), words = words_of(wanted), out = block_of(below(4) ? QLOCK_LINE_OUT : below(40));
+    uint64_t *numbers = (uint64_t *)(void *)words.bytes;
+    note(&line), note(&words), note(&out);
+    call = is_client ? "qlock_client_word_read" : "qlock_voter_word_read";
+    int32_t result = is_client ? qlock_client_word_read(line.bytes, line.n, numbers, words.n / 8)
+                               : qlock_voter_word_read(line.bytes, line.n, numbers, words.n / 8);
+    is_named(result, "013");
+    if ((result == QLOCK_BAD_ARGUMENT) != (words.n != 8 * wanted)) fail("refused", result);
+    int is_read = result == QLOCK_DONE, is_written = 0;
+    if (is_read && word(&words, 0) != QLOCK_SAYS_UNKNOWN) {
+        call = is_client ? "qlock_client_word_write" : "qlock_voter_word_write";
+        result = is_client ? qlock_client_word_write((uint8_t)numbers[0], (uint8_t)numbers[1], numbers[2], numbers[3], out.bytes, out.n, &written)
+                           : qlock_voter_word_write((uint8_t)numbers[0], (uint8_t)numbers[1], numbers[2], numbers[3], numbers[4], numbers[5],
+                                                    numbers[6], out.bytes, out.n, &written);
+        is_named(result, "04");
+        is_written = result == QLOCK_DONE;
+        if (is_written && (written != line.n + 3 || memcmp(out.bytes, ". ", 2) != 0 || memcmp(out.bytes + 2, line.bytes, line.n) != 0))
+            fail("another line", result);
+    }
+    if (is_written) are_lines(&out, written, result);
+    else if (written != 7777) fail("wrote a count", result);
+    end(&line, 0, result);
+    end(&words, is_read, result);
+    end(&out, is_written, result);
+}
+
 static void one_call(void) {
     size_t written = 7777;
     int32_t entered = 7777, phase = 7777;
@@ -392,6 +497,8 @@ int main(int argc, char **argv) {
         one_call();
         if (i % 4 == 0) one_lease();
         if (i % 8 == 0) one_quorum();
+        if (i % 4 == 0) one_header();
+        if (i % 4 == 2) one_control();
     }
     if (done < calls / 5) fail("hardly a call was done, so this tried little", 0);
     printf("the boundary holds\n");

@@ -1,7 +1,6 @@
 package locks
 
 import (
-	"bytes"
 	"context"
 	"encoding/json"
 	"errors"
@@ -603,7 +602,7 @@ func TestWhatIsNoReplyToAClaim(t *testing.T) {
 		"opened 3 5 0 9 1 0": 0,
 		"taken 3 5":          0, "claimed": 0, "claimed x 5 0 0": 0, "claimed 3 5 70 77": 1 << 1} {
 		c.replied, c.used = 0, 0
-		c.control(1, bytes.Fields([]byte(line)))
+		c.control(1, []byte(line))
 		if c.replied != want || c.refused || want > 0 && c.used != 70 {
 			t.Errorf("%s: %b", line, c.replied)
 		}

@@ -148,7 +148,7 @@ func (c *Client) noteGeneration(voter int, newest uint64, mark string, oldest ui
 		c.end(ErrRetired)
 	case newest == c.generation+1 && c.next == nil && !c.isReading && time.Since(p.asked) > c.config.Heartbeat:
 		p.asked, p.awaited = time.Now(), true
-		c.out[voter] = append(c.out[voter], ". plan\n"...)
+		c.tell(voter, qlock.ClientSays{Kind: qlock.AskPlan})
 	case newest == c.generation && oldest == newest && mark == c.plan.mark && c.older != nil:
 		c.older = nil
 	}

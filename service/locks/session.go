@@ -176,7 +176,8 @@ func (c *Client) abandon() {
 	for v := range c.peers {
 		c.peers[v].sent = map[uint64]time.Duration{}
 		c.peers[v].forget()
-		c.out[v] = append(c.out[v][:0], fmt.Sprintf(". drop %d %d\n", c.asked, c.claimed)...)
+		c.out[v] = c.out[v][:0]
+		c.tell(v, qlock.ClientSays{Kind: qlock.Drop, Number: c.asked, First: c.claimed})
 	}
 	c.epochs[c.asked] = c.claimed
 	c.flush()
@@ -189,7 +190,7 @@ func (c *Client) choose(ctx context.Context) error {
 		for i := range c.states {
 			c.states[i] = 1
 		}
-		if err := c.rounds(ctx, func() { c.say("hello") }, c.isAnswered); err != nil {
+		if err := c.rounds(ctx, func() { c.say(qlock.ClientSays{Kind: qlock.Hello}) }, c.isAnswered); err != nil {
 			return err
 		}
 		for _, want := range []int{1, 2} {
@@ -220,8 +221,8 @@ func (c *Client) claim(ctx context.Context) error {
 	}
 	short, cancel := context.WithTimeout(ctx, brief)
 	defer cancel()
-	text := fmt.Sprintf("claim %d %d %d", c.asked, c.claimed, firstBlock)
-	if err := c.rounds(short, func() { c.say(text) }, func() bool { return c.refused || c.isAnswered() }); err != nil {
+	claim := qlock.ClientSays{Kind: qlock.ClaimStamps, Number: c.asked, First: c.claimed, Second: firstBlock}
+	if err := c.rounds(short, func() { c.say(claim) }, func() bool { return c.refused || c.isAnswered() }); err != nil {
 		return err
 	}
 	if !c.isAnswered() {
@@ -235,10 +236,19 @@ func (c *Client) claim(ctx context.Context) error {
 func (c *Client) isAnswered() bool { return c.hasQuorum(c.replied) }
 
 // say says a control line to all voters.
-func (c *Client) say(text string) {
+func (c *Client) say(says qlock.ClientSays) {
 	for v := range c.peers {
-		c.out[v] = append(c.out[v], ". "+text+"\n"...)
+		c.tell(v, says)
 	}
+}
+
+// tell says a control line to a voter.
+func (c *Client) tell(voter int, says qlock.ClientSays) {
+	out, err := says.Append(c.out[voter])
+	if err != nil {
+		panic(fmt.Sprintf("%+v has no line: %v", says, err))
+	}
+	c.out[voter] = out
 }
 
 // rounds says something again and again until it is done.
@@ -362,7 +372,7 @@ func (c *Client) heartbeat(now time.Time) {
 	default:
 		c.disclaim(now)
 	}
-	up, open := uptime(), fmt.Sprintf(". open %d\n", c.oldest())
+	up, open := uptime(), qlock.ClientSays{Kind: qlock.Open, First: c.oldest()}
 	for v := range c.peers {
 		p := &c.peers[v]
 		for seq, left := range p.sent {
@@ -374,12 +384,12 @@ func (c *Client) heartbeat(now time.Time) {
 			continue
 		}
 		p.sent[c.header.Seq] = up
-		c.out[v] = append(c.out[v], open...)
+		c.tell(v, open)
 		if level.Newest >= level.Greets && p.level >= level.Greets {
-			c.out[v] = append(c.out[v], ". greet\n"...)
+			c.tell(v, qlock.ClientSays{Kind: qlock.Greet})
 		}
 		if c.draining && p.drained {
-			c.out[v] = append(c.out[v], ". close\n"...)
+			c.tell(v, qlock.ClientSays{Kind: qlock.Close})
 		}
 	}
 }
@@ -471,7 +481,7 @@ func (c *Client) message(m transport.Message) {
 		}
 		lines = rest
 		if string(lock) == "." {
-			c.control(h.Number, bytes.Fields(line))
+			c.control(h.Number, line)
 		} else if wire.ReadLine(line).From == h.Number && c.header.Epoch > 0 && wire.IsName(lock) &&
 			!c.peers[h.Number].stale {
 			c.take(lock, line)
@@ -570,8 +580,13 @@ func (c *Client) spoilAll(voters uint64) {
 	}
 }
 
-// control takes a control line of a voter.
-func (c *Client) control(voter int, words [][]byte) {
+// control takes a control line of a voter: one with numbers only, or one with a name or a text.
+func (c *Client) control(voter int, line []byte) {
+	if says, err := qlock.ReadVoterSays(line); err == nil {
+		c.hear(voter, says)
+		return
+	}
+	words := bytes.Fields(line)
 	if len(words) == 3 && (string(words[0]) == "gone" || string(words[0]) == "full") {
 		if stamp, ok := wire.Decimal(words[2]); ok && string(words[0]) == "gone" {
 			c.gone(string(words[1]), stamp)
@@ -587,53 +602,35 @@ func (c *Client) control(voter int, words [][]byte) {
 		}
 		return
 	}
-	if len(words) == 1 && string(words[0]) == "leaving" {
+	c.controlPlans(voter, words)
+}
+
+// hear takes a control line of a voter that has numbers only.
+func (c *Client) hear(voter int, says qlock.VoterSays) {
+	mine := says.Number == c.header.Number && says.First == c.header.Epoch && c.header.Epoch > 0
+	switch says.Kind {
+	case qlock.Leaving:
 		c.leaves(voter)
-		return
-	}
-	if len(words) == 2 && string(words[0]) == "quiet" {
-		if left, ok := wire.Decimal(words[1]); ok {
-			c.isQuiet(voter, left)
-		}
-		return
-	}
-	if c.controlPlans(voter, words) {
-		return
-	}
-	var n [6]uint64
-	if len(words) < 3 || len(words) > 1+len(n) {
-		return
-	}
-	for i, word := range words[1:] {
-		value, ok := wire.Decimal(word)
-		if !ok {
-			return
-		}
-		n[i] = value
-	}
-	if n[0] >= qlock.MaxClients {
-		return
-	}
-	mine := int(n[0]) == c.header.Number && n[1] == c.header.Epoch && c.header.Epoch > 0
-	switch string(words[0]) {
-	case "number":
+	case qlock.Quiet:
+		c.isQuiet(voter, says.First)
+	case qlock.NumberIs:
 		if c.claimed > 0 {
 			return // a late reply, which says nothing of the claim
 		}
-		c.noteNumber(voter, int(n[0]), n[1], int(n[2]))
-	case "claimed", "refused":
-		if claims := c.header.Epoch == 0 && int(n[0]) == c.asked && n[1] == c.claimed && c.claimed > 0; claims || mine {
-			c.noteClaim(voter, string(words[0]) == "claimed", n[2], n[3])
+		c.noteNumber(voter, says.Number, says.First, int(says.Second))
+	case qlock.Claimed, qlock.Denied:
+		if claims := c.header.Epoch == 0 && says.Number == c.asked && says.First == c.claimed && c.claimed > 0; claims || mine {
+			c.noteClaim(voter, says.Kind == qlock.Claimed, says.Second, says.Third)
 		}
-	case "opened":
+	case qlock.Opened:
 		if mine && !c.peers[voter].stale {
-			c.opened(voter, n[2], n[3], n[4], n[5])
+			c.opened(voter, says.Second, says.Third, says.Fourth, says.Fifth)
 		}
-	case "unknown":
+	case qlock.Unknown:
 		if mine {
 			c.claimAgain(voter)
 		}
-	case "closed", "taken":
+	case qlock.Closed, qlock.Taken:
 		if mine {
 			c.over(voter)
 		}
@@ -695,8 +692,7 @@ func (c *Client) noteClaim(voter int, granted bool, base, reserved uint64) {
 func (c *Client) claimAgain(voter int) {
 	if p := &c.peers[voter]; p.claimed < c.header.Seq {
 		p.claimed = c.header.Seq
-		c.out[voter] = append(c.out[voter], fmt.Sprintf(". claim %d %d %d\n", c.header.Number, c.header.Epoch,
-			firstBlock)...)
+		c.tell(voter, qlock.ClientSays{Kind: qlock.ClaimStamps, Number: c.header.Number, First: c.header.Epoch, Second: firstBlock})
 	}
 }
 
@@ -712,7 +708,7 @@ func (c *Client) opened(voter int, base, reserved, seq, requests uint64) {
 		p.drained = true // for good, as nothing is asked any more
 	}
 	if p.drained && !p.closed {
-		c.out[voter] = append(c.out[voter], ". close\n"...) // heartbeats repeat it
+		c.tell(voter, qlock.ClientSays{Kind: qlock.Close}) // heartbeats repeat it
 	}
 	c.noteStamps(voter, base, reserved)
 }

@@ -152,7 +152,7 @@ func TestWhoHasAVoteForLong(t *testing.T) {
 		stamp, milliseconds uint64
 		isOver              bool
 	}{{stamp, 100, false}, {stamp + 1, 900, false}, {stamp, 300, true}} {
-		c.control(0, bytes.Fields([]byte(fmt.Sprintf("held x %d %d", one.stamp, one.milliseconds))))
+		c.control(0, []byte(fmt.Sprintf("held x %d %d", one.stamp, one.milliseconds)))
 		if isOver(calls[0]) != one.isOver {
 			t.Fatalf("line %d", i)
 		}

@@ -16,6 +16,8 @@
 #![tactic(auto)]
 
 pub mod clocks;
+pub mod control;
+pub mod headers;
 mod refusal;
 pub mod rows;
 

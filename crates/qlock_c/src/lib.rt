@@ -28,6 +28,7 @@
 
 mod client_calls;
 mod clock_calls;
+mod envelope_calls;
 mod fence_calls;
 mod laws;
 mod lines;

@@ -9,7 +9,6 @@ import (
 	"fmt"
 	"io"
 	"sort"
-	"strconv"
 	"sync/atomic"
 	"time"
 
@@ -316,7 +315,9 @@ func (d *Daemon) End() error {
 	d.savedAll = time.Time{}
 	for number, row := range d.table.rows {
 		if row.Open {
-			d.tellNumber(number, "leaving")
+			if name := d.table.names[number]; name != "" { // it was heard in this run
+				d.say(name, qlock.VoterSays{Kind: qlock.Leaving})
+			}
 		}
 	}
 	if err := d.commit(d.now()); err != nil {
@@ -428,7 +429,7 @@ func (d *Daemon) putOff(l *letter, lock []byte, said wire.Line, isQuiet bool, le
 	case !isQuiet:
 		d.fullForUser(l, lock, said)
 	case l.once("quiet"):
-		d.tell(l.Name, "quiet %d", left.Milliseconds()+1)
+		d.say(l.Name, qlock.VoterSays{Kind: qlock.Quiet, First: uint64(left.Milliseconds() + 1)})
 	}
 }
 
@@ -561,6 +562,17 @@ func (d *Daemon) tell(name, text string, words ...interface{}) {
 	d.outBytes += len(line)
 }
 
+// say puts a control line that has numbers only with those that leave after the save.
+func (d *Daemon) say(name string, says qlock.VoterSays) {
+	before := len(d.out[name])
+	out, err := says.Append(d.out[name])
+	if err != nil {
+		panic(fmt.Sprintf("%+v has no line: %v", says, err))
+	}
+	d.out[name] = out
+	d.outBytes += len(out) - before
+}
+
 // tellNumber tells the session that a number has now, if it was heard in this run.
 func (d *Daemon) tellNumber(number int, text string, words ...interface{}) {
 	if name := d.table.names[number]; name != "" {
@@ -571,101 +583,76 @@ func (d *Daemon) tellNumber(number int, text string, words ...interface{}) {
 // control takes a control line of a client, and returns whether it is one. Who has no number here
 // may ask, and claim.
 func (d *Daemon) control(l *letter, speaker qlock.Standing, line []byte, now time.Time) bool {
-	words := bytes.Fields(line)
-	if l.controls++; l.controls > mostControls || len(words) == 0 {
+	said, err := qlock.ReadClientSays(line)
+	if l.controls++; l.controls > mostControls || err != nil {
 		return false
 	}
-	switch word := string(words[0]); {
-	case word == "hello" && len(words) == 1:
-		return l.once(word) && d.hello(l.Name)
-	case word == "plan" && len(words) == 1:
-		return l.once(word) && d.tellPlan(l.Name)
-	case word == "open" && len(words) == 2:
-		return d.open(l, speaker, words[1])
-	case word == "close" && len(words) == 1 && l.Epoch > 0:
-		d.shut(l, speaker)
+	switch said.Kind {
+	case qlock.Hello:
+		return l.once("hello") && d.hello(l.Name)
+	case qlock.AskPlan:
+		return l.once("plan") && d.tellPlan(l.Name)
+	case qlock.Open:
+		return d.open(l, speaker, said.First)
+	case qlock.Close:
+		return d.shut(l, speaker)
+	case qlock.ClaimNone, qlock.ClaimStamps:
+		d.claim(l.Name, said, now)
 		return true
-	case word == "claim" && (len(words) == 3 || len(words) == 4):
-		return d.claim(l.Name, words[1:], now)
-	case word == "drop" && len(words) == 3:
-		return d.drop(l.Name, words[1:])
-	case word == "greet" && len(words) == 1 && level.Newest >= level.Greets && d.store.own.level() >= level.Greets:
-		d.tell(l.Name, "greeted")
+	case qlock.Drop:
+		d.table.drop(said.Number, l.Name, said.First)
 		return true
-	case controlWords[word]:
-		return false
+	case qlock.Greet:
+		if level.Newest >= level.Greets && d.store.own.level() >= level.Greets {
+			d.say(l.Name, qlock.VoterSays{Kind: qlock.Greeted})
+			return true
+		}
 	}
 	d.m.refused.Inc() // of a newer program
 	return true
 }
 
-// controlWords are the words of control that this program knows.
-var controlWords = map[string]bool{"hello": true, "plan": true, "open": true, "close": true, "claim": true, "drop": true}
-
 // hello says which numbers are free.
 func (d *Daemon) hello(name string) bool {
 	for number, row := range d.table.rows {
-		d.tell(name, "number %d %d %d", number, row.Epoch, d.table.state(number))
+		d.say(name, qlock.VoterSays{Kind: qlock.NumberIs, Number: number, First: row.Epoch, Second: uint64(d.table.state(number))})
 	}
 	d.announce(name)
 	return true
 }
 
 // open takes a heartbeat, which says the oldest plan of which the session has a request.
-func (d *Daemon) open(l *letter, speaker qlock.Standing, oldest []byte) bool {
-	number, err := strconv.ParseUint(string(oldest), 10, 64)
-	if err != nil || l.Epoch == 0 {
+func (d *Daemon) open(l *letter, speaker qlock.Standing, oldest uint64) bool {
+	if l.Epoch == 0 {
 		return false
 	}
 	if speaker == qlock.SessionKnown {
 		row := d.table.rows[l.Number]
-		d.asksBy[l.Number] = number
-		d.tell(l.Name, "opened %d %d %d %d %d %d", l.Number, l.Epoch, row.Base, row.Reserved, l.Seq,
-			d.requests[l.Number])
+		d.asksBy[l.Number] = oldest
+		d.say(l.Name, qlock.VoterSays{Kind: qlock.Opened, Number: l.Number, First: l.Epoch, Second: row.Base, Third: row.Reserved,
+			Fourth: l.Seq, Fifth: uint64(d.requests[l.Number])})
 	}
 	d.announce(l.Name)
 	return true
 }
 
 // shut ends a session that says that it is over.
-func (d *Daemon) shut(l *letter, speaker qlock.Standing) {
+func (d *Daemon) shut(l *letter, speaker qlock.Standing) bool {
 	if speaker == qlock.SessionKnown {
 		d.table.end(l.Number, l.Name, l.Epoch)
 		d.log.Write(event.Debug, "session-ended", "client", l.Number, "epoch", l.Epoch)
-		d.tell(l.Name, "closed %d %d", l.Number, l.Epoch)
+		d.say(l.Name, qlock.VoterSays{Kind: qlock.Closed, Number: l.Number, First: l.Epoch})
 	}
+	return l.Epoch > 0
 }
 
-// numberAndEpoch reads the number and the epoch of a session.
-func numberAndEpoch(words [][]byte) (number int, epoch uint64, ok bool) {
-	number = wire.Number(words[0])
-	epoch, err := strconv.ParseUint(string(words[1]), 10, 64)
-	return number, epoch, err == nil && number >= 0 && number < qlock.MaxClients && epoch > 0
-}
-
-// drop takes `drop NUMBER EPOCH` of one who claimed it and had no quorum.
-func (d *Daemon) drop(name string, words [][]byte) bool {
-	number, epoch, ok := numberAndEpoch(words)
-	if ok {
-		d.table.drop(number, name, epoch)
-	}
-	return ok
-}
-
-// claim takes `claim NUMBER EPOCH STAMPS`. Without the last word it reserves none.
-func (d *Daemon) claim(name string, words [][]byte, now time.Time) bool {
-	number, epoch, ok := numberAndEpoch(words)
-	stamps, err := uint64(0), error(nil)
-	if len(words) == 3 {
-		stamps, err = strconv.ParseUint(string(words[2]), 10, 64)
-	}
-	if !ok || err != nil {
-		return false
-	}
+// claim takes a claim of a number, with its first stamps, or with none.
+func (d *Daemon) claim(name string, said qlock.ClientSays, now time.Time) {
+	number, epoch := said.Number, said.First
 	before := d.table.rows[number]
-	if !d.table.claim(number, name, epoch, stamps, now) {
-		d.tell(name, "refused %d %d", number, epoch)
-		return true
+	if !d.table.claim(number, name, epoch, said.Second, now) {
+		d.say(name, qlock.VoterSays{Kind: qlock.Denied, Number: number, First: epoch})
+		return
 	}
 	row := d.table.rows[number]
 	if before.Hash != row.Hash || before.Epoch != epoch {
@@ -673,8 +660,7 @@ func (d *Daemon) claim(name string, words [][]byte, now time.Time) bool {
 		d.recount(number)
 		d.log.Write(event.Debug, "session-claimed", "client", number, "epoch", epoch)
 	}
-	d.tell(name, "claimed %d %d %d %d", number, epoch, row.Base, row.Reserved)
-	return true
+	d.say(name, qlock.VoterSays{Kind: qlock.Claimed, Number: number, First: epoch, Second: row.Base, Third: row.Reserved})
 }
 
 // round does what time asks for: it lets grants of dead clients go that are in the way of others, and reminds.

@@ -212,9 +212,9 @@ func (d *Daemon) greet(l *letter, now time.Time) (speaker qlock.Standing, ok boo
 		d.levels[l.Number] = l.Level
 		d.table.reserve(l.Number, l.Name, l.Epoch, l.Reserved, now)
 	case speaker == qlock.SessionUnknown && first:
-		d.tell(l.Name, "unknown %d %d", l.Number, l.Epoch)
+		d.say(l.Name, qlock.VoterSays{Kind: qlock.Unknown, Number: l.Number, First: l.Epoch})
 	case speaker == qlock.SessionOver && first:
-		d.tell(l.Name, "taken %d %d", l.Number, l.Epoch)
+		d.say(l.Name, qlock.VoterSays{Kind: qlock.Taken, Number: l.Number, First: l.Epoch})
 	}
 	return speaker, speaker != qlock.SessionOver
 }

@@ -51,7 +51,9 @@ func TestWhoIsNoUser(t *testing.T) {
 		d.sort(from(user, "s2", ". hello\n"))
 	}
 	for _, name := range []string{"a.b", "*", ">", "a:b"} {
-		d.sort(from("jobs", name, ". hello\n"))
+		m := from("jobs", "s2", ". hello\n")
+		m.Data = bytes.Replace(m.Data, []byte(" s2 "), []byte(" "+name+" "), 1) // no header is written with such a name
+		d.sort(m)
 	}
 	if d.inbox.count != 0 || len(d.out) != 0 {
 		t.Errorf("%d messages wait, and these are replied to: %d", d.inbox.count, len(d.out))

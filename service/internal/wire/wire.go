@@ -5,8 +5,14 @@
 //	qlock2 CLUSTER COTERIE v NUMBER RUN START IDENTITY LAPSES      from a voter
 //	qlock2 CLUSTER COTERIE o NAME                                  from an operator: the name of a question
 //
-// Behind these there may be words KEY=VALUE, as level=1 of clients and voters (package level). Who does not know a key
-// ignores it, and so it is with words of control. COTERIE is a part of
+// Behind these there may be level=LEVEL of clients and voters (package level), and then words KEY=VALUE. Who does not know a key
+// ignores it, and so it is with words of control. There is one space between two words, and no number has a leading zero. The
+// names CLUSTER, COTERIE, SESSION, IDENTITY and NAME are 1 to 64 of A-Z a-z 0-9 _ -
+//
+// The header, and lines of control that have numbers only, are read and written by proved calls of libqlock (package qlock): each
+// is read if and only if it is there, and what is written is read back. Mailboxes, how a message is cut into lines, and
+// lines of control with the name of a lock or with a text ("gone", "full", "held", "generation", "plan" of a voter, "marker") are not
+// proved. COTERIE is a part of
 // the SHA-256 of the TTL, the coterie, and how often the plan was exchanged. RUN is how often the
 // voter was made again after its state was lost, and START how often its process started. LAPSES
 // counts how often the voter let a grant of the session go since it was silent. Lines of control,
@@ -61,15 +67,13 @@ import (
 	"errors"
 	"fmt"
 	"math"
-	"strconv"
 	"strings"
+
+	"calvundek.example/service/qlock"
 )
 
 // MostBytes is how long a message may be: a quarter of what NATS takes.
 const MostBytes = 256 << 10
-
-// mostHeader is how many bytes a header's line may have.
-const mostHeader = 512
 
 // ErrForeign is returned for a message that is not of this protocol.
 var ErrForeign = errors.New("wire: no message of this protocol")
@@ -99,82 +103,35 @@ type Header struct {
 	Name             string // of a session or a question, or a voter's identity
 }
 
-// Append appends the header's line.
+// Append appends the header's line. It panics if the header has none: a name is no name, or a number is too great.
 func (h Header) Append(out []byte) []byte {
-	out = append(out, fmt.Sprintf("qlock2 %s %s %c ", h.Cluster, h.Coterie, h.Kind)...)
-	switch h.Kind {
-	case FromClient:
-		out = append(out, fmt.Sprintf("%d %d %d %s %d", h.Number, h.Epoch, h.Reserved, h.Name, h.Seq)...)
-	case FromVoter:
-		out = append(out, fmt.Sprintf("%d %d %d %s %d", h.Number, h.Run, h.Start, h.Name, h.Lapses)...)
-	default:
-		out = append(out, h.Name...)
+	w := qlock.WrittenHeader{Kind: byte(h.Kind), Number: h.Number, First: h.Epoch, Second: h.Reserved, Third: h.Seq, Level: h.Level,
+		Cluster: h.Cluster, Coterie: h.Coterie, Name: h.Name}
+	if h.Kind == FromVoter {
+		w.First, w.Second, w.Third = h.Run, h.Start, h.Lapses
 	}
-	if h.Level > 0 {
-		out = strconv.AppendUint(append(out, " level="...), h.Level, 10)
+	out, err := w.Append(out)
+	if err != nil {
+		panic(fmt.Sprintf("wire: %+v has no line: %v", h, err))
 	}
-	return append(out, '\n')
+	return out
 }
 
 // Read reads the header of a message, and returns the lines behind it.
 func Read(message []byte) (h Header, lines []byte, err error) {
-	first, lines, found := bytes.Cut(message, []byte("\n"))
-	if !found || len(first) > mostHeader {
+	r, err := qlock.HeaderOf(message)
+	if err != nil {
 		return h, nil, ErrForeign
 	}
-	words := bytes.Fields(first)
-	if len(words) < 5 || string(words[0]) != "qlock2" || len(words[3]) != 1 {
-		return h, nil, ErrForeign
+	h = Header{Cluster: string(r.Cluster), Coterie: string(r.Coterie), Kind: Kind(r.Kind), Number: r.Number, Level: r.Level,
+		Name: string(r.Name)}
+	switch h.Kind {
+	case FromClient:
+		h.Epoch, h.Reserved, h.Seq = r.First, r.Second, r.Third
+	case FromVoter:
+		h.Run, h.Start, h.Lapses = r.First, r.Second, r.Third
 	}
-	h.Cluster, h.Coterie, h.Kind = string(words[1]), string(words[2]), Kind(words[3][0])
-	words, ok := h.readKeys(words[4:])
-	if !ok || !h.read(words) {
-		return Header{}, nil, ErrForeign
-	}
-	return h, lines, nil
-}
-
-// readKeys reads the words KEY=VALUE at the end, and returns those before them. Keys that it does not know are ignored.
-func (h *Header) readKeys(words [][]byte) (rest [][]byte, ok bool) {
-	for len(words) > 0 {
-		key, value, found := bytes.Cut(words[len(words)-1], []byte("="))
-		if !found || len(key) == 0 {
-			break
-		}
-		if string(key) == "level" && (!long(value, &h.Level) || h.Level == 0) {
-			return nil, false
-		}
-		words = words[:len(words)-1]
-	}
-	return words, true
-}
-
-// read reads the words behind the kind of a sender, and returns whether they are right.
-func (h *Header) read(words [][]byte) bool {
-	switch {
-	case h.Kind == FromClient && len(words) == 5:
-		h.Name = string(words[3])
-		return h.number(words[0]) && long(words[1], &h.Epoch) && long(words[2], &h.Reserved) && long(words[4], &h.Seq)
-	case h.Kind == FromVoter && len(words) == 5:
-		h.Name = string(words[3])
-		return h.number(words[0]) && long(words[1], &h.Run) && long(words[2], &h.Start) && long(words[4], &h.Lapses)
-	case h.Kind == FromOperator && len(words) == 1:
-		h.Name = string(words[0])
-		return true
-	}
-	return false
-}
-
-// number reads the number of a client or a voter.
-func (h *Header) number(word []byte) bool {
-	h.Number = Number(word)
-	return h.Number >= 0 && h.Number < 64
-}
-
-// long reads a number of 64 bits.
-func long(word []byte, n *uint64) (ok bool) {
-	*n, ok = Decimal(word)
-	return ok
+	return h, r.Lines, nil
 }
 
 // Next returns the first of these lines, as the lock's name or "." and what is behind it, and the other lines.
@@ -201,7 +158,7 @@ func (h Header) Split(lines []byte, send func(message []byte)) {
 		if end == 0 {
 			end = len(lines)
 		}
-		send(append(h.Append(make([]byte, 0, 160+end)), lines[:end]...))
+		send(append(h.Append(make([]byte, 0, qlock.LineRoom+end)), lines[:end]...))
 		lines = lines[end:]
 	}
 }

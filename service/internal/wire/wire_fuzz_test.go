@@ -10,7 +10,7 @@ import (
 // headers are one of each kind of sender, as they are sent.
 var headers = []Header{
 	{Cluster: "prod", Coterie: "0a1b2c3d4e5f", Kind: FromClient, Number: 63, Epoch: 4, Reserved: 1 << 40, Seq: 9,
-		Name: "jobs.77"},
+		Name: "jobs-77"},
 	{Cluster: "prod", Coterie: "0a1b2c3d4e5f", Kind: FromVoter, Number: 5, Run: 2, Start: 1<<64 - 1,
 		Name: "0123456789abcdef"},
 	{Cluster: "prod", Coterie: "0a1b2c3d4e5f", Kind: FromOperator, Name: "fedcba9876543210"},
@@ -46,6 +46,11 @@ func FuzzRead(f *testing.F) {
 		}
 		if !bytes.HasSuffix(message, lines) || h.Number < 0 || h.Number >= 64 {
 			t.Fatalf("%+v, with %q", h, lines)
+		}
+		line, _, _ := bytes.Cut(message, []byte("\n"))
+		own := bytes.TrimSuffix(h.Append(nil), []byte("\n"))
+		if !bytes.HasPrefix(line, own) || len(line) > len(own) && line[len(own)] != ' ' {
+			t.Fatalf("%q is read of %q", own, line) // behind it there are only words that are ignored
 		}
 		again, rest, err := Read(append(h.Append(nil), lines...))
 		if err != nil || again != h || !bytes.Equal(rest, lines) {
@@ -145,8 +150,8 @@ func FuzzLines(f *testing.F) {
 	})
 }
 
-// A name that may be one is one word of a message, and a part of a mailbox. It comes through a
-// message.
+// A lock's name is one word of a line. A cluster's name is a part of a mailbox, and comes through a
+// message as any name of its header does.
 func FuzzNames(f *testing.F) {
 	for _, name := range []string{"orders", "a.b:c-d_E9", "prod-1", "", ".a", "a b", "a/b", "ü", "*", ">",
 		strings.Repeat("a", 65)} {
@@ -154,14 +159,16 @@ func FuzzNames(f *testing.F) {
 	}
 	f.Fuzz(func(t *testing.T, name []byte) {
 		if IsName(name) {
-			h := headers[0]
-			h.Name = string(name)
-			if again, _, err := Read(h.Append(nil)); err != nil || again != h {
-				t.Fatalf("%q: %+v, %v", name, again, err)
-			}
 			lock, line, _, found := Next(append(append([]byte(nil), name...), " request 1 2 3\n"...))
 			if !found || !bytes.Equal(lock, name) || string(line) != "request 1 2 3" {
 				t.Fatalf("%q is %q", name, lock)
+			}
+		}
+		if IsID(name) {
+			h := headers[0]
+			h.Cluster, h.Coterie, h.Name = string(name), string(name), string(name)
+			if again, _, err := Read(h.Append(nil)); err != nil || again != h {
+				t.Fatalf("%q: %+v, %v", name, again, err)
 			}
 		}
 		box := SessionBox(string(name), SessionName(string(name), string(name)), 3)

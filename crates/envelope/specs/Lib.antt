@@ -1,0 +1,4 @@
+pub mod Control
+pub mod Headers
+pub mod Heads
+pub mod Names

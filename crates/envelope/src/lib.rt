@@ -1,0 +1,63 @@
+//! What a lock service writes around the lines of its locks: the header of a message, and the lines of
+//! control.
+//!
+//! A message is a header line, and lines of locks or of control behind it. The header says who sends it:
+//!
+//! | Sender | Line |
+//! |---|---|
+//! | a session of a client | `qlock2 CLUSTER COTERIE c NUMBER EPOCH RESERVED SESSION SEQ` |
+//! | a voter | `qlock2 CLUSTER COTERIE v NUMBER RUN START IDENTITY LAPSES` |
+//! | an operator | `qlock2 CLUSTER COTERIE o QUESTION` |
+//!
+//! Behind these there is ` level=LEVEL` if the level is not 0, and then any number of words KEY=VALUE, which
+//! a reader ignores. CLUSTER, COTERIE and the name are 1 to 64 bytes of A-Z a-z 0-9 _ -. The line has at most
+//! 512 bytes, without its newline.
+//!
+//! A line of control is a word and decimal numbers: [`ClientWord`] is what clients say, and [`VoterSays`]
+//! what voters say. In a message it has a dot and a space in front. A line with the name of a lock or with a
+//! text is none of these.
+//!
+//! There is one space between two words. A number has no sign and no leading zero, and is below 2^64. No call
+//! takes memory.
+//!
+//! # What is proved
+//!
+//! - [`read_header`] reads a header if and only if the message begins with one, and then that one. A message
+//!   has one header ([`a_message_has_one_header`]).
+//! - [`header_line`] is the header's line, which is read back ([`headers_are_read_back`]) and has at most 297
+//!   bytes ([`headers_fit`]).
+//! - The names of a header are where [`name_at`] and the lengths of the others say ([`names_have_places`]).
+//! - [`read_client_word`] and [`read_voter_says`] read a line if and only if it says something, and then
+//!   that. [`client_word_line`] and [`voter_says_line`] are these lines, as they are in a message. There they
+//!   end at the first newline ([`control_lines_are_cut`]).
+//! - [`is_unknown`] says exactly whether a line begins with a word that clients do not say.
+//!
+//! ```
+//! let found = read_header(b"qlock2 prod 0a1b o question level=1\nstatus\n")?;
+//! let line = header_line(&found.header); // needs `found.header.has_line()`, as each header that was read
+//! ```
+//!
+//! Depends on `texts`. `blocks` depends on it.
+#![tactic(auto)]
+
+mod client_words;
+mod control;
+mod control_lines;
+mod header;
+mod laws;
+mod names;
+mod places;
+mod reading;
+mod voter_words;
+mod words;
+mod writing;
+
+pub use client_words::{is_unknown, read_client_word};
+pub use control::{ClientWord, Opened, VoterSays, VoterWord};
+pub use control_lines::{client_word_line, voter_says_line};
+pub use header::{Header, Sender};
+pub use laws::{a_message_has_one_header, control_lines_are_cut, headers_are_read_back, headers_fit, names_have_places};
+pub use places::name_at;
+pub use reading::{Envelope, MOST_HEADER, read_header};
+pub use voter_words::read_voter_says;
+pub use writing::{LINE_ROOM, header_line};

@@ -1,0 +1,112 @@
+//! The calls of headers of messages, and of lines of control.
+ghost use Rattle.std.specs.Prelude.{◌≡◌, ◌≢◌};
+ghost use Rattle.blocks.specs.ControlSteps.{ClientWordIsRead, VoterSaysIsRead, WritesClientWord, WritesVoterSays, client_of, says_of};
+ghost use Rattle.blocks.specs.HeaderSteps.{HeaderIsRead, WritesHeader, sender_of};
+ghost use Rattle.blocks.specs.Numbers.{done};
+
+use blocks::{Refusal, control, headers, number_of};
+use envelope::Header;
+
+/// Reads the header of a message, as 13 words: the kind of its sender (a letter), the number of a client or a
+/// voter and three more, the level, where each of the three names is and how long it is, and where the lines
+/// behind the header begin.
+#[unsafe(no_mangle)]
+pub extern "C" fn qlock_header_read(message: &[u8], header: &mut [u64]) -> i32
+    ensures refused { result ≢ done → header.new ≡ header.old }
+    ensures read { HeaderIsRead message.now header.old header.new result }
+{
+    number_of(headers::read(message, header))
+}
+
+/// Writes the line of a header to the front of `out`, and how many bytes it has.
+#[unsafe(no_mangle)]
+pub extern "C" fn qlock_header_write(
+    kind: u8,
+    id: u8,
+    first: u64,
+    second: u64,
+    third: u64,
+    level: u64,
+    cluster: &[u8],
+    coterie: &[u8],
+    name: &[u8],
+    out: &mut [u8],
+    written: &mut usize,
+) -> i32
+    ensures refused { result ≢ done → (out.new ≡ out.old) × (written.new ≡ written.old) }
+    ensures writes { WritesHeader (sender_of kind id first second third) cluster.now coterie.now name.now level out.old out.new
+        written.new result }
+{
+    let Some(sender) = headers::sender_of(kind, id, first, second, third) else {
+        return number_of(Err(Refusal::BadArgument));
+    };
+    let header = Header {
+        cluster,
+        coterie,
+        sender,
+        name,
+        level,
+    };
+    number_of(headers::write(&header, out, written))
+}
+
+/// Reads a line of control of a client, without the dot in front and the newline behind, as 4 words: its kind, the
+/// number of the client, and two more. A line that begins with no known word is 0, and three times 0.
+#[unsafe(no_mangle)]
+pub extern "C" fn qlock_client_word_read(line: &[u8], words: &mut [u64]) -> i32
+    ensures refused { result ≢ done → words.new ≡ words.old }
+    ensures read { ClientWordIsRead line.now words.old words.new result }
+{
+    number_of(control::read_client(line, words))
+}
+
+/// Writes a line of control of a client to the front of `out`, as it is in a message, and how many bytes it has.
+#[unsafe(no_mangle)]
+pub extern "C" fn qlock_client_word_write(
+    kind: u8,
+    id: u8,
+    first: u64,
+    second: u64,
+    out: &mut [u8],
+    written: &mut usize,
+) -> i32
+    ensures refused { result ≢ done → (out.new ≡ out.old) × (written.new ≡ written.old) }
+    ensures writes { WritesClientWord (client_of kind id first second) out.old out.new written.new result }
+{
+    match control::client_of(kind, id, first, second) {
+        Some(word) => number_of(control::write_client(word, out, written)),
+        None => number_of(Err(Refusal::BadArgument)),
+    }
+}
+
+/// Reads a line of control of a voter, without the dot in front and the newline behind, as 7 words: its kind, the
+/// number of the client, and five more.
+#[unsafe(no_mangle)]
+pub extern "C" fn qlock_voter_word_read(line: &[u8], words: &mut [u64]) -> i32
+    ensures refused { result ≢ done → words.new ≡ words.old }
+    ensures read { VoterSaysIsRead line.now words.old words.new result }
+{
+    number_of(control::read_voter(line, words))
+}
+
+/// Writes a line of control of a voter to the front of `out`, as it is in a message, and how many bytes it has.
+#[unsafe(no_mangle)]
+pub extern "C" fn qlock_voter_word_write(
+    kind: u8,
+    id: u8,
+    first: u64,
+    second: u64,
+    third: u64,
+    fourth: u64,
+    fifth: u64,
+    out: &mut [u8],
+    written: &mut usize,
+) -> i32
+    ensures refused { result ≢ done → (out.new ≡ out.old) × (written.new ≡ written.old) }
+    ensures writes { WritesVoterSays (says_of kind id first second third fourth fifth) out.old out.new written.new result }
+{
+    match control::says_of(kind, id, first, second, third, fourth, fifth) {
+        Some(says) => number_of(control::write_voter(says, out, written)),
+        None => number_of(Err(Refusal::BadArgument)),
+    }
+}
