@@ -213,6 +213,9 @@ func (w *world) beginIncidents() {
 	if w.random.Intn(2) == 0 {
 		i.noise = noise{lost: w.random.Intn(20000), twice: w.random.Intn(20000), late: w.random.Intn(20000), usual: pick(time.Millisecond, 10*time.Millisecond), latest: w.ttl}
 	}
+	if w.Often {
+		i.pause, i.thinks, i.stays = 500*time.Millisecond, 10*time.Millisecond, w.ttl
+	}
 	choose := func(of []kind) (some []kind) {
 		for _, k := range of {
 			if isOf(w.Only, k.name) && (len(w.Only) > 0 || w.random.Intn(2) == 0) {

@@ -31,6 +31,7 @@ type Options struct {
 	Trace        func(line string)
 	Only         []string // the kinds of incidents that may happen, by their names; all of them if there is none
 	Calm         bool     // no incident happens by chance
+	Often        bool     // incidents come often, and programs want locks at once
 	ShowMessages bool     // in the schedule
 }
 
