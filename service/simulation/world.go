@@ -155,6 +155,7 @@ type world struct {
 	noise      noise
 	incidents  incidents
 	healed     instant // when the faults stopped, 0 before
+	calmed     instant // when the last of them was over
 	bound      time.Duration
 }
 
@@ -209,7 +210,7 @@ func (w *world) begin() error {
 	w.ttl = time.Second * time.Duration(1+w.random.Intn(3))
 	w.isWorst = w.random.Intn(4) == 0
 	w.block = []uint64{0, 4, 64}[w.random.Intn(3)]
-	w.bound = longestWait + 6*w.ttl
+	w.bound = longestWait + 3*w.ttl
 	w.cluster = &config.Cluster{ID: "sim", Servers: []string{"none"}, TTL: config.Duration{Duration: w.ttl},
 		Coterie: plan.Coterie, Plan: plan.Text}
 	if err := w.cluster.Check(); err != nil {
