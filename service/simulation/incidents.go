@@ -216,6 +216,11 @@ func (w *world) beginIncidents() {
 	if w.Often {
 		i.pause, i.thinks, i.stays = 500*time.Millisecond, 10*time.Millisecond, w.ttl
 	}
+	if w.Brief {
+		i.thinks, i.stays = 10*time.Millisecond, 5*time.Millisecond
+		i.longStays = []int{0, 100, 1000}[w.random.Intn(3)]
+		i.pause = pick(time.Second, 4*time.Second, 10*time.Second)
+	}
 	choose := func(of []kind) (some []kind) {
 		for _, k := range of {
 			if isOf(w.Only, k.name) && (len(w.Only) > 0 || w.random.Intn(2) == 0) {

@@ -32,6 +32,7 @@ type Options struct {
 	Only         []string // the kinds of incidents that may happen, by their names; all of them if there is none
 	Calm         bool     // no incident happens by chance
 	Often        bool     // incidents come often, and programs want locks at once
+	Brief        bool     // programs want locks at once, and stay inside briefly
 	ShowMessages bool     // in the schedule
 }
 
