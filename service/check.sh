@@ -1,9 +1,9 @@
 #!/bin/sh
 # Tries the service where its packages are: vet, tests with the race detector, the guard in SQLite
-# and PostgreSQL, a simulation in virtual time, and a trial of two and a half minutes with kills, stops, frozen servers, lost
-# states, lost messages, operators, and an exchange of the plan and back. Beside it each reader of
-# bytes is fuzzed for ten seconds. Then come attacks, which the service has to stand. It takes some
-# seven minutes.
+# and PostgreSQL, a simulation in virtual time, and a trial of two and a half minutes with kills,
+# stops, frozen servers, lost states, lost messages, operators, and an exchange of the plan and back.
+# Beside it each reader of bytes is fuzzed for ten seconds. Then come attacks, which the service has
+# to stand. It takes some seven minutes.
 #
 #     service/check.sh [--fuzz SECONDS] [SECONDS]     (of each reader that is fuzzed; of the trial)
 #
