@@ -1,9 +1,9 @@
 #!/bin/sh
 # Tries the service where its packages are: vet, tests with the race detector, the guard in SQLite
-# and PostgreSQL, and a trial of two and a half minutes with kills, stops, frozen servers, lost
-# states, lost messages, operators, and an exchange of the plan and back. Beside it each reader of
-# bytes is fuzzed for ten seconds. Then come attacks, which the service has to stand. It takes some
-# seven minutes.
+# and PostgreSQL, a simulation in virtual time, and a trial of two and a half minutes with kills,
+# stops, frozen servers, lost states, lost messages, operators, and an exchange of the plan and back.
+# Beside it each reader of bytes is fuzzed for ten seconds. Then come attacks, which the service has
+# to stand. It takes some seven minutes.
 #
 #     service/check.sh [--fuzz SECONDS] [SECONDS]     (of each reader that is fuzzed; of the trial)
 #
@@ -33,10 +33,10 @@ build=${QLOCK_BUILD:-$root/build}
 
 packages="./qlock ./locks ./guard ./transport ./internal/bus ./internal/config ./internal/event ./internal/exchange ./internal/local ./internal/measure \
     ./internal/operator ./internal/remind ./internal/users ./internal/voter ./internal/wire ./internal/worlds ./cmd/qlock-voter ./cmd/qlockctl ./trial ./attacks/session ./bench"
-laid=$(gofmt -l "$here/qlock" "$here/locks" "$here/guard" "$here/transport" "$here/internal" "$here/cmd" "$here/trial" "$here/attacks" "$here/bench")
+laid=$(gofmt -l "$here/qlock" "$here/locks" "$here/guard" "$here/transport" "$here/internal" "$here/cmd" "$here/trial" "$here/attacks" "$here/bench" "$here/simulation")
 [ -z "$laid" ] || { echo "service: gofmt would change $laid" >&2; exit 1; }
 # shellcheck disable=SC2086
-"$go" vet $packages
+"$go" vet $packages ./simulation ./simulation/cmd
 tests="$go test -race -count=1 -timeout 600s $packages"
 if ls /usr/lib/postgresql/*/bin/initdb > /dev/null 2>&1; then
     # shellcheck disable=SC2086
@@ -46,6 +46,9 @@ else
     $tests
     echo "service: the guard was not tried in PostgreSQL; apt-get install postgresql"
 fi
+
+# in one goroutine, so without the race detector
+"$go" test -count=1 -timeout 600s ./simulation
 
 # of a program that knows the next level of a cluster
 "$go" test -race -count=1 -tags nextlevel -run 'Format|Level' ./internal/voter

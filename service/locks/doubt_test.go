@@ -8,6 +8,7 @@ import (
 
 	"calvundek.example/service/internal/wire"
 	"calvundek.example/service/internal/worlds"
+	"calvundek.example/service/qlock"
 )
 
 // still returns a client whose loop stands still: a test takes its turns.
@@ -67,6 +68,28 @@ func TestDoubtfulVoteIsNotHandedOut(t *testing.T) {
 	c.flush()
 	if !turns(c, 5*time.Second, func() bool { return len(call.got) > 0 }) || l.shown.Stamp <= stamp {
 		t.Error("the client does not ask anew")
+	}
+}
+
+// A voter that got to know this session anew takes no stamp up to its base there. A request that waits for it is made anew, above
+// that: else it would wait for ever, and hold others up by the votes that it has.
+func TestRequestBelowTheBase(t *testing.T) {
+	w := worlds.New(t, worlds.Majority, 20*time.Second)
+	c := still(t, w)
+	turns(c, 200*time.Millisecond, func() bool { return false }) // the replies to what was said before
+	call := &waiter{got: make(chan *Held, 1), since: time.Now()}
+	if err := c.enqueue("x", call); err != nil {
+		t.Fatal(err)
+	}
+	l := c.locks["x"]
+	stamp, voter := l.shown.Stamp, bits.TrailingZeros64(l.shown.Quorum)
+	c.noteStamps(voter, stamp+100, stamp+1000)
+	if l.shown.Phase == qlock.Asking && l.shown.Stamp <= stamp+100 {
+		t.Fatal("it waits under a stamp that the voter does not take")
+	}
+	c.flush()
+	if !turns(c, 5*time.Second, func() bool { c.round(time.Now()); return len(call.got) > 0 }) || l.shown.Stamp <= stamp+100 {
+		t.Errorf("stamp %d, above %d", l.shown.Stamp, stamp+100)
 	}
 }
 

@@ -320,10 +320,19 @@ func (c *Client) noteStamps(voter int, base, reserved uint64) {
 		return
 	}
 	for l := range c.busy {
-		if l.shown.Phase == qlock.Idle {
+		switch {
+		case l.shown.Phase == qlock.Idle:
 			c.pump(l)
+		case c.isBelow(l, voter):
+			c.askAgain(l)
 		}
 	}
+}
+
+// isBelow returns whether a request waits for a voter that does not take it any more: its stamp is not above the base there. Such a
+// voter started from an older copy of its state, and got to know this session anew.
+func (c *Client) isBelow(l *lock, voter int) bool {
+	return l.shown.Phase == qlock.Asking && l.shown.Stamp <= c.peers[voter].base && (l.shown.Quorum&^c.votes(l))>>voter&1 == 1
 }
 
 func greatest(a, b uint64) uint64 {

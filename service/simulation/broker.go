@@ -62,7 +62,12 @@ func (b *broker) send(at instant, mailbox string, data []byte) {
 		if w.chance(w.noise.late) {
 			way += w.upTo(w.noise.latest)
 		}
-		w.at(after(at, way), func() { b.arrive(mailbox, data) })
+		sent := w.now
+		w.at(after(at, way), func() {
+			if w.healed == 0 || sent >= w.healed { // what was late when the faults stopped is lost
+				b.arrive(mailbox, data)
+			}
+		})
 	}
 }
 

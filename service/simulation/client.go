@@ -401,10 +401,18 @@ func (c *client) noteStamps(v int, base, reserved uint64) {
 		return
 	}
 	for _, l := range c.locks {
-		if l.isBusy() && l.shown.Phase == qlock.Idle {
+		switch {
+		case l.isBusy() && l.shown.Phase == qlock.Idle:
 			l.pump()
+		case c.isBelow(l, v):
+			l.askAgain()
 		}
 	}
+}
+
+// isBelow returns whether a request waits for a voter that does not take it any more: its stamp is not above the base there.
+func (c *client) isBelow(l *lock, v int) bool {
+	return l.shown.Phase == qlock.Asking && l.shown.Stamp <= c.peers[v].base && (l.shown.Quorum&^l.votes())>>v&1 == 1
 }
 
 func greatest(a, b uint64) uint64 {

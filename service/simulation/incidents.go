@@ -213,6 +213,14 @@ func (w *world) beginIncidents() {
 	if w.random.Intn(2) == 0 {
 		i.noise = noise{lost: w.random.Intn(20000), twice: w.random.Intn(20000), late: w.random.Intn(20000), usual: pick(time.Millisecond, 10*time.Millisecond), latest: w.ttl}
 	}
+	if w.Often {
+		i.pause, i.thinks, i.stays = 500*time.Millisecond, 10*time.Millisecond, w.ttl
+	}
+	if w.Brief {
+		i.thinks, i.stays = 10*time.Millisecond, 5*time.Millisecond
+		i.longStays = []int{0, 100, 1000}[w.random.Intn(3)]
+		i.pause = pick(time.Second, 4*time.Second, 10*time.Second)
+	}
 	choose := func(of []kind) (some []kind) {
 		for _, k := range of {
 			if isOf(w.Only, k.name) && (len(w.Only) > 0 || w.random.Intn(2) == 0) {
@@ -392,12 +400,20 @@ func (w *world) loses(p *place) {
 	}
 	meta, _ := p.disk.saved().Meta()
 	p.disk.put(rows{})
-	p.isLost, p.newest, p.copies, w.forgets = true, nil, nil, p
+	p.isLost, p.isMade, p.newest, p.copies, w.forgets = true, false, nil, nil, p
 	if w.Wrong.StartsEmpty {
 		w.in(w.upTo(w.incidents.down), func() { w.startsEmpty(p, meta) })
 		return
 	}
-	w.in(w.upTo(w.incidents.down), func() { w.asksOthers(p) })
+	w.in(w.upTo(w.incidents.down), func() { w.makes(p) })
+}
+
+// makes begins to make a state again that was lost.
+func (w *world) makes(p *place) {
+	if p.isLost && !p.isMade {
+		p.isMade = true
+		w.asksOthers(p)
+	}
 }
 
 // question is a question of one who makes a state again.
@@ -471,19 +487,23 @@ func (w *world) makesAgain(p *place, replies []operator.Reply) {
 
 // heal stops all faults.
 func (w *world) heal() {
-	w.healed = w.now
+	w.healed, w.calmed = w.now, w.now
 	w.log("no fault happens any more")
 	w.noise, w.broker.thawsAt = calm, w.now
 	for _, p := range w.voters {
 		p.cut, p.disk.full = false, false
 		if r := p.run; r != nil {
 			r.nextSave, r.leaves, r.standsIn = saves, 0, 0
+			if r.present > w.calmed {
+				w.calmed = r.present // it stands still within a step
+			}
 			if r.still > w.now {
 				r.still = w.now
 				r.plan(w.now)
 			}
 		} else {
-			w.restartLater(p)
+			w.in(w.upTo(100*time.Millisecond), p.start)
+			w.in(w.upTo(100*time.Millisecond), func() { w.makes(p) })
 		}
 	}
 	for _, c := range w.clients {
@@ -492,8 +512,11 @@ func (w *world) heal() {
 			c.still = w.now
 		}
 		for _, l := range c.locks {
-			if c.stage != isEnded {
-				l.think()
+			if c.stage == isEnded {
+				continue
+			}
+			if l.think(); l.held != nil {
+				l.held.endsSoon()
 			}
 		}
 	}

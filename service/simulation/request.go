@@ -102,8 +102,11 @@ func (l *lock) think() {
 func (h *held) begins() {
 	c := h.client
 	stays := c.upTo(c.incidents.stays)
-	if c.incidents.longStays > 0 && c.random.Intn(c.incidents.longStays) == 0 && c.healed == 0 {
+	if c.incidents.longStays > 0 && c.random.Intn(c.incidents.longStays) == 0 {
 		stays = c.ttl + c.upTo(3*c.ttl)
+	}
+	if c.healed > 0 {
+		stays = c.upTo(20 * time.Millisecond)
 	}
 	h.witness.shows(h)
 	if c.random.Intn(2) == 0 {
@@ -115,6 +118,15 @@ func (h *held) begins() {
 		}
 		h.write()
 		h.ends()
+	})
+}
+
+// endsSoon lets the program give the lock back, however long it wanted to stay.
+func (h *held) endsSoon() {
+	h.client.atShown(h.client.shows()+h.client.upTo(50*time.Millisecond), func() {
+		if !h.isOut {
+			h.ends()
+		}
 	})
 }
 
@@ -211,8 +223,8 @@ func (l *lock) hand() {
 	}
 	wait := time.Duration(c.now - l.since)
 	if c.healed > 0 {
-		if l.served = true; l.since < c.healed {
-			wait = time.Duration(c.now - c.healed)
+		if l.served = true; l.since < c.calmed {
+			wait = time.Duration(c.now - c.calmed)
 		}
 		if wait > c.Longest {
 			c.Longest = wait

@@ -60,11 +60,11 @@ func TestWrongHosts(t *testing.T) {
 		{"older-copy", "older copies of states", "grants exclusion", 20},
 		{"two-processes", "voters cut off", "unsaved exclusion", 20},
 		{"goes-on", "clients that stand still", "exclusion", 20},
-		{"lease-from-reply", "times of noise,clients cut off,clients that stand still", "exclusion guard", 200},
-		{"clocks", "clients cut off", "exclusion guard", 50},
-		{"starts-empty", "states lost", "exclusion guard", 100},
+		{"lease-from-reply", "servers frozen,clients that stand still", "exclusion guard", 200},
+		{"clocks", "clients cut off,clients that stand still", "exclusion guard", 50},
+		{"starts-empty", "states lost", "grants exclusion guard", 50},
 	} {
-		o := Options{Events: 20000, Only: strings.Split(one.only, ",")}
+		o := Options{Events: 8000, Often: true, Only: strings.Split(one.only, ",")}
 		for _, duty := range Duties {
 			if duty.Name == one.duty {
 				duty.Breaks(&o.Wrong)

@@ -59,6 +59,7 @@ type place struct {
 	copies []rows   // older copies of the disk
 	newest rows     // what was there when an older copy was put in its place
 	isLost bool     // the state was lost, and is not made again yet
+	isMade bool     // others are asked for that
 	waits  bool     // it is to start again later
 }
 

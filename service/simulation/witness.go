@@ -299,9 +299,8 @@ func (r *process) checkWord(mailbox string, message []byte) {
 	}
 }
 
-// longestWait is how long somebody may wait for a lock once all faults stopped, besides some TTLs: a voter asks the others for so
-// long before it goes on with a quorum of them.
-const longestWait = 12 * time.Second
+// longestWait is how long somebody may wait for a lock once all faults stopped, besides three TTLs.
+const longestWait = time.Second
 
 // checkWaits looks for somebody who waits for too long after the faults stopped.
 func (w *world) checkWaits() {
@@ -312,15 +311,15 @@ func (w *world) checkWaits() {
 	for _, c := range w.clients {
 		for _, l := range c.locks {
 			since := l.since
-			if since < w.healed {
-				since = w.healed
+			if since < w.calmed {
+				since = w.calmed
 			}
 			if l.wants && after(since, w.bound) < w.now {
 				w.violated("liveness", "client %d has waited for %s for %v, since no fault happens any more", c.id, l.name, time.Duration(w.now-since))
 			}
 		}
 	}
-	if after(w.healed, 3*w.bound) < w.now {
+	if after(w.calmed, 3*w.bound) < w.now {
 		w.violated("liveness", "not everybody got all locks in %v", 3*w.bound)
 	}
 }

@@ -31,6 +31,8 @@ type Options struct {
 	Trace        func(line string)
 	Only         []string // the kinds of incidents that may happen, by their names; all of them if there is none
 	Calm         bool     // no incident happens by chance
+	Often        bool     // incidents come often, and programs want locks at once
+	Brief        bool     // programs want locks at once, and stay inside briefly
 	ShowMessages bool     // in the schedule
 }
 
@@ -154,6 +156,7 @@ type world struct {
 	noise      noise
 	incidents  incidents
 	healed     instant // when the faults stopped, 0 before
+	calmed     instant // when the last of them was over
 	bound      time.Duration
 }
 
@@ -208,7 +211,7 @@ func (w *world) begin() error {
 	w.ttl = time.Second * time.Duration(1+w.random.Intn(3))
 	w.isWorst = w.random.Intn(4) == 0
 	w.block = []uint64{0, 4, 64}[w.random.Intn(3)]
-	w.bound = longestWait + 6*w.ttl
+	w.bound = longestWait + 3*w.ttl
 	w.cluster = &config.Cluster{ID: "sim", Servers: []string{"none"}, TTL: config.Duration{Duration: w.ttl},
 		Coterie: plan.Coterie, Plan: plan.Text}
 	if err := w.cluster.Check(); err != nil {

@@ -22,7 +22,7 @@ type Wrong struct {
 	GoesOn         bool // a client's program does not stop when its lease has ended
 	LeaseFromReply bool // a lease counts from when the reply came, and not from when the heartbeat left
 	Clocks         bool // clocks go at rates beyond the stated ones
-	StartsEmpty    bool // a voter that lost its state starts with an empty one, and is not quiet
+	StartsEmpty    bool // a voter that lost its state starts with an empty one, as if nobody knew of it, and is not quiet
 }
 
 // Duties has the duties of a host by names, with how to break each.
@@ -83,6 +83,10 @@ func (w *world) startsTwins() {
 
 // startsEmpty makes a state in place of one that was lost as if nobody knew anything, and starts it.
 func (w *world) startsEmpty(p *place, before voter.Meta) {
+	if !p.isLost || p.isMade {
+		return // the faults stopped, and it is made again as it should be
+	}
+	p.isMade = true
 	var replies []operator.Reply
 	for v, name := range w.cluster.Names() {
 		body := `{"sessions":{},"peers":{"` + strconv.Itoa(p.number) + `":{"identity":"lost","run":` + strconv.FormatUint(before.Run, 10) + `}}}`
@@ -93,6 +97,6 @@ func (w *world) startsEmpty(p *place, before voter.Meta) {
 		return
 	}
 	p.isLost = false
-	p.start()
+	p.run = p.open(true)
 	w.in(100*time.Millisecond, func() { w.awaits(p) })
 }

@@ -11,6 +11,7 @@ import (
 type fileDisk struct {
 	db     *bbolt.DB
 	folder string
+	isNew  bool // it has no buckets yet
 }
 
 // openFile opens the file in a folder, all of whose rows are as they were saved. It has to be there.
@@ -19,28 +20,16 @@ func openFile(folder string) (*fileDisk, error) {
 	if err != nil {
 		return nil, named(file(folder), err)
 	}
-	return &fileDisk{db, folder}, nil
+	return &fileDisk{db: db, folder: folder}, nil
 }
 
-// makeFile makes a file with empty buckets, or opens one that is half made.
+// makeFile makes a file. The first transaction makes its buckets, too.
 func makeFile(path string) (*fileDisk, error) {
 	db, err := bbolt.Open(path, 0o600, &bbolt.Options{Timeout: lockTimeout})
 	if err != nil {
 		return nil, err
 	}
-	err = db.Update(func(tx *bbolt.Tx) error {
-		for _, name := range buckets {
-			if _, err := tx.CreateBucket(name); err != nil {
-				return err
-			}
-		}
-		return nil
-	})
-	if err != nil {
-		db.Close()
-		return nil, err
-	}
-	return &fileDisk{db: db}, nil
+	return &fileDisk{db: db, isNew: true}, nil
 }
 
 func (f *fileDisk) View(read func(Rows) error) error {
@@ -48,7 +37,25 @@ func (f *fileDisk) View(read func(Rows) error) error {
 }
 
 func (f *fileDisk) Update(change func(Rows) error) error {
-	return f.db.Update(func(tx *bbolt.Tx) error { return change(fileRows{tx}) })
+	return f.db.Update(func(tx *bbolt.Tx) error {
+		if f.isNew {
+			if err := makeBuckets(tx); err != nil {
+				return err
+			}
+			f.isNew = false
+		}
+		return change(fileRows{tx})
+	})
+}
+
+// makeBuckets makes all buckets.
+func makeBuckets(tx *bbolt.Tx) error {
+	for _, name := range buckets {
+		if _, err := tx.CreateBucket(name); err != nil {
+			return err
+		}
+	}
+	return nil
 }
 
 // Check looks at all pages of the file.

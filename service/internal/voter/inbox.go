@@ -120,7 +120,7 @@ func (d *Daemon) isMarker(lines string) bool {
 	if _, err := fmt.Sscanf(lines, ". marker %d ", &number); err != nil || lines != d.markerLine(number) {
 		return false
 	}
-	d.table.clock.Returns(number)
+	d.table.returns(number, d.now())
 	_, left := d.table.clock.Shows()
 	d.marked.Store(int64(d.table.began.Add(left).Sub(d.started)))
 	return true

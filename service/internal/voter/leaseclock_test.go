@@ -25,7 +25,7 @@ func newTide(t *testing.T, ttl time.Duration) *tide {
 func (c *tide) turn(takes time.Duration, comesBack bool) {
 	number := c.clock.Send(c.now.Sub(c.began))
 	if c.now = c.now.Add(takes); number > 0 && comesBack {
-		c.clock.Returns(number)
+		c.returns(number, c.now)
 	}
 }
 
@@ -88,6 +88,23 @@ func TestLeasesAndStandstill(t *testing.T) {
 		if c.now.Sub(begin) > 2*c.ttl {
 			t.Fatal("a session that is silent after a standstill keeps its votes")
 		}
+	}
+}
+
+// A session that was heard as the voter went on after a standstill, before a marker was back, lives for no longer than others: for
+// a TTL, and not for the standstill besides.
+func TestHeardAfterAStandstill(t *testing.T) {
+	c := newTide(t, 2*time.Second)
+	for i := 0; i < 20; i++ {
+		c.turn(50*time.Millisecond, true)
+	}
+	c.now = c.now.Add(time.Minute)
+	c.hear(3, c.now)
+	begin := c.now
+	for ; !c.isDead(3) && c.now.Sub(begin) < time.Hour; c.turn(50*time.Millisecond, true) {
+	}
+	if gone := c.now.Sub(begin); gone < c.ttl || gone > 2*c.ttl {
+		t.Errorf("it is dead after %v", gone)
 	}
 }
 

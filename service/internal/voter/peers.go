@@ -23,8 +23,8 @@ import (
 //  2. Once all answered, or after a while so many that with it they contain a quorum, it raises
 //     its ceiling, and asks them to keep it. If they with it contain a quorum, it takes lines. The
 //     rest are told until they answer.
-//  3. Unless it is new, or somebody knows that it ended cleanly with just these saves, it is quiet
-//     for a TTL. A vote stays quiet while one waits for it who said then that he is inside.
+//  3. Unless it is new, so that nobody knows of a ceiling, or somebody knows that it ended cleanly
+//     with just these saves, it is quiet for a TTL. A vote stays quiet while one waits for it who said then that he is inside.
 //  4. Before half of what is left below the ceiling is used, it asks for the next one.
 //
 // A new voter, which never served, needs more answers: the silent ones and it may contain no quorum.

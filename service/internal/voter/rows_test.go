@@ -81,7 +81,7 @@ func look(folder string) (content, error) {
 		return content{}, err
 	}
 	defer db.Close()
-	s := &store{disk: &fileDisk{db, folder}}
+	s := &store{disk: &fileDisk{db: db, folder: folder}}
 	if err := s.disk.View(s.read); err != nil {
 		return content{}, err
 	}

@@ -143,7 +143,7 @@ func (d *Daemon) isKept(now time.Time) {
 		d.askCeiling(j.known, now)
 		return
 	}
-	isNew := d.store.own.Ceiling == 0
+	isNew := d.store.own.Ceiling == 0 && j.known == 0 // else it is a copy from before it first served
 	d.store.own.Ceiling, d.newOwn = j.asked, true
 	d.ceiling, j.waits = j.asked, false
 	d.m.left.Set(float64(d.ceiling) - float64(greatest(d.floor, d.m.most)))

@@ -83,6 +83,24 @@ func TestLaterProcessOfThisVoter(t *testing.T) {
 	}
 }
 
+// A state from before its voter first served may be a copy of one that did: if others know of a ceiling, it is quiet. One of which
+// nobody knows is new.
+func TestCopyFromBeforeTheFirstGrant(t *testing.T) {
+	for ceiling, isQuiet := range map[uint64]bool{0: false, 64: true} {
+		d, now := pair(t), time.Now()
+		d.store.own = own{Start: 3}
+		for place := 1; place <= 2; place++ {
+			d.hearAnswer(heard(place), answered(place, Peer{Identity: d.store.meta.Identity, Start: 2, Ceiling: ceiling}), now)
+		}
+		d.start(now)
+		d.hearAnswer(heard(1), word{Word: "kept", Process: "mine", Ceiling: d.join.asked, Known: &Peer{Identity: d.store.meta.Identity,
+			Process: "mine"}}, now)
+		if !d.join.done || d.isQuiet() != isQuiet {
+			t.Errorf("a ceiling of %d is known: it serves %v, and is quiet %v", ceiling, d.join.done, d.isQuiet())
+		}
+	}
+}
+
 // A voter that never served waits until the silent ones and it contain no quorum, however long that takes.
 func TestNewVoterNeedsMoreAnswers(t *testing.T) {
 	d, now := pair(t), time.Now()

@@ -119,6 +119,19 @@ func (t *table) known() map[int]Session {
 // hear notes that a number's session was heard.
 func (t *table) hear(number int, now time.Time) { t.heard[number] = t.clock.At(now.Sub(t.began)) }
 
+// returns notes that a marker came back. The time that it skips is skipped for those, too, that were heard since the one before:
+// they count as heard now, at the latest. Else a session that was heard last when this voter went on, after it had stood still,
+// would live for that much longer than a TTL.
+func (t *table) returns(marker uint64, now time.Time) {
+	t.clock.Returns(marker)
+	latest := t.clock.At(now.Sub(t.began))
+	for number, heard := range t.heard {
+		if heard > latest {
+			t.heard[number] = latest
+		}
+	}
+}
+
 // silent returns for how long nothing came of a number's session, up to when all that was sent was
 // heard.
 func (t *table) silent(number int) time.Duration {

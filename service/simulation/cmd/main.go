@@ -26,10 +26,12 @@ func main() {
 	calm := flag.Bool("calm", false, "let no incident happen")
 	wrong := flag.String("wrong", "", "a duty of the hosts that is broken: "+strings.Join(duties(), ", "))
 	trace := flag.Bool("trace", false, "print the schedule of the first run")
+	often := flag.Bool("often", false, "let incidents come often, and programs want locks at once")
+	brief := flag.Bool("brief", false, "let programs want locks at once, and stay inside briefly")
 	messages := flag.Bool("messages", false, "show messages in the schedule")
 	last := flag.Int("last", 400, "how many lines of the schedule of a run with a fault are printed")
 	flag.Parse()
-	o := simulation.Options{Events: *events, Calm: *calm, ShowMessages: *messages}
+	o := simulation.Options{Events: *events, Calm: *calm, Often: *often, Brief: *brief, ShowMessages: *messages}
 	if *only != "" {
 		o.Only = strings.Split(*only, ",")
 	}
