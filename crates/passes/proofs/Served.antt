@@ -112,11 +112,11 @@ told_took reaches voting lock session v client stamp grant begins told =
     let use_of : ℕ → ℕ → Use = λ s e. record { session = s; epoch = e; stamp = stamp } in
     let one = reaches n es told.0 stamp grant begins told.1 told.5 in
     let by_lock : IsOneOf (use_of told.0.session one.0) (rows.after_turns (begin (n.rows told.0.message.client)) (turns_of lock told.0.message.client es)).kept =
-        subst (λ (k : ℕ). IsOneOf (use_of told.0.session one.0) (rows.after_turns (begin (n.rows told.0.message.client)) (turns_of k told.0.message.client es)).kept) told.2 one.1 in
+    subst (λ (k : ℕ). IsOneOf (use_of told.0.session one.0) (rows.after_turns (begin (n.rows told.0.message.client)) (turns_of k told.0.message.client es)).kept) told.2 one.1 in
     let by_client : IsOneOf (use_of told.0.session one.0) (rows.after_turns (begin (n.rows client)) (turns_of lock client es)).kept =
-        subst (λ (c : ℕ). IsOneOf (use_of told.0.session one.0) (rows.after_turns (begin (n.rows c)) (turns_of lock c es)).kept) told.4 by_lock in
+    subst (λ (c : ℕ). IsOneOf (use_of told.0.session one.0) (rows.after_turns (begin (n.rows c)) (turns_of lock c es)).kept) told.4 by_lock in
     let mine : IsOneOf (use_of session one.0) (rows.after_turns (begin (n.rows client)) (turns_of lock client es)).kept =
-        subst (λ (s : ℕ). IsOneOf (use_of s one.0) (rows.after_turns (begin (n.rows client)) (turns_of lock client es)).kept) told.3 by_client in
+    subst (λ (s : ℕ). IsOneOf (use_of s one.0) (rows.after_turns (begin (n.rows client)) (turns_of lock client es)).kept) told.3 by_client in
     let took = keeps_turns (begin (n.rows client)) (turns_of lock client es) (λ u is. is) (use_of session one.0) mine in
     (one.0, subst (λ (x : Voter). IsOneOf (use_of session one.0) x.took) (sym (turns_lead (begin (n.rows client)) (turns_of lock client es)).there) took)
 
