@@ -34,9 +34,8 @@ pub fn silence_is_counted()
         → ttl ≤ all_count (all_ticked (begun period begin) before) since }
 {}
 
-/// A dead session is silent once a TTL has passed since it was heard, and the time that was skipped since, and for
-/// how long ago the newest marker left that came back: so at each time from then on the grants that it has may be let
-/// go. Nothing is skipped while markers come back one after the other, and none leaves more than two periods after the
+/// A dead session is silent once this much has passed since it was heard: a TTL, what the clock skipped since, and the
+/// age of the newest marker that came back. Then its grants may be let go. Nothing is skipped while markers come back one after the other, and none leaves more than two periods after the
 /// one before it.
 pub fn dead_sessions_are_silent()
     // `heard` is when the session was heard last, no earlier than when the last marker left; `skipped` is the most that

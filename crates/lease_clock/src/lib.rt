@@ -18,8 +18,8 @@
 //!   TTL has passed since ([`clocks_are_never_ahead`]).
 //! - Its reading grows by exactly what counts: up to two periods for each marker that comes back
 //!   after the one before it ([`silence_is_counted`]).
-//! - A dead session is silent at most a TTL, what was skipped, and the delay of markers after it was heard
-//!   ([`dead_sessions_are_silent`]).
+//! - A dead session is silent once this much has passed since it was heard: a TTL, what was skipped, and the age of the
+//!   newest marker that came back ([`dead_sessions_are_silent`]).
 //! - Of one voter and one client that has its grant, whatever is late, lost, repeated or out of
 //!   order, and with clocks whose rates differ: who works has its grant
 //!   ([`who_works_has_its_grant`], by leases as Gray and Cheriton have them, SOSP 1989). The voter

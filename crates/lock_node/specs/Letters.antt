@@ -24,7 +24,8 @@ abbrev pub may_let_go : Row → Bool → Bool → ℕ → Bool
 may_let_go r is_silent ended_elsewhere stamp = is_silent || (not ended_elsewhere && (is_none r.session || nat_le stamp r.base))
 
 -- A voter takes this of a session, by the row of its number. The number has to be the session's, under this epoch. A
--- REQUEST has one of its own stamps, and a RELEASE none above them. A RELINQUISH names a grant.
+-- REQUEST has one of its own stamps. A RELEASE has at most the highest that is reserved, so it may end requests of
+-- earlier sessions. A RELINQUISH names a grant.
 abbrev pub may_say : Row → ℕ → ℕ → VoterBody → Bool
 may_say r session epoch (asks.Request stamp) = is_taken r session epoch stamp
 may_say r session epoch (asks.Relinquish grant) = has_number r session epoch

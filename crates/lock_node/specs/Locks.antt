@@ -123,7 +123,7 @@ abbrev pub all_leave : LockNode → List Event → List Letter
 all_leave n [] = []
 all_leave n (e ∷ es) = leaves n e ++ all_leave (happens n e) es
 
--- A process begins: its rows are saved, nothing waits, and no vote is granted or waited for.
+-- A process begins: its rows are saved, no letter waits, and no vote is granted or waited for.
 pub record Begins (n : LockNode) : Type 0 where
   pub rows : (number : ℕ) → n.saved number ≡ n.rows number
   pub nobody : (lock client stamp : ℕ) → IsEntry (n.locks lock).live client stamp → ⊥

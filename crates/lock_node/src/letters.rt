@@ -42,8 +42,8 @@ pub fn may_let_go(row: &SessionRow, is_silent: bool, ended_elsewhere: bool, stam
 
 /// Returns whether a voter takes this of a session, under an epoch, by the row of its number.
 ///
-/// The number has to be the session's, under this epoch. A REQUEST has one of the session's own stamps, and a
-/// RELEASE none above them. A RELINQUISH names a grant.
+/// The number has to be the session's, under this epoch. A REQUEST has one of the session's own stamps. A RELEASE
+/// has at most the highest that is reserved, so it may end requests of earlier sessions. A RELINQUISH names a grant.
 pub fn may_say(row: &SessionRow, session: u128, epoch: u64, body: &VoterBody) -> bool
     ensures { result ≡ may_say row.now session epoch body.now }
 {
