@@ -525,9 +525,9 @@ int32_t qlock_lock_remind(const uint8_t *table, size_t rows, const uint8_t *vote
 
 /* How a session stands at a voter. */
 enum {
-    QLOCK_KNOWN = 0,   /* the number is the session's, under this epoch */
-    QLOCK_UNKNOWN = 1, /* it may claim the number under this epoch */
-    QLOCK_OVER = 2     /* the number has another session, or had one under a later epoch */
+    QLOCK_SESSION_KNOWN = 0,   /* the number is the session's, under this epoch */
+    QLOCK_SESSION_UNKNOWN = 1, /* it may claim the number under this epoch */
+    QLOCK_SESSION_OVER = 2     /* the number has another session, or had one under a later epoch */
 };
 
 /* Writes how a session stands, named by these halves, under this epoch, by the row of a number, 0 to 63.

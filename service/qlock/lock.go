@@ -37,9 +37,9 @@ type Standing uint32
 
 // How a session stands.
 const (
-	SessionKnown   Standing = C.QLOCK_KNOWN   // the number is the session's, under its epoch
-	SessionUnknown Standing = C.QLOCK_UNKNOWN // it may claim the number under its epoch
-	SessionOver    Standing = C.QLOCK_OVER    // the number has another session, or had one under a later epoch
+	SessionKnown   Standing = C.QLOCK_SESSION_KNOWN   // the number is the session's, under its epoch
+	SessionUnknown Standing = C.QLOCK_SESSION_UNKNOWN // it may claim the number under its epoch
+	SessionOver    Standing = C.QLOCK_SESSION_OVER    // the number has another session, or had one under a later epoch
 )
 
 // Judge returns how a session stands, by the row of a number, 0 to 63.
