@@ -330,6 +330,10 @@ func (w *world) copies() {
 		}
 		p.copies = append(p.copies, p.disk.rows.copied())
 	}
+	if w.Copies {
+		w.in(w.upTo(w.ttl/4), w.copies)
+		return
+	}
 	w.in(w.upTo(2*w.ttl), w.copies)
 }
 
@@ -359,6 +363,9 @@ func (w *world) putsCopy() bool {
 		return false
 	}
 	older := p.copies[w.random.Intn(len(p.copies))]
+	if w.Copies && w.random.Intn(4) > 0 {
+		older = p.copies[len(p.copies)-1]
+	}
 	if theirs, err := (voter.Saved{Rows: durable{older}}).Meta(); err != nil || theirs.Identity != meta.Identity && !w.Wrong.OlderCopy {
 		p.copies = nil // of before the state was lost
 		return false

@@ -25,6 +25,12 @@ func TestRuns(t *testing.T) {
 			t.Errorf("there were no %s", kind)
 		}
 	}
+	copies := []string{"older copies of states", "clients cut off", "clients that stand still"}
+	for seed := int64(1); seed <= 4; seed++ {
+		if r := Run(Options{Seed: seed, Events: 8000, Often: true, Copies: true, Only: copies}); r.Fault != nil {
+			t.Fatalf("older copies, seed %d: %v", seed, r.Fault)
+		}
+	}
 	if total.Passes < 500 || total.Lost == 0 || total.Refused == 0 {
 		t.Errorf("%+v", total)
 	}

@@ -33,6 +33,7 @@ type Options struct {
 	Calm         bool     // no incident happens by chance
 	Often        bool     // incidents come often, and programs want locks at once
 	Brief        bool     // programs want locks at once, and stay inside briefly
+	Copies       bool     // copies of states are made often, and mostly the newest one is put back
 	ShowMessages bool     // in the schedule
 }
 

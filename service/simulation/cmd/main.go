@@ -28,10 +28,11 @@ func main() {
 	trace := flag.Bool("trace", false, "print the schedule of the first run")
 	often := flag.Bool("often", false, "let incidents come often, and programs want locks at once")
 	brief := flag.Bool("brief", false, "let programs want locks at once, and stay inside briefly")
+	copies := flag.Bool("copies", false, "make copies of states often, and put mostly the newest one back")
 	messages := flag.Bool("messages", false, "show messages in the schedule")
 	last := flag.Int("last", 400, "how many lines of the schedule of a run with a fault are printed")
 	flag.Parse()
-	o := simulation.Options{Events: *events, Calm: *calm, Often: *often, Brief: *brief, ShowMessages: *messages}
+	o := simulation.Options{Events: *events, Calm: *calm, Often: *often, Brief: *brief, Copies: *copies, ShowMessages: *messages}
 	if *only != "" {
 		o.Only = strings.Split(*only, ",")
 	}
