@@ -39,9 +39,19 @@ cut_of_client w rest fits = cut_of (client_line w) rest (Lacks-line client_form 
 
 opened_lacks : (o : Opened) → OpenedFits o → Lacks 10 (fields (opened_numbers o))
 opened_lacks o h =
-    Lacks-spaced (decimal o.number ∷ decimal o.epoch ∷ decimal o.base ∷ decimal o.reserved ∷ decimal o.seq ∷ decimal o.requests ∷ []) []
-    (number_lacks o.number (omega (arith, h.number)), (number_lacks o.epoch h.epoch, (number_lacks o.base h.base, (number_lacks o.reserved h.reserved,
-    (number_lacks o.seq h.seq, (number_lacks o.requests h.requests, tt)))))) tt
+    Lacks-spaced (decimal o.number ∷ decimal o.epoch ∷ decimal o.base ∷ decimal o.reserved ∷ decimal o.seq ∷ decimal o.requests ∷ []) [] (
+      number_lacks o.number (omega (arith, h.number)),
+      (
+        number_lacks o.epoch h.epoch,
+        (
+          number_lacks o.base h.base,
+          (
+            number_lacks o.reserved h.reserved,
+            (number_lacks o.seq h.seq, (number_lacks o.requests h.requests, tt)),
+          ),
+        ),
+      ),
+    ) tt
 
 pub cut_of_voter : (s : VoterSays) (rest : List ℕ) → SaysFits s → cut_at 10 (control_line (says_line s) ++ rest) ≡ Some (codes ". " ++ says_line s, rest)
 cut_of_voter (says.Word w) rest fits = cut_of (says_line (says.Word w)) rest (Lacks-line voter_form voter_words_have_form w fits)

@@ -56,7 +56,10 @@ pub use client_words::{is_unknown, read_client_word};
 pub use control::{ClientWord, Opened, VoterSays, VoterWord};
 pub use control_lines::{client_word_line, voter_says_line};
 pub use header::{Header, Sender};
-pub use laws::{a_message_has_one_header, control_lines_are_cut, headers_are_read_back, headers_fit, names_have_places};
+pub use laws::{
+    a_message_has_one_header, control_lines_are_cut, headers_are_read_back, headers_fit,
+    names_have_places,
+};
 pub use places::name_at;
 pub use reading::{Envelope, MOST_HEADER, read_header};
 pub use voter_words::read_voter_says;

@@ -1,12 +1,13 @@
-//! The library for C: the voter and the client of the lock, the guard of what the lock protects, and the
-//! row of a client number and the lease clock at a voter.
+//! The library for C: the voter and the client of the lock, the guard of what the lock protects, the row of
+//! a client number and the lease clock at a voter, and the headers and lines of control of a service's
+//! messages.
 //!
 //! A call gets the state as bytes, which are the caller's, and writes the new state in their place.
 //! Messages are lines of text, as `message` reads and writes them. No call takes memory, and there
 //! is nothing else that one call leaves to the next: calls on different states may run at once.
 //!
 //! - `src/voter_calls.rt`, `src/client_calls.rt`, `src/fence_calls.rt`, `src/quorum_calls.rt`,
-//!   `src/row_calls.rt`, `src/clock_calls.rt`: the functions that C calls.
+//!   `src/row_calls.rt`, `src/clock_calls.rt`, `src/envelope_calls.rt`: the functions that C calls.
 //! - `src/version.rt`: the version, as a number.
 //! - `src/saved_bytes.rt`: the states as bytes.
 //! - `src/lines.rt`: messages as lines, in a text of fixed room.
@@ -19,9 +20,10 @@
 //! A call that does not return 0 writes nothing. Where a call that changes a state or sends returns 0,
 //! the automaton's own step gives the new state and the lines: `specs/VoterSteps.antt`,
 //! `specs/ClientSteps.antt` and `specs/FenceSteps.antt`. What is said of quorums is in
-//! `specs/QuorumSteps.antt`. Rows, lease clocks and refusals are in the crate `blocks`.
+//! `specs/QuorumSteps.antt`. Rows, lease clocks, headers, lines of control and refusals are in the
+//! crate `blocks`.
 //!
-//! Depends on `blocks`, `voter`, `voter_node`, `requester`, `fence`, `session_rows`, `message`,
+//! Depends on `blocks`, `envelope`, `voter`, `voter_node`, `requester`, `fence`, `session_rows`, `message`,
 //! `words`, `quorum_set` and `numbers`.
 #![tactic(auto)]
 
