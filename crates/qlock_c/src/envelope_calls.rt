@@ -50,8 +50,8 @@ pub extern "C" fn qlock_header_write(
     number_of(headers::write(&header, out, written))
 }
 
-/// Reads a line of control of a client, without the dot in front and the newline behind, as 4 words: its kind, the
-/// number of the client, and two more. A line that begins with no known word is 0, and three times 0.
+/// Reads a line of control of a client, without the dot in front and the newline behind, as 4 words: its
+/// kind, the number of the client, and two more. A line that begins with no known word is four times 0.
 #[unsafe(no_mangle)]
 pub extern "C" fn qlock_client_word_read(line: &[u8], words: &mut [u64]) -> i32
     ensures refused { result ≢ done → words.new ≡ words.old }
@@ -60,7 +60,8 @@ pub extern "C" fn qlock_client_word_read(line: &[u8], words: &mut [u64]) -> i32
     number_of(control::read_client(line, words))
 }
 
-/// Writes a line of control of a client to the front of `out`, as it is in a message, and how many bytes it has.
+/// Writes a line of control of a client to the front of `out`, as it is in a message, and how many bytes
+/// it has.
 #[unsafe(no_mangle)]
 pub extern "C" fn qlock_client_word_write(
     kind: u8,
@@ -79,8 +80,8 @@ pub extern "C" fn qlock_client_word_write(
     }
 }
 
-/// Reads a line of control of a voter, without the dot in front and the newline behind, as 7 words: its kind, the
-/// number of the client, and five more.
+/// Reads a line of control of a voter, without the dot in front and the newline behind, as 7 words: its
+/// kind, the number of the client, and five more.
 #[unsafe(no_mangle)]
 pub extern "C" fn qlock_voter_word_read(line: &[u8], words: &mut [u64]) -> i32
     ensures refused { result ≢ done → words.new ≡ words.old }
@@ -89,7 +90,8 @@ pub extern "C" fn qlock_voter_word_read(line: &[u8], words: &mut [u64]) -> i32
     number_of(control::read_voter(line, words))
 }
 
-/// Writes a line of control of a voter to the front of `out`, as it is in a message, and how many bytes it has.
+/// Writes a line of control of a voter to the front of `out`, as it is in a message, and how many bytes
+/// it has.
 #[unsafe(no_mangle)]
 pub extern "C" fn qlock_voter_word_write(
     kind: u8,
