@@ -498,6 +498,7 @@ func (w *world) heal() {
 	w.log("no fault happens any more")
 	w.noise, w.broker.thawsAt = calm, w.now
 	for _, p := range w.voters {
+		p := p
 		p.cut, p.disk.full = false, false
 		if r := p.run; r != nil {
 			r.nextSave, r.leaves, r.standsIn = saves, 0, 0
