@@ -618,7 +618,7 @@ int32_t qlock_header_write(uint8_t kind, uint8_t number, uint64_t first, uint64_
    kind, the number of a client, and two more. What it does not have is 0. If its first word is none of those above, the words are 0.
 
    QLOCK_BAD_ARGUMENT  `n` is not QLOCK_CLIENT_WORDS
-   QLOCK_BAD_MESSAGE   the first word is known, and the line is wrong */
+   QLOCK_BAD_MESSAGE   the line has no first word, as it is empty or begins with a space; or that word is known, and the line is wrong */
 int32_t qlock_client_word_read(const uint8_t *line, size_t len, uint64_t *words, size_t n);
 
 /* Writes a line of control of a client, with the dot and the space in front and with the newline, and how many bytes it has.
@@ -627,8 +627,8 @@ int32_t qlock_client_word_read(const uint8_t *line, size_t len, uint64_t *words,
    QLOCK_NO_ROOM       `room` is too small; QLOCK_LINE_OUT is always enough */
 int32_t qlock_client_word_write(uint8_t kind, uint8_t number, uint64_t first, uint64_t second, uint8_t *out, size_t room, size_t *written);
 
-/* Reads a line of control of a voter, as qlock_client_word_read does, as QLOCK_VOTER_WORDS words: its kind, the number of a client, and
-   five more.
+/* Reads a line of control of a voter, without the dot and the space in front and without the newline, as QLOCK_VOTER_WORDS words: its
+   kind, the number of a client, and five more. What it does not have is 0. A line with another first word is QLOCK_BAD_MESSAGE here.
 
    QLOCK_BAD_ARGUMENT  `n` is not QLOCK_VOTER_WORDS
    QLOCK_BAD_MESSAGE   the line is none of those above */

@@ -26,6 +26,7 @@ import (
 	"context"
 	"errors"
 	"fmt"
+	"math"
 	"math/rand"
 	"strconv"
 	"time"
@@ -193,13 +194,8 @@ func (c *Client) choose(ctx context.Context) error {
 		if err := c.rounds(ctx, func() { c.say(qlock.ClientSays{Kind: qlock.Hello}) }, c.isAnswered); err != nil {
 			return err
 		}
-		for _, want := range []int{1, 2} {
-			for i, first := 0, rand.Intn(qlock.MaxClients); i < qlock.MaxClients; i++ {
-				if number := (first + i) % qlock.MaxClients; c.states[number] == want {
-					c.asked = number
-					return nil
-				}
-			}
+		if c.pick() {
+			return nil
 		}
 		if c.config.DontWait {
 			return ErrNumbers
@@ -210,6 +206,20 @@ func (c *Client) choose(ctx context.Context) error {
 			return because{ErrNumbers, ctx.Err()}
 		}
 	}
+}
+
+// pick chooses a number that is free, or else one whose session is silent, and returns whether there is one. A number whose epochs are
+// spent has no session any more.
+func (c *Client) pick() bool {
+	for _, want := range []int{1, 2} {
+		for i, first := 0, rand.Intn(qlock.MaxClients); i < qlock.MaxClients; i++ {
+			if number := (first + i) % qlock.MaxClients; c.states[number] == want && c.epochs[number] < math.MaxUint64 {
+				c.asked = number
+				return true
+			}
+		}
+	}
+	return false
 }
 
 // claim claims the number that was chosen, under a new epoch.

@@ -4,6 +4,7 @@ import (
 	"context"
 	"errors"
 	"fmt"
+	"math"
 	"math/rand"
 	"strings"
 	"testing"
@@ -266,5 +267,20 @@ func TestLostLockIsNotRenewed(t *testing.T) {
 	}
 	if c.locks["x"].shown.Phase != qlock.Idle {
 		t.Error("the votes are not given back")
+	}
+}
+
+// A number whose epochs are spent is not chosen: there is no claim of it.
+func TestSpentEpochs(t *testing.T) {
+	var c Client
+	for number := range c.states {
+		c.states[number], c.epochs[number] = 1+number%2, math.MaxUint64
+	}
+	if c.pick() {
+		t.Errorf("number %d is chosen", c.asked)
+	}
+	c.epochs[5] = math.MaxUint64 - 1
+	if !c.pick() || c.asked != 5 {
+		t.Errorf("number %d is chosen", c.asked)
 	}
 }

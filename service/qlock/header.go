@@ -69,6 +69,9 @@ type WrittenHeader struct {
 // Append appends the header's line. It returns BadArgument if the kind is none, a name is no name, or the number of a client
 // or a voter is above 63.
 func (h WrittenHeader) Append(out []byte) ([]byte, error) {
+	if h.Kind == 'o' {
+		h.Number = 0
+	}
 	if h.Number < 0 || h.Number >= MaxClients {
 		return out, BadArgument
 	}

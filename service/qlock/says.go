@@ -67,8 +67,11 @@ const (
 // and the line is wrong.
 func ReadClientSays(line []byte) (ClientSays, error) {
 	read := C.client_word_read(at(line), C.size_t(len(line)))
+	if err := refusal(read.refusal); err != nil {
+		return ClientSays{}, err
+	}
 	w := &read.words
-	return ClientSays{Kind: ClientKind(w[0]), Number: int(w[1]), First: uint64(w[2]), Second: uint64(w[3])}, refusal(read.refusal)
+	return ClientSays{Kind: ClientKind(w[0]), Number: int(w[1]), First: uint64(w[2]), Second: uint64(w[3])}, nil
 }
 
 // Append appends the line, as it is in a message. It returns BadArgument if there is no such line.
@@ -110,9 +113,12 @@ const (
 // ReadVoterSays reads a line of control of a voter, without the dot in front. It returns BadMessage if it is none with numbers only.
 func ReadVoterSays(line []byte) (VoterSays, error) {
 	read := C.voter_word_read(at(line), C.size_t(len(line)))
+	if err := refusal(read.refusal); err != nil {
+		return VoterSays{}, err
+	}
 	w := &read.words
 	return VoterSays{Kind: VoterKind(w[0]), Number: int(w[1]), First: uint64(w[2]), Second: uint64(w[3]), Third: uint64(w[4]),
-		Fourth: uint64(w[5]), Fifth: uint64(w[6])}, refusal(read.refusal)
+		Fourth: uint64(w[5]), Fifth: uint64(w[6])}, nil
 }
 
 // Append appends the line, as it is in a message. It returns BadArgument if there is no such line.

@@ -3,7 +3,6 @@ package simulation
 import (
 	"bytes"
 	"encoding/hex"
-	"fmt"
 	"strconv"
 	"time"
 
@@ -266,11 +265,11 @@ func (c *client) goesOn() {
 	c.saysAt = now + c.pause
 	switch c.stage {
 	case choosing:
-		c.say("hello")
+		c.say(qlock.ClientSays{Kind: qlock.Hello})
 	case waiting:
 		c.choose()
 	case claiming:
-		c.say(fmt.Sprintf("claim %d %d %d", c.asked, c.claimed, firstBlock))
+		c.say(qlock.ClientSays{Kind: qlock.ClaimStamps, Number: c.asked, First: c.claimed, Second: firstBlock})
 	case reserving:
 		c.heartbeat()
 	}
@@ -350,7 +349,8 @@ func (c *client) abandon() {
 	for v := range c.peers {
 		c.peers[v].sent = map[uint64]time.Duration{}
 		c.peers[v].forget()
-		c.out[v] = append(c.out[v][:0], fmt.Sprintf(". drop %d %d\n", c.asked, c.claimed)...)
+		c.out[v] = c.out[v][:0]
+		c.tell(v, qlock.ClientSays{Kind: qlock.Drop, Number: c.asked, First: c.claimed})
 	}
 	c.epochs[c.asked] = c.claimed
 	c.flush()
@@ -358,10 +358,20 @@ func (c *client) abandon() {
 }
 
 // say says a control line to all voters.
-func (c *client) say(text string) {
+func (c *client) say(says qlock.ClientSays) {
 	for v := range c.peers {
-		c.out[v] = append(c.out[v], ". "+text+"\n"...)
+		c.tell(v, says)
 	}
+}
+
+// tell says a control line to a voter.
+func (c *client) tell(v int, says qlock.ClientSays) {
+	out, err := says.Append(c.out[v])
+	if err != nil {
+		c.violated("protocol", "client %d says what has no line: %+v", c.id, says)
+		return
+	}
+	c.out[v] = out
 }
 
 // forget forgets what a voter said of a number.
@@ -481,9 +491,9 @@ func (c *client) heartbeat() {
 			continue
 		}
 		p.sent[c.header.Seq] = now
-		c.out[v] = append(c.out[v], ". open 0\n"...)
+		c.tell(v, qlock.ClientSays{Kind: qlock.Open})
 		if c.draining && p.drained {
-			c.out[v] = append(c.out[v], ". close\n"...)
+			c.tell(v, qlock.ClientSays{Kind: qlock.Close})
 		}
 	}
 }
@@ -545,7 +555,7 @@ func (c *client) message(m transport.Message) {
 		}
 		lines = rest
 		if string(lock) == "." {
-			c.control(h.Number, bytes.Fields(line))
+			c.control(h.Number, line)
 		} else if wire.ReadLine(line).From == h.Number && c.header.Epoch > 0 && !c.peers[h.Number].stale {
 			c.take(string(lock), line)
 		}
@@ -631,60 +641,45 @@ func (c *client) spoilAll(voters uint64) {
 	}
 }
 
-// control takes a control line of a voter.
-func (c *client) control(v int, words [][]byte) {
-	if len(words) == 0 {
+// control takes a control line of a voter: one with numbers only, or that a request is gone.
+func (c *client) control(v int, line []byte) {
+	if says, err := qlock.ReadVoterSays(line); err == nil {
+		c.hear(v, says)
 		return
 	}
-	word := string(words[0])
-	var n [6]uint64
-	switch {
-	case len(words) == 3 && word == "gone":
+	if words := bytes.Fields(line); len(words) == 3 && string(words[0]) == "gone" {
 		if stamp, ok := wire.Decimal(words[2]); ok {
 			c.gone(string(words[1]), stamp)
 		}
-		return
-	case len(words) == 1 && word == "leaving":
+	}
+}
+
+// hear takes a control line of a voter that has numbers only.
+func (c *client) hear(v int, says qlock.VoterSays) {
+	mine := says.Number == c.header.Number && says.First == c.header.Epoch && c.header.Epoch > 0
+	switch says.Kind {
+	case qlock.Leaving:
 		c.peers[v].heard = -time.Hour
 		c.avoid()
-		return
-	case len(words) == 2 && word == "quiet":
-		if left, ok := wire.Decimal(words[1]); ok {
-			c.isQuiet(v, left)
-		}
-		return
-	case len(words) < 3 || len(words) > 1+len(n):
-		return
-	}
-	for i, text := range words[1:] {
-		value, ok := wire.Decimal(text)
-		if !ok {
-			return
-		}
-		n[i] = value
-	}
-	if n[0] >= qlock.MaxClients {
-		return
-	}
-	mine := int(n[0]) == c.header.Number && n[1] == c.header.Epoch && c.header.Epoch > 0
-	switch word {
-	case "number":
+	case qlock.Quiet:
+		c.isQuiet(v, says.First)
+	case qlock.NumberIs:
 		if c.stage == choosing {
-			c.noteNumber(v, int(n[0]), n[1], int(n[2]))
+			c.noteNumber(v, says.Number, says.First, int(says.Second))
 		}
-	case "claimed", "refused":
-		if c.stage == claiming && int(n[0]) == c.asked && n[1] == c.claimed || mine {
-			c.noteClaim(v, word == "claimed", n[2], n[3])
+	case qlock.Claimed, qlock.Denied:
+		if c.stage == claiming && says.Number == c.asked && says.First == c.claimed || mine {
+			c.noteClaim(v, says.Kind == qlock.Claimed, says.Second, says.Third)
 		}
-	case "opened":
+	case qlock.Opened:
 		if mine && !c.peers[v].stale {
-			c.opened(v, n[2], n[3], n[4], n[5])
+			c.opened(v, says.Second, says.Third, says.Fourth, says.Fifth)
 		}
-	case "unknown":
+	case qlock.Unknown:
 		if mine {
 			c.claimAgain(v)
 		}
-	case "closed", "taken":
+	case qlock.Closed, qlock.Taken:
 		if mine {
 			c.isOverAt(v)
 		}
@@ -737,7 +732,7 @@ func (c *client) noteClaim(v int, granted bool, base, reserved uint64) {
 func (c *client) claimAgain(v int) {
 	if p := &c.peers[v]; p.claimed < c.header.Seq {
 		p.claimed = c.header.Seq
-		c.out[v] = append(c.out[v], fmt.Sprintf(". claim %d %d %d\n", c.header.Number, c.header.Epoch, firstBlock)...)
+		c.tell(v, qlock.ClientSays{Kind: qlock.ClaimStamps, Number: c.header.Number, First: c.header.Epoch, Second: firstBlock})
 	}
 }
 
@@ -754,7 +749,7 @@ func (c *client) opened(v int, base, reserved, seq, requests uint64) {
 		p.drained = true
 	}
 	if p.drained && !p.closed {
-		c.out[v] = append(c.out[v], ". close\n"...)
+		c.tell(v, qlock.ClientSays{Kind: qlock.Close})
 	}
 	c.noteStamps(v, base, reserved)
 }

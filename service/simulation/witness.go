@@ -3,6 +3,7 @@ package simulation
 import (
 	"bytes"
 	"encoding/json"
+	"fmt"
 	"strings"
 	"time"
 
@@ -139,6 +140,14 @@ func (r *process) checkSent(mailbox string, message []byte) {
 		r.checkSaid(strings.TrimSuffix(strings.TrimPrefix(mailbox, "qlock."+r.cluster.ID+".c."), mailbox[strings.LastIndexByte(mailbox, '.'):]), message)
 	case "p":
 		r.checkWord(mailbox, message)
+	case "o":
+		if h, lines, err := wire.Read(message); err == nil {
+			r.checkHeader(h)
+			var knows voter.Knows
+			if json.Unmarshal(lines, &knows) == nil { // else it is another answer
+				r.checkKnows(knows, "an operator")
+			}
+		}
 	}
 }
 
@@ -178,10 +187,13 @@ func (r *process) checkSaid(session string, message []byte) {
 	}
 }
 
-// checkLapses looks for a count of lapses of a session.
+// checkLapses looks for a count of lapses of a session: that of the number that it has, or the greatest while it has none.
 func (r *process) checkLapses(session string, lapses uint64) {
-	most := uint64(0)
+	most, c := uint64(0), r.sessions[session]
 	for number := 0; number < qlock.MaxClients; number++ {
+		if c != nil && c.header.Epoch > 0 && number != c.header.Number {
+			continue
+		}
 		if row, err := r.disk.session(number); err == nil && row.Lapses > most {
 			most = row.Lapses
 		}
@@ -288,13 +300,17 @@ func (r *process) checkWord(mailbox string, message []byte) {
 			r.unsaved("says %q to voter %d, and the disk has %+v (%v)", said.Word, to, kept, err)
 		}
 	}
-	if said.Knows == nil {
-		return
+	if said.Knows != nil {
+		r.checkKnows(*said.Knows, fmt.Sprint("voter ", to))
 	}
+}
+
+// checkKnows looks at what a voter says that it knows of sessions.
+func (r *process) checkKnows(knows voter.Knows, whom string) {
 	for number := 0; number < qlock.MaxClients; number++ {
-		row, is := said.Knows.Sessions[number]
+		row, is := knows.Sessions[number]
 		if saved, err := r.disk.session(number); is && (err != nil || saved.Epoch < row.Epoch || saved.Reserved < row.Reserved) {
-			r.unsaved("says %+v of number %d to voter %d, and the disk has %+v (%v)", row, number, to, saved, err)
+			r.unsaved("says %+v of number %d to %s, and the disk has %+v (%v)", row, number, whom, saved, err)
 		}
 	}
 }

@@ -2,7 +2,7 @@
 // disks and clocks. The voters are the daemon of package voter, stepped in place of its loop. The clients are small ones of
 // this package, over the proved client. A run is repeated exactly by its seed.
 //
-//	service/go run ./simulation/cmd -seed 1 -runs 100 -steps 100000
+//	service/go run ./simulation/cmd -seed 1 -runs 100 -events 100000
 //
 // After each event it checks, in true virtual time:
 //
@@ -185,8 +185,14 @@ func planOf(coterie string) (*qlock.Plan, error) {
 }
 
 // Run makes a run.
-func Run(o Options) Result {
+func Run(o Options) (result Result) {
 	w := newWorld(o)
+	defer func() {
+		if why := recover(); why != nil { // the seed is not lost
+			w.violated("panic", "%v", why)
+			result = Result{Figures: w.Figures, Hash: w.hash, Fault: w.fault}
+		}
+	}()
 	if err := w.begin(); err != nil {
 		return Result{Fault: err}
 	}

@@ -27,7 +27,8 @@ pub fn a_message_has_one_header(message: &[u8])
     let _ = read_header(message);
 }
 
-/// In a message the names of the header are where the calls for C say, and so are the lines behind it.
+/// In a message the names of the header are where [`name_at`](crate::name_at) and the lengths of the others say, and the lines behind it
+/// are its end.
 pub fn names_have_places()
     ensures { (text : List ℕ) (h : Head) (ignored lines : List ℕ) → IsMessage text h ignored lines → ArePlaces text h lines }
 {}

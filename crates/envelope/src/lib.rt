@@ -10,7 +10,7 @@
 //! | an operator | `qlock2 CLUSTER COTERIE o QUESTION` |
 //!
 //! Behind these there is ` level=LEVEL` if the level is not 0, and then any number of words KEY=VALUE, which
-//! a reader ignores. CLUSTER, COTERIE and the name are 1 to 64 bytes of A-Z a-z 0-9 _ -. The line has at most
+//! a reader ignores: a key is not empty, and not `level`. CLUSTER, COTERIE and the name are 1 to 64 bytes of A-Z a-z 0-9 _ -. The line has at most
 //! 512 bytes, without its newline.
 //!
 //! A line of control is a word and decimal numbers: [`ClientWord`] is what clients say, and [`VoterSays`]

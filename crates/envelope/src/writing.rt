@@ -45,7 +45,7 @@ pub fn push_number(text: &mut Room, number: u64)
     push_word(text, buffer.format(number).as_bytes());
 }
 
-/// Appends the words of a client or a voter: at most 152 bytes.
+/// Appends the words of a client or a voter: at most 149 bytes.
 fn push_numbers(text: &mut Room, id: u8, first: u64, second: u64, name: &[u8], third: u64)
     requires room { array_vec_len text.old + 149 ≤ 320 }
     requires name { IsName name.now }

@@ -4,6 +4,7 @@ import (
 	"crypto/sha256"
 	"encoding/hex"
 	"encoding/json"
+	"math"
 	"strings"
 	"time"
 
@@ -176,7 +177,7 @@ func (t *table) isEarlier(number int, stamp uint64) bool { return stamp <= t.row
 // state returns what a claimer has to know of a number: 1 if it is free, 2 if its session was silent for a TTL, else 0.
 func (t *table) state(number int) int {
 	switch {
-	case !t.isDead(number):
+	case !t.isDead(number) || t.rows[number].Epoch == math.MaxUint64: // no session can have it
 		return 0
 	case !t.rows[number].Open:
 		return 1

@@ -1,6 +1,7 @@
 package voter
 
 import (
+	"math"
 	"math/rand"
 	"testing"
 	"time"
@@ -202,5 +203,17 @@ func TestLapsesOfTwoNumbers(t *testing.T) {
 	table.lapse(9)
 	if lapses := table.lapses("jobs.me"); lapses != 1 {
 		t.Errorf("%d lapses", lapses)
+	}
+}
+
+// A number whose epochs are spent is nobody's any more: a voter says that it is taken.
+func TestSpentEpochs(t *testing.T) {
+	now := time.Unix(1000, 0)
+	table := newTable(now)
+	for _, epoch := range []uint64{math.MaxUint64 - 1, math.MaxUint64} {
+		table.set(3, Session{Epoch: epoch})
+		if got, want := table.state(3), map[uint64]int{math.MaxUint64 - 1: 1}[epoch]; got != want {
+			t.Errorf("epoch %d: state %d", epoch, got)
+		}
 	}
 }

@@ -18,25 +18,27 @@
 // counts how often the voter let a grant of the session go since it was silent. Lines of control,
 // and the replies:
 //
-//	hello         number N EPOCH FREE for each number
+//	hello         number N EPOCH STATE for each number: 0 taken, 1 free, 2 its session is silent
 //	claim N EPOCH STAMPS   claimed N EPOCH BASE RESERVED, or refused N EPOCH; it reserves so many
-//	              stamps above BASE
+//	              stamps above BASE, none without STAMPS
 //	drop N EPOCH  none: a claim had no quorum
 //	open PLAN     opened N EPOCH BASE RESERVED SEQ REQUESTS, and after an exchange generation PLAN
 //	              COTERIE OLDEST. This is the heartbeat; PLAN is the number of the oldest plan of
 //	              which a request is left
 //	plan          plan PLAN COTERIE-TEXT PLAN-TEXT
 //	close         closed N EPOCH
+//	greet         greeted, from a level on
 //
 // A voter also sends "gone LOCK STAMP" when it let a request go, "full LOCK STAMP" if it has no
 // room for the lock of a REQUEST, or for another one of its user, "taken N EPOCH" to a session that is over, and "unknown N EPOCH"
-// to one that has to claim its number there. It takes no other line of these two. A REQUEST's stamp
+// to one that has to claim its number there. From such a session it takes nothing else. A REQUEST's stamp
 // is above BASE and at most RESERVED, and no line of a lock has one above RESERVED.
 //
 // A client that is inside has the word "inside" behind its REQUEST. A voter that starts, and may not
 // know whom it granted its votes, is quiet for a TTL: it takes no REQUEST but of who is inside, and
-// says "quiet MS" to others. A client that does not want to wait for somebody has the word "try" there: to it a voter says
-// "held LOCK STAMP MS" if somebody else has the vote, and for how long. A vote stays quiet while one waits for it who said then that he is inside.
+// says "quiet MS" to others. A vote stays quiet while one waits for it who said then that he is
+// inside. A client that does not want to wait for somebody has the word "try" there: to it a voter
+// says "held LOCK STAMP MS" if somebody else has the vote, and for how long.
 //
 // Voters speak to one another in mailboxes of their own, a line of JSON behind the header (package
 // voter, peers.go).

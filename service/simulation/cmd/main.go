@@ -35,6 +35,12 @@ func main() {
 	o := simulation.Options{Events: *events, Calm: *calm, Often: *often, Brief: *brief, Copies: *copies, ShowMessages: *messages}
 	if *only != "" {
 		o.Only = strings.Split(*only, ",")
+		for _, kind := range o.Only {
+			if !isOneOf(kind, simulation.Kinds()) {
+				fmt.Fprintf(os.Stderr, "there is no kind %q of incidents: %s\n", kind, strings.Join(simulation.Kinds(), ", "))
+				os.Exit(2)
+			}
+		}
 	}
 	for _, duty := range simulation.Duties {
 		if duty.Name == *wrong {
@@ -47,6 +53,15 @@ func main() {
 		os.Exit(2)
 	}
 	os.Exit(run(o, *seed, *runs, *passes, *trace, *last))
+}
+
+func isOneOf(word string, words []string) bool {
+	for _, one := range words {
+		if one == word {
+			return true
+		}
+	}
+	return false
 }
 
 func duties() (names []string) {
