@@ -1,0 +1,270 @@
+package voter
+
+// The host of the proved calls: a loop, a disk, mailboxes and a clock. It takes what comes, lets the rest of this package decide by the
+// proved calls what that means, makes what changed durable, and then sends. What it is trusted with is in docs/service.md.
+
+import (
+	"context"
+	"fmt"
+	"sort"
+	"time"
+
+	"calvundek.example/service/internal/event"
+	"calvundek.example/service/internal/wire"
+	"calvundek.example/service/qlock"
+	"calvundek.example/service/transport"
+)
+
+func (d *Daemon) listen() (err error) {
+	if d.messages, err = d.carrier.Listen(wire.VoterBoxes(d.cluster.ID, d.store.meta.Voter)); err != nil {
+		return err
+	}
+	if d.voters, err = d.carrier.Listen(wire.PeerBoxes(d.cluster.ID, d.store.meta.Voter)); err != nil {
+		return err
+	}
+	if d.reads, err = d.carrier.Listen(wire.ReadBox(d.cluster.ID, d.store.meta.Voter, "*")); err != nil {
+		return err
+	}
+	d.writes, err = d.carrier.Listen(wire.WriteBox(d.cluster.ID, d.store.meta.Voter, "*"))
+	return err
+}
+
+// Run is the loop. It returns nil when the context ends, and ErrSave when a save fails.
+func (d *Daemon) Run(ctx context.Context) error {
+	defer d.store.disk.Close()
+	d.log.Write(event.Info, "start", "voter", d.own.Voter, "number", d.store.meta.Voter, "cluster", d.cluster.ID,
+		"run", d.store.meta.Run, "start", d.store.own.Start, "identity", d.store.meta.Identity, "locks", len(d.votes))
+	for {
+		until, err := d.Turn()
+		if err != nil {
+			return err
+		}
+		if !d.wait(ctx, until) {
+			return d.End()
+		}
+	}
+}
+
+// Turn does what time asks for, saves what changed, and sends. It returns until when it need not be called again if nothing
+// comes, or why the voter ends.
+func (d *Daemon) Turn() (until time.Time, err error) {
+	now := d.now()
+	d.look(now)
+	if !now.Before(d.next) {
+		d.sendMarker(now)
+		d.round(now)
+		d.next = now.Add(tick)
+	}
+	if d.start(now); d.join.refused != nil {
+		return now, d.endRefused()
+	}
+	if err := d.commit(now); err != nil {
+		d.log.Write(event.Error, "save-failed", "why", err)
+		return now, err
+	}
+	d.lively.Store(now.UnixNano())
+	switch until = d.next; {
+	case d.inbox.count > 0:
+		until = now // the rest of the last turn waits
+	case !d.join.done:
+		until = earlier(until, d.join.next)
+	}
+	return until, nil
+}
+
+// endRefused notes in the state that it never starts again, and returns why.
+func (d *Daemon) endRefused() error {
+	d.log.Write(event.Error, "refused", "why", d.join.refused)
+	if d.store.own.Refused != "" {
+		if err := d.store.update(d.store.saves, func(b *batch) error { return b.putOwn(d.store.own) }); err != nil {
+			d.log.Write(event.Error, "save-failed", "why", err)
+		}
+	}
+	return d.join.refused
+}
+
+// From says in which mailbox of a voter a message came.
+type From int
+
+// The mailboxes.
+const (
+	Nobody    From = iota // nothing came: it is time for a turn
+	Clients               // what users' sessions say, and markers
+	Voters                // what other voters say
+	Readers               // what operators want to know
+	Operators             // what operators want done
+)
+
+// wait waits for messages until a time, and takes all that are there. It returns false when the context has ended.
+func (d *Daemon) wait(ctx context.Context, until time.Time) bool {
+	timer := time.NewTimer(until.Sub(d.now()))
+	defer timer.Stop()
+	select {
+	case <-ctx.Done():
+		return false
+	case m := <-d.messages:
+		d.Take(Clients, m)
+	case m := <-d.voters:
+		d.Take(Voters, m)
+	case m := <-d.reads:
+		d.Take(Readers, m)
+	case m := <-d.writes:
+		d.Take(Operators, m)
+	case <-timer.C:
+		d.Take(Nobody, transport.Message{})
+	}
+	return true
+}
+
+// Take takes a message, and all of clients that are there besides. A turn has to follow. The clock is read after the message was
+// taken.
+func (d *Daemon) Take(from From, m transport.Message) {
+	switch from {
+	case Clients:
+		d.sort(m)
+	case Voters:
+		d.hearPeer(m, d.now())
+	case Readers:
+		d.operate(m, false, d.now())
+	case Operators:
+		d.operate(m, true, d.now())
+	}
+	d.receive()
+	d.work()
+	d.waits.Store(int64(d.inbox.count))
+}
+
+// End saves what nothing waited for, and tells all sessions that this voter leaves, so that they
+// ask others at once.
+func (d *Daemon) End() error {
+	d.savedAll = time.Time{}
+	for number, row := range d.table.rows {
+		if row.Open {
+			if name := d.table.names[number]; name != "" { // it was heard in this run
+				d.say(name, qlock.VoterSays{Kind: qlock.Leaving})
+			}
+		}
+	}
+	if err := d.commit(d.now()); err != nil {
+		return err
+	}
+	if d.join.done && !d.isQuiet() { // else the next start has to be quiet, too: this one did not come to know its grants
+		for voter := 0; voter < places; voter++ {
+			if d.others()>>voter&1 == 1 {
+				d.write(voter, word{Word: "ended", Process: d.join.process, Saves: d.store.saves})
+			}
+		}
+		d.deliverLetters()
+	}
+	d.log.Write(event.Info, "end", "voter", d.own.Voter)
+	return nil
+}
+
+// look logs that the broker is back, or has been away for long. No lease ends meanwhile: no marker
+// comes back.
+func (d *Daemon) look(now time.Time) {
+	if d.link != nil && d.link.Returns() != d.returns {
+		d.returns = d.link.Returns()
+		d.log.Write(event.Info, "broker-back", "returns", d.returns)
+	}
+	if d.link == nil || d.link.Connected() {
+		d.away = now
+	} else if now.Sub(d.away) > longestAway {
+		d.away = now
+		var why error
+		if link, ok := d.link.(interface{ Why() error }); ok {
+			why = link.Why()
+		}
+		d.log.Write(event.Warning, "broker-away", "why", why)
+	}
+}
+
+// IsLively returns whether the loop went round within some time.
+func (d *Daemon) IsLively(within time.Duration) bool {
+	return d.now().Sub(time.Unix(0, d.lively.Load())) < within
+}
+
+// commit saves all that changed, in one transaction, and then sends. What may be lost in a crash
+// waits for the next save, at most ten seconds: steps that send nothing, and rows of which a TTL
+// makes up for the loss.
+func (d *Daemon) commit(now time.Time) error {
+	must := len(d.dirty)+len(d.table.changed)+len(d.newPeers) > 0 || d.newPlans || d.newOwn
+	leaves := len(d.out)+len(d.replies)+len(d.letters) > 0
+	switch {
+	case !must && len(d.table.later)+len(d.silent)+len(d.gone) == 0:
+		d.savedAll = now
+	case must && leaves || now.Sub(d.savedAll) > longest:
+		if err := d.save(now); err != nil {
+			return err
+		}
+	}
+	if leaves {
+		d.deliver()
+	}
+	return nil
+}
+
+// save saves all that is not saved.
+func (d *Daemon) save(now time.Time) error {
+	began := d.now()
+	for v := range d.silent {
+		d.dirty[v] = struct{}{}
+	}
+	c := changes{votes: d.dirty, gone: d.gone, sessions: d.table.unsaved(), peers: d.newPeers}
+	if d.newPlans {
+		c.plans = &d.plans
+	}
+	if d.newOwn {
+		c.own = &d.store.own
+	}
+	if err := d.store.save(c); err != nil {
+		return fmt.Errorf("%w: %v", ErrSave, err)
+	}
+	d.m.commit.Observe(d.now().Sub(began).Seconds())
+	d.m.batch.Observe(float64(len(d.dirty)))
+	d.table.saved()
+	d.dirty, d.silent, d.newPeers = map[*vote]struct{}{}, map[*vote]struct{}{}, map[int]Peer{}
+	d.gone, d.newPlans, d.newOwn, d.savedAll = map[string]struct{}{}, false, false, now
+	return nil
+}
+
+// deliver sends what may leave.
+func (d *Daemon) deliver() {
+	header := d.header()
+	d.outBytes = 0
+	d.deliverLetters()
+	d.order = d.order[:0]
+	for session := range d.out {
+		d.order = append(d.order, session)
+	}
+	sort.Strings(d.order)
+	for _, session := range d.order {
+		lines := d.out[session]
+		box := wire.SessionBox(header.Cluster, session, header.Number)
+		header.Coterie, header.Lapses = d.speaks(session), d.table.lapses(session)
+		header.Split(lines, func(message []byte) { d.post(box, message) })
+		delete(d.out, session)
+	}
+	d.order = d.order[:0]
+	for box := range d.replies {
+		d.order = append(d.order, box)
+	}
+	sort.Strings(d.order)
+	for _, box := range d.order {
+		box, reply := box, d.replies[box]
+		header.Coterie, header.Lapses = reply.mark, 0
+		if begin := header.Append(nil); reply.status != nil {
+			d.aside(func() { d.post(box, append(begin, reply.text()...)) })
+		} else {
+			d.post(box, append(begin, reply.text()...))
+		}
+		delete(d.replies, box)
+	}
+}
+
+// post sends one message. What can't be sent is lost: a reminder repeats it.
+func (d *Daemon) post(box string, message []byte) {
+	if d.carrier.Send(box, message) != nil {
+		d.m.unsent.Inc()
+	}
+}
