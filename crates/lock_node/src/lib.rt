@@ -17,8 +17,8 @@
 //!
 //! # What is proved
 //!
-//! - Each LOCKED that ever leaves goes to a session from which this voter took a REQUEST for that lock, under that
-//!   stamp. This REQUEST, and the grant, are saved before ([`letters_reach_who_asked`]).
+//! - Each LOCKED that ever leaves goes to a session from which this voter took a REQUEST for that lock, of that number
+//!   and stamp, and saved that ([`letters_reach_who_asked`]).
 //! - The process is, lock by lock, a node of `voter_node` with a life of its own: so laws on such lives, as those of
 //!   `passes`, hold for each lock ([`locks_run_as_nodes`]). Each letter has one of the messages that this node sends, so
 //!   nothing leaves that was not saved ([`letters_are_given_out`]).
