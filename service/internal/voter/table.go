@@ -141,10 +141,8 @@ func (t *table) silent(number int) time.Duration {
 }
 
 // isDead returns whether the votes of a number may be let go: its session was ended, or silent for a TTL. One that another
-// voter ended counts as silent since then.
-func (t *table) isDead(number int) bool {
-	return !t.rows[number].Open && !t.byWord[number] || t.clock.IsSilent(t.heard[number], t.ttl)
-}
+// voter ended counts as silent since then. No session has stamps above the greatest one.
+func (t *table) isDead(number int) bool { return t.isOver(number, math.MaxUint64) }
 
 // lapse counts that a grant of a number's session is let go since it was silent. Whoever hears the
 // voter later hears the count.
