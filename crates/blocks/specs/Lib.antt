@@ -1,7 +1,10 @@
+pub mod BucketSteps
 pub mod Bytes
 pub mod ClockSteps
 pub mod ControlSteps
 pub mod HeaderSteps
+pub mod LineSteps
 pub mod Numbers
 pub mod RowSteps
+pub mod StartSteps
 pub mod Tables

@@ -6,8 +6,10 @@ use Rattle.requester.specs.declared.fault.ClientFault.{ClientFault}
 use Rattle.requester.specs.declared.fault.ClientFault.TheVariants as client
 use Rattle.session_rows.specs.declared.fault.RowFault.{RowFault}
 use Rattle.session_rows.specs.declared.fault.RowFault.TheVariants as row
+use Rattle.starts.specs.declared.fault.StartFault.{StartFault}
+use Rattle.starts.specs.declared.fault.StartFault.TheVariants as start
 use Rattle.blocks.specs.declared.refusal.Refusal.{Refusal}
-use Rattle.blocks.specs.declared.refusal.Refusal.TheVariants.{BadArgument, BadState, BadMessage, NoRoom, Busy, NotInside, NotAsking, StampsSpent, GrantsSpent, OlderGrant, NoPass, TurnsSpent, OldEpoch, FarEpoch, InUse, NotOwner, EpochsSpent}
+use Rattle.blocks.specs.declared.refusal.Refusal.TheVariants.{BadArgument, BadState, BadMessage, NoRoom, Busy, NotInside, NotAsking, StampsSpent, GrantsSpent, OlderGrant, NoPass, TurnsSpent, OldEpoch, FarEpoch, InUse, NotOwner, EpochsSpent, Place, Older, TokensSpent}
 
 -- the number of a refusal
 abbrev pub number_of : Refusal → ℕ
@@ -28,6 +30,9 @@ number_of FarEpoch = 16
 number_of InUse = 17
 number_of NotOwner = 18
 number_of EpochsSpent = 19
+number_of Place = 20
+number_of Older = 21
+number_of TokensSpent = 22
 
 -- what a call returns that is done
 abbrev pub done : ℤ
@@ -61,3 +66,8 @@ row_refusal row.FarEpoch = FarEpoch
 row_refusal row.InUse = InUse
 row_refusal row.NotOwner = NotOwner
 row_refusal row.EpochsSpent = EpochsSpent
+
+-- the refusal of a process that starts
+abbrev pub start_refusal : StartFault → Refusal
+start_refusal start.Place = Place
+start_refusal start.Older = Older

@@ -5,6 +5,8 @@ ghost use Rattle.blocks.specs.Numbers.{client_refusal, done, fence_refusal, refu
 use fence::FenceFault;
 use requester::ClientFault;
 use session_rows::RowFault;
+use token_bucket::BucketFault;
+use starts::StartFault;
 use voter::VoterFault;
 
 /// The reason why a call wrote nothing.
@@ -44,6 +46,12 @@ pub enum Refusal {
     NotOwner,
     /// The row has the last epoch.
     EpochsSpent,
+    /// Another voter has the place.
+    Place,
+    /// The process is of an older copy of the state, or another process has a copy of it.
+    Older,
+    /// The bucket has fewer tokens.
+    TokensSpent,
 }
 
 /// What a call returns to C if it was done.
@@ -82,6 +90,9 @@ impl Refusal {
             Refusal::InUse => 17,
             Refusal::NotOwner => 18,
             Refusal::EpochsSpent => 19,
+            Refusal::Place => 20,
+            Refusal::Older => 21,
+            Refusal::TokensSpent => 22,
         }
     }
 }
@@ -134,6 +145,31 @@ impl From<RowFault> for Refusal {
             RowFault::InUse => Refusal::InUse,
             RowFault::NotOwner => Refusal::NotOwner,
             RowFault::EpochsSpent => Refusal::EpochsSpent,
+        }
+    }
+}
+
+impl From<BucketFault> for Refusal {
+    ghost use Rattle.blocks.specs.declared.refusal.Refusal.TheVariants.{TokensSpent};
+
+    ghost from_gives = { λ _ r. r ≡ TokensSpent };
+
+    fn from(fault: BucketFault) -> Self {
+        match fault {
+            BucketFault::TokensSpent => Refusal::TokensSpent,
+        }
+    }
+}
+
+impl From<StartFault> for Refusal {
+    ghost use Rattle.blocks.specs.Numbers.{start_refusal};
+
+    ghost from_gives = { λ fault r. r ≡ start_refusal fault };
+
+    fn from(fault: StartFault) -> Self {
+        match fault {
+            StartFault::Place => Refusal::Place,
+            StartFault::Older => Refusal::Older,
         }
     }
 }

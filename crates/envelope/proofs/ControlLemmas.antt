@@ -15,7 +15,10 @@ use Rattle.envelope.specs.declared.control.ClientWord.{ClientWord}
 use Rattle.envelope.specs.declared.control.Opened.{Opened}
 use Rattle.envelope.specs.declared.control.VoterSays.{VoterSays}
 use Rattle.envelope.specs.declared.control.VoterSays.TheVariants as says
+use Rattle.envelope.specs.LockLines.{IsLockName, LockSaysFits, lock_says_line}
+use Rattle.envelope.specs.declared.locks.LockSays.{LockSays}
 use Rattle.envelope.proofs.LineLemmas.{Lacks-spaced, number_lacks}
+use Rattle.envelope.proofs.LockLemmas.{lock_says_lacks}
 
 same_word : (w v a b : List ℕ) → HasNoSpace w → HasNoSpace v → IsBorder a → IsBorder b → w ++ a ≡ v ++ b → w ≡ v
 same_word w v a b hw hv ha hb e =
@@ -57,3 +60,7 @@ pub cut_of_voter : (s : VoterSays) (rest : List ℕ) → SaysFits s → cut_at 1
 cut_of_voter (says.Word w) rest fits = cut_of (says_line (says.Word w)) rest (Lacks-line voter_form voter_words_have_form w fits)
 cut_of_voter (says.Opened o) rest fits = cut_of (says_line (says.Opened o)) rest
     (Lacks-append 10 (codes "opened") (fields (opened_numbers o)) (search rules) (opened_lacks o fits))
+
+pub cut_of_lock : (lock : List ℕ) (s : LockSays) (rest : List ℕ) → IsLockName lock → LockSaysFits s
+    → cut_at 10 (control_line (lock_says_line lock s) ++ rest) ≡ Some (codes ". " ++ lock_says_line lock s, rest)
+cut_of_lock lock s rest named fits = cut_of (lock_says_line lock s) rest (lock_says_lacks lock s named fits)

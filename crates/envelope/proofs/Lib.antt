@@ -2,6 +2,7 @@ pub mod ControlLemmas
 pub mod HeadLemmas
 pub mod LevelLemmas
 pub mod LineLemmas
+pub mod LockLemmas
 pub mod NameLemmas
 pub mod PlaceLemmas
 pub mod SenderLemmas

@@ -1,4 +1,5 @@
 pub mod Control
 pub mod Headers
 pub mod Heads
+pub mod LockLines
 pub mod Names

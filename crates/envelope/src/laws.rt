@@ -4,8 +4,11 @@ ghost use Rattle.texts.specs.Cuts.{cut_at};
 ghost use Rattle.envelope.specs.Control.{ClientWordFits, SaysFits, client_line, control_line, says_line};
 ghost use Rattle.envelope.specs.declared.control.ClientWord.{ClientWord};
 ghost use Rattle.envelope.specs.declared.control.VoterSays.{VoterSays};
-ghost use Rattle.envelope.specs.Headers.{ArePlaces, Head, HasLine, IsMessage, head_line};
+ghost use Rattle.envelope.specs.declared.locks.LockSays.{LockSays};
+ghost use Rattle.envelope.specs.LockLines.{AreLinePlaces, HasNoNewline, IsFirstLine, IsLineName, IsLockName, LockSaysFits, lock_at, lock_says_line, named_line};
+ghost use Rattle.envelope.specs.Headers.{ArePlaces, Head, HasLine, IsMessage, head_line, part};
 
+use crate::lock_lines::first_line;
 use crate::reading::read_header;
 
 /// The line of a header and any lines are a message with this header, these lines and no ignored word. So
@@ -40,4 +43,29 @@ pub fn control_lines_are_cut()
         → cut_at 10 (control_line (client_line w) ++ rest) ≡ Some (codes ". " ++ client_line w, rest) }
     ensures voters { (s : VoterSays) (rest : List ℕ) → SaysFits s
         → cut_at 10 (control_line (says_line s) ++ rest) ≡ Some (codes ". " ++ says_line s, rest) }
+    ensures locks { (lock : List ℕ) (s : LockSays) (rest : List ℕ) → IsLockName lock → LockSaysFits s
+        → cut_at 10 (control_line (lock_says_line lock s) ++ rest) ≡ Some (codes ". " ++ lock_says_line lock s, rest) }
+{}
+
+/// A line with a lock's name, or with the dot of control, is the first line of any text that begins with it. So
+/// what is written in front of any lines is cut off again.
+pub fn lines_are_cut_off()
+    ensures lines { (name line rest : List ℕ) → IsLineName name → HasNoNewline line → IsFirstLine (named_line name line ++ rest) name line rest }
+    ensures says { (lock : List ℕ) (s : LockSays) (rest : List ℕ) → IsLockName lock → LockSaysFits s
+        → IsFirstLine (control_line (lock_says_line lock s) ++ rest) (codes ".") (lock_says_line lock s) rest }
+{}
+
+/// A text begins with one line at most: there is one name, one rest of the line, and one text behind it.
+pub fn a_text_has_one_first_line(text: &[u8])
+    ensures { (name line rest other more behind : List ℕ) → IsFirstLine text.now name line rest → IsFirstLine text.now other more behind
+        → (name ≡ other) × (line ≡ more) × (rest ≡ behind) }
+{
+    let _ = first_line(text);
+}
+
+/// In a text the parts of its first line are where their lengths say. In what a voter says of a lock the lock's name is behind
+/// its word.
+pub fn lines_have_places()
+    ensures lines { (text name line rest : List ℕ) → IsFirstLine text name line rest → AreLinePlaces text name line rest }
+    ensures says { (lock : List ℕ) (s : LockSays) → part lock_at (length lock) (lock_says_line lock s) ≡ lock }
 {}

@@ -14,8 +14,11 @@
 //! 512 bytes, without its newline.
 //!
 //! A line of control is a word and decimal numbers: [`ClientWord`] is what clients say, and [`VoterSays`]
-//! what voters say. In a message it has a dot and a space in front. A line with the name of a lock or with a
-//! text is none of these.
+//! what voters say. In a message it has a dot and a space in front. [`LockSays`] is what voters say of one lock,
+//! with its name behind the word: 1 to 64 of A-Z a-z 0-9 _ - . : with no dot first. A line with a text is none of
+//! these.
+//!
+//! Each line of a message is a lock's name or the dot of control, one space, and the rest of the line.
 //!
 //! There is one space between two words. A number has no sign and no leading zero, and is below 2^64. No call
 //! takes memory.
@@ -26,10 +29,14 @@
 //!   has one header ([`a_message_has_one_header`]).
 //! - [`header_line`] is the header's line, which is read back ([`headers_are_read_back`]) and has at most 297
 //!   bytes ([`headers_fit`]).
-//! - The names of a header are where [`name_at`] and the lengths of the others say ([`names_have_places`]).
+//! - The names of a header are where [`name_at`] and the lengths of the others say ([`names_have_places`]), and so are the
+//!   parts of a line ([`lines_have_places`]).
 //! - [`read_client_word`] and [`read_voter_says`] read a line if and only if it says something, and then
 //!   that. [`client_word_line`] and [`voter_says_line`] are these lines, as they are in a message. There they
 //!   end at the first newline ([`control_lines_are_cut`]).
+//! - [`read_lock_says`] and [`lock_says_line`] do so for what voters say of a lock.
+//! - [`first_line`] cuts the first line off a text if and only if the text begins with one, and then that one. A
+//!   text has one first line ([`a_text_has_one_first_line`]), and what is written is cut off ([`lines_are_cut_off`]).
 //! - [`is_unknown`] says exactly whether a line begins with a word that clients do not say.
 //!
 //! ```
@@ -45,6 +52,8 @@ mod control;
 mod control_lines;
 mod header;
 mod laws;
+mod lock_lines;
+mod locks;
 mod names;
 mod places;
 mod reading;
@@ -57,9 +66,11 @@ pub use control::{ClientWord, Opened, VoterSays, VoterWord};
 pub use control_lines::{client_word_line, voter_says_line};
 pub use header::{Header, Sender};
 pub use laws::{
-    a_message_has_one_header, control_lines_are_cut, headers_are_read_back, headers_fit,
-    names_have_places,
+    a_message_has_one_header, a_text_has_one_first_line, control_lines_are_cut,
+    headers_are_read_back, headers_fit, lines_are_cut_off, lines_have_places, names_have_places,
 };
+pub use lock_lines::{first_line, lock_says_line, read_lock_says};
+pub use locks::{LockSays, is_lock_name};
 pub use places::name_at;
 pub use reading::{Envelope, MOST_HEADER, read_header};
 pub use voter_words::read_voter_says;

@@ -6,7 +6,7 @@ ghost use Rattle.envelope.specs.Names.{IsName, is_name_byte};
 /// The most bytes of a name.
 pub const MOST_NAME: usize = 64;
 
-fn is_name_byte(byte: u8) -> bool
+pub fn is_name_byte(byte: u8) -> bool
     ensures { result ≡ is_name_byte byte }
 {
     matches!(byte, b'a'..=b'z' | b'A'..=b'Z' | b'0'..=b'9' | b'_' | b'-')

@@ -1,13 +1,12 @@
 -- whatever befalls a fit world, it is fit
-use Rattle.std.proofs.Common.{◌≡◌, ℕ, ◌<◌, ◌≤◌, ◌^◌, Bool, true, false, List, ◌++◌, map, length, Option, Some, None, Result, Ok, Err, refl, sym, subst, ◌∙◌, inl, inr, arith}
-use Rattle.std.specs.Prelude.{◌&&◌, is_some, nat_le, nat_lt, slice_get, slice_set}
+use Rattle.std.proofs.Common.{◌≡◌, ℕ, ◌<◌, ◌≤◌, ◌^◌, List, [], map, length, Ok, sym, subst, ◌∙◌, inl, inr, arith}
 use Rattle.std.specs.List.{AllByRecursion}
-use Rattle.std.proofs.lemmas.Bool.{and_parts, cases_lt, ltb-true}
-use Rattle.std.proofs.lemmas.Bool.Decides.{nat_tests}
+use Rattle.std.proofs.lemmas.Bool.{cases_lt}
 use Rattle.std.proofs.lemmas.Option.{none-some}
 use Rattle.std.proofs.lemmas.List.{length-set}
 use Rattle.numbers.proofs.Lists.{AllByRecursion-append, AllByRecursion-get, AllByRecursion-weaker}
 use Rattle.message.specs.Lines.{AreCounts, HasLine, IsCount}
+use Rattle.message.specs.declared.message.ToClient.{ToClient}
 use Rattle.message.specs.declared.message.ToVoter.{ToVoter}
 use Rattle.message.specs.declared.message.Message.{Message}
 use Rattle.message.specs.declared.message.Message.TheVariants as kinds
@@ -17,404 +16,176 @@ use Rattle.voter.specs.declared.state.VoterState.{VoterState}
 use Rattle.voter.specs.Replies.{AllCarry, seen_after}
 use Rattle.voter.specs.Saved.{least_voter}
 use Rattle.voter.specs.Steps as voter
-use Rattle.requester.specs.declared.fault.ClientFault.{ClientFault}
 use Rattle.requester.specs.declared.state.ClientState.{ClientState}
-use Rattle.requester.specs.RequesterContract.{Accepts}
 use Rattle.requester.specs.Saved.{least_client}
 use Rattle.requester.specs.Steps as client
 use Rattle.requester.specs.Words.{held_of}
 use Rattle.dealer.specs.Plans.{PlanPair, ArePlans}
-use Rattle.quorum_set.specs.declared.bridge.Side.{Side}
-use Rattle.quorum_set.specs.declared.bridge.Side.TheVariants.{First, Second}
-use Rattle.world_state.specs.declared.fault.WorldFault.{WorldFault}
-use Rattle.world_state.specs.declared.step.Step.TheVariants.{Ask, Deliver, Leave, GiveUp, RemindClient, RemindVoter, Exchange}
 use Rattle.world.specs.Ranges.{IsWithin, ReportsWithin}
 use Rattle.world_state.specs.Numbered.{IsAddressed, IsNumbered}
-use Rattle.world.specs.Restarts.{Node, OneClient, OneVoter, Nobody, Saved, Happening, Goes, Saves, Forgets, Restarts}
-use Rattle.world.specs.Restarts.{begin, come_back, forget, happens, if_there, receiver, restart, save, save_and_send, save_unless}
+use Rattle.world.specs.Restarts.{Saved}
+use Rattle.world.specs.Restarts.{begin}
 use Rattle.world.specs.Runs.{AreLimits}
 use Rattle.world.specs.SavedWorlds.{PlannedSaved, begin_by}
-use Rattle.world_state.specs.Steps.{Dealing, Outcome, WorldState, after_client, after_voter, client_at, client_did, come, dealing_of, draw_of, exchange, if_client, if_voter, next_ticket, quorum_dealt, say, step, voter_at, voter_did}
+use Rattle.world_state.specs.Steps.{Dealing, WorldState, client_at, dealing_of, voter_at}
 use Rattle.world.specs.Visible.{DealsFrom}
+use Rattle.world.proofs.Befalling.{Acts, Arrives, IsOf, Keeps, Known, Scene, befalls_keeps, client_turns, scene_of, voter_turns}
 use Rattle.world.proofs.Claims.{Bounds}
-use Rattle.world.proofs.ClientMoves.{Draws, member_below}
+use Rattle.world.proofs.ClientMoves.{member_below}
 use Rattle.world.proofs.Exclusion.{under_grant}
-use Rattle.world.proofs.IncidentLemmas.{asks_by, may_count, may_have}
 use Rattle.world.proofs.Places.{set_client, set_voter}
 use Rattle.world.proofs.Plans.{plans_deal, plans_meet, quorums_of}
-use Rattle.world.proofs.Raises.{no_inquiry, raised_by_step}
-use Rattle.world.proofs.Reached.{Given, accepts_among, start_ok, start_unused}
+use Rattle.world.proofs.Reached.{Given, start_ok, start_unused}
 use Rattle.world.proofs.SavedWorlds.{SavedLaws}
-use Rattle.world.specs.Incidents.{Incident, Happens, Hears, IsReborn, StartsAnew, HasLimit, IsRaised, IsSkipped, anew, be_raised, be_reborn, be_skipped, befalls, have_limit, hear, is_above, is_ahead, is_limit, is_message, is_request_within, limited, reborn, skipped, start_anew}
+use Rattle.world.specs.Incidents.{Incident, anew, befalls, limited, reborn, skipped}
 use Rattle.incidents.specs.Calls.{befalls_by}
 use Rattle.incidents.specs.Fit.{IsFit, IsFitState, IsWritten}
-use Rattle.incidents.proofs.Pieces.{Comes, FitClient, FitMessage, FitVoter, MayHear, anew_fit, asks_fit, client_after, comes_by, comes_in_range, counted_fit, least_client_fit, least_voter_fit, may_hear, reborn_fit, reminders_fit, replies_fit, seen_carried, voter_after}
+use Rattle.incidents.proofs.Pieces.{Comes, FitClient, FitMessage, FitVoter, MayHear, anew_fit, asks_fit, client_after, comes_in_range, counted_fit, least_client_fit, least_voter_fit, may_hear, reborn_fit, reminders_fit, replies_fit, seen_carried, voter_after}
 
 abbrev pub Fit : Bounds → Saved → Type 0
 Fit b s = IsFitState b.voters b.clients b.limit s
 
--- ---- one of them is replaced
+-- ---- one client or voter changes
 
-live_client : (b : Bounds) (s : Saved) → Fit b s → (c : ℕ) (x : ClientState) → (c < b.clients → FitClient b c x) → Fit b (record s { live = record s.live { clients = slice_set s.live.clients c x } })
-live_client b s fit c x here = record {
-  many_clients = length-set s.live.clients c x ∙ fit.many_clients;
+-- the world with these clients, voters and messages
+abbrev with_scene : Saved → Scene → Saved
+with_scene s w = record s {
+  live = record s.live { clients = w.live.clients; voters = w.live.voters; sent = w.live.sent };
+  clients = w.clients;
+  voters = w.voters;
+}
+
+-- it is the same whatever is seen, and whose tickets were drawn
+fit_again : (b : Bounds) (s t : Saved) → Fit b (with_scene s (scene_of t)) → Fit b t
+fit_again b s t fit = record {
+  many_clients = fit.many_clients;
   many_voters = fit.many_voters;
   many_saved_clients = fit.many_saved_clients;
   many_saved_voters = fit.many_saved_voters;
-  clients_are = set_client (λ q y. q < b.clients → FitClient b q y) s.live.clients c x here fit.clients_are;
+  clients_are = fit.clients_are;
   voters_are = fit.voters_are;
   saved_clients_are = fit.saved_clients_are;
   saved_voters_are = fit.saved_voters_are;
   messages = fit.messages;
 }
 
-saved_client : (b : Bounds) (s : Saved) → Fit b s → (c : ℕ) (x : ClientState) → (c < b.clients → FitClient b c x) → Fit b (record s { clients = slice_set s.clients c x })
-saved_client b s fit c x here = record {
-  many_clients = fit.many_clients;
+client_on : (b : Bounds) (s : Saved) → Fit b s → (c : ℕ) (x y : ClientState) (ms : List ToVoter) → FitClient b c x → FitClient b c y → AllByRecursion (FitMessage b) (map kinds.ToVoter ms)
+    → Fit b (with_scene s (client_turns (scene_of s) c x y ms))
+client_on b s fit c x y ms live saved told = record {
+  many_clients = length-set s.live.clients c x ∙ fit.many_clients;
   many_voters = fit.many_voters;
-  many_saved_clients = length-set s.clients c x ∙ fit.many_saved_clients;
+  many_saved_clients = length-set s.clients c y ∙ fit.many_saved_clients;
   many_saved_voters = fit.many_saved_voters;
-  clients_are = fit.clients_are;
+  clients_are = set_client (λ q a. q < b.clients → FitClient b q a) s.live.clients c x (λ few. live) fit.clients_are;
   voters_are = fit.voters_are;
-  saved_clients_are = set_client (λ q y. q < b.clients → FitClient b q y) s.clients c x here fit.saved_clients_are;
+  saved_clients_are = set_client (λ q a. q < b.clients → FitClient b q a) s.clients c y (λ few. saved) fit.saved_clients_are;
   saved_voters_are = fit.saved_voters_are;
-  messages = fit.messages;
+  messages = AllByRecursion-append (FitMessage b) s.live.sent (map kinds.ToVoter ms) fit.messages told;
 }
 
-live_voter : (b : Bounds) (s : Saved) → Fit b s → (v : ℕ) (y : VoterState) → (v < b.voters → FitVoter b v y) → Fit b (record s { live = record s.live { voters = slice_set s.live.voters v y } })
-live_voter b s fit v y here = record {
+voter_on : (b : Bounds) (s : Saved) → Fit b s → (v : ℕ) (y z : VoterState) (rs : List ToClient) → FitVoter b v y → FitVoter b v z → AllByRecursion (FitMessage b) (map kinds.ToClient rs)
+    → Fit b (with_scene s (voter_turns (scene_of s) v y z rs))
+voter_on b s fit v y z rs live saved told = record {
   many_clients = fit.many_clients;
   many_voters = length-set s.live.voters v y ∙ fit.many_voters;
   many_saved_clients = fit.many_saved_clients;
-  many_saved_voters = fit.many_saved_voters;
+  many_saved_voters = length-set s.voters v z ∙ fit.many_saved_voters;
   clients_are = fit.clients_are;
-  voters_are = set_voter (λ q z. q < b.voters → FitVoter b q z) s.live.voters v y here fit.voters_are;
+  voters_are = set_voter (λ q a. q < b.voters → FitVoter b q a) s.live.voters v y (λ few. live) fit.voters_are;
   saved_clients_are = fit.saved_clients_are;
-  saved_voters_are = fit.saved_voters_are;
-  messages = fit.messages;
+  saved_voters_are = set_voter (λ q a. q < b.voters → FitVoter b q a) s.voters v z (λ few. saved) fit.saved_voters_are;
+  messages = AllByRecursion-append (FitMessage b) s.live.sent (map kinds.ToClient rs) fit.messages told;
 }
 
-saved_voter : (b : Bounds) (s : Saved) → Fit b s → (v : ℕ) (y : VoterState) → (v < b.voters → FitVoter b v y) → Fit b (record s { voters = slice_set s.voters v y })
-saved_voter b s fit v y here = record {
-  many_clients = fit.many_clients;
-  many_voters = fit.many_voters;
-  many_saved_clients = fit.many_saved_clients;
-  many_saved_voters = length-set s.voters v y ∙ fit.many_saved_voters;
-  clients_are = fit.clients_are;
-  voters_are = fit.voters_are;
-  saved_clients_are = fit.saved_clients_are;
-  saved_voters_are = set_voter (λ q z. q < b.voters → FitVoter b q z) s.voters v y here fit.saved_voters_are;
-  messages = fit.messages;
+-- ---- what comes to clients and voters
+
+message_of : (b : Bounds) (m : Message) → FitMessage b m → IsOf b m
+message_of b (kinds.ToVoter m) fit = (fit.0, fit.1)
+message_of b (kinds.ToClient m) fit = (fit.0, fit.1)
+
+known_of : (b : Bounds) (s : Saved) → Fit b s → Known b (scene_of s)
+known_of b s fit = record {
+  sizes = (fit.many_clients, fit.many_voters, fit.many_saved_clients, fit.many_saved_voters);
+  ids = λ c within. (fit.clients_are c within).id;
+  limits = λ c within. (fit.clients_are c within).limit;
+  sent = λ k m at. message_of b m (AllByRecursion-get (FitMessage b) s.live.sent k m fit.messages at);
 }
 
--- messages are sent, and the rest of the live world has the same clients and voters
-sends : (b : Bounds) (s : Saved) → Fit b s → (more : List Message) → AllByRecursion (FitMessage b) more → Fit b (record s { live = record s.live { sent = s.live.sent ++ more } })
-sends b s fit more are = record {
-  many_clients = fit.many_clients;
-  many_voters = fit.many_voters;
-  many_saved_clients = fit.many_saved_clients;
-  many_saved_voters = fit.many_saved_voters;
-  clients_are = fit.clients_are;
-  voters_are = fit.voters_are;
-  saved_clients_are = fit.saved_clients_are;
-  saved_voters_are = fit.saved_voters_are;
-  messages = AllByRecursion-append (FitMessage b) s.live.sent more fit.messages are;
-}
+comes_of : (b : Bounds) (s : Saved) → Fit b s → (c : ℕ) (cause : client.Cause) → Acts b (scene_of s) c cause → Comes b cause
+comes_of b s fit c cause act v t g locks =
+    let at = act.came v t g locks in
+    let m : ToClient = record { voter = v; client = c; seen = at.1; body = to_client.Locked t g } in
+    let is = AllByRecursion-get (FitMessage b) s.live.sent at.0 (kinds.ToClient m) fit.messages at.2 in
+    (is.1, is.3.0, is.3.1)
 
--- ---- saves, losses and restarts
-
-save_fit : (b : Bounds) (s : Saved) → Fit b s → (who : Node) → Fit b (save who s)
-save_fit b s fit Nobody = fit
-save_fit b s fit (OneClient c) = saved_client b s fit c (client_at s.live.clients c) (fit.clients_are c)
-save_fit b s fit (OneVoter v) = saved_voter b s fit v (voter_at s.live.voters v) (fit.voters_are v)
-
-save_unless_fit : (b : Bounds) (s : Saved) → Fit b s → (silent : Bool) (who : Node) → Fit b (save_unless silent who s)
-save_unless_fit b s fit true who = fit
-save_unless_fit b s fit false who = save_fit b s fit who
-
-forget_fit : (b : Bounds) (s : Saved) → Fit b s → (who : Node) → Fit b (forget who s)
-forget_fit b s fit Nobody = fit
-forget_fit b s fit (OneClient c) = saved_client b s fit c (least_client (client_at s.clients c)) (λ within. least_client_fit b c (client_at s.clients c) (fit.saved_clients_are c within))
-forget_fit b s fit (OneVoter v) = saved_voter b s fit v (least_voter (voter_at s.voters v)) (λ within. least_voter_fit b v (voter_at s.voters v) (fit.saved_voters_are v within))
-
-come_back_fit : (b : Bounds) (s : Saved) → Fit b s → (c : ℕ) (x : ClientState) → (c < b.clients → FitClient b c x) → Fit b (come_back s c x)
-come_back_fit b s fit c x here =
-    let on = live_client b s fit c x here in
-    record {
-      many_clients = on.many_clients;
-      many_voters = on.many_voters;
-      many_saved_clients = on.many_saved_clients;
-      many_saved_voters = on.many_saved_voters;
-      clients_are = on.clients_are;
-      voters_are = on.voters_are;
-      saved_clients_are = on.saved_clients_are;
-      saved_voters_are = on.saved_voters_are;
-      messages = on.messages;
-    }
-
-if_there_fit : (b : Bounds) (s t : Saved) → Fit b s → Fit b t → (there : Bool) → Fit b (if_there there t s)
-if_there_fit b s t fit on true = on
-if_there_fit b s t fit on false = fit
-
-restart_fit : (b : Bounds) (s : Saved) → Fit b s → (who : Node) → Fit b (restart who s)
-restart_fit b s fit Nobody = fit
-restart_fit b s fit (OneClient c) = if_there_fit b s (come_back s c (client_at s.clients c)) fit (come_back_fit b s fit c (client_at s.clients c) (fit.saved_clients_are c)) (nat_lt c (length s.live.clients))
-restart_fit b s fit (OneVoter v) = live_voter b s fit v (voter_at s.voters v) (fit.saved_voters_are v)
-
--- ---- what clients do
-
--- what is known of a client's step
-record Acts (b : Bounds) (s : Saved) (c : ℕ) (cause : client.Cause) : Type 0 where
-  within : c < b.clients
-  accepts : Accepts (client_at s.live.clients c) cause
-  draws : Draws b cause
-  comes : Comes b cause
-
-client_did_fit : (b : Bounds) → Given b → (s : Saved) → Fit b s → (c : ℕ) (cause : client.Cause) → Acts b s c cause → (o : client.Outcome) → client.step (client_at s.live.clients c) cause ≡ Ok o
-    → Fit b (record s { live = (client_did s.live c o).state })
-client_did_fit b given s fit c cause act o is =
-    let x = client_at s.live.clients c in
-    let was = fit.clients_are c act.within in
-    let now = client_after given.client b given.meet c x cause o was act.accepts act.draws act.comes is in
-    let out = asks_fit b c act.within x o.state cause was.id now act.comes o.out (given.client.meets x cause o was.sound act.accepts is).out (given.client.ranges x cause o was.sound act.accepts (comes_in_range b x cause was.limit act.comes) is) in
-    let on = live_client b s fit c o.state (λ within. now) in
-    record {
-      many_clients = on.many_clients;
-      many_voters = on.many_voters;
-      many_saved_clients = on.many_saved_clients;
-      many_saved_voters = on.many_saved_voters;
-      clients_are = on.clients_are;
-      voters_are = on.voters_are;
-      saved_clients_are = on.saved_clients_are;
-      saved_voters_are = on.saved_voters_are;
-      messages = AllByRecursion-append (FitMessage b) s.live.sent (map kinds.ToVoter o.out) fit.messages out;
-    }
-
-client_tried : (b : Bounds) → Given b → (s : Saved) → Fit b s → (c : ℕ) (cause : client.Cause) → Acts b s c cause → (r : Result client.Outcome ClientFault) → client.step (client_at s.live.clients c) cause ≡ r
-    → Fit b (save_and_send s (OneClient c) (after_client s.live c r))
-client_tried b given s fit c cause act (Ok o) is = save_unless_fit b (record s { live = (client_did s.live c o).state }) (client_did_fit b given s fit c cause act o is) _ (OneClient c)
-client_tried b given s fit c cause act (Err fault) is = fit
-
-draw_fit : (b : Bounds) (s : Saved) → Fit b s → (side : Side) (c : ℕ) → Fit b (record s { live = draw_of side s.live c })
-draw_fit b s fit First c = record {
-  many_clients = fit.many_clients;
-  many_voters = fit.many_voters;
-  many_saved_clients = fit.many_saved_clients;
-  many_saved_voters = fit.many_saved_voters;
-  clients_are = fit.clients_are;
-  voters_are = fit.voters_are;
-  saved_clients_are = fit.saved_clients_are;
-  saved_voters_are = fit.saved_voters_are;
-  messages = fit.messages;
-}
-draw_fit b s fit Second c = record {
-  many_clients = fit.many_clients;
-  many_voters = fit.many_voters;
-  many_saved_clients = fit.many_saved_clients;
-  many_saved_voters = fit.many_saved_voters;
-  clients_are = fit.clients_are;
-  voters_are = fit.voters_are;
-  saved_clients_are = fit.saved_clients_are;
-  saved_voters_are = fit.saved_voters_are;
-  messages = fit.messages;
-}
-
-client_drew : (b : Bounds) → Given b → (s : Saved) → Fit b s → (c : ℕ) (cause : client.Cause) → Acts b s c cause → (side : Side) (r : Result client.Outcome ClientFault) → client.step (client_at s.live.clients c) cause ≡ r
-    → Fit b (save_and_send s (OneClient c) (after_client (draw_of side s.live c) c r))
-client_drew b given s fit c cause act First (Ok o) is =
-    let u : Saved = record s { live = draw_of First s.live c } in
-    let act_u : Acts b u c cause = record { within = act.within; accepts = act.accepts; draws = act.draws; comes = act.comes } in
-    save_unless_fit b (record u { live = (client_did u.live c o).state }) (client_did_fit b given u (draw_fit b s fit First c) c cause act_u o is) _ (OneClient c)
-client_drew b given s fit c cause act Second (Ok o) is =
-    let u : Saved = record s { live = draw_of Second s.live c } in
-    let act_u : Acts b u c cause = record { within = act.within; accepts = act.accepts; draws = act.draws; comes = act.comes } in
-    save_unless_fit b (record u { live = (client_did u.live c o).state }) (client_did_fit b given u (draw_fit b s fit Second c) c cause act_u o is) _ (OneClient c)
-client_drew b given s fit c cause act side (Err fault) is = fit
-
-client_said : (b : Bounds) → Given b → (s : Saved) → Fit b s → (c : ℕ) → c < b.clients
-    → Fit b (save_and_send s (OneClient c) (Ok (say s.live (map kinds.ToVoter (client.remind (client_at s.live.clients c))))))
-client_said b given s fit c within =
-    let x = client_at s.live.clients c in
-    let was = fit.clients_are c within in
-    let ms = client.remind x in
-    save_unless_fit b (record s { live = (say s.live (map kinds.ToVoter ms)).state })
-    (sends b s fit (map kinds.ToVoter ms) (reminders_fit b c within x was ms (given.client.repeats x) (given.client.reminders x was.sound))) _ (OneClient c)
-
--- ---- what voters do
-
-voter_tried : (b : Bounds) → Given b → (s : Saved) → Fit b s → (m : ToVoter) → MayHear b m → (r : Option voter.Outcome) → voter.step (voter_at s.live.voters m.voter) m ≡ r
-    → Fit b (save_and_send s (OneVoter m.voter) (after_voter s.live m.voter r))
-voter_tried b given s fit m may None is = fit
-voter_tried b given s fit m may (Some o) is =
-    let v = m.voter in
-    let y = voter_at s.live.voters v in
-    let was = fit.voters_are v may.voter in
-    let now = voter_after given.voter b v y m o was may is in
-    let on = live_voter b s fit v o.state (λ within. now) in
-    let carries = given.voter.carries y m o is in
-    let out = replies_fit b v (seen_after y.seen m.body) o.state may.voter (seen_carried b v y m was may) now o.replies (given.voter.meets y m o is).heard (given.voter.answers y m o was.sound is).place
-    (subst (λ k. AllCarry k (seen_after y.seen m.body) o.replies) was.id carries.carried) in
-    save_unless_fit b (record s { live = (voter_did s.live v o).state }) (record {
-      many_clients = on.many_clients;
-      many_voters = on.many_voters;
-      many_saved_clients = on.many_saved_clients;
-      many_saved_voters = on.many_saved_voters;
-      clients_are = on.clients_are;
-      voters_are = on.voters_are;
-      saved_clients_are = on.saved_clients_are;
-      saved_voters_are = on.saved_voters_are;
-      messages = AllByRecursion-append (FitMessage b) s.live.sent (map kinds.ToClient o.replies) fit.messages out;
-    }) _ (OneVoter v)
-
-voter_said : (b : Bounds) → Given b → (s : Saved) → Fit b s → (v : ℕ) → v < b.voters
-    → Fit b (save_and_send s (OneVoter v) (Ok (say s.live (map kinds.ToClient (voter.remind (voter_at s.live.voters v))))))
-voter_said b given s fit v within =
-    let y = voter_at s.live.voters v in
-    let was = fit.voters_are v within in
-    let rs = voter.remind y in
-    save_unless_fit b (record s { live = (say s.live (map kinds.ToClient rs)).state })
-    (sends b s fit (map kinds.ToClient rs) (replies_fit b v y.seen y within was.seen was rs (given.voter.reminds y) (given.voter.places y) (subst (λ k. AllCarry k y.seen rs) was.id (given.voter.remembers y)))) _ (OneVoter v)
-
--- ---- steps of the world
-
-one_of : (b : Bounds) (s : Saved) → Fit b s → (who : Node) (t : Bool) (c : ℕ) (next : Result Outcome WorldFault) → (t ≡ true → Fit b (save_and_send s who next))
-    → Fit b (save_and_send s who (if_client t c next))
-one_of b s fit who true c next then = then refl
-one_of b s fit who false c next then = fit
-
-voter_of : (b : Bounds) (s : Saved) → Fit b s → (who : Node) (t : Bool) (v : ℕ) (next : Result Outcome WorldFault) → (t ≡ true → Fit b (save_and_send s who next))
-    → Fit b (save_and_send s who (if_voter t v next))
-voter_of b s fit who true v next then = then refl
-voter_of b s fit who false v next then = fit
-
-exchange_fit : (b : Bounds) (s : Saved) → Fit b s → (two : Bool) (side : Side) → Fit b (save_and_send s Nobody (exchange two side s.live))
-exchange_fit b s fit true First = record {
-  many_clients = fit.many_clients;
-  many_voters = fit.many_voters;
-  many_saved_clients = fit.many_saved_clients;
-  many_saved_voters = fit.many_saved_voters;
-  clients_are = fit.clients_are;
-  voters_are = fit.voters_are;
-  saved_clients_are = fit.saved_clients_are;
-  saved_voters_are = fit.saved_voters_are;
-  messages = fit.messages;
-}
-exchange_fit b s fit true Second = fit
-exchange_fit b s fit false side = fit
-
-came_fit : (b : Bounds) → Given b → (s : Saved) → Fit b s → (k : ℕ) (o : Option Message) → ((m : Message) → o ≡ Some m → FitMessage b m) → Fit b (save_and_send s (receiver o) (come s.live k o))
-came_fit b given s fit k None told = fit
-came_fit b given s fit k (Some (kinds.ToVoter m)) told = voter_tried b given s fit m (may_hear b given m (told (kinds.ToVoter m) refl)) (voter.step (voter_at s.live.voters m.voter) m) refl
-came_fit b given s fit k (Some (kinds.ToClient m)) told =
-    let is = told (kinds.ToClient m) refl in
-    let few = given.limits.few_voters in
-    let least = is.1 in
-    client_tried b given s fit m.client (client.Takes m)
-    (record {
-      within = is.0;
-      accepts = (sym (fit.clients_are m.client is.0).id, omega arith);
-      draws = tt;
-      comes = λ v t g locks. comes_by b m.voter m.body is.1 is.3 v t g locks;
-    })
-    (client.step (client_at s.live.clients m.client) (client.Takes m)) refl
-
-happens_fit : (b : Bounds) → Given b → (deal : Dealing) → DealsFrom b.quorums deal → (s : Saved) → Fit b s → (h : Happening) → Fit b (happens deal s h)
-unfolding step
-happens_fit b given deal deals s fit (Goes (Ask c)) = one_of b s fit (OneClient c) (nat_lt c (length s.live.clients)) c _ (λ t.
-    let among = deals s.live.side (next_ticket s.live) in
-    client_drew b given s fit c (client.Asks (quorum_dealt deal s.live.side (next_ticket s.live)))
-    (record {
-      within = subst (λ n. c < n) fit.many_clients (ltb-true _ _ t);
-      accepts = accepts_among b given.meet (quorum_dealt deal s.live.side (next_ticket s.live)) among;
-      draws = among;
-      comes = λ v u g never. absurd never;
-    }) s.live.side _ refl)
-happens_fit b given deal deals s fit (Goes (Deliver k)) =
-    came_fit b given s fit k (slice_get s.live.sent k) (λ m is. AllByRecursion-get (FitMessage b) s.live.sent k m fit.messages is)
-happens_fit b given deal deals s fit (Goes (Leave c)) = one_of b s fit (OneClient c) (nat_lt c (length s.live.clients)) c _ (λ t.
-    client_tried b given s fit c client.Leaves
-    (record { within = subst (λ n. c < n) fit.many_clients (ltb-true _ _ t); accepts = tt; draws = tt; comes = λ v u g never. absurd never }) _ refl)
-happens_fit b given deal deals s fit (Goes (GiveUp c)) = one_of b s fit (OneClient c) (nat_lt c (length s.live.clients)) c _ (λ t.
-    client_tried b given s fit c client.GivesUp
-    (record { within = subst (λ n. c < n) fit.many_clients (ltb-true _ _ t); accepts = tt; draws = tt; comes = λ v u g never. absurd never }) _ refl)
-happens_fit b given deal deals s fit (Goes (RemindClient c)) = one_of b s fit (OneClient c) (nat_lt c (length s.live.clients)) c _
-    (λ t. client_said b given s fit c (subst (λ n. c < n) fit.many_clients (ltb-true _ _ t)))
-happens_fit b given deal deals s fit (Goes (RemindVoter v)) = voter_of b s fit (OneVoter v) (nat_lt v (length s.live.voters)) v _
-    (λ t. voter_said b given s fit v (subst (λ n. v < n) fit.many_voters (ltb-true _ _ t)))
-happens_fit b given deal deals s fit (Goes Exchange) = exchange_fit b s fit (is_some deal.second) s.live.side
-happens_fit b given deal deals s fit (Saves who) = save_fit b s fit who
-happens_fit b given deal deals s fit (Forgets who) = forget_fit b s fit who
-happens_fit b given deal deals s fit (Restarts who) = restart_fit b s fit who
+hears_of : (b : Bounds) → Given b → (s : Saved) → Fit b s → (m : ToVoter) → Arrives b (λ n. HasLine (kinds.ToVoter n)) (scene_of s) m → MayHear b m
+hears_of b given s fit m arrives = elim arrives.source [
+  | inl sent ↦ may_hear b given m (AllByRecursion-get (FitMessage b) s.live.sent sent.0 (kinds.ToVoter m) fit.messages sent.1)
+  | inr made ↦ record { client = arrives.client; voter = arrives.voter; asks = made.1; number = made.0.2.1 }
+]
 
 -- ---- what befalls
 
-hear_fit : (b : Bounds) → Given b → (s : Saved) → Fit b s → (m : ToVoter) → HasLine (kinds.ToVoter m) → Fit b (hear s m)
-hear_fit b given s fit m line = voter_of b s fit (OneVoter m.voter) (nat_lt m.voter (length s.live.voters)) m.voter _ (λ t.
-    one_of b s fit (OneVoter m.voter) (is_message s m) m.client _ (λ u.
-    let parts = and_parts (nat_lt m.client (length s.live.clients)) (is_request_within (client_at s.live.clients m.client).limit m.body) u in
-    let named : m.client < b.clients = subst (λ n. m.client < n) fit.many_clients (ltb-true _ _ parts.0) in
-    let here : m.voter < b.voters = subst (λ n. m.voter < n) fit.many_voters (ltb-true _ _ t) in
-    voter_tried b given s fit m (record {
-      client = named;
-      voter = here;
-      asks = asks_by b (client_at s.live.clients m.client).limit m.body (let same = (fit.clients_are m.client named).limit in omega arith) parts.1;
-      number = line.2.1;
-    }) (voter.step (voter_at s.live.voters m.voter) m) refl))
-
-reborn_on : (b : Bounds) (s : Saved) → Fit b s → (v above : ℕ) (t : Bool) → (nat_lt v (length s.live.voters) && is_above (voter_at s.live.voters v) above) ≡ t → Fit b (be_reborn t s v above)
-reborn_on b s fit v above false is = fit
-reborn_on b s fit v above true is =
-    let y = voter_at s.live.voters v in
-    let most = (may_count s v above is).most in
-    let here : (v < b.voters → FitVoter b v (reborn y above)) = λ within. reborn_fit b v y above (fit.voters_are v within) most in
-    let first = live_voter b s fit v (reborn y above) here in
-    saved_voter b (record s { live = record s.live { voters = slice_set s.live.voters v (reborn y above) } }) first v (reborn y above) here
-
-anew_on : (b : Bounds) → Given b → (s : Saved) → Fit b s → (c clock : ℕ) (t : Bool) → (nat_lt c (length s.live.clients) && is_ahead (client_at s.live.clients c) clock) ≡ t → Fit b (start_anew t s c clock)
-anew_on b given s fit c clock false is = fit
-anew_on b given s fit c clock true is =
-    let x = client_at s.live.clients c in
-    let parts = and_parts (nat_lt c (length s.live.clients)) (is_ahead x clock) is in
-    let ends = and_parts (nat_le x.stamp clock) (nat_le clock x.limit) parts.1 in
-    let most : clock ≤ x.limit = (let h = ends.1 in grind (arith, nat_tests)) in
-    let here : (c < b.clients → FitClient b c (anew x clock)) = λ within. anew_fit b given c x clock (fit.clients_are c within) most in
-    let first = saved_client b s fit c (anew x clock) here in
-    come_back_fit b (record s { clients = slice_set s.clients c (anew x clock) }) first c (anew x clock) here
-
-limited_on : (b : Bounds) → Given b → (s : Saved) → Fit b s → (v limit : ℕ) (t : Bool) → (nat_lt v (length s.live.voters) && is_limit s v limit) ≡ t → Fit b (have_limit t s v limit)
-limited_on b given s fit v limit false is = fit
-limited_on b given s fit v limit true is =
-    let may = may_have b s fit.many_clients (λ some. (fit.clients_are 0 some).limit) v limit is in
-    live_voter b s fit v (limited (voter_at s.live.voters v) limit) (λ within.
-    counted_fit b given v (voter_at s.live.voters v) (voter_at s.live.voters v).granted limit (fit.voters_are v within) (omega arith) may.least may.most)
-
-skipped_on : (b : Bounds) → Given b → (s : Saved) → Fit b s → (v above : ℕ) (t : Bool) → (nat_lt v (length s.live.voters) && is_above (voter_at s.live.voters v) above) ≡ t → Fit b (be_skipped t s v above)
-skipped_on b given s fit v above false is = fit
-skipped_on b given s fit v above true is =
-    let may = may_count s v above is in
-    let y = voter_at s.live.voters v in
-    live_voter b s fit v (skipped y above) (λ within. let was = fit.voters_are v within in counted_fit b given v y above y.limit was may.least may.most was.limit)
-
-raised_on : (b : Bounds) → Given b → (s : Saved) → Fit b s → (c clock : ℕ) (t : Bool) → nat_lt c (length s.live.clients) ≡ t → Fit b (be_raised t s c clock)
-unfolding client.step
-raised_on b given s fit c clock false is = fit
-raised_on b given s fit c clock true is =
-    let x = client_at s.live.clients c in
-    subst (λ (u : Saved). Fit b u) (raised_by_step s c clock) (client_tried b given s fit c (client.Takes (no_inquiry x clock)) (record {
-      within = subst (λ n. c < n) fit.many_clients (ltb-true _ _ is);
-      accepts = (refl, omega arith);
-      draws = tt;
-      comes = λ v t g never. absurd never;
-    }) (Ok (client.take x (no_inquiry x clock))) refl)
+fit_keeps : (b : Bounds) → Given b → (s : Saved) → Fit b s → Keeps b (λ m. HasLine (kinds.ToVoter m)) (scene_of s) (λ w. Fit b (with_scene s w))
+fit_keeps b given s fit =
+    let X = client_at s.live.clients in
+    let K = client_at s.clients in
+    let Y = voter_at s.live.voters in
+    let Z = voter_at s.voters in
+    let after = λ (c : ℕ) (cause : client.Cause) (o : client.Outcome) (act : Acts b (scene_of s) c cause) (is : client.step (X c) cause ≡ Ok o).
+    client_after given.client b given.meet c (X c) cause o (fit.clients_are c act.within) act.accepts act.draws (comes_of b s fit c cause act) is in
+    record {
+      known = known_of b s fit;
+      stays = fit;
+      client_rests = λ c cause o act is seen. client_on b s fit c o.state (K c) [] (after c cause o act is) (fit.saved_clients_are c act.within) tt;
+      client_speaks = λ c cause o act is.
+          let was = fit.clients_are c act.within in
+          let now = after c cause o act is in
+          let comes = comes_of b s fit c cause act in
+          client_on b s fit c o.state o.state o.out now now
+          (asks_fit b c act.within (X c) o.state cause was.id now comes o.out (given.client.meets (X c) cause o was.sound act.accepts is).out
+          (given.client.ranges (X c) cause o was.sound act.accepts (comes_in_range b (X c) cause was.limit comes) is));
+      client_reminds = λ c within.
+          let was = fit.clients_are c within in
+          client_on b s fit c (X c) (X c) (client.remind (X c)) was was (reminders_fit b c within (X c) was (client.remind (X c)) (given.client.repeats (X c)) (given.client.reminders (X c) was.sound));
+      client_saves = λ c within. client_on b s fit c (X c) (X c) [] (fit.clients_are c within) (fit.clients_are c within) tt;
+      client_forgets = λ c within. client_on b s fit c (X c) (least_client (K c)) [] (fit.clients_are c within) (least_client_fit b c (K c) (fit.saved_clients_are c within)) tt;
+      client_restarts = λ c within. client_on b s fit c (K c) (K c) [] (fit.saved_clients_are c within) (fit.saved_clients_are c within) tt;
+      client_anew = λ c clock within least most.
+          let now = anew_fit b given c (X c) clock (fit.clients_are c within) most in
+          client_on b s fit c (anew (X c) clock) (anew (X c) clock) [] now now tt;
+      voter_rests = λ m o arrives is none.
+          voter_on b s fit m.voter o.state (Z m.voter) [] (voter_after given.voter b m.voter (Y m.voter) m o (fit.voters_are m.voter arrives.voter) (hears_of b given s fit m arrives) is) (fit.saved_voters_are m.voter arrives.voter) tt;
+      voter_speaks = λ m o arrives is.
+          let v = m.voter in
+          let y = Y v in
+          let was = fit.voters_are v arrives.voter in
+          let may = hears_of b given s fit m arrives in
+          let now = voter_after given.voter b v y m o was may is in
+          voter_on b s fit v o.state o.state o.replies now now
+          (replies_fit b v (seen_after y.seen m.body) o.state arrives.voter (seen_carried b v y m was may) now o.replies (given.voter.meets y m o is).heard (given.voter.answers y m o was.sound is).place
+          (subst (λ k. AllCarry k (seen_after y.seen m.body) o.replies) was.id (given.voter.carries y m o is).carried));
+      voter_reminds = λ v within.
+          let y = Y v in
+          let was = fit.voters_are v within in
+          voter_on b s fit v y y (voter.remind y) was was
+          (replies_fit b v y.seen y within was.seen was (voter.remind y) (given.voter.reminds y) (given.voter.places y) (subst (λ k. AllCarry k y.seen (voter.remind y)) was.id (given.voter.remembers y)));
+      voter_saves = λ v within. voter_on b s fit v (Y v) (Y v) [] (fit.voters_are v within) (fit.voters_are v within) tt;
+      voter_forgets = λ v within. voter_on b s fit v (Y v) (least_voter (Z v)) [] (fit.voters_are v within) (least_voter_fit b v (Z v) (fit.saved_voters_are v within)) tt;
+      voter_restarts = λ v within. voter_on b s fit v (Z v) (Z v) [] (fit.saved_voters_are v within) (fit.saved_voters_are v within) tt;
+      voter_reborn = λ v above within least most.
+          let now = reborn_fit b v (Y v) above (fit.voters_are v within) most in
+          voter_on b s fit v (reborn (Y v) above) (reborn (Y v) above) [] now now tt;
+      voter_limited = λ v limit within least most.
+          voter_on b s fit v (limited (Y v) limit) (Z v) [] (counted_fit b given v (Y v) (Y v).granted limit (fit.voters_are v within) (omega arith) least most) (fit.saved_voters_are v within) tt;
+      voter_skipped = λ v above within least most.
+          let was = fit.voters_are v within in
+          voter_on b s fit v (skipped (Y v) above) (Z v) [] (counted_fit b given v (Y v) above (Y v).limit was least most was.limit) (fit.saved_voters_are v within) tt;
+    }
 
 pub befalls_fit : (b : Bounds) → Given b → (deal : Dealing) → DealsFrom b.quorums deal → (s : Saved) → Fit b s → (i : Incident) → IsWritten i → Fit b (befalls deal s i)
-befalls_fit b given deal deals s fit (Happens h) written = happens_fit b given deal deals s fit h
-befalls_fit b given deal deals s fit (Hears m) written = hear_fit b given s fit m written
-befalls_fit b given deal deals s fit (IsReborn v above) written = reborn_on b s fit v above _ refl
-befalls_fit b given deal deals s fit (StartsAnew c clock) written = anew_on b given s fit c clock _ refl
-befalls_fit b given deal deals s fit (HasLimit v limit) written = limited_on b given s fit v limit _ refl
-befalls_fit b given deal deals s fit (IsRaised c clock) written = raised_on b given s fit c clock _ refl
-befalls_fit b given deal deals s fit (IsSkipped v above) written = skipped_on b given s fit v above _ refl
+befalls_fit b given deal deals s fit i written = fit_again b s (befalls deal s i)
+    (befalls_keeps b given deal deals (λ m. HasLine (kinds.ToVoter m)) s (λ w. Fit b (with_scene s w)) (fit_keeps b given s fit) i (λ m e. subst (λ (j : Incident). IsWritten j) e written))
 
 -- ---- the first world
 

@@ -1,10 +1,10 @@
 -- exclusion comes back once all clients were idle
-use Rattle.std.proofs.Common.{◌≡◌, ℕ, ◌+◌, ◌<◌, ◌≤◌, Bool, true, false, List, [], ◌∷◌, ◌++◌, map, length, Option, Some, None, Result, Ok, Err, refl, sym, ap, subst, ◌∙◌, ◌⊎◌, inl, inr, arith}
-use Rattle.std.specs.Prelude.{◌&&◌, is_some, nat_le, nat_lt, slice_get, slice_index, slice_set}
+use Rattle.std.proofs.Common.{◌≡◌, ℕ, ◌+◌, ◌<◌, ◌≤◌, Bool, true, false, List, [], ◌∷◌, map, length, Option, Some, Ok, refl, sym, ap, subst, ◌∙◌, ◌⊎◌, inl, inr, arith}
+use Rattle.std.specs.Prelude.{slice_index, slice_set}
 use Rattle.std.specs.FinMap as fin
 use Rattle.std.specs.Ordering.{nat_cmp}
 use Rattle.std.specs.List.{AllByRecursion}
-use Rattle.std.proofs.lemmas.Bool.{and_parts, cases_lt, false≢true, ltb-true}
+use Rattle.std.proofs.lemmas.Bool.{cases_lt, false≢true}
 use Rattle.std.proofs.lemmas.Bool.Decides.{nat_tests}
 use Rattle.std.proofs.lemmas.Option.{none-some, same_Some}
 use Rattle.numbers.proofs.Lists.{AllByRecursion-append, AllByRecursion-get, AllByRecursion-weaker, slice_index-replicate_zero}
@@ -25,49 +25,36 @@ use Rattle.voter.specs.Saved.{least_voter}
 use Rattle.voter.specs.Steps as voter
 use Rattle.voter.specs.VoteMoves.{VoteMoves}
 use Rattle.voter.specs.VoterContract.{AllReport, Brings, IsEntry, ReportsVote}
-use Rattle.requester.specs.declared.fault.ClientFault.{ClientFault}
 use Rattle.requester.specs.declared.state.ClientState.{ClientState}
-use Rattle.requester.specs.declared.state.Seen.{Seen}
-use Rattle.requester.specs.declared.state.Seen.TheVariants.{Nothing, Entered, Left}
-use Rattle.requester.specs.RequesterContract.{Accepts, AllInRange, AllRepeat, AllSay, ComesInRange, IsLocked, RemindersInRange, Repeats, Says, SaysInRange, Locks}
+use Rattle.requester.specs.RequesterContract.{AllInRange, AllRepeat, AllSay, ComesInRange, IsLocked, RemindersInRange, Repeats, Says, SaysInRange}
 use Rattle.requester.specs.Saved.{least_client}
 use Rattle.requester.specs.Steps as client
 use Rattle.requester.specs.Words.{holds, holds_under, is_idle, last_of, members}
 use Rattle.world.specs.Ranges.{IsInRange, IsWithin, ReportsWithin}
-use Rattle.world.specs.Restarts.{Node, OneClient, OneVoter, Nobody, Saved, Happening, Goes, Saves, Forgets, Restarts, begin, happens, save_unless}
-use Rattle.world_state.specs.Steps.{is_silent}
+use Rattle.world.specs.Restarts.{Saved, Happening, begin}
 use Rattle.world.specs.Runs.{start}
-use Rattle.world_state.specs.Steps.{Dealing, client_at, client_did, voter_at}
+use Rattle.world_state.specs.Steps.{Dealing, client_at, voter_at}
 use Rattle.world.specs.Rules.{ClientLaws, VoterLaws}
 use Rattle.requester.specs.Soundness as sound
 use Rattle.requester.specs.declared.state.Phase.{Phase}
 use Rattle.requester.specs.declared.state.Phase.TheVariants.{Idle, Asking, Inside}
 use Rattle.requester.specs.Words.{is_inside}
-use Rattle.world_state.specs.declared.fault.WorldFault.{WorldFault}
-use Rattle.world_state.specs.declared.step.Step.TheVariants.{Ask, Deliver, Leave, GiveUp, RemindClient, RemindVoter, Exchange}
-use Rattle.world.specs.Restarts.{all_happen, come_back, if_there, receiver}
+use Rattle.world.specs.Restarts.{all_happen}
 use Rattle.world.specs.Runs.{AreLimits}
-use Rattle.world_state.specs.Steps.{Outcome, come, exchange, if_client, if_voter, next_ticket, quorum_dealt, step}
 use Rattle.world.specs.Visible.{DealsFrom, DoMeet, IsAmong, IsExclusive}
-use Rattle.world.specs.Incidents.{Incident, Happens, Hears, IsReborn, StartsAnew, HasLimit, IsRaised, IsSkipped, all_befall, anew, be_raised, be_reborn, be_skipped, befalls, have_limit, hear, is_above, is_ahead, is_message, is_request_within, reborn, start_anew}
-use Rattle.world.proofs.Raises.{no_inquiry, raised_by_step}
+use Rattle.world.specs.Incidents.{Incident, Hears, all_befall, anew, limited, skipped, befalls, reborn}
 use Rattle.leases.specs.Orderly.{EndsOld}
 use Rattle.leases.proofs.Rebirths.{ends_within}
 use Rattle.leases.specs.Comeback.{AllIdle, AreLawful, IsEviction, IsLawful, unseen}
-use Rattle.leases.proofs.Numbers.{befalls_on, begin_on, length_map, newborn}
+use Rattle.world.proofs.Befalling.{Acts, Arrives, Keeps, Scene, befalls_keeps, client_turns, scene_of, voter_turns}
+use Rattle.leases.proofs.Numbers.{AreNumbered, Lives, Numbered, Told, Votes, befalls_on, begin_on, count, given_within, known_by, newborn, told_arrives}
 use Rattle.world.proofs.Restarts.{SavedOk, all_ok}
-use Rattle.world.proofs.Reached.{accepts_among}
 use Rattle.world.proofs.VoterMoves.{more_granted}
 use Rattle.world.proofs.Claims.{AskOk, IsClient, MessageOk, ReportOk, WorldOk, Bounds}
-use Rattle.world.proofs.IncidentLemmas.{AsksInRange, brought, counted, may_count}
+use Rattle.world.proofs.IncidentLemmas.{brought, counted}
 use Rattle.world.proofs.Places.{client_here, set_client, set_voter}
 use Rattle.world.proofs.Reached.{Given, new_voters, start_ok, start_unused, voter_new, voter_past}
-use Rattle.quorum_set.specs.declared.bridge.Side.{Side}
-use Rattle.quorum_set.specs.declared.bridge.Side.TheVariants.{First, Second}
-use Rattle.world.specs.Restarts.{save_and_send}
-use Rattle.world_state.specs.Steps.{after_client, after_voter, draw_of, say}
-use Rattle.leases.proofs.Numbers.{given_within}
-use Rattle.leases.proofs.Numbers.{Told, Votes, none_told, with_draw, Lives, Numbered, count}
+use Rattle.world_state.specs.Steps.{say}
 
 -- what `voter` says of the requests that a message finishes, and of votes that are asked back
 pub record EndLaws : Type 0 where
@@ -106,13 +93,16 @@ NotBehind x y = x.stamp ≤ y.stamp
 abbrev pub IsCounted : (ℕ → ℕ) → ClientState → Type 0
 IsCounted N x = (v : ℕ) → last_of x v ≤ N v
 
-pub record Settled (b : Bounds) (s : Saved) : Type 0 where
-  pub sent : AllByRecursion (Fits b (count s.voters) s.clients) s.live.sent
-  pub live_voters : (v : ℕ) → VoterFits b s.clients (voter_at s.live.voters v)
-  pub voters : (v : ℕ) → VoterFits b s.clients (voter_at s.voters v)
-  pub behind : (c : ℕ) → NotBehind (client_at s.clients c) (client_at s.live.clients c)
-  pub last : (c : ℕ) → IsCounted (count s.voters) (client_at s.live.clients c)
-  pub last_saved : (c : ℕ) → IsCounted (count s.voters) (client_at s.clients c)
+pub record AreSettled (b : Bounds) (w : Scene) : Type 0 where
+  pub sent : AllByRecursion (Fits b (count w.voters) w.clients) w.live.sent
+  pub live_voters : (v : ℕ) → VoterFits b w.clients (voter_at w.live.voters v)
+  pub voters : (v : ℕ) → VoterFits b w.clients (voter_at w.voters v)
+  pub behind : (c : ℕ) → NotBehind (client_at w.clients c) (client_at w.live.clients c)
+  pub last : (c : ℕ) → IsCounted (count w.voters) (client_at w.live.clients c)
+  pub last_saved : (c : ℕ) → IsCounted (count w.voters) (client_at w.clients c)
+
+abbrev pub Settled : Bounds → Saved → Type 0
+Settled b s = AreSettled b (scene_of s)
 
 self : (x : ClientState) → NotBehind x x
 self x = omega arith
@@ -153,32 +143,41 @@ voter_fits_on b l k on y is = record {
   back = is.back;
 }
 
--- a saved client goes on, not past the live one
-saved_goes : (b : Bounds) (s : Saved) → Settled b s → (c : ℕ) (x : ClientState) → NotBehind (client_at s.clients c) x → NotBehind x (client_at s.live.clients c) → IsCounted (count s.voters) x
-    → Settled b (record s { clients = slice_set s.clients c x })
-saved_goes b s ok c x from to few =
-    let k = slice_set s.clients c x in
-    let on : (q : ℕ) → NotBehind (client_at s.clients q) (client_at k q) = set_client (λ q y. NotBehind (client_at s.clients q) y) s.clients c x from (λ q. self (client_at s.clients q)) in
+-- a client goes on, and what is saved of it, not past it
+client_settles : (b : Bounds) (w : Scene) → AreSettled b w → (c : ℕ) (x y : ClientState) (ms : List ToVoter) → c < length w.live.clients → NotBehind (client_at w.clients c) y → NotBehind y x
+    → IsCounted (count w.voters) x → IsCounted (count w.voters) y → AllByRecursion (Fits b (count w.voters) (slice_set w.clients c y)) (map kinds.ToVoter ms) → AreSettled b (client_turns w c x y ms)
+client_settles b w st c x y ms within from to few few_saved fits =
+    let N = count w.voters in
+    let K = client_at w.clients in
+    let k = slice_set w.clients c y in
+    let live = slice_set w.live.clients c x in
+    let on : (q : ℕ) → NotBehind (K q) (client_at k q) = set_client (λ q a. NotBehind (K q) a) w.clients c y from (λ q. self (K q)) in
+    let ahead = set_client (λ q a. NotBehind (K q) a) w.live.clients c x (join (K c) y x from to) st.behind in
     record {
-      sent = AllByRecursion-weaker (Fits b (count s.voters) s.clients) (Fits b (count s.voters) k) (fits_on b (count s.voters) (count s.voters) s.clients k (as_many (count s.voters)) on) s.live.sent ok.sent;
-      live_voters = λ v. voter_fits_on b s.clients k on (voter_at s.live.voters v) (ok.live_voters v);
-      voters = λ v. voter_fits_on b s.clients k on (voter_at s.voters v) (ok.voters v);
-      behind = set_client (λ q y. NotBehind y (client_at s.live.clients q)) s.clients c x to ok.behind;
-      last = ok.last;
-      last_saved = set_client (λ q y. IsCounted (count s.voters) y) s.clients c x few ok.last_saved;
+      sent = AllByRecursion-append (Fits b N k) w.live.sent (map kinds.ToVoter ms) (AllByRecursion-weaker (Fits b N w.clients) (Fits b N k) (fits_on b N N w.clients k (as_many N) on) w.live.sent st.sent) fits;
+      live_voters = λ v. voter_fits_on b w.clients k on (voter_at w.live.voters v) (st.live_voters v);
+      voters = λ v. voter_fits_on b w.clients k on (voter_at w.voters v) (st.voters v);
+      behind = set_client (λ q a. NotBehind a (client_at live q)) w.clients c y (subst (λ (a : ClientState). NotBehind y a) (sym (client_here w.live.clients c x within)) to) ahead;
+      last = set_client (λ q a. IsCounted N a) w.live.clients c x few st.last;
+      last_saved = set_client (λ q a. IsCounted N a) w.clients c y few_saved st.last_saved;
     }
 
--- a live client goes on
-live_goes : (b : Bounds) (s : Saved) → Settled b s → (c : ℕ) (x : ClientState) → NotBehind (client_at s.clients c) x → IsCounted (count s.voters) x
-    → Settled b (record s { live = record s.live { clients = slice_set s.live.clients c x } })
-live_goes b s ok c x from few = record {
-  sent = ok.sent;
-  live_voters = ok.live_voters;
-  voters = ok.voters;
-  behind = set_client (λ q y. NotBehind (client_at s.clients q) y) s.live.clients c x from ok.behind;
-  last = set_client (λ q y. IsCounted (count s.voters) y) s.live.clients c x few ok.last;
-  last_saved = ok.last_saved;
-}
+-- a voter goes on, and what is saved of it
+voter_settles : (b : Bounds) (w : Scene) → AreSettled b w → (v : ℕ) (y z : VoterState) (rs : List ToClient) → VoterFits b w.clients y → VoterFits b w.clients z → count w.voters v ≤ z.granted
+    → AllByRecursion (Fits b (count (slice_set w.voters v z)) w.clients) (map kinds.ToClient rs) → AreSettled b (voter_turns w v y z rs)
+voter_settles b w st v y z rs live saved rises fits =
+    let N = count w.voters in
+    let M = count (slice_set w.voters v z) in
+    let more : AreMore N M = set_voter (λ q a. N q ≤ a.granted) w.voters v z rises (as_many N) in
+    record {
+      sent = AllByRecursion-append (Fits b M w.clients) w.live.sent (map kinds.ToClient rs)
+          (AllByRecursion-weaker (Fits b N w.clients) (Fits b M w.clients) (fits_on b N M w.clients w.clients more (λ c. self (client_at w.clients c))) w.live.sent st.sent) fits;
+      live_voters = set_voter (λ q a. VoterFits b w.clients a) w.live.voters v y live st.live_voters;
+      voters = set_voter (λ q a. VoterFits b w.clients a) w.voters v z saved st.voters;
+      behind = st.behind;
+      last = λ c. counted_more N M (client_at w.live.clients c) more (st.last c);
+      last_saved = λ c. counted_more N M (client_at w.clients c) more (st.last_saved c);
+    }
 
 -- ---- a client's messages
 
@@ -314,11 +313,11 @@ replies_fit b N l y known fits id seen few (r ∷ rs) report place carry = (
 known_of : (b : Bounds) (v : ℕ) (y : VoterState) → Votes b v y → VoterKnown b y
 known_of b v y is = record { sound = is.sound; limit = is.limit; stamps = λ c s e. (is.entries c s e).1 }
 
-held_counted : (b : Bounds) (G : Lives) (s : Saved) → Numbered b G s → (c v g : ℕ) → holds_under (client_at s.live.clients c) v g ≡ true → g ≤ count s.voters v
-held_counted b G s num c v g has = let had = (num.live_clients c).votes v g has in given_within b G s num v had.1 c (client_at s.live.clients c).stamp g had.0
+held_counted : (b : Bounds) (G : Lives) (w : Scene) → AreNumbered b G w → (c v g : ℕ) → holds_under (client_at w.live.clients c) v g ≡ true → g ≤ count w.voters v
+held_counted b G w num c v g has = let had = (num.live_clients c).votes v g has in given_within b G w num v had.1 c (client_at w.live.clients c).stamp g had.0
 
-count_within : (b : Bounds) (G : Lives) (s : Saved) → Numbered b G s → (v : ℕ) → count s.voters v ≤ b.limit
-count_within b G s num v =
+count_within : (b : Bounds) (G : Lives) (w : Scene) → AreNumbered b G w → (v : ℕ) → count w.voters v ≤ b.limit
+count_within b G w num v =
     let y = num.voters v in
     let most = y.sound.granted in
     let far = y.limit in
@@ -326,266 +325,104 @@ count_within b G s num v =
 
 -- ---- what clients do
 
-record Steps (b : Bounds) (s : Saved) (c : ℕ) (cause : client.Cause) : Type 0 where
-  within : c < b.clients
-  accepts : Accepts (client_at s.live.clients c) cause
-  came : (v t g : ℕ) → IsLocked cause v t g → (t ≤ (client_at s.live.clients c).stamp) × IsWithin b.limit t
+-- a LOCKED that comes is of a request that was made
+came_reached : (b : Bounds) (w : Scene) → AreSettled b w → (c : ℕ) (cause : client.Cause) → Acts b w c cause → (v t g : ℕ) → IsLocked cause v t g → (t ≤ (client_at w.live.clients c).stamp) × IsWithin b.limit t
+came_reached b w st c cause act v t g locks =
+    let at = act.came v t g locks in
+    let m : ToClient = record { voter = v; client = c; seen = at.1; body = to_client.Locked t g } in
+    let fit = AllByRecursion-get (Fits b (count w.voters) w.clients) w.live.sent at.0 (kinds.ToClient m) st.sent at.2 in
+    let low = fit.1.0 in
+    let behind = st.behind c in
+    (omega arith, fit.1.1)
 
-silent_none : (n : ℕ) (seen : Seen) → is_silent n seen ≡ true → n ≡ 0
-silent_none n Nothing e = grind (arith, nat_tests)
-silent_none n Entered e = absurd (false≢true e)
-silent_none n Left e = absurd (false≢true e)
+-- what a client's step comes to
+record Later (w : Scene) (c : ℕ) (y : ClientState) : Type 0 where
+  on : NotBehind (client_at w.live.clients c) y
+  few : IsCounted (count w.voters) y
 
-settle_by : (b : Bounds) (s : Saved) (c : ℕ) (o : client.Outcome) (silent : Bool) → is_silent (length o.out) o.seen ≡ silent
-    → Settled b (record s { live = record s.live { clients = slice_set s.live.clients c o.state } }) → NotBehind (client_at s.clients c) o.state
-    → AllByRecursion (Fits b (count s.voters) (slice_set s.clients c (client_at (slice_set s.live.clients c o.state) c))) (map kinds.ToVoter o.out) → client_at (slice_set s.live.clients c o.state) c ≡ o.state
-    → Settled b (save_unless silent (OneClient c) (record s { live = (client_did s.live c o).state }))
-settle_by b s c o true e gone from out at = record {
-  sent = AllByRecursion-append (Fits b (count s.voters) s.clients) s.live.sent (map kinds.ToVoter o.out) gone.sent (none_told (Fits b (count s.voters) s.clients) kinds.ToVoter o.out (silent_none (length o.out) o.seen e));
-  live_voters = gone.live_voters;
-  voters = gone.voters;
-  behind = gone.behind;
-  last = gone.last;
-  last_saved = gone.last_saved;
-}
-settle_by b s c o false e gone from out at =
-    let z = client_at (slice_set s.live.clients c o.state) c in
-    let u = saved_goes b (record s { live = record s.live { clients = slice_set s.live.clients c o.state } }) gone c z (subst (λ (y : ClientState). NotBehind (client_at s.clients c) y) (sym at) from) (self z) (gone.last c) in
-    record {
-      sent = AllByRecursion-append (Fits b (count s.voters) (slice_set s.clients c z)) s.live.sent (map kinds.ToVoter o.out) u.sent out;
-      live_voters = u.live_voters;
-      voters = u.voters;
-      behind = u.behind;
-      last = u.last;
-      last_saved = u.last_saved;
-    }
+later : (b : Bounds) → Given b → (G : Lives) (w : Scene) → AreNumbered b G w → AreSettled b w → (c : ℕ) (cause : client.Cause) (o : client.Outcome) → Acts b w c cause
+    → client.step (client_at w.live.clients c) cause ≡ Ok o → Later w c o.state
+later b given G w num st c cause o act is =
+    let kept = given.client.meets (client_at w.live.clients c) cause o (num.live_clients c).sound act.accepts is in
+    record { on = kept.later.stamp; few = λ v. elim (kept.last v) [ inl same ↦ (let most = st.last c v in omega arith) | inr held ↦ held_counted b G w num c v (last_of o.state v) held ] }
 
-client_settles : (b : Bounds) → Given b → (G : Lives) (s : Saved) → Numbered b G s → Settled b s → (c : ℕ) (cause : client.Cause) → Steps b s c cause → (o : client.Outcome)
-    → client.step (client_at s.live.clients c) cause ≡ Ok o → (silent : Bool) → is_silent (length o.out) o.seen ≡ silent → Settled b (save_unless silent (OneClient c) (record s { live = (client_did s.live c o).state }))
-client_settles b given G s num st c cause go o is silent e =
-    let x = client_at s.live.clients c in
-    let y = o.state in
+said_fits : (b : Bounds) → Given b → (G : Lives) (w : Scene) → AreNumbered b G w → AreSettled b w → (c : ℕ) (cause : client.Cause) (o : client.Outcome) → Acts b w c cause → client.step (client_at w.live.clients c) cause ≡ Ok o
+    → AllByRecursion (Fits b (count w.voters) (slice_set w.clients c o.state)) (map kinds.ToVoter o.out)
+said_fits b given G w num st c cause o act is =
+    let x = client_at w.live.clients c in
     let was = num.live_clients c in
-    let kept = given.client.meets x cause o was.sound go.accepts is in
-    let on : NotBehind x y = kept.later.stamp in
-    let few : IsCounted (count s.voters) y = λ v. elim (kept.last v) [ inl same ↦ (let most = st.last c v in omega arith) | inr held ↦ held_counted b G s num c v (last_of y v) held ] in
-    let from = join (client_at s.clients c) x y (st.behind c) on in
-    let gone = live_goes b s st c y from few in
-    let lim = was.limit go.within in
-    let comes : ComesInRange x.limit cause = λ v t g locks. subst (λ n. IsWithin n t) (sym lim) (go.came v t g locks).1 in
-    let range = given.client.ranges x cause o was.sound go.accepts comes is in
-    settle_by b s c o silent e gone from
-    (out_fits b (count s.voters) (count_within b G s num) (slice_set s.clients c (client_at (slice_set s.live.clients c y) c)) c x y cause
-    (client_here s.clients c (client_at (slice_set s.live.clients c y) c) (subst (λ n. c < n) (sym num.sizes.2) go.within) ∙ client_here s.live.clients c y (subst (λ n. c < n) (sym num.sizes.0) go.within))
-    (was.id go.within) on (λ v t g locks. (go.came v t g locks).0) (kept.limit ∙ lim) (held_counted b G s num c) o.out kept.out range)
-    (client_here s.live.clients c y (subst (λ n. c < n) (sym num.sizes.0) go.within))
+    let kept = given.client.meets x cause o was.sound act.accepts is in
+    let lim = was.limit act.within in
+    let came = came_reached b w st c cause act in
+    let comes : ComesInRange x.limit cause = λ v t g locks. subst (λ n. IsWithin n t) (sym lim) (came v t g locks).1 in
+    out_fits b (count w.voters) (count_within b G w num) (slice_set w.clients c o.state) c x o.state cause (client_here w.clients c o.state (subst (λ n. c < n) (sym num.sizes.2) act.within)) (was.id act.within) kept.later.stamp
+    (λ v t g locks. (came v t g locks).0) (kept.limit ∙ lim) (held_counted b G w num c) o.out kept.out (given.client.ranges x cause o was.sound act.accepts comes is)
 
-with_draw_settled : (b : Bounds) (s : Saved) → Settled b s → (side : Side) (c : ℕ) → Settled b (record s { live = draw_of side s.live c })
-with_draw_settled b s st First c = record { sent = st.sent; live_voters = st.live_voters; voters = st.voters; behind = st.behind; last = st.last; last_saved = st.last_saved }
-with_draw_settled b s st Second c = record { sent = st.sent; live_voters = st.live_voters; voters = st.voters; behind = st.behind; last = st.last; last_saved = st.last_saved }
-
-client_tries : (b : Bounds) → Given b → (G : Lives) (s : Saved) → Numbered b G s → Settled b s → (c : ℕ) (cause : client.Cause) → Steps b s c cause
-    → (r : Result client.Outcome ClientFault) → client.step (client_at s.live.clients c) cause ≡ r → Settled b (save_and_send s (OneClient c) (after_client s.live c r))
-client_tries b given G s num st c cause go (Ok o) is = client_settles b given G s num st c cause go o is (is_silent (length o.out) o.seen) refl
-client_tries b given G s num st c cause go (Err fault) is = st
-
-client_draws : (b : Bounds) → Given b → (G : Lives) (s : Saved) → Numbered b G s → Settled b s → (c : ℕ) (cause : client.Cause) → Steps b s c cause
-    → (side : Side) (r : Result client.Outcome ClientFault) → client.step (client_at s.live.clients c) cause ≡ r → Settled b (save_and_send s (OneClient c) (after_client (draw_of side s.live c) c r))
-client_draws b given G s num st c cause go First (Ok o) is =
-    client_settles b given G (record s { live = draw_of First s.live c }) (with_draw b G s num First c) (with_draw_settled b s st First c) c cause
-    (record { within = go.within; accepts = go.accepts; came = go.came }) o is (is_silent (length o.out) o.seen) refl
-client_draws b given G s num st c cause go Second (Ok o) is =
-    client_settles b given G (record s { live = draw_of Second s.live c }) (with_draw b G s num Second c) (with_draw_settled b s st Second c) c cause
-    (record { within = go.within; accepts = go.accepts; came = go.came }) o is (is_silent (length o.out) o.seen) refl
-client_draws b given G s num st c cause go side (Err fault) is = st
-
-client_says : (b : Bounds) → Given b → (G : Lives) (s : Saved) → Numbered b G s → Settled b s → (c : ℕ) → c < b.clients → (n : ℕ) → n ≡ length (client.remind (client_at s.live.clients c))
-    → (silent : Bool) → is_silent n Nothing ≡ silent
-    → Settled b (save_unless silent (OneClient c) (record s { live = (say s.live (map kinds.ToVoter (client.remind (client_at s.live.clients c)))).state }))
-client_says b given G s num st c within n many true e = record {
-  sent = AllByRecursion-append (Fits b (count s.voters) s.clients) s.live.sent (map kinds.ToVoter (client.remind (client_at s.live.clients c))) st.sent
-      (none_told (Fits b (count s.voters) s.clients) kinds.ToVoter (client.remind (client_at s.live.clients c)) (let none : n ≡ 0 = grind (arith, nat_tests) in omega arith));
-  live_voters = st.live_voters;
-  voters = st.voters;
-  behind = st.behind;
-  last = st.last;
-  last_saved = st.last_saved;
-}
-client_says b given G s num st c within n many false e =
-    let x = client_at s.live.clients c in
-    let was = num.live_clients c in
-    let u = saved_goes b s st c x (st.behind c) (self x) (st.last c) in
-    let k = slice_set s.clients c x in
-    record {
-      sent = AllByRecursion-append (Fits b (count s.voters) k) s.live.sent (map kinds.ToVoter (client.remind x)) u.sent
-          (repeats_fit b (count s.voters) (count_within b G s num) k c x (client_here s.clients c x (subst (λ q. c < q) (sym num.sizes.2) within)) (was.id within) (was.limit within) (st.last c) (client.remind x)
-          (given.client.repeats x) (given.client.reminders x was.sound));
-      live_voters = u.live_voters;
-      voters = u.voters;
-      behind = u.behind;
-      last = u.last;
-      last_saved = u.last_saved;
-    }
+none_counted : (N : ℕ → ℕ) (x : ClientState) → ((v : ℕ) → last_of x v ≡ 0) → IsCounted N x
+none_counted N x none v = let zero = none v in omega arith
 
 -- ---- what voters do
 
-live_voter_settled : (b : Bounds) (s : Saved) → Settled b s → (v : ℕ) (z : VoterState) → VoterFits b s.clients z → Settled b (record s { live = record s.live { voters = slice_set s.live.voters v z } })
-live_voter_settled b s st v z fits = record {
-  sent = st.sent;
-  live_voters = set_voter (λ q y. VoterFits b s.clients y) s.live.voters v z fits st.live_voters;
-  voters = st.voters;
-  behind = st.behind;
-  last = st.last;
-  last_saved = st.last_saved;
-}
+-- a message that is made up ends a request, and the request was made
+evicted_fits : (b : Bounds) (G : Lives) (s : Saved) → Numbered b G s → Settled b s → (m : ToVoter) → IsEviction s m → Fits b (count s.voters) s.clients (kinds.ToVoter m)
+evicted_fits b G s num st m is =
+    let g = is.grant in
+    let entry : IsEntry (voter_at s.live.voters m.voter) g.client g.stamp = inl (g, is.held, refl, refl) in (
+      subst (λ (k : ℕ). AskedBody (count s.voters) (client_at s.clients k) m.voter m.body) (sym is.client)
+          (subst (λ (body : VoterBody). AskedBody (count s.voters) (client_at s.clients g.client) m.voter body) (sym is.body) ((st.live_voters m.voter).entries g.client g.stamp entry)),
+      subst (λ (body : VoterBody). IsWithin b.limit (voter_number body)) (sym is.body) ((num.live_voters m.voter).entries g.client g.stamp entry).1,
+    )
 
-saved_voter_settled : (b : Bounds) (s : Saved) → Settled b s → (v : ℕ) (z : VoterState) → VoterFits b s.clients z → count s.voters v ≤ z.granted → Settled b (record s { voters = slice_set s.voters v z })
-saved_voter_settled b s st v z fits rises =
-    let N = count s.voters in
-    let M = count (slice_set s.voters v z) in
-    let more : AreMore N M = set_voter (λ q y. N q ≤ y.granted) s.voters v z rises (λ q. as_many N q) in
-    record {
-      sent = AllByRecursion-weaker (Fits b N s.clients) (Fits b M s.clients) (fits_on b N M s.clients s.clients more (λ c. self (client_at s.clients c))) s.live.sent st.sent;
-      live_voters = st.live_voters;
-      voters = set_voter (λ q y. VoterFits b s.clients y) s.voters v z fits st.voters;
-      behind = st.behind;
-      last = λ c. counted_more N M (client_at s.live.clients c) more (st.last c);
-      last_saved = λ c. counted_more N M (client_at s.clients c) more (st.last_saved c);
-    }
+asked_old : (N : ℕ → ℕ) (x : ClientState) (v : ℕ) (body : VoterBody) → EndsOld x body → AskedBody N x v body
+asked_old N x v (asks.Request t) ends = absurd ends
+asked_old N x v (asks.Relinquish g) ends = absurd ends
+asked_old N x v (asks.Release t) ends = ends.1
 
-told_also : (b : Bounds) (s : Saved) → Settled b s → (more : List Message) → AllByRecursion (Fits b (count s.voters) s.clients) more
-    → Settled b (record s { live = record s.live { sent = s.live.sent ++ more } })
-told_also b s st more fits = record {
-  sent = AllByRecursion-append (Fits b (count s.voters) s.clients) s.live.sent more st.sent fits;
-  live_voters = st.live_voters;
-  voters = st.voters;
-  behind = st.behind;
-  last = st.last;
-  last_saved = st.last_saved;
-}
+fits_arrives : (b : Bounds) (G : Lives) (s : Saved) → Numbered b G s → Settled b s → (m : ToVoter) → Arrives b (λ n. IsLawful s (Hears n)) (scene_of s) m → Fits b (count s.voters) s.clients (kinds.ToVoter m)
+fits_arrives b G s num st m arrives = elim arrives.source [
+  | inl sent ↦ AllByRecursion-get (Fits b (count s.voters) s.clients) s.live.sent sent.0 (kinds.ToVoter m) st.sent sent.1
+  | inr made ↦ elim made.0 [
+    | inl evicts ↦ evicted_fits b G s num st m evicts
+    | inr ends ↦
+        let x = client_at s.clients m.client in
+        let known = num.clients m.client in
+        let stamp = known.sound.stamp in
+        let limit = known.limit arrives.client in
+        (asked_old (count s.voters) x m.voter m.body ends, ends_within b.limit x m.body ends (omega arith))
+  ]
+]
 
-voter_speaks : (b : Bounds) (s : Saved) → Settled b s → (v : ℕ) → count s.voters v ≤ count s.live.voters v → (rs : List ToClient) → AllByRecursion (Fits b (count s.voters) s.clients) (map kinds.ToClient rs)
-    → (silent : Bool) → Settled b (save_unless silent (OneVoter v) (record s { live = record s.live { sent = s.live.sent ++ map kinds.ToClient rs } }))
-voter_speaks b s st v rises rs fits true = told_also b s st (map kinds.ToClient rs) fits
-voter_speaks b s st v rises rs fits false =
-    saved_voter_settled b (record s { live = record s.live { sent = s.live.sent ++ map kinds.ToClient rs } }) (told_also b s st (map kinds.ToClient rs) fits) v (voter_at s.live.voters v) (st.live_voters v) rises
+-- what a voter's step comes to
+record StillFits (b : Bounds) (w : Scene) (v : ℕ) (y : VoterState) : Type 0 where
+  fits : VoterFits b w.clients y
+  known : VoterKnown b y
+  rises : count w.voters v ≤ y.granted
 
-voter_tries : (b : Bounds) → Given b → EndLaws → (G : Lives) (s : Saved) → Numbered b G s → Settled b s → (m : ToVoter) → Told b (count s.voters) (kinds.ToVoter m) → Fits b (count s.voters) s.clients (kinds.ToVoter m)
-    → (r : Option voter.Outcome) → voter.step (voter_at s.live.voters m.voter) m ≡ r → Settled b (save_and_send s (OneVoter m.voter) (after_voter s.live m.voter r))
-voter_tries b given end G s num st m told fits None is = st
-voter_tries b given end G s num st m told fits (Some o) is =
+still_fits : (b : Bounds) → Given b → EndLaws → (G : Lives) (w : Scene) → AreNumbered b G w → AreSettled b w → (m : ToVoter) (o : voter.Outcome) → Told b (count w.voters) (kinds.ToVoter m)
+    → Fits b (count w.voters) w.clients (kinds.ToVoter m) → voter.step (voter_at w.live.voters m.voter) m ≡ Some o → StillFits b w m.voter o.state
+still_fits b given end G w num st m o told fits is =
     let v = m.voter in
-    let y = voter_at s.live.voters v in
+    let y = voter_at w.live.voters v in
     let was = num.live_voters v in
     let laws = given.voter in
-    let carries = laws.carries y m o is in
-    let meets = laws.meets y m o is in
-    let after = voter_after laws end b (count s.voters) s.clients y was.sound (st.live_voters v) m fits o is in
-    let known : VoterKnown b o.state = record {
-      sound = laws.stays y m o was.sound is;
-      limit = (let same = carries.limit in let most = was.limit in omega arith);
-      stamps = λ c t e. elim (meets.entries c t e) [ inl old ↦ (was.entries c t old).1 | inr brings ↦ (brought b m.client m.body told.0 told.2 c t brings).1 ];
-    } in
-    let u = live_voter_settled b s st v o.state after in
-    let rises : count s.voters v ≤ count (slice_set s.live.voters v o.state) v = set_voter (λ q z. count s.voters q ≤ z.granted) s.live.voters v o.state
-    (let more = (more_granted (voter.effect_of y m).frees y o.state (laws.numbers y m o was.sound is)).0 in let behind = num.behind v in omega arith) num.behind v in
-    voter_speaks b (record s { live = record s.live { voters = slice_set s.live.voters v o.state } }) u v rises o.replies
-    (replies_fit b (count s.voters) s.clients o.state known after y.id (seen_after y.seen m.body) (seen_within b.limit y.seen m.body (st.live_voters v).seen fits.1) o.replies meets.heard
-    (laws.answers y m o was.sound is).place carries.carried) (is_silent (length o.replies) Nothing)
+    record {
+      fits = voter_after laws end b (count w.voters) w.clients y was.sound (st.live_voters v) m fits o is;
+      known = record {
+        sound = laws.stays y m o was.sound is;
+        limit = (let same = (laws.carries y m o is).limit in let most = was.limit in omega arith);
+        stamps = λ c t e. elim ((laws.meets y m o is).entries c t e) [ inl old ↦ (was.entries c t old).1 | inr brings ↦ (brought b m.client m.body told.0 told.2 c t brings).1 ];
+      };
+      rises = (let more = (more_granted (voter.effect_of y m).frees y o.state (laws.numbers y m o was.sound is)).0 in let behind = num.behind v in omega arith);
+    }
 
-voter_reminds : (b : Bounds) → Given b → (G : Lives) (s : Saved) → Numbered b G s → Settled b s → (v n : ℕ)
-    → Settled b (save_unless (is_silent n Nothing) (OneVoter v) (record s { live = (say s.live (map kinds.ToClient (voter.remind (voter_at s.live.voters v)))).state }))
-voter_reminds b given G s num st v n =
-    let y = voter_at s.live.voters v in
-    voter_speaks b s st v (num.behind v) (voter.remind y)
-    (replies_fit b (count s.voters) s.clients y (known_of b v y (num.live_voters v)) (st.live_voters v) y.id y.seen (st.live_voters v).seen (voter.remind y) (given.voter.reminds y) (given.voter.places y) (given.voter.remembers y))
-    (is_silent n Nothing)
-
--- ---- steps of the world
-
-settled_if : (b : Bounds) (s : Saved) → Settled b s → (who : Node) (t : Bool) (c : ℕ) (next : Result Outcome WorldFault) → (t ≡ true → Settled b (save_and_send s who next)) → Settled b (save_and_send s who (if_client t c next))
-settled_if b s st who true c next then = then refl
-settled_if b s st who false c next then = st
-
-settled_if_voter : (b : Bounds) (s : Saved) → Settled b s → (who : Node) (t : Bool) (v : ℕ) (next : Result Outcome WorldFault) → (t ≡ true → Settled b (save_and_send s who next)) → Settled b (save_and_send s who (if_voter t v next))
-settled_if_voter b s st who true v next then = then refl
-settled_if_voter b s st who false v next then = st
-
-settled_there : (b : Bounds) (s t : Saved) → Settled b s → (there : Bool) → Settled b t → Settled b (if_there there t s)
-settled_there b s t st true then = then
-settled_there b s t st false then = st
-
-settled_exchange : (b : Bounds) (s : Saved) → Settled b s → (two : Bool) (side : Side) → Settled b (save_and_send s Nobody (exchange two side s.live))
-settled_exchange b s st true First = record { sent = st.sent; live_voters = st.live_voters; voters = st.voters; behind = st.behind; last = st.last; last_saved = st.last_saved }
-settled_exchange b s st true Second = st
-settled_exchange b s st false side = st
-
-locks_reached : (b : Bounds) (x : ClientState) (sender : ℕ) (body : ClientBody) → SaidBody b.limit x body → (v t g : ℕ) → Locks sender body v t g → (t ≤ x.stamp) × IsWithin b.limit t
-locks_reached b x sender (to_client.Locked stamp grant) is v t g locks = (let same = locks.1 in let low = is.0 in omega arith, subst (λ n. IsWithin b.limit n) (sym locks.1) is.1)
-locks_reached b x sender (to_client.Fail stamp) is v t g locks = absurd locks
-locks_reached b x sender (to_client.Inquire grant) is v t g locks = absurd locks
-
-settled_came : (b : Bounds) → Given b → EndLaws → (G : Lives) (s : Saved) → Numbered b G s → Settled b s → (k : ℕ) (o : Option Message) → ((m : Message) → o ≡ Some m → Told b (count s.voters) m)
-    → ((m : Message) → o ≡ Some m → Fits b (count s.voters) s.clients m) → Settled b (save_and_send s (receiver o) (come s.live k o))
-settled_came b given end G s num st k None told fits = st
-settled_came b given end G s num st k (Some (kinds.ToVoter m)) told fits =
-    voter_tries b given end G s num st m (told (kinds.ToVoter m) refl) (fits (kinds.ToVoter m) refl) (voter.step (voter_at s.live.voters m.voter) m) refl
-settled_came b given end G s num st k (Some (kinds.ToClient m)) told fits =
-    let is = told (kinds.ToClient m) refl in
-    let fit = fits (kinds.ToClient m) refl in
-    let few = given.limits.few_voters in
-    let least = is.1 in
-    let said = said_on b.limit (client_at s.clients m.client) (client_at s.live.clients m.client) m.body (st.behind m.client) fit.1 in
-    client_tries b given G s num st m.client (client.Takes m)
-    (record {
-      within = is.0;
-      accepts = (sym ((num.live_clients m.client).id is.0), omega arith);
-      came = λ v t g locks. locks_reached b (client_at s.live.clients m.client) m.voter m.body said v t g locks;
-    })
-    (client.step (client_at s.live.clients m.client) (client.Takes m)) refl
-
-settled_happens : (b : Bounds) → Given b → EndLaws → (deal : Dealing) → DealsFrom b.quorums deal → (G : Lives) (s : Saved) → Numbered b G s → Settled b s → (h : Happening) → Settled b (happens deal s h)
-unfolding step
-settled_happens b given end deal deals G s num st (Goes (Ask c)) = settled_if b s st (OneClient c) (nat_lt c (length s.live.clients)) c _ (λ t.
-    let q = quorum_dealt deal s.live.side (next_ticket s.live) in
-    client_draws b given G s num st c (client.Asks q)
-    (record { within = subst (λ n. c < n) num.sizes.0 (ltb-true _ _ t); accepts = accepts_among b given.meet q (deals s.live.side (next_ticket s.live)); came = λ v u g never. absurd never }) s.live.side _ refl)
-settled_happens b given end deal deals G s num st (Goes (Deliver k)) =
-    settled_came b given end G s num st k (slice_get s.live.sent k) (λ m is. AllByRecursion-get (Told b (count s.voters)) s.live.sent k m num.told is)
-    (λ m is. AllByRecursion-get (Fits b (count s.voters) s.clients) s.live.sent k m st.sent is)
-settled_happens b given end deal deals G s num st (Goes (Leave c)) = settled_if b s st (OneClient c) (nat_lt c (length s.live.clients)) c _ (λ t.
-    client_tries b given G s num st c client.Leaves (record { within = subst (λ n. c < n) num.sizes.0 (ltb-true _ _ t); accepts = tt; came = λ v u g never. absurd never }) _ refl)
-settled_happens b given end deal deals G s num st (Goes (GiveUp c)) = settled_if b s st (OneClient c) (nat_lt c (length s.live.clients)) c _ (λ t.
-    client_tries b given G s num st c client.GivesUp (record { within = subst (λ n. c < n) num.sizes.0 (ltb-true _ _ t); accepts = tt; came = λ v u g never. absurd never }) _ refl)
-settled_happens b given end deal deals G s num st (Goes (RemindClient c)) = settled_if b s st (OneClient c) (nat_lt c (length s.live.clients)) c _ (λ t.
-    client_says b given G s num st c (subst (λ n. c < n) num.sizes.0 (ltb-true _ _ t)) (length (map kinds.ToVoter (client.remind (client_at s.live.clients c))))
-    (length_map kinds.ToVoter (client.remind (client_at s.live.clients c))) (is_silent (length (map kinds.ToVoter (client.remind (client_at s.live.clients c)))) Nothing) refl)
-settled_happens b given end deal deals G s num st (Goes (RemindVoter v)) = settled_if_voter b s st (OneVoter v) (nat_lt v (length s.live.voters)) v _
-    (λ t. voter_reminds b given G s num st v (length (map kinds.ToClient (voter.remind (voter_at s.live.voters v)))))
-settled_happens b given end deal deals G s num st (Goes Exchange) = settled_exchange b s st (is_some deal.second) s.live.side
-settled_happens b given end deal deals G s num st (Saves Nobody) = st
-settled_happens b given end deal deals G s num st (Saves (OneClient c)) = saved_goes b s st c (client_at s.live.clients c) (st.behind c) (self (client_at s.live.clients c)) (st.last c)
-settled_happens b given end deal deals G s num st (Saves (OneVoter v)) = saved_voter_settled b s st v (voter_at s.live.voters v) (st.live_voters v) (num.behind v)
-settled_happens b given end deal deals G s num st (Forgets Nobody) = st
-settled_happens b given end deal deals G s num st (Forgets (OneClient c)) =
-    saved_goes b s st c (least_client (client_at s.clients c)) (self (client_at s.clients c)) (st.behind c) (λ v. let none = slice_index-replicate_zero 64 v in omega arith)
-settled_happens b given end deal deals G s num st (Forgets (OneVoter v)) =
-    let was = st.voters v in
-    saved_voter_settled b s st v (least_voter (voter_at s.voters v)) (record {
-      entries = λ c t e. elim e [ inl held ↦ was.entries c t (inl held) | inr waits ↦ absurd (none-some t (sym (fin.get-empty nat_cmp c) ∙ waits)) ];
-      numbered = was.numbered;
-      seen = omega arith;
-      finished = λ c. (let none = slice_index-replicate_zero 64 c in omega arith);
-      back = λ g c t held waits. absurd (none-some t (sym (fin.get-empty nat_cmp c) ∙ waits));
-    }) (omega arith)
-settled_happens b given end deal deals G s num st (Restarts Nobody) = st
-settled_happens b given end deal deals G s num st (Restarts (OneClient c)) =
-    let u = live_goes b s st c (client_at s.clients c) (self (client_at s.clients c)) (st.last_saved c) in
-    settled_there b s (come_back s c (client_at s.clients c)) st (nat_lt c (length s.live.clients))
-    (record { sent = u.sent; live_voters = u.live_voters; voters = u.voters; behind = u.behind; last = u.last; last_saved = u.last_saved })
-settled_happens b given end deal deals G s num st (Restarts (OneVoter v)) = live_voter_settled b s st v (voter_at s.voters v) (st.voters v)
-
--- ---- evictions and rebirths
+least_fits : (b : Bounds) (l : List ClientState) (y : VoterState) → VoterFits b l y → VoterFits b l (least_voter y)
+least_fits b l y was = record {
+  entries = λ c t e. elim e [ inl held ↦ was.entries c t (inl held) | inr waits ↦ absurd (none-some t (sym (fin.get-empty nat_cmp c) ∙ waits)) ];
+  numbered = was.numbered;
+  seen = omega arith;
+  finished = λ c. (let none = slice_index-replicate_zero 64 c in omega arith);
+  back = λ g c t held waits. absurd (none-some t (sym (fin.get-empty nat_cmp c) ∙ waits));
+}
 
 reborn_fits : (b : Bounds) (l : List ClientState) (y : VoterState) (above : ℕ) → VoterFits b l (reborn y above)
 reborn_fits b l y above = record {
@@ -596,119 +433,73 @@ reborn_fits b l y above = record {
   back = λ g c t held waits. absurd (none-some g held);
 }
 
-settled_reborn : (b : Bounds) (G : Lives) (s : Saved) → Numbered b G s → Settled b s → (v above : ℕ) (t : Bool) → (nat_lt v (length s.live.voters) && is_above (voter_at s.live.voters v) above) ≡ t
-    → Settled b (be_reborn t s v above)
-settled_reborn b G s num st v above false is = st
-settled_reborn b G s num st v above true is =
-    let y = voter_at s.live.voters v in
-    let z = reborn y above in
-    let least = (may_count s v above is).least in
-    let u = live_voter_settled b s st v z (reborn_fits b s.clients y above) in
-    saved_voter_settled b (record s { live = record s.live { voters = slice_set s.live.voters v z } }) u v z (reborn_fits b s.clients y above) (let behind = num.behind v in omega arith)
+counted_fits : (b : Bounds) (l : List ClientState) (y : VoterState) (granted limit : ℕ) → VoterFits b l y → VoterFits b l (counted y granted limit)
+counted_fits b l y granted limit was = record { entries = was.entries; numbered = was.numbered; seen = was.seen; finished = was.finished; back = was.back }
 
--- a client starts anew: its stamp is no smaller, and it gave back nothing
-settled_anew : (b : Bounds) (s : Saved) → Settled b s → (c clock : ℕ) (t : Bool) → (nat_lt c (length s.live.clients) && is_ahead (client_at s.live.clients c) clock) ≡ t
-    → Settled b (start_anew t s c clock)
-settled_anew b s st c clock false is = st
-settled_anew b s st c clock true is =
-    let x = client_at s.live.clients c in
-    let z = anew x clock in
-    let parts = and_parts (nat_lt c (length s.live.clients)) (is_ahead x clock) is in
-    let ends = and_parts (nat_le x.stamp clock) (nat_le clock x.limit) parts.1 in
-    let least : x.stamp ≤ clock = (let h = ends.0 in grind (arith, nat_tests)) in
-    let none : IsCounted (count s.voters) z = λ v. (let zero = slice_index-replicate_zero 64 v in omega arith) in
-    let behind = st.behind c in
-    let u = live_goes b s st c z (omega arith) none in
-    let t : Saved = record s { live = record s.live { clients = slice_set s.live.clients c z } } in
-    let there : client_at t.live.clients c ≡ z = client_here s.live.clients c z (ltb-true _ _ parts.0) in
-    let w = saved_goes b t u c z (omega arith) (subst (λ (y : ClientState). NotBehind z y) (sym there) (self z)) none in
-    record { sent = w.sent; live_voters = w.live_voters; voters = w.voters; behind = w.behind; last = w.last; last_saved = w.last_saved }
+-- ---- what befalls
 
-evicted_fits : (b : Bounds) (G : Lives) (s : Saved) → Numbered b G s → Settled b s → (m : ToVoter) → IsEviction s m → Fits b (count s.voters) s.clients (kinds.ToVoter m) × AsksInRange b.limit m.body
-evicted_fits b G s num st m is =
-    let g = is.grant in
-    let entry : IsEntry (voter_at s.live.voters m.voter) g.client g.stamp = inl (g, is.held, refl, refl) in
-    let reached = (st.live_voters m.voter).entries g.client g.stamp entry in
-    let stamp = ((num.live_voters m.voter).entries g.client g.stamp entry).1 in (
-      (
-        subst (λ (k : ℕ). AskedBody (count s.voters) (client_at s.clients k) m.voter m.body) (sym is.client)
-            (subst (λ (body : VoterBody). AskedBody (count s.voters) (client_at s.clients g.client) m.voter body) (sym is.body) reached),
-        subst (λ (body : VoterBody). IsWithin b.limit (voter_number body)) (sym is.body) stamp,
-      ),
-      subst (λ (body : VoterBody). AsksInRange b.limit body) (sym is.body) tt,
-    )
-
-asked_old : (N : ℕ → ℕ) (x : ClientState) (v : ℕ) (body : VoterBody) → EndsOld x body → AskedBody N x v body
-asked_old N x v (asks.Request t) ends = absurd ends
-asked_old N x v (asks.Relinquish g) ends = absurd ends
-asked_old N x v (asks.Release t) ends = ends.1
-
-range_old : (limit : ℕ) (x : ClientState) (body : VoterBody) → EndsOld x body → AsksInRange limit body
-range_old limit x (asks.Request t) ends = absurd ends
-range_old limit x (asks.Relinquish g) ends = absurd ends
-range_old limit x (asks.Release t) ends = tt
-
-lawful_fits : (b : Bounds) (G : Lives) (s : Saved) → Numbered b G s → Settled b s → (m : ToVoter) → m.client < b.clients → IsEviction s m ⊎ EndsOld (client_at s.clients m.client) m.body
-    → Fits b (count s.voters) s.clients (kinds.ToVoter m) × AsksInRange b.limit m.body
-lawful_fits b G s num st m within is = elim is [
-  | inl evicts ↦ evicted_fits b G s num st m evicts
-  | inr ends ↦
-      let x = client_at s.clients m.client in
-      let known = num.clients m.client in
-      let stamp = known.sound.stamp in
-      let limit = known.limit within in
-      ((asked_old (count s.voters) x m.voter m.body ends, ends_within b.limit x m.body ends (omega arith)), range_old b.limit x m.body ends)
-]
-
-settled_hears : (b : Bounds) → Given b → EndLaws → (G : Lives) (s : Saved) → Numbered b G s → Settled b s → (m : ToVoter) → IsEviction s m ⊎ EndsOld (client_at s.clients m.client) m.body
-    → Settled b (hear s m)
-settled_hears b given end G s num st m is = settled_if_voter b s st (OneVoter m.voter) (nat_lt m.voter (length s.live.voters)) m.voter _ (λ t.
-    settled_if b s st (OneVoter m.voter) (is_message s m) m.client _ (λ u.
-    let parts = and_parts (nat_lt m.client (length s.live.clients)) (is_request_within (client_at s.live.clients m.client).limit m.body) u in
-    let within : m.client < b.clients = subst (λ n. m.client < n) num.sizes.0 (ltb-true _ _ parts.0) in
-    let here : m.voter < b.voters = subst (λ n. m.voter < n) num.sizes.1 (ltb-true _ _ t) in
-    let fits = lawful_fits b G s num st m within is in
-    voter_tries b given end G s num st m (within, here, fits.1) fits.0 (voter.step (voter_at s.live.voters m.voter) m) refl))
-
-settled_counted : (b : Bounds) (s : Saved) → Settled b s → (v granted limit : ℕ)
-    → Settled b (record s { live = record s.live { voters = slice_set s.live.voters v (counted (voter_at s.live.voters v) granted limit) } })
-settled_counted b s st v granted limit =
-    let was = st.live_voters v in
-    live_voter_settled b s st v (counted (voter_at s.live.voters v) granted limit) (record {
-      entries = was.entries;
-      numbered = was.numbered;
-      seen = was.seen;
-      finished = was.finished;
-      back = was.back;
-    })
-
-settled_limited : (b : Bounds) (s : Saved) → Settled b s → (v limit : ℕ) (t : Bool) → Settled b (have_limit t s v limit)
-settled_limited b s st v limit false = st
-settled_limited b s st v limit true = settled_counted b s st v (voter_at s.live.voters v).granted limit
-
-settled_skipped : (b : Bounds) (s : Saved) → Settled b s → (v above : ℕ) (t : Bool) → Settled b (be_skipped t s v above)
-settled_skipped b s st v above false = st
-settled_skipped b s st v above true = settled_counted b s st v above (voter_at s.live.voters v).limit
-
-settled_raised : (b : Bounds) → Given b → (G : Lives) (s : Saved) → Numbered b G s → Settled b s → (c clock : ℕ) (t : Bool) → nat_lt c (length s.live.clients) ≡ t → Settled b (be_raised t s c clock)
-unfolding client.step
-settled_raised b given G s num st c clock false is = st
-settled_raised b given G s num st c clock true is =
-    let x = client_at s.live.clients c in
-    subst (λ (u : Saved). Settled b u) (raised_by_step s c clock) (client_tries b given G s num st c (client.Takes (no_inquiry x clock)) (record {
-      within = subst (λ n. c < n) num.sizes.0 (ltb-true _ _ is);
-      accepts = (refl, omega arith);
-      came = λ v t g never. absurd never;
-    }) (Ok (client.take x (no_inquiry x clock))) refl)
+settled_keeps : (b : Bounds) → Given b → EndLaws → (G : Lives) (s : Saved) → Numbered b G s → Settled b s → Keeps b (λ m. IsLawful s (Hears m)) (scene_of s) (AreSettled b)
+settled_keeps b given end G s num st =
+    let w = scene_of s in
+    let X = client_at s.live.clients in
+    let K = client_at s.clients in
+    let Y = voter_at s.live.voters in
+    let Z = voter_at s.voters in
+    let N = count s.voters in
+    let here = λ (c : ℕ) (few : c < b.clients). subst (λ n. c < n) (sym num.sizes.0) few in
+    let zero = λ (v : ℕ). slice_index-replicate_zero 64 v in
+    record {
+      known = known_by b G w num;
+      stays = st;
+      client_rests = λ c cause o act is seen.
+          let go = later b given G w num st c cause o act is in
+          client_settles b w st c o.state (K c) [] (here c act.within) (self (K c)) (join (K c) (X c) o.state (st.behind c) go.on) go.few (st.last_saved c) tt;
+      client_speaks = λ c cause o act is.
+          let go = later b given G w num st c cause o act is in
+          client_settles b w st c o.state o.state o.out (here c act.within) (join (K c) (X c) o.state (st.behind c) go.on) (self o.state) go.few go.few (said_fits b given G w num st c cause o act is);
+      client_reminds = λ c within.
+          let x = X c in
+          let was = num.live_clients c in
+          client_settles b w st c x x (client.remind x) (here c within) (st.behind c) (self x) (st.last c) (st.last c)
+          (repeats_fit b N (count_within b G w num) (slice_set s.clients c x) c x (client_here s.clients c x (subst (λ n. c < n) (sym num.sizes.2) within)) (was.id within) (was.limit within) (st.last c) (client.remind x)
+          (given.client.repeats x) (given.client.reminders x was.sound));
+      client_saves = λ c within. client_settles b w st c (X c) (X c) [] (here c within) (st.behind c) (self (X c)) (st.last c) (st.last c) tt;
+      client_forgets = λ c within. client_settles b w st c (X c) (least_client (K c)) [] (here c within) (self (K c)) (st.behind c) (st.last c) (none_counted N (least_client (K c)) zero) tt;
+      client_restarts = λ c within. client_settles b w st c (K c) (K c) [] (here c within) (self (K c)) (self (K c)) (st.last_saved c) (st.last_saved c) tt;
+      client_anew = λ c clock within least most.
+          let z = anew (X c) clock in
+          let none = none_counted N z zero in
+          client_settles b w st c z z [] (here c within) (join (K c) (X c) z (st.behind c) least) (self z) none none tt;
+      voter_rests = λ m o arrives is none.
+          let v = m.voter in
+          let go = still_fits b given end G w num st m o (told_arrives b G (λ n. IsLawful s (Hears n)) w num m arrives) (fits_arrives b G s num st m arrives) is in
+          voter_settles b w st v o.state (Z v) [] go.fits (st.voters v) (as_many N v) tt;
+      voter_speaks = λ m o arrives is.
+          let v = m.voter in
+          let y = Y v in
+          let fits = fits_arrives b G s num st m arrives in
+          let go = still_fits b given end G w num st m o (told_arrives b G (λ n. IsLawful s (Hears n)) w num m arrives) fits is in
+          voter_settles b w st v o.state o.state o.replies go.fits go.fits go.rises
+          (replies_fit b (count (slice_set s.voters v o.state)) s.clients o.state go.known go.fits y.id (seen_after y.seen m.body) (seen_within b.limit y.seen m.body (st.live_voters v).seen fits.1) o.replies
+          (given.voter.meets y m o is).heard (given.voter.answers y m o (num.live_voters v).sound is).place (given.voter.carries y m o is).carried);
+      voter_reminds = λ v within.
+          let y = Y v in
+          let fits = st.live_voters v in
+          voter_settles b w st v y y (voter.remind y) fits fits (num.behind v)
+          (replies_fit b (count (slice_set s.voters v y)) s.clients y (known_of b v y (num.live_voters v)) fits y.id y.seen fits.seen (voter.remind y) (given.voter.reminds y) (given.voter.places y) (given.voter.remembers y));
+      voter_saves = λ v within. voter_settles b w st v (Y v) (Y v) [] (st.live_voters v) (st.live_voters v) (num.behind v) tt;
+      voter_forgets = λ v within. voter_settles b w st v (Y v) (least_voter (Z v)) [] (st.live_voters v) (least_fits b s.clients (Z v) (st.voters v)) (as_many N v) tt;
+      voter_restarts = λ v within. voter_settles b w st v (Z v) (Z v) [] (st.voters v) (st.voters v) (as_many N v) tt;
+      voter_reborn = λ v above within least most.
+          let fits = reborn_fits b s.clients (Y v) above in
+          voter_settles b w st v (reborn (Y v) above) (reborn (Y v) above) [] fits fits (let behind = num.behind v in omega arith) tt;
+      voter_limited = λ v limit within least most. voter_settles b w st v (limited (Y v) limit) (Z v) [] (counted_fits b s.clients (Y v) (Y v).granted limit (st.live_voters v)) (st.voters v) (as_many N v) tt;
+      voter_skipped = λ v above within least most. voter_settles b w st v (skipped (Y v) above) (Z v) [] (counted_fits b s.clients (Y v) above (Y v).limit (st.live_voters v)) (st.voters v) (as_many N v) tt;
+    }
 
 settled_befalls : (b : Bounds) → Given b → EndLaws → (deal : Dealing) → DealsFrom b.quorums deal → (G : Lives) (s : Saved) → Numbered b G s → Settled b s → (i : Incident) → IsLawful s i → Settled b (befalls deal s i)
-settled_befalls b given end deal deals G s num st (Happens h) lawful = settled_happens b given end deal deals G s num st h
-settled_befalls b given end deal deals G s num st (Hears m) lawful = settled_hears b given end G s num st m lawful
-settled_befalls b given end deal deals G s num st (IsReborn v above) lawful = settled_reborn b G s num st v above _ refl
-settled_befalls b given end deal deals G s num st (StartsAnew c clock) lawful = settled_anew b s st c clock _ refl
-settled_befalls b given end deal deals G s num st (HasLimit v limit) lawful = settled_limited b s st v limit _
-settled_befalls b given end deal deals G s num st (IsRaised c clock) lawful = settled_raised b given G s num st c clock _ refl
-settled_befalls b given end deal deals G s num st (IsSkipped v above) lawful = settled_skipped b s st v above _
+settled_befalls b given end deal deals G s num st i lawful =
+    befalls_keeps b given deal deals (λ m. IsLawful s (Hears m)) s (AreSettled b) (settled_keeps b given end G s num st) i (λ m e. subst (λ (j : Incident). IsLawful s j) e lawful)
 
 pub record Reaches (b : Bounds) (s : Saved) : Type 0 where
   pub lives : Lives

@@ -4,7 +4,7 @@ use Rattle.std.specs.Prelude.{◌&&◌, ◌==◌, if◌then◌else◌, nat_le, s
 use Rattle.std.specs.List.{AllByRecursion}
 use Rattle.std.proofs.lemmas.Bool.{cases_eq}
 use Rattle.std.proofs.lemmas.Bool.Decides.{nat_tests}
-use Rattle.std.proofs.lemmas.List.{append-nil, set-get_or}
+use Rattle.std.proofs.lemmas.List.{append-nil}
 use Rattle.std.proofs.lemmas.Option.{none-some, same_Some}
 use Rattle.numbers.specs.Bounds.{max_limit}
 use Rattle.message.specs.declared.message.Message.{Message}
@@ -24,6 +24,7 @@ use Rattle.world.specs.Restarts.{Saved}
 use Rattle.world_state.specs.Steps.{voter_at}
 use Rattle.world.specs.Incidents.{limited, reborn, skipped}
 use Rattle.leases.specs.WorldVoters.{IsNodeOf, said_by}
+use Rattle.world.proofs.Befalling.{own_voter}
 
 -- what holds of a list of functions after one is replaced
 pub put_at : {A : Type 0} (P : A → Type 0) (Y : ℕ → A) (v : ℕ) (z : A) (q : ℕ) → (q ≡ v → P z) → (q ≢ v → P (Y q)) → P (put Y v z q)
@@ -42,8 +43,7 @@ mid s v y z more = record s {
 }
 
 pub set_own : (vs : List VoterState) (v : ℕ) (y : VoterState) → voter_at vs v ≡ y → slice_set vs v y ≡ vs
-unfolding voter_at
-set_own vs v y is = ap (λ z. slice_set vs v z) (sym is) ∙ set-get_or vs v (voter.start 0 1)
+set_own vs v y is = ap (λ z. slice_set vs v z) (sym is) ∙ own_voter vs v
 
 -- the voters may be written in other ways
 pub as_mid : (s : Saved) (v : ℕ) (y z : VoterState) (ys zs : List VoterState) → slice_set s.live.voters v y ≡ ys → slice_set s.voters v z ≡ zs
@@ -183,14 +183,14 @@ unfolding nodes.node_step
 reminds_step y w = refl
 
 -- a step that sends nothing is not saved
-pub lives_silently : (y z : VoterState) (n : nodes.Node) (e : nodes.Event) (o : voter.Outcome) → IsNodeOf y z n → IsStep y e o → o.replies ≡ [] → LivesTo n o.state z o.replies
+pub lives_silently : (y z : VoterState) (n : nodes.Node) (e : nodes.Event) (o : voter.Outcome) → IsNodeOf y z n → IsStep y e o → o.replies ≡ [] → LivesTo n o.state z []
 lives_silently y z n e o is by none =
     let w = n.saved in
     let there : node_after (rests y w) (Meets e ∷ []) ≡ rests o.state w = ap (nodes.after (rests y w)) (by w) ∙ (λ i. record { live = o.state; saved = w; outbox = none i }) in
-    by_rests y z o.state z n o.replies is (record {
+    by_rests y z o.state z n [] is (record {
       fates = Meets e ∷ [];
       is = subst (λ (m : nodes.Node). IsNodeOf o.state z m) (sym there) (record { live = refl; saved = is.saved; none_wait = refl });
-      sent = ap (λ r. nodes.sends_of r ++ []) (by w) ∙ sym none;
+      sent = ap (λ r. nodes.sends_of r ++ []) (by w);
     })
 
 -- another one is saved, and then its messages leave

@@ -1,9 +1,8 @@
 -- whose REQUESTs the votes are granted to, and who hears so
-use Rattle.std.proofs.Common.{◌≡◌, ℕ, ◌<◌, ◌≤◌, Bool, true, false, List, [], ◌∷◌, ◌++◌, refl, sym, ap, ap₂, subst, ◌∙◌, ◌⊎◌, inl, inr, Option, Some, None, Result, Ok, Err, arith}
+use Rattle.std.proofs.Common.{◌≡◌, ℕ, ◌<◌, ◌≤◌, Bool, true, false, List, [], ◌∷◌, ◌++◌, refl, sym, ap, subst, ◌∙◌, ◌⊎◌, inl, inr, Option, Some, None, Result, arith}
 use Rattle.std.specs.Prelude.{◌==◌, ◌&&◌, nat_le, nat_lt, max, if◌then◌else◌, not}
 use Rattle.numbers.specs.Bounds.{max_limit}
 use Rattle.std.specs.FinMap.{get, get-empty}
-use Rattle.std.specs.List.{AllByRecursion}
 use Rattle.std.proofs.lemmas.Bool.{and_from, eq-eqb, eqb-true, false≢true}
 use Rattle.std.proofs.lemmas.Bool.Decides.{nat_tests}
 use Rattle.std.proofs.lemmas.Option.{none-some, same_Some}
@@ -19,26 +18,26 @@ use Rattle.sessions.specs.Rows.{AreOnce, Deed, IsOneOf, Request, Reserve, Row, U
 use Rattle.sessions.proofs.Rows.{own}
 use Rattle.voter.specs.declared.state.Grant.{Grant}
 use Rattle.voter.specs.declared.state.VoterState.{VoterState}
-use Rattle.voter.specs.Leases.{evict, evict_held, reborn, release_of}
+use Rattle.voter.specs.Leases.{evict_held, reborn, release_of}
 use Rattle.voter.specs.Saved.{least_voter}
 use Rattle.voter.specs.Steps.{Outcome, no_reply, remind, step}
-use Rattle.voter.specs.VoterContract.{AllReport, Brings, IsEntry, MeetsContract, ReportsVote}
+use Rattle.voter.specs.VoterContract.{AllReport, Brings, IsEntry, ReportsVote}
 use Rattle.voter.proofs.Contract.{MeetsContract-step}
 use Rattle.voter.proofs.ReplyLemmas.{AllReport-remind}
 use Rattle.voter.specs.Waiting.{Waiting}
 use Rattle.voter_node.specs.Lives.{Fate, HasLimit, IsReborn, IsSkipped, be_reborn, becomes}
 use Rattle.voter_node.specs.Nodes as nodes
 use Rattle.lock_node.specs.Letters.{Letter, hearer, letter_to, letters_of, may_say, subject}
-use Rattle.lock_node.specs.Locks.{Begins, Calls, Crashes, Event, Extends, IsForgotten, LetsGo, LockNode, Reminds, Saves, Skips, Speaks, all_happen, all_leave, all_move, alters, forgets, happens, leaves, letters_by, moves, outcome_at, request_turn, set, turn_of, turns_of}
-use Rattle.lock_node.proofs.LockLemmas.{IsAltered, IsStep, evicts, letter_lock, limit_keeps, one_filtered, one_left, one_of_two, reminds, set_by, skip_keeps, takes}
+use Rattle.lock_node.specs.Locks.{Begins, Calls, Crashes, Event, Extends, IsForgotten, LetsGo, LockNode, Reminds, Saves, Skips, Speaks, all_leave, alters, forgets, happens, leaves, letters_by, moves, outcome_at, request_turn, turn_of, turns_of}
+use Rattle.lock_node.proofs.LockLemmas.{IsAltered, IsStep, evicts, letter_lock, limit_keeps, one_filtered, one_of_two, reminds, set_by, skip_keeps, takes}
 
 -- ---- one number
 
 -- turns led the voter from this row to where it is
-abbrev Led : Row → Voter → Type 0
+abbrev pub Led : Row → Voter → Type 0
 Led r v = (ts : List rows.Turn) × (rows.after_turns (begin r) ts ≡ v)
 
-turns_more : (v : Voter) (ts us : List rows.Turn) → rows.after_turns v (ts ++ us) ≡ rows.after_turns (rows.after_turns v ts) us
+pub turns_more : (v : Voter) (ts us : List rows.Turn) → rows.after_turns v (ts ++ us) ≡ rows.after_turns (rows.after_turns v ts) us
 turns_more v [] us = refl
 turns_more v (t ∷ ts) us = turns_more (rows.after_turn v t) ts us
 
@@ -50,7 +49,7 @@ all_deeds v [] es = refl
 all_deeds v (d ∷ ds) es = all_deeds (does v d) ds es
 
 -- somebody asked under this stamp
-abbrev Asked : List Use → ℕ → Type 0
+abbrev pub Asked : List Use → ℕ → Type 0
 Asked uses stamp = (session : ℕ) × (epoch : ℕ) × IsOneOf (record { session = session; epoch = epoch; stamp = stamp }) uses
 
 names : (r : Row) (s : ℕ) → r.session ≡ Some s → has_number r s r.epoch ≡ true
@@ -96,7 +95,7 @@ pub record Tells (v : VoterState) (New : ℕ → ℕ → Type 0) (o : Outcome) :
 abbrev Nobody : ℕ → ℕ → Type 0
 Nobody client stamp = ⊥
 
-take_tells : (v : VoterState) (m : ToVoter) (o : Outcome) → step v m ≡ Some o → Tells v (Brings m.client m.body) o
+pub take_tells : (v : VoterState) (m : ToVoter) (o : Outcome) → step v m ≡ Some o → Tells v (Brings m.client m.body) o
 take_tells v m o is = (let meets = MeetsContract-step v m o is in record { entries = meets.entries; heard = meets.heard })
 
 nothing_tells : (v : VoterState) (New : ℕ → ℕ → Type 0) (o : Outcome) → Some (no_reply v) ≡ Some o → Tells v New o
@@ -106,11 +105,11 @@ letting_by : (b : Bool) (v : VoterState) (g : Grant) (o : Outcome) → (if b the
 letting_by true v g o is = (let meets = MeetsContract-step v (release_of v g) o is in record { entries = meets.entries; heard = meets.heard })
 letting_by false v g o is = nothing_tells v Nobody o is
 
-letting_go : (held : Option Grant) (v : VoterState) (grant : ℕ) (o : Outcome) → evict_held held v grant ≡ Some o → Tells v Nobody o
+pub letting_go : (held : Option Grant) (v : VoterState) (grant : ℕ) (o : Outcome) → evict_held held v grant ≡ Some o → Tells v Nobody o
 letting_go None v grant o is = nothing_tells v Nobody o is
 letting_go (Some g) v grant o is = letting_by (g.grant == grant) v g o is
 
-remind_tells : (n : nodes.Node) (o : Outcome) → outcome_at n nodes.Reminds ≡ Some o → Tells n.live Nobody o
+pub remind_tells : (n : nodes.Node) (o : Outcome) → outcome_at n nodes.Reminds ≡ Some o → Tells n.live Nobody o
 remind_tells n o is =
     let reminder : Outcome = record { replies = remind n.live; state = n.live } in
     let told : Tells n.live Nobody reminder = record { entries = λ c s at. inl at; heard = AllReport-remind n.live } in
@@ -304,7 +303,7 @@ brought n v session epoch client (asks.Relinquish grant) c t live may new = absu
 brought n v session epoch client (asks.Release stamp) c t live may new = absurd new
 
 -- the lives of all numbers after an event
-abbrev lives : ℕ → (ℕ → Voter) → Event → ℕ → Voter
+abbrev pub lives : ℕ → (ℕ → Voter) → Event → ℕ → Voter
 lives at h e c = rows.after_turns (h c) (turn_of at c e)
 
 brings_client : (client : ℕ) (body : VoterBody) (c t : ℕ) → Brings client body c t → c ≡ client
@@ -450,7 +449,7 @@ forgets_served at r h n lock above limit is none = record {
   letters = λ l t grant among its body. is.letters l t grant (one_filtered (λ (x : Letter). not (lock == x.lock)) l n.outbox among).0 its body;
 }
 
-served_after : (at : ℕ) (r : ℕ → Row) (h : ℕ → Voter) (n : LockNode) (e : Event) → IsServed at r h n → IsServed at r (lives at h e) (happens n e)
+pub served_after : (at : ℕ) (r : ℕ → Row) (h : ℕ → Voter) (n : LockNode) (e : Event) → IsServed at r h n → IsServed at r (lives at h e) (happens n e)
 served_after at r h n (Calls number call) is = calls_served at r h n number call is
 served_after at r h n (Speaks lock session epoch m) is = speaks_served at r h n lock session epoch m (may_say (n.rows m.client) session epoch m.body) refl is
 served_after at r h n (LetsGo lock grant) is =
@@ -467,7 +466,7 @@ served_after at r h n Saves is = saves_served at r h n is
 served_after at r h n Crashes is = crashes_served at r h n is
 
 -- what one number asked and saved stays so
-kept_now : (at : ℕ) (r : ℕ → Row) (h : ℕ → Voter) (n : LockNode) (e : Event) (c : ℕ) (u : Use) → IsServed at r h n → IsOneOf u (h c).kept → IsOneOf u (lives at h e c).kept
+pub kept_now : (at : ℕ) (r : ℕ → Row) (h : ℕ → Voter) (n : LockNode) (e : Event) (c : ℕ) (u : Use) → IsServed at r h n → IsOneOf u (h c).kept → IsOneOf u (lives at h e c).kept
 kept_now at r h n (Calls number call) c u is among = subst (λ (us : List Use). IsOneOf u us) (sym (calls_keep (h c) call (number == c)).kept) among
 kept_now at r h n (Speaks lock session epoch m) c u is among = subst (λ (us : List Use). IsOneOf u us) (sym (speaks_grows (h c) ((m.client == c) && (lock == at)) session epoch m.body).kept) among
 kept_now at r h n (LetsGo lock grant) c u is among = among
@@ -478,14 +477,14 @@ kept_now at r h n (IsForgotten lock above limit) c u is among = among
 kept_now at r h n Saves c u is among = is.grows c u among
 kept_now at r h n Crashes c u is among = among
 
-kept_on : (at : ℕ) (r : ℕ → Row) (h : ℕ → Voter) (n : LockNode) (es : List Event) (c : ℕ) (u : Use) → IsServed at r h n → IsOneOf u (h c).kept
+pub kept_on : (at : ℕ) (r : ℕ → Row) (h : ℕ → Voter) (n : LockNode) (es : List Event) (c : ℕ) (u : Use) → IsServed at r h n → IsOneOf u (h c).kept
     → IsOneOf u (rows.after_turns (h c) (turns_of at c es)).kept
 kept_on at r h n [] c u is among = among
 kept_on at r h n (e ∷ es) c u is among =
     subst (λ (v : Voter). IsOneOf u v.kept) (sym (turns_more (h c) (turn_of at c e) (turns_of at c es)))
     (kept_on at r (lives at h e) (happens n e) es c u (served_after at r h n e is) (kept_now at r h n e c u is among))
 
-left_now : (at : ℕ) (r : ℕ → Row) (h : ℕ → Voter) (n : LockNode) (e : Event) (l : Letter) (t grant : ℕ) → IsServed at r h n → IsOneOf l (leaves n e)
+pub left_now : (at : ℕ) (r : ℕ → Row) (h : ℕ → Voter) (n : LockNode) (e : Event) (l : Letter) (t grant : ℕ) → IsServed at r h n → IsOneOf l (leaves n e)
     → l.lock ≡ at → l.message.body ≡ to_client.Locked t grant
     → (epoch : ℕ) × IsOneOf (record { session = l.session; epoch = epoch; stamp = t }) (lives at h e l.message.client).kept
 left_now at r h n (Calls number call) l t grant is among its body = absurd among
@@ -511,14 +510,18 @@ left_then at r h n (e ∷ es) l t grant is among its body =
       | inr later ↦ left_then at r (lives at h e) (happens n e) es l t grant next later its body
     ])
 
-pub reaches : (n : LockNode) (es : List Event) (l : Letter) (t grant : ℕ) → Begins n → IsOneOf l (all_leave n es) → l.message.body ≡ to_client.Locked t grant
-    → (epoch : ℕ) × IsOneOf (record { session = l.session; epoch = epoch; stamp = t }) (rows.after_turns (begin (n.rows l.message.client)) (turns_of l.lock l.message.client es)).kept
-reaches n es l t grant begins among body = left_then l.lock n.rows (λ c. begin (n.rows c)) n es l t grant (record {
+-- a process that begins
+pub begins_served : (at : ℕ) (n : LockNode) → Begins n → IsServed at n.rows (λ c. begin (n.rows c)) n
+begins_served at n begins = record {
   led = λ c. ([], refl);
   live = λ c. refl;
   saved = begins.rows;
   grows = λ c u none. none;
-  asked = λ c s has. absurd (begins.nobody l.lock c s has);
-  kept = λ c s has. absurd (begins.nobody l.lock c s (subst (λ (v : VoterState). IsEntry v c s) (begins.saved l.lock) has));
-  letters = λ x s g none its at. absurd (subst (λ (ls : List Letter). IsOneOf x ls) begins.waits none);
-}) among refl body
+  asked = λ c s has. absurd (begins.nobody at c s has);
+  kept = λ c s has. absurd (begins.nobody at c s (subst (λ (v : VoterState). IsEntry v c s) (begins.saved at) has));
+  letters = λ x s g none its body. absurd (subst (λ (ls : List Letter). IsOneOf x ls) begins.waits none);
+}
+
+pub reaches : (n : LockNode) (es : List Event) (l : Letter) (t grant : ℕ) → Begins n → IsOneOf l (all_leave n es) → l.message.body ≡ to_client.Locked t grant
+    → (epoch : ℕ) × IsOneOf (record { session = l.session; epoch = epoch; stamp = t }) (rows.after_turns (begin (n.rows l.message.client)) (turns_of l.lock l.message.client es)).kept
+reaches n es l t grant begins among body = left_then l.lock n.rows (λ c. begin (n.rows c)) n es l t grant (begins_served l.lock n begins) among refl body

@@ -1,5 +1,5 @@
 -- a new voter
-use Rattle.std.proofs.Common.{◌≡◌, ℕ, inl, inr, refl, sym, ◌∙◌}
+use Rattle.std.proofs.Common.{ℕ, inl, inr, refl, sym, ◌∙◌}
 use Rattle.std.specs.FinMap.{get-empty}
 use Rattle.std.proofs.lemmas.Option.{none-some}
 use Rattle.voter.specs.Steps.{start}

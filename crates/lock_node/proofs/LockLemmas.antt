@@ -1,20 +1,18 @@
 -- lock by lock, the process is a node, and its letters are what the nodes say
-use Rattle.std.proofs.Common.{◌≡◌, ℕ, Bool, true, false, List, [], ◌∷◌, ◌++◌, refl, sym, ap, subst, ◌∙◌, ◌⊎◌, inl, inr, Option, Some, None, Result, Ok, Err}
+use Rattle.std.proofs.Common.{◌≡◌, ℕ, Bool, true, false, List, [], ◌∷◌, ◌++◌, refl, sym, ap, subst, ◌∙◌, ◌⊎◌, inl, inr, Option, Some, None, Result}
 use Rattle.std.specs.Prelude.{◌==◌, ◌&&◌, nat_le, cond, if◌then◌else◌, is_some, map, not}
 use Rattle.std.specs.List.{filter}
 use Rattle.numbers.specs.Bounds.{max_limit}
 use Rattle.std.proofs.lemmas.Bool.{eq-eqb, eqb-true, false≢true}
 use Rattle.message.specs.declared.message.ToClient.{ToClient}
 use Rattle.message.specs.declared.message.ToVoter.{ToVoter}
-use Rattle.session_rows.specs.Runs as rows
 use Rattle.sessions.specs.Rows.{IsOneOf, Row}
 use Rattle.voter.specs.declared.state.Grant.{Grant}
-use Rattle.voter.specs.Leases.{evict}
-use Rattle.voter.specs.Steps.{Outcome, step}
+use Rattle.voter.specs.Steps.{Outcome}
 use Rattle.voter_node.specs.Lives.{Fate, HasLimit, IsReborn, IsSkipped, Meets, be_skipped, becomes, have_limit, node_after, says, sends}
 use Rattle.voter_node.specs.Nodes as nodes
 use Rattle.lock_node.specs.Letters.{Letter, heard, hearer, letter_to, letters_of, may_say, subject}
-use Rattle.lock_node.specs.Locks.{Begins, Calls, Crashes, Event, Extends, IsForgotten, LetsGo, LockNode, Reminds, Saves, Skips, Speaks, all_happen, all_leave, all_move, alters, fate_at, forgets, happens, leaves, letters_by, life_at, moves, outcome_at, set}
+use Rattle.lock_node.specs.Locks.{Begins, Calls, Crashes, Event, Extends, IsForgotten, LetsGo, LockNode, Reminds, Saves, Skips, Speaks, all_happen, all_leave, alters, fate_at, forgets, happens, leaves, letters_by, life_at, moves, outcome_at, set}
 
 -- ---- lists
 
@@ -57,7 +55,7 @@ pub life_more : (n : nodes.Node) (fs gs : List Fate) → node_after n (fs ++ gs)
 life_more n [] gs = refl
 life_more n (f ∷ fs) gs = life_more (becomes n f) fs gs
 
-says_more : (n : nodes.Node) (fs gs : List Fate) (m : ToClient) → IsOneOf m (says n fs) ⊎ IsOneOf m (says (node_after n fs) gs) → IsOneOf m (says n (fs ++ gs))
+pub says_more : (n : nodes.Node) (fs gs : List Fate) (m : ToClient) → IsOneOf m (says n fs) ⊎ IsOneOf m (says (node_after n fs) gs) → IsOneOf m (says n (fs ++ gs))
 says_more n [] gs m is = elim is [
   | inl none ↦ absurd none
   | inr more ↦ more
@@ -81,7 +79,7 @@ spoken : (n : LockNode) (other lock session epoch : ℕ) (m : ToVoter) (b : Bool
 spoken n other lock session epoch m false = refl
 spoken n other lock session epoch m true = altered n.locks other lock (Meets (nodes.Takes m)) (other == lock) refl
 
-lock_after : (n : LockNode) (e : Event) (lock : ℕ) → (happens n e).locks lock ≡ node_after (n.locks lock) (fate_at lock n e)
+pub lock_after : (n : LockNode) (e : Event) (lock : ℕ) → (happens n e).locks lock ≡ node_after (n.locks lock) (fate_at lock n e)
 lock_after n (Calls number call) lock = refl
 lock_after n (Speaks other session epoch m) lock = spoken n other lock session epoch m (may_say (n.rows m.client) session epoch m.body)
 lock_after n (LetsGo other grant) lock = altered n.locks other lock (Meets (nodes.Evicts grant)) (other == lock) refl
@@ -113,7 +111,7 @@ letter_is (Some session) lock m l is = elim is [
   | inr none ↦ absurd none
 ]
 
-letters_are : (r : ℕ → Row) (lock : ℕ) (held : Option Grant) (messages : List ToClient) (l : Letter)
+pub letters_are : (r : ℕ → Row) (lock : ℕ) (held : Option Grant) (messages : List ToClient) (l : Letter)
     → IsOneOf l (letters_of r lock held messages) → IsOf lock messages l
 letters_are r lock held [] l is = absurd is
 letters_are r lock held (m ∷ ms) l is =
@@ -233,7 +231,7 @@ speaks_wait : (n : LockNode) (lock : ℕ) (m : ToVoter) (b : Bool) → AllWait n
 speaks_wait n lock m false wait = wait
 speaks_wait n lock m true wait = moves_wait n lock (nodes.Takes m) (takes m) wait
 
-all_wait : (n : LockNode) (e : Event) → AllWait n → AllWait (happens n e)
+pub all_wait : (n : LockNode) (e : Event) → AllWait n → AllWait (happens n e)
 all_wait n (Calls number call) wait = wait
 all_wait n (Speaks lock session epoch m) wait = speaks_wait n lock m (may_say (n.rows m.client) session epoch m.body) wait
 all_wait n (LetsGo lock grant) wait = moves_wait n lock (nodes.Evicts grant) (evicts grant) wait

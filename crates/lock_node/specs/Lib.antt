@@ -1,3 +1,5 @@
 pub mod Example
+pub mod Leaving
 pub mod Letters
 pub mod Locks
+pub mod Thrift

@@ -1,8 +1,9 @@
 -- what voters that keep rows tell sessions
-use Rattle.std.proofs.Common.{◌≡◌, ℕ, ◌≤◌, true, false, List, [], ◌∷◌, ◌++◌, refl, sym, ap, subst, ◌∙◌, ◌⊎◌, inl, inr, Bool, Option}
+use Rattle.std.proofs.Common.{◌≡◌, ℕ, true, false, List, [], ◌∷◌, refl, sym, ap, subst, ◌∙◌, inl, inr, Bool}
 use Rattle.std.specs.Prelude.{if◌then◌else◌}
 use Rattle.lock_node.specs.Letters.{Letter}
-use Rattle.lock_node.specs.Locks.{Begins, Event, LockNode, all_leave, life_at, turns_of}
+use Rattle.lock_node.specs.Locks.{Begins, LockNode, turns_of}
+use Rattle.lock_node.specs.Thrift.{HostTurn, LeaveOut, events_in, host_sent, life_by}
 use Rattle.message.specs.declared.message.ClientBody.{ClientBody}
 use Rattle.message.specs.declared.message.ClientBody.TheVariants as to_client
 use Rattle.message.specs.declared.message.ToClient.{ToClient}
@@ -13,22 +14,20 @@ use Rattle.passes.specs.Sessions.{AreServed, Rows, TookFrom}
 use Rattle.requester.specs.Steps as client
 use Rattle.session_rows.specs.Runs as rows
 use Rattle.session_rows.proofs.Deeds.{turns_lead}
-use Rattle.sessions.specs.Rows.{IsOneOf, Row, Use, Voter, begin, does_all, is_taken}
-use Rattle.sessions.specs.Tables.{Lives}
-use Rattle.voter.specs.Steps.{start}
-use Rattle.voter_node.specs.Lives.{Fate, said, says}
-use Rattle.voter_node.specs.Nodes.{Node, node_of}
+use Rattle.sessions.specs.Rows.{IsOneOf, Use, Voter, begin, is_taken}
+use Rattle.voter_node.specs.Lives.{said, says}
+use Rattle.voter_node.specs.Nodes.{Node}
 
 -- what leaves is given out by the voter alone, for the lock
 abbrev pub GivenOut : Type 0
-GivenOut = (n : LockNode) (events : List Event) (l : Letter) → Begins n → IsOneOf l (all_leave n events)
-    → IsOneOf l.message (says (n.locks l.lock) (life_at l.lock n events))
+GivenOut = (n : LockNode) (turns : List HostTurn) (l : Letter) → Begins n → LeaveOut n turns → IsOneOf l (host_sent n turns)
+    → IsOneOf l.message (says (n.locks l.lock) (life_by l.lock n turns))
 
 -- what leaves reaches who asked
 abbrev pub Reaches : Type 0
-Reaches = (n : LockNode) (events : List Event) (l : Letter) (stamp grant : ℕ) → Begins n → IsOneOf l (all_leave n events)
+Reaches = (n : LockNode) (turns : List HostTurn) (l : Letter) (stamp grant : ℕ) → Begins n → LeaveOut n turns → IsOneOf l (host_sent n turns)
     → l.message.body ≡ to_client.Locked stamp grant
-    → (epoch : ℕ) × IsOneOf (record { session = l.session; epoch = epoch; stamp = stamp }) (rows.after_turns (begin (n.rows l.message.client)) (turns_of l.lock l.message.client events)).kept
+    → (epoch : ℕ) × IsOneOf (record { session = l.session; epoch = epoch; stamp = stamp }) (rows.after_turns (begin (n.rows l.message.client)) (turns_of l.lock l.message.client (events_in turns))).kept
 
 -- ---- what was told was given
 
@@ -46,11 +45,11 @@ pub told_given : GivenOut → (voting : ℕ → Voting) (lock : ℕ) (limit : �
     → (session v client stamp grant : ℕ) → Told voting lock session v client stamp grant → Gave (voters_of voting lock limit) v client stamp grant
 told_given out voting lock limit new session v client stamp grant told =
     let n = (voting v).first in
-    let es = (voting v).events in
-    let at : IsOneOf told.0.message (says (n.locks lock) (life_at lock n es)) =
-    subst (λ (k : ℕ). IsOneOf told.0.message (says (n.locks k) (life_at k n es))) told.2 (out n es told.0 (new v).begins told.1) in
-    given_by (said v (limit v) (life_at lock n es)) told.0.message client stamp grant
-    (subst (λ (x : Node). IsOneOf told.0.message (says x (life_at lock n es))) (new v).vote at) told.4 told.5
+    let ts = (voting v).turns in
+    let at : IsOneOf told.0.message (says (n.locks lock) (life_by lock n ts)) =
+    subst (λ (k : ℕ). IsOneOf told.0.message (says (n.locks k) (life_by k n ts))) told.2 (out n ts told.0 (new v).begins (new v).may told.1) in
+    given_by (said v (limit v) (life_by lock n ts)) told.0.message client stamp grant
+    (subst (λ (x : Node). IsOneOf told.0.message (says x (life_by lock n ts))) (new v).vote at) told.4 told.5
 
 -- ---- a run may take more, if more was given
 
@@ -101,16 +100,16 @@ keeps_turns v (t ∷ ts) keeps = keeps_turns (rows.after_turn v t) ts (keeps_tur
 abbrev pub rows_of : (ℕ → Voting) → ℕ → Rows
 rows_of voting lock client = record {
   row = λ v. (voting v).first.rows client;
-  deeds = λ v. (turns_lead (begin ((voting v).first.rows client)) (turns_of lock client (voting v).events)).deeds;
+  deeds = λ v. (turns_lead (begin ((voting v).first.rows client)) (turns_of lock client (events_in (voting v).turns))).deeds;
 }
 
-told_took : Reaches → (voting : ℕ → Voting) (lock session v client stamp grant : ℕ) → Begins (voting v).first → Told voting lock session v client stamp grant
+told_took : Reaches → (voting : ℕ → Voting) (lock session v client stamp grant : ℕ) → Begins (voting v).first → LeaveOut (voting v).first (voting v).turns → Told voting lock session v client stamp grant
     → TookFrom (rows_of voting lock) v client session stamp
-told_took reaches voting lock session v client stamp grant begins told =
+told_took reaches voting lock session v client stamp grant begins may told =
     let n = (voting v).first in
-    let es = (voting v).events in
+    let es = events_in (voting v).turns in
     let use_of : ℕ → ℕ → Use = λ s e. record { session = s; epoch = e; stamp = stamp } in
-    let one = reaches n es told.0 stamp grant begins told.1 told.5 in
+    let one = reaches n (voting v).turns told.0 stamp grant begins may told.1 told.5 in
     let by_lock : IsOneOf (use_of told.0.session one.0) (rows.after_turns (begin (n.rows told.0.message.client)) (turns_of lock told.0.message.client es)).kept =
     subst (λ (k : ℕ). IsOneOf (use_of told.0.session one.0) (rows.after_turns (begin (n.rows told.0.message.client)) (turns_of k told.0.message.client es)).kept) told.2 one.1 in
     let by_client : IsOneOf (use_of told.0.session one.0) (rows.after_turns (begin (n.rows client)) (turns_of lock client es)).kept =
@@ -121,9 +120,9 @@ told_took reaches voting lock session v client stamp grant begins told =
     (one.0, subst (λ (x : Voter). IsOneOf (use_of session one.0) x.took) (sym (turns_lead (begin (n.rows client)) (turns_of lock client es)).there) took)
 
 pub served_by : Reaches → (quorums : List (List ℕ)) (voting : ℕ → Voting) (lock : ℕ) (session : ℕ → ℕ) (runs : ℕ → Run)
-    → ((v : ℕ) → Begins (voting v).first) → ((w : Show) → WasInside runs w → IsPass quorums (Told voting lock (session w.process)) (shown runs w))
+    → ((v : ℕ) → Begins (voting v).first) → ((v : ℕ) → LeaveOut (voting v).first (voting v).turns) → ((w : Show) → WasInside runs w → IsPass quorums (Told voting lock (session w.process)) (shown runs w))
     → ((k l : ℕ) → session k ≡ session l → k ≡ l) → AreServed (rows_of voting lock) session runs
-served_by reaches quorums voting lock session runs begins show own = record {
-  took = λ w inside v some. told_took reaches voting lock (session w.process) v (shown runs w).client (shown runs w).stamp _ (begins v) ((show w inside).given v some);
+served_by reaches quorums voting lock session runs begins may show own = record {
+  took = λ w inside v some. told_took reaches voting lock (session w.process) v (shown runs w).client (shown runs w).stamp _ (begins v) (may v) ((show w inside).given v some);
   own = own;
 }

@@ -31,9 +31,9 @@ use Rattle.requester.proofs.Members.{AllByRecursion-flat_map_members, AllByRecur
 use Rattle.requester.proofs.RangeLemmas.{is_inside-busy}
 use Rattle.requester.proofs.SoundSteps.{GivesBack-take_fail_by, IsSound-see, Ok-same, ask-Ok, give_up-Ok, is_asking-busy, leave-Ok}
 use Rattle.words.specs.WordBytes.{FitIn64Bits}
-use Rattle.qlock_c.specs.Bytes.{IsClient}
-use Rattle.qlock_c.specs.Lines.{VotersCanRead}
-use Rattle.qlock_c.specs.Sent.{Comes, OfEachClient}
+use Rattle.lock_blocks.specs.Bytes.{IsClient}
+use Rattle.lock_blocks.specs.Lines.{VotersCanRead}
+use Rattle.lock_blocks.specs.Sent.{Comes, OfEachClient}
 
 -- The numbers of a client fit
 

@@ -1,6 +1,4 @@
+pub mod CallLemmas
 pub mod ClientLines
-pub mod GuardLemmas
 pub mod LineLengths
-pub mod LockLemmas
 pub mod ReplyLines
-pub mod StateLemmas

@@ -34,9 +34,9 @@ use Rattle.voter.specs.Steps as voter
 use Rattle.voter.proofs.ReplyLemmas.{AreAnswers-step}
 use Rattle.qlock_c.proofs.ClientLines.{clients_can_be_read}
 use Rattle.qlock_c.proofs.ReplyLines.{voters_can_be_read}
-use Rattle.qlock_c.specs.Bytes.{IsClient}
-use Rattle.qlock_c.specs.Lines.{ClientsCanRead, VotersCanRead, line_of, lines_to_clients, lines_to_voters}
-use Rattle.qlock_c.specs.Sent.{Comes, FitClientRoom, FitVoterRoom, OfEachClient, OfEachVoter}
+use Rattle.lock_blocks.specs.Bytes.{IsClient}
+use Rattle.lock_blocks.specs.Lines.{ClientsCanRead, VotersCanRead, line_of, lines_to_clients, lines_to_voters}
+use Rattle.lock_blocks.specs.Sent.{Comes, FitClientRoom, FitVoterRoom, OfEachClient, OfEachVoter}
 
 -- One line
 

@@ -22,9 +22,9 @@ use Rattle.voter.specs.Waiting.{waiting_words}
 use Rattle.voter.proofs.Contract.{MeetsContract-step}
 use Rattle.voter.proofs.ReplyLemmas.{AllCarry-remind, AllReport-remind, AllReportPlace-remind, AreAnswers-step, CarrySeen-step}
 use Rattle.words.specs.WordBytes.{FitIn64Bits}
-use Rattle.qlock_c.specs.Bytes.{IsVoter}
-use Rattle.qlock_c.specs.Lines.{ClientsCanRead}
-use Rattle.qlock_c.specs.Sent.{OfEachVoter}
+use Rattle.lock_blocks.specs.Bytes.{IsVoter}
+use Rattle.lock_blocks.specs.Lines.{ClientsCanRead}
+use Rattle.lock_blocks.specs.Sent.{OfEachVoter}
 
 -- The numbers of a voter fit
 

@@ -1,40 +1,10 @@
 //! The calls of the guard of what the lock protects.
-ghost use Rattle.std.specs.Prelude.{◌≡◌, ◌≢◌, OnErr};
-ghost use Rattle.qlock_c.specs.FenceSteps.{FenceAdmits, FenceIsMade};
-ghost use Rattle.blocks.specs.Numbers.{done, returned};
+ghost use Rattle.std.specs.Prelude.{◌≡◌, ◌≢◌};
+ghost use Rattle.blocks.specs.Numbers.{done};
+ghost use Rattle.lock_blocks.specs.FenceSteps.{FenceAdmits, FenceIsMade};
 
-use crate::saved_bytes::{FENCE_BYTES, load_fence, load_grants, store_fence};
-use blocks::{Refusal, number_of};
-use fence::{Fence, Pass};
-
-fn new(state: &mut [u8]) -> Result<(), Refusal>
-    ensures made { FenceIsMade state.old state.new (returned result) }
-    ensures refused { OnErr result (state.new ≡ state.old) }
-{
-    if state.len() != FENCE_BYTES {
-        return Err(Refusal::BadState);
-    }
-    store_fence(&Fence::new(), state);
-    Ok(())
-}
-
-#[tactic(auto, using(crate::proofs::StateLemmas::length_grants, crate::proofs::StateLemmas::length_guard))]
-fn admit(state: &mut [u8], pass: &[u8], turn: &mut u64) -> Result<(), Refusal>
-    ensures admits { FenceAdmits state.old pass.now state.new turn.new (returned result) }
-    ensures refused { OnErr result ((state.new ≡ state.old) × (turn.new ≡ turn.old)) }
-{
-    let mut fence = load_fence(state)?;
-    let shown = load_grants(pass, Refusal::BadArgument)?;
-    let Some(pass) = Pass::of(shown) else {
-        return Err(Refusal::NoPass);
-    };
-    match fence.admit(&pass) {
-        Ok(given) => *turn = given,
-        Err(fault) => return Err(Refusal::of_fence(fault)),
-    }
-    store_fence(&fence, state);
-    Ok(())
-}
+use blocks::number_of;
+use lock_blocks::guards;
 
 /// Makes a guard that saw no grant, in 520 bytes.
 #[unsafe(no_mangle)]
@@ -43,7 +13,7 @@ pub extern "C" fn qlock_fence_new(state: &mut [u8]) -> i32
     ensures refused { result ≢ done → state.new ≡ state.old }
     ensures made { FenceIsMade state.old state.new result }
 {
-    number_of(new(state))
+    number_of(guards::new(state))
 }
 
 /// Admits a pass, 512 bytes as `qlock_client_pass` writes them, unless it shows an older grant of some
@@ -53,5 +23,5 @@ pub extern "C" fn qlock_fence_admit(state: &mut [u8], pass: &[u8], turn: &mut u6
     ensures refused { result ≢ done → (state.new ≡ state.old) × (turn.new ≡ turn.old) }
     ensures admits { FenceAdmits state.old pass.now state.new turn.new result }
 {
-    number_of(admit(state, pass, turn))
+    number_of(guards::admit(state, pass, turn))
 }

@@ -1,6 +1,6 @@
 //! Laws: what is proved about the definitions.
-ghost use Rattle.qlock_c.specs.Lines.{ClientsCanRead, VotersCanRead};
-ghost use Rattle.qlock_c.specs.Sent.{FitClientRoom, FitVoterRoom, OfEachClient, OfEachVoter};
+ghost use Rattle.lock_blocks.specs.Lines.{ClientsCanRead, VotersCanRead};
+ghost use Rattle.lock_blocks.specs.Sent.{FitClientRoom, FitVoterRoom, OfEachClient, OfEachVoter};
 
 /// Each message that a voter sends has a line, so that its client takes it: the replies of a step and
 /// of an eviction that leave a voter whose numbers fit in 64 bits, and reminders.

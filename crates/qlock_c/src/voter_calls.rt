@@ -1,192 +1,15 @@
 //! The calls of a voter.
-ghost use Rattle.std.specs.Prelude.{◌≡◌, ◌≢◌, ◌<◌, ◌≤◌, IfErr, IfOk, OnErr};
-ghost use Rattle.message.specs.declared.message.ToVoter.{ToVoter};
+ghost use Rattle.std.specs.Prelude.{◌≡◌, ◌≢◌, ◌<◌, ◌≤◌};
 ghost use Rattle.numbers.specs.Bounds.{max_clients};
 ghost use Rattle.voter.specs.Leases.{reborn};
 ghost use Rattle.voter.specs.Steps.{start};
-ghost use Rattle.qlock_c.specs.Bytes.{IsVoter};
-ghost use Rattle.qlock_c.specs.Lines.{IsToVoter};
-ghost use Rattle.qlock_c.specs.Made.{AreInRange, AreWithin, IsMade};
-ghost use Rattle.blocks.specs.Numbers.{done, refused, returned};
-ghost use Rattle.qlock_c.specs.VoterSteps.{IsHeldBy, VoterEvicts, VoterExtends, VoterForgets, VoterMustSave, VoterRaises, VoterReminds, VoterShowsClient, VoterShowsHolder, VoterTakes};
+ghost use Rattle.blocks.specs.Numbers.{done, refused};
+ghost use Rattle.lock_blocks.specs.Bytes.{IsVoter};
+ghost use Rattle.lock_blocks.specs.Made.{AreInRange, AreWithin, IsMade};
+ghost use Rattle.lock_blocks.specs.VoterSteps.{VoterEvicts, VoterExtends, VoterForgets, VoterMustSave, VoterRaises, VoterReminds, VoterShowsClient, VoterShowsHolder, VoterTakes};
 
-use crate::lines::put_to_clients;
-use crate::saved_bytes::{STATE_BYTES, load_voter, store_voter};
-use arrayvec::ArrayVec;
 use blocks::{Refusal, number_of};
-use message::{Message, ToVoter, read_message};
-use numbers::{MAX_CLIENTS, MAX_LIMIT, MAX_VOTERS};
-use voter::{Grant, Voter};
-
-/// Reads the line of a message to the voter with this number.
-pub fn read_to_voter(line: &[u8], id: u8) -> Result<ToVoter, Refusal>
-    ensures read { IfOk result (IsToVoter line.now id) }
-    // It is the only one.
-    ensures only { IfOk result (λ m. (n : ToVoter) → IsToVoter line.now id n → n ≡ m) }
-    ensures refused { IfErr result (λ r. (r ≡ Refusal.BadMessage) × ((n : ToVoter) → IsToVoter line.now id n → ⊥)) }
-{
-    match read_message(line) {
-        Ok(Message::ToVoter(message)) if message.voter == id => Ok(message),
-        _ => Err(Refusal::BadMessage),
-    }
-}
-
-fn new(id: u8, limit: u64, state: &mut [u8]) -> Result<(), Refusal>
-    ensures made { IsMade (AreInRange id limit) state.old (IsVoter state.new (start id limit)) (returned result) }
-    ensures refused { OnErr result (state.new ≡ state.old) }
-{
-    if usize::from(id) >= MAX_VOTERS || limit < 1 || limit > MAX_LIMIT {
-        return Err(Refusal::BadArgument);
-    }
-    if state.len() != STATE_BYTES {
-        return Err(Refusal::BadState);
-    }
-    store_voter(&Voter::new(id, limit), state);
-    Ok(())
-}
-
-fn take(state: &mut [u8], line: &[u8], out: &mut [u8], written: &mut usize) -> Result<(), Refusal>
-    ensures takes { VoterTakes state.old line.now state.new out.old out.new written.new (returned result) }
-    ensures refused { OnErr result ((state.new ≡ state.old) × (out.new ≡ out.old) × (written.new ≡ written.old)) }
-{
-    let mut voter = load_voter(state)?;
-    let message = read_to_voter(line, voter.id())?;
-    let mut replies = ArrayVec::new();
-    voter.take_into(&message, &mut replies)?;
-    put_to_clients(replies.as_slice(), out, written)?;
-    store_voter(&voter, state);
-    Ok(())
-}
-
-fn remind(state: &[u8], out: &mut [u8], written: &mut usize) -> Result<(), Refusal>
-    ensures reminds { VoterReminds state.now out.old out.new written.new (returned result) }
-    ensures refused { OnErr result ((out.new ≡ out.old) × (written.new ≡ written.old)) }
-{
-    let voter = load_voter(state)?;
-    put_to_clients(voter.remind().as_slice(), out, written)
-}
-
-/// Writes the client, the stamp and the number of a grant, three times 0 if there is none.
-pub fn show_grant(held: Option<Grant>, client: &mut u64, stamp: &mut u64, grant: &mut u64)
-    ensures { IsHeldBy held client.new stamp.new grant.new }
-{
-    match held {
-        Some(it) => {
-            *client = u64::from(it.client);
-            *stamp = it.stamp;
-            *grant = it.grant;
-        }
-        None => {
-            *client = 0;
-            *stamp = 0;
-            *grant = 0;
-        }
-    }
-}
-
-fn held(state: &[u8], client: &mut u64, stamp: &mut u64, grant: &mut u64) -> Result<(), Refusal>
-    ensures shows { VoterShowsHolder state.now client.new stamp.new grant.new (returned result) }
-    ensures refused { OnErr result
-        ((client.new ≡ client.old) × (stamp.new ≡ stamp.old) × (grant.new ≡ grant.old)) }
-{
-    let voter = load_voter(state)?;
-    show_grant(voter.held(), client, stamp, grant);
-    Ok(())
-}
-
-fn reborn(id: u8, above: u64, limit: u64, state: &mut [u8]) -> Result<(), Refusal>
-    ensures made { IsMade (AreWithin id limit above) state.old (IsVoter state.new (reborn id above limit)) (returned result) }
-    ensures refused { OnErr result (state.new ≡ state.old) }
-{
-    if usize::from(id) >= MAX_VOTERS || limit < 1 || limit > MAX_LIMIT || above > limit {
-        return Err(Refusal::BadArgument);
-    }
-    if state.len() != STATE_BYTES {
-        return Err(Refusal::BadState);
-    }
-    store_voter(&Voter::reborn(id, above, limit), state);
-    Ok(())
-}
-
-fn extend(state: &mut [u8], limit: u64) -> Result<(), Refusal>
-    ensures extends { VoterExtends state.old limit state.new (returned result) }
-    ensures refused { OnErr result (state.new ≡ state.old) }
-{
-    let mut voter = load_voter(state)?;
-    if limit < voter.limit() || limit > MAX_LIMIT {
-        return Err(Refusal::BadArgument);
-    }
-    voter.extend(limit);
-    store_voter(&voter, state);
-    Ok(())
-}
-
-fn raise(state: &mut [u8], above: u64) -> Result<(), Refusal>
-    ensures raises { VoterRaises state.old above state.new (returned result) }
-    ensures refused { OnErr result (state.new ≡ state.old) }
-{
-    let mut voter = load_voter(state)?;
-    if above < voter.granted() || above > voter.limit() {
-        return Err(Refusal::BadArgument);
-    }
-    voter.raise(above);
-    store_voter(&voter, state);
-    Ok(())
-}
-
-fn evict(state: &mut [u8], grant: u64, out: &mut [u8], written: &mut usize) -> Result<(), Refusal>
-    ensures evicts { VoterEvicts state.old grant state.new out.old out.new written.new (returned result) }
-    ensures refused { OnErr result ((state.new ≡ state.old) × (out.new ≡ out.old) × (written.new ≡ written.old)) }
-{
-    let mut voter = load_voter(state)?;
-    let replies = voter.evict(grant)?;
-    put_to_clients(replies.as_slice(), out, written)?;
-    store_voter(&voter, state);
-    Ok(())
-}
-
-fn knows(
-    state: &[u8],
-    client: u8,
-    stamp: &mut u64,
-    finished: &mut u64,
-    seen: &mut u64,
-) -> Result<(), Refusal>
-    ensures bad_argument { max_clients ≤ client → returned result ≡ refused Refusal.BadArgument }
-    ensures shows { client < max_clients
-        → VoterShowsClient state.now client stamp.new finished.new seen.new (returned result) }
-    ensures refused { OnErr result
-        ((stamp.new ≡ stamp.old) × (finished.new ≡ finished.old) × (seen.new ≡ seen.old)) }
-{
-    if usize::from(client) >= MAX_CLIENTS {
-        return Err(Refusal::BadArgument);
-    }
-    let voter = load_voter(state)?;
-    *stamp = voter.known(client).unwrap_or(0);
-    *finished = voter.finished(client);
-    *seen = voter.seen();
-    Ok(())
-}
-
-fn forget(state: &mut [u8]) -> Result<(), Refusal>
-    ensures forgets { VoterForgets state.old state.new (returned result) }
-    ensures refused { OnErr result (state.new ≡ state.old) }
-{
-    let mut voter = load_voter(state)?;
-    voter.forget();
-    store_voter(&voter, state);
-    Ok(())
-}
-
-fn must_save(saved: &[u8], live: &[u8], yes: &mut i32) -> Result<(), Refusal>
-    ensures says { VoterMustSave saved.now live.now yes.new (returned result) }
-    ensures refused { OnErr result (yes.new ≡ yes.old) }
-{
-    let saved = load_voter(saved)?;
-    let live = load_voter(live)?;
-    *yes = i32::from(voter_node::must_save(&saved, &live));
-    Ok(())
-}
+use lock_blocks::voters;
 
 /// Makes a new voter with this number, 0 to 63, that may give `limit` grants, 1 to 2^62.
 #[unsafe(no_mangle)]
@@ -195,7 +18,7 @@ pub extern "C" fn qlock_voter_new(id: u8, limit: u64, state: &mut [u8]) -> i32
     ensures refused { result ≢ done → state.new ≡ state.old }
     ensures made { IsMade (AreInRange id limit) state.old (IsVoter state.new (start id limit)) result }
 {
-    number_of(new(id, limit, state))
+    number_of(voters::new(id, limit, state))
 }
 
 /// Takes the line of a message to this voter, without its newline, and writes the lines of the
@@ -211,7 +34,7 @@ pub extern "C" fn qlock_voter_take(
         → (state.new ≡ state.old) × (out.new ≡ out.old) × (written.new ≡ written.old) }
     ensures takes { VoterTakes state.old line.now state.new out.old out.new written.new result }
 {
-    number_of(take(state, line, out, written))
+    number_of(voters::take(state, line, out, written))
 }
 
 /// Writes the lines of what to send to the holder again, in case messages were lost.
@@ -220,7 +43,7 @@ pub extern "C" fn qlock_voter_remind(state: &[u8], out: &mut [u8], written: &mut
     ensures refused { result ≢ done → (out.new ≡ out.old) × (written.new ≡ written.old) }
     ensures reminds { VoterReminds state.now out.old out.new written.new result }
 {
-    number_of(remind(state, out, written))
+    number_of(voters::remind(state, out, written))
 }
 
 /// Writes the client, the stamp and the number of the grant that holds the vote, three times 0 if
@@ -236,7 +59,7 @@ pub extern "C" fn qlock_voter_held(
         → (client.new ≡ client.old) × (stamp.new ≡ stamp.old) × (grant.new ≡ grant.old) }
     ensures shows { VoterShowsHolder state.now client.new stamp.new grant.new result }
 {
-    number_of(held(state, client, stamp, grant))
+    number_of(voters::held(state, client, stamp, grant))
 }
 
 /// Makes a voter that lost its state. It gave at most `above` grants before, and may give `limit`
@@ -246,7 +69,7 @@ pub extern "C" fn qlock_voter_reborn(id: u8, above: u64, limit: u64, state: &mut
     ensures refused { result ≢ done → state.new ≡ state.old }
     ensures made { IsMade (AreWithin id limit above) state.old (IsVoter state.new (reborn id above limit)) result }
 {
-    number_of(reborn(id, above, limit, state))
+    number_of(voters::reborn(id, above, limit, state))
 }
 
 /// Raises the number of grants that the voter may give, up to 2^62.
@@ -255,7 +78,7 @@ pub extern "C" fn qlock_voter_extend(state: &mut [u8], limit: u64) -> i32
     ensures refused { result ≢ done → state.new ≡ state.old }
     ensures extends { VoterExtends state.old limit state.new result }
 {
-    number_of(extend(state, limit))
+    number_of(voters::extend(state, limit))
 }
 
 /// Skips the numbers up to `above`, from the number of grants to the limit: each later grant has a
@@ -265,7 +88,7 @@ pub extern "C" fn qlock_voter_raise(state: &mut [u8], above: u64) -> i32
     ensures refused { result ≢ done → state.new ≡ state.old }
     ensures raises { VoterRaises state.old above state.new result }
 {
-    number_of(raise(state, above))
+    number_of(voters::raise(state, above))
 }
 
 /// Lets the current grant go if it has this number, and writes the lines of the replies.
@@ -280,7 +103,7 @@ pub extern "C" fn qlock_voter_evict(
         → (state.new ≡ state.old) × (out.new ≡ out.old) × (written.new ≡ written.old) }
     ensures evicts { VoterEvicts state.old grant state.new out.old out.new written.new result }
 {
-    number_of(evict(state, grant, out, written))
+    number_of(voters::evict(state, grant, out, written))
 }
 
 /// Writes what the voter knows of a client: the stamp that has the vote or waits, 0 for none, the
@@ -298,7 +121,7 @@ pub extern "C" fn qlock_voter_knows(
     ensures bad_argument { max_clients ≤ client → result ≡ refused Refusal.BadArgument }
     ensures shows { client < max_clients → VoterShowsClient state.now client stamp.new finished.new seen.new result }
 {
-    number_of(knows(state, client, stamp, finished, seen))
+    number_of(voters::knows(state, client, stamp, finished, seen))
 }
 
 /// Forgets all but the least that has to survive a crash: the grant that holds the vote, and the number
@@ -308,7 +131,7 @@ pub extern "C" fn qlock_voter_forget(state: &mut [u8]) -> i32
     ensures refused { result ≢ done → state.new ≡ state.old }
     ensures forgets { VoterForgets state.old state.new result }
 {
-    number_of(forget(state))
+    number_of(voters::forget(state))
 }
 
 /// Writes 1 if a voter that was saved as `saved` and is now `live` has to be saved before its messages
@@ -318,5 +141,5 @@ pub extern "C" fn qlock_voter_must_save(saved: &[u8], live: &[u8], yes: &mut i32
     ensures refused { result ≢ done → yes.new ≡ yes.old }
     ensures says { VoterMustSave saved.now live.now yes.new result }
 {
-    number_of(must_save(saved, live, yes))
+    number_of(voters::must_save(saved, live, yes))
 }

@@ -1,4 +1,5 @@
 pub mod Added
+pub mod Befalling
 pub mod Claims
 pub mod ClientMoves
 pub mod EveryRun

@@ -1,6 +1,6 @@
 use Rattle.std.proofs.Common.{◌∙◌, w32}
 use Rattle.std.proofs.lemmas.Int.{to_z-of_z}
-use Rattle.qlock_c.proofs.StateLemmas.{refused_by}
+use Rattle.qlock_c.proofs.CallLemmas.{refused_by}
 use Rattle.qlock_c.proofs.row_calls.qlock_row_close.Goals as goal
 
 pub returns-clause-refused : goal.returns-clause-refused

@@ -1,0 +1,3 @@
+pub mod GuardLemmas
+pub mod LockLemmas
+pub mod StateLemmas

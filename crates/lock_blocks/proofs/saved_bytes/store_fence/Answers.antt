@@ -1,0 +1,8 @@
+use Rattle.std.proofs.Common.{◌∙◌, ap, subst}
+use Rattle.words.specs.WordBytes.{FitIn64Bits, bytes_of}
+use Rattle.lock_blocks.proofs.saved_bytes.store_fence.Goals as goal
+
+pub returns : goal.returns
+returns c =
+    let same = c.as_slice.ensures.value ∙ c.push_fence.ensures.words in
+    record { places = c.push_fence.ensures.places; fit = subst FitIn64Bits same c.write_words.ensures.fit; bytes_are = c.write_words.ensures.text ∙ ap bytes_of same }

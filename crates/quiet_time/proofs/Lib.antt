@@ -1,0 +1,4 @@
+pub mod Split
+pub mod QuietLemmas
+pub mod EndLemmas
+pub mod LifeLemmas

@@ -1,0 +1,9 @@
+pub mod Counts
+pub mod EveryWorld
+pub mod Keepers
+pub mod LawLemmas
+pub mod Masks
+pub mod PeerLemmas
+pub mod SavedLemmas
+pub mod Sets
+pub mod VoterSets

@@ -1,0 +1,5 @@
+pub mod Example
+pub mod Peers
+pub mod Saved
+pub mod Starts
+pub mod Worlds
