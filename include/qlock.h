@@ -44,13 +44,16 @@ extern "C" {
 /* Returns the version of the library, in the same form. */
 uint32_t qlock_version(void);
 
-/* How many bytes the state of a voter, of a client, of a guard, of a row and of a lease clock has. */
+/* How many bytes the state of a voter, of a client, of a guard, of a row, of a lease clock, of a peer and of a start has. */
 #define QLOCK_VOTER_BYTES 1104
 #define QLOCK_CLIENT_BYTES 1104
 #define QLOCK_FENCE_BYTES 520
 #define QLOCK_ROW_BYTES 48
 #define QLOCK_TABLE_BYTES 3072 /* a row for each of 64 numbers, one after the other */
 #define QLOCK_CLOCK_BYTES 304
+#define QLOCK_BUCKET_BYTES 40 /* a token bucket */
+#define QLOCK_PEER_BYTES 56  /* what a voter keeps of the voter of a place */
+#define QLOCK_START_BYTES 80 /* the start of a voter */
 
 /* How many bytes the pass has that a client shows to a guard. */
 #define QLOCK_PASS_BYTES 512
@@ -59,10 +62,13 @@ uint32_t qlock_version(void);
 #define QLOCK_VOTER_OUT 240
 #define QLOCK_CLIENT_OUT 4864
 
-/* How many words a header has that was read, a line of control of a client, and one of a voter. */
+/* How many words a header has that was read, a line of control of a client, one of a voter, one of a lock, and a line that was cut
+   off. */
 #define QLOCK_HEADER_WORDS 13
 #define QLOCK_CLIENT_WORDS 4
 #define QLOCK_VOTER_WORDS 7
+#define QLOCK_LOCK_WORDS 5
+#define QLOCK_LINE_WORDS 3
 
 /* The room that is always enough for the line of a header, and for a line of control. */
 #define QLOCK_LINE_OUT 320
@@ -78,8 +84,8 @@ uint32_t qlock_version(void);
 enum {
     QLOCK_DONE = 0,
     QLOCK_BAD_ARGUMENT = 1, /* a number or the length of a pass is out of range, the mask of a quorum is 0, or there are none */
-    QLOCK_BAD_STATE = 2,    /* the bytes are no saved voter, client, guard, row or lease clock, or not as many as it has */
-    QLOCK_BAD_MESSAGE = 3,  /* the line is no message to this voter or client, or the bytes begin with no header, or are no line of control */
+    QLOCK_BAD_STATE = 2,    /* the bytes are no saved voter, client, guard, row, lease clock, token bucket, peer or start, or not as many as it has */
+    QLOCK_BAD_MESSAGE = 3,  /* the line is no message to this voter or client, or the bytes begin with no header, or with no line, or are no line of control */
     QLOCK_NO_ROOM = 4,      /* `out` is too short for the lines */
     QLOCK_BUSY = 5,         /* C1: the client is asking already, or is inside */
     QLOCK_NOT_INSIDE = 6,   /* C2: the client is not inside */
@@ -93,7 +99,19 @@ enum {
     QLOCK_FAR_EPOCH = 16,   /* the claim's epoch is too far above the row's */
     QLOCK_IN_USE = 17,      /* another session has the number, and is not silent */
     QLOCK_NOT_OWNER = 18,   /* the number is not this session's under this epoch */
-    QLOCK_EPOCHS_SPENT = 19 /* the row has the epoch 2 to the power of 64 - 1 */
+    QLOCK_EPOCHS_SPENT = 19, /* the row has the epoch 2 to the power of 64 - 1 */
+    QLOCK_PLACE = 20,        /* another voter has the place */
+    QLOCK_OLDER = 21,        /* the process is of an older copy of the state, or another process has a copy of it */
+    QLOCK_TOKENS_SPENT = 22  /* the token bucket has fewer tokens */
+};
+
+/* What comes of the voters that keep a ceiling (qlock_start_turn). */
+enum {
+    QLOCK_WAITS = 0,         /* nothing: they are too few, or there is nothing to wait for */
+    QLOCK_ASKS_AGAIN = 1,    /* one of them knew of a higher ceiling, so it asks for another one */
+    QLOCK_SERVES = 2,        /* it serves from now on */
+    QLOCK_SERVES_QUIETLY = 3,/* it serves from now on, and has to be quiet at first: its state may be an older copy */
+    QLOCK_RAISES = 4         /* it serves already, and the ceiling is raised */
 };
 
 /* What a client is doing. */
@@ -145,6 +163,29 @@ enum {
     QLOCK_QUIET = 8,    /* quiet FIRST: for how many milliseconds */
     QLOCK_LEAVING = 9,  /* leaving */
     QLOCK_GREETED = 10  /* greeted */
+};
+
+/* What a voter says of a lock, in the form of its line. */
+enum {
+    QLOCK_LOCK_GONE = 1, /* gone LOCK STAMP: it let the request go */
+    QLOCK_LOCK_FULL = 2, /* full LOCK STAMP: it has no room for the lock */
+    QLOCK_LOCK_HELD = 3  /* held LOCK STAMP TIME: somebody else has had the vote for so many milliseconds */
+};
+
+/* Which words such a line has that was read. */
+enum {
+    QLOCK_LOCK_KIND = 0,
+    QLOCK_LOCK_STAMP = 1,
+    QLOCK_LOCK_TIME = 2,    /* 0 if it has none */
+    QLOCK_LOCK_NAME = 3,    /* where the lock's name is */
+    QLOCK_LOCK_NAME_LEN = 4
+};
+
+/* Which words a line has that was cut off. Its name begins at 0, and what is behind the space one byte behind the name. */
+enum {
+    QLOCK_LINE_NAME_LEN = 0, /* of the lock's name, or 1: the dot of control */
+    QLOCK_LINE_LEN = 1,      /* of what is behind the space */
+    QLOCK_LINE_REST = 2      /* where the text behind the newline begins */
 };
 
 /* ---- A voter: it has one vote, and grants it to one client at a time. `n` is always QLOCK_VOTER_BYTES. */
@@ -488,7 +529,8 @@ int32_t qlock_row_shows(const uint8_t *row, size_t n, uint64_t *epoch, uint64_t 
 
 /* What is shown of a lock after a call. */
 struct qlock_lock_shown {
-    uint64_t changed;  /* 0: nothing happened, it was not the session's to say; 1: what has to survive is as it was; 2: save it */
+    uint64_t changed;  /* 0: nothing happened, it was not the session's to say; 1: what has to survive is as it was; 2: save it;
+                          3: nothing happened, only who is inside gets the vote now */
     uint64_t stamp;    /* of the client's request that has the vote or waits, 0 for none */
     uint64_t finished; /* the highest stamp of the client's requests that are finished */
     uint64_t holder;   /* the client that has the vote, 0 for none */
@@ -496,16 +538,54 @@ struct qlock_lock_shown {
     uint64_t grant;    /* the number of its grant, 0 for none: so look here */
 };
 
-/* Takes what a session, named by these halves, says under this epoch: one line of `len` bytes, without its newline. Writes the lines
-   of the replies that somebody hears, and shows the lock to the client that the line is from. If it is not the session's to say,
-   the call is done, `shown->changed` and `*written` are 0, and nothing else is written.
+/* What was said of a lock since the start of its voter. A voter that was killed may have forgotten to whom it granted its votes. So it
+   is *quiet* for as long as a lease lasts: a REQUEST is put off, unless its client says that it is inside. A grant from before the start
+   is *old* until its client says so. An old grant that is given back is over, and at the end of the quiet time all old ones are let go. A
+   vote stays closed to others while somebody waits who said in the quiet time that he is inside. Then nobody gets a vote in the quiet
+   time who did not say that he is inside, nobody has one as it ends who did not say so, and who has one, and says so, has it then.
+
+   Make it as a voter begins (qlock_since_start with how many grants it gave, or skipped). All zeros say that nothing is old, and nothing was said:
+   so of a vote that is new, or once the quiet time has ended and nobody is awaited (qlock_lock_stands). It is not saved. */
+struct qlock_since_start {
+    uint64_t begun;      /* how many grants the vote had given before the start */
+    uint64_t inside[64]; /* by client: the stamp of the request by which it said since that it is inside, 0 for none */
+};
+
+/* Writes that nothing was said since a start, before which so many grants were given. Returns 0. */
+int32_t qlock_since_start(uint64_t begun, struct qlock_since_start *since);
+
+/* Forgets what a client said, 0 to 63: its session is over.
+
+   QLOCK_BAD_ARGUMENT  there is no such client */
+int32_t qlock_since_forget(struct qlock_since_start *since, uint8_t client);
+
+/* Takes what a session, named by these halves, says under this epoch: one line of `len` bytes, without its newline. `is_quiet` is whether
+   the voter is quiet, and `says_inside` whether the session says that it is inside by the request. Writes the lines of the replies that
+   somebody hears, what is known since the start, and shows the lock to the client that the line is from. If it is not the session's to
+   say, or a REQUEST that is put off, the call is done, `shown->changed` is 0 or 3, `*written` is 0, and nothing else is written.
 
    QLOCK_BAD_STATE     the bytes are no voter, or there is no row for the number
    QLOCK_BAD_MESSAGE   the line is not REQUEST, RELINQUISH or RELEASE to this voter
    QLOCK_GRANTS_SPENT  the message needs a new grant, and none is left
    QLOCK_NO_ROOM       `room` is too small; QLOCK_VOTER_OUT is always enough */
-int32_t qlock_lock_take(const uint8_t *table, size_t rows, uint8_t *vote, size_t n, uint64_t upper, uint64_t lower, uint64_t epoch,
-                        const uint8_t *line, size_t len, uint8_t *out, size_t room, size_t *written, struct qlock_lock_shown *shown);
+int32_t qlock_lock_take(const uint8_t *table, size_t rows, uint8_t *vote, size_t n, struct qlock_since_start *since, uint32_t is_quiet,
+                        uint32_t says_inside, uint64_t upper, uint64_t lower, uint64_t epoch, const uint8_t *line, size_t len,
+                        uint8_t *out, size_t room, size_t *written, struct qlock_lock_shown *shown);
+
+/* Ends the quiet time of a lock: lets its grant go if it is old. Writes the lines of the replies that somebody hears, and shows the lock to
+   a client, 0 to 63. If it is refused, the vote has to stay quiet.
+
+   QLOCK_BAD_ARGUMENT  there is no such client
+   QLOCK_BAD_STATE     the bytes are no voter
+   QLOCK_GRANTS_SPENT  a request waits, and no grant is left
+   QLOCK_NO_ROOM       `room` is too small; QLOCK_VOTER_OUT is always enough */
+int32_t qlock_lock_end_quiet(const uint8_t *table, size_t rows, uint8_t *vote, size_t n, const struct qlock_since_start *since,
+                             uint8_t client, uint8_t *out, size_t room, size_t *written, struct qlock_lock_shown *shown);
+
+/* Writes 1 to `*old` if the vote has an old grant, and 1 to `*awaited` if somebody waits who said since the start that he is inside; else 0.
+
+   QLOCK_BAD_STATE  the bytes are no voter */
+int32_t qlock_lock_stands(const uint8_t *vote, size_t n, const struct qlock_since_start *since, uint32_t *old, uint32_t *awaited);
 
 /* Lets the current grant go if it has this number, as qlock_voter_evict does, but for the lines that nobody hears, and shows the lock
    to a client, 0 to 63.
@@ -586,6 +666,118 @@ int32_t qlock_clock_shows(const uint8_t *clock, size_t n, uint64_t *reading, uin
    QLOCK_BAD_STATE  the bytes are no lease clock */
 int32_t qlock_clock_is_silent(const uint8_t *clock, size_t n, uint64_t heard, uint64_t ttl, uint32_t *yes);
 
+/* ---- A token bucket: how fast something may grow that others name. `n` is always QLOCK_BUCKET_BYTES.
+
+   It gains `rate` tokens a second, up to `most`, and begins with half of `most`. Whoever takes tokens takes no more than there are. So
+   from any time to any later one at most `most` tokens are taken, and `rate` for each second between the two. A bucket of which none
+   was taken for `most / rate` seconds has all of `most`. What is left is kept exactly. It needs not be saved: one that is made anew
+   begins with half.
+
+   Times are nanoseconds of one clock of the caller. A time before that of the last spending counts as that. */
+
+/* Makes a bucket that begins now.
+
+   QLOCK_BAD_STATE  `n` is not QLOCK_BUCKET_BYTES */
+int32_t qlock_bucket_new(uint64_t rate, uint64_t most, uint64_t now, uint8_t *bucket, size_t n);
+
+/* Writes how many whole tokens there are now.
+
+   QLOCK_BAD_STATE  the bytes are no token bucket */
+int32_t qlock_bucket_left(const uint8_t *bucket, size_t n, uint64_t now, uint64_t *tokens);
+
+/* Takes tokens.
+
+   QLOCK_BAD_STATE     the bytes are no token bucket
+   QLOCK_TOKENS_SPENT  there are fewer tokens now */
+int32_t qlock_bucket_spend(uint8_t *bucket, size_t n, uint64_t now, uint64_t tokens);
+
+/* ---- The start of a voter among the other voters: so that no two processes of one voter give the same grant.
+
+   A peer is what a voter keeps of the voter of a place: seven numbers of 64 bits, each with its lowest byte first. They are the upper
+   and the lower half of its identity, 0 if nobody is known; its run, which is how often it was made again; its start, which is how
+   often its process started; a word that the process made up; its ceiling, above which it gives no grant; and how often its state
+   was saved when it ended, 0 unless it said so. Any 56 bytes are a peer.
+
+   A start is what a process knows of the others since it started: ten numbers. They are the set of the voters that answered; that of
+   those whose ceiling it knew before it served; the highest ceiling that is known; its floor; the ceiling that it asked for last, 0
+   for none; the set of the voters that keep that one; its ceiling; by how much it raises that at first, and by how much it did last;
+   and 1 if it serves, plus 2 if the last run is known to have ended cleanly. A set of voters has voter v if bit v is 1. It is not
+   saved, but for the ceiling: save that before a grant above the last one leaves.
+
+   A process that starts saves its start, one more than the last one, before it says so. The others meet it, save, and answer what
+   they knew before (the ceiling of the peer). Then it begins, once so many answered, and asks the others to keep the ceiling that it
+   asks for. They meet it again, with that ceiling, save, and answer. It serves if they and it contain a quorum of each plan in use.
+   It gives grants above the floor, and up to the ceiling, and asks for the next one in time. A process that is refused ends. */
+
+/* Keeps the process of the second peer, which started in the place of the first one, with the greater ceiling of both. If the process
+   says so again, what is known of its end stays. `n` and `m` are QLOCK_PEER_BYTES.
+
+   QLOCK_BAD_STATE  the bytes are no peer
+   QLOCK_PLACE      another voter is known, and this one was not made again more often
+   QLOCK_OLDER      of this voter another process is known that started as often, or more often */
+int32_t qlock_peer_meet(uint8_t *peer, size_t n, const uint8_t *now, size_t m);
+
+/* Keeps the later one of two peers of a place, with the greater ceiling of both: what a voter hears from another one.
+
+   QLOCK_BAD_STATE  the bytes are no peer */
+int32_t qlock_peer_learn(uint8_t *peer, size_t n, const uint8_t *other, size_t m);
+
+/* Keeps how often the state of the voter with this identity, which has two halves, was saved when it ended, in this start. Nothing
+   changes unless that is the one that is known.
+
+   QLOCK_BAD_STATE  the bytes are no peer */
+int32_t qlock_peer_end(uint8_t *peer, size_t n, uint64_t upper, uint64_t lower, uint64_t start, uint64_t saves);
+
+/* Writes 1 to `*yes` if the last run of the voter with this identity is known to have ended when its state had been saved so often, and
+   0 if not.
+
+   QLOCK_BAD_STATE  the bytes are no peer */
+int32_t qlock_peer_is_clean(const uint8_t *peer, size_t n, uint64_t upper, uint64_t lower, uint64_t saves, uint32_t *yes);
+
+/* Makes the start of a process. `ceiling` is the one that its state asked for last, 0 if for none, and `first` how many grants it asks
+   for at first, at least one. `n` is always QLOCK_START_BYTES.
+
+   QLOCK_BAD_STATE  `n` is not QLOCK_START_BYTES */
+int32_t qlock_start_new(uint64_t ceiling, uint64_t first, uint8_t *start, size_t n);
+
+/* Notes which ceiling a voter says that it knew, and whether (not 0) it knows that the last run ended with the saves that there are.
+
+   QLOCK_BAD_ARGUMENT  there is no such voter
+   QLOCK_BAD_STATE     the bytes are no start */
+int32_t qlock_start_hear(uint8_t *start, size_t n, uint8_t voter, uint64_t ceiling, uint32_t is_clean);
+
+/* Asks for the first ceiling, above all that is known, if it may. Else nothing changes, nor after the first time. It may if all others
+   answered. Else a process whose state asked for no ceiling yet may if the voters that did not answer, and it, contain no quorum of a
+   plan in use (`have_silent_quorum` is 0). Any other one may if it was patient, and those that answered, and it, contain a quorum of
+   each plan (`have_quorums`). Call it after each answer, and as time passes.
+
+   QLOCK_BAD_STATE  the bytes are no start */
+int32_t qlock_start_begin(uint8_t *start, size_t n, uint64_t others, uint32_t have_silent_quorum, uint32_t have_quorums,
+                          uint32_t is_patient);
+
+/* Notes that a voter keeps this ceiling. If it did not know of this process before (`says` is not 0), it says which ceiling it knew.
+   What it says of another ceiling than that which was asked for last changes nothing.
+
+   QLOCK_BAD_ARGUMENT  there is no such voter
+   QLOCK_BAD_STATE     the bytes are no start */
+int32_t qlock_start_keep(uint8_t *start, size_t n, uint8_t voter, uint64_t ceiling, uint32_t says, uint64_t known);
+
+/* Raises the ceiling if the voters that keep it, and this one, contain a quorum of each plan in use (`have_quorums`), and writes to
+   `*turn` what comes of it. Call it after each voter that keeps the ceiling, and after QLOCK_ASKS_AGAIN.
+
+   QLOCK_BAD_STATE  the bytes are no start */
+int32_t qlock_start_turn(uint8_t *start, size_t n, uint32_t have_quorums, uint32_t *turn);
+
+/* Asks for the next ceiling if half of the last block is used, once the grant of this number was given.
+
+   QLOCK_BAD_STATE  the bytes are no start */
+int32_t qlock_start_need(uint8_t *start, size_t n, uint64_t number);
+
+/* Forgets who keeps the ceiling: the plans in use changed, and all voters are to keep it again.
+
+   QLOCK_BAD_STATE  the bytes are no start */
+int32_t qlock_start_renew(uint8_t *start, size_t n);
+
 /* ---- Messages of a lock service: a header line, and lines of locks, `LOCK LINE`, or of control, `. WORDS`.
 
    The header's line is one of
@@ -640,6 +832,31 @@ int32_t qlock_voter_word_read(const uint8_t *line, size_t len, uint64_t *words, 
    QLOCK_NO_ROOM       `room` is too small; QLOCK_LINE_OUT is always enough */
 int32_t qlock_voter_word_write(uint8_t kind, uint8_t number, uint64_t first, uint64_t second, uint64_t third, uint64_t fourth,
                                uint64_t fifth, uint8_t *out, size_t room, size_t *written);
+
+/* Lines with the name of a lock: it has 1 to 64 bytes of A-Z a-z 0-9 _ - . : with no dot first. */
+
+/* Reads what a voter says of a lock, without the dot and the space in front and without the newline, as QLOCK_LOCK_WORDS words. A line
+   with another first word is QLOCK_BAD_MESSAGE here.
+
+   QLOCK_BAD_ARGUMENT  `n` is not QLOCK_LOCK_WORDS
+   QLOCK_BAD_MESSAGE   the line is none of those above */
+int32_t qlock_lock_word_read(const uint8_t *line, size_t len, uint64_t *words, size_t n);
+
+/* Writes what a voter says of a lock, as qlock_voter_word_write does.
+
+   QLOCK_BAD_ARGUMENT  `kind` is none, or the lock's name is no name
+   QLOCK_NO_ROOM       `room` is too small; QLOCK_LINE_OUT is always enough */
+int32_t qlock_lock_word_write(uint8_t kind, const uint8_t *lock, size_t lock_len, uint64_t stamp, uint64_t milliseconds, uint8_t *out,
+                              size_t room, size_t *written);
+
+/* Cuts the first line off a text, as QLOCK_LINE_WORDS words: a lock's name or the dot of control, one space, anything, and a newline.
+
+   QLOCK_BAD_ARGUMENT  `n` is not QLOCK_LINE_WORDS
+   QLOCK_BAD_MESSAGE   the text begins with no such line */
+int32_t qlock_line_cut(const uint8_t *text, size_t len, uint64_t *words, size_t n);
+
+/* Writes 1 to `*yes` if bytes may name a lock, and 0 if not. */
+int32_t qlock_is_lock_name(const uint8_t *name, size_t len, uint32_t *yes);
 
 #ifdef __cplusplus
 }

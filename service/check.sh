@@ -31,9 +31,10 @@ fi
 build=${QLOCK_BUILD:-$root/build}
 [ -e "$build/libqlock.a" ] && [ -e "$build/libqlock_plan.a" ] || "$root/library"
 
-packages="./qlock ./locks ./guard ./transport ./internal/bus ./internal/config ./internal/event ./internal/exchange ./internal/local ./internal/measure \
-    ./internal/operator ./internal/remind ./internal/users ./internal/voter ./internal/wire ./internal/worlds ./cmd/qlock-voter ./cmd/qlockctl ./trial ./attacks/session ./bench"
-laid=$(gofmt -l "$here/qlock" "$here/locks" "$here/guard" "$here/transport" "$here/internal" "$here/cmd" "$here/trial" "$here/attacks" "$here/bench" "$here/simulation")
+packages="./agent ./qlock ./locks ./guard ./transport ./internal/boot ./internal/bus ./internal/config ./internal/event ./internal/exchange ./internal/local ./internal/measure \
+    ./internal/operator ./internal/qlockd ./internal/remind ./internal/unit ./internal/users ./internal/voter ./internal/wire ./internal/worlds \
+    ./cmd/qlock-voter ./cmd/qlockctl ./cmd/qlockd ./trial ./attacks/session ./bench"
+laid=$(gofmt -l "$here/agent" "$here/qlock" "$here/locks" "$here/guard" "$here/transport" "$here/internal" "$here/cmd" "$here/trial" "$here/attacks" "$here/bench" "$here/simulation")
 [ -z "$laid" ] || { echo "service: gofmt would change $laid" >&2; exit 1; }
 # shellcheck disable=SC2086
 "$go" vet $packages ./simulation ./simulation/cmd
@@ -53,7 +54,7 @@ fi
 # of a program that knows the next level of a cluster
 "$go" test -race -count=1 -tags nextlevel -run 'Format|Level' ./internal/voter
 
-"$here/build" cmd/qlock-voter cmd/qlockctl trial attacks/session
+"$here/build" cmd/qlock-voter cmd/qlockctl cmd/qlockd trial attacks/session
 "$here/build" --next cmd/qlock-voter cmd/qlockctl attacks/session
 folder=$(mktemp -d "${TMPDIR:-$here/out}/trial-XXXXXX")
 setsid nice -n 10 "$here/fuzz" "$fuzz_seconds" > "$folder/fuzz" 2>&1 &

@@ -4,8 +4,10 @@ A `Voter` or a `Client` is a state and its calls. A call returns the lines to se
 Save, then send: a `Store` keeps the bytes in a file over crashes, and makes no state anew. A `Fence` guards what the lock
 protects. A `Plan` says which quorum to ask, ticket by ticket. Why a coterie or a plan was refused is in the module `refusals`.
 
+The module `agent` takes locks of the lock service, by the agent of a host (`docs/service.md`). It needs no library.
+
 For planners, `python3 -m qlock import KIND FILE` writes the coterie of a system that runs (module `imports`), and the module
-`figures` draws plans. They are not loaded with the package.
+`figures` draws plans. These are not loaded with the package.
 
 The libraries are found by the environment variable QLOCK_LIBRARY, the path of libqlock.so, with libqlock_plan.so beside it or
 at QLOCK_PLAN_LIBRARY; or they are in the wheel; or by their names. Each is loaded at its first call. `library_version()` is the

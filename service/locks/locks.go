@@ -39,6 +39,7 @@ var (
 	ErrNumbers  = errors.New("locks: all client numbers are in use")
 	ErrHeld     = errors.New("locks: somebody else has the lock")
 	ErrFull     = errors.New("locks: no quorum of voters has room for another lock, or for one of this user: max_locks, max_locks_user")
+	ErrLooks    = errors.New("locks: the client only looks: it has no number, and takes no locks")
 	ErrRetired  = errors.New("locks: the plan of the cluster's file is retired; take the newest file")
 )
 
@@ -58,6 +59,8 @@ type Config struct {
 	Creds     string              // the file of credentials (a JWT and its seed), in place of a password
 	Cert, Key string              // the files of a certificate and its key; none if empty
 	Heartbeat time.Duration       // a quarter of the TTL, at most 500 ms, if 0
+	Note      string              // shown to whoever asks who has a lock, behind host, process and user of the system
+	NoNote    bool                // nothing is shown of this process, and no Note
 	DontWait  bool                // Open fails with ErrNumbers at once if all numbers are in use
 	Log       *log.Logger         // gets a line for each event of the session; none if nil
 	FailOver  time.Duration       // for how long a voter is silent before it is passed over; 4 heartbeats if 0
@@ -109,10 +112,13 @@ type Client struct {
 	locks  map[string]*lock
 	busy   map[*lock]struct{} // locks that ask, are inside, or are wanted
 	ticket int
-	out    [qlock.MaxVoters][]byte // lines that leave at the end of this turn of the loop, by voter
-	room   []byte
-	stats  Stats
-	waits  prometheus.Histogram
+	asker
+	ownNote string                  // what the session says of itself, "" for nothing
+	looks   bool                    // it has no number
+	out     [qlock.MaxVoters][]byte // lines that leave at the end of this turn of the loop, by voter
+	room    []byte
+	stats   Stats
+	waits   prometheus.Histogram
 }
 
 // Held is a lock that is held. It belongs to whoever called Lock.
@@ -125,6 +131,9 @@ type Held struct {
 	lost   chan struct{}
 	over   atomic.Bool // lost is closed
 	seen   bool        // the loop knows that it may be lost
+
+	note    string      // of the lock, "" if it has none of its own
+	noteDue map[int]due // when voters hear it again
 }
 
 // lapse closes Lost, and returns whether it was open.
@@ -154,9 +163,7 @@ func open(ctx context.Context, cluster *config.Cluster, c Config) (*Client, erro
 		err = client.begin(ctx)
 	}
 	if err != nil {
-		if link, ok := client.carrier.(*transport.NATS); ok {
-			err = link.Explain(err)
-		}
+		err = client.explained(err)
 		client.close()
 		return nil, err
 	}
@@ -184,8 +191,12 @@ func newClient(cluster *config.Cluster, c Config) (*Client, error) {
 	}
 	client := &Client{cluster: cluster, user: user, watch: newWatch(cluster.TTL.Duration), plans: newPlans(cluster),
 		waits: newWaits(), config: c, carrier: c.Transport, close: func() {},
-		calls: make(chan func()), ended: make(chan struct{}), stopped: make(chan struct{}), locks: map[string]*lock{}, busy: map[*lock]struct{}{}}
+		calls: make(chan func()), ended: make(chan struct{}), stopped: make(chan struct{}), locks: map[string]*lock{}, busy: map[*lock]struct{}{},
+		asker: asker{questions: map[uint64]*question{}}}
 	client.session = newSession(cluster, name)
+	if !c.NoNote {
+		client.ownNote = ownNote(c.Note)
+	}
 	if client.carrier == nil {
 		link, err := transport.Connect(cluster, access, "qlock client")
 		if err != nil {
@@ -211,25 +222,26 @@ func shorter(a, b time.Duration) time.Duration {
 // Lock waits until the caller has the lock, or the context ends. A goroutine that has it and calls Lock of it again would
 // wait for itself: with a context of Held.Context that is ErrNested.
 func (c *Client) Lock(ctx context.Context, name string) (*Held, error) {
-	return c.lock(ctx, name, false)
+	return c.lock(ctx, name, &waiter{})
 }
 
 // TryLock takes a lock that nobody has. It fails with ErrHeld as soon as a voter says that somebody else has its vote, or
-// asked before, or another goroutine of this client has the lock or waits for it. It waits for votes until the context ends,
-// and for nobody to leave. Of several callers that try a free lock at once, one gets it.
+// asked before, or another goroutine of this client has the lock or waits for it. If a voter said who has its vote, the
+// error is a HeldBy, by what this voter alone said. TryLock waits for votes until the context ends, and for nobody to leave.
+// Of several callers that try a free lock at once, one gets it.
 func (c *Client) TryLock(ctx context.Context, name string) (*Held, error) {
-	return c.lock(ctx, name, true)
+	return c.lock(ctx, name, &waiter{tries: true})
 }
 
-// lock takes a lock. It waits for who has it, unless it only tries.
-func (c *Client) lock(ctx context.Context, name string, tries bool) (*Held, error) {
+// lock takes a lock. It waits for who has it, unless the call only tries.
+func (c *Client) lock(ctx context.Context, name string, w *waiter) (*Held, error) {
 	if !wire.IsName([]byte(name)) {
 		return nil, fmt.Errorf("%w: %q", ErrName, name)
 	}
 	if isNested(ctx, c, name) {
 		return nil, fmt.Errorf("%w: %q", ErrNested, name)
 	}
-	w := &waiter{got: make(chan *Held, 1), since: time.Now(), tries: tries}
+	w.got, w.since = make(chan *Held, 1), time.Now()
 	if err := c.call(func() error { return c.enqueue(name, w) }); err != nil {
 		return nil, err
 	}
@@ -418,6 +430,7 @@ func (c *Client) end(why error) {
 
 // flush sends what this turn of the loop made. A client has nothing to save: its stamps are reserved (session.go).
 func (c *Client) flush() {
+	c.sendQuestions(time.Now())
 	for voter := range c.peers {
 		if len(c.out[voter]) == 0 {
 			continue
@@ -430,4 +443,5 @@ func (c *Client) flush() {
 		})
 		c.out[voter] = c.out[voter][:0]
 	}
+	c.sent = [qlock.MaxVoters]int{}
 }

@@ -20,7 +20,8 @@ const mostReplies = 4 << 10
 type scene struct {
 	*Client
 	call   *waiter
-	missed int // the voter whose vote is missing
+	asked  [2]*question // who has the lock "x", and which locks there are
+	missed int          // the voter whose vote is missing
 	marks  []wire.Header
 }
 
@@ -50,6 +51,11 @@ func newScene(t *testing.T) *scene {
 		t.Fatalf("votes of %b", s.votes(l))
 	}
 	s.flush()
+	for i, kind := range []wire.AskKind{wire.AskWho, wire.AskNames} {
+		s.asked[i] = newQuestion(kind, "x")
+		s.asked[i].ID = uint64(i + 1)
+		s.questions[s.asked[i].ID] = s.asked[i]
+	}
 	return s
 }
 
@@ -93,7 +99,8 @@ func (s *scene) view(sender int) view {
 		if i == sender {
 			known = &v.sender
 		}
-		known[i] = fmt.Sprint(p.identity, p.run, p.start, p.mark, p.known, p.reserved, p.requests, p.closed)
+		known[i] = fmt.Sprint(p.identity, p.run, p.start, p.mark, p.known, p.reserved, p.requests, p.closed, p.noted,
+			*s.asked[0].of(i), *s.asked[1].of(i), s.asked[0].said["x"][i], s.asked[1].said["x"][i])
 	}
 	return v
 }
@@ -110,7 +117,8 @@ func FuzzReply(f *testing.F) {
 			". opened 0 1 99999999 3 0\n", ". number 5 7 1\n", ". leaving\n", ". claimed 0 1 0 4096\n",
 			". refused 0 1\n", ". gone x 1\n", ". gone y 1\n", ". unknown 0 1\n", ". generation 9 000000000000 9\n", ". full x 1\n",
 			". generation 1 abcdefabcdef 0\n. plan 1 dg== dg==\n", "x locked 0 0 1 1 1\n", "x inquire 0 0 1\n",
-			"x failed 0 0 1\n", "z locked 0 0 9 9 9\n", "x y\n\n"} {
+			"x failed 0 0 1\n", "z locked 0 0 9 9 9\n", "x y\n\n", ". noted\n", ". has 1 x 0 5 1 900 - m 1 r a\n", ". has 0 x 6 5 1 0 jobs\n",
+			". has 2 x-1 0\n. has 2 x 4\n. listed 2 0 0\n", ". listed 2 0 77\n", ". has 1 y 0\n"} {
 			f.Add(voter, uint8(0), lines)
 			f.Add(voter, uint8(1), lines)
 		}
@@ -147,6 +155,11 @@ func FuzzReply(f *testing.F) {
 		}
 		if won := after.votes &^ before.votes; won&^(1<<sender) != 0 || after.handed > 0 && sender != at.missed {
 			t.Fatalf("%q: voter %d brings votes %b, and hands out %d locks", message, sender, won, after.handed)
+		}
+		for _, q := range at.asked {
+			if at.isAnsweredBy(q, time.Now()) || len(q.said) > len(lines) {
+				t.Fatalf("%q: one voter answers %+v", message, q)
+			}
 		}
 		if at.waits() > mostReplies+4*len(message) || after.locks > before.locks+len(lines) {
 			t.Fatalf("%d bytes leave for a message of %d, and %d locks are known", at.waits(), len(message),

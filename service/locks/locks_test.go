@@ -584,6 +584,12 @@ func TestNumbersInUse(t *testing.T) {
 	if !errors.Is(err, ErrNumbers) || time.Since(began) > time.Second {
 		t.Errorf("%v, after %v", err, time.Since(began))
 	}
+	if !strings.Contains(fmt.Sprint(err), "64 sessions are open, one of them was silent for ") {
+		t.Errorf("it does not say how many there are: %v", err)
+	}
+	if h := who(t, looker(t, w), "x"); !h.IsNobody() {
+		t.Errorf("without a number: %+v", h)
+	}
 	_, err = open(within(t, 300*time.Millisecond), w.Cluster, Config{Transport: w.Bus.Port()})
 	if !errors.Is(err, ErrNumbers) || !errors.Is(err, context.DeadlineExceeded) {
 		t.Error(err)

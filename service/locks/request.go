@@ -29,6 +29,8 @@ type lock struct {
 
 	unrenewed uint64 // the voters that started again since it has their votes, and did not say again that it has them
 
+	holder Holder // who has it, as a voter said to this request
+
 	noRoom uint64 // the voters that had no room for it, and when one said so last
 	saidAt time.Time
 }
@@ -38,7 +40,8 @@ type waiter struct {
 	got   chan *Held // closed if the call fails, and why says why
 	why   error
 	since time.Time
-	tries bool // it does not wait for who has the lock
+	tries bool   // it does not wait for who has the lock
+	note  string // of the lock, "" for that of the session
 }
 
 // find returns a lock by its name. One that is new begins above all stamps of its number.
@@ -71,6 +74,9 @@ func (c *Client) forget() {
 func (c *Client) enqueue(name string, w *waiter) error {
 	if c.draining {
 		return ErrClosed
+	}
+	if c.looks {
+		return ErrLooks
 	}
 	l, err := c.find(name)
 	if err != nil {
@@ -169,9 +175,11 @@ func (c *Client) hand(l *lock) {
 	}
 	w := l.queue[0]
 	l.queue = l.queue[1:]
-	l.held = &Held{client: c, lock: l, quorum: l.shown.Quorum, stamp: l.shown.Stamp, token: pass, lost: make(chan struct{})}
+	l.held = &Held{client: c, lock: l, quorum: l.shown.Quorum, stamp: l.shown.Stamp, token: pass, lost: make(chan struct{}),
+		note: w.note, noteDue: map[int]due{}}
 	c.watch.begin(l.held)
 	c.waits.Observe(time.Since(w.since).Seconds())
+	c.sayAboutToAll(l.held)
 	w.got <- l.held
 }
 
@@ -210,7 +218,7 @@ func (c *Client) ask(l *lock) {
 	default:
 		c.ticket++
 		c.stats.Requests++
-		l.asked, l.plan = now, c.generation
+		l.asked, l.plan, l.holder = now, c.generation, Holder{}
 		c.send(l, lines, now)
 		c.use(stamp, now)
 	}
@@ -400,7 +408,7 @@ func (c *Client) refuseTries(l *lock) {
 			waiting = append(waiting, w)
 			continue
 		}
-		w.why = fmt.Errorf("%s: %w", l.name, ErrHeld)
+		w.why = l.heldBy()
 		close(w.got)
 	}
 	l.queue = waiting
@@ -461,6 +469,9 @@ func (c *Client) votes(l *lock) (mask uint64) {
 
 // round does what time asks for: heartbeats, reminders, and other quorums in place of those with a silent voter.
 func (c *Client) round(now time.Time) {
+	if c.looks {
+		return
+	}
 	if c.hasGap(now) || now.Sub(c.beat) >= c.config.Heartbeat {
 		c.heartbeat(now)
 	} else {

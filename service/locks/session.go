@@ -31,12 +31,12 @@ import (
 	"strconv"
 	"time"
 
+	"calvundek.example/service/internal/boot"
 	"calvundek.example/service/internal/config"
 	"calvundek.example/service/internal/level"
 	"calvundek.example/service/internal/wire"
 	"calvundek.example/service/qlock"
 	"calvundek.example/service/transport"
-	"golang.org/x/sys/unix"
 )
 
 const (
@@ -73,6 +73,8 @@ type peer struct {
 	requests uint64                   // how many of this session it said that it has
 	drained  bool                     // it has no request of this session any more
 	closed   bool                     // it ended this session
+	noted    bool                     // it has the session's note
+	notes    int                      // how many heartbeats it heard without saying so
 }
 
 // session is a client's number, and what the voters say of it.
@@ -94,7 +96,8 @@ type session struct {
 	asked   int
 	claimed uint64 // the epoch that is claimed, 0 while a number is chosen
 	refused bool
-	replied uint64 // the voters that replied to what is asked now
+	crowd   wire.Told // how many sessions there are, as a voter said
+	replied uint64    // the voters that replied to what is asked now
 }
 
 func newSession(cluster *config.Cluster, name string) session {
@@ -187,7 +190,7 @@ func (c *Client) abandon() {
 // choose asks the voters which numbers are free, and chooses one. It waits for one if there is none.
 func (c *Client) choose(ctx context.Context) error {
 	for {
-		c.replied, c.claimed = 0, 0
+		c.replied, c.claimed, c.crowd = 0, 0, wire.Told{}
 		for i := range c.states {
 			c.states[i] = 1
 		}
@@ -198,12 +201,12 @@ func (c *Client) choose(ctx context.Context) error {
 			return nil
 		}
 		if c.config.DontWait {
-			return ErrNumbers
+			return c.crowded(nil)
 		}
 		select {
 		case <-time.After(c.cluster.TTL.Duration / 10):
 		case <-ctx.Done():
-			return because{ErrNumbers, ctx.Err()}
+			return c.crowded(ctx.Err())
 		}
 	}
 }
@@ -293,6 +296,7 @@ func (c *Client) rounds(ctx context.Context, say func(), done func() bool) error
 // forget forgets what a voter said of a number.
 func (p *peer) forget() {
 	p.accepts, p.taken, p.base, p.reserved, p.claimed, p.lapses = false, false, 0, 0, 0, 0
+	p.noted, p.notes = false, 0
 }
 
 // use notes that a stamp is used. It reserves more before the block is spent.
@@ -404,6 +408,7 @@ func (c *Client) heartbeat(now time.Time) {
 		}
 		p.sent[c.header.Seq] = up
 		c.tell(v, open)
+		c.sayNotes(v, now)
 		if level.Newest >= level.Greets && p.level >= level.Greets {
 			c.tell(v, qlock.ClientSays{Kind: qlock.Greet})
 		}
@@ -425,19 +430,20 @@ func (c *Client) disclaim(now time.Time) {
 		return
 	}
 	for _, l := range c.locks {
-		if lines, err := l.Disclaim(voters, c.room[:0]); err == nil {
-			c.room = lines
-			c.send(l, lines, now)
-		}
+		c.disclaimOf(l, voters, now)
 	}
 }
 
-// uptime is a clock that also goes on while the machine sleeps. That of package time does not.
-func uptime() time.Duration {
-	var t unix.Timespec
-	_ = unix.ClockGettime(unix.CLOCK_BOOTTIME, &t)
-	return time.Duration(t.Nano())
+// disclaimOf tells voters again that the requests of a lock are over.
+func (c *Client) disclaimOf(l *lock, voters uint64, now time.Time) {
+	if lines, err := l.Disclaim(voters, c.room[:0]); err == nil {
+		c.room = lines
+		c.send(l, lines, now)
+	}
 }
+
+// uptime is a clock that also goes on while the machine sleeps.
+func uptime() time.Duration { return boot.Uptime() }
 
 // doubtful returns the voters that may have let votes go: none of their replies is of a heartbeat that left in the last
 // 0.8 TTL. They may do so a TTL after it arrived.
@@ -496,13 +502,15 @@ func (c *Client) message(m transport.Message) {
 	for c.why == nil {
 		lock, line, rest, found := wire.Next(lines)
 		if !found {
+			if len(lines) > 0 {
+				c.stats.Refused++
+			}
 			return
 		}
 		lines = rest
 		if string(lock) == "." {
 			c.control(h.Number, line)
-		} else if wire.ReadLine(line).From == h.Number && c.header.Epoch > 0 && wire.IsName(lock) &&
-			!c.peers[h.Number].stale {
+		} else if wire.ReadLine(line).From == h.Number && c.header.Epoch > 0 && !c.peers[h.Number].stale {
 			c.take(lock, line)
 		} else {
 			c.stats.Refused++
@@ -524,6 +532,7 @@ func (c *Client) recognise(h wire.Header) bool {
 	default:
 		return false
 	}
+	c.forgetNotes(h.Number)
 	switch {
 	case before.identity == "":
 	case before.identity != h.Name:
@@ -550,17 +559,23 @@ func (c *Client) isUnsure(voter int) bool {
 	return p.unsure
 }
 
-// restarted renews at a voter that started again the requests that are inside by its vote. Until it says that they are,
+// restarted tells a voter that started again which requests are over, and renews those that are inside by its vote. Until it says that they are,
 // its replies to heartbeats count for nothing. Others that have its vote are
 // given up: it may be somebody else's.
 func (c *Client) restarted(voter int) {
+	now := time.Now()
+	for _, l := range c.locks {
+		if l.shown.Phase == qlock.Idle {
+			c.disclaimOf(l, 1<<voter, now) // that a request is over was perhaps not saved, and what is not renewed costs all locks by this voter
+		}
+	}
 	for l := range c.busy {
 		switch {
 		case l.shown.Phase == qlock.Idle || c.votes(l)>>voter&1 == 0:
 		case l.shown.Phase == qlock.Inside:
 			l.unrenewed |= 1 << voter
 			c.peers[voter].unsure = true
-			c.remind(l, time.Now())
+			c.remind(l, now)
 		default:
 			c.askAgain(l)
 		}
@@ -599,29 +614,29 @@ func (c *Client) spoilAll(voters uint64) {
 	}
 }
 
-// control takes a control line of a voter: one with numbers only, or one with a name or a text.
+// control takes a control line of a voter: one with numbers only, one with the name of a lock, one of who has a lock, or one of plans.
 func (c *Client) control(voter int, line []byte) {
 	if says, err := qlock.ReadVoterSays(line); err == nil {
 		c.hear(voter, says)
-		return
+	} else if says, err := qlock.ReadLockSays(line); err == nil {
+		c.hearOf(voter, says)
+	} else if told, ok := wire.ReadTold(line); ok {
+		c.hearTold(voter, told)
+	} else {
+		c.controlPlans(voter, bytes.Fields(line))
 	}
-	words := bytes.Fields(line)
-	if len(words) == 3 && (string(words[0]) == "gone" || string(words[0]) == "full") {
-		if stamp, ok := wire.Decimal(words[2]); ok && string(words[0]) == "gone" {
-			c.gone(string(words[1]), stamp)
-		} else if ok {
-			c.full(voter, string(words[1]), stamp)
-		}
-		return
+}
+
+// hearOf takes what a voter says of a lock.
+func (c *Client) hearOf(voter int, says qlock.LockSays) {
+	switch says.Kind {
+	case qlock.LockGone:
+		c.gone(string(says.Lock), says.Stamp)
+	case qlock.LockFull:
+		c.full(voter, string(says.Lock), says.Stamp)
+	case qlock.LockHeld:
+		c.isHeld(string(says.Lock), says.Stamp, says.Milliseconds)
 	}
-	if len(words) == 4 && string(words[0]) == "held" {
-		stamp, ok := wire.Decimal(words[2])
-		if since, is := wire.Decimal(words[3]); ok && is {
-			c.isHeld(string(words[1]), stamp, since)
-		}
-		return
-	}
-	c.controlPlans(voter, words)
 }
 
 // hear takes a control line of a voter that has numbers only.
@@ -764,7 +779,10 @@ func (c *Client) takers() (mask uint64) {
 
 // drain begins to close the session.
 func (c *Client) drain() {
-	c.draining, c.idle = true, 0
+	if c.draining, c.idle = true, 0; c.looks {
+		c.isDrained()
+		return
+	}
 	for l := range c.busy {
 		c.refuse(l, ErrClosed)
 		c.pump(l)
@@ -783,7 +801,14 @@ func (c *Client) finish() {
 			open |= 1 << v
 		}
 	}
-	if !c.done && open&^c.silent(time.Now()) == 0 && c.hasQuorum(closed) {
+	if open&^c.silent(time.Now()) == 0 && c.hasQuorum(closed) {
+		c.isDrained()
+	}
+}
+
+// isDrained notes that nothing is left to give back.
+func (c *Client) isDrained() {
+	if !c.done {
 		c.done = true
 		close(c.drained)
 	}

@@ -184,10 +184,28 @@ func TestLeft(t *testing.T) {
 	}
 }
 
+// journal is a log that is read while others write to it.
+type journal struct {
+	sync.Mutex
+	text bytes.Buffer
+}
+
+func (j *journal) Write(line []byte) (int, error) {
+	j.Lock()
+	defer j.Unlock()
+	return j.text.Write(line)
+}
+
+func (j *journal) String() string {
+	j.Lock()
+	defer j.Unlock()
+	return j.text.String()
+}
+
 // Done closes when the session is over, and Err says why. Each event has its line in the log.
 func TestDoneAndLog(t *testing.T) {
 	w := worlds.New(t, worlds.Majority, 2*time.Second)
-	var text bytes.Buffer
+	var text journal
 	c, err := open(within(t, 20*time.Second), w.Cluster, Config{Transport: w.Bus.Port(), Log: log.New(&text, "", 0)})
 	if err != nil {
 		t.Fatal(err)
@@ -197,6 +215,7 @@ func TestDoneAndLog(t *testing.T) {
 	}
 	w.Kill(2)
 	soon(t, "a voter is not silent", func() bool { return len(c.Silent()) > 0 })
+	soon(t, "the log does not say so", func() bool { return strings.Contains(text.String(), "event=voter-silent ") })
 	if err := c.Close(context.Background()); err != nil {
 		t.Error(err)
 	}

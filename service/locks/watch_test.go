@@ -1,6 +1,7 @@
 package locks
 
 import (
+	"bytes"
 	"errors"
 	"fmt"
 	"math/bits"
@@ -123,6 +124,22 @@ func TestLostLockHoldsNothingUp(t *testing.T) {
 	}
 	if h.lapse(); !acknowledged() {
 		t.Error("a lock that is lost keeps the others from being acknowledged")
+	}
+}
+
+// A voter that started again hears which requests are over: else what it did not save of that looks like a grant that nobody renews.
+func TestRestartedVoterHearsWhatIsOver(t *testing.T) {
+	c, h := held(t)
+	voter := bits.TrailingZeros64(h.quorum)
+	l := c.locks["x"]
+	c.out[voter] = nil
+	if c.restarted(voter); bytes.Contains(c.out[voter], []byte("x release")) {
+		t.Errorf("a lock that is held is over: %q", c.out[voter])
+	}
+	c.leave(l)
+	c.out[voter] = nil
+	if c.restarted(voter); !bytes.Contains(c.out[voter], []byte("x release")) {
+		t.Errorf("it does not hear that a request is over: %q", c.out[voter])
 	}
 }
 

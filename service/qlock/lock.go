@@ -3,11 +3,20 @@ package qlock
 /*
 #include "qlock.h"
 
-static int64_t lock_take(const uint8_t *table, uint8_t *vote, uint64_t upper, uint64_t lower, uint64_t epoch, const uint8_t *line,
-                         size_t len, uint8_t *out, struct qlock_lock_shown *shown) {
+static int64_t lock_take(const uint8_t *table, uint8_t *vote, struct qlock_since_start *since, uint32_t quiet, uint32_t inside,
+                         uint64_t upper, uint64_t lower, uint64_t epoch, const uint8_t *line, size_t len, uint8_t *out,
+                         struct qlock_lock_shown *shown) {
     size_t n = 0;
-    int32_t refusal = qlock_lock_take(table, QLOCK_TABLE_BYTES, vote, QLOCK_VOTER_BYTES, upper, lower, epoch, line, len, out,
-                                      QLOCK_VOTER_OUT, &n, shown);
+    int32_t refusal = qlock_lock_take(table, QLOCK_TABLE_BYTES, vote, QLOCK_VOTER_BYTES, since, quiet, inside, upper, lower, epoch, line,
+                                      len, out, QLOCK_VOTER_OUT, &n, shown);
+    return refusal ? -(int64_t)refusal : (int64_t)n;
+}
+
+static int64_t lock_end_quiet(const uint8_t *table, uint8_t *vote, const struct qlock_since_start *since, uint8_t client, uint8_t *out,
+                              struct qlock_lock_shown *shown) {
+    size_t n = 0;
+    int32_t refusal = qlock_lock_end_quiet(table, QLOCK_TABLE_BYTES, vote, QLOCK_VOTER_BYTES, since, client, out, QLOCK_VOTER_OUT, &n,
+                                           shown);
     return refusal ? -(int64_t)refusal : (int64_t)n;
 }
 
@@ -59,15 +68,42 @@ func (t *Table) LetsGo(number int, stamp uint64, isSilent, endedElsewhere bool) 
 	return yes != 0, err
 }
 
-// Speaker is a session that speaks, and the epoch under which it does.
+// Speaker is a session that speaks, the epoch under which it does, and whether it says that it is inside by its request.
 type Speaker struct {
 	Session Session
 	Epoch   uint64
+	Inside  bool
+}
+
+// SinceStart is what was said of a lock since the start of its voter: in the quiet time of a voter only who says that he is inside gets a
+// vote, and grants from before the start of which nobody says so are let go. The zero SinceStart says that no grant is from before, and
+// nothing was said.
+type SinceStart struct{ c C.struct_qlock_since_start }
+
+// NewSinceStart returns that nothing was said since a start, before which so many grants were given.
+func NewSinceStart(begun uint64) *SinceStart {
+	s := new(SinceStart)
+	C.qlock_since_start(C.uint64_t(begun), &s.c)
+	return s
+}
+
+// Forget forgets what a client said, 0 to 63: its session is over.
+func (s *SinceStart) Forget(client uint8) error {
+	return refusal(C.qlock_since_forget(&s.c, C.uint8_t(client)))
+}
+
+// Stands returns whether the vote has a grant from before the start by which nobody said that he is inside, and whether somebody waits who
+// said so.
+func (v *Voter) Stands(s *SinceStart) (isOld, isAwaited bool, err error) {
+	var old, awaited C.uint32_t
+	err = refusal(C.qlock_lock_stands(at(v.state[:]), VoterBytes, &s.c, &old, &awaited))
+	return old != 0, awaited != 0, err
 }
 
 // LockShown is what is shown of a lock after a call.
 type LockShown struct {
-	IsTaken  bool   // it was the session's to say
+	IsTaken  bool   // it was the session's to say, and was not put off
+	IsPutOff bool   // only who is inside gets the vote now
 	MustSave bool   // what has to survive a crash changed
 	Stamp    uint64 // of the client's request that has the vote or waits, 0 for none
 	Finished uint64 // the highest stamp of the client's requests that are finished
@@ -75,19 +111,30 @@ type LockShown struct {
 }
 
 func shownOf(s *C.struct_qlock_lock_shown) LockShown {
-	return LockShown{IsTaken: s.changed > 0, MustSave: s.changed > 1, Stamp: uint64(s.stamp), Finished: uint64(s.finished),
+	return LockShown{IsTaken: s.changed == 1 || s.changed == 2, IsPutOff: s.changed == 3, MustSave: s.changed == 2, Stamp: uint64(s.stamp), Finished: uint64(s.finished),
 		Held: Grant{uint64(s.holder), uint64(s.held), uint64(s.grant)}}
 }
 
-// TakeFrom takes the line of a message from a session, if the row of its number says that it may say this. It appends the lines of
+// TakeFrom takes the line of a message from a session, if the row of its number says that it may say this, and if it is not put off: in the
+// quiet time, and while somebody waits who said in it that he is inside, the REQUEST of whoever does not say so. It appends the lines of
 // the replies that a session hears to out, and shows the lock to the client that the line is from.
-func (v *Voter) TakeFrom(t *Table, from Speaker, line, out []byte) ([]byte, LockShown, error) {
+func (v *Voter) TakeFrom(t *Table, since *SinceStart, isQuiet bool, from Speaker, line, out []byte) ([]byte, LockShown, error) {
 	var shown C.struct_qlock_lock_shown
 	out = grown(out, C.QLOCK_VOTER_OUT)
 	room := out[len(out) : len(out)+C.QLOCK_VOTER_OUT]
 	upper, lower := from.Session.halves()
-	out, err := appended(out, C.lock_take(at(t.rows[:]), at(v.state[:]), upper, lower, C.uint64_t(from.Epoch), at(line),
-		C.size_t(len(line)), at(room), &shown))
+	out, err := appended(out, C.lock_take(at(t.rows[:]), at(v.state[:]), &since.c, truth(isQuiet), truth(from.Inside), upper, lower,
+		C.uint64_t(from.Epoch), at(line), C.size_t(len(line)), at(room), &shown))
+	return out, shownOf(&shown), err
+}
+
+// EndQuiet ends the quiet time of a lock: it lets the grant go if it is from before the start and nobody said that he is inside by it. It
+// appends the lines of the replies that a session hears to out, and shows the lock to a client.
+func (v *Voter) EndQuiet(t *Table, since *SinceStart, client uint8, out []byte) ([]byte, LockShown, error) {
+	var shown C.struct_qlock_lock_shown
+	out = grown(out, C.QLOCK_VOTER_OUT)
+	room := out[len(out) : len(out)+C.QLOCK_VOTER_OUT]
+	out, err := appended(out, C.lock_end_quiet(at(t.rows[:]), at(v.state[:]), &since.c, C.uint8_t(client), at(room), &shown))
 	return out, shownOf(&shown), err
 }
 

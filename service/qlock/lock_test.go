@@ -119,7 +119,7 @@ func TestLockAsSingleCalls(t *testing.T) {
 				}
 			default:
 				row := two.rows[client]
-				from := Speaker{row.Session, row.Epoch}
+				from := Speaker{Session: row.Session, Epoch: row.Epoch}
 				if random.Intn(8) == 0 {
 					from.Epoch--
 				}
@@ -138,7 +138,7 @@ func TestLockAsSingleCalls(t *testing.T) {
 					stamp = 1
 				}
 				want, wantShown, err := two.take(t, from, client, word, stamp)
-				got, shown, err2 := one.TakeFrom(&table, from, []byte(fmt.Sprintf("%s %d 3 %d", word, client, stamp)), nil)
+				got, shown, err2 := one.TakeFrom(&table, new(SinceStart), false, from, []byte(fmt.Sprintf("%s %d 3 %d", word, client, stamp)), nil)
 				if !errors.Is(err2, err) || !bytes.Equal(got, want) || shown != wantShown {
 					t.Fatalf("run %d, step %d, %s %d %d: %q %+v %v, not %q %+v %v", run, step, word, client, stamp, got, shown, err2, want, wantShown, err)
 				}
@@ -175,13 +175,22 @@ func TestLockRefusals(t *testing.T) {
 	for i := range bad.rows {
 		bad.rows[i] = 0xff
 	}
-	from := Speaker{sessionAt(1, 1), 1}
+	from := Speaker{Session: sessionAt(1, 1), Epoch: 1}
 	before := *voter
 	for what, call := range map[string]func() error{
-		"no voter":   func() error { _, _, err := new(Voter).TakeFrom(&table, from, []byte("request 1 3 5"), nil); return err },
-		"no message": func() error { _, _, err := voter.TakeFrom(&table, from, []byte("request 1 2 5"), nil); return err },
-		"no row":     func() error { _, _, err := voter.TakeFrom(&bad, from, []byte("request 1 3 5"), nil); return err },
-		"no client":  func() error { _, _, err := voter.LetGo(&table, 1, 64, nil); return err },
+		"no voter": func() error {
+			_, _, err := new(Voter).TakeFrom(&table, new(SinceStart), false, from, []byte("request 1 3 5"), nil)
+			return err
+		},
+		"no message": func() error {
+			_, _, err := voter.TakeFrom(&table, new(SinceStart), false, from, []byte("request 1 2 5"), nil)
+			return err
+		},
+		"no row": func() error {
+			_, _, err := voter.TakeFrom(&bad, new(SinceStart), false, from, []byte("request 1 3 5"), nil)
+			return err
+		},
+		"no client": func() error { _, _, err := voter.LetGo(&table, 1, 64, nil); return err },
 	} {
 		want := map[string]error{"no message": BadMessage, "no client": BadArgument}[what]
 		if want == nil {
@@ -191,7 +200,7 @@ func TestLockRefusals(t *testing.T) {
 			t.Errorf("%s: %v", what, err)
 		}
 	}
-	lines, shown, err := voter.TakeFrom(&table, from, []byte("request 1 3 5"), nil)
+	lines, shown, err := voter.TakeFrom(&table, new(SinceStart), false, from, []byte("request 1 3 5"), nil)
 	if err != nil || shown != (LockShown{}) || len(lines) > 0 || *voter != before {
 		t.Errorf("a number that nobody has: %q %+v %v", lines, shown, err)
 	}
@@ -203,7 +212,7 @@ func BenchmarkLine(b *testing.B) {
 	if err != nil {
 		b.Fatal(err)
 	}
-	from := Speaker{sessionAt(1, 1), 1}
+	from := Speaker{Session: sessionAt(1, 1), Epoch: 1}
 	line := func(word string, i int) []byte { return []byte(fmt.Sprintf("%s 1 3 %d", word, i+1)) }
 	b.Run("one call", func(b *testing.B) {
 		voter, _ := NewVoter(3, MaxStamp)
@@ -215,7 +224,7 @@ func BenchmarkLine(b *testing.B) {
 			if i%2 == 1 {
 				word = "release"
 			}
-			if _, shown, err := voter.TakeFrom(&table, from, line(word, i/2), room[:0]); err != nil || !shown.IsTaken {
+			if _, shown, err := voter.TakeFrom(&table, new(SinceStart), false, from, line(word, i/2), room[:0]); err != nil || !shown.IsTaken {
 				b.Fatal(shown, err)
 			}
 		}
@@ -240,4 +249,73 @@ func BenchmarkLine(b *testing.B) {
 			_, _ = voter.Held()
 		}
 	})
+}
+
+// In the quiet time a REQUEST is put off, unless its client says that it is inside. A grant from before the start goes at the end, unless
+// its client says so.
+func TestQuietTime(t *testing.T) {
+	for _, renews := range []bool{false, true} {
+		var table Table
+		sessions := [3]Speaker{}
+		for number := range sessions {
+			sessions[number] = Speaker{Session: Session{byte(number + 1)}, Epoch: 1}
+			row, err := RowShown{Epoch: 1, Reserved: 9, IsHeld: true, Session: sessions[number].Session}.Row()
+			if err != nil {
+				t.Fatal(err)
+			}
+			table.Put(number, row)
+		}
+		voter, err := NewVoter(3, 9)
+		if err != nil {
+			t.Fatal(err)
+		}
+		none := new(SinceStart)
+		if _, shown, err := voter.TakeFrom(&table, none, false, sessions[0], []byte("request 0 3 1"), nil); err != nil || shown.Held.Number != 1 {
+			t.Fatal(shown, err)
+		}
+		if err := voter.Forget(); err != nil {
+			t.Fatal(err)
+		}
+		since := NewSinceStart(1)
+		stands := func(wantOld, wantAwaited bool) {
+			t.Helper()
+			if isOld, isAwaited, err := voter.Stands(since); err != nil || isOld != wantOld || isAwaited != wantAwaited {
+				t.Errorf("renews %v: old %v, awaited %v, %v", renews, isOld, isAwaited, err)
+			}
+		}
+		stands(true, false)
+		if _, shown, err := voter.TakeFrom(&table, since, true, sessions[1], []byte("request 1 3 1"), nil); err != nil || !shown.IsPutOff || shown.IsTaken {
+			t.Errorf("it is not put off: %+v, %v", shown, err)
+		}
+		inside := sessions[2]
+		inside.Inside = true
+		if _, shown, err := voter.TakeFrom(&table, since, true, inside, []byte("request 2 3 5"), nil); err != nil || !shown.IsTaken || shown.Stamp != 5 {
+			t.Errorf("who is inside is put off: %+v, %v", shown, err)
+		}
+		stands(true, true)
+		if renews {
+			holder := sessions[0]
+			holder.Inside = true
+			if _, shown, err := voter.TakeFrom(&table, since, true, holder, []byte("request 0 3 1"), nil); err != nil || !shown.IsTaken {
+				t.Errorf("the holder does not renew: %+v, %v", shown, err)
+			}
+			stands(false, true)
+		}
+		_, shown, err := voter.EndQuiet(&table, since, 0, nil)
+		if want := map[bool]uint64{false: 2, true: 1}[renews]; err != nil || shown.Held.Number != want {
+			t.Errorf("renews %v: %+v, %v", renews, shown, err)
+		}
+		stands(false, renews)
+		// the vote is closed to others as long as somebody waits who said that he is inside
+		if _, shown, err = voter.TakeFrom(&table, since, false, sessions[1], []byte("request 1 3 1"), nil); err != nil || shown.IsPutOff != renews {
+			t.Errorf("renews %v: afterwards %+v, %v", renews, shown, err)
+		}
+		if err := since.Forget(2); err != nil {
+			t.Error(err)
+		}
+		stands(false, false)
+	}
+	if err := new(SinceStart).Forget(64); !errors.Is(err, BadArgument) {
+		t.Error(err)
+	}
 }

@@ -1,4 +1,4 @@
-// Package qlock binds the proved voter, client, guard, row and lease clock of libqlock, and the plans of libqlock_plan.
+// Package qlock binds the proved voter, client, guard, row, lock, lease clock, token bucket and start of libqlock, and the plans of libqlock_plan.
 //
 // It has no goroutine, socket, clock or file: a call takes a line and returns lines. Whoever calls it saves
 // a voter's new state before any of its lines leaves (docs/embedding.md). One call at a time uses a state.
@@ -20,6 +20,9 @@ const (
 	RowBytes    = C.QLOCK_ROW_BYTES
 	TableBytes  = C.QLOCK_TABLE_BYTES
 	ClockBytes  = C.QLOCK_CLOCK_BYTES
+	BucketBytes = C.QLOCK_BUCKET_BYTES
+	PeerBytes   = C.QLOCK_PEER_BYTES
+	StartBytes  = C.QLOCK_START_BYTES
 	PassBytes   = C.QLOCK_PASS_BYTES
 	MaxVoters   = C.QLOCK_MAX_VOTERS
 	MaxClients  = C.QLOCK_MAX_CLIENTS
@@ -56,6 +59,9 @@ const (
 	InUse       Refusal = C.QLOCK_IN_USE
 	NotOwner    Refusal = C.QLOCK_NOT_OWNER
 	EpochsSpent Refusal = C.QLOCK_EPOCHS_SPENT
+	TokensSpent Refusal = C.QLOCK_TOKENS_SPENT
+	Place       Refusal = C.QLOCK_PLACE
+	Older       Refusal = C.QLOCK_OLDER
 )
 
 var meanings = map[Refusal]string{
@@ -78,6 +84,9 @@ var meanings = map[Refusal]string{
 	InUse:       "another session has the number, and is not silent",
 	NotOwner:    "the number is not this session's under this epoch",
 	EpochsSpent: "the row has no epoch left",
+	TokensSpent: "the bucket has fewer tokens",
+	Place:       "another voter has the place",
+	Older:       "another process of the voter started as often, or more often",
 }
 
 // Error returns what the refusal means.

@@ -1,7 +1,6 @@
 package simulation
 
 import (
-	"bytes"
 	"encoding/hex"
 	"strconv"
 	"time"
@@ -507,13 +506,20 @@ func (c *client) disclaim() {
 		}
 	}
 	for _, l := range c.locks {
-		if voters == 0 || l.Client == nil {
-			continue
+		if voters != 0 {
+			l.disclaim(voters)
 		}
-		if lines, err := l.Disclaim(voters, c.room[:0]); err == nil {
-			c.room = lines
-			l.send(lines)
-		}
+	}
+}
+
+// disclaim tells voters again that the requests of a lock are over.
+func (l *lock) disclaim(voters uint64) {
+	if l.Client == nil {
+		return
+	}
+	if lines, err := l.Disclaim(voters, l.client.room[:0]); err == nil {
+		l.client.room = lines
+		l.send(lines)
 	}
 }
 
@@ -606,7 +612,9 @@ func (c *client) isUnsure(v int) bool {
 func (c *client) restarted(v int) {
 	for _, l := range c.locks {
 		switch {
-		case l.shown.Phase == qlock.Idle || l.votes()>>v&1 == 0:
+		case l.shown.Phase == qlock.Idle:
+			l.disclaim(1 << v)
+		case l.votes()>>v&1 == 0:
 		case l.shown.Phase == qlock.Inside:
 			l.unrenewed |= 1 << v
 			c.peers[v].unsure = true
@@ -647,10 +655,8 @@ func (c *client) control(v int, line []byte) {
 		c.hear(v, says)
 		return
 	}
-	if words := bytes.Fields(line); len(words) == 3 && string(words[0]) == "gone" {
-		if stamp, ok := wire.Decimal(words[2]); ok {
-			c.gone(string(words[1]), stamp)
-		}
+	if says, err := qlock.ReadLockSays(line); err == nil && says.Kind == qlock.LockGone {
+		c.gone(string(says.Lock), says.Stamp)
 	}
 }
 

@@ -4,6 +4,7 @@ import (
 	"bytes"
 	"encoding/json"
 	"strconv"
+	"strings"
 	"time"
 
 	"calvundek.example/service/internal/operator"
@@ -89,7 +90,8 @@ func (w *world) startsEmpty(p *place, before voter.Meta) {
 	p.isMade = true
 	var replies []operator.Reply
 	for v, name := range w.cluster.Names() {
-		body := `{"sessions":{},"peers":{"` + strconv.Itoa(p.number) + `":{"identity":"lost","run":` + strconv.FormatUint(before.Run, 10) + `}}}`
+		body := `{"sessions":{},"peers":{"` + strconv.Itoa(p.number) + `":{"identity":"` + strings.Repeat("1", 32) + `","process":"` +
+			strings.Repeat("1", 16) + `","run":` + strconv.FormatUint(before.Run, 10) + `}}}`
 		replies = append(replies, operator.Reply{Voter: v, Name: name, Body: []byte(body)})
 	}
 	if _, err := voter.MakeAgain(p.around(nil), p.own, w.cluster, replies); err != nil {

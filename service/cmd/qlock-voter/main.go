@@ -16,6 +16,7 @@ import (
 	"calvundek.example/service/internal/config"
 	"calvundek.example/service/internal/event"
 	"calvundek.example/service/internal/operator"
+	"calvundek.example/service/internal/unit"
 	"calvundek.example/service/internal/voter"
 	"calvundek.example/service/qlock"
 	"calvundek.example/service/transport"
@@ -171,7 +172,7 @@ func start(ctx context.Context, path string) error {
 	}
 	ended := make(chan struct{})
 	defer close(ended)
-	if err := notify(daemon.IsLively, ended); err != nil {
+	if err := unit.Notify(daemon.IsLively, ended); err != nil {
 		return err
 	}
 	return daemon.Run(ctx)

@@ -64,13 +64,14 @@ func command(ctx context.Context) *cobra.Command {
 	flags.StringVar(&s.access.Key, "key", "", "the file of the certificate's key")
 	flags.DurationVar(&s.timeout, "timeout", 3*time.Second, "how long to wait for replies of voters")
 	flags.BoolVar(&s.json, "json", false, "print JSON")
-	root.AddCommand(initCommand(s), usersCommand(s), statusCommand(ctx, s), reportCommand(ctx, s), evictCommand(ctx, s), unlockCommand(ctx, s),
+	root.AddCommand(initCommand(s), usersCommand(s), statusCommand(ctx, s), reportCommand(ctx, s), whoCommand(ctx, s), listCommand(ctx, s),
+		evictCommand(ctx, s), unlockCommand(ctx, s),
 		exchangeCommand(ctx, s), retireCommand(ctx, s), levelCommand(ctx, s), runCommand(ctx, s))
 	return root
 }
 
 // fromEnvironment are the flags that the environment has, too: --cluster is QLOCK_CLUSTER.
-var fromEnvironment = []string{"cluster", "user", "secret", "seed", "creds", "cert", "key", "timeout"}
+var fromEnvironment = []string{"cluster", "user", "secret", "seed", "creds", "cert", "key", "timeout", "agent"}
 
 // readEnvironment sets the flags that are not given, and are in the environment.
 func readEnvironment(command *cobra.Command) (err error) {

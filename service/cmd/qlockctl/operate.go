@@ -385,12 +385,15 @@ func (r report) print() {
 		fmt.Printf("%-12s %5.1f %%  %5.1f %%  %d\n", one.Voter, 100*one.Planned, 100*one.Share, one.Grants)
 	}
 	if len(r.Votes) > 0 {
-		fmt.Println("\nlock                 voter        client  since s  waiting")
+		fmt.Println("\nlock                 voter        client  since s  waiting, and the holder's note")
 	}
 	for _, v := range r.Votes {
 		var waiting []string
 		for _, w := range v.Waiting {
 			waiting = append(waiting, fmt.Sprintf("%d (%.1f s)", w.Client, w.Waits))
+		}
+		if v.Note != "" {
+			waiting = append(waiting, fmt.Sprintf("note=%q", v.Note))
 		}
 		fmt.Printf("%-20s %-12s %6d  %7.1f  %s\n", v.Lock, v.Voter, v.Client, v.Held, strings.Join(waiting, ", "))
 	}

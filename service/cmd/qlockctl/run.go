@@ -7,14 +7,17 @@ import (
 	"fmt"
 	"os"
 	"os/exec"
+	"path/filepath"
 	"runtime"
 	"strings"
 	"syscall"
 	"time"
 
+	"calvundek.example/service/agent"
 	"calvundek.example/service/internal/config"
 	"calvundek.example/service/locks"
 	"github.com/spf13/cobra"
+	"github.com/spf13/pflag"
 )
 
 // Exit statuses of `run` besides that of the program.
@@ -29,38 +32,87 @@ const (
 var errLost = errors.New("the lock may be somebody else's, and the program was ended")
 
 func runCommand(ctx context.Context, s *settings) *cobra.Command {
-	var wait, grace time.Duration
-	var tries bool
-	var err error
+	var grace time.Duration
+	var of taking
+	var socket, note string
+	var noNote bool
 	command := &cobra.Command{Use: "run LOCK PROGRAM [ARGUMENT..]", Args: cobra.MinimumNArgs(2), Short: "Run a program that needs a lock",
 		Long: "Takes a lock, runs a program, and gives the lock back. The program finds its pass in QLOCK_PASS, in hexadecimal: " +
 			"what it shows to the guard. If the lock may be lost, the program and all processes of its group get SIGTERM, and " +
 			"then SIGKILL. If this command itself is killed, the program is killed, too, but not what it started. It can't read " +
 			"from a terminal.\n\nThe exit status is that of the program, 75 if the lock was not to be had in time, 76 if the " +
 			"lock may have been lost, 78 if the settings or the lock's name can't be used, 126 if the program can't be " +
-			"started, or 127 if there is none.",
-		RunE: func(_ *cobra.Command, args []string) error {
-			if grace, err = graceWithin(s.cluster, grace); err != nil {
+			"started, or 127 if there is none.\n\nWithout the name of a cluster's file or of a user, it takes the lock by the agent of " +
+			"the host, qlockd, if that is there.",
+		RunE: func(command *cobra.Command, args []string) error {
+			of.lock = args[0]
+			if socket := agentOf(command.Flags(), socket, agent.Socket); socket != "" {
+				if note == "" && !noNote {
+					note = filepath.Base(args[1])
+				}
+				return runByAgent(ctx, agent.New(socket).WithNote(note), of, grace, args[1:])
+			}
+			cluster, err := config.ReadCluster(s.cluster)
+			if err != nil {
 				return status{exitSettings, err}
 			}
-			return run(ctx, s.client(), taking{args[0], wait, tries}, grace, args[1:])
+			if grace, err = graceWithin(cluster.TTL.Duration, grace); err != nil {
+				return status{exitSettings, err}
+			}
+			settings := s.client()
+			if settings.Note, settings.NoNote = note, noNote; note == "" {
+				settings.Note = filepath.Base(args[1])
+			}
+			return run(ctx, settings, of, grace, args[1:])
 		}}
-	command.Flags().DurationVar(&wait, "wait", time.Minute, "how long to wait for the lock")
-	command.Flags().BoolVar(&tries, "try", false, "do not wait for somebody else who has the lock")
+	command.Flags().DurationVar(&of.wait, "wait", time.Minute, "how long to wait for the lock")
+	command.Flags().BoolVar(&of.tries, "try", false, "do not wait for somebody else who has the lock")
+	command.Flags().StringVar(&socket, "agent", "",
+		"the socket of the host's agent, or \"none\"; "+agent.Socket+" if it is there, and no cluster or user is named")
 	command.Flags().DurationVar(&grace, "grace", 0,
 		"how long after SIGTERM SIGKILL is sent; a tenth of the TTL, and at most 1s, if it is 0")
+	command.Flags().StringVar(&note, "note", "",
+		"what is shown of this command to who asks who has the lock; the program's name if it is empty")
+	command.Flags().BoolVar(&noNote, "no-note", false, "show nothing of this command to who asks who has the lock")
 	command.Flags().SetInterspersed(false)
 	return command
 }
 
+// whoAndWhere are the flags that name a cluster, or a user of it.
+var whoAndWhere = []string{"cluster", "user", "secret", "seed", "creds", "cert", "key"}
+
+// agentOf returns the socket of the agent by which a lock is taken, "" for none: the one that is named, or else the usual
+// one, if it is there and nothing names a cluster or a user. A flag goes before the environment.
+func agentOf(flags *pflag.FlagSet, named, usual string) string {
+	if named == "none" {
+		named = ""
+	}
+	if flags.Changed("agent") {
+		return named
+	}
+	for _, name := range whoAndWhere {
+		if flags.Changed(name) {
+			return ""
+		}
+	}
+	if config.FromEnvironment("agent") != "" {
+		return named
+	}
+	for _, name := range whoAndWhere {
+		if config.FromEnvironment(name) != "" {
+			return ""
+		}
+	}
+	if info, err := os.Stat(usual); err == nil && info.Mode()&os.ModeSocket != 0 {
+		return usual
+	}
+	return ""
+}
+
 // graceWithin returns for how long a program may go on after SIGTERM: a tenth of the TTL at most,
 // which is half of what is left of the TTL when the lock may be lost.
-func graceWithin(path string, grace time.Duration) (time.Duration, error) {
-	cluster, err := config.ReadCluster(path)
-	if err != nil {
-		return 0, err
-	}
-	most := cluster.TTL.Duration / 10
+func graceWithin(ttl, grace time.Duration) (time.Duration, error) {
+	most := ttl / 10
 	switch {
 	case grace > most:
 		return 0,
@@ -108,6 +160,42 @@ func run(ctx context.Context, settings locks.Config, of taking, grace time.Durat
 	} else if err != nil {
 		return withoutLock(limit, fmt.Errorf("%s: %w", of.lock, err))
 	}
+	return runWith(ctx, held, of, grace, words)
+}
+
+// runByAgent runs a program under a lock of the host's agent.
+func runByAgent(ctx context.Context, client *agent.Client, of taking, grace time.Duration, words []string) error {
+	limit, cancel := context.WithTimeout(ctx, of.wait)
+	defer cancel()
+	take := client.Lock
+	if of.tries {
+		take = client.TryLock
+	}
+	held, err := take(limit, of.lock)
+	for _, hopeless := range []error{agent.ErrName, agent.ErrAbsent, agent.ErrRefused} {
+		if errors.Is(err, hopeless) {
+			return status{exitSettings, fmt.Errorf("%s: %w", of.lock, err)}
+		}
+	}
+	if err != nil {
+		return status{exitNoLock, err}
+	}
+	if grace, err = graceWithin(held.TTL(), grace); err != nil {
+		_ = held.Unlock()
+		return status{exitSettings, err}
+	}
+	return runWith(ctx, held, of, grace, words)
+}
+
+// owned is a lock that is held, by a session of this process or by that of the host's agent.
+type owned interface {
+	Token() []byte
+	Context(parent context.Context) (context.Context, context.CancelFunc)
+	Unlock() error
+}
+
+// runWith runs a program under a lock that is held, and gives the lock back.
+func runWith(ctx context.Context, held owned, of taking, grace time.Duration, words []string) error {
 	work, done := held.Context(ctx)
 	defer done()
 	code, err := runProgram(work, grace, words, "QLOCK_PASS="+hex.EncodeToString(held.Token()))

@@ -213,7 +213,7 @@ func TestGraceIsWithinTheTTL(t *testing.T) {
 		if err := os.WriteFile(path, text, 0o600); err != nil {
 			t.Fatal(err)
 		}
-		if got, err := graceWithin(path, one.grace); got != one.want || (err != nil) != (one.want == 0) {
+		if got, err := graceWithin(one.ttl, one.grace); got != one.want || (err != nil) != (one.want == 0) {
 			t.Errorf("ttl %v, grace %v: %v, %v", one.ttl, one.grace, got, err)
 		}
 		if one.want == 0 {

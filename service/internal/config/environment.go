@@ -14,9 +14,10 @@ import (
 // none.
 const prefix = "QLOCK_"
 
-// others are the variables of this project that are no settings of a voter's file.
+// others are the variables of this project that are no settings of a voter's or an agent's file.
 var others = []string{"TIMEOUT", // of qlockctl
-	"PASS", // which a program finds that `qlockctl run` runs
+	"AGENT", // the socket of a host's agent, for who asks it
+	"PASS",  // which a program finds that `qlockctl run` runs
 	"BUILD", "LIBRARY", "PLAN_LIBRARY", "WHEEL_LIBRARIES", "PROGRAMS", "PGHOST"}
 
 // links are the ends of variables that Kubernetes makes of the names of services.
@@ -37,8 +38,10 @@ func CheckEnvironment() error {
 	for _, name := range others {
 		known[prefix+name] = true
 	}
-	for _, field := range fields(reflect.ValueOf(&Voter{}).Elem()) {
-		known[variable(field.key)] = true
+	for _, settings := range []interface{}{&Voter{}, &Agent{}} {
+		for _, field := range fields(reflect.ValueOf(settings).Elem()) {
+			known[variable(field.key)] = true
+		}
 	}
 	for _, pair := range os.Environ() {
 		name, _, _ := strings.Cut(pair, "=")

@@ -75,21 +75,51 @@ func TestJournal(t *testing.T) {
 	}
 }
 
-// The man page lists each event that the programs write, with its level, and no other one.
+// The man page of a program lists each event that it writes, with its level, and no other one.
 func TestPageListsEvents(t *testing.T) {
-	page, err := os.ReadFile("../../../docs/qlock-voter.1")
-	if err != nil {
-		t.Fatal(err)
+	pages := map[string][]string{
+		"qlock-voter": {"../voter/*.go", "../../cmd/qlock-voter/*.go"},
+		"qlockd":      {"../qlockd/*.go", "../../cmd/qlockd/*.go"},
 	}
-	_, section, _ := strings.Cut(string(page), "\n.SH LOG\n")
+	for name, patterns := range pages {
+		page, err := os.ReadFile("../../../docs/" + name + ".1")
+		if err != nil {
+			t.Fatal(err)
+		}
+		listed, written := listedIn(string(page)), writtenBy(t, patterns)
+		if len(written) < 8 {
+			t.Fatalf("only %d events are found in the code of %s", len(written), name)
+		}
+		for event, level := range written {
+			if listed[event] != level {
+				t.Errorf("%s: %s is of level %s; the page says %q", name, event, level, listed[event])
+			}
+		}
+		for event := range listed {
+			if written[event] == "" {
+				t.Errorf("%s: the page lists %s, which nothing writes", name, event)
+			}
+		}
+	}
+}
+
+// listedIn returns the events of a man page, and their levels.
+func listedIn(page string) map[string]string {
+	_, section, _ := strings.Cut(page, "\n.SH LOG\n")
 	section, _, _ = strings.Cut(section, "\n.SH ")
 	listed := map[string]string{}
 	for _, found := range regexp.MustCompile(`(?m)^\.BR (\S+) " \((\w+)\)"$`).FindAllStringSubmatch(section, -1) {
 		listed[found[1]] = found[2]
 	}
+	return listed
+}
+
+// writtenBy returns the events that files write, and their levels.
+func writtenBy(t *testing.T, patterns []string) map[string]string {
+	t.Helper()
 	written := map[string]string{}
-	call := regexp.MustCompile(`\.Write\(event\.(\w+), "([^"]+)"`)
-	for _, pattern := range []string{"../voter/*.go", "../../cmd/qlock-voter/*.go"} {
+	call := regexp.MustCompile(`\.(?:Write|note)\(event\.(\w+), "([^"]+)"`)
+	for _, pattern := range patterns {
 		files, err := filepath.Glob(pattern)
 		if err != nil || len(files) == 0 {
 			t.Fatal(pattern, err)
@@ -104,17 +134,5 @@ func TestPageListsEvents(t *testing.T) {
 			}
 		}
 	}
-	if len(written) < 10 {
-		t.Fatalf("only %d events are found in the code", len(written))
-	}
-	for name, level := range written {
-		if listed[name] != level {
-			t.Errorf("%s is of level %s; the page says %q", name, level, listed[name])
-		}
-	}
-	for name := range listed {
-		if written[name] == "" {
-			t.Errorf("the page lists %s, which nothing writes", name)
-		}
-	}
+	return written
 }

@@ -38,12 +38,14 @@ type Daemon struct {
 	m       *metrics
 	around  Surroundings
 
-	votes    map[string]*vote
-	busy     busyVotes
-	users    map[string]*usage // of the users that have some vote or wait for one
-	table    table
-	requests [qlock.MaxClients]int    // requests of a session that have a vote here, or wait for one
-	asksBy   [qlock.MaxClients]uint64 // the oldest plan of which a session has a request, as it said; 0 before
+	votes      map[string]*vote
+	busy       busyVotes
+	users      map[string]*usage // of the users that have some vote or wait for one
+	table      table
+	requests   [qlock.MaxClients]int         // requests of a session that have a vote here, or wait for one
+	asksBy     [qlock.MaxClients]uint64      // the oldest plan of which a session has a request, as it said; 0 before
+	notes      [qlock.MaxClients]sessionNote // what sessions say of themselves
+	waitsSince time.Time                     // since when the request waits that waited longest at the last round, zero if none did
 
 	plans         Generations
 	inUse         plansInUse
@@ -61,6 +63,7 @@ type Daemon struct {
 	room     []byte
 
 	isFull          bool // it was logged that there is no room for another lock
+	isSpent         bool // it was logged that no grant is left for a lock that is not known
 	join            joining
 	peers           [places]Peer
 	loaded          [places]Peer             // as they were at the start
@@ -75,6 +78,7 @@ type Daemon struct {
 	voters          <-chan transport.Message
 	floor, ceiling  uint64            // its grants are above the floor, and up to the ceiling
 	quietUntil      time.Time         // only those inside get a vote, and this is when it may end; zero once it has ended
+	nothing         qlock.SinceStart  // of votes of which nothing was said since the start
 	markers         [keyBytes]byte    // the key of this run's markers
 	done            map[string][]byte // replies to what operators let go, by their questions
 	messages, reads <-chan transport.Message
@@ -155,7 +159,7 @@ func (d *Daemon) begin() (err error) {
 	if _, err := io.ReadFull(d.around.Random, d.markers[:]); err != nil {
 		return err
 	}
-	d.join = joining{began: d.now(), saves: d.store.saves}
+	d.join = joining{start: *qlock.NewStart(d.store.own.Ceiling, d.firstBlock()), began: d.now(), saves: d.store.saves}
 	d.join.process, err = d.newProcess()
 	return err
 }
@@ -207,58 +211,63 @@ func (d *Daemon) line(l *letter, speaker qlock.Standing, lock, line []byte, now 
 	}
 	line, word := cutWord(line)
 	said := wire.ReadLine(line)
-	if speaker != qlock.SessionKnown || said.From != l.Number || said.To != d.store.meta.Voter || !wire.IsName(lock) ||
-		!isToVoter(said) {
+	if speaker != qlock.SessionKnown || said.From != l.Number || said.To != d.store.meta.Voter || !isToVoter(said) {
 		return false
 	}
+	isRequest := string(said.Word) == "request"
 	v := d.votes[string(lock)]
-	if v != nil && v.isOld && d.isQuiet() && string(said.Word) == "relinquish" {
-		d.takeBack(v, said, now)
+	isClosed := d.isQuiet() || v != nil && v.isAwaited // then the call puts it off, unless he is inside
+	if isRequest && (word == inside || !isClosed) && d.isAtBound(v, userOf(l.Name)) {
+		if d.table.takes(said.From, l.Name, l.Epoch, said.Stamp) {
+			d.fullForUser(l, lock, said)
+		} else {
+			d.m.refused.Inc()
+		}
 		return true
 	}
-	if string(said.Word) == "request" {
-		left := d.quietOf(v, now)
-		if isQuiet := left > 0 && word != inside; isQuiet || d.isAtBound(v, userOf(l.Name)) {
-			d.putOff(l, lock, said, isQuiet, left)
-			return true
-		}
-	}
-	if v == nil {
-		v = d.first(l, lock, said, now)
+	isNew := v == nil
+	if isNew && isRequest {
+		v = d.newVote(string(lock))
 	}
 	if v == nil {
 		d.m.refused.Inc()
 		return true
 	}
-	shown, err := d.step(v, said.From, now, func(out []byte) ([]byte, qlock.LockShown, error) {
-		return v.TakeFrom(&d.table.proved, d.table.speaker(l.Number, l.Name, l.Epoch), line, out)
+	before := v.held
+	from := d.table.speaker(l.Number, l.Name, l.Epoch)
+	from.Inside = word == inside
+	shown, lines, err := d.call(v, func(out []byte) ([]byte, qlock.LockShown, error) {
+		return v.TakeFrom(&d.table.proved, d.sinceOf(v), d.isQuiet(), from, line, out)
 	})
-	if err == nil && !shown.IsTaken {
+	switch {
+	case err != nil:
+		v.heard = now
+		return true
+	case shown.IsPutOff:
+		d.putOff(l, now)
+		return true
+	case !shown.IsTaken:
+		return true
+	case isNew && !d.admit(v, l, said, now):
 		return true
 	}
-	if v.heard = now; err != nil {
-		return true
+	v.heard = now
+	d.tellHolder(v, l, said.From, word, now)
+	d.note(v, said.From, shown, lines, now)
+	if before.Client == uint64(said.From) && before.Number > 0 && string(said.Word) == "relinquish" && shown.Stamp != before.Stamp {
+		d.isGone(v, before, now) // it is from before the start, and given back: it does not wait on
 	}
 	d.deny(v, l.Header, said, shown)
-	switch word {
-	case inside:
-		d.noteInside(v, said, now)
-	case try:
+	if word == try {
 		d.tellHeld(v, l, said, now)
 	}
 	return true
 }
 
-// putOff answers a REQUEST that gets no vote now: the voter is quiet, for so long, or its user is at its bound. One that is not the
-// session's is refused.
-func (d *Daemon) putOff(l *letter, lock []byte, said wire.Line, isQuiet bool, left time.Duration) {
-	switch {
-	case !d.table.takes(said.From, l.Name, l.Epoch, said.Stamp):
-		d.m.refused.Inc()
-	case !isQuiet:
-		d.fullForUser(l, lock, said)
-	case l.once("quiet"):
-		d.say(l.Name, qlock.VoterSays{Kind: qlock.Quiet, First: uint64(left.Milliseconds() + 1)})
+// putOff answers a REQUEST that gets no vote now, as only who is inside gets one.
+func (d *Daemon) putOff(l *letter, now time.Time) {
+	if l.once("quiet") {
+		d.say(l.Name, qlock.VoterSays{Kind: qlock.Quiet, First: uint64(d.quietFor(now).Milliseconds() + 1)})
 	}
 }
 
@@ -281,7 +290,11 @@ func cutWord(line []byte) (rest []byte, word string) {
 // tellHeld tells who does not want to wait that somebody else has the vote, and for how long, in milliseconds.
 func (d *Daemon) tellHeld(v *vote, l *letter, said wire.Line, now time.Time) {
 	if v.held.Number > 0 && !v.isHolder(said.From) {
-		d.tell(l.Name, "held %s %d %d", v.name, said.Stamp, now.Sub(v.since).Milliseconds())
+		since := now.Sub(v.granted).Milliseconds()
+		if since < 0 {
+			since = 0
+		}
+		d.sayOf(l.Name, qlock.LockSays{Kind: qlock.LockHeld, Lock: []byte(v.name), Stamp: said.Stamp, Milliseconds: uint64(since)})
 	}
 }
 
@@ -291,23 +304,24 @@ func isToVoter(said wire.Line) bool {
 	return word == "request" || word == "release" || word == "relinquish"
 }
 
-// first makes the vote for a lock, if a line is its first REQUEST and there is room. If there is
-// none, it says so.
-func (d *Daemon) first(l *letter, lock []byte, said wire.Line, now time.Time) *vote {
-	if string(said.Word) != "request" || !d.table.takes(said.From, l.Name, l.Epoch, said.Stamp) {
-		return nil
-	}
-	if len(d.votes) >= d.own.MaxLocks && !d.makeRoom(now) {
-		d.full(l, lock, said, d.m.full, &d.isFull, "locks", len(d.votes))
-		return nil
-	}
+// newVote returns the vote for a lock that is not known. It is not kept yet.
+func (d *Daemon) newVote(lock string) *vote {
 	voter, err := d.newVoter()
 	if err != nil {
 		return nil
 	}
-	v := d.add(string(lock), voter)
+	return d.voteOf(lock, voter)
+}
+
+// admit keeps the vote for a new lock, of which this is the first REQUEST, if there is room. If there is none, it says so.
+func (d *Daemon) admit(v *vote, l *letter, said wire.Line, now time.Time) bool {
+	if len(d.votes) >= d.own.MaxLocks && !d.makeRoom(now) {
+		d.full(l, []byte(v.name), said, d.m.full, &d.isFull, "locks", len(d.votes))
+		return false
+	}
+	d.keep(v)
 	d.rest(v, now) // until somebody has it
-	return v
+	return true
 }
 
 // newVoter makes a vote, whose grants are above the floor.
@@ -315,36 +329,47 @@ func (d *Daemon) newVoter() (*qlock.Voter, error) {
 	return qlock.RebornVoter(uint8(d.store.meta.Voter), d.floor, d.ceiling)
 }
 
-// step makes a step that a client's line, or letting its grant go, leads to, and returns what is shown of the lock then. Its lines
-// leave after the next save. Nothing happens if the call is refused, or the line is not its session's to say.
-func (d *Daemon) step(v *vote, client int, now time.Time, call func(out []byte) ([]byte, qlock.LockShown, error)) (qlock.LockShown, error) {
+// call makes a call of a lock, and returns what is shown of it then, and its lines. They leave after the next save (note). Nothing happens
+// if the call is refused, or the line is not its session's to say, or is put off.
+func (d *Daemon) call(v *vote, call func(out []byte) ([]byte, qlock.LockShown, error)) (qlock.LockShown, []byte, error) {
 	lines, shown, err := call(d.room[:0])
 	if errors.Is(err, qlock.GrantsSpent) && v.limit < d.ceiling {
 		v.limit, v.isSpent = d.ceiling, false
 		_ = v.Extend(d.ceiling) // it never fails: the limit is below
 		lines, shown, err = call(d.room[:0])
 	}
-	if err != nil || !shown.IsTaken {
+	if err != nil || !shown.IsTaken && !shown.IsPutOff {
 		d.refuse(v, err)
-		return shown, err
+		return shown, nil, err
 	}
 	d.room = lines
+	return shown, lines, nil
+}
+
+// note notes what a step changed that a client's line, or letting its grant go, led to, and has its lines sent.
+func (d *Daemon) note(v *vote, client int, shown qlock.LockShown, lines []byte, now time.Time) {
 	if shown.MustSave || v.isRaised { // what was saved last differs in nothing else from the state before a step
 		v.isRaised = false
 		d.silent[v] = struct{}{}
 	}
 	d.noteAsk(v, client, shown.Stamp, now)
 	d.noteGrant(v, shown.Held, now)
+	if v.since != nil {
+		v.stand()
+	}
 	d.send(v, lines)
-	return shown, nil
 }
 
 func (d *Daemon) refuse(v *vote, why error) {
 	d.m.refused.Inc()
 	if errors.Is(why, qlock.GrantsSpent) {
 		d.m.spent.Inc()
-		if !v.isSpent {
-			v.isSpent = true
+		isLogged := &v.isSpent
+		if d.votes[v.name] != v {
+			isLogged = &d.isSpent // it is not kept
+		}
+		if !*isLogged {
+			*isLogged = true
 			d.log.Write(event.Error, "grants-spent", "lock", v.name)
 		}
 	}
@@ -354,7 +379,7 @@ func (d *Daemon) refuse(v *vote, why error) {
 func (d *Daemon) deny(v *vote, h wire.Header, said wire.Line, shown qlock.LockShown) {
 	if string(said.Word) == "request" && shown.Stamp != said.Stamp && shown.Finished >= said.Stamp {
 		d.mustSave(v)
-		d.tell(h.Name, "gone %s %d", v.name, said.Stamp)
+		d.sayOf(h.Name, qlock.LockSays{Kind: qlock.LockGone, Lock: []byte(v.name), Stamp: said.Stamp})
 	}
 }
 
@@ -393,20 +418,30 @@ func (d *Daemon) tell(name, text string, words ...interface{}) {
 
 // say puts a control line that has numbers only with those that leave after the save.
 func (d *Daemon) say(name string, says qlock.VoterSays) {
-	before := len(d.out[name])
 	out, err := says.Append(d.out[name])
 	if err != nil {
 		panic(fmt.Sprintf("%+v has no line: %v", says, err))
 	}
-	d.out[name] = out
-	d.outBytes += len(out) - before
+	d.put(name, out)
 }
 
-// tellNumber tells the session that a number has now, if it was heard in this run.
-func (d *Daemon) tellNumber(number int, text string, words ...interface{}) {
-	if name := d.table.names[number]; name != "" {
-		d.tell(name, text, words...)
+// sayOf puts a control line with the name of a lock with those that leave after the save. A session without a name was not heard in
+// this run, and hears nothing.
+func (d *Daemon) sayOf(name string, says qlock.LockSays) {
+	if name == "" {
+		return
 	}
+	out, err := says.Append(d.out[name])
+	if err != nil {
+		panic(fmt.Sprintf("%+v has no line: %v", says, err))
+	}
+	d.put(name, out)
+}
+
+// put puts more lines in place of those that leave to a session after the save.
+func (d *Daemon) put(name string, out []byte) {
+	d.outBytes += len(out) - len(d.out[name])
+	d.out[name] = out
 }
 
 // control takes a control line of a client, and returns whether it is one. Who has no number here
@@ -437,8 +472,11 @@ func (d *Daemon) control(l *letter, speaker qlock.Standing, line []byte, now tim
 			return true
 		}
 	}
-	d.m.refused.Inc() // of a newer program
-	return true
+	isKnown, isRight := d.ask(l, speaker, line, now)
+	if !isKnown {
+		d.m.refused.Inc() // of a newer program
+	}
+	return isRight
 }
 
 // hello says which numbers are free.
@@ -446,6 +484,7 @@ func (d *Daemon) hello(name string) bool {
 	for number, row := range d.table.rows {
 		d.say(name, qlock.VoterSays{Kind: qlock.NumberIs, Number: number, First: row.Epoch, Second: uint64(d.table.state(number))})
 	}
+	d.tellSessions(name, d.now())
 	d.announce(name)
 	return true
 }
@@ -505,10 +544,15 @@ func (d *Daemon) round(now time.Time) {
 
 // roundOf does what time asks for of a vote.
 func (d *Daemon) roundOf(v *vote, now time.Time) {
-	if v.isOld && d.isQuiet() {
-		return // it may be somebody else's by now
+	if v.isAwaited {
+		d.forgetDead(v)
 	}
-	d.endInside(v)
+	switch {
+	case v.isOld && d.isQuiet():
+		return // it may be somebody else's by now
+	case !v.isAwaited && !d.isQuiet():
+		v.since = nil
+	}
 	for v.held.Number > 0 && (v.isWanted() || d.isInTheWay(v)) && d.isOver(v.held) {
 		held := v.held
 		if !d.letGo(v, now) {
@@ -528,21 +572,31 @@ func (d *Daemon) roundOf(v *vote, now time.Time) {
 	}
 }
 
-// endQuiet lets the grants of before the start go of which nobody said that he is inside.
+// endQuiet lets the grants of before the start go of which nobody said that he is inside. If one can't be let go, as no grant is left for
+// who waits, this voter stays quiet.
 func (d *Daemon) endQuiet(now time.Time) {
 	if !d.isQuiet() || now.Before(d.quietUntil) {
 		return
 	}
-	d.quietUntil = time.Time{}
+	isLeft := false
 	d.busy.each(func(v *vote) {
-		if held := v.held; v.isOld && held.Number > 0 && d.letGo(v, now) {
+		held := v.held
+		if !v.isOld {
+			return
+		}
+		isOver, err := d.letGoBy(v, now, func(out []byte) ([]byte, qlock.LockShown, error) {
+			return v.EndQuiet(&d.table.proved, v.since, uint8(held.Client), out)
+		})
+		if isLeft = isLeft || err != nil; isOver {
 			if row := d.table.rows[held.Client]; row.Open && held.Stamp > row.Base {
 				d.table.lapse(int(held.Client)) // what tells its client so may be lost
 			}
 			d.log.Write(event.Warning, "not-renewed", "lock", v.name, "client", held.Client, "stamp", held.Stamp, "grant", held.Number)
 		}
-		v.isOld = false
 	})
+	if !isLeft {
+		d.quietUntil = time.Time{}
+	}
 }
 
 // isOver returns whether a grant may be let go: its session is dead, or its number has a later one.
@@ -551,16 +605,31 @@ func (d *Daemon) isOver(held qlock.Grant) bool { return d.table.isOver(int(held.
 // letGo lets the current grant of a vote go, and tells its client. It returns false if that did not succeed.
 func (d *Daemon) letGo(v *vote, now time.Time) bool {
 	held := v.held
-	_, _ = d.step(v, int(held.Client), now, func(out []byte) ([]byte, qlock.LockShown, error) {
+	isOver, _ := d.letGoBy(v, now, func(out []byte) ([]byte, qlock.LockShown, error) {
 		return v.LetGo(&d.table.proved, held.Number, uint8(held.Client), out)
 	})
-	if v.held.Number == held.Number {
-		return false
+	return isOver
+}
+
+// letGoBy makes a call that may let the current grant of a vote go, tells its client if it does, and returns whether it did.
+func (d *Daemon) letGoBy(v *vote, now time.Time, call func(out []byte) ([]byte, qlock.LockShown, error)) (isOver bool, err error) {
+	held := v.held
+	shown, lines, err := d.call(v, call)
+	if err != nil {
+		return false, err
 	}
+	d.note(v, int(held.Client), shown, lines, now)
+	if isOver = v.held.Number != held.Number; isOver {
+		d.isGone(v, held, now)
+	}
+	return isOver, nil
+}
+
+// isGone tells the client of a grant that its request is over, or an operator.
+func (d *Daemon) isGone(v *vote, held qlock.Grant, now time.Time) {
 	v.letGo = now
-	d.mustSave(v) // its client hears so, or an operator
+	d.mustSave(v)
 	if row := d.table.rows[held.Client]; row.Open && held.Stamp > row.Base {
-		d.tellNumber(int(held.Client), "gone %s %d", v.name, held.Stamp)
+		d.sayOf(d.table.names[held.Client], qlock.LockSays{Kind: qlock.LockGone, Lock: []byte(v.name), Stamp: held.Stamp})
 	}
-	return true
 }

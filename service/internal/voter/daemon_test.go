@@ -77,9 +77,12 @@ func (p *post) Listen(string) (<-chan transport.Message, error) { return nil, ni
 // says lets the session that has a number say a line about a lock.
 func says(d *Daemon, v *vote, client int, line string, now time.Time) {
 	from := qlock.Speaker{Session: d.table.hashes[client], Epoch: d.table.rows[client].Epoch}
-	_, _ = d.step(v, client, now, func(out []byte) ([]byte, qlock.LockShown, error) {
-		return v.TakeFrom(&d.table.proved, from, []byte(line), out)
+	shown, lines, err := d.call(v, func(out []byte) ([]byte, qlock.LockShown, error) {
+		return v.TakeFrom(&d.table.proved, d.sinceOf(v), d.isQuiet(), from, []byte(line), out)
 	})
+	if err == nil && shown.IsTaken {
+		d.note(v, client, shown, lines, now)
+	}
 }
 
 // A lock without a grant left is logged once, and nothing is let go there.
@@ -103,6 +106,20 @@ func TestSpentLock(t *testing.T) {
 	}
 	if spent, expired := bytes.Count(log.Bytes(), []byte("grants-spent")), bytes.Count(log.Bytes(), []byte("lease-expired")); spent != 1 || expired != 0 {
 		t.Errorf("logged %d and %d times", spent, expired)
+	}
+}
+
+// While all grants below the ceiling are given, that is logged once, and not for each lock that is asked for.
+func TestSpentCeilingIsLoggedOnce(t *testing.T) {
+	d, _ := alone(t, 10)
+	d.repliesTo("jobs", 1, ". claim 1 1 100\n")
+	var log bytes.Buffer
+	d.log, d.floor, d.join.done = event.To(&log), d.ceiling, true
+	for i := 1; i <= 5; i++ {
+		d.repliesTo("jobs", 1, fmt.Sprintf("lock-%d request 1 0 %d\n", i, i))
+	}
+	if spent := bytes.Count(log.Bytes(), []byte("grants-spent")); spent != 1 || len(d.votes) > 0 {
+		t.Errorf("logged %d times, %d locks", spent, len(d.votes))
 	}
 }
 

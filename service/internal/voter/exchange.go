@@ -315,7 +315,7 @@ func (d *Daemon) isReady(number uint64, mark string) (silent []int, err error) {
 	if mark != d.plans.mark() {
 		return nil, ErrAnother
 	}
-	if d.plans.Old != nil && d.join.done && !d.inUse.haveQuorums(d.join.kept|d.bit()) {
+	if d.plans.Old != nil && d.join.done && !d.inUse.haveQuorums(d.join.start.Shows().Kept|d.bit()) {
 		return nil, ErrKeepers
 	}
 	var lag []int

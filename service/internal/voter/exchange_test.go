@@ -201,7 +201,7 @@ func TestRetire(t *testing.T) {
 		t.Error("a session that was ended goes on")
 	}
 	rows, err := json.Marshal(Knows{Sessions: map[int]Session{7: {Hash: hashed("c"), Epoch: 2, Reserved: 50}},
-		Peers: map[int]Peer{2: {Identity: "C", Start: 4, Ceiling: 900}}})
+		Peers: map[int]Peer{2: {Identity: identity("C"), Start: 4, Process: process("p"), Ceiling: 900}}})
 	if err != nil {
 		t.Fatal(err)
 	}

@@ -148,7 +148,7 @@ func (d *Daemon) End() error {
 	if err := d.commit(d.now()); err != nil {
 		return err
 	}
-	if d.join.done && !d.isQuiet() { // else the next start has to be quiet, too: this one did not come to know its grants
+	if d.join.done && !d.isQuiet() && !d.awaits() { // else the next start has to be quiet, too: who is inside may wait for a vote
 		for voter := 0; voter < places; voter++ {
 			if d.others()>>voter&1 == 1 {
 				d.write(voter, word{Word: "ended", Process: d.join.process, Saves: d.store.saves})

@@ -182,6 +182,9 @@ func (d *Daemon) read(l *letter, now time.Time) (lines int, ended bool) {
 	for lines < share {
 		lock, line, rest, found := wire.Next(l.lines)
 		if !found {
+			if len(l.lines) > 0 {
+				d.m.refused.Inc()
+			}
 			return lines + 1, true
 		}
 		l.lines, lines = rest, lines+1

@@ -169,7 +169,7 @@ func (d *Daemon) measure(now time.Time) {
 	for _, v := range d.busy.all {
 		if v.held.Number > 0 {
 			held++
-			lasting = earlier(lasting, v.since)
+			lasting = earlier(lasting, v.granted)
 		}
 		for client, ask := range v.asks {
 			if !v.isHolder(client) {
@@ -190,6 +190,9 @@ func (d *Daemon) measure(now time.Time) {
 		if u.votes > ofUser {
 			ofUser = u.votes
 		}
+	}
+	if d.waitsSince = waiting; waiting == now {
+		d.waitsSince = time.Time{}
 	}
 	d.m.userLocks.Set(float64(ofUser))
 	d.m.lasting.note(lasting, now)

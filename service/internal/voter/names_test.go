@@ -34,7 +34,7 @@ func TestNameOfASessionIsSecret(t *testing.T) {
 	d.repliesTo("jobs", 1, ". claim 1 1 100\n")
 	const name = "session-1"
 	hash := hashed("jobs." + name)
-	d.meet(wire.Header{Number: 1, Name: "other", Start: 1}, word{Word: "start", Process: "other"})
+	d.meet(wire.Header{Number: 1, Name: identity("other"), Start: 1}, word{Word: "start", Process: process("other")})
 	letter, err := json.Marshal(d.letters[0].word)
 	if err != nil {
 		t.Fatal(err)

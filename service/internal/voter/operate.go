@@ -49,6 +49,7 @@ type SessionView struct {
 	Hash     string  `json:"hash"`
 	Silent   float64 `json:"silent_seconds"`
 	Requests int     `json:"requests"`
+	Note     string  `json:"note,omitempty"` // host, process, user and text, as the session says
 }
 
 // VoteView is what an operator sees of a vote.
@@ -58,6 +59,7 @@ type VoteView struct {
 	Stamp   uint64       `json:"stamp,omitempty"`
 	Grant   uint64       `json:"grant,omitempty"`
 	Held    float64      `json:"held_seconds,omitempty"`
+	Note    string       `json:"note,omitempty"` // of who has it, as it says
 	Waiting []WaiterView `json:"waiting,omitempty"`
 }
 
@@ -160,7 +162,7 @@ func (d *Daemon) obey(words []string, by string, now time.Time) interface{} {
 		return Refused{"the voter waits for what other voters know of it"}
 	case len(words) == 2 && words[0] == "lock":
 		if v := d.votes[words[1]]; v != nil {
-			return view(v, now)
+			return d.view(v, now)
 		}
 		return VoteView{Lock: words[1], Client: -1}
 	case len(words) == 2 && words[0] == "evict":
@@ -205,12 +207,12 @@ func (d *Daemon) unlock(lock string, grant uint64, by string, now time.Time) Let
 
 func (d *Daemon) status(now time.Time) Status {
 	s := Status{Meta: d.store.meta, Locks: len(d.votes), Busy: len(d.busy.all), Granted: d.granted, Saves: d.store.saves,
-		Start: d.store.own.Start, Ceiling: d.ceiling, Level: d.store.own.level(), Serves: d.join.done, Quiet: d.quiet(now).Seconds(), Runs: now.Sub(d.started).Seconds(),
+		Start: d.store.own.Start, Ceiling: d.ceiling, Level: d.store.own.level(), Serves: d.join.done, Quiet: d.quietLeft(now).Seconds(), Runs: now.Sub(d.started).Seconds(),
 		Planned: Planned{d.plans.Number, d.plans.oldest(), d.plans.Settled}, Sessions: []SessionView{}, Votes: []VoteView{}}
 	for number, row := range d.table.rows {
 		if row.Open {
 			s.Sessions = append(s.Sessions, SessionView{number, row.Epoch, row.Reserved, row.Hash,
-				d.table.silent(number).Seconds(), d.requests[number]})
+				d.table.silent(number).Seconds(), d.requests[number], d.noteOf(number)})
 		}
 	}
 	shown := append([]*vote(nil), d.busy.all...)
@@ -220,17 +222,17 @@ func (d *Daemon) status(now time.Time) Status {
 		shown = shown[:mostShown]
 	}
 	for _, v := range shown {
-		s.Votes = append(s.Votes, view(v, now))
+		s.Votes = append(s.Votes, d.view(v, now))
 	}
 	return s
 }
 
 // view returns what an operator sees of a vote.
-func view(v *vote, now time.Time) VoteView {
+func (d *Daemon) view(v *vote, now time.Time) VoteView {
 	shown := VoteView{Lock: v.name, Client: -1}
 	if v.held.Number > 0 {
 		shown.Client, shown.Stamp, shown.Grant = int(v.held.Client), v.held.Stamp, v.held.Number
-		shown.Held = now.Sub(v.since).Seconds()
+		shown.Held, shown.Note = now.Sub(v.granted).Seconds(), d.noteOfAsk(v, shown.Client)
 	}
 	for client, one := range v.asks {
 		if !v.isHolder(client) {

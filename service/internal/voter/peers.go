@@ -1,8 +1,12 @@
 package voter
 
 import (
+	"encoding/hex"
+	"encoding/json"
 	"errors"
 	"fmt"
+	"strconv"
+	"strings"
 	"time"
 
 	"calvundek.example/service/internal/event"
@@ -30,6 +34,10 @@ import (
 // A new voter, which never served, needs more answers: the silent ones and it may contain no quorum.
 // One that is refused notes so in its file, and never starts with it again. One that hears that a
 // later process of this voter was accepted ends. start.go has what a voter does for itself.
+//
+// What is kept and who is refused, and when a voter asks, serves and raises its ceiling, are calls of the proved library
+// (qlock.Peer, qlock.Start). That no two processes of a voter give the same grant is a law of the crate starts, of voters that
+// lose no state. In Go are the words, whom they are from, the time, the plans' quorums, and the quiet time.
 
 // The errors of a start.
 var (
@@ -41,9 +49,8 @@ const (
 	places       = qlock.MaxVoters
 	askAgain     = 100 * time.Millisecond // how often a voter that waits asks those that did not answer
 	tellAgain    = time.Second            // how often one that serves does
-	mostPatience = 10 * time.Second       // after which a quorum of answers is enough
-	firstCeiling = uint64(1) << 16        // how many grants a voter may give above what is known
-	mostCeiling  = uint64(1) << 24        // each block is twice the one before, up to this
+	mostPatience = 8 * time.Second        // after which a quorum of answers is enough
+	firstCeiling = uint64(1) << 16        // how many grants a voter may give above what is known, at first
 	stillQuiet   = 250 * time.Millisecond // for which others are asked while one who said that he is inside waits for a vote
 )
 
@@ -57,20 +64,100 @@ type Peer struct {
 	Ended    uint64 `json:"ended"`   // how often its state was saved when it ended, 0 unless it said so
 }
 
-// meets judges a voter that says that it started, by what is known of its place. It returns what is
-// to be kept from now on.
-func (p Peer) meets(now Peer) (Peer, error) {
-	switch {
-	case p.Identity == "" || now.Identity != p.Identity && now.Run > p.Run:
-	case now.Identity != p.Identity:
-		return p, ErrPlace
-	case now.Start == p.Start && now.Process == p.Process:
-		now.Ended = p.Ended // it says so again
-	case now.Run != p.Run || now.Start <= p.Start:
-		return p, ErrOlder
+// errPeer is the error of a peer with words that no voter makes up.
+var errPeer = errors.New("an identity has 32 hexadecimal digits, and a process 16")
+
+// hexadecimal returns the bytes of a word with so many digits, or errPeer.
+func hexadecimal(word string, digits int) ([]byte, error) {
+	bytes, err := hex.DecodeString(word)
+	if err != nil || len(word) != digits || word != strings.ToLower(word) {
+		return nil, errPeer
 	}
-	now.Ceiling = greatest(now.Ceiling, p.Ceiling)
-	return now, nil
+	return bytes, nil
+}
+
+// identityOf returns an identity as the proved calls have it, or errPeer. That of nobody is "" here, and zero there.
+func identityOf(word string) (i qlock.Identity, err error) {
+	bytes, err := hexadecimal(word, 2*len(i))
+	if copy(i[:], bytes); err == nil && i == (qlock.Identity{}) {
+		return i, errPeer
+	}
+	return i, err
+}
+
+// proved returns the peer as the proved calls have it, or errPeer.
+func (p Peer) proved() (q qlock.Peer, err error) {
+	q = qlock.Peer{Run: p.Run, Start: p.Start, Ceiling: p.Ceiling, Ended: p.Ended}
+	if p.Ceiling > qlock.MaxStamp {
+		return q, errPeer // no grant has a greater number
+	}
+	if p.Identity == "" && p.Process == "" {
+		return q, nil
+	}
+	if q.Identity, err = identityOf(p.Identity); err != nil {
+		return q, err
+	}
+	if _, err = hexadecimal(p.Process, 16); err == nil {
+		q.Process, err = strconv.ParseUint(p.Process, 16, 64)
+	}
+	return q, err
+}
+
+// peerOf returns a peer of the proved calls.
+func peerOf(q qlock.Peer) Peer {
+	p := Peer{Run: q.Run, Start: q.Start, Ceiling: q.Ceiling, Ended: q.Ended}
+	if q.Identity != (qlock.Identity{}) {
+		p.Identity, p.Process = hex.EncodeToString(q.Identity[:]), fmt.Sprintf("%016x", q.Process)
+	}
+	return p
+}
+
+// UnmarshalJSON reads a peer that was saved, or that another voter tells. It returns errPeer if its words are none.
+func (p *Peer) UnmarshalJSON(text []byte) error {
+	type plain Peer
+	if err := json.Unmarshal(text, (*plain)(p)); err != nil {
+		return err
+	}
+	_, err := p.proved()
+	return err
+}
+
+// meets judges a voter that says that it started, by what is known of its place. It returns what is
+// to be kept from now on, or ErrPlace, ErrOlder, or errPeer.
+func (p Peer) meets(now Peer) (Peer, error) {
+	known, err := p.proved()
+	if err != nil {
+		return p, err
+	}
+	it, err := now.proved()
+	if err != nil {
+		return p, err
+	}
+	switch next, err := known.Meets(it); {
+	case errors.Is(err, qlock.Place):
+		return p, ErrPlace
+	case err != nil:
+		return p, ErrOlder
+	default:
+		return peerOf(next), nil
+	}
+}
+
+// endedWith returns what is to be kept if the voter of this identity says in this start that it ended with so many saves.
+func (p Peer) endedWith(identity string, start, saves uint64) Peer {
+	known, err := p.proved()
+	who, wrong := identityOf(identity)
+	if err != nil || wrong != nil {
+		return p
+	}
+	return peerOf(known.EndedWith(who, start, saves))
+}
+
+// isClean returns whether the last run of the voter of this identity is known to have ended with so many saves.
+func (p Peer) isClean(identity string, saves uint64) bool {
+	known, err := p.proved()
+	who, wrong := identityOf(identity)
+	return err == nil && wrong == nil && known.IsClean(who, saves)
 }
 
 // meet judges another voter that starts, or asks for a ceiling, and answers.
@@ -80,9 +167,16 @@ func (d *Daemon) meet(h wire.Header, w word) {
 		known = d.loaded[h.Number] // what it heard since may be of another cluster with the same name
 	}
 	next, err := known.meets(Peer{Identity: h.Name, Run: h.Run, Start: h.Start, Process: w.Process, Ceiling: w.Ceiling})
+	if errors.Is(err, errPeer) {
+		d.m.foreign.Inc()
+		return
+	}
 	reply := word{Word: "kept", Process: w.Process, Start: h.Start, Ceiling: w.Ceiling, Known: &known}
 	if w.Word == "start" {
-		shown, all := d.shown(h, w, known), d.knows()
+		shown, all := known, d.knows()
+		if err == nil {
+			shown = d.shown(h, w, known)
+		}
 		reply = word{Word: "known", Process: w.Process, Start: h.Start, Known: &shown, Knows: &all}
 	}
 	if err != nil {
@@ -140,11 +234,12 @@ func (d *Daemon) knows() Knows {
 
 // laterPeer returns of two that were in a place the later one, with the higher ceiling of both.
 func laterPeer(a, b Peer) Peer {
-	if b.Run > a.Run || b.Run == a.Run && (b.Start > a.Start || a.Identity == "") {
-		a, b = b, a
+	one, err := a.proved()
+	other, wrong := b.proved()
+	if err != nil || wrong != nil {
+		return a // never: what is saved, and what is told, is read only if it can be
 	}
-	a.Ceiling = greatest(a.Ceiling, b.Ceiling)
-	return a
+	return peerOf(one.Later(other))
 }
 
 // newProcess returns a word for a process.

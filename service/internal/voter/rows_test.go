@@ -44,7 +44,7 @@ func aState(t *testing.T, votes int) (folder string, meta Meta) {
 		}
 		if err := s.save(changes{votes: map[*vote]struct{}{{Voter: one, name: fmt.Sprint("orders-", i)}: {}},
 			sessions: map[int]Session{i % 64: of(fmt.Sprint("session-", i), 5, 100, 9000)},
-			peers:    map[int]Peer{i % 64: {Identity: "other", Start: uint64(i)}}}); err != nil {
+			peers:    map[int]Peer{i % 64: {Identity: identity("other"), Start: uint64(i), Process: process("p")}}}); err != nil {
 			t.Fatal(err)
 		}
 	}
@@ -160,7 +160,7 @@ func TestRowsOfOneTransaction(t *testing.T) {
 			t.Fatal(err)
 		}
 		if err := s.save(changes{votes: map[*vote]struct{}{{Voter: changed, name: "orders-1"}: {}},
-			sessions: map[int]Session{1: of("another", 7, 200, 9000)}, peers: map[int]Peer{2: {Identity: "other", Start: 9}},
+			sessions: map[int]Session{1: of("another", 7, 200, 9000)}, peers: map[int]Peer{2: {Identity: identity("other"), Start: 9, Process: process("p")}},
 			plans: &Generations{Now: texts(t, all)}}); err != nil {
 			t.Fatal(err)
 		}

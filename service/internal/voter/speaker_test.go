@@ -69,13 +69,13 @@ func TestWhoIsNoUser(t *testing.T) {
 func TestVoterSpeaksAsItself(t *testing.T) {
 	d := reader()
 	d.own, d.newPeers = &config.Voter{}, map[int]Peer{}
-	h := wire.Header{Cluster: "test", Coterie: "mark", Kind: wire.FromVoter, Number: 1, Start: 1, Name: "identity"}
-	word := append(h.Append(nil), "{\"word\":\"start\",\"process\":\"p\",\"ttl\":\"0s\"}\n"...)
+	h := wire.Header{Cluster: "test", Coterie: "mark", Kind: wire.FromVoter, Number: 1, Start: 1, Name: identity("one")}
+	word := append(h.Append(nil), fmt.Sprintf("{\"word\":\"start\",\"process\":%q,\"ttl\":\"0s\"}\n", process("p"))...)
 	for from, isHeard := range map[int]bool{0: false, 2: false, 11: false, 1: true} {
 		d.peers, d.letters = [places]Peer{}, nil
 		before := testutil.ToFloat64(d.m.foreign)
 		d.hearPeer(transport.Message{Mailbox: wire.PeerBox("test", 0, from), Data: word}, time.Now())
-		if heard := d.peers[1].Identity == "identity" && len(d.letters) == 1; heard != isHeard ||
+		if heard := d.peers[1].Identity == identity("one") && len(d.letters) == 1; heard != isHeard ||
 			heard == (testutil.ToFloat64(d.m.foreign) > before) {
 			t.Errorf("voter 1 in the mailbox of voter %d: %v", from, heard)
 		}

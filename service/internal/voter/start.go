@@ -51,22 +51,16 @@ func (o own) refusal() error {
 
 // joining is how far a start is, and later which voters keep the ceiling.
 type joining struct {
-	process  string
-	began    time.Time
-	next     time.Time     // when those that did not answer are asked again
-	pause    time.Duration // before that; it doubles
-	saves    uint64        // how often the state was saved before this run
-	answered uint64        // the voters that said what they knew
-	isClean  bool          // one of them knows that the last run ended with just these saves
-	known    uint64        // the highest ceiling that one of them knew
-	asked    uint64        // the ceiling that was asked for last, 0 for none
-	kept     uint64        // the voters that keep it
-	told     uint64        // those that said so in the last TTL
-	toldAt   time.Time     // when all were told
-	waits    bool          // no quorum keeps it yet
-	block    uint64        // how much it was raised last
-	done     bool          // this voter serves
-	refused  error
+	process string
+	start   qlock.Start // who answered, what is known, and which ceiling was asked for and is kept
+	began   time.Time
+	next    time.Time     // when those that did not answer are asked again
+	pause   time.Duration // before that; it doubles
+	saves   uint64        // how often the state was saved before this run
+	told    uint64        // the voters that said in the last TTL that they keep the ceiling
+	toldAt  time.Time     // when all were told
+	done    bool          // this voter serves
+	refused error
 }
 
 // others returns the numbers of the other voters of the plans in use.
@@ -77,24 +71,23 @@ func (d *Daemon) others() uint64 {
 // bit returns this voter's bit in a set of voters.
 func (d *Daemon) bit() uint64 { return 1 << d.store.meta.Voter }
 
-// mayServe returns whether so many answered that this voter may go on.
-func (d *Daemon) mayServe(now time.Time) bool {
-	j := &d.join
-	switch {
-	case j.answered&d.others() == d.others():
-		return true
-	case d.store.own.Ceiling == 0: // nobody else may have been here
-		return !d.inUse.haveAny(^j.answered)
+// begins asks for the first ceiling, if so many answered that this voter may go on.
+func (d *Daemon) begins(now time.Time) {
+	j, shown := &d.join, d.join.start.Shows()
+	if shown.Asked > 0 {
+		return
 	}
-	return now.Sub(j.began) > mostPatience && d.inUse.haveQuorums(j.answered|d.bit())
+	j.start.Begins(qlock.Answers{Others: d.others(), HaveSilentQuorum: d.inUse.haveAny(^shown.Answered),
+		HaveQuorums: d.inUse.haveQuorums(shown.Answered | d.bit()), IsPatient: now.Sub(j.began) > mostPatience})
+	if j.start.Shows().Asked > 0 {
+		d.asksOthers(now)
+	}
 }
 
 // start asks the others until this voter may take lines, and tells each until it answers.
 func (d *Daemon) start(now time.Time) {
-	j := &d.join
-	if j.asked == 0 && d.mayServe(now) {
-		d.askCeiling(greatest(j.known, d.store.own.Ceiling), now)
-	}
+	d.begins(now)
+	j, shown := &d.join, d.join.start.Shows()
 	if j.done && now.Sub(j.toldAt) > d.cluster.TTL.Duration {
 		j.told, j.toldAt = 0, now // so a process hears if a later one took its place
 	}
@@ -104,31 +97,25 @@ func (d *Daemon) start(now time.Time) {
 	if j.pause = 2*j.pause + time.Millisecond; j.pause > askAgain {
 		j.pause = askAgain
 	}
-	if j.next = now.Add(j.pause); j.done && !j.waits {
+	if j.next = now.Add(j.pause); j.done && !shown.IsWaiting() {
 		j.next = now.Add(tellAgain)
 	}
 	for voter := 0; voter < places; voter++ {
 		bit := d.others() & (1 << voter)
-		if bit&^j.answered != 0 {
+		if bit&^shown.Answered != 0 {
 			d.write(voter, word{Word: "start", Process: j.process, Ceiling: d.store.own.Ceiling})
 		}
-		if j.asked > 0 && bit&^j.told != 0 {
-			d.write(voter, word{Word: "ceiling", Process: j.process, Ceiling: j.asked})
+		if shown.Asked > 0 && bit&^j.told != 0 {
+			d.write(voter, word{Word: "ceiling", Process: j.process, Ceiling: shown.Asked})
 		}
 	}
 }
 
-// askCeiling asks the others to keep a higher ceiling than this one.
-func (d *Daemon) askCeiling(above uint64, now time.Time) {
-	j := &d.join
-	if j.block = 2 * j.block; j.block < d.firstBlock() {
-		j.block = d.firstBlock()
-	} else if j.block > mostCeiling {
-		j.block = mostCeiling
-	}
-	j.asked, j.kept, j.told, j.waits, j.next = above+j.block, 0, 0, true, now
-	if !j.done {
-		d.floor = above
+// asksOthers asks the others to keep the ceiling that was asked for now.
+func (d *Daemon) asksOthers(now time.Time) {
+	d.join.told, d.join.next = 0, now
+	if !d.join.done {
+		d.floor = d.join.start.Shows().Floor
 	}
 	d.isKept(now)
 }
@@ -136,18 +123,19 @@ func (d *Daemon) askCeiling(above uint64, now time.Time) {
 // isKept raises the ceiling once voters keep it that with this one contain a quorum.
 func (d *Daemon) isKept(now time.Time) {
 	j := &d.join
-	if !j.waits || !d.inUse.haveQuorums(j.kept|d.bit()) {
+	turn := j.start.Turns(d.inUse.haveQuorums(j.start.Shows().Kept | d.bit()))
+	switch turn {
+	case qlock.Waits:
+		return
+	case qlock.AsksAgain: // somebody knew of a higher one
+		d.asksOthers(now)
 		return
 	}
-	if !j.done && j.known > d.floor { // somebody knew of a higher one
-		d.askCeiling(j.known, now)
-		return
-	}
-	isNew := d.store.own.Ceiling == 0 && j.known == 0 // else it is a copy from before it first served
-	d.store.own.Ceiling, d.newOwn = j.asked, true
-	d.ceiling, j.waits = j.asked, false
+	shown := j.start.Shows()
+	d.store.own.Ceiling, d.newOwn = shown.Ceiling, true
+	d.ceiling, d.isSpent = shown.Ceiling, false
 	d.m.left.Set(float64(d.ceiling) - float64(greatest(d.floor, d.m.most)))
-	if j.done {
+	if turn == qlock.Raises {
 		return
 	}
 	j.done = true
@@ -157,85 +145,35 @@ func (d *Daemon) isKept(now time.Time) {
 		client := int(v.held.Client)
 		d.table.byWord[client] = d.table.byWord[client] || v.held.Number > 0 && !d.table.rows[client].Open
 	}
-	if !isNew && !j.isClean {
-		d.quietUntil = now.Add(d.cluster.TTL.Duration)
+	if turn == qlock.ServesQuietly {
+		d.beQuiet(now.Add(d.cluster.TTL.Duration))
 	}
-	d.log.Write(event.Info, "serve", "start", d.store.own.Start, "ceiling", d.ceiling, "clean", j.isClean,
-		"answered", d.inUse.names(j.answered))
+	d.log.Write(event.Info, "serve", "start", d.store.own.Start, "ceiling", d.ceiling, "clean", shown.IsClean,
+		"answered", d.inUse.names(shown.Answered))
 }
 
 // raiseAll lets all votes go on above what this voter may have given: they keep their grants.
 func (d *Daemon) raiseAll() {
 	for _, v := range d.votes {
 		v.limit, v.highest, v.isRaised = d.ceiling, greatest(v.highest, d.floor), true
+		v.begun = greatest(v.begun, d.floor)
 		_ = v.Extend(d.ceiling) // neither fails: no limit was above the ceiling
 		_ = v.Raise(d.floor)
 	}
 }
 
-// needsCeiling asks for the next ceiling if half of what was left is used.
+// needsCeiling asks for the next ceiling if half of the last block is used.
 func (d *Daemon) needsCeiling(number uint64, now time.Time) {
-	if j := &d.join; j.done && !j.waits && number+j.block/2 > d.ceiling {
-		d.askCeiling(d.ceiling, now)
+	before := d.join.start.Shows().Asked
+	if d.join.start.Needs(number); d.join.start.Shows().Asked > before {
+		d.asksOthers(now)
 	}
 }
 
 // tellAll lets all others keep the ceiling, once the plans in use changed.
-func (d *Daemon) tellAll() { d.join.kept, d.join.told, d.join.next = 0, 0, time.Time{} }
-
-// isQuiet returns whether only those inside get a vote. That ends when the grants of before the start are let go, and no
-// moment before: what was granted in between would count as one of those.
-func (d *Daemon) isQuiet() bool { return !d.quietUntil.IsZero() }
-
-// quiet returns for how long only those inside get a vote, at least for a tick while that has not ended.
-func (d *Daemon) quiet(now time.Time) time.Duration {
-	if !d.isQuiet() {
-		return 0
-	}
-	if left := d.quietUntil.Sub(now); left > tick {
-		return left
-	}
-	return tick
-}
-
-// quietOf returns for how long only those inside get the vote of a lock, if there is one. It stays quiet while one waits who
-// said in the quiet time that he is inside.
-func (d *Daemon) quietOf(v *vote, now time.Time) time.Duration {
-	left := d.quiet(now)
-	if v != nil && len(v.insiders) > 0 && left < stillQuiet {
-		left = stillQuiet
-	}
-	return left
-}
-
-// noteInside notes that a client said that he is inside by a request.
-func (d *Daemon) noteInside(v *vote, said wire.Line, now time.Time) {
-	switch {
-	case v.held.Client == uint64(said.From) && v.held.Stamp == said.Stamp:
-		v.isOld = false // whoever has it is there
-	case v.asks[said.From].stamp == said.Stamp && d.quietOf(v, now) > 0:
-		if v.insiders == nil {
-			v.insiders = map[int]uint64{}
-		}
-		v.insiders[said.From] = said.Stamp
-	}
-}
-
-// takeBack takes a RELINQUISH of the quiet time, of who has a grant of before the start. His request does not wait behind the
-// grant: if the state is an older copy, the vote may be somebody else's, who says that he is inside.
-func (d *Daemon) takeBack(v *vote, said wire.Line, now time.Time) {
-	if v.isHolder(said.From) && v.held.Number == said.Stamp {
-		d.letGo(v, now)
-	}
-}
-
-// endInside forgets those who said that they are inside, and whose session is over.
-func (d *Daemon) endInside(v *vote) {
-	for client, stamp := range v.insiders {
-		if d.isOver(qlock.Grant{Client: uint64(client), Stamp: stamp}) {
-			delete(v.insiders, client)
-		}
-	}
+func (d *Daemon) tellAll() {
+	d.join.start.Renews()
+	d.join.told, d.join.next = 0, time.Time{}
 }
 
 // write puts a word to another voter with what leaves after the next save.
@@ -277,8 +215,7 @@ func (d *Daemon) hearPeer(m transport.Message, now time.Time) {
 	case "start", "ceiling":
 		d.meet(h, w)
 	case "ended":
-		if p := d.peers[h.Number]; p.Identity == h.Name && p.Start == h.Start {
-			p.Ended = w.Saves
+		if p := d.peers[h.Number].endedWith(h.Name, h.Start, w.Saves); p != d.peers[h.Number] {
 			d.putPeer(h.Number, p)
 		}
 	case "known", "kept":
@@ -313,13 +250,12 @@ func (d *Daemon) hearAnswer(h wire.Header, w word, now time.Time) {
 		d.beRefused(refusalOf(*w.Known, d.self()), fmt.Sprintf("voter %s says: %s", w.Voter, w.Why))
 	case w.Word == "known" && w.Knows != nil:
 		d.learnOfItself(h, w, now)
-	case w.Word == "kept" && w.Ceiling == j.asked && p.Identity == h.Name && p.Start == h.Start:
-		j.kept |= 1 << h.Number
+	case w.Word == "kept" && w.Ceiling == j.start.Shows().Asked && p.Identity == h.Name && p.Start == h.Start:
 		j.told |= 1 << h.Number
-		if w.Known.Identity != d.store.meta.Identity || w.Known.Process != j.process {
-			j.known = greatest(j.known, w.Known.Ceiling) // it did not hear of this start before
+		isFirst := w.Known.Identity != d.store.meta.Identity || w.Known.Process != j.process // it did not hear of this start before
+		if j.start.IsKeptBy(h.Number, w.Ceiling, isFirst, w.Known.Ceiling) == nil {
+			d.isKept(now)
 		}
-		d.isKept(now)
 	}
 }
 
@@ -348,10 +284,8 @@ func (d *Daemon) learnOfItself(h wire.Header, w word, now time.Time) {
 		j.refused = fmt.Errorf("%s: %w", file(d.own.Data), err)
 		return
 	}
-	j.answered |= 1 << h.Number
-	j.known = greatest(j.known, w.Known.Ceiling)
-	if w.Known.Identity == d.store.meta.Identity && w.Known.Ended > 0 && w.Known.Ended == j.saves {
-		j.isClean = true
+	if j.start.Hears(h.Number, w.Known.Ceiling, w.Known.isClean(d.store.meta.Identity, j.saves)) != nil {
+		return
 	}
 	d.learnAll(*w.Knows, now)
 }

@@ -1,7 +1,9 @@
 package voter
 
 import (
+	"encoding/json"
 	"fmt"
+	"math/big"
 	"strings"
 	"testing"
 	"time"
@@ -20,22 +22,37 @@ func pair(t *testing.T) *Daemon {
 		t.Fatal(err)
 	}
 	d.inUse = plansInUse{read}
-	d.join = joining{process: "mine", began: time.Now()}
 	d.ceiling, d.floor, d.letters = 0, 0, nil
-	d.store.own = own{Start: 3, Ceiling: 100}
+	d.store.meta.Identity = identity("mine")
+	d.startsFrom(100)
 	return d
 }
 
+// startsFrom lets a voter start from a state that asked for this ceiling last.
+func (d *Daemon) startsFrom(ceiling uint64) {
+	d.join = joining{process: process("mine"), start: *qlock.NewStart(ceiling, d.firstBlock()), began: time.Now()}
+	d.store.own = own{Start: 3, Ceiling: ceiling}
+}
+
+// identity returns an identity that has a name of at most 16 letters.
+func identity(name string) string { return fmt.Sprintf("%032x", new(big.Int).SetBytes([]byte(name))) }
+
+// process returns the word of a process that has a name of at most 8 letters.
+func process(name string) string { return identity(name)[16:] }
+
+// asked returns the ceiling that a voter asked for last.
+func (d *Daemon) asked() uint64 { return d.join.start.Shows().Asked }
+
 // heard returns the header of the voter of a place.
 func heard(place int) wire.Header {
-	return wire.Header{Cluster: "test", Kind: wire.FromVoter, Number: place, Start: 1, Name: string(rune('A' + place))}
+	return wire.Header{Cluster: "test", Kind: wire.FromVoter, Number: place, Start: 1, Name: identity(string(rune('A' + place)))}
 }
 
 // answered is what a voter knows that knew this of voter a.
 func answered(place int, known Peer) word {
 	h := heard(place)
-	return word{Word: "known", Process: "mine", Start: 3, Known: &known,
-		Knows: &Knows{Peers: map[int]Peer{place: {Identity: h.Name, Start: h.Start}}}}
+	return word{Word: "known", Process: process("mine"), Start: 3, Known: &known,
+		Knows: &Knows{Peers: map[int]Peer{place: {Identity: h.Name, Start: h.Start, Process: process("p")}}}}
 }
 
 // A higher ceiling that is heard of while one is asked for raises the floor, too.
@@ -43,23 +60,23 @@ func TestFloorIsAboveAllThatIsKnown(t *testing.T) {
 	d, now := pair(t), time.Now()
 	d.hearAnswer(heard(1), answered(1, Peer{Ceiling: 500}), now)
 	d.start(now.Add(mostPatience + time.Second))
-	if d.join.done || d.floor != 500 || d.join.asked <= 500 {
+	if d.join.done || d.floor != 500 || d.asked() <= 500 {
 		t.Fatalf("%+v, floor %d", d.join, d.floor)
 	}
 	d.hearAnswer(heard(2), answered(2, Peer{Ceiling: 1 << 30}), now)
-	asked := d.join.asked
-	d.hearAnswer(heard(1), word{Word: "kept", Process: "mine", Ceiling: asked, Known: &Peer{Identity: d.store.meta.Identity,
-		Process: "mine"}}, now)
-	if d.join.done || d.floor != 1<<30 || d.join.asked <= 1<<30 {
+	asked := d.asked()
+	d.hearAnswer(heard(1), word{Word: "kept", Process: process("mine"), Ceiling: asked, Known: &Peer{Identity: d.store.meta.Identity,
+		Process: process("mine")}}, now)
+	if d.join.done || d.floor != 1<<30 || d.asked() <= 1<<30 {
 		t.Fatalf("%+v, floor %d", d.join, d.floor)
 	}
-	d.hearAnswer(heard(1), word{Word: "kept", Process: "mine", Ceiling: asked, Known: &Peer{}}, now)
+	d.hearAnswer(heard(1), word{Word: "kept", Process: process("mine"), Ceiling: asked, Known: &Peer{}}, now)
 	if d.join.done {
 		t.Error("a ceiling counts as kept that was asked for before")
 	}
-	d.hearAnswer(heard(1), word{Word: "kept", Process: "mine", Ceiling: d.join.asked, Known: &Peer{Identity: d.store.meta.Identity,
-		Process: "mine"}}, now)
-	if !d.join.done || d.ceiling != d.join.asked || d.floor != 1<<30 {
+	d.hearAnswer(heard(1), word{Word: "kept", Process: process("mine"), Ceiling: d.asked(), Known: &Peer{Identity: d.store.meta.Identity,
+		Process: process("mine")}}, now)
+	if !d.join.done || d.ceiling != d.asked() || d.floor != 1<<30 {
 		t.Fatalf("%+v, floor %d", d.join, d.floor)
 	}
 }
@@ -70,12 +87,11 @@ func TestLaterProcessOfThisVoter(t *testing.T) {
 	for _, one := range []struct {
 		identity string // of whom the other voter knew
 		ends     bool
-	}{{"mine", true}, {"lost", false}, {"", false}} {
+	}{{identity("mine"), true}, {identity("lost"), false}, {"", false}} {
 		d, now := pair(t), time.Now()
-		d.store.meta.Identity = "mine"
 		d.hearAnswer(heard(1), answered(1, Peer{}), now)
 		late := answered(1, Peer{Identity: one.identity, Start: 70})
-		late.Process, late.Start = "another", 71
+		late.Process, late.Start = process("another"), 71
 		d.hearAnswer(heard(1), late, now)
 		if ended := d.join.refused != nil; ended != one.ends {
 			t.Errorf("the other voter knew %q: %v", one.identity, d.join.refused)
@@ -88,13 +104,13 @@ func TestLaterProcessOfThisVoter(t *testing.T) {
 func TestCopyFromBeforeTheFirstGrant(t *testing.T) {
 	for ceiling, isQuiet := range map[uint64]bool{0: false, 64: true} {
 		d, now := pair(t), time.Now()
-		d.store.own = own{Start: 3}
+		d.startsFrom(0)
 		for place := 1; place <= 2; place++ {
-			d.hearAnswer(heard(place), answered(place, Peer{Identity: d.store.meta.Identity, Start: 2, Ceiling: ceiling}), now)
+			d.hearAnswer(heard(place), answered(place, Peer{Identity: d.store.meta.Identity, Start: 2, Process: process("before"), Ceiling: ceiling}), now)
 		}
 		d.start(now)
-		d.hearAnswer(heard(1), word{Word: "kept", Process: "mine", Ceiling: d.join.asked, Known: &Peer{Identity: d.store.meta.Identity,
-			Process: "mine"}}, now)
+		d.hearAnswer(heard(1), word{Word: "kept", Process: process("mine"), Ceiling: d.asked(), Known: &Peer{Identity: d.store.meta.Identity,
+			Process: process("mine")}}, now)
 		if !d.join.done || d.isQuiet() != isQuiet {
 			t.Errorf("a ceiling of %d is known: it serves %v, and is quiet %v", ceiling, d.join.done, d.isQuiet())
 		}
@@ -104,13 +120,13 @@ func TestCopyFromBeforeTheFirstGrant(t *testing.T) {
 // A voter that never served waits until the silent ones and it contain no quorum, however long that takes.
 func TestNewVoterNeedsMoreAnswers(t *testing.T) {
 	d, now := pair(t), time.Now()
-	d.store.own = own{Start: 3}
+	d.startsFrom(0)
 	d.hearAnswer(heard(1), answered(1, Peer{}), now)
-	if d.start(now.Add(time.Hour)); d.join.asked > 0 {
+	if d.start(now.Add(time.Hour)); d.asked() > 0 {
 		t.Error("a quorum of answers is enough")
 	}
 	d.hearAnswer(heard(2), answered(2, Peer{}), now)
-	if d.start(now.Add(time.Hour)); d.join.asked == 0 {
+	if d.start(now.Add(time.Hour)); d.asked() == 0 {
 		t.Error("all answers are not enough")
 	}
 }
@@ -121,8 +137,8 @@ func TestCeilingIsToldToAll(t *testing.T) {
 	d, now := pair(t), time.Now()
 	d.hearAnswer(heard(1), answered(1, Peer{}), now)
 	d.start(now.Add(mostPatience + time.Second))
-	d.hearAnswer(heard(1), word{Word: "kept", Process: "mine", Ceiling: d.join.asked, Known: &Peer{Identity: d.store.meta.Identity,
-		Process: "mine"}}, now)
+	d.hearAnswer(heard(1), word{Word: "kept", Process: process("mine"), Ceiling: d.asked(), Known: &Peer{Identity: d.store.meta.Identity,
+		Process: process("mine")}}, now)
 	if !d.join.done {
 		t.Fatal("it does not serve")
 	}
@@ -140,8 +156,8 @@ func TestCeilingIsToldToAll(t *testing.T) {
 		t.Errorf("told: %v", to)
 	}
 	d.hearAnswer(heard(2), answered(2, Peer{}), now)
-	d.hearAnswer(heard(2), word{Word: "kept", Process: "mine", Ceiling: d.join.asked, Known: &Peer{Identity: d.store.meta.Identity,
-		Process: "mine"}}, now)
+	d.hearAnswer(heard(2), word{Word: "kept", Process: process("mine"), Ceiling: d.asked(), Known: &Peer{Identity: d.store.meta.Identity,
+		Process: process("mine")}}, now)
 	if to := words(at.Add(time.Second)); len(to) != 0 {
 		t.Errorf("told again: %v", to)
 	}
@@ -167,45 +183,63 @@ func TestNames(t *testing.T) {
 // A voter that is starting itself does not forget what it keeps of another one, whatever process of that comes.
 func TestWhoStartsKeepsItsWord(t *testing.T) {
 	d := pair(t)
-	start := func(start uint64, process string, ceiling uint64) (why string) {
+	start := func(start uint64, name string, ceiling uint64) (why string) {
 		h := heard(1)
 		h.Start, d.letters = start, nil
-		d.meet(h, word{Word: "start", Process: process, Ceiling: ceiling})
+		d.meet(h, word{Word: "start", Process: process(name), Ceiling: ceiling})
 		return d.letters[0].word.Why
 	}
 	if why := start(5, "first", 9000); why != "" {
 		t.Fatal(why)
 	}
-	if why := start(5, "copy", 10); why == "" || d.peers[1].Ceiling != 9000 || d.peers[1].Process != "first" {
+	if why := start(5, "copy", 10); why == "" || d.peers[1].Ceiling != 9000 || d.peers[1].Process != process("first") {
 		t.Errorf("a copy: %q, %+v", why, d.peers[1])
 	}
 	if why := start(6, "first", 10); why != "" || d.peers[1].Ceiling != 9000 {
 		t.Errorf("the next start: %q, %+v", why, d.peers[1])
 	}
 	// another cluster's voter does not keep out the one that was known at the start
-	d.loaded[2] = Peer{Identity: "C", Start: 4, Ceiling: 70}
-	d.peers[2] = Peer{Identity: "twin", Run: 0, Start: 1}
+	d.loaded[2] = Peer{Identity: identity("C"), Start: 4, Process: process("p"), Ceiling: 70}
+	d.peers[2] = Peer{Identity: identity("twin"), Run: 0, Start: 1, Process: process("t")}
 	h := heard(2)
 	h.Start, d.letters = 5, nil
-	if d.meet(h, word{Word: "start", Process: "p"}); d.letters[0].word.Why != "" || d.peers[2].Identity != "C" || d.peers[2].Ceiling != 70 {
+	if d.meet(h, word{Word: "start", Process: process("q")}); d.letters[0].word.Why != "" || d.peers[2].Identity != identity("C") || d.peers[2].Ceiling != 70 {
 		t.Errorf("%+v: %q", d.peers[2], d.letters[0].word.Why)
 	}
 }
 
-// The reply to a start is the same when it is asked for again: a clean end is not forgotten by it.
+// The reply to a start is the same when it is asked for again, also if a copy was refused meanwhile: a clean end is not forgotten by it.
 func TestReplyIsRepeated(t *testing.T) {
 	d := pair(t)
-	d.peers[1] = Peer{Identity: "B", Start: 4, Ended: 77}
-	for i := 0; i < 2; i++ {
+	d.peers[1] = Peer{Identity: identity("B"), Start: 4, Process: process("p"), Ended: 77}
+	for i, name := range []string{"q", "q", "copy", "q"} {
 		h := heard(1)
 		h.Start, d.letters = 5, nil
-		d.meet(h, word{Word: "start", Process: "p"})
-		if known := d.letters[0].word.Known; known.Ended != 77 || known.Start != 4 {
-			t.Errorf("reply %d: %+v", i, known)
+		d.meet(h, word{Word: "start", Process: process(name)})
+		reply := d.letters[0].word
+		if name == "copy" {
+			if reply.Why == "" {
+				t.Error("a copy is not refused")
+			}
+		} else if reply.Why != "" || reply.Known.Ended != 77 || reply.Known.Start != 4 {
+			t.Errorf("reply %d: %+v", i, reply.Known)
 		}
 	}
 	if d.peers[1].Ended != 0 {
 		t.Error("an end before the start is kept")
+	}
+}
+
+// A voter that keeps the ceiling, and did not hear of the start before, says which ceiling it knew. The floor is above that.
+func TestKeeperThatDidNotHearOfTheStart(t *testing.T) {
+	d, now := pair(t), time.Now()
+	d.hearAnswer(heard(1), answered(1, Peer{Ceiling: 500}), now)
+	d.start(now.Add(mostPatience + time.Second))
+	d.peers[2] = Peer{Identity: heard(2).Name, Start: 1, Process: process("p")}
+	d.hearAnswer(heard(2), word{Word: "kept", Process: process("mine"), Ceiling: d.asked(), Known: &Peer{Identity: d.store.meta.Identity,
+		Start: 2, Process: process("before"), Ceiling: 9000}}, now)
+	if d.join.done || d.floor != 9000 || d.asked() <= 9000 {
+		t.Errorf("%+v, floor %d", d.join.start.Shows(), d.floor)
 	}
 }
 
@@ -216,7 +250,11 @@ func TestNoReminderWhileQuiet(t *testing.T) {
 	v := d.votes["orders"]
 	later := time.Now().Add(time.Minute)
 	for _, isOld := range []bool{true, false} {
-		v.isOld, d.quietUntil, d.out = isOld, later.Add(time.Second), map[string][]byte{}
+		d.out = map[string][]byte{}
+		if d.beQuiet(later.Add(time.Second)); !isOld {
+			v.since = nil
+			v.stand()
+		}
 		if d.round(later); len(d.out) > 0 == isOld {
 			t.Errorf("old: %v, %q", isOld, d.out)
 		}
@@ -235,7 +273,7 @@ func TestEndOfTheQuietTime(t *testing.T) {
 		t.Fatal(err)
 	}
 	d := reopened(t, first)
-	d.quietUntil = time.Now().Add(-time.Millisecond)
+	d.beQuiet(time.Now().Add(-time.Millisecond))
 	for i, one := range []struct {
 		number      int
 		lines, want string
@@ -280,7 +318,7 @@ func TestWhatComesBackWhileQuiet(t *testing.T) {
 		t.Fatal(err)
 	}
 	d := reopened(t, first)
-	d.quietUntil = time.Now().Add(time.Minute)
+	d.beQuiet(time.Now().Add(time.Minute))
 	reply := d.repliesTo("jobs", 1, fmt.Sprintf("orders relinquish 1 0 %d\norders request 1 0 9\n", grant))
 	if strings.Contains(reply, "locked") || !strings.Contains(reply, ". gone orders 9") || !strings.Contains(reply, ". quiet ") {
 		t.Errorf("who gave it back: %q", reply)
@@ -299,7 +337,7 @@ func TestEndWhileQuiet(t *testing.T) {
 		d := pair(t)
 		d.join.done = true
 		if isQuiet {
-			d.quietUntil = time.Now().Add(time.Minute)
+			d.beQuiet(time.Now().Add(time.Minute))
 		}
 		carrier := d.carrier.(*post)
 		carrier.sent = nil
@@ -314,6 +352,44 @@ func TestEndWhileQuiet(t *testing.T) {
 		}
 		if (said == 0) != isQuiet {
 			t.Errorf("quiet: %v, and %d voters hear of a clean end", isQuiet, said)
+		}
+	}
+}
+
+// A voter that ends while one who said that he is inside waits for a vote does not say that it ended cleanly: a clean start would give the
+// vote to somebody else.
+func TestEndWhileSomebodyInsideWaits(t *testing.T) {
+	d := pair(t)
+	d.join.done, d.ceiling = true, 1000
+	for number := 1; number <= 2; number++ {
+		d.repliesTo("jobs", number, fmt.Sprintf(". claim %d 1 100\n", number))
+	}
+	d.repliesTo("jobs", 1, "orders request 1 0 1\n")
+	d.beQuiet(time.Now().Add(-time.Millisecond))
+	d.repliesTo("jobs", 1, "orders request 1 0 1 inside\n")
+	d.repliesTo("jobs", 2, "orders request 2 0 2 inside\n")
+	if d.round(time.Now()); d.isQuiet() || !d.votes["orders"].isAwaited {
+		t.Fatalf("quiet %v, %+v", d.isQuiet(), d.votes["orders"])
+	}
+	carrier := d.carrier.(*post)
+	carrier.sent = nil
+	if err := d.End(); err != nil {
+		t.Fatal(err)
+	}
+	for _, message := range carrier.sent {
+		if strings.Contains(string(message), `"ended"`) {
+			t.Error("it says that it ended cleanly")
+		}
+	}
+}
+
+// No voter says a ceiling above all numbers of grants: a place that learned one could give none any more.
+func TestCeilingBeyondAllGrants(t *testing.T) {
+	for ceiling, isRight := range map[uint64]bool{qlock.MaxStamp: true, qlock.MaxStamp + 1: false} {
+		var p Peer
+		text := fmt.Sprintf(`{"identity":%q,"process":%q,"ceiling":%d}`, identity("x"), process("y"), ceiling)
+		if err := json.Unmarshal([]byte(text), &p); (err == nil) != isRight {
+			t.Errorf("%d: %v", ceiling, err)
 		}
 	}
 }

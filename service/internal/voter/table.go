@@ -47,8 +47,9 @@ func hashed(session string) string {
 	return wire.SessionName(user, hex.EncodeToString(sum[:16]))
 }
 
-// The bounds of what a claim or a header may name. A session of a number that was idle follows the
-// stamps that others used: what is bounded is how fast the highest stamp grows.
+// The bounds of what a claim or a header may name: how much is left of it is in proved buckets, which begin with half. So a voter
+// that was not asked for long has enough left to follow one that was. A session of a number that was idle follows the stamps that
+// others used: what is bounded is how fast the highest stamp grows.
 const (
 	mostEpochs  = 1 << 20 // above the row's, at once
 	epochRate   = 1 << 4  // a second, for a number
@@ -60,7 +61,8 @@ const (
 // table has a row for each client number. A session claims its number, and is never learned from a
 // header. Which session has a number, under which epoch, and which stamps are its own, the proved rows
 // of package qlock say: so a voter takes no stamp from two sessions. Two quorums meet, so no two
-// sessions use one stamp. Here are clocks, rates, and whose messages were heard.
+// sessions use one stamp. How fast epochs and stamps may grow, its buckets say. Here are clocks, and
+// whose messages were heard.
 type table struct {
 	ttl     time.Duration
 	rows    [qlock.MaxClients]Session
@@ -73,8 +75,8 @@ type table struct {
 	clock   qlock.Clock                     // says who was silent
 	changed map[int]Session                 // to be saved before anything leaves
 	later   map[int]Session                 // to be saved with the next save: after a crash a TTL makes up for it
-	epochs  [qlock.MaxClients]allowance
-	stamps  allowance
+	epochs  [qlock.MaxClients]qlock.Bucket  // how far the epochs of a number may grow
+	stamps  qlock.Bucket                    // how far the highest stamp may grow
 }
 
 // periodOf returns how long it is from one marker of a voter to the next. What came to the voter before a marker was sent is
@@ -93,9 +95,9 @@ func (t *table) begin(now time.Time) {
 	for i := range t.heard {
 		t.heard[i] = 0
 	}
-	t.stamps = newAllowance(mostStamps, now)
+	t.stamps = *qlock.NewBucket(stampRate, mostStamps, 0)
 	for i := range t.epochs {
-		t.epochs[i] = newAllowance(mostEpochs, now)
+		t.epochs[i] = *qlock.NewBucket(epochRate, mostEpochs, 0)
 	}
 }
 
@@ -261,15 +263,20 @@ func (t *table) reserve(number int, name string, epoch, wanted uint64, now time.
 		return
 	}
 	highest := t.highest()
-	most := highest + t.stamps.refill(stampRate, mostStamps, now)
+	most := highest + t.stamps.Left(now.Sub(t.began))
 	row, err := before.after(func(r *qlock.Row) error { return r.Reserve(t.session(number, name), epoch, wanted, most) })
-	if err != nil || row == before {
+	if err != nil || row == before || t.spend(&t.stamps, highest, row.Reserved, now) != nil {
 		return
 	}
-	if row.Reserved > highest {
-		t.stamps.spend(row.Reserved - highest)
-	}
 	t.put(number, row)
+}
+
+// spend takes what something grows from a bucket. It fails if it grows further than that bucket lets it.
+func (t *table) spend(bucket *qlock.Bucket, before, after uint64, now time.Time) error {
+	if after <= before {
+		return nil
+	}
+	return bucket.Spend(now.Sub(t.began), after-before)
 }
 
 // highest returns the highest stamp that any number reserved.
@@ -292,16 +299,13 @@ func (t *table) claim(number int, name string, epoch, stamps uint64, now time.Ti
 	before, highest := t.rows[number], t.highest()
 	claim := qlock.Claim{
 		Session: sessionOf(hashed(name)), Epoch: epoch, Stamps: smallest(stamps, mostClaimed), IsSilent: true,
-		Epochs: t.epochs[number].refill(epochRate, mostEpochs, now),
-		Most:   highest + t.stamps.refill(stampRate, mostStamps, now),
+		Epochs: t.epochs[number].Left(now.Sub(t.began)),
+		Most:   highest + t.stamps.Left(now.Sub(t.began)),
 	}
 	row, err := before.after(func(r *qlock.Row) error { return r.Claim(claim) })
-	if err != nil {
+	if err != nil || t.spend(&t.epochs[number], before.Epoch, row.Epoch, now) != nil ||
+		t.spend(&t.stamps, highest, row.Reserved, now) != nil {
 		return false
-	}
-	t.epochs[number].spend(epoch - before.Epoch)
-	if row.Reserved > highest {
-		t.stamps.spend(row.Reserved - highest)
 	}
 	row.Hash, row.Used, row.Lapses = hashed(name), false, 0
 	t.put(number, row)

@@ -76,7 +76,7 @@ func TestUpgrade(t *testing.T) {
 	}
 	defer d.store.disk.Close()
 	d.start(time.Now())
-	if d.quiet(time.Now()) == 0 {
+	if d.quietLeft(time.Now()) == 0 {
 		t.Error("it is not quiet, though nobody knows how it ended")
 	}
 	d.quietUntil = time.Time{}

@@ -5,6 +5,7 @@ import (
 
 	"calvundek.example/service/internal/event"
 	"calvundek.example/service/internal/wire"
+	"calvundek.example/service/qlock"
 	"github.com/prometheus/client_golang/prometheus"
 )
 
@@ -78,7 +79,7 @@ func (d *Daemon) fullForUser(l *letter, lock []byte, said wire.Line) {
 
 // full tells a session that there is no room for the lock of a REQUEST, counts that, and logs it the first time.
 func (d *Daemon) full(l *letter, lock []byte, said wire.Line, count prometheus.Counter, isLogged *bool, words ...interface{}) {
-	d.tell(l.Name, "full %s %d", lock, said.Stamp)
+	d.sayOf(l.Name, qlock.LockSays{Kind: qlock.LockFull, Lock: lock, Stamp: said.Stamp})
 	count.Inc()
 	if !*isLogged {
 		*isLogged = true

@@ -12,23 +12,26 @@ type ask struct {
 	stamp uint64
 	since time.Time
 	user  string // whose it is, "" if it is of an earlier session of its number
+	note  string // what its client says of it
 }
 
 // vote is the vote for one lock, and beside the proved voter what the loop looks at often.
 type vote struct {
 	*qlock.Voter
-	name  string
-	held  qlock.Grant
-	since time.Time      // when it was granted
-	asks  map[int]ask    // by client: who has it, and who waits
-	users map[string]int // how many of these are a user's
-	timer remind.Timer   // for the reminder of whoever has it
+	name    string
+	held    qlock.Grant
+	granted time.Time      // when it was granted
+	asks    map[int]ask    // by client: who has it, and who waits
+	users   map[string]int // how many of these are a user's
+	timer   remind.Timer   // for the reminder of whoever has it
 
 	limit   uint64 // how many grants it may give
-	isOld   bool   // its grant is from before the start, and nobody said since that he is inside by it
 	isSpent bool   // it was logged that all grants are given
 
-	insiders map[int]uint64 // by client: the stamp by which he said in the quiet time that he is inside, and waits
+	since     *qlock.SinceStart // what was said since the start; nil while that is nothing, and no grant is from before
+	begun     uint64            // how many grants its voter had given, or skipped, when the start began, or it was made
+	isOld     bool              // its grant is from before the start, and nobody said that he is inside by it (Stands)
+	isAwaited bool              // somebody waits who said since the start that he is inside (Stands)
 
 	isRaised  bool      // it goes on above another number since it was saved
 	heard     time.Time // when a line of the lock came
@@ -50,11 +53,22 @@ func (v *vote) isWanted() bool {
 
 // add makes a lock known to the daemon.
 func (d *Daemon) add(name string, voter *qlock.Voter) *vote {
-	v := &vote{Voter: voter, name: name, timer: remind.Timer{First: d.own.First.Duration, Most: d.own.Most.Duration}}
-	v.limit, v.highest = d.ceiling, d.floor
-	d.votes[name] = v
-	delete(d.gone, name)
+	v := d.voteOf(name, voter)
+	d.keep(v)
 	return v
+}
+
+// voteOf returns what is kept of a lock beside its voter.
+func (d *Daemon) voteOf(name string, voter *qlock.Voter) *vote {
+	v := &vote{Voter: voter, name: name, timer: remind.Timer{First: d.own.First.Duration, Most: d.own.Most.Duration}}
+	v.limit, v.highest, v.begun = d.ceiling, d.floor, d.floor
+	return v
+}
+
+// keep makes a lock known.
+func (d *Daemon) keep(v *vote) {
+	d.votes[v.name] = v
+	delete(d.gone, v.name)
 }
 
 // restore adds a vote that was saved. It forgets who waits, as only the grant and the number of grants are sure to be those
@@ -77,7 +91,6 @@ func (d *Daemon) restore(name string, state []byte, now time.Time) error {
 	}
 	d.noteAsk(v, int(held.Client), held.Stamp, now)
 	d.noteGrant(v, held, now)
-	v.isOld = true
 	return err
 }
 
@@ -91,13 +104,12 @@ func (d *Daemon) noteAsk(v *vote, client int, stamp uint64, now time.Time) {
 		d.count(client, before, -1)
 		d.countUser(v, before.user, -1)
 		delete(v.asks, client)
-		delete(v.insiders, client)
 	}
 	if stamp > 0 {
 		if v.asks == nil {
 			v.asks = map[int]ask{}
 		}
-		one := ask{stamp, now, d.asker(client, stamp)}
+		one := ask{stamp: stamp, since: now, user: d.asker(client, stamp)}
 		v.asks[client] = one
 		d.count(client, one, 1)
 		d.countUser(v, one.user, 1)
@@ -133,10 +145,9 @@ func (d *Daemon) recount(client int) {
 // noteGrant notes who has the vote, after a step that may have changed it.
 func (d *Daemon) noteGrant(v *vote, held qlock.Grant, now time.Time) {
 	if held.Number != v.held.Number {
-		v.held, v.since, v.isOld = held, now, false
+		v.held, v.granted = held, now
 		if held.Number > 0 {
 			v.highest = greatest(v.highest, held.Number)
-			delete(v.insiders, int(held.Client))
 			d.m.grants.Inc()
 			d.granted++
 			d.m.left.Set(float64(d.ceiling) - float64(d.m.highest(held.Number)))

@@ -196,7 +196,8 @@ func FuzzMessage(f *testing.F) {
 	for _, lines := range []string{"", ". hello\n", strings.Repeat(". hello\n", 100), ". claim 5 1\n", ". claim 0 2\n",
 		". drop 1 1\n", ". open 0\n", ". close\n", ". plan\n", "orders request 1 0 2\n", "orders request 0 0 1\n",
 		"stock request 1 0 9\nstock release 1 0 9\n", "orders release 0 0 1\n", "orders relinquish 0 0 1 1\n",
-		"x y\n\n", "orders request 1 0 1099511627775\n", "no end"} {
+		"x y\n\n", "orders request 1 0 1099511627775\n", "no end", ". note m 1 r a\n. who 1 orders\n. list 2 0\n",
+		". about orders 1 a note\n" + strings.Repeat(". who 1 orders\n", 15), ". list 1 1 ord\n. list 1 1\n", ". note\n. who x\n"} {
 		f.Add(s.said(0, 0, 0, "nobody", lines))
 		f.Add(s.said(1, 1, 200, "other", lines))
 		f.Add(s.said(0, 1, 1<<40, "me", lines))
@@ -221,6 +222,14 @@ func FuzzMessage(f *testing.F) {
 			if rows[number].Open && row != rows[number] && (!ours || hashed(wire.SessionName(wire.NoUser, h.Name)) != rows[number].Hash) {
 				t.Fatalf("%q changes the session of number %d from %+v to %+v", h.Name, number, rows[number], row)
 			}
+		}
+		for number, name := range []string{"me", "other"} {
+			if d.noteOf(number) != "" && (!ours || h.Name != name) {
+				t.Fatalf("%q notes %q for another session", h.Name, d.noteOf(number))
+			}
+		}
+		if d.votes["orders"].asks[0].note != "" && h.Name != "me" {
+			t.Fatalf("%q says something of another one's request", h.Name)
 		}
 		if now := d.votes["orders"].held; now != held && h.Name != "me" {
 			t.Fatalf("%q takes a lock from its holder: %+v", h.Name, now)
@@ -467,11 +476,11 @@ func rowsOf(f *testing.F, db *bbolt.DB) (places [][3][]byte) {
 // What voters reply brings nothing back: of each number it has the highest epoch, and a
 // stamp as high as any of them; of each place the last run, and the highest ceiling.
 func FuzzMerge(f *testing.F) {
-	one := Knows{Peers: map[int]Peer{2: {Identity: "v", Run: 1, Start: 4, Ceiling: 900}}, Sessions: map[int]Session{
+	one := Knows{Peers: map[int]Peer{2: {Identity: identity("v"), Run: 1, Start: 4, Process: process("p"), Ceiling: 900}}, Sessions: map[int]Session{
 		3:  {Hash: "x", Epoch: 4, Base: 9, Reserved: 100, Open: true, Used: true},
 		63: {Epoch: 1, Reserved: 7}}}
 	first, _ := json.Marshal(one)
-	second, _ := json.Marshal(Knows{Peers: map[int]Peer{2: {Identity: "w", Ceiling: 950}}, Sessions: map[int]Session{
+	second, _ := json.Marshal(Knows{Peers: map[int]Peer{2: {Identity: identity("w"), Process: process("q"), Ceiling: 950}}, Sessions: map[int]Session{
 		3: {Hash: "y", Epoch: 4, Base: 9, Reserved: 50, Open: true}}})
 	f.Add(first, second)
 	f.Add(first, []byte("{}"))

@@ -9,16 +9,17 @@
 // ignores it, and so it is with words of control. There is one space between two words, and no number has a leading zero. The
 // names CLUSTER, COTERIE, SESSION, IDENTITY and NAME are 1 to 64 of A-Z a-z 0-9 _ -
 //
-// The header, and lines of control that have numbers only, are read and written by proved calls of libqlock (package qlock): each
-// is read if and only if it is there, and what is written is read back. Mailboxes, how a message is cut into lines, and
-// lines of control with the name of a lock or with a text ("gone", "full", "held", "generation", "plan" of a voter, "marker") are not
-// proved. COTERIE is a part of
-// the SHA-256 of the TTL, the coterie, and how often the plan was exchanged. RUN is how often the
-// voter was made again after its state was lost, and START how often its process started. LAPSES
-// counts how often the voter let a grant of the session go since it was silent. Lines of control,
-// and the replies:
+// The header, the lines of a message, and lines of control that have numbers only or the name of a lock ("gone", "full", "held") are
+// read and written by proved calls of libqlock (package qlock): each is read if and only if it is there, and what is written is read
+// back. LOCK is 1 to 64 of A-Z a-z 0-9 _ - . : with no dot first. Mailboxes, what a line of a lock says as a client or a voter here
+// reads it, and lines of control with a text ("generation", "plan" of a voter, "marker", and those of asks.go) are not proved.
 //
-//	hello         number N EPOCH STATE for each number: 0 taken, 1 free, 2 its session is silent
+// COTERIE is a part of the SHA-256 of the TTL, the coterie, and how often the plan was exchanged. RUN is how often the voter was made
+// again after its state was lost, and START how often its process started. LAPSES counts how often the voter let a grant of the
+// session go since it was silent. Lines of control, and the replies:
+//
+//	hello         number N EPOCH STATE for each number: 0 taken, 1 free, 2 its session is silent, and
+//	              sessions OPEN SILENT-MS WAITS-MS: how many, and the longest silence and wait of a request
 //	claim N EPOCH STAMPS   claimed N EPOCH BASE RESERVED, or refused N EPOCH; it reserves so many
 //	              stamps above BASE, none without STAMPS
 //	drop N EPOCH  none: a claim had no quorum
@@ -28,6 +29,14 @@
 //	plan          plan PLAN COTERIE-TEXT PLAN-TEXT
 //	close         closed N EPOCH
 //	greet         greeted, from a level on
+//	note TEXT     noted: what the session says of itself, nothing without TEXT
+//	about LOCK STAMP TEXT  none: what it says of one request
+//	who ID LOCK   has ID LOCK WAITING NUMBER STAMP MS USER NOTE: who has the voter's vote, for how long, and
+//	              the numbers that wait, one bit for each. It ends behind WAITING if nobody has it, and behind
+//	              USER if he has no note
+//	list ID PLACE PREFIX   has ID .. for some locks, and listed ID PLACE NEXT; 0 begins, and is the end
+//
+// A TEXT is 1 to 128 printable bytes of ASCII. These words decide nothing (asks.go). Who has no number may ask "who" and "list", too.
 //
 // A voter also sends "gone LOCK STAMP" when it let a request go, "full LOCK STAMP" if it has no
 // room for the lock of a REQUEST, or for another one of its user, "taken N EPOCH" to a session that is over, and "unknown N EPOCH"
@@ -38,7 +47,7 @@
 // know whom it granted its votes, is quiet for a TTL: it takes no REQUEST but of who is inside, and
 // says "quiet MS" to others. A vote stays quiet while one waits for it who said then that he is
 // inside. A client that does not want to wait for somebody has the word "try" there: to it a voter
-// says "held LOCK STAMP MS" if somebody else has the vote, and for how long.
+// says "held LOCK STAMP MS" if somebody else has the vote, and for how long, and "has 0 LOCK .." before.
 //
 // Voters speak to one another in mailboxes of their own, a line of JSON behind the header (package
 // voter, peers.go).
@@ -136,15 +145,9 @@ func Read(message []byte) (h Header, lines []byte, err error) {
 	return h, r.Lines, nil
 }
 
-// Next returns the first of these lines, as the lock's name or "." and what is behind it, and the other lines.
-func Next(lines []byte) (lock, line, rest []byte, found bool) {
-	line, rest, found = bytes.Cut(lines, []byte("\n"))
-	if !found {
-		return nil, nil, nil, false
-	}
-	lock, line, _ = bytes.Cut(line, []byte(" "))
-	return lock, line, rest, true
-}
+// Next returns the first of these lines, as the lock's name or "." and what is behind the space, and the other lines. It finds none if
+// there is none, and if the first one can't be right.
+func Next(lines []byte) (lock, line, rest []byte, found bool) { return qlock.CutLine(lines) }
 
 // Split hands lines to a function as messages with this header, none of them much longer than MostBytes. A line that is longer
 // by itself has a message of its own.
@@ -207,9 +210,7 @@ func ReadLine(line []byte) Line {
 }
 
 // IsName returns whether a word may name a lock: 1 to 64 of A-Z a-z 0-9 _ - . : with no dot first.
-func IsName(name []byte) bool {
-	return len(name) > 0 && len(name) <= 64 && name[0] != '.' && only(name, "_-.:")
-}
+func IsName(name []byte) bool { return qlock.IsLockName(name) }
 
 // IsID returns whether a word may name a cluster, a part of a subject: 1 to 32 of A-Z a-z 0-9 _ -
 func IsID(name []byte) bool { return len(name) > 0 && len(name) <= 32 && only(name, "_-") }

@@ -3,6 +3,7 @@ package wire
 import (
 	"bytes"
 	"fmt"
+	"regexp"
 	"strings"
 	"testing"
 )
@@ -59,8 +60,11 @@ func FuzzRead(f *testing.F) {
 	})
 }
 
-// Lines are handed out one after the other, whole and in their order, and no byte of a line is left
-// out.
+// lockLine is a line that may be right: a lock's name or a dot, a space, and anything.
+var lockLine = regexp.MustCompile(`^(\.|[A-Za-z0-9_:-][A-Za-z0-9_.:-]{0,63}) [^\n]*\n`)
+
+// Lines are handed out one after the other, whole and in their order, up to the first one that can't be right, and no byte of a line
+// is left out.
 func FuzzNext(f *testing.F) {
 	for _, lines := range talk {
 		f.Add([]byte(lines))
@@ -70,19 +74,15 @@ func FuzzNext(f *testing.F) {
 		for rest := lines; ; {
 			lock, line, behind, found := Next(rest)
 			if !found {
-				if bytes.IndexByte(rest, '\n') >= 0 {
+				if lockLine.Match(rest) {
 					t.Fatalf("%q is left", rest)
 				}
 				return
 			}
-			if bytes.ContainsAny(lock, " \n") || bytes.IndexByte(line, '\n') >= 0 || len(behind) >= len(rest) {
+			if !lockLine.Match(rest) || bytes.ContainsAny(lock, " \n") || bytes.IndexByte(line, '\n') >= 0 || len(behind) >= len(rest) {
 				t.Fatalf("%q and %q of %q", lock, line, rest)
 			}
-			if len(lock) == len(rest)-len(behind)-1 {
-				again = append(append(again, lock...), '\n') // it has no second word
-			} else {
-				again = append(append(append(append(again, lock...), ' '), line...), '\n')
-			}
+			again = append(append(append(append(again, lock...), ' '), line...), '\n')
 			if rest = behind; !bytes.HasPrefix(lines, again) || len(again)+len(rest) != len(lines) {
 				t.Fatalf("%q is handed out of %q", again, lines)
 			}

@@ -1,4 +1,5 @@
-package main
+// Package unit tells systemd how a program of its units does.
+package unit
 
 import (
 	"fmt"
@@ -8,9 +9,9 @@ import (
 	"time"
 )
 
-// notify tells systemd that the voter has started, and then, as often as its unit wants it, that
+// Notify tells systemd that the program has started, and then, as often as its unit wants it, that
 // its loop goes round. Without a unit it does nothing.
-func notify(isLively func(within time.Duration) bool, ended <-chan struct{}) error {
+func Notify(isLively func(within time.Duration) bool, ended <-chan struct{}) error {
 	socket := os.Getenv("NOTIFY_SOCKET")
 	if socket == "" {
 		return nil

@@ -1,0 +1,316 @@
+"""Locks between the processes of many hosts, by the agent of this host, `qlockd`. It needs the standard library alone.
+
+    from qlock.agent import Client
+
+    client = Client()
+    with client.lock("orders", wait=10) as held:
+        write(held.token)    # the guard beside the data admits the token, and refuses who comes late
+
+A lock lasts as long as its connection, so the agent gives the lock of a process back that dies. `held.lost` is an event that is set
+when the lock may be somebody else's: if the agent says so, or is gone, or says nothing for too long. End the work then, within a
+tenth of `held.ttl`. A child that is forked has none of the locks of its parent.
+"""
+import json
+import os
+import socket as sockets
+import threading
+import time
+import weakref
+from types import TracebackType
+from typing import Any, Callable, Dict, List, Optional, Type
+from urllib.parse import quote, urlencode
+
+SOCKET = "/run/qlock/qlockd.sock"
+"""Where the agent listens if nobody says otherwise."""
+
+
+class AgentFault(Exception):
+    """The agent refused a call. `word` is one of a few that stay the same (`qlockd`(1)); the text says why."""
+
+    word = "internal"
+
+    def __init__(self, why: str, word: str = "") -> None:
+        super().__init__(why)
+        self.word = word or self.word
+
+
+class HeldElsewhere(AgentFault):
+    """Somebody else has the lock, or asked before. Only `try_lock` raises this."""
+
+    word = "held"
+
+
+class NotInTime(AgentFault, TimeoutError):
+    """Somebody else had the lock for the time to wait."""
+
+    word = "timeout"
+
+
+class Unreachable(AgentFault, ConnectionError):
+    """The agent is not there, has no session, or reaches no quorum of voters."""
+
+    word = "unreachable"
+
+
+class Full(AgentFault):
+    """No quorum of voters has room for another lock, or for one of the agent's user."""
+
+    word = "full"
+
+
+class BadName(AgentFault, ValueError):
+    """A lock's name has 1 to 64 of A-Z a-z 0-9 _ - . : and no dot first."""
+
+    word = "name"
+
+
+class Lost(AgentFault):
+    """The lock may have been somebody else's before it was given back."""
+
+    word = "lost"
+
+
+_KINDS: Dict[str, Type[AgentFault]] = {kind.word: kind for kind in (HeldElsewhere, NotInTime, Unreachable, Full, BadName, Lost)}
+_KINDS["closing"] = Unreachable
+
+# How long the agent may take to reply, beside the time for which a lock is waited for.
+_REPLY = 5.0
+# How long a look at the connection takes at most: the clock of the look stands still while the machine sleeps.
+_LOOK = 0.2
+
+
+def _uptime() -> float:
+    """Returns the seconds since the machine started, also those in which it slept. All processes of a host read the same."""
+    return time.clock_gettime(time.CLOCK_BOOTTIME)
+
+
+class _Connection:
+    """A connection to the agent, with one call."""
+
+    def __init__(self, path: str, call: str, limit: Optional[float]) -> None:
+        self._rest = b""
+        self._limit = None if limit is None else time.monotonic() + limit
+        self.socket = sockets.socket(sockets.AF_UNIX, sockets.SOCK_STREAM)
+        try:
+            self._set_timeout()
+            self.socket.connect(path)
+            # by 1.0 the reply has no chunks
+            self.socket.sendall(f"{call} HTTP/1.0\r\nHost: qlockd\r\nContent-Length: 0\r\n\r\n".encode())
+        except OSError as fault:
+            self.socket.close()
+            raise Unreachable(f"{path}: {fault}") from fault
+
+    def _set_timeout(self) -> None:
+        if self._limit is not None:
+            self.socket.settimeout(max(self._limit - time.monotonic(), 0.001))
+
+    def lines_for_ever(self) -> None:
+        """Lets `line` take its own time from now on."""
+        self._limit = None
+
+    def line(self, most: Optional[float] = None) -> Optional[bytes]:
+        """Returns the next line without its end, b"" at the end of the connection, and None if none came in time."""
+        while b"\n" not in self._rest:
+            if most is None:
+                self._set_timeout()
+            else:
+                self.socket.settimeout(most)
+            try:
+                more = self.socket.recv(1 << 16)
+            except sockets.timeout:
+                return None
+            except OSError:
+                more = b""
+            if not more:
+                return b""
+            self._rest += more
+        line, _, self._rest = self._rest.partition(b"\n")
+        return line.rstrip(b"\r") or b"\r"
+
+    def reply(self) -> None:
+        """Reads the head of the reply. Raises what a refusal says."""
+        status = self._text().split()
+        while self._text().strip():
+            pass
+        if len(status) < 2 or status[1] != "200":
+            try:
+                said = json.loads(self._text())
+                word, why = str(said["fault"]), str(said["why"])
+            except (ValueError, KeyError, TypeError):
+                word, why = "internal", " ".join(status)
+            raise _KINDS.get(word, AgentFault)(why, word)
+
+    def _text(self) -> str:
+        line = self.line()
+        if line is None:
+            raise Unreachable("the agent does not reply")
+        if not line:
+            raise Unreachable("the agent ended the connection")
+        return line.decode("utf-8", "replace")
+
+    def json(self) -> Any:
+        return json.loads(self._text())
+
+    def close(self) -> None:
+        self.socket.close()
+
+
+class Client:
+    """Takes locks by the agent at a socket: `QLOCK_AGENT`, or `SOCKET`, if none is given. It has no connection but those of its
+    locks. Threads may share it."""
+
+    def __init__(self, socket: str = "", note: str = "") -> None:
+        """Others see the note of who has a lock, besides process and user. Without one it is the name of the process."""
+        self.socket = socket or os.environ.get("QLOCK_AGENT", "") or SOCKET
+        self.note = note
+
+    def lock(self, name: str, wait: Optional[float] = None, on_lost: Optional[Callable[["Held"], None]] = None) -> "Held":
+        """Waits for a lock, for at most `wait` seconds, and without limit if it is None. `on_lost` is called, in a thread of
+        its own, when the lock may be somebody else's."""
+        return self._take(name, wait, {}, on_lost)
+
+    def try_lock(self, name: str, on_lost: Optional[Callable[["Held"], None]] = None) -> "Held":
+        """Takes a lock that nobody has. Raises `HeldElsewhere` if somebody else has it, or asked before."""
+        return self._take(name, 10.0, {"try": "1"}, on_lost)
+
+    def _take(self, name: str, wait: Optional[float], query: Dict[str, str], on_lost: Optional[Callable[["Held"], None]]) -> "Held":
+        limit = None
+        if self.note:
+            query["note"] = self.note
+        if wait is not None:
+            wait = max(wait, 0.001)
+            query["wait"], limit = f"{wait:.6f}s", wait + _REPLY
+        connection = self._call(f"POST /v1/locks/{quote(name, safe='')}?{urlencode(query)}", limit)
+        try:
+            connection.reply()
+            return Held(name, connection, connection.json(), on_lost)
+        except BaseException:
+            connection.close()
+            raise
+
+    def _call(self, call: str, limit: Optional[float] = _REPLY) -> _Connection:
+        return _Connection(self.socket, call, limit)
+
+    def _get(self, path: str) -> Any:
+        connection = self._call(f"GET {path}")
+        try:
+            connection.reply()
+            return connection.json()
+        finally:
+            connection.close()
+
+    def locks(self, name: str = "") -> List[Dict[str, Any]]:
+        """Returns what processes of this host hold and wait for, of one lock or of all."""
+        rows: List[Dict[str, Any]] = self._get("/v1/locks" + (f"/{quote(name, safe='')}" if name else ""))["locks"]
+        return rows
+
+    def status(self) -> Dict[str, Any]:
+        """Returns what the agent says of itself."""
+        said: Dict[str, Any] = self._get("/v1/status")
+        return said
+
+
+class Held:
+    """A lock that is held, until `unlock` or the end of its `with`."""
+
+    def __init__(self, name: str, connection: _Connection, first: Dict[str, Any], on_lost: Optional[Callable[["Held"], None]]) -> None:
+        self.name = name
+        self.id: str = first["id"]
+        self.token = bytes.fromhex(first["pass"])
+        """the pass: what is shown to the guard, with each write"""
+        self.ttl: float = first["ttl_ms"] / 1000
+        self.lost = threading.Event()
+        """set when the lock may be somebody else's, and by `unlock`"""
+        self.why = ""
+        """why the lock was lost, in a word"""
+        self._until: float = first["until_ms"] / 1000
+        self._connection = connection
+        self._on_lost = on_lost
+        self._is_over = False
+        self._is_unlocked = False
+        connection.lines_for_ever()
+        _all_held.add(self)
+        self._reader = threading.Thread(target=self._read, name=f"lock {name}", daemon=True)
+        self._reader.start()
+
+    def left(self) -> float:
+        """Returns for how many seconds the lock lasts if nothing more is heard of the agent. It is 0 once the lock is lost."""
+        return 0.0 if self.lost.is_set() else max(self._until - _uptime(), 0.0)
+
+    def _read(self) -> None:
+        """Reads what the agent says, until the lock is over."""
+        self.why = self._end()
+        was_given_back = self._is_over
+        self.lost.set()
+        if not was_given_back and self._on_lost:
+            self._on_lost(self)
+
+    def _end(self) -> str:
+        """Waits until the lock is over, and returns why, "" if it was given back."""
+        while True:
+            left = self._until - _uptime()
+            if left <= 0:
+                return "silence"
+            line = self._connection.line(min(left, _LOOK))
+            if line is None:
+                continue
+            try:
+                said = json.loads(line)
+            except ValueError:
+                return "connection"
+            if said.get("unlocked"):
+                self._is_unlocked = True
+                return ""
+            if said.get("lost"):
+                return str(said.get("why", "lost"))
+            self._until = said.get("until_ms", self._until * 1000) / 1000
+
+    def unlock(self) -> None:
+        """Gives the lock back, and waits until the agent did that. Raises `Lost` if the lock may have been lost before. Does
+        nothing the second time."""
+        if self._is_over:
+            return
+        self._is_over = True
+        try:
+            self._connection.socket.shutdown(sockets.SHUT_WR)
+        except OSError:
+            pass  # the connection has ended
+        if threading.current_thread() is not self._reader:
+            self._reader.join(max(self._until - _uptime(), 0.0) + 2 * _LOOK)
+        self.lost.set()
+        self._connection.close()
+        _all_held.discard(self)
+        if not self._is_unlocked:
+            raise Lost(f"{self.name}: the lock may be somebody else's ({self.why or 'silence'})")
+
+    def _leave(self) -> None:
+        """Lets a forked child have nothing of this lock."""
+        self.lost = threading.Event()
+        self.lost.set()
+        self._is_over, self.why = True, "fork"
+        self._connection.close()
+
+    def __enter__(self) -> "Held":
+        return self
+
+    def __exit__(
+        self, kind: Optional[Type[BaseException]], fault: Optional[BaseException], trace: Optional[TracebackType]
+    ) -> None:
+        try:
+            self.unlock()
+        except Lost:
+            if kind is None:
+                raise
+
+
+_all_held: "weakref.WeakSet[Held]" = weakref.WeakSet()
+
+
+def _leave_all() -> None:
+    for held in list(_all_held):
+        held._leave()
+    _all_held.clear()
+
+
+# A child has the connections of its parent, too: a lock would last until both are gone.
+os.register_at_fork(after_in_child=_leave_all)

@@ -1,0 +1,178 @@
+package main
+
+import (
+	"context"
+	"encoding/hex"
+	"errors"
+	"io"
+	"net"
+	"path/filepath"
+	"strings"
+	"testing"
+	"time"
+
+	"calvundek.example/service/agent"
+	"calvundek.example/service/internal/bus"
+	"calvundek.example/service/internal/event"
+	"calvundek.example/service/internal/qlockd"
+	"calvundek.example/service/internal/worlds"
+	"calvundek.example/service/locks"
+)
+
+// agentIn starts an agent, and returns its socket and its port to the voters.
+func agentIn(t *testing.T, ttl time.Duration) (string, *bus.Port) {
+	t.Helper()
+	w := worlds.New(t, worlds.Majority, ttl)
+	port, socket := w.Bus.Port(), filepath.Join(t.TempDir(), "q.sock")
+	listener, err := qlockd.Listen(socket, "")
+	if err != nil {
+		t.Fatal(err)
+	}
+	daemon := qlockd.New(qlockd.Config{Log: event.To(io.Discard), Locks: locks.Config{Cluster: fileOf(t, w), Transport: port}})
+	ctx, cancel := context.WithCancel(context.Background())
+	ended := make(chan error, 1)
+	go func() { ended <- daemon.Serve(ctx, listener) }()
+	t.Cleanup(func() {
+		cancel()
+		if err := <-ended; err != nil {
+			t.Error(err)
+		}
+	})
+	return socket, port
+}
+
+// runs returns the exit status of a command.
+func runs(t *testing.T, words ...string) int {
+	t.Helper()
+	root := command(context.Background())
+	root.SetArgs(words)
+	err := root.Execute()
+	end := status{code: 1}
+	if errors.As(err, &end); err == nil {
+		return 0
+	}
+	return end.code
+}
+
+// By an agent each exit status is the same as without one.
+func TestRunByAgent(t *testing.T) {
+	socket, port := agentIn(t, 2*time.Second)
+	held, err := agent.New(socket).Lock(context.Background(), "held")
+	if err != nil {
+		t.Fatal(err)
+	}
+	for _, one := range []struct {
+		want  int
+		words []string
+	}{
+		{0, []string{"--wait", "30s", "x", "true"}},
+		{7, []string{"x", "sh", "-c", "exit 7"}},
+		{0, []string{"x", "sh", "-c", "[ ${#QLOCK_PASS} = 1024 ]"}},
+		{137, []string{"x", "sh", "-c", "kill -9 $$"}},
+		{exitNone, []string{"x", "/there/is/none"}},
+		{exitNoStart, []string{"x", "/dev/null"}},
+		{exitNoLock, []string{"--try", "held", "true"}},
+		{exitNoLock, []string{"--wait", "300ms", "held", "true"}},
+		{exitSettings, []string{"a b", "true"}},
+		{exitSettings, []string{"--grace", "1s", "x", "true"}},
+		{7, []string{"--grace", "100ms", "x", "sh", "-c", "exit 7"}},
+	} {
+		if got := runs(t, append([]string{"run", "--agent", socket}, one.words...)...); got != one.want {
+			t.Errorf("%q: %d", one.words, got)
+		}
+	}
+	if got := runs(t, "run", "--agent", socket+".none", "x", "true"); got != exitSettings {
+		t.Error(got)
+	}
+	time.AfterFunc(300*time.Millisecond, func() { port.Cut(true) })
+	if got := runs(t, "run", "--agent", socket, "x", "sleep", "60"); got != exitLost {
+		t.Error(got)
+	}
+	if got := runs(t, "run", "--agent", socket, "--wait", "300ms", "x", "true"); got != exitNoLock {
+		t.Error(got)
+	}
+	port.Cut(false)
+	if err := held.Unlock(); !errors.Is(err, agent.ErrLost) {
+		t.Error(err)
+	}
+}
+
+// The agent's lock is free as soon as the program has ended, and its pass is the agent's.
+func TestPassOfTheAgent(t *testing.T) {
+	socket, _ := agentIn(t, 20*time.Second)
+	began := time.Now()
+	for n := 0; n < 3; n++ {
+		if got := runs(t, "run", "--agent", socket, "x", "true"); got != 0 {
+			t.Error(got)
+		}
+	}
+	held, err := agent.New(socket).TryLock(context.Background(), "x")
+	if err != nil || time.Since(began) > 15*time.Second {
+		t.Fatal(err, time.Since(began))
+	}
+	if text := hex.EncodeToString(held.Token()); len(text) != 1024 {
+		t.Error(text)
+	}
+	if err := held.Unlock(); err != nil {
+		t.Error(err)
+	}
+}
+
+// An agent is used if it is named, or if it is there and nothing names a cluster or a user. Flags go before the environment.
+func TestWhichAgent(t *testing.T) {
+	usual := filepath.Join(t.TempDir(), "q.sock")
+	which := func(words ...string) string {
+		t.Helper()
+		command := runCommand(context.Background(), &settings{})
+		for _, name := range append([]string{"timeout"}, whoAndWhere...) {
+			command.Flags().String(name, "", "")
+		}
+		if err := command.ParseFlags(words); err != nil {
+			t.Fatal(err)
+		}
+		if err := readEnvironment(command); err != nil {
+			t.Fatal(err)
+		}
+		return agentOf(command.Flags(), command.Flags().Lookup("agent").Value.String(), usual)
+	}
+	for _, name := range append([]string{"agent"}, whoAndWhere...) {
+		t.Setenv("QLOCK_"+strings.ToUpper(name), "")
+	}
+	if got := which(); got != "" {
+		t.Errorf("%q is not there", got)
+	}
+	listener, err := net.Listen("unix", usual)
+	if err != nil {
+		t.Fatal(err)
+	}
+	defer listener.Close()
+	for _, one := range []struct {
+		environment, words, want string
+	}{
+		{"", "", usual},
+		{"", "--agent=/a", "/a"},
+		{"", "--agent=none", ""},
+		{"", "--cluster=/c", ""},
+		{"", "--user=jobs", ""},
+		{"", "--agent=/a --cluster=/c", "/a"},
+		{"agent=/e", "", "/e"},
+		{"agent=none", "", ""},
+		{"agent=/e", "--agent=/a", "/a"},
+		{"agent=/e", "--agent=none", ""},
+		{"agent=/e", "--cluster=/c", ""},
+		{"cluster=/c", "", ""},
+		{"user=jobs", "", ""},
+		{"cluster=/c agent=/e", "", "/e"},
+	} {
+		for _, name := range append([]string{"agent"}, whoAndWhere...) {
+			t.Setenv("QLOCK_"+strings.ToUpper(name), "")
+		}
+		for _, pair := range strings.Fields(one.environment) {
+			name, value, _ := strings.Cut(pair, "=")
+			t.Setenv("QLOCK_"+strings.ToUpper(name), value)
+		}
+		if got := which(strings.Fields(one.words)...); got != one.want {
+			t.Errorf("%q with %q in the environment: %q", one.words, one.environment, got)
+		}
+	}
+}

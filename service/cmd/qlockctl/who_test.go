@@ -1,0 +1,75 @@
+package main
+
+import (
+	"bytes"
+	"context"
+	"encoding/json"
+	"errors"
+	"os"
+	"strings"
+	"testing"
+	"time"
+
+	"calvundek.example/service/internal/worlds"
+	"calvundek.example/service/locks"
+)
+
+// A command that runs under a lock is seen by its name, unless it has another note. Locks are listed in lines and as JSON.
+func TestWhoRuns(t *testing.T) {
+	w := worlds.New(t, worlds.Majority, 20*time.Second)
+	path := fileOf(t, w)
+	looker, err := locks.Look(locks.Config{Cluster: path, Transport: w.Bus.Port()})
+	if err != nil {
+		t.Fatal(err)
+	}
+	ctx, cancel := context.WithTimeout(context.Background(), 30*time.Second)
+	defer cancel()
+	ended := make(chan error, 1)
+	running, stop := context.WithCancel(ctx)
+	go func() {
+		ended <- run(running, locks.Config{Cluster: path, Transport: w.Bus.Port(), Note: "sleep"}, taking{"x", 10 * time.Second, false},
+			100*time.Millisecond, []string{"sleep", "60"})
+	}()
+	var holder locks.Holder
+	for holder.Note != "sleep" && ctx.Err() == nil {
+		if holder, err = looker.Who(ctx, "x"); err != nil {
+			t.Fatal(err)
+		}
+	}
+	host, _ := os.Hostname()
+	if v := viewOf("x", holder); !v.Held || v.Asked || v.Host != host || v.Pid != os.Getpid() || v.Note != "sleep" || v.Client == nil ||
+		v.Since == nil {
+		t.Errorf("%+v", v)
+	}
+	var text bytes.Buffer
+	if err := listLocks(ctx, looker, "x", false, &text); err != nil || !strings.HasPrefix(text.String(), "x          ") ||
+		!strings.Contains(text.String(), `note="sleep"`) || strings.Count(text.String(), "\n") != 1 {
+		t.Errorf("%v: %q", err, text.String())
+	}
+	text.Reset()
+	var views []holderView
+	if err := listLocks(ctx, looker, "", true, &text); err != nil {
+		t.Fatal(err)
+	}
+	if err := json.Unmarshal(text.Bytes(), &views); err != nil || len(views) != 1 || views[0].Lock != "x" || views[0].Note != "sleep" {
+		t.Errorf("%v: %s", err, text.String())
+	}
+	stop()
+	<-ended
+	text.Reset()
+	if err := listLocks(ctx, looker, "none", true, &text); err != nil || text.String() != "[]\n" {
+		t.Errorf("%v: %q", err, text.String())
+	}
+	if text, err := json.Marshal(viewOf("x", locks.Holder{})); err != nil || string(text) != `{"lock":"x","held":false}` {
+		t.Errorf("%v: %s", err, text)
+	}
+}
+
+// A name that no lock has is refused before anybody is asked.
+func TestWhoName(t *testing.T) {
+	root := command(context.Background())
+	root.SetArgs([]string{"who", "--cluster", "/there/is/none", "a b"})
+	if err := root.Execute(); !errors.Is(err, locks.ErrName) {
+		t.Error(err)
+	}
+}

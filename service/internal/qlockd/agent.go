@@ -1,0 +1,286 @@
+// Package qlockd is the agent of a host: one session of the lock service, which many processes share over a Unix socket, by
+// HTTP and JSON. A lock lasts as long as the connection that asked for it, so a process that dies gives its locks back.
+package qlockd
+
+import (
+	"context"
+	"errors"
+	"fmt"
+	"io"
+	"log"
+	"net"
+	"net/http"
+	"sync"
+	"sync/atomic"
+	"time"
+
+	"calvundek.example/service/internal/config"
+	"calvundek.example/service/internal/event"
+	"calvundek.example/service/internal/wire"
+	"calvundek.example/service/locks"
+	"github.com/prometheus/client_golang/prometheus"
+)
+
+// How long the agent tries to open a session before it says that it has none, waits until it tries again, at first and at
+// most, and waits for votes to be given back as it ends.
+const (
+	trial     = 10 * time.Second
+	pause     = 500 * time.Millisecond
+	mostPause = 10 * time.Second
+	brief     = 5 * time.Second
+)
+
+// errNoSession is returned while no quorum of voters gave the agent a number.
+var errNoSession = errors.New("the agent has no session")
+
+// Config is how the agent reaches its cluster, and where it logs.
+type Config struct {
+	Locks       locks.Config
+	Log         *event.Log
+	Connections int64 // how many there may be at once, any number if 0
+}
+
+// Agent has one session at a time, and the places of its clients.
+type Agent struct {
+	config      Config
+	registry    *prometheus.Registry
+	counts      counts
+	connections atomic.Int64
+	lost        atomic.Uint64 // locks that were lost while a client had them
+	begun       atomic.Uint64 // sessions
+	closing     chan struct{} // closed when the agent ends
+	handlers    sync.WaitGroup
+
+	mutex   sync.Mutex
+	isOver  bool
+	now     *session // nil while there is none
+	why     error    // why there is none
+	changed chan struct{}
+	places  map[string]*place
+	last    uint64 // of the places so far
+}
+
+// session is a session of the lock service, and its cluster as it began.
+type session struct {
+	*locks.Client
+	cluster *config.Cluster
+	since   time.Time
+}
+
+// ttl returns the TTL of the cluster.
+func (s *session) ttl() time.Duration { return s.cluster.TTL.Duration }
+
+// isCutOff returns whether the voters that are heard contain no quorum.
+func (s *session) isCutOff() bool {
+	heard := ^uint64(0)
+	for _, name := range s.Silent() {
+		if number := s.cluster.Number(name); number >= 0 {
+			heard &^= 1 << number
+		}
+	}
+	return !s.cluster.HasQuorums(heard)
+}
+
+// New returns an agent that has no session yet.
+func New(c Config) *Agent {
+	a := &Agent{config: c, closing: make(chan struct{}), changed: make(chan struct{}), places: map[string]*place{},
+		why: errors.New("it has just started, and waits for voters")}
+	a.registry = a.newRegistry()
+	return a
+}
+
+// Serve answers what comes to a socket until the context ends. Then it tells who has a lock, and waits for them for a TTL.
+func (a *Agent) Serve(ctx context.Context, listener net.Listener) error {
+	server := a.server(a.handler())
+	server.ConnContext, server.ConnState = withPeer, a.count
+	failed := make(chan error, 1)
+	go func() { failed <- server.Serve(bounded{listener, a}) }()
+	sessions, stop := context.WithCancel(context.Background())
+	ended := make(chan struct{})
+	go func() { a.haveSessions(sessions); close(ended) }()
+	var err error
+	select {
+	case err = <-failed:
+	case <-ctx.Done():
+	}
+	a.drain()
+	stop()
+	<-ended
+	_ = server.Close()
+	return err
+}
+
+// Show answers /metrics and /healthz at an address, for those who can't connect to the socket, until the context ends.
+func (a *Agent) Show(ctx context.Context, address string) error {
+	listener, err := net.Listen("tcp", address)
+	if err != nil {
+		return err
+	}
+	mux := http.NewServeMux()
+	a.show(mux)
+	server := a.server(mux)
+	go func() { _ = server.Serve(listener) }()
+	go func() { <-ctx.Done(); _ = server.Close() }()
+	return nil
+}
+
+func (a *Agent) server(handler http.Handler) *http.Server {
+	return &http.Server{Handler: handler, ReadHeaderTimeout: brief, MaxHeaderBytes: 1 << 14, ErrorLog: log.New(io.Discard, "", 0)}
+}
+
+// bounded ends connections that are too many as soon as they come: who has a lock keeps it.
+type bounded struct {
+	net.Listener
+	agent *Agent
+}
+
+func (b bounded) Accept() (net.Conn, error) {
+	for {
+		connection, err := b.Listener.Accept()
+		most := b.agent.config.Connections
+		if err != nil {
+			return nil, err
+		}
+		if now := b.agent.connections.Add(1); most == 0 || now <= most {
+			return connection, nil
+		}
+		b.agent.connections.Add(-1)
+		b.agent.counts.add("connections")
+		_ = connection.Close()
+	}
+}
+
+// count counts the connections that end.
+func (a *Agent) count(_ net.Conn, state http.ConnState) {
+	if state == http.StateClosed {
+		a.connections.Add(-1)
+	}
+}
+
+// drain lets nobody in any more, and waits until all locks are given back. Who has one may go on for a TTL.
+func (a *Agent) drain() {
+	a.mutex.Lock()
+	a.isOver = true
+	close(a.closing)
+	most := pause
+	if a.now != nil {
+		most += a.now.ttl()
+	}
+	a.mutex.Unlock()
+	empty := make(chan struct{})
+	go func() { a.handlers.Wait(); close(empty) }()
+	select {
+	case <-empty:
+	case <-time.After(most):
+	}
+}
+
+// haveSessions has one session after the other until the context ends.
+func (a *Agent) haveSessions(ctx context.Context) {
+	for wait := pause; ctx.Err() == nil; {
+		s, err := a.open(ctx)
+		a.change(s, err)
+		if ctx.Err() != nil && err != nil {
+			return
+		} else if err != nil {
+			a.config.Log.Write(event.Warning, "no-session", "why", err)
+			sleep(ctx, wait)
+			if wait *= 2; wait > mostPause {
+				wait = mostPause
+			}
+			continue
+		}
+		wait = pause
+		a.config.Log.Write(event.Info, "session", "number", s.Number())
+		select {
+		case <-s.Done():
+			a.config.Log.Write(event.Warning, "session-over", "number", s.Number(), "why", s.Err())
+			a.change(nil, s.Err())
+		case <-ctx.Done():
+			last, cancel := context.WithTimeout(context.Background(), brief)
+			if err := s.Close(last); err != nil {
+				a.config.Log.Write(event.Warning, "left-to-ttl", "why", err)
+			}
+			cancel()
+		}
+	}
+}
+
+// open opens a session. It reads the cluster's file again: the plan may have been exchanged.
+func (a *Agent) open(ctx context.Context) (*session, error) {
+	cluster, err := config.ReadCluster(a.config.Locks.Cluster)
+	if err != nil {
+		return nil, err
+	}
+	limit, cancel := context.WithTimeout(ctx, trial)
+	defer cancel()
+	client, err := locks.Open(limit, a.config.Locks)
+	if err != nil {
+		return nil, err
+	}
+	a.begun.Add(1)
+	return &session{client, cluster, time.Now()}, nil
+}
+
+// change notes which session there is, or why there is none.
+func (a *Agent) change(s *session, why error) {
+	a.mutex.Lock()
+	defer a.mutex.Unlock()
+	a.now, a.why = s, why
+	close(a.changed)
+	a.changed = make(chan struct{})
+}
+
+// current returns the session that there is, or why there is none.
+func (a *Agent) current() (s *session, why error, changed <-chan struct{}) {
+	a.mutex.Lock()
+	defer a.mutex.Unlock()
+	if a.now != nil && a.now.Err() != nil {
+		return nil, a.now.Err(), a.changed
+	}
+	return a.now, a.why, a.changed
+}
+
+// session waits until there is a session, or the context ends.
+func (a *Agent) session(ctx context.Context) (*session, error) {
+	for {
+		s, why, changed := a.current()
+		if s != nil {
+			return s, nil
+		}
+		select {
+		case <-changed:
+		case <-ctx.Done():
+			return nil, fmt.Errorf("%w: %v", errNoSession, why)
+		}
+	}
+}
+
+// take takes a lock. If the session ends meanwhile it asks anew in the next one.
+func (a *Agent) take(ctx context.Context, asked asked) (*locks.Held, *session, error) {
+	if !wire.IsName([]byte(asked.name)) {
+		return nil, nil, fmt.Errorf("%w: %q", locks.ErrName, asked.name)
+	}
+	for {
+		s, err := a.session(ctx)
+		if err != nil {
+			return nil, nil, err
+		}
+		take := s.LockFor
+		if asked.tries {
+			take = s.TryLockFor
+		}
+		held, err := take(ctx, asked.name, asked.whom)
+		if err == nil || s.Err() == nil || ctx.Err() != nil {
+			return held, s, err
+		}
+	}
+}
+
+// sleep waits, at most until the context ends.
+func sleep(ctx context.Context, d time.Duration) {
+	select {
+	case <-time.After(d):
+	case <-ctx.Done():
+	}
+}

@@ -1,0 +1,156 @@
+package voter
+
+import (
+	"strings"
+	"time"
+
+	"calvundek.example/service/internal/wire"
+	"calvundek.example/service/qlock"
+)
+
+// What sessions say of themselves, and what they want to know of locks. No vote depends on it. It is in memory alone: a session says its
+// note again to a voter that started.
+
+// What one question costs at most.
+const (
+	mostScanned = 512 // votes that are looked at
+	mostListed  = 32  // votes that are shown
+)
+
+// sessionNote is what a session says of itself, by its name and its epoch.
+type sessionNote struct {
+	session string
+	epoch   uint64
+	text    string
+}
+
+// noteOf returns what the session says of itself that a number has now.
+func (d *Daemon) noteOf(number int) string {
+	n := d.notes[number]
+	if n.session == "" || n.session != d.table.names[number] || n.epoch != d.table.rows[number].Epoch {
+		return ""
+	}
+	return n.text
+}
+
+// noteOfAsk returns what a client says of its request for a vote, or else of its session. It is of no earlier session of the number.
+func (d *Daemon) noteOfAsk(v *vote, client int) string {
+	one, isAsked := v.asks[client]
+	switch {
+	case !isAsked || d.table.isEarlier(client, one.stamp):
+		return ""
+	case one.note != "":
+		return one.note
+	}
+	return d.noteOf(client)
+}
+
+// ask takes a line of control that the proved calls do not know. It returns whether its first word is known, and the line is right.
+func (d *Daemon) ask(l *letter, speaker qlock.Standing, line []byte, now time.Time) (isKnown, isRight bool) {
+	ask, err := wire.ReadAsk(line)
+	switch {
+	case err != nil:
+		return true, false
+	case ask.Kind == wire.NoAsk:
+		return false, true
+	case ask.Kind == wire.AskWho:
+		d.put(l.Name, d.holderOf(ask.ID, ask.Lock, d.votes[ask.Lock], now).Append(d.out[l.Name]))
+	case ask.Kind == wire.AskNames:
+		if !l.once("list") {
+			return true, false
+		}
+		d.list(l.Name, ask, now)
+	case speaker != qlock.SessionKnown:
+		return true, true // it says it again once it has its number here
+	case ask.Kind == wire.SaysNote:
+		d.notes[l.Number] = sessionNote{l.Name, l.Epoch, ask.Text}
+		d.put(l.Name, wire.Told{Kind: wire.Noted}.Append(d.out[l.Name]))
+	case ask.Kind == wire.SaysAbout:
+		d.noteAbout(l.Number, ask)
+	}
+	if l.Epoch == 0 && l.once("plans") {
+		d.announce(l.Name) // who only looks sends no heartbeats
+	}
+	return true, true
+}
+
+// noteAbout notes what a client says of a request that has a vote or waits for it.
+func (d *Daemon) noteAbout(client int, ask wire.Ask) {
+	v := d.votes[ask.Lock]
+	if v == nil {
+		return
+	}
+	if one, isAsked := v.asks[client]; isAsked && one.stamp == ask.Number && !d.table.isEarlier(client, one.stamp) {
+		one.note = ask.Text
+		v.asks[client] = one
+	}
+}
+
+// holderOf returns what this voter says of a lock: who has its vote, and who waits for it. It says no name of a session.
+func (d *Daemon) holderOf(id uint64, lock string, v *vote, now time.Time) wire.Told {
+	told := wire.Told{Kind: wire.HasVote, ID: id, Lock: lock}
+	if v == nil {
+		return told
+	}
+	for client := range v.asks {
+		if !v.isHolder(client) {
+			told.Waiting |= 1 << client
+		}
+	}
+	if v.held.Number == 0 {
+		return told
+	}
+	client := int(v.held.Client)
+	told.IsHeld, told.Number, told.Stamp = true, client, v.held.Stamp
+	if since := now.Sub(v.granted).Milliseconds(); since > 0 {
+		told.Milliseconds = uint64(since)
+	}
+	if told.User = v.asks[client].user; told.User == "" {
+		told.User = wire.NoUser
+	}
+	told.Note = d.noteOfAsk(v, client)
+	return told
+}
+
+// tellHolder tells who does not want to wait who has the vote, before it hears that it is not to be had.
+func (d *Daemon) tellHolder(v *vote, l *letter, client int, word string, now time.Time) {
+	if word == try && v.held.Number > 0 && !v.isHolder(client) {
+		d.put(l.Name, d.holderOf(0, v.name, v, now).Append(d.out[l.Name]))
+	}
+}
+
+// tellSessions tells how many sessions there are, for how long one of them was silent at most, and for how long a request has waited.
+func (d *Daemon) tellSessions(name string, now time.Time) {
+	told := wire.Told{Kind: wire.Sessions}
+	for number, row := range d.table.rows {
+		if !row.Open {
+			continue
+		}
+		told.Open++
+		if silent := d.table.silent(number).Milliseconds(); silent > 0 {
+			told.Silent = greatest(told.Silent, uint64(silent))
+		}
+	}
+	if waits := now.Sub(d.waitsSince).Milliseconds(); !d.waitsSince.IsZero() && waits > 0 {
+		told.Waits = uint64(waits)
+	}
+	d.put(name, told.Append(d.out[name]))
+}
+
+// list tells a page of the votes that somebody has or waits for, from a place on downwards. A vote that is taken out is replaced by the
+// last one: so those that stay are all told, by one page after the other, and some twice.
+func (d *Daemon) list(name string, ask wire.Ask, now time.Time) {
+	place := uint64(len(d.busy.all))
+	if ask.Number > 0 && ask.Number < place {
+		place = ask.Number
+	}
+	out, shown := d.out[name], 0
+	for scanned := 0; place > 0 && scanned < mostScanned && shown < mostListed; scanned++ {
+		place--
+		if v := d.busy.all[place]; strings.HasPrefix(v.name, ask.Lock) {
+			out = d.holderOf(ask.ID, v.name, v, now).Append(out)
+			shown++
+		}
+	}
+	d.put(name, wire.Told{Kind: wire.IsListed, ID: ask.ID, From: ask.Number, Next: place}.Append(out))
+}

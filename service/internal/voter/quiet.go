@@ -1,0 +1,84 @@
+package voter
+
+import (
+	"time"
+
+	"calvundek.example/service/qlock"
+)
+
+// The quiet time of a voter that was killed, or began from an older copy: only who says that he is inside gets a vote. What a vote takes
+// then, which grants are from before the start, and which of them go at the end, the proved calls say (TakeFrom, EndQuiet, Stands). Here
+// is when it begins and ends.
+
+// isQuiet returns whether only those inside get a vote. That ends when the grants of before the start are let go, and no
+// moment before: what was granted in between would count as one of those.
+func (d *Daemon) isQuiet() bool { return !d.quietUntil.IsZero() }
+
+// quietLeft returns for how long only those inside get a vote, at least for a tick while that has not ended.
+func (d *Daemon) quietLeft(now time.Time) time.Duration {
+	if !d.isQuiet() {
+		return 0
+	}
+	if left := d.quietUntil.Sub(now); left > tick {
+		return left
+	}
+	return tick
+}
+
+// quietFor returns for how long a REQUEST that is put off gets no vote: until the quiet time ends, or a little while if somebody waits who
+// said in it that he is inside.
+func (d *Daemon) quietFor(now time.Time) time.Duration {
+	if left := d.quietLeft(now); left > 0 {
+		return left
+	}
+	return stillQuiet
+}
+
+// beQuiet begins a quiet time: what votes granted so far is from before it.
+func (d *Daemon) beQuiet(until time.Time) {
+	d.quietUntil = until
+	for _, v := range d.busy.all {
+		v.since = qlock.NewSinceStart(greatest(v.begun, v.held.Number))
+		v.stand()
+	}
+}
+
+// sinceOf returns what was said of a lock since the start. Nothing is noted in what it returns for a vote of which nothing was said, but in
+// the quiet time.
+func (d *Daemon) sinceOf(v *vote) *qlock.SinceStart {
+	if v.since == nil && d.isQuiet() {
+		v.since = qlock.NewSinceStart(v.begun)
+	}
+	if v.since == nil {
+		return &d.nothing
+	}
+	return v.since
+}
+
+// stand notes how a vote stands since the start, once a call may have changed that.
+func (v *vote) stand() {
+	v.isOld, v.isAwaited = false, false
+	if v.since != nil {
+		v.isOld, v.isAwaited, _ = v.Stands(v.since) // it never fails: the bytes are a voter
+	}
+}
+
+// forgetDead forgets those who said of a lock that they are inside, and whose session is over.
+func (d *Daemon) forgetDead(v *vote) {
+	for client, one := range v.asks {
+		if d.isOver(qlock.Grant{Client: uint64(client), Stamp: one.stamp}) {
+			_ = v.since.Forget(uint8(client)) // it never fails: there is such a client
+		}
+	}
+	v.stand()
+}
+
+// awaits returns whether somebody who said that he is inside waits for some vote.
+func (d *Daemon) awaits() bool {
+	for _, v := range d.busy.all {
+		if v.isAwaited {
+			return true
+		}
+	}
+	return false
+}

@@ -1,0 +1,217 @@
+package wire
+
+import (
+	"bytes"
+	"errors"
+	"strconv"
+)
+
+// MostNote is how many bytes a note has at most.
+const MostNote = 128
+
+// ErrAsk is returned for a line of which the first word is known, and the rest is wrong.
+var ErrAsk = errors.New("wire: a line of control is wrong")
+
+// Ask is what a session says of itself, or wants to know of locks. The proved calls do not know these words, and no vote depends on them.
+type Ask struct {
+	Kind   AskKind
+	ID     uint64 // of a question: its replies have it, too
+	Lock   string // a lock's name; of AskNames what names begin with, "" for all
+	Number uint64 // of SaysAbout the stamp of a request; of AskNames where to go on, 0 to begin
+	Text   string // a note; of SaysNote "" if there is none
+}
+
+// AskKind is what an Ask is.
+type AskKind byte
+
+// The kinds of Ask.
+const (
+	NoAsk     AskKind = iota // the first word is not known
+	SaysNote                 // note [TEXT]: of the session
+	SaysAbout                // about LOCK STAMP TEXT: a note of a request
+	AskWho                   // who ID LOCK
+	AskNames                 // list ID PLACE [PREFIX]
+)
+
+// Told is what a voter says to an Ask.
+type Told struct {
+	Kind         ToldKind
+	ID           uint64 // of the question, 0 of HasVote that nobody asked for
+	Lock         string
+	Waiting      uint64 // of HasVote: the numbers of those that wait, one bit for each
+	IsHeld       bool   // of HasVote: somebody has the vote. Without that there is nothing of what follows
+	Number       int    // who has it
+	Stamp        uint64
+	Milliseconds uint64 // for how long
+	User         string // NoUser if there are no users, or it is not known
+	Note         string // "" if there is none
+	From, Next   uint64 // of IsListed: the place that was asked for, and where to go on, 0 at the end
+	Open         uint64 // of Sessions: how many are open
+	Silent       uint64 // of Sessions: for how many milliseconds one of them was silent at most
+	Waits        uint64 // of Sessions: for how many milliseconds a request has waited at most
+}
+
+// ToldKind is what a Told is.
+type ToldKind byte
+
+// The kinds of Told.
+const (
+	NotTold  ToldKind = iota
+	Noted             // noted: the voter has the session's note
+	HasVote           // has ID LOCK WAITING [NUMBER STAMP MS USER [NOTE]]
+	IsListed          // listed ID FROM NEXT
+	Sessions          // sessions OPEN SILENT WAITS, behind the reply to hello
+)
+
+// IsNote returns whether a text may be a note: 1 to 128 printable bytes of ASCII, with no space at either end.
+func IsNote(text []byte) bool {
+	for _, b := range text {
+		if b < ' ' || b > '~' {
+			return false
+		}
+	}
+	return len(text) > 0 && len(text) <= MostNote && text[0] != ' ' && text[len(text)-1] != ' '
+}
+
+// Append appends the line, as it is in a message.
+func (a Ask) Append(out []byte) []byte {
+	switch a.Kind {
+	case SaysNote:
+		out = withText(append(out, ". note"...), a.Text)
+	case SaysAbout:
+		out = withText(withNumber(withText(append(out, ". about"...), a.Lock), a.Number), a.Text)
+	case AskWho:
+		out = withText(withNumber(append(out, ". who"...), a.ID), a.Lock)
+	case AskNames:
+		out = withText(withNumber(withNumber(append(out, ". list"...), a.ID), a.Number), a.Lock)
+	}
+	return append(out, '\n')
+}
+
+// ReadAsk reads such a line, without the dot in front. It returns NoAsk if the first word is not known, and ErrAsk if that is and the
+// line is wrong.
+func ReadAsk(line []byte) (a Ask, err error) {
+	w := wordsOf(line)
+	switch string(w.next()) {
+	case "note":
+		a = Ask{Kind: SaysNote, Text: w.note()}
+	case "about":
+		a = Ask{Kind: SaysAbout, Lock: w.lock(), Number: w.number(), Text: w.note()}
+		w.isWrong = w.isWrong || a.Text == ""
+	case "who":
+		a = Ask{Kind: AskWho, ID: w.number(), Lock: w.lock()}
+	case "list":
+		a = Ask{Kind: AskNames, ID: w.number(), Number: w.number()}
+		if w.rest != nil {
+			a.Lock = w.lock()
+		}
+	default:
+		return Ask{}, nil
+	}
+	if w.isWrong || w.rest != nil {
+		return Ask{}, ErrAsk
+	}
+	return a, nil
+}
+
+// Append appends the line, as it is in a message.
+func (t Told) Append(out []byte) []byte {
+	switch t.Kind {
+	case Noted:
+		out = append(out, ". noted"...)
+	case HasVote:
+		out = withNumber(withText(withNumber(append(out, ". has"...), t.ID), t.Lock), t.Waiting)
+		if t.IsHeld {
+			out = withNumber(withNumber(withNumber(out, uint64(t.Number)), t.Stamp), t.Milliseconds)
+			out = withText(withText(out, t.User), t.Note)
+		}
+	case IsListed:
+		out = withNumber(withNumber(withNumber(append(out, ". listed"...), t.ID), t.From), t.Next)
+	case Sessions:
+		out = withNumber(withNumber(withNumber(append(out, ". sessions"...), t.Open), t.Silent), t.Waits)
+	}
+	return append(out, '\n')
+}
+
+// ReadTold reads such a line, without the dot in front, and returns whether it is one.
+func ReadTold(line []byte) (t Told, ok bool) {
+	w := wordsOf(line)
+	switch string(w.next()) {
+	case "noted":
+		t = Told{Kind: Noted}
+	case "has":
+		t = Told{Kind: HasVote, ID: w.number(), Lock: w.lock(), Waiting: w.number()}
+		if t.IsHeld = w.rest != nil; t.IsHeld {
+			number := w.number()
+			t.Number, t.Stamp, t.Milliseconds, t.User, t.Note = int(number&63), w.number(), w.number(), string(w.next()), w.note()
+			w.isWrong = w.isWrong || number > 63 || !isSpeaker(t.User)
+		}
+	case "listed":
+		t = Told{Kind: IsListed, ID: w.number(), From: w.number(), Next: w.number()}
+	case "sessions":
+		t = Told{Kind: Sessions, Open: w.number(), Silent: w.number(), Waits: w.number()}
+	default:
+		return Told{}, false
+	}
+	if w.isWrong || w.rest != nil {
+		return Told{}, false
+	}
+	return t, true
+}
+
+func withNumber(out []byte, n uint64) []byte { return strconv.AppendUint(append(out, ' '), n, 10) }
+
+// withText appends a word, or none if it is empty.
+func withText(out []byte, text string) []byte {
+	if text == "" {
+		return out
+	}
+	return append(append(out, ' '), text...)
+}
+
+// words are those of a line that were not read yet.
+type words struct {
+	rest    []byte // nil if there is none
+	isWrong bool
+}
+
+func wordsOf(line []byte) *words {
+	if line == nil {
+		line = []byte{}
+	}
+	return &words{rest: line}
+}
+
+// next reads a word. A line that has none is wrong.
+func (w *words) next() []byte {
+	word, rest, found := bytes.Cut(w.rest, []byte(" "))
+	if w.isWrong = w.isWrong || len(word) == 0; !found {
+		rest = nil
+	}
+	w.rest = rest
+	return word
+}
+
+// number reads a number, which has no leading zero.
+func (w *words) number() uint64 {
+	word := w.next()
+	n, ok := Decimal(word)
+	w.isWrong = w.isWrong || !ok || len(word) > 1 && word[0] == '0'
+	return n
+}
+
+// lock reads the name of a lock.
+func (w *words) lock() string {
+	word := w.next()
+	w.isWrong = w.isWrong || !IsName(word)
+	return string(word)
+}
+
+// note reads all that is left, "" if there is nothing.
+func (w *words) note() string {
+	text := w.rest
+	if w.rest = nil; text != nil && !IsNote(text) {
+		w.isWrong = true
+	}
+	return string(text)
+}
