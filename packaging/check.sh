@@ -77,12 +77,13 @@ package main
 import (
 	"fmt"
 
+	"calvundek.example/service/agent"
 	"calvundek.example/service/guard"
 	"calvundek.example/service/locks"
 )
 
 func main() {
-	_, _ = locks.Open, guard.New
+	_, _, _ = agent.New, locks.Open, guard.New
 	fmt.Println("built")
 }
 END
@@ -113,7 +114,10 @@ holds sh -c 'test -s "$1" && ! grep -q "\.\./" "$1"' sh "$place/share/doc/qlock/
 if [ -e "$place/bin/qlockctl" ]; then
     holds test "$("$place/bin/qlockctl" --version)" = "qlockctl version $version"
     holds test "$("$place/bin/qlock-voter" --version)" = "qlock-voter version $version"
+    holds test "$("$place/bin/qlockd" --version)" = "qlockd version $version"
+    holds test -s "$place/share/systemd/qlockd.service"
     holds test -s "$place/share/qlock/sql/postgresql.sql"
+    holds test -s "$place/share/qlock/alerts.yml"
     holds goes "$place/share/gocode" "$place/lib/pkgconfig"
 fi
 
@@ -130,7 +134,14 @@ voter, client = qlock.Voter(0), qlock.Client(1)
 (ask,) = client.ask({0})
 (locked,) = voter.take(ask)
 assert client.take(locked).entered
-assert qlock.Fence().admit(client.show_pass()) == 1"
+assert qlock.Fence().admit(client.show_pass()) == 1
+from qlock import agent
+try:
+    agent.Client('/there/is/none').lock('orders')
+except agent.Unreachable:
+    pass
+else:
+    raise AssertionError"
     printf 'm0 east\nm1 west\nm2 west\n' > "$work/zones"
     # shellcheck disable=SC2016
     holds env -i -C "$work" sh -c 'venv/bin/python -m qlock import zones zones | "$1/bin/qlock" plan | cmp - two-of-three' sh "$place"
@@ -151,8 +162,13 @@ if [ "$(id -u)" = 0 ] && command -v dpkg > /dev/null && [ -e "$packages/qlock_${
     if [ -e /usr/bin/qlockctl ]; then
         holds qlockctl --help
         holds test -s /usr/share/qlock/sql/sqlite.sql
+        holds python3 -m json.tool /usr/share/qlock/dashboard.json
         holds test -s /usr/share/bash-completion/completions/qlockctl
         holds test -s /usr/share/zsh/vendor-completions/_qlock-voter
+        holds test -s /usr/share/bash-completion/completions/qlockd
+        holds test -e /usr/share/man/man1/qlockd.1.gz
+        holds test -s /lib/systemd/system/qlockd.service
+        holds grep -q '^g qlock-clients ' /usr/lib/sysusers.d/qlock-service.conf
         holds test -d /etc/qlock
         holds sh -c "dpkg-query -W -f '\${Depends}' qlock-service-dev | grep -q burntsushi-toml-dev.*golang-x-sys-dev"
         holds goes /usr/share/gocode ""

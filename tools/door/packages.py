@@ -3,9 +3,9 @@
     qlock_VERSION_amd64.deb               the programs qlock and qlock-show, man pages, completions, all faults
     libqlockN_VERSION_amd64.deb           the shared libraries libqlock and libqlock_plan
     libqlock-dev_VERSION_amd64.deb        headers, archives, pkg-config files
-    qlock-service_VERSION_amd64.deb       qlock-voter, qlockctl, the unit and the user of a voter,
-                                          guards for SQL (if Go and its packages are there)
-    qlock-service-dev_VERSION_amd64.deb   the Go packages of the service: locks, guard, transport, qlock
+    qlock-service_VERSION_amd64.deb       qlock-voter, qlockctl, qlockd, their units and users,
+                                          guards for SQL, alarms (if Go and its packages are there)
+    qlock-service-dev_VERSION_amd64.deb   the Go packages of the service: agent, locks, guard, transport, qlock
     qlock-VERSION-py3-none-linux_x86_64.whl   the Python package with both libraries inside
     qlock-VERSION-linux-x86_64.tar.gz     all of it in one folder, for any place
 
@@ -33,10 +33,13 @@ MAINTAINER = "Calvundek maintainers <maintainers@users.noreply.calvundek.example
 # The C library that the programs and libraries need.
 LIBC = "libc6 (>= 2.34)"
 # The folders of the service that a Go program builds with.
-GO_PACKAGES = ("guard", "internal", "locks", "qlock", "transport")
+GO_PACKAGES = ("agent", "guard", "internal", "locks", "qlock", "transport")
 GO_PATH = "share/gocode/src/calvundek.example/service"
-# What dpkg does with the service. A new unit is read. Voters that run go on with the old program
-# until somebody restarts them, one after the other.
+# Its programs, and the units of systemd.
+SERVICE_PROGRAMS = ("qlock-voter", "qlockctl", "qlockd")
+UNITS = ("qlock-voter@.service", "qlockd.service")
+# What dpkg does with the service. A new unit is read. Voters and agents that run go on with the old
+# program until somebody restarts them, one after the other.
 SERVICE_SCRIPTS = {
     "postinst": """#!/bin/sh
 set -e
@@ -113,7 +116,7 @@ class Packages:
         programs.ready("qlock_show")
         libraries.main()
         if self.has_service:
-            run(at("service", "build"), "cmd/qlock-voter", "cmd/qlockctl")
+            run(at("service", "build"), *(f"cmd/{name}" for name in SERVICE_PROGRAMS))
 
     def add_programs(self, tree, prefix):
         for crate, name in (("qlock", "qlock"), ("qlock_show", "qlock-show")):
@@ -139,17 +142,23 @@ class Packages:
                 name, self.version, prefix, f"${{prefix}}/{folder.removeprefix('usr/')}", "${prefix}/include"))
 
     def add_service(self, tree, prefix, units):
-        for name in ("qlock-voter", "qlockctl"):
+        for name in SERVICE_PROGRAMS:
             program = at("service", "out", "bin", name)
             tree.copy(program, f"{prefix}bin/{name}", 0o755)
             tree.squeeze(at("docs", f"{name}.1"), f"{prefix}share/man/man1/{name}.1")
             tree.write(f"{prefix}share/bash-completion/completions/{name}", run(program, "completion", "bash"))
             tree.write(f"{prefix}share/zsh/vendor-completions/_{name}", run(program, "completion", "zsh"))
-        tree.copy(at("service", "systemd", "qlock-voter@.service"), f"{units}/qlock-voter@.service")
+        for unit in UNITS:
+            tree.copy(at("service", "systemd", unit), f"{units}/{unit}")
 
     def add_guards(self, tree, folder):
         for name in ("postgresql.sql", "sqlite.sql"):
             tree.copy(at("service", "guard", "sql", name), f"{folder}/{name}")
+
+    def add_alarms(self, tree, folder):
+        """Adds alarms for Prometheus, and a dashboard for Grafana."""
+        for name in ("alerts.yml", "dashboard.json"):
+            tree.copy(at("packaging", name), f"{folder}/{name}")
 
     def add_go(self, tree, folder):
         """Adds the Go packages of the service, without their tests."""
@@ -214,16 +223,17 @@ class Packages:
             service = Tree(self.room, "qlock-service")
             self.add_service(service, "usr/", "lib/systemd/system")
             self.add_guards(service, "usr/share/qlock/sql")
+            self.add_alarms(service, "usr/share/qlock")
             service.copy(at("service", "systemd", "qlock-service.sysusers"), "usr/lib/sysusers.d/qlock-service.conf")
             for script, text in SERVICE_SCRIPTS.items():
                 service.write(f"DEBIAN/{script}", text)
                 os.chmod(service.path(f"DEBIAN/{script}"), 0o755)
             self.deb(service, "a lock service of voters over NATS",
-                     "The daemon of a voter, and the commands of operators.", LIBC)
+                     "The daemon of a voter, the agent of a host, and the commands of operators.", LIBC)
             source = Tree(self.room, "qlock-service-dev")
             self.add_go(source, f"usr/{GO_PATH}")
             self.deb(source, "a lock service of voters over NATS, for Go programs",
-                     "The Go packages locks, guard, transport and qlock.", f"libqlock-dev (= {self.version}), "
+                     "The Go packages agent, locks, guard, transport and qlock.", f"libqlock-dev (= {self.version}), "
                      "golang-github-nats-io-go-nats-dev, golang-github-prometheus-client-golang-dev, "
                      "golang-github-burntsushi-toml-dev, golang-golang-x-sys-dev")
 
@@ -237,6 +247,7 @@ class Packages:
         if self.has_service:
             self.add_service(tree, "", "share/systemd")
             self.add_guards(tree, "share/qlock/sql")
+            self.add_alarms(tree, "share/qlock")
             self.add_go(tree, GO_PATH)
         self.add_licences(tree, ".")
         self.add_documents(tree, "share/doc/qlock")
