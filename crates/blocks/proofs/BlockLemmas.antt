@@ -35,6 +35,7 @@ length-clock bytes c is = length-words bytes (clocks.words_of c) 38 is.bytes_are
 
 pub length-bucket : (bytes : List ℕ) (b : Bucket) → IsBucket bytes b → length bytes ≡ 40
 length-bucket bytes b is = length-words bytes (buckets.words_of b) 5 is.bytes_are refl
+
 pub length-peer : (bytes : List ℕ) (p : Peer) → IsPeer bytes p → length bytes ≡ 56
 length-peer bytes p is = length-words bytes (peer_words p) 7 is.bytes_are (omega arith)
 

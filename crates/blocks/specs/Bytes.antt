@@ -43,6 +43,7 @@ pub record IsBucket (bytes : List ℕ) (bucket : Bucket) : Type 0 where
 -- the bytes are those of no token bucket
 abbrev pub IsNoBucket : List ℕ → Type 0
 IsNoBucket bytes = (bucket : Bucket) → IsBucket bytes bucket → ⊥
+
 -- the bytes are those of this peer: each of its numbers fits in 64 bits
 pub record IsPeer (bytes : List ℕ) (peer : Peer) : Type 0 where
   pub fit : FitIn64Bits (peer_words peer)

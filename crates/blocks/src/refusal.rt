@@ -5,8 +5,8 @@ ghost use Rattle.blocks.specs.Numbers.{client_refusal, done, fence_refusal, refu
 use fence::FenceFault;
 use requester::ClientFault;
 use session_rows::RowFault;
-use token_bucket::BucketFault;
 use starts::StartFault;
+use token_bucket::BucketFault;
 use voter::VoterFault;
 
 /// The reason why a call wrote nothing.
