@@ -8,8 +8,14 @@ import (
 
 var errExchange = errors.New("a plan is not exchanged")
 
-// exchanged is what the plan's exchanges are counted as.
-const exchanged = "plans exchanged and retired"
+// exchanged is what the plan's exchanges are counted as, and repeated the orders that had to be given again.
+const (
+	exchanged = "plans exchanged and retired"
+	repeated  = "orders of an exchange given again"
+)
+
+// orderFor is for how long the order that begins an exchange is given again.
+const orderFor = 20 * time.Second
 
 // mover exchanges the plan of a trial and back, one step for each burst of incidents; if everything
 // is to happen at once, again and again. Voters that only the new coterie has come and go.
@@ -49,7 +55,7 @@ func (m *mover) begin() error {
 		})
 	case len(m.coteries) > 0:
 		coterie := m.coteries[0]
-		if err := m.cluster.Exchange(coterie); err != nil {
+		if err := m.order(func() error { return m.cluster.Exchange(coterie) }); err != nil {
 			return err
 		}
 		m.coteries, m.retires = m.coteries[1:], true
@@ -63,6 +69,17 @@ func (m *mover) dismiss() {
 	if m.options.exchange != "" && len(m.coteries) == 0 && !m.retires {
 		m.cluster.Dismiss()
 	}
+}
+
+// order gives an order again until it succeeds, as operators are told to do. It waits a second for replies, and on a busy disk
+// the saves before them can take longer. How often it was given again is counted.
+func (m *mover) order(give func() error) error {
+	err := give()
+	for end := time.Now().Add(orderFor); err != nil && time.Now().Before(end); err = give() {
+		m.note(repeated)
+		time.Sleep(200 * time.Millisecond)
+	}
+	return err
 }
 
 // insist does something again until it succeeds: voters are killed meanwhile.
