@@ -486,11 +486,11 @@ shapes() {
     awk '{ print $1, $2, NF - 2 }' | sort -u
 }
 
-# each fault is in the tests, and none else: in the tables of crates/test_faults/src/faults.rt, or for a wrong command line in
+# each fault is in the tests, and none else: in the tables of crates/test_texts/src/faults.rt, or for a wrong command line in
 # an example
 "$show" explain | shapes > "$work/listed"
 {
-    grep -o '"[A-Z][0-9]* [^"]*"' "$here/../crates/test_faults/src/faults.rt" | tr -d '"'
+    grep -o '"[A-Z][0-9]* [^"]*"' "$here/../crates/test_texts/src/faults.rt" | tr -d '"'
     cat "$here/expected/grid-of-one-number.err"
 } | shapes > "$work/tested"
 if diff -u "$work/tested" "$work/listed"; then passed=$((passed + 1)); else failed=$((failed + 1)); fi

@@ -4,7 +4,7 @@ ghost use Rattle.numbers.specs.Bounds.{max_clients};
 
 use cluster::NoGate;
 use numbers::MAX_CLIENTS;
-use runs::record_of_run;
+use qlock_cli::record_of_run;
 use std::alloc::Global;
 use std::sync::Wait;
 use std::thread::Threads;

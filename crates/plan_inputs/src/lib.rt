@@ -9,7 +9,7 @@
 //!
 //! What is read is a stated function of the bytes, unless memory runs out. The plan of a [`Planned`]
 //! is one of its coterie, and it is optimal. The line of each fault is the stated one; that it is the
-//! text of the fault is tested in `test_faults`.
+//! text of the fault is tested in `test_texts`.
 //!
 //! Depends on `coterie_file`, `plan_texts`, `certificate`, `planner` and `near`.
 //!

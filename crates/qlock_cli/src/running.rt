@@ -5,11 +5,11 @@ ghost use Rattle.commands.specs.Devices.{FailsAs, IsOwn, LeavesUnread};
 ghost use Rattle.commands.specs.Commands.{Answers, ComesOf, HasTurns, IsAnswered, IsRunnable, LeavesWritten, LetsAll};
 ghost use Rattle.std.specs.Io.KnownBytes.{IsAtEnd};
 
+use crate::run::record_of_run;
 use cluster::Gate;
 use command_line::Command;
 use commands::{Fault, input_for, planned_of, write_answer};
 use replay::write_record;
-use runs::record_of_run;
 use std::alloc::Global;
 use std::io::{Read, Write};
 use std::sync::Wait;
@@ -18,7 +18,7 @@ use std::time::Clock;
 use whole_io::Watched;
 
 /// Returns what `run` writes for an input: the text of the record of a run.
-#[tactic(auto, using(crate::proofs::RunLemmas::run_is_answer))]
+#[tactic(auto, using(crate::proofs::AnswerLemmas::run_is_answer))]
 fn run_answer<T: Threads + Wait + Clock + Sync, G: Gate>(
     rt: &T,
     alloc: Global,

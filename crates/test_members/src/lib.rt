@@ -1,5 +1,8 @@
-//! Tests of running clusters through their public calls. This crate has nothing but tests.
+//! Tests of boards, of the nodes on them, and of running clusters, through their public calls. This crate
+//! has nothing but tests.
 //!
+//! - `boards` has the vote and the register of one voter.
+//! - `nodes` has the node of each voter serve each client.
 //! - `scripts` plays calls of members on one thread, each with what it has to return.
 //! - `closes` tries to close clusters with a member missing or not idle.
 //! - `largest` has the most members pass that there can be.
@@ -12,6 +15,8 @@
 #![tactic(auto)]
 
 #[cfg(test)]
+mod boards;
+#[cfg(test)]
 mod closes;
 #[cfg(test)]
 mod forged;
@@ -19,6 +24,8 @@ mod forged;
 mod largest;
 #[cfg(test)]
 mod losses;
+#[cfg(test)]
+mod nodes;
 #[cfg(test)]
 mod scripts;
 #[cfg(test)]

@@ -8,7 +8,7 @@
 //!   runs the commands of `tables` over them.
 //!
 //! Depends on `test_served`, which runs a command line, on `qlock_cli`, `coterie_file` and `test_gate`. The
-//! line of every fault is in `test_faults`.
+//! line of every fault is in `test_texts`.
 #![tactic(auto)]
 
 /// The text of a plan: its load, its cycle, the quorums' weights and the voters' weights.

@@ -1,6 +1,7 @@
-//! Tests of stories, and of small crates of words and texts, through public calls. This crate has nothing
-//! but tests.
+//! Tests of stories, of small crates of words and texts, and of the line of every fault, through public calls.
+//! This crate has nothing but tests.
 //!
+//! - `faults` has the line of every fault, and so depends on every crate that has faults.
 //! - `played` plays stories with crashes, with voters and clients that come back without their states, and
 //!   with grants that are let go and a guard that is shown passes.
 //! - `words` has the words of the command line, and which of them name files.
@@ -13,6 +14,8 @@
 
 #[cfg(test)]
 mod explanations;
+#[cfg(test)]
+mod faults;
 #[cfg(test)]
 mod listened;
 #[cfg(test)]

@@ -49,7 +49,7 @@ class TestLog(unittest.TestCase):
         self.assertEqual(self.log.read(), "rt: numbers proved\n")
 
     def test_runs(self):
-        for line in (b"rt: test_faults: its tests passed", b"rt: test_faults: its tests FAILED",
+        for line in (b"rt: test_texts: its tests passed", b"rt: test_texts: its tests FAILED",
                      b"rt: qlock ran, and wrote what its file stdout has"):
             log = rt.Log(self.path)
             log.take(line.decode())

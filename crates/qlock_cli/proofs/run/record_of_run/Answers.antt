@@ -1,6 +1,6 @@
 use Rattle.std.proofs.Common.{ℕ, ◌<◌, IfOk, subst}
-use Rattle.runs.specs.Runs.{AreLet}
-use Rattle.runs.proofs.run.record_of_run.Goals as goal
+use Rattle.qlock_cli.specs.Runs.{AreLet}
+use Rattle.qlock_cli.proofs.run.record_of_run.Goals as goal
 
 pub returns-in-Ok-clause-let_pass : goal.returns-in-Ok-clause-let_pass
 returns-in-Ok-clause-let_pass g c =

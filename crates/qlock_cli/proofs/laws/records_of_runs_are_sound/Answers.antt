@@ -1,5 +1,5 @@
-use Rattle.runs.proofs.SoundRecords.{IsSoundRecord-first, IsSoundRecord-second}
-use Rattle.runs.proofs.laws.records_of_runs_are_sound.Goals as goal
+use Rattle.qlock_cli.proofs.SoundRecords.{IsSoundRecord-first, IsSoundRecord-second}
+use Rattle.qlock_cli.proofs.laws.records_of_runs_are_sound.Goals as goal
 
 pub returns-clause-first : goal.returns-clause-first
 returns-clause-first c = IsSoundRecord-first

@@ -3,7 +3,7 @@ use Rattle.std.specs.Prelude.{◌||◌}
 use Rattle.std.proofs.lemmas.Bool.Decides.{nat_tests}
 use Rattle.numbers.specs.Sets.{has, set_where}
 use Rattle.numbers.proofs.SetLemmas.{is_set_where}
-use Rattle.test_boards.proofs.boards.zero.Goals as goal
+use Rattle.test_members.proofs.boards.zero.Goals as goal
 
 same : (i : ℕ) → (eqb 0 i || false) ≡ (eqb i 0 || false)
 same i = grind (arith, nat_tests)

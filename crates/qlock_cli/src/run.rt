@@ -3,7 +3,7 @@ ghost use Rattle.std.specs.Prelude.{◌≡◌, ◌*◌, ◌<◌, ◌≤◌, None
 ghost use Rattle.numbers.specs.Bounds.{max_clients, max_tickets};
 ghost use Rattle.certificate.specs.Certificates.{IsCertificate};
 ghost use Rattle.members.specs.Clusters.{IsCluster};
-ghost use Rattle.runs.specs.Runs.{AreLet, IsRun, EndsRun, run_refusal};
+ghost use Rattle.qlock_cli.specs.Runs.{AreLet, IsRun, EndsRun, run_refusal};
 
 use certificate::Plan;
 use cluster::{Blank, CloseFault, ClusterFault, ClusterName, Gate, RunRecord, drive};

@@ -2,9 +2,9 @@ use Rattle.std.proofs.Common.{◌≤◌, ◌∙◌, ap, sym, subst}
 use Rattle.members.specs.Clusters.{ClusterState, IsCluster}
 use Rattle.certificate.specs.Certificates.{IsCertificate}
 use Rattle.members.specs.Closes.{RefusesClose}
-use Rattle.runs.specs.Runs.{AreLet, EndsRun, IsRun}
-use Rattle.runs.proofs.RunLemmas.{all_ready, EndsRun-driven, AreLet-served, run_of, turns-served}
-use Rattle.runs.proofs.run.run_blank.Goals as goal
+use Rattle.qlock_cli.specs.Runs.{AreLet, EndsRun, IsRun}
+use Rattle.qlock_cli.proofs.RunLemmas.{all_ready, EndsRun-driven, AreLet-served, run_of, turns-served}
+use Rattle.qlock_cli.proofs.run.run_blank.Goals as goal
 
 pub returns-in-Err-clause-ended : goal.returns-in-Err-clause-ended
 returns-in-Err-clause-ended g c =
