@@ -24,7 +24,8 @@ ghost use Rattle.lock_node.specs.Thrift.{Befalls, HandsOut, HostTurn, IsLike, Ke
 /// - each LOCKED that leaves goes to a session from which this voter took a REQUEST for that lock, of that number and
 ///   stamp, and that is on the disk;
 /// - each letter has a message that the node of its lock sends in this life;
-/// - lock by lock the vote is that of a node after its life, and what is on the disk has the same least.
+/// - lock by lock the vote is that of a node after its life, and what is on the disk has the same least as what that node has
+///   saved.
 pub fn processes_may_leave_saves_out()
     ensures asked { (n : LockNode) (turns : List HostTurn) (l : Letter) (stamp grant : ℕ) → Begins n → LeaveOut n turns
         → IsOneOf l (host_sent n turns) → l.message.body ≡ to_client.Locked stamp grant
@@ -69,8 +70,9 @@ pub fn new_grants_are_told()
         → IsTold (host_sent n (Befalls e ∷ turns ++ (Befalls Saves ∷ []))) lock session g }
 {}
 
-/// A REQUEST of a free vote gets it, and is answered: the LOCKED leaves with the next save or before, for the session that said
-/// it. This holds whatever comes before that save, unless the process crashes or the lock is forgotten.
+/// A new REQUEST (above the finished stamp) that the row takes, of a free vote, gets it, if a grant and room are left, and is
+/// answered: the LOCKED leaves with the next save or before, for the session that said it. This holds whatever comes before that
+/// save, unless the process crashes or the lock is forgotten.
 pub fn granted_requests_are_told()
     ensures { (n : LockNode) (lock session epoch stamp : ℕ) (m : ToVoter) (turns : List HostTurn) → m.body ≡ asks.Request stamp
         → is_taken (n.rows m.client) session epoch stamp ≡ true → IsSound (n.locks lock).live → (n.locks lock).live.held ≡ None
@@ -80,7 +82,7 @@ pub fn granted_requests_are_told()
         (host_sent n (Befalls (Speaks lock session epoch m) ∷ turns ++ (Befalls Saves ∷ []))) }
 {}
 
-/// A REQUEST of who has the vote is answered with no save, if the vote has the same least as on the disk.
+/// A REQUEST of who has the vote is answered with no save, if the node has room and the vote the same least as on the disk.
 pub fn repeated_requests_need_no_save()
     ensures { (n : LockNode) (lock session epoch stamp grant : ℕ) (m : ToVoter) → m.body ≡ asks.Request stamp
         → is_taken (n.rows m.client) session epoch stamp ≡ true → IsSound (n.locks lock).live

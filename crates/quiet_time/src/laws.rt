@@ -48,8 +48,8 @@ pub fn voters_that_forget_begin()
         → Begins (record { vote = least_voter v; since = since_start v.granted }) }
 {}
 
-/// In its quiet time the vote of a lock is a node of `voter_node` with a life of its own: so the laws on such lives hold,
-/// among them those on what a guard admits.
+/// In its quiet time the vote of a lock changes as that of a node of `voter_node` does, which has a life of its own and is
+/// saved after each step. What leaves is not in this law: that its replies are those of the node is so by definition.
 pub fn quiet_votes_live_as_nodes()
     ensures { (l : Lock) (events : List Event)
         → node_after (node_of l.vote) (life_of l events) ≡ node_of (all_happen l events).vote }

@@ -23,8 +23,8 @@
 //! - as it ends nobody has a vote who did not say so ([`old_votes_end`]);
 //! - who has a vote, and says that he is inside, has it as the time ends ([`votes_of_those_inside_stay`]).
 //!
-//! A voter that forgets all but the least begins as these laws ask ([`voters_that_forget_begin`]). The vote lives as a
-//! node of `voter_node` meanwhile, so the laws on such lives hold ([`quiet_votes_live_as_nodes`]).
+//! A voter that forgets all but the least begins as these laws ask ([`voters_that_forget_begin`]). The vote changes as
+//! that of a node of `voter_node` meanwhile, which is saved after each step ([`quiet_votes_live_as_nodes`]).
 //!
 //! These laws do not say how long the time is, nor that a client says so only if it is inside.
 //!

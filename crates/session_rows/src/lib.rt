@@ -6,8 +6,8 @@
 //! [`SessionRow::take_back`], [`SessionRow::evict`], [`SessionRow::drop_to`] and [`SessionRow::learn`]. [`SessionRow::takes`] says
 //! which REQUESTs the voter takes. Clocks are the caller's: it says whether a session was silent.
 //!
-//! A voter whose row changes by these calls takes the REQUESTs of a stamp from one session, under one epoch
-//! ([`rows_own_stamps`]).
+//! A voter whose row changes by these calls takes the REQUESTs of a stamp from one session, under one epoch, but for
+//! those that it forgot in a crash ([`rows_own_stamps`]).
 //!
 //! A session is a number of 128 bits, a hash of its name. A row is saved as six numbers
 //! ([`SessionRow::save`]), and restored as it was. No call takes memory.

@@ -41,7 +41,8 @@ pub fn no_grant_is_given_by_two_processes()
 {}
 
 /// A voter that took a process refuses each other one that did not start later, from then on, also
-/// after a crash. So of two processes that started equally often it never takes both.
+/// after a crash. So of two processes of which neither is later (states made again equally often, that
+/// started equally often) it never takes both.
 pub fn older_processes_are_refused()
     ensures refused { (who : ℕ → Peer) (ceilings blocks : ℕ → ℕ) (events : List Event) (v p q : ℕ) → AreProcesses who
         → IsTakenBy (world_after who ceilings blocks events) v p → p ≢ q → is_later (who p) (who q) ≡ false
@@ -54,9 +55,9 @@ pub fn older_processes_are_refused()
         → p ≢ q → is_later (who p) (who q) ≡ false → is_later (who q) (who p) ≡ true }
 {}
 
-/// The sets of a process are of voters that said so: those that keep the ceiling that it asked for
-/// last, and, until it serves, those that answered, whose ceiling it knows. So a host that serves
-/// by these sets has the voters of which the laws speak.
+/// The sets of a process have the voters of which the laws speak: those that keep the ceiling that it
+/// asked for last said so, and, until it serves, those that answered count as voters whose ceiling it
+/// knows. So a host that serves by these sets meets what the laws ask for.
 pub fn sets_have_who_said_so()
     ensures kept { (who : ℕ → Peer) (ceilings blocks : ℕ → ℕ) (events : List Event) (v p : ℕ)
         → has_voter ((world_after who ceilings blocks events).starts p).kept v ≡ true

@@ -11,7 +11,8 @@ pub fn spending_is_bounded()
         → spent_between from to (begun rate most begin) calls * billion ≤ most * billion + rate * (to - from) }
 {}
 
-/// A bucket of which nobody takes fills: once `most / rate` seconds have passed since the last spending, all of `most` is there,
+/// A bucket of which nobody takes fills: once `most / rate` seconds have passed since the last spending, or since
+/// it began, all of `most` is there,
 /// whatever was spent before. So these tokens can be spent at once, and then none is left.
 pub fn unused_buckets_fill()
     ensures fills { (rate most begin now : ℕ) (calls : List Spending)
