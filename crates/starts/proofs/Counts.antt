@@ -42,8 +42,8 @@ begins_go s a = elim ((s.asked == 0) && may_ask s a) as (λ b. Goes Nobody s (if
 ]
 
 pub needs_go : (s : Start) (number : ℕ) → Goes Nobody s (needs s number)
-needs_go s number = elim (s.serves && (not (is_waiting s) && nat_lt s.ceiling (number + s.block / 2))) as (λ b. Goes Nobody s (if b then asks s s.ceiling else s)) [
-  | true ↦ asks_go s s.ceiling
+needs_go s number = elim (s.serves && (not (is_waiting s) && nat_lt s.ceiling (number + s.block / 2))) as (λ b. Goes Nobody s (if b then asks s (max s.ceiling number) else s)) [
+  | true ↦ asks_go s (max s.ceiling number)
   | false ↦ same s s refl refl (λ is. refl) refl
 ]
 

@@ -48,8 +48,8 @@ begins_said said q s a h = elim ((s.asked == 0) && may_ask s a) as (λ b. AreSai
 
 needs_said : (said : List Reply) (q : ℕ) (s : Start) (number : ℕ) → AreSaid said q s → AreSaid said q (needs s number)
 needs_said said q s number h =
-    elim (s.serves && (not (is_waiting s) && nat_lt s.ceiling (number + s.block / 2))) as (λ b. AreSaid said q (if b then asks s s.ceiling else s)) [
-      | true ↦ asks_said said q s s.ceiling h
+    elim (s.serves && (not (is_waiting s) && nat_lt s.ceiling (number + s.block / 2))) as (λ b. AreSaid said q (if b then asks s (max s.ceiling number) else s)) [
+      | true ↦ asks_said said q s (max s.ceiling number) h
       | false ↦ h
     ]
 

@@ -106,10 +106,11 @@ after_turn s Serves = record s { ceiling = s.asked; serves = true }
 after_turn s ServesQuietly = record s { ceiling = s.asked; serves = true }
 after_turn s Raises = record s { ceiling = s.asked }
 
--- The process gave the grant of this number. Once half of the last block is used, it asks for the next one.
+-- The process gave the grant of this number, or skips the numbers up to it. Once half of the last block is used, it asks for
+-- the next one, above this number.
 abbrev pub needs : Start → ℕ → Start
 needs s number =
-    if s.serves && (not (is_waiting s) && nat_lt s.ceiling (number + s.block / 2)) then asks s s.ceiling else s
+    if s.serves && (not (is_waiting s) && nat_lt s.ceiling (number + s.block / 2)) then asks s (max s.ceiling number) else s
 
 -- the plans changed, so all voters are to keep the ceiling again
 abbrev pub renews : Start → Start

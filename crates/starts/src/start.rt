@@ -217,13 +217,13 @@ impl Start {
         }
     }
 
-    /// Asks for the next ceiling if half of the last block is used, once the grant of this number
-    /// was given. The caller then asks the others to keep it.
+    /// Asks for the next ceiling if half of the last block is used, once the grant of this number was given, or
+    /// the numbers up to it are to be skipped. The caller then asks the others to keep it.
     pub fn needs(&mut self, number: u64)
         ensures { self.new ≡ needs self.old number }
     {
         if self.serves && !self.is_waiting() && self.is_half_used(number) {
-            self.asks(self.ceiling);
+            self.asks(self.ceiling.max(number));
         }
     }
 
