@@ -768,7 +768,8 @@ int32_t qlock_start_keep(uint8_t *start, size_t n, uint8_t voter, uint64_t ceili
    QLOCK_BAD_STATE  the bytes are no start */
 int32_t qlock_start_turn(uint8_t *start, size_t n, uint32_t have_quorums, uint32_t *turn);
 
-/* Asks for the next ceiling if half of the last block is used, once the grant of this number was given.
+/* Asks for the next ceiling, above this number, if half of the last block is used, once the grant of this number was given, or the numbers
+   up to it are to be skipped.
 
    QLOCK_BAD_STATE  the bytes are no start */
 int32_t qlock_start_need(uint8_t *start, size_t n, uint64_t number);

@@ -113,6 +113,7 @@ type Client struct {
 	busy   map[*lock]struct{} // locks that ask, are inside, or are wanted
 	ticket int
 	asker
+	turns   map[*Held]bool          // the locks whose turn is asked for
 	ownNote string                  // what the session says of itself, "" for nothing
 	looks   bool                    // it has no number
 	out     [qlock.MaxVoters][]byte // lines that leave at the end of this turn of the loop, by voter
@@ -131,6 +132,8 @@ type Held struct {
 	lost   chan struct{}
 	over   atomic.Bool // lost is closed
 	seen   bool        // the loop knows that it may be lost
+
+	turning *turning // the last call of Turn
 
 	note    string      // of the lock, "" if it has none of its own
 	noteDue map[int]due // when voters hear it again
@@ -192,7 +195,7 @@ func newClient(cluster *config.Cluster, c Config) (*Client, error) {
 	client := &Client{cluster: cluster, user: user, watch: newWatch(cluster.TTL.Duration), plans: newPlans(cluster),
 		waits: newWaits(), config: c, carrier: c.Transport, close: func() {},
 		calls: make(chan func()), ended: make(chan struct{}), stopped: make(chan struct{}), locks: map[string]*lock{}, busy: map[*lock]struct{}{},
-		asker: asker{questions: map[uint64]*question{}}}
+		asker: asker{questions: map[uint64]*question{}}, turns: map[*Held]bool{}}
 	client.session = newSession(cluster, name)
 	if !c.NoNote {
 		client.ownNote = ownNote(c.Note)
@@ -430,7 +433,9 @@ func (c *Client) end(why error) {
 
 // flush sends what this turn of the loop made. A client has nothing to save: its stamps are reserved (session.go).
 func (c *Client) flush() {
-	c.sendQuestions(time.Now())
+	now := time.Now()
+	c.sendQuestions(now)
+	c.sendTurns(now)
 	for voter := range c.peers {
 		if len(c.out[voter]) == 0 {
 			continue

@@ -255,6 +255,8 @@ func (c *Client) hearTold(voter int, told wire.Told) {
 	switch {
 	case told.Kind == wire.Noted:
 		p.noted = true
+	case told.Kind == wire.Turned:
+		c.hearTurned(voter, told)
 	case told.Kind == wire.Sessions:
 		if told.Open >= c.crowd.Open {
 			c.crowd = told

@@ -8,7 +8,7 @@ import (
 	"calvundek.example/service/qlock"
 )
 
-// What sessions say of themselves, and what they want to know of locks. No vote depends on it. It is in memory alone: a session says its
+// What sessions say of themselves, and what they want to know of locks. No vote depends on it, but for turns (turn.go). It is in memory alone: a session says its
 // note again to a voter that started.
 
 // What one question costs at most.
@@ -67,6 +67,8 @@ func (d *Daemon) ask(l *letter, speaker qlock.Standing, line []byte, now time.Ti
 		d.put(l.Name, wire.Told{Kind: wire.Noted}.Append(d.out[l.Name]))
 	case ask.Kind == wire.SaysAbout:
 		d.noteAbout(l.Number, ask)
+	case ask.Kind == wire.WantsTurn:
+		d.turn(l, ask, now)
 	}
 	if l.Epoch == 0 && l.once("plans") {
 		d.announce(l.Name) // who only looks sends no heartbeats

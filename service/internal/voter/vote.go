@@ -150,9 +150,14 @@ func (d *Daemon) noteGrant(v *vote, held qlock.Grant, now time.Time) {
 			v.highest = greatest(v.highest, held.Number)
 			d.m.grants.Inc()
 			d.granted++
-			d.m.left.Set(float64(d.ceiling) - float64(d.m.highest(held.Number)))
-			d.needsCeiling(d.m.most, now)
+			d.noteNumber(held.Number, now)
 		}
 	}
 	v.timer.Of(held.Number, now)
+}
+
+// noteNumber notes that a number of a grant was given, or skipped.
+func (d *Daemon) noteNumber(number uint64, now time.Time) {
+	d.m.left.Set(float64(d.ceiling) - float64(d.m.highest(number)))
+	d.needsCeiling(d.m.most, now)
 }

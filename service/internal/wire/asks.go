@@ -12,12 +12,15 @@ const MostNote = 128
 // ErrAsk is returned for a line of which the first word is known, and the rest is wrong.
 var ErrAsk = errors.New("wire: a line of control is wrong")
 
-// Ask is what a session says of itself, or wants to know of locks. The proved calls do not know these words, and no vote depends on them.
+// Ask is what a session says of itself, or wants to know of locks, and that it wants a turn. The proved calls do not know these words, and
+// who gets a vote does not depend on them.
 type Ask struct {
 	Kind   AskKind
 	ID     uint64 // of a question: its replies have it, too
 	Lock   string // a lock's name; of AskNames what names begin with, "" for all
-	Number uint64 // of SaysAbout the stamp of a request; of AskNames where to go on, 0 to begin
+	Number uint64 // of SaysAbout and WantsTurn the stamp of a request; of AskNames where to go on, 0 to begin
+	Grant  uint64 // of WantsTurn: the number of the grant that the request has here
+	Top    uint64 // of WantsTurn: up to which number the voter is to skip
 	Text   string // a note; of SaysNote "" if there is none
 }
 
@@ -31,6 +34,7 @@ const (
 	SaysAbout                // about LOCK STAMP TEXT: a note of a request
 	AskWho                   // who ID LOCK
 	AskNames                 // list ID PLACE [PREFIX]
+	WantsTurn                // turn LOCK STAMP GRANT TOP
 )
 
 // Told is what a voter says to an Ask.
@@ -38,10 +42,11 @@ type Told struct {
 	Kind         ToldKind
 	ID           uint64 // of the question, 0 of HasVote that nobody asked for
 	Lock         string
+	Top          uint64 // of Turned: up to which number the voter skipped
 	Waiting      uint64 // of HasVote: the numbers of those that wait, one bit for each
 	IsHeld       bool   // of HasVote: somebody has the vote. Without that there is nothing of what follows
 	Number       int    // who has it
-	Stamp        uint64
+	Stamp        uint64 // of its request; of Turned that of the request that has the vote
 	Milliseconds uint64 // for how long
 	User         string // NoUser if there are no users, or it is not known
 	Note         string // "" if there is none
@@ -61,6 +66,7 @@ const (
 	HasVote           // has ID LOCK WAITING [NUMBER STAMP MS USER [NOTE]]
 	IsListed          // listed ID FROM NEXT
 	Sessions          // sessions OPEN SILENT WAITS, behind the reply to hello
+	Turned            // turned LOCK STAMP TOP
 )
 
 // IsNote returns whether a text may be a note: 1 to 128 printable bytes of ASCII, with no space at either end.
@@ -84,6 +90,8 @@ func (a Ask) Append(out []byte) []byte {
 		out = withText(withNumber(append(out, ". who"...), a.ID), a.Lock)
 	case AskNames:
 		out = withText(withNumber(withNumber(append(out, ". list"...), a.ID), a.Number), a.Lock)
+	case WantsTurn:
+		out = withNumber(withNumber(withNumber(withText(append(out, ". turn"...), a.Lock), a.Number), a.Grant), a.Top)
 	}
 	return append(out, '\n')
 }
@@ -105,6 +113,9 @@ func ReadAsk(line []byte) (a Ask, err error) {
 		if w.rest != nil {
 			a.Lock = w.lock()
 		}
+	case "turn":
+		a = Ask{Kind: WantsTurn, Lock: w.lock(), Number: w.number(), Grant: w.number(), Top: w.number()}
+		w.isWrong = w.isWrong || a.Grant > a.Top
 	default:
 		return Ask{}, nil
 	}
@@ -129,6 +140,8 @@ func (t Told) Append(out []byte) []byte {
 		out = withNumber(withNumber(withNumber(append(out, ". listed"...), t.ID), t.From), t.Next)
 	case Sessions:
 		out = withNumber(withNumber(withNumber(append(out, ". sessions"...), t.Open), t.Silent), t.Waits)
+	case Turned:
+		out = withNumber(withNumber(withText(append(out, ". turned"...), t.Lock), t.Stamp), t.Top)
 	}
 	return append(out, '\n')
 }
@@ -150,6 +163,8 @@ func ReadTold(line []byte) (t Told, ok bool) {
 		t = Told{Kind: IsListed, ID: w.number(), From: w.number(), Next: w.number()}
 	case "sessions":
 		t = Told{Kind: Sessions, Open: w.number(), Silent: w.number(), Waits: w.number()}
+	case "turned":
+		t = Told{Kind: Turned, Lock: w.lock(), Stamp: w.number(), Top: w.number()}
 	default:
 		return Told{}, false
 	}

@@ -1,0 +1,96 @@
+package voter
+
+import (
+	"fmt"
+	"strings"
+	"testing"
+	"time"
+)
+
+// turned returns what a voter replies, after a save, to a session that asks for a turn.
+func (d *Daemon) turned(t *testing.T, number int, lines string) string {
+	t.Helper()
+	session := fmt.Sprintf("jobs.session-%d", number)
+	if reply := d.repliesTo("jobs", number, lines); strings.Contains(reply, "turned") {
+		t.Fatalf("%q: %q leaves before the save", lines, reply)
+	}
+	if len(d.dirty)+len(d.silent) > 0 || len(d.turns) > 0 {
+		if err := d.save(time.Now()); err != nil {
+			t.Fatal(err)
+		}
+	}
+	d.tellTurns()
+	reply := string(d.out[session])
+	delete(d.out, session)
+	return reply
+}
+
+// Who has a vote has the numbers up to a turn skipped, and hears so once that is saved. The next grant is above it, also after a restart.
+func TestTurnsAreSkipped(t *testing.T) {
+	d := sessions(t, 1, 2)
+	d.repliesTo("jobs", 1, "orders request 1 0 5\n")
+	grant := d.votes["orders"].held.Number
+	ask := fmt.Sprintf(". turn orders 5 %d %d\n", grant, grant+40)
+	want := fmt.Sprintf(". turned orders 5 %d\n", grant+40)
+	for i := 0; i < 2; i++ { // it may be lost, and asked for again
+		if reply := d.turned(t, 1, ask); reply != want {
+			t.Fatalf("%q", reply)
+		}
+	}
+	if held, err := d.votes["orders"].Held(); err != nil || held.Number != grant {
+		t.Errorf("%v, %v", held, err)
+	}
+	d.repliesTo("jobs", 2, "orders request 2 0 9\n")
+	d.repliesTo("jobs", 1, "orders release 1 0 5\n")
+	if next := d.votes["orders"].held; next.Client != 2 || next.Number != grant+41 {
+		t.Errorf("%+v after %d", next, grant)
+	}
+	if reply := d.turned(t, 1, ask); reply != "" {
+		t.Errorf("%q for a grant that is over", reply)
+	}
+}
+
+// A turn is told to nobody else, and for no other grant. One that ends before the save is not told.
+func TestTurnsAreOfTheHolder(t *testing.T) {
+	d := sessions(t, 1, 2)
+	d.repliesTo("jobs", 1, "orders request 1 0 5\n")
+	d.repliesTo("jobs", 2, "orders request 2 0 9\n")
+	grant := d.votes["orders"].held.Number
+	for number, words := range map[int]string{2: fmt.Sprintf("orders 9 %d %d", grant, grant+1), 1: fmt.Sprintf("orders 6 %d %d", grant, grant+1)} {
+		if reply := d.turned(t, number, ". turn "+words+"\n"); reply != "" || d.votes["orders"].highest != grant {
+			t.Errorf("%d, %s: %q", number, words, reply)
+		}
+	}
+	for _, words := range []string{fmt.Sprintf("orders 5 %d %d", grant+1, grant+1), "stock 5 1 1"} {
+		if reply := d.turned(t, 1, ". turn "+words+"\n"); reply != "" || len(d.votes) != 1 {
+			t.Errorf("%s: %q", words, reply)
+		}
+	}
+	if reply := d.turned(t, 1, fmt.Sprintf(". turn orders 5 %d %d\norders release 1 0 5\n", grant, grant+7)); reply != "" {
+		t.Errorf("%q though the grant was over at the save", reply)
+	}
+	if next := d.votes["orders"].held; next.Number != grant+8 {
+		t.Errorf("%+v", next)
+	}
+}
+
+// For a turn beyond its ceiling a voter asks the others for a higher one first. How far that goes is bounded.
+func TestTurnsRaiseTheCeiling(t *testing.T) {
+	d := sessions(t, 1)
+	d.repliesTo("jobs", 1, "orders request 1 0 5\n")
+	grant, top := d.votes["orders"].held.Number, d.ceiling+3*turnBlock
+	ask := fmt.Sprintf(". turn orders 5 %d %d\n", grant, top)
+	if reply := d.turned(t, 1, ask); reply != "" || d.join.start.Shows().Asked <= top {
+		t.Fatalf("%q, asked for %d, which is not above %d", reply, d.join.start.Shows().Asked, top)
+	}
+	d.start(time.Now()) // there is no other voter
+	if reply, want := d.turned(t, 1, ask), fmt.Sprintf(". turned orders 5 %d\n", top); reply != want || d.ceiling <= top {
+		t.Errorf("%q under the ceiling %d", reply, d.ceiling)
+	}
+	before := d.ceiling
+	for _, top := range []uint64{before + (mostBlocks+1)*turnBlock, 1 << 62, 1<<63 + 1} {
+		if reply := d.turned(t, 1, fmt.Sprintf(". turn orders 5 %d %d\n", grant, top)); reply != "" || d.join.start.Shows().Asked > before {
+			t.Errorf("%d: %q, asked for %d", top, reply, d.join.start.Shows().Asked)
+		}
+	}
+}
