@@ -14,7 +14,8 @@ use Rattle.voter.specs.VoterContract.{IsEntry}
 use Rattle.message.specs.Requests.{precedes}
 use Rattle.requester.specs.declared.state.ClientState.{ClientState}
 use Rattle.requester.specs.Steps as requester
-use Rattle.requester.specs.Words.{held_of, holds, is_current, last_of}
+use Rattle.requester.specs.Votes.{AsksFor}
+use Rattle.requester.specs.Words.{held_of, holds, is_current, is_inquired, last_of}
 use Rattle.requester.proofs.SoundSteps.{is_asking-busy}
 use Rattle.world_state.specs.declared.step.Step.{Step}
 use Rattle.world_state.specs.declared.step.Step.TheVariants.{Deliver, RemindClient, RemindVoter}
@@ -35,7 +36,6 @@ use Rattle.progress.proofs.invariants.Outstanding.{came_noted}
 use Rattle.progress.proofs.block.Overdue.{Only, gives_back}
 use Rattle.progress.proofs.block.Steady.{AskedFor, GivenBack, GivenBack-lasting, HasVote, IsLasting, IsOf, Marked, Marked-lasting, Never, Never-lasting, Seeks, Steady, Told, Told-lasting, With, asked, asks_now, client_live, fate_goes, held_exists, not_given_back, steady_ok, told, voter_below, voter_within}
 use Rattle.progress.proofs.invariants.Sure.{Course, Sure}
-use Rattle.progress.proofs.invariants.Taking.{Returns}
 
 -- ---- worlds in which the request leads
 
@@ -143,9 +143,9 @@ own_step laws p w m v f s x y before after moved g held own = elim (grant_step l
 ]
 
 -- a vote that is given back was asked for
-returned_asked : (p : Course) (x y : WorldState) (d v : ℕ) → Sure p x → (t : ToClient) → Came x d (requester.Takes t) → Returns t (client_at x.clients d) (client_at y.clients d) v
+returned_asked : (p : Course) (x : WorldState) (d v : ℕ) → Sure p x → (t : ToClient) → Came x d (requester.Takes t) → (is_inquired (client_at x.clients d) v ≡ true) ⊎ AsksFor t (client_at x.clients d) v
     → p.old v ≤ held_of (client_at x.clients d) v → (voter_at x.voters v).inquiring ≡ true
-returned_asked p x y d v sure t came back new = elim back.why [
+returned_asked p x d v sure t came why new = elim why [
   | inl marked ↦ sure.out.marks d v marked new
   | inr asked ↦ came_noted p.old x sure.coherent d v t sure.out.noted came asked new
 ]
@@ -162,8 +162,8 @@ settled_kept laws p w m v f s x y before after moved g was held h = record {
       | inr (inr back) ↦ elim (cases_lt g.grant (p.old v)) [
         | inl older ↦ subst (λ c. last_of (client_at y.clients c) v < g.grant) h.own (moved.1 v g was older (subst (λ c. last_of (client_at x.clients c) v < g.grant) (sym h.own) h.fresh))
         | inr newer ↦
-            let number = held_grant x (before.reached []).coherent m v g was back.gone.had in
-            absurd (false≢true (sym h.quiet ∙ returned_asked p x y m v (before.reached []) took.0 took.1 back (omega arith)))
+            let number = held_grant x (before.reached []).coherent m v g was back.had in
+            absurd (false≢true (sym h.quiet ∙ returned_asked p x m v (before.reached []) took.0 took.1 back.why (omega arith)))
       ]
     ]
   ];
