@@ -9,8 +9,6 @@ use Rattle.numbers.specs.Sets.{IsSet, has}
 use Rattle.numbers.proofs.Lists.{AllByRecursion-weaker}
 use Rattle.numbers.proofs.SetLemmas.{has-IsSet_below}
 use Rattle.message.specs.Lines.{AreCounts, HasLine, IsCount, voter_number}
-use Rattle.message.specs.declared.message.ClientBody.{ClientBody}
-use Rattle.message.specs.declared.message.ClientBody.TheVariants as to_client
 use Rattle.message.specs.declared.message.Message.TheVariants as kinds
 use Rattle.message.specs.declared.message.ToClient.{ToClient}
 use Rattle.message.specs.declared.message.ToVoter.{ToVoter}

@@ -18,8 +18,8 @@ use Rattle.requester.specs.declared.state.Seen.TheVariants.{Nothing}
 use Rattle.requester.specs.Clocks.{KeepsTime}
 use Rattle.requester.specs.Words.{holds, is_asking, is_current, is_member, is_relinquished, last_of, members}
 use Rattle.requester.specs.Soundness.{IsSound}
-use Rattle.requester.specs.Steps.{Outcome, Cause, Asks, Takes, Leaves, GivesUp, step, take, take_body, see, tell, take_locked, take_locked_by, enter_if, hold, take_fail, take_fail_by, take_inquire}
-use Rattle.requester.specs.Steps.{take_inquire_by, remind, remind_in, remind_by, remind_member}
+use Rattle.requester.specs.Steps.{Outcome, Cause, Asks, Takes, Leaves, GivesUp, step, take, take_body, see, tell, take_locked, take_locked_by}
+use Rattle.requester.specs.Steps.{remind, remind_in, remind_by, remind_member}
 use Rattle.requester.proofs.Messages.{KeepsRequest-take}
 use Rattle.requester.proofs.SoundSteps.{Ok-same, ask-Ok, leave-Ok, give_up-Ok}
 

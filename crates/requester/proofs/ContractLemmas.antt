@@ -1,25 +1,22 @@
 -- The contract of a client.
 use Rattle.std.proofs.Common.{◌≡◌, ◌≢◌, ℕ, ◌+◌, ◌≤◌, Bool, true, false, ◌&&◌, not, ltb, eqb, List, refl, sym, ap, subst, ◌∙◌, ◌⊎◌, inl, inr, arith, Ok}
 use Rattle.std.specs.Prelude.{◌==◌}
-use Rattle.std.proofs.lemmas.Bool.{cases_eq, and_parts}
+use Rattle.std.proofs.lemmas.Bool.{and_parts}
 use Rattle.std.proofs.lemmas.Bool.Decides.{nat_tests}
 use Rattle.message.specs.declared.message.ToVoter.{ToVoter}
 use Rattle.message.specs.declared.message.ToClient.{ToClient}
-use Rattle.message.specs.declared.message.VoterBody.{VoterBody}
 use Rattle.message.specs.declared.message.VoterBody.TheVariants as asks
-use Rattle.message.specs.declared.message.ClientBody.{ClientBody}
-use Rattle.message.specs.declared.message.ClientBody.TheVariants as to_client
 use Rattle.requester.specs.declared.state.Phase.{Phase}
 use Rattle.requester.specs.declared.state.Phase.TheVariants.{Idle, Asking, Inside}
 use Rattle.requester.specs.declared.state.Seen.{Seen}
 use Rattle.requester.specs.declared.state.Seen.TheVariants.{Nothing, Left}
 use Rattle.requester.specs.declared.state.ClientState.{ClientState}
-use Rattle.requester.specs.Words.{is_idle, is_inside, members, is_current, held_of, holds, holds_under, last_of}
+use Rattle.requester.specs.Words.{is_idle, is_inside, members, held_of, holds, holds_under, last_of}
 use Rattle.requester.specs.Soundness.{IsSound}
 use Rattle.requester.specs.Votes.{KeepsRequest, IsGiving, IsReleasing, VoteFate}
 use Rattle.requester.specs.RequesterContract.{Accepts, IsLive, IsLocked, Locks, Sees, KeepsQuorum, Says, MeetsContract, Repeats, AllRepeat}
-use Rattle.requester.specs.Steps.{Outcome, no_effect, clear_votes, begin_request, send_requests, tell, is_fresh, hold, enter_if, take_locked, take_locked_by, take_fail, take_fail_by, take_inquire, take_inquire_by, see}
-use Rattle.requester.specs.Steps.{take_body, take, end_request, Cause, Asks, Takes, Leaves, GivesUp, step, remind, remind_in, remind_by, remind_member}
+use Rattle.requester.specs.Steps.{Outcome, clear_votes, begin_request, send_requests, tell}
+use Rattle.requester.specs.Steps.{take, end_request, Cause, Asks, Takes, Leaves, GivesUp, step, remind, remind_in, remind_by, remind_member}
 use Rattle.requester.proofs.Members.{absurd-true_false, AllByRecursion-map_members, AllByRecursion-flat_map_members}
 use Rattle.requester.proofs.Messages.{KeepsRequest-take, SendsBack-take, VoteFate-take, outside_then}
 use Rattle.requester.proofs.SoundSteps.{busy_after, is_asking-outside}

@@ -1,6 +1,6 @@
 -- What giving votes back does: of these voters each vote that is held goes back by its message, and every
 -- other vote is as before.
-use Rattle.std.proofs.Common.{◌≡◌, ◌≢◌, ℕ, ◌<◌, Bool, true, false, cond, ◌||◌, eqb, ltb, List, [], ◌∷◌, ◌++◌, length, filter, refl, sym, ap, subst, ◌∙◌, ◌⊎◌, inl, inr, arith}
+use Rattle.std.proofs.Common.{◌≡◌, ◌≢◌, ℕ, ◌<◌, Bool, true, false, cond, ◌||◌, eqb, ltb, List, [], ◌∷◌, ◌++◌, filter, refl, sym, ap, subst, ◌∙◌, ◌⊎◌, inl, inr, arith}
 use Rattle.std.specs.List.{AllByRecursion, Contains}
 use Rattle.std.proofs.lemmas.Bool.{cases_eq, eq-eqb, false≢true, ne_eqb, or_left, or_right}
 use Rattle.std.proofs.lemmas.List.{get_or-set_other, get_or-set_same, length-set}
@@ -14,7 +14,7 @@ use Rattle.requester.specs.declared.state.Seen.TheVariants.{Nothing}
 use Rattle.requester.specs.Words.{held_of, holds, is_inquired, is_relinquished, last_of}
 use Rattle.requester.specs.Soundness.{HasPlaces}
 use Rattle.requester.specs.Steps.{Outcome, no_effect, tell, relinquish, relinquish_if, relinquish_each}
-use Rattle.requester.proofs.Members.{absurd-true_false, get_or-some_below, has-with_voter, has_with-other, has_with-self, has-without_voter, has-without_voter-other, has_without-self, with_below, without_below}
+use Rattle.requester.proofs.Members.{absurd-true_false, get_or-some_below, has_with-other, has_with-self, has-without_voter-other, has_without-self, with_below, without_below}
 
 -- the maps have a place for each voter, and marks are of voters below 64
 pub record IsWide (x : ClientState) : Type 0 where

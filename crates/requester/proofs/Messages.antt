@@ -1,7 +1,6 @@
 -- What a message does to a client: how its request goes on, what becomes of each vote, and what is sent.
-use Rattle.std.proofs.Common.{◌≡◌, ◌≢◌, ℕ, ◌<◌, ◌≤◌, Bool, true, false, ◌&&◌, ◌||◌, not, eqb, ltb, nat_lt, List, [], ◌∷◌, filter, get_or, length, refl, sym, ap, subst, ◌∙◌, ◌⊎◌, inl, inr, arith}
+use Rattle.std.proofs.Common.{◌≡◌, ℕ, ◌<◌, ◌≤◌, Bool, true, false, ◌&&◌, ◌||◌, not, ltb, nat_lt, [], ◌∷◌, filter, refl, sym, ap, subst, ◌∙◌, ◌⊎◌, inl, inr, arith}
 use Rattle.std.specs.Prelude.{◌==◌}
-use Rattle.std.specs.List.{AllByRecursion}
 use Rattle.std.proofs.lemmas.Bool.{and_from, and_parts, cases_eq, cases_lt, eq-eqb, false≢true, false_from_ne_true, not-true}
 use Rattle.std.proofs.lemmas.Bool.Decides.{nat_tests}
 use Rattle.std.proofs.lemmas.List.{get_or-set_other, get_or-set_same, get_or_past, length-set}
@@ -20,9 +19,9 @@ use Rattle.requester.specs.declared.state.Seen.{Seen}
 use Rattle.requester.specs.declared.state.Seen.TheVariants.{Entered, Nothing}
 use Rattle.requester.specs.Words.{held_of, holds, holds_under, is_asking, is_covered, is_current, is_failed, is_hindered, is_idle, is_inquired, is_inside, is_member, is_relinquished, last_of, members}
 use Rattle.requester.specs.Soundness.{IsSound}
-use Rattle.requester.specs.Votes.{AsksFor, Enters, KeepsRequest, IsGiving, IsReleasing, ReturnedVote, SendsBack, VoteFate}
+use Rattle.requester.specs.Votes.{AsksFor, KeepsRequest, IsGiving, IsReleasing, SendsBack, VoteFate}
 use Rattle.requester.specs.Steps.{Outcome, enter_if, fail, hold, inquire, is_fresh, see, take, take_body, take_fail, take_fail_by, take_inquire, take_inquire_by, take_locked, take_locked_by, would_hold, would_hold_body}
-use Rattle.requester.proofs.Giving.{GivesBack, GivesOne, IsWide, MovesVotes, SameVote, SameVote-self, filter-keeps, filter-passes, gives-relinquish, gives-relinquish_each, moves-relinquish, moves-relinquish_each}
+use Rattle.requester.proofs.Giving.{GivesOne, IsWide, MovesVotes, filter-keeps, filter-passes, gives-relinquish, gives-relinquish_each, moves-relinquish, moves-relinquish_each}
 use Rattle.requester.proofs.Members.{absurd-true_false, get_or-some_below, has-with_voter, has-without_voter, has-without_voter-other, has_with-before, has_with-self, has_without-self, list_all-member, list_any-weaker, with_below, without_below}
 
 -- ---- its request goes on
@@ -37,11 +36,11 @@ moves_on x m o k = record {
   phase = inl (ap (λ (s : ClientState). s.phase) k.rest, k.seen);
 }
 
-moves-fail_by : (b : Bool) (x : ClientState) (v : ℕ) → MovesVotes x (take_fail_by b x v)
+pub moves-fail_by : (b : Bool) (x : ClientState) (v : ℕ) → MovesVotes x (take_fail_by b x v)
 moves-fail_by false x v = record { rest = refl; seen = refl }
 moves-fail_by true x v = (let k = moves-relinquish_each (fail x v) (filter (is_inquired (fail x v)) (members x)) in record { rest = k.rest; seen = k.seen })
 
-moves-inquire_by : (b hindered : Bool) (x : ClientState) (v : ℕ) → MovesVotes x (take_inquire_by b hindered x v)
+pub moves-inquire_by : (b hindered : Bool) (x : ClientState) (v : ℕ) → MovesVotes x (take_inquire_by b hindered x v)
 moves-inquire_by false hindered x v = record { rest = refl; seen = refl }
 moves-inquire_by true false x v = record { rest = refl; seen = refl }
 moves-inquire_by true true x v = moves-relinquish x v

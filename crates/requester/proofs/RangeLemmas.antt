@@ -7,8 +7,6 @@ use Rattle.numbers.proofs.Lists.{AllByRecursion-weaker}
 use Rattle.message.specs.declared.message.ToVoter.{ToVoter}
 use Rattle.message.specs.declared.message.ToClient.{ToClient}
 use Rattle.message.specs.declared.message.VoterBody.TheVariants as asks
-use Rattle.message.specs.declared.message.ClientBody.{ClientBody}
-use Rattle.message.specs.declared.message.ClientBody.TheVariants as to_client
 use Rattle.requester.specs.declared.state.Phase.{Phase}
 use Rattle.requester.specs.declared.state.Phase.TheVariants.{Idle, Asking}
 use Rattle.requester.specs.declared.state.Seen.{Seen}
@@ -18,7 +16,7 @@ use Rattle.requester.specs.Words.{is_idle, is_inside, members, is_member, held_o
 use Rattle.requester.specs.Soundness.{IsSound}
 use Rattle.requester.specs.Votes.{KeepsRequest, IsGiving, IsReleasing}
 use Rattle.requester.specs.RequesterContract.{Accepts, AllInRange, ComesInRange, IsLocked, IsReached, IsStamp, Locks, RemindersInRange, SaysInRange}
-use Rattle.requester.specs.Steps.{Outcome, send_requests, begin_request, tell, hold, enter_if, take_locked, take_locked_by, take_fail, take_fail_by, take_inquire, take_inquire_by, see, take, take_body, end_request, Cause}
+use Rattle.requester.specs.Steps.{Outcome, send_requests, begin_request, tell, take, end_request, Cause}
 use Rattle.requester.specs.Steps.{Asks, Takes, Leaves, GivesUp, step, remind, remind_in, remind_by, remind_member}
 use Rattle.requester.proofs.Members.{AllByRecursion-map_members, AllByRecursion-flat_map_members}
 use Rattle.requester.proofs.Messages.{KeepsRequest-take, SendsBack-take}

@@ -1,18 +1,14 @@
 -- Every step keeps what is so of every client.
-use Rattle.std.proofs.Common.{◌≡◌, ◌≢◌, ℕ, ◌<◌, ◌≤◌, ◌^◌, Bool, true, false, ◌&&◌, not, ltb, nat_lt, List, length, filter, set, Some, None, refl, sym, ap, subst, ◌∙◌, inl, inr, arith, Result, Ok, Err}
+use Rattle.std.proofs.Common.{◌≡◌, ℕ, ◌<◌, ◌≤◌, ◌^◌, Bool, true, false, ltb, List, length, set, Some, None, refl, sym, ap, subst, ◌∙◌, inl, inr, arith, Result, Ok, Err}
 use Rattle.std.specs.Prelude.{◌==◌, if◌then◌else◌}
 use Rattle.std.specs.List.{list_all}
 use Rattle.std.specs.Result.{is_err, result_ok}
-use Rattle.std.proofs.lemmas.Bool.{cases_eq, and_parts, not-true}
+use Rattle.std.proofs.lemmas.Bool.{and_parts}
 use Rattle.std.proofs.lemmas.Option.{same_Some}
 use Rattle.std.proofs.lemmas.Bool.Decides.{nat_tests}
-use Rattle.std.proofs.lemmas.List.{get_or-set_other, get_or-set_same, length-set}
 use Rattle.numbers.specs.Sets.{has, IsSet}
-use Rattle.numbers.proofs.SetLemmas.{has-IsSet_below}
-use Rattle.numbers.proofs.Lists.{AllByRecursion-weaker, slice_index-replicate_zero}
+use Rattle.numbers.proofs.Lists.{slice_index-replicate_zero}
 use Rattle.message.specs.declared.message.ToClient.{ToClient}
-use Rattle.message.specs.declared.message.ClientBody.{ClientBody}
-use Rattle.message.specs.declared.message.ClientBody.TheVariants as to_client
 use Rattle.requester.specs.declared.fault.ClientFault.TheVariants.{Busy, NotInside, NotAsking, StampsSpent}
 use Rattle.requester.specs.declared.state.Phase.{Phase}
 use Rattle.requester.specs.declared.state.Phase.TheVariants.{Idle, Asking, Inside}
@@ -20,12 +16,12 @@ use Rattle.requester.specs.declared.state.Seen.{Seen}
 use Rattle.requester.specs.declared.state.Seen.TheVariants.{Nothing, Left}
 use Rattle.requester.specs.declared.state.ClientState.{ClientState}
 use Rattle.requester.specs.Leases.{anew}
-use Rattle.requester.specs.Words.{is_idle, is_asking, is_inside, members, is_member, is_current, held_of, holds, holds_under, is_covered, last_of, is_relinquished, is_inquired, is_spent}
-use Rattle.requester.specs.Soundness.{IsHeldWell, HasPlaces, IsSound}
+use Rattle.requester.specs.Words.{is_idle, is_asking, is_inside, members, held_of, holds, holds_under, is_covered, last_of, is_relinquished, is_inquired, is_spent}
+use Rattle.requester.specs.Soundness.{IsHeldWell, IsSound}
 use Rattle.requester.specs.RequesterContract.{Accepts}
 use Rattle.requester.specs.Votes.{KeepsRequest, VoteFate}
-use Rattle.requester.specs.Steps.{Outcome, clear_votes, begin_request, send_requests, unless, ask, is_fresh, hold, enter_if, take_locked, take_locked_by, fail, take_fail, take_fail_by, inquire, take_inquire}
-use Rattle.requester.specs.Steps.{take_inquire_by, see, take_body, take, end_request, leave, give_up, Cause, Asks, Takes, Leaves, GivesUp, step, start}
+use Rattle.requester.specs.Steps.{Outcome, clear_votes, begin_request, send_requests, unless, ask}
+use Rattle.requester.specs.Steps.{see, take, end_request, leave, give_up, Cause, Asks, Takes, Leaves, GivesUp, step, start}
 use Rattle.requester.proofs.Members.{absurd-true_false, list_all-weaker}
 use Rattle.requester.proofs.Messages.{KeepsRequest-take, VoteFate-take, wide-take}
 

@@ -9,7 +9,7 @@ use Rattle.requester.specs.declared.state.ClientState.{ClientState}
 use Rattle.requester.specs.Words.{is_idle, is_inside, is_member, members, held_of, holds}
 use Rattle.requester.specs.Soundness.{IsSound}
 use Rattle.requester.specs.Held.{HoldsBesides, HoldsNothing, IsKeptOrGiven}
-use Rattle.requester.specs.Steps.{Outcome, ask, hold, enter_if, take_locked, take_locked_by, take_fail, take_fail_by, take_inquire, take_inquire_by, see, take, take_body, would_hold, would_hold_body, leave, give_up}
+use Rattle.requester.specs.Steps.{Outcome, ask, hold, enter_if, take_locked, take_locked_by, see, take, take_body, would_hold, would_hold_body, leave, give_up}
 use Rattle.requester.proofs.Members.{absurd-true_false, list_all-member}
 use Rattle.requester.proofs.Messages.{VoteFate-take}
 use Rattle.requester.proofs.SoundSteps.{ask-Ok, leave-Ok, give_up-Ok}

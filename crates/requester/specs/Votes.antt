@@ -1,5 +1,5 @@
 -- What a message does to a client: how its request goes on, what becomes of each vote, and what is sent.
-use Rattle.std.specs.Prelude.{ℕ, ◌≡◌, ◌<◌, ◌⊎◌, true, false, max, List}
+use Rattle.std.specs.Prelude.{ℕ, ◌≡◌, ◌<◌, ◌⊎◌, true, false, max}
 use Rattle.std.specs.List.{AllByRecursion, Contains}
 use Rattle.message.specs.declared.message.ToVoter.{ToVoter}
 use Rattle.message.specs.declared.message.ToClient.{ToClient}

@@ -1,7 +1,6 @@
 -- how the votes come to a request that precedes all others that run, once no voter's grant is behind it; later
 -- requests may begin and end meanwhile
 use Rattle.std.proofs.Common.{◌≡◌, ◌≢◌, ℕ, ◌<◌, ◌≤◌, true, false, List, [], ◌∷◌, ◌++◌, length, Some, refl, sym, ap, subst, subst₂, ◌∙◌, ◌⊎◌, inl, inr, arith}
-use Rattle.std.specs.Prelude.{slice_index}
 use Rattle.std.proofs.lemmas.Bool.{cases_eq, cases_lt, false≢true, false_from_ne_true}
 use Rattle.std.proofs.lemmas.Option.{same_Some}
 use Rattle.message.specs.declared.message.ToClient.{ToClient}
@@ -25,7 +24,8 @@ use Rattle.world.proofs.Plans.{run_then}
 use Rattle.progress.specs.LiveRounds.{AreLiveRounds, IsLiveRound, IsReminded}
 use Rattle.progress.specs.Moves.{of_steps}
 use Rattle.progress.specs.Rules.{Laws}
-use Rattle.progress.proofs.block.Ahead.{asks_no_vote, grant_step}
+use Rattle.progress.proofs.block.Ahead.{grant_step}
+use Rattle.progress.proofs.invariants.Inquiries.{asks_no_vote}
 use Rattle.progress.proofs.run.Along.{Along, along-first, along-kept, along-last, along-or, along-split, next, reminded_at}
 use Rattle.progress.proofs.overtaking.Behind.{the_request}
 use Rattle.progress.proofs.invariants.Fitting.{held_grant, own_stamp}
@@ -96,17 +96,11 @@ inquiry_own laws p w m v f s x y calm moved g own held is = elim moved.0 [
             let stamp = (client_at w.clients m).stamp in
             let old = voter_at x.voters k.message.voter in
             let here = ap (voter_at y.voters) same ∙ k.here in
-            let z = client_at x.clients m in
             let entry = subst (λ q. IsEntry (voter_at x.voters q) m stamp) same (calm.known m v f.asks f.member) in
-            let busy = is_asking-busy z.phase ((calm.same m f.asks).asks ∙ calm.asks m f.asks) in
-            let unfinished = subst (λ n. slice_index old.finished m < n) (calm.same m f.asks).stamp (((calm.reached []).fits.pairs m k.message.voter).unfinished.busy busy) in
             let number : g.stamp ≡ stamp = own.1 ∙ ap (λ i. (client_at w.clients i).stamp) own.0 in
             let is_it : the_request w m ≡ request_of g = λ i. record { stamp = sym number i; client = sym own.0 i } in
             let r = asks_no_vote old k.message k.outcome (ok.voters k.message.voter) g (λ t body. elim (moves.2 t body) [
-              | inl mine ↦ inl (
-                subst₂ (λ d n. slice_index old.finished d < n) (sym mine.0) (sym mine.1) unfinished,
-                subst₂ (λ d n. IsEntry old d n) (sym mine.0) (sym mine.1) entry,
-              )
+              | inl mine ↦ inl (subst₂ (λ d n. IsEntry old d n) (sym mine.0) (sym mine.1) entry)
               | inr later ↦ inr (subst (λ (q : Request). precedes q (record { stamp = t; client = k.message.client }) ≡ true) is_it later)
             ]) k.step (ap (λ (q : VoterState). q.held) (sym here) ∙ held) (ap (λ (q : VoterState). q.inquiring) (sym here) ∙ is) in
             (ap (λ q. (voter_at x.voters q).held) same ∙ r.0, ap (λ q. (voter_at x.voters q).inquiring) same ∙ r.1)

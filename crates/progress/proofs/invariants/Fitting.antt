@@ -3,9 +3,9 @@ use Rattle.std.specs.FinMap.{get}
 use Rattle.voter.specs.VoterContract.{IsEntry}
 use Rattle.requester.specs.declared.state.Phase.TheVariants.{Asking, Idle, Inside}
 use Rattle.requester.specs.declared.state.Phase.{Phase}
-use Rattle.std.proofs.Common.{◌≡◌, ◌≢◌, ℕ, ◌+◌, ◌<◌, ◌≤◌, Bool, true, false, List, [], ◌∷◌, length, Option, Some, None, Ok, refl, sym, ap, subst, ◌∙◌, ◌⊎◌, inl, inr, arith}
+use Rattle.std.proofs.Common.{◌≡◌, ◌≢◌, ℕ, ◌+◌, ◌<◌, ◌≤◌, true, false, List, [], ◌∷◌, length, Option, Some, None, Ok, refl, sym, ap, subst, ◌∙◌, ◌⊎◌, inl, inr, arith}
 use Rattle.std.specs.Prelude.{slice_index, ◌&&◌, ◌==◌, nat_lt, not}
-use Rattle.std.specs.List.{filter, list_all}
+use Rattle.std.specs.List.{list_all}
 use Rattle.std.specs.Result.{result_ok}
 use Rattle.std.proofs.lemmas.Bool.{cases_lt, false≢true, false_from_ne_true}
 use Rattle.std.proofs.lemmas.Bool.Decides.{nat_tests}
@@ -14,8 +14,6 @@ use Rattle.numbers.specs.Bounds.{max_voters}
 use Rattle.numbers.proofs.Options.{false-by}
 use Rattle.numbers.proofs.Lists.{slice_index-replicate_zero}
 use Rattle.message.specs.declared.message.ToClient.{ToClient}
-use Rattle.message.specs.declared.message.ClientBody.{ClientBody}
-use Rattle.message.specs.declared.message.ClientBody.TheVariants as to_client
 use Rattle.message.specs.declared.message.VoterBody.{VoterBody}
 use Rattle.message.specs.declared.message.VoterBody.TheVariants as asks
 use Rattle.voter.specs.declared.state.Grant.{Grant}
@@ -23,13 +21,12 @@ use Rattle.voter.specs.declared.state.VoterState.{VoterState}
 use Rattle.voter.specs.Entries.{Finishes, FinishesBy}
 use Rattle.voter.specs.Steps as voter
 use Rattle.requester.specs.declared.state.ClientState.{ClientState}
-use Rattle.requester.specs.declared.state.Seen.TheVariants.{Nothing}
 use Rattle.requester.specs.Clocks.{KeepsTime}
-use Rattle.requester.specs.RequesterContract.{IsLater, Locks, MeetsContract}
+use Rattle.requester.specs.RequesterContract.{IsLater, MeetsContract}
 use Rattle.requester.specs.Soundness.{IsSound}
 use Rattle.requester.specs.Steps as requester
 use Rattle.requester.specs.Votes.{VoteFate}
-use Rattle.requester.specs.Words.{held_of, holds, holds_under, is_asking, is_covered, is_current, is_idle, is_relinquished, last_of, members, is_inquired}
+use Rattle.requester.specs.Words.{held_of, holds, holds_under, is_asking, is_covered, is_current, is_idle, is_relinquished, last_of, members}
 use Rattle.world.specs.Coherence.{AskOk, IsCoherent, Names}
 use Rattle.world.specs.Runs.{start}
 use Rattle.world_state.specs.Steps.{WorldState, client_at, step, voter_at}
@@ -50,15 +47,15 @@ pub record Unfinished (x : ClientState) (c : ℕ) (y : VoterState) : Type 0 wher
 
 -- a grant that has the vote for the request that runs, and was given back, is the last one given back,
 -- and is marked so
-abbrev pub GivenBack : ClientState → ℕ → ℕ → VoterState → Type 0
-GivenBack x c v y = (g : Grant) → y.held ≡ Some g → g.client ≡ c → is_asking x.phase ≡ true → g.stamp ≡ x.stamp → g.grant ≤ last_of x v
+abbrev pub GivenIsLast : ClientState → ℕ → ℕ → VoterState → Type 0
+GivenIsLast x c v y = (g : Grant) → y.held ≡ Some g → g.client ≡ c → is_asking x.phase ≡ true → g.stamp ≡ x.stamp → g.grant ≤ last_of x v
     → (last_of x v ≡ g.grant) × (is_relinquished x v ≡ true)
 
 -- what fits together of a client and a voter
 pub record Pair (c v : ℕ) (x : ClientState) (y : VoterState) : Type 0 where
   pub unfinished : Unfinished x c y
   pub last : last_of x v ≤ y.granted
-  pub given : v < max_voters → GivenBack x c v y
+  pub given : v < max_voters → GivenIsLast x c v y
 
 -- a client that asks lacks a vote
 abbrev pub Lacks : ClientState → Type 0
@@ -144,7 +141,7 @@ entry_waits y c s g entry held other = elim entry [
 ]
 
 given_by : (c v : ℕ) (x : ClientState) (m : ToClient) (p : requester.Outcome) (y : VoterState) → Vote c v x p.state y → VoteFate m x p v → p.state.stamp ≡ x.stamp → is_asking x.phase ≡ true
-    → GivenBack x c v y → GivenBack p.state c v y
+    → GivenIsLast x c v y → GivenIsLast p.state c v y
 given_by c v x m p y st (inl kept) stamp asked was g held own asks same few =
     let last = kept.last in
     let old = was g held own asked (same ∙ stamp) (omega arith) in
@@ -159,24 +156,24 @@ given_by c v x m p y st (inr (inr back)) stamp asked was g held own asks same fe
     let n = grant_is y.held g c x.stamp (held_of x v) held (st.before (held_of x v) (held_under x v back.had)) in
     (back.last ∙ sym n, back.given)
 
-GivenBack-client : (laws : Laws) (c v : ℕ) (x z : ClientState) (y : VoterState) (cause : requester.Cause) (o : requester.Outcome) → IsSound x → v < max_voters
+GivenIsLast-client : (laws : Laws) (c v : ℕ) (x z : ClientState) (y : VoterState) (cause : requester.Cause) (o : requester.Outcome) → IsSound x → v < max_voters
     → Vote c v x z y → o.state ≡ z → requester.step x cause ≡ Ok o
-    → MeetsContract x cause o → KeepsTime x cause z → GivenBack x c v y → GivenBack z c v y
-GivenBack-client laws c v x z y (requester.Asks q) o sound below st is step contract time was g held own asks same few =
+    → MeetsContract x cause o → KeepsTime x cause z → GivenIsLast x c v y → GivenIsLast z c v y
+GivenIsLast-client laws c v x z y (requester.Asks q) o sound below st is step contract time was g held own asks same few =
     let stamp : x.clock + 1 ≡ z.stamp = ap (λ (p : requester.Outcome). p.state.stamp) (ask-Ok x q o step) ∙ ap (λ (w : ClientState). w.stamp) is in
     let made = st.made g held own in
     let behind = st.clock in
     absurd (omega arith)
-GivenBack-client laws c v x z y (requester.Takes m) o sound below st is step contract time was g held own asks same few =
+GivenIsLast-client laws c v x z y (requester.Takes m) o sound below st is step contract time was g held own asks same few =
     let took : ClientState → requester.Outcome = λ w. record { out = (requester.take x m).out; seen = (requester.take x m).seen; state = w } in
     let fate = subst (λ w. VoteFate m x (took w) v) (ap (λ (p : requester.Outcome). p.state) (take-Ok x m o step) ∙ is) (laws.client.votes x m v sound) in
     elim (time.asking asks) [
       | inl before ↦ given_by c v x m (took z) y st fate before.1 before.0 was g held own asks same few
       | inr new ↦ let made = st.made g held own in let behind = st.clock in absurd (omega arith)
     ]
-GivenBack-client laws c v x z y requester.Leaves o sound below st is step contract time was g held own asks same few =
+GivenIsLast-client laws c v x z y requester.Leaves o sound below st is step contract time was g held own asks same few =
     absurd (false≢true (sym (is_asking-busy z.phase asks) ∙ ap (λ (w : ClientState). is_idle w.phase) (sym is) ∙ contract.quorum.1))
-GivenBack-client laws c v x z y requester.GivesUp o sound below st is step contract time was g held own asks same few =
+GivenIsLast-client laws c v x z y requester.GivesUp o sound below st is step contract time was g held own asks same few =
     absurd (false≢true (sym (is_asking-busy z.phase asks) ∙ ap (λ (w : ClientState). is_idle w.phase) (sym is) ∙ contract.quorum.1))
 
 last_by : (x z : ClientState) (v c : ℕ) (y : VoterState) → (last_of z v ≡ last_of x v) ⊎ (holds_under x v (last_of z v) ≡ true)
@@ -206,7 +203,7 @@ Pair-client laws u x ok now k v h =
     record {
       unfinished = Unfinished-later old new k.who y later h.unfinished;
       last = last_by old new v k.who y last (λ n has. ok.held k.who v n has) (ok.voters v) h.last;
-      given = λ below. GivenBack-client laws k.who v old new y k.cause k.outcome (ok.clients k.who) below st (sym k.here) k.step contract time (h.given below);
+      given = λ below. GivenIsLast-client laws k.who v old new y k.cause k.outcome (ok.clients k.who) below st (sym k.here) k.step contract time (h.given below);
     }
 
 -- ---- who asks lacks a vote
@@ -264,7 +261,7 @@ finished_ok x y v c client n (asks.Release s) asked may =
 Unfinished-voter : (x : ClientState) (v c client : ℕ) (b : VoterBody) (y z : VoterState) → (c ≡ client → AskOk x y v client b) → FinishesBy y client b z → Unfinished x c y → Unfinished x c z
 Unfinished-voter x v c client b y z asked by ok = elim (by c) [
   | inl stays ↦ let most = ok.most in record { most = omega arith; busy = λ busy. let less = ok.busy busy in omega arith }
-  | inr may ↦ let k = finished_ok x y v c client (slice_index z.finished c) b asked may in record { most = k.0; busy = k.1 }
+  | inr may ↦ let k = finished_ok x y v c client (slice_index z.finished c) b asked may.0 in record { most = k.0; busy = k.1 }
 ]
 
 Pair-voter : (laws : Laws) (u x : WorldState) → IsCoherent u → (k : VoterMoved u x) → (c : ℕ) → Pair c k.message.voter (client_at u.clients c) (voter_at u.voters k.message.voter)

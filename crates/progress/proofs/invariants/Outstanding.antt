@@ -1,6 +1,6 @@
 -- after every run, an INQUIRE that was sent for the current grant is outstanding, and so is one for
 -- each marked vote, unless the grant is old; and a client that is hindered has no mark
-use Rattle.std.proofs.Common.{◌≡◌, ℕ, ◌<◌, ◌≤◌, true, false, List, [], ◌∷◌, ◌++◌, map, Some, Ok, refl, sym, ap, subst, ◌∙◌, inl, inr, arith}
+use Rattle.std.proofs.Common.{◌≡◌, ℕ, ◌≤◌, true, false, List, [], ◌∷◌, ◌++◌, map, Some, Ok, refl, sym, ap, subst, ◌∙◌, inl, inr, arith}
 use Rattle.std.specs.List.{AllByRecursion}
 use Rattle.std.proofs.lemmas.Bool.{false≢true, false_from_ne_true}
 use Rattle.numbers.proofs.Lists.{AllByRecursion-append, AllByRecursion-get, AllByRecursion-weaker}
@@ -30,7 +30,7 @@ use Rattle.progress.specs.Rules.{Laws, VoterLaws}
 use Rattle.progress.proofs.invariants.Always.{is_named}
 use Rattle.progress.proofs.overtaking.Behind.{ask-Ok}
 use Rattle.progress.proofs.invariants.Fitting.{new_client, take-Ok}
-use Rattle.progress.proofs.invariants.Inquiries.{AllInquire, IfInquire, Inquired-remind, Inquired-step, Outlasts, Outlasts-self, Outlasts-step}
+use Rattle.progress.proofs.invariants.Inquiries.{Outlasts, Outlasts-self, Outlasts-step}
 use Rattle.progress.proofs.run.Moves.{Came, ClientMoved, IsReminder, Moved, OnlySent, VoterMoved, all_sent, each_client, each_voter}
 
 -- If the INQUIRE names the current grant, it is outstanding, unless the grant is below this number.
@@ -159,18 +159,18 @@ noted_later : (old : ℕ → ℕ) (vs us : List VoterState) → ((v : ℕ) → O
 noted_later old vs us later (kinds.ToVoter m) h = tt
 noted_later old vs us later (kinds.ToClient m) h = still_noted (old m.voter) (voter_at vs m.voter) (voter_at us m.voter) (later m.voter) m.body h
 
-noted_now : (first : ℕ) (y : VoterState) (client : ℕ) (b : ClientBody) → voter.IsSound y → IfInquire y.inquiring b → ReportsPlace y client b → IsNoted first y b
-noted_now first y client (to_client.Locked s g) ok asked place = tt
-noted_now first y client (to_client.Fail s) ok asked place = tt
-noted_now first y client (to_client.Inquire n) ok asked place =
-    (let number = place.3 in let few = ok.numbered place.0 place.1 in omega arith, λ g held same new. asked)
+noted_now : (first : ℕ) (y : VoterState) (client : ℕ) (b : ClientBody) → voter.IsSound y → ReportsPlace y client b → IsNoted first y b
+noted_now first y client (to_client.Locked s g) ok place = tt
+noted_now first y client (to_client.Fail s) ok place = tt
+noted_now first y client (to_client.Inquire n) ok place =
+    (let number = place.3 in let few = ok.numbered place.0 place.1 in omega arith, λ g held same new. place.4)
 
-replies_noted : (old : ℕ → ℕ) (vs : List VoterState) (v seen : ℕ) (y : VoterState) → voter_at vs v ≡ y → voter.IsSound y → (rs : List ToClient) → AllInquire y.inquiring rs → AllReportPlace y rs
+replies_noted : (old : ℕ → ℕ) (vs : List VoterState) (v seen : ℕ) (y : VoterState) → voter_at vs v ≡ y → voter.IsSound y → (rs : List ToClient) → AllReportPlace y rs
     → AllCarry v seen rs → AllByRecursion (IsNotedAt old vs) (map kinds.ToClient rs)
-replies_noted old vs v seen y is ok [] asked place carry = tt
-replies_noted old vs v seen y is ok (r ∷ rs) asked place carry = (
-  subst (λ (z : VoterState). IsNoted (old r.voter) z r.body) (sym (ap (voter_at vs) carry.0.0 ∙ is)) (noted_now (old r.voter) y r.client r.body ok asked.0 place.0),
-  replies_noted old vs v seen y is ok rs asked.1 place.1 carry.1,
+replies_noted old vs v seen y is ok [] place carry = tt
+replies_noted old vs v seen y is ok (r ∷ rs) place carry = (
+  subst (λ (z : VoterState). IsNoted (old r.voter) z r.body) (sym (ap (voter_at vs) carry.0.0 ∙ is)) (noted_now (old r.voter) y r.client r.body ok place.0),
+  replies_noted old vs v seen y is ok rs place.1 carry.1,
 )
 
 pub Outlasts-voter : (w u : WorldState) → (k : VoterMoved w u) → (v : ℕ) → Outlasts (voter_at w.voters v) (voter_at u.voters v)
@@ -187,7 +187,7 @@ Outstanding-voter laws old w u ok now k h =
     record {
       noted = subst (λ ms. AllByRecursion (IsNotedAt old u.voters) ms) (sym k.sent) (AllByRecursion-append (IsNotedAt old u.voters) w.sent _
           (AllByRecursion-weaker (IsNotedAt old w.voters) (IsNotedAt old u.voters) (noted_later old w.voters u.voters later) w.sent h.noted)
-          (replies_noted old u.voters v (seen_after y.seen k.message.body) k.outcome.state k.here sound k.outcome.replies (Inquired-step y k.message k.outcome k.step)
+          (replies_noted old u.voters v (seen_after y.seen k.message.body) k.outcome.state k.here sound k.outcome.replies
           (AreAnswers-step y k.message k.outcome (ok.voters v) k.step).place
           (subst (λ i. AllCarry i (seen_after y.seen k.message.body) k.outcome.replies) (is_named w u ok k) carried)));
       marks = λ d q is fresh.
@@ -216,7 +216,7 @@ reminder_noted laws old w ok more said = elim said [
   | inl out ↦ subst (λ ms. AllByRecursion (IsNotedAt old w.voters) ms) (sym out.1) (all_sent (IsNotedAt old w.voters) kinds.ToVoter (λ m. tt) out.0)
   | inr v ↦
       let y = voter_at w.voters v.0 in
-      subst (λ ms. AllByRecursion (IsNotedAt old w.voters) ms) (sym v.2) (replies_noted old w.voters v.0 y.seen y refl (ok.voters v.0) (voter.remind y) (Inquired-remind y) (AllReportPlace-remind y)
+      subst (λ ms. AllByRecursion (IsNotedAt old w.voters) ms) (sym v.2) (replies_noted old w.voters v.0 y.seen y refl (ok.voters v.0) (voter.remind y) (AllReportPlace-remind y)
       (subst (λ i. AllCarry i y.seen (voter.remind y)) (ok.numbered.voters v.0 v.1) (laws.remembers y)))
 ]
 

@@ -1,6 +1,6 @@
 -- requests are known only at members of their quorums, and votes are asked back, after every run
-use Rattle.std.proofs.Common.{◌≡◌, ◌≢◌, ℕ, ◌+◌, ◌≤◌, Bool, true, false, List, [], ◌∷◌, map, Ok, refl, sym, ap, subst, ◌∙◌, ◌⊎◌, inl, inr, arith}
-use Rattle.std.specs.List.{AllByRecursion, filter}
+use Rattle.std.proofs.Common.{◌≡◌, ◌≢◌, ℕ, ◌+◌, ◌≤◌, true, List, [], ◌∷◌, map, Ok, refl, sym, ap, subst, ◌∙◌, ◌⊎◌, inl, inr, arith}
+use Rattle.std.specs.List.{AllByRecursion}
 use Rattle.std.proofs.lemmas.Bool.{cases_eq, false≢true}
 use Rattle.std.proofs.lemmas.Bool.Decides.{nat_tests}
 use Rattle.numbers.specs.Sets.{has}
@@ -10,8 +10,6 @@ use Rattle.message.specs.declared.message.Message.{Message}
 use Rattle.message.specs.declared.message.Message.TheVariants as kinds
 use Rattle.message.specs.declared.message.ToClient.{ToClient}
 use Rattle.message.specs.declared.message.ToVoter.{ToVoter}
-use Rattle.message.specs.declared.message.ClientBody.{ClientBody}
-use Rattle.message.specs.declared.message.ClientBody.TheVariants as to_client
 use Rattle.message.specs.declared.message.VoterBody.{VoterBody}
 use Rattle.message.specs.declared.message.VoterBody.TheVariants as asks
 use Rattle.voter.specs.declared.state.VoterState.{VoterState}
@@ -24,7 +22,7 @@ use Rattle.requester.specs.Soundness.{IsSound}
 use Rattle.requester.specs.Steps as requester
 use Rattle.requester.specs.Votes.{IsGiving, IsReleasing}
 use Rattle.requester.proofs.Messages.{SendsBack-take}
-use Rattle.requester.specs.Words.{is_current, is_idle, is_inquired, is_member, members}
+use Rattle.requester.specs.Words.{is_current, is_idle, is_member, members}
 use Rattle.world.specs.Coherence.{AskOk, IsCoherent, MessageOk}
 use Rattle.world.specs.Runs.{start}
 use Rattle.world_state.specs.Steps.{WorldState, client_at, voter_at}

@@ -7,8 +7,6 @@ use Rattle.std.proofs.lemmas.List.{append-nil}
 use Rattle.std.proofs.lemmas.List.Elements.{Contains-append_left, Contains-append_right}
 use Rattle.numbers.proofs.Lists.{AllByRecursion-append, AllByRecursion-weaker}
 use Rattle.message.specs.declared.message.Message.{Message}
-use Rattle.message.specs.declared.message.ClientBody.{ClientBody}
-use Rattle.message.specs.declared.message.ClientBody.TheVariants as to_client
 use Rattle.message.specs.declared.message.ToClient.{ToClient}
 use Rattle.voter.specs.declared.state.Grant.{Grant}
 use Rattle.voter.specs.declared.state.VoterState.{VoterState}
@@ -22,7 +20,7 @@ use Rattle.requester.proofs.Messages.{KeepsRequest-take}
 use Rattle.requester.proofs.RangeLemmas.{is_inside-busy}
 use Rattle.numbers.specs.Sets.{has}
 use Rattle.requester.specs.Steps as requester
-use Rattle.requester.specs.Words.{is_asking, is_covered, is_idle, members}
+use Rattle.requester.specs.Words.{is_asking, is_idle, members}
 use Rattle.requester.proofs.SoundSteps.{give_up-Ok, is_asking-busy, leave-Ok}
 use Rattle.world_state.specs.declared.step.Event.{Event}
 use Rattle.world_state.specs.declared.step.Step.{Step}
