@@ -1,5 +1,5 @@
--- What giving votes back does: of these voters each vote that is held goes back by its message, and every
--- other vote is as before.
+-- What giving votes back does: of these voters each vote that is held goes back by its message, and
+-- every other vote is as before.
 use Rattle.std.proofs.Common.{◌≡◌, ◌≢◌, ℕ, ◌<◌, Bool, true, false, cond, ◌||◌, eqb, ltb, List, [], ◌∷◌, ◌++◌, filter, refl, sym, ap, subst, ◌∙◌, ◌⊎◌, inl, inr, arith}
 use Rattle.std.specs.List.{AllByRecursion, Contains}
 use Rattle.std.proofs.lemmas.Bool.{cases_eq, eq-eqb, false≢true, ne_eqb, or_left, or_right}

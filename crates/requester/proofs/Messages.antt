@@ -1,4 +1,5 @@
--- What a message does to a client: how its request goes on, what becomes of each vote, and what is sent.
+-- What a message does to a client: how its request goes on, what becomes of each vote, and what is
+-- sent.
 use Rattle.std.proofs.Common.{◌≡◌, ℕ, ◌<◌, ◌≤◌, Bool, true, false, ◌&&◌, ◌||◌, not, ltb, nat_lt, [], ◌∷◌, filter, refl, sym, ap, subst, ◌∙◌, ◌⊎◌, inl, inr, arith}
 use Rattle.std.specs.Prelude.{◌==◌}
 use Rattle.std.proofs.lemmas.Bool.{and_from, and_parts, cases_eq, cases_lt, eq-eqb, false≢true, false_from_ne_true, not-true}

@@ -1,4 +1,5 @@
--- What a message does to a client: how its request goes on, what becomes of each vote, and what is sent.
+-- What a message does to a client: how its request goes on, what becomes of each vote, and what is
+-- sent.
 use Rattle.std.specs.Prelude.{ℕ, ◌≡◌, ◌<◌, ◌⊎◌, true, false, max}
 use Rattle.std.specs.List.{AllByRecursion, Contains}
 use Rattle.message.specs.declared.message.ToVoter.{ToVoter}
@@ -21,8 +22,8 @@ pub record Enters (x : ClientState) (m : ToClient) (o : Outcome) : Type 0 where
   pub covered : is_covered o.state ≡ true
   pub seen : o.seen ≡ Entered
 
--- The client and its request are as before a message, and the clock is raised to what its voter saw.
--- Nothing is seen and the phase is as before, or the client enters.
+-- The client and its request are as before a message, and the clock is raised to what its voter
+-- saw. Nothing is seen and the phase is as before, or the client enters.
 pub record KeepsRequest (x : ClientState) (m : ToClient) (o : Outcome) : Type 0 where
   pub id : o.state.id ≡ x.id
   pub limit : o.state.limit ≡ x.limit
@@ -68,8 +69,8 @@ pub record BroughtVote (m : ToClient) (x z : ClientState) (v : ℕ) : Type 0 whe
   -- the client is inside if and only if it now holds the vote of each member
   pub inside : is_inside z.phase ≡ is_covered z
 
--- The vote goes back by RELINQUISH, and its grant is the last one given back: it was marked as asked for,
--- or the message asks for it. Only a client that asks gives votes back.
+-- The vote goes back by RELINQUISH, and its grant is the last one given back: it was marked as asked
+-- for, or the message asks for it. Only a client that asks gives votes back.
 pub record ReturnedVote (m : ToClient) (x : ClientState) (o : Outcome) (v : ℕ) : Type 0 where
   pub asking : is_asking x.phase ≡ true
   pub had : holds x v ≡ true

@@ -33,16 +33,16 @@ VoteMoves false v w = GrantStays v w ⊎ ((v.held ≡ None) × GrantIsNew v w)
 
 -- What a message of a client does to a grant that has the vote afterwards
 
--- the message is a REQUEST, newer than the current one of its client, and the granted request doesn't
--- precede it
+-- the message is a REQUEST, newer than the current one of its client, and the granted request
+-- doesn't precede it
 pub record Challenges (v : VoterState) (client : ℕ) (body : VoterBody) (g : Grant) : Type 0 where
   pub stamp : ℕ
   pub request : body ≡ asks.Request stamp
   pub new : (s : ℕ) → current_stamp v client ≡ Some s → s < stamp
   pub first : precedes (request_of g) (record { stamp = stamp; client = client }) ≡ false
 
--- The grant had the vote before. An INQUIRE that was outstanding still is, and a new one is sent only if
--- the message challenges the grant.
+-- The grant had the vote before. An INQUIRE that was outstanding still is, and a new one is sent
+-- only if the message challenges the grant.
 pub record KeptGrant (v : VoterState) (client : ℕ) (body : VoterBody) (w : VoterState) (g : Grant) : Type 0 where
   pub held : v.held ≡ Some g
   pub asked : v.inquiring ≡ true → w.inquiring ≡ true

@@ -1,4 +1,5 @@
--- which grants are ahead of a request that waits: once a voter's grant is not behind it, it stays so
+-- which grants are ahead of a request that waits: once a voter's grant is not behind it, it stays
+-- so
 use Rattle.std.proofs.Common.{◌≡◌, ℕ, ◌<◌, false, List, Some, sym, ap, subst, ◌∙◌, ◌⊎◌, inl, inr, arith}
 use Rattle.std.proofs.lemmas.Bool.{cases_eq}
 use Rattle.std.proofs.lemmas.Bool.Decides.{nat_tests}

@@ -83,28 +83,28 @@ same_members x z requester.GivesUp o sound taken is keeps same = keeps.0
 abbrev AllAsked : ClientState → List ToVoter → Type 0
 AllAsked z out = AllByRecursion (λ m. AskedBy z m.voter m.body) out
 
-abbrev pub NoAsk : VoterBody → Type 0
-NoAsk (asks.Request s) = ⊥
-NoAsk (asks.Relinquish g) = Unit {0}
-NoAsk (asks.Release s) = Unit {0}
+abbrev pub NoRequest : VoterBody → Type 0
+NoRequest (asks.Request s) = ⊥
+NoRequest (asks.Relinquish g) = Unit {0}
+NoRequest (asks.Release s) = Unit {0}
 
-abbrev pub NoAsks : List ToVoter → Type 0
-NoAsks out = AllByRecursion (λ m. NoAsk m.body) out
+abbrev pub NoRequests : List ToVoter → Type 0
+NoRequests out = AllByRecursion (λ m. NoRequest m.body) out
 
-pub no-take : (x : ClientState) (m : ToClient) → IsSound x → NoAsks (requester.take x m).out
+pub no-take : (x : ClientState) (m : ToClient) → IsSound x → NoRequests (requester.take x m).out
 no-take x m sound =
     let o = requester.take x m in
-    AllByRecursion-weaker (λ n. IsGiving m x o n ⊎ IsReleasing m x n) (λ n. NoAsk n.body) (λ n back. elim back [
-      | inl gives ↦ subst NoAsk (sym gives.body) tt
-      | inr releases ↦ subst NoAsk (sym releases.body) tt
+    AllByRecursion-weaker (λ n. IsGiving m x o n ⊎ IsReleasing m x n) (λ n. NoRequest n.body) (λ n back. elim back [
+      | inl gives ↦ subst NoRequest (sym gives.body) tt
+      | inr releases ↦ subst NoRequest (sym releases.body) tt
     ]) o.out (SendsBack-take x m sound)
 
-no_ask : (z : ClientState) (v : ℕ) (b : VoterBody) → NoAsk b → AskedBy z v b
+no_ask : (z : ClientState) (v : ℕ) (b : VoterBody) → NoRequest b → AskedBy z v b
 no_ask z v (asks.Request s) none = absurd none
 no_ask z v (asks.Relinquish g) none = tt
 no_ask z v (asks.Release s) none = tt
 
-none_asked : (z : ClientState) (out : List ToVoter) → NoAsks out → AllAsked z out
+none_asked : (z : ClientState) (out : List ToVoter) → NoRequests out → AllAsked z out
 none_asked z [] none = tt
 none_asked z (m ∷ out) none = (no_ask z m.voter m.body none.0, none_asked z out none.1)
 
@@ -129,7 +129,7 @@ members_asked x z b (v ∷ q) all = (member_ask z v b (all v (grind (arith, nat_
 asked_out : (x z : ClientState) (cause : requester.Cause) (o : requester.Outcome) → IsSound x → requester.step x cause ≡ Ok o → o.state ≡ z → KeepsQuorum x cause z → AllAsked z o.out
 asked_out x z (requester.Asks q) o sound taken is keeps =
     subst (λ (p : requester.Outcome). AllAsked z p.out) (ask-Ok x q o taken) (members_asked (requester.begin_request x q) z (asks.Request (x.clock + 1)) q (λ v there. ap (λ l. has l v) keeps ∙ there))
-asked_out x z (requester.Takes m) o sound taken is keeps = none_asked z o.out (subst (λ (p : requester.Outcome). NoAsks p.out) (take-Ok x m o taken) (no-take x m sound))
+asked_out x z (requester.Takes m) o sound taken is keeps = none_asked z o.out (subst (λ (p : requester.Outcome). NoRequests p.out) (take-Ok x m o taken) (no-take x m sound))
 asked_out x z requester.Leaves o sound taken is keeps = idle_asked z o.out keeps.1
 asked_out x z requester.GivesUp o sound taken is keeps = idle_asked z o.out keeps.1
 
