@@ -274,7 +274,7 @@ voter_after laws end b N l y sound ok m fits o is =
       seen = (let same = carry.seen in let most = seen_within b.limit y.seen m.body ok.seen fits.1 in omega arith);
       finished = λ c. elim (end.finishes y m o is c) [
         | inl same ↦ (let low = ok.finished c in omega arith)
-        | inr ends ↦ finished_reached N l m.voter m.client m.body fits.0 c (slice_index o.state.finished c) ends
+        | inr ends ↦ finished_reached N l m.voter m.client m.body fits.0 c (slice_index o.state.finished c) ends.0
       ];
       back = end.asks_back y m o ok.back is;
     }

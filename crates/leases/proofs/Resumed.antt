@@ -147,7 +147,7 @@ ease rules b given deal deals G s num st cs many known front fine range each =
         noted = AllByRecursion-append (IsNotedAt old vs) front s.live.sent (each (IsNotedAt old vs) (λ m. tt))
             (AllByRecursion-weaker (Told b N) (IsNotedAt old vs) (told_old b N (eased s cs front) num.behind deal) s.live.sent num.told);
         marks = λ d v marked new. absurd (no_mark (client_at cs d) v (known d).sound (idle d) marked);
-        clear = λ d hindered v below. false_from_ne_true (is_inquired (client_at cs d) v) (no_mark (client_at cs d) v (known d).sound (idle d));
+        clear = λ d hindered v. false_from_ne_true (is_inquired (client_at cs d) v) (no_mark (client_at cs d) v (known d).sound (idle d));
       };
     }
 

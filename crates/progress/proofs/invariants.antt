@@ -5,7 +5,8 @@
 -- have to be (`Outstanding`). `IsSure p w` says that this holds of w, and of each world that steps lead to from there. A `Course`
 -- is what is fixed meanwhile: how quorums are dealt, which grants are old, and who is live.
 --
--- `Taking` says what a message does to each vote of a client. `Inquiries` says what voters reply to requests that they know.
+-- What a message does to each vote of a client is a law of `requester`. `Inquiries` says what voters reply to requests
+-- that they know.
 pub mod Always
 pub mod Fitting
 pub mod Inquiries
@@ -13,4 +14,3 @@ pub mod Kept
 pub mod Outstanding
 pub mod Placed
 pub mod Sure
-pub mod Taking

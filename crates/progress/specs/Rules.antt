@@ -19,10 +19,11 @@ use Rattle.requester.specs.declared.fault.ClientFault.TheVariants.{Busy}
 use Rattle.requester.specs.declared.state.ClientState.{ClientState}
 use Rattle.requester.specs.declared.state.Seen.TheVariants.{Left, Nothing}
 use Rattle.requester.specs.Clocks.{KeepsTime}
-use Rattle.requester.specs.Held.{IsGivenBack, IsKeptOrGiven, KeepsMark}
+use Rattle.requester.specs.Held.{IsGivenBack}
 use Rattle.requester.specs.RequesterContract.{Accepts, AllRepeat, MeetsContract, RemindersInRange}
 use Rattle.requester.specs.Soundness.{IsSound}
 use Rattle.requester.specs.Steps as requester
+use Rattle.requester.specs.Votes.{VoteFate}
 use Rattle.requester.specs.Words.{held_of, is_hindered, holds, is_asking, is_current, is_idle, is_inside, is_member, is_relinquished, last_of}
 use Rattle.world.specs.Coherence.{IsCoherent}
 use Rattle.world.specs.Runs.{IsReached}
@@ -36,13 +37,12 @@ pub record ClientLaws : Type 0 where
   pub busy : (x : ClientState) (quorum : List ℕ) → is_idle x.phase ≡ false → requester.ask x quorum ≡ Err Busy
   pub released : (x : ClientState) (m : ToClient) (stamp grant : ℕ) → m.body ≡ to_client.Locked stamp grant → is_current x stamp ≡ false
       → requester.take x m ≡ record { out = requester.tell x m.voter (asks.Release stamp) ∷ []; seen = Nothing; state = requester.see x m.seen }
-  pub marks : (x : ClientState) (m : ToClient) (v : ℕ) → IsSound x → v < max_voters → KeepsMark x (requester.take x m).state v
+  pub votes : (x : ClientState) (m : ToClient) (v : ℕ) → IsSound x → VoteFate m x (requester.take x m) v
   pub requests : (x : ClientState) (v : ℕ) → is_asking x.phase ≡ true → is_member x v ≡ true → holds x v ≡ false → Contains (requester.remind x) (requester.tell x v (asks.Request x.stamp))
   pub returns : (x : ClientState) (v : ℕ) → is_asking x.phase ≡ true → is_member x v ≡ true → holds x v ≡ false → is_relinquished x v ≡ true
       → Contains (requester.remind x) (requester.tell x v (asks.Relinquish (last_of x v)))
   pub repeats : (x : ClientState) → AllRepeat x (requester.remind x)
   pub in_range : (x : ClientState) → IsSound x → RemindersInRange x (requester.remind x)
-  pub kept : (x : ClientState) (m : ToClient) → IsSound x → requester.would_hold x m ≡ false → (v : ℕ) → IsKeptOrGiven x (requester.take x m) v
   pub hinders : (x : ClientState) (m : ToClient) → IsSound x → is_asking x.phase ≡ true → is_member x m.voter ≡ true → holds x m.voter ≡ false → m.body ≡ to_client.Fail x.stamp
       → is_hindered (requester.take x m).state ≡ true
   pub gives : (x : ClientState) (m : ToClient) → IsSound x → is_asking x.phase ≡ true → holds x m.voter ≡ true → is_hindered x ≡ true → m.voter < max_voters

@@ -21,7 +21,7 @@ use quorum_set::{bridges_meet, coteries_meet};
 use requester::{
     clocks_never_fall, hindered_clients_give_votes_back, messages_are_in_range,
     messages_move_votes, old_votes_go_back, phases_show_refusals, phases_show_votes,
-    reminders_ask_again, requesters_meet_the_contract, votes_given_back_are_marked,
+    reminders_ask_again, requesters_meet_the_contract,
 };
 use voter::{
     grants_are_numbered, messages_finish_requests, releases_end_requests,
@@ -39,7 +39,6 @@ pub fn worlds_keep_their_rules()
     clocks_never_fall();
     phases_show_votes();
     phases_show_refusals();
-    votes_given_back_are_marked();
     old_votes_go_back();
     reminders_ask_again();
     messages_are_in_range();

@@ -1,5 +1,5 @@
 -- Each message of a client has a line, so that its voter takes it.
-use Rattle.std.proofs.Common.{◌≡◌, ℕ, ◌+◌, ◌-◌, ◌<◌, ◌≤◌, ◌^◌, Bool, true, false, List, ◌++◌, length, Ok, refl, sym, ap, subst, ◌∙◌, arith, get_or}
+use Rattle.std.proofs.Common.{◌≡◌, ℕ, ◌+◌, ◌-◌, ◌<◌, ◌≤◌, ◌^◌, Bool, true, false, List, ◌++◌, length, Ok, refl, sym, ap, subst, ◌∙◌, ◌⊎◌, inl, inr, arith, get_or}
 use Rattle.std.specs.Prelude.{◌==◌, map}
 use Rattle.std.proofs.lemmas.Bool.Decides.{nat_tests}
 use Rattle.std.proofs.lemmas.List.{get_or_append_left, get_or-append_right, length-append}
@@ -9,8 +9,6 @@ use Rattle.numbers.specs.Sets.{IsSet, has}
 use Rattle.numbers.proofs.Lists.{AllByRecursion-weaker}
 use Rattle.numbers.proofs.SetLemmas.{has-IsSet_below}
 use Rattle.message.specs.Lines.{AreCounts, HasLine, IsCount, voter_number}
-use Rattle.message.specs.declared.message.ClientBody.{ClientBody}
-use Rattle.message.specs.declared.message.ClientBody.TheVariants as to_client
 use Rattle.message.specs.declared.message.Message.TheVariants as kinds
 use Rattle.message.specs.declared.message.ToClient.{ToClient}
 use Rattle.message.specs.declared.message.ToVoter.{ToVoter}
@@ -23,13 +21,14 @@ use Rattle.requester.specs.declared.state.Seen.{Seen}
 use Rattle.requester.specs.declared.state.Seen.TheVariants.{Nothing, Left}
 use Rattle.requester.specs.Words.{held_of, is_idle, is_relinquished, last_of, members}
 use Rattle.requester.specs.Soundness.{IsSound}
+use Rattle.requester.specs.Votes.{IsGiving, IsReleasing}
 use Rattle.requester.specs.Saved.{head_words, words_of}
 use Rattle.requester.specs.Leases.{disclaim, disclaim_in, disclaim_unless, renew, renew_in}
-use Rattle.requester.specs.Steps.{Asks, Cause, GivesUp, Leaves, Outcome, Takes, begin_request, end_request, enter_if, hold, remind, remind_by, remind_in, remind_member, see, send_requests, step, take, take_body, take_fail, take_fail_by, take_inquire, take_inquire_by, take_locked, take_locked_by, tell}
-use Rattle.requester.proofs.Giving.{GivesBack, GivesBack-relinquish, IsGiving}
+use Rattle.requester.specs.Steps.{Asks, Cause, GivesUp, Leaves, Outcome, Takes, begin_request, end_request, remind, remind_by, remind_in, remind_member, send_requests, step, take, tell}
 use Rattle.requester.proofs.Members.{AllByRecursion-flat_map_members, AllByRecursion-map_members}
+use Rattle.requester.proofs.Messages.{SendsBack-take}
 use Rattle.requester.proofs.RangeLemmas.{is_inside-busy}
-use Rattle.requester.proofs.SoundSteps.{GivesBack-take_fail_by, IsSound-see, Ok-same, ask-Ok, give_up-Ok, is_asking-busy, leave-Ok}
+use Rattle.requester.proofs.SoundSteps.{Ok-same, ask-Ok, give_up-Ok, is_asking-busy, leave-Ok}
 use Rattle.words.specs.WordBytes.{FitIn64Bits}
 use Rattle.lock_blocks.specs.Bytes.{IsClient}
 use Rattle.lock_blocks.specs.Lines.{VotersCanRead}
@@ -79,49 +78,25 @@ member_most q v set member = let few = has-IsSet_below q v set member in omega a
 stamp_counts : (x : ClientState) → IsSound x → 1 ≤ x.stamp → IsCount x.stamp
 stamp_counts x s some = let most = s.stamp in let limit = s.limit in (some, omega arith)
 
--- a message that gives a vote back
-giving_read : (x : ClientState) (o : Outcome) → IsSound x → HeldFit x → GivesBack x o → (m : ToVoter) → IsGiving x o.state m → CanRead m
-giving_read x o s fit k m g =
-    let w = s.held m.voter g.vote.was in
-    let was = g.vote.was in
-    let few = has-IsSet_below (members x) m.voter s.quorum w.member in
-    let some : 1 ≤ held_of x m.voter = grind (arith, nat_tests) in (
-      subst (λ n. n ≤ 63) (sym g.client) (id_most x s),
+-- a message that gives a vote back, or releases one
+back_read : (x : ClientState) (m : ToClient) (n : ToVoter) → IsSound x → HeldFit x → HasLine (kinds.ToClient m) → IsGiving m x (take x m) n ⊎ IsReleasing m x n → CanRead n
+back_read x m n s fit line (inl gives) =
+    let had = gives.vote.had in
+    let few = has-IsSet_below (members x) n.voter s.quorum (s.held n.voter had).member in
+    let some : 1 ≤ held_of x n.voter = grind (arith, nat_tests) in (
+      subst (λ k. k ≤ 63) (sym gives.client) (id_most x s),
       omega (arith, few),
-      subst (λ (b : VoterBody). IsCount (voter_number b)) (sym g.body) (some, fit m.voter few),
+      subst (λ (b : VoterBody). IsCount (voter_number b)) (sym gives.body) (some, fit n.voter few),
     )
-
-gives_read : (x : ClientState) (o : Outcome) → IsSound x → HeldFit x → GivesBack x o → VotersCanRead o.out
-gives_read x o s fit k = AllByRecursion-weaker (IsGiving x o.state) CanRead (giving_read x o s fit k) o.out k.out
-
--- Any message that comes
-
-enter_read : (b : Bool) (x : ClientState) → VotersCanRead (enter_if b x).out
-enter_read false x = tt
-enter_read true x = tt
-
-locked_read : (current fresh : Bool) (x : ClientState) (voter stamp grant : ℕ) → IsSound x → voter ≤ 63 → IsCount stamp → VotersCanRead (take_locked_by current fresh x voter stamp grant).out
-locked_read false fresh x voter stamp grant s few counts = ((id_most x s, few, counts), tt)
-locked_read true false x voter stamp grant s few counts = tt
-locked_read true true x voter stamp grant s few counts = enter_read _ (hold x voter grant)
-
-fail_read : (b : Bool) (x : ClientState) (voter : ℕ) → IsSound x → HeldFit x → VotersCanRead (take_fail_by b x voter).out
-fail_read false x voter s fit = tt
-fail_read true x voter s fit = gives_read x (take_fail_by true x voter) s fit (GivesBack-take_fail_by x voter s.places)
-
-inquire_read : (b hindered : Bool) (x : ClientState) (voter : ℕ) → IsSound x → HeldFit x → VotersCanRead (take_inquire_by b hindered x voter).out
-inquire_read true true x voter s fit = gives_read x (take_inquire_by true true x voter) s fit (GivesBack-relinquish x voter s.places)
-inquire_read b hindered x voter s fit = tt
-
-body_read : (x : ClientState) (voter : ℕ) (b : ClientBody) → IsSound x → HeldFit x → voter ≤ 63 → AreCounts b → VotersCanRead (take_body x voter b).out
-unfolding take_locked take_fail take_inquire
-body_read x voter (to_client.Locked stamp grant) s fit few counts = locked_read _ _ x voter stamp grant s few counts.0
-body_read x voter (to_client.Fail stamp) s fit few counts = fail_read _ x voter s fit
-body_read x voter (to_client.Inquire grant) s fit few counts = inquire_read _ _ x voter s fit
+back_read x m n s fit line (inr releases) = (
+  subst (λ k. k ≤ 63) (sym releases.client) (id_most x s),
+  subst (λ v. v ≤ 63) (sym releases.voter) line.0,
+  subst (λ (b : VoterBody). IsCount (voter_number b)) (sym releases.body) (subst AreCounts releases.locked line.3).0,
+)
 
 take_read : (x : ClientState) (m : ToClient) → IsSound x → HeldFit x → HasLine (kinds.ToClient m) → VotersCanRead (take x m).out
-unfolding take
-take_read x m s fit line = body_read (see x m.seen) m.voter m.body (IsSound-see x m.seen s) fit line.0 line.3
+take_read x m s fit line =
+    AllByRecursion-weaker (λ n. IsGiving m x (take x m) n ⊎ IsReleasing m x n) CanRead (λ n. back_read x m n s fit line) (take x m).out (SendsBack-take x m s)
 
 -- Calls
 

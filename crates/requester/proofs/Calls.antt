@@ -1,5 +1,5 @@
 -- What callers rest on after a call.
-use Rattle.std.proofs.Common.{◌≡◌, ℕ, ◌≤◌, Bool, true, false, List, [], ◌∷◌, length, refl, sym, ap, subst, Result, Ok, Err}
+use Rattle.std.proofs.Common.{◌≡◌, ℕ, ◌≤◌, List, [], length, refl, sym, ap, subst, Result, Ok, Err}
 use Rattle.std.specs.Prelude.{IfOk, IfErr}
 use Rattle.numbers.specs.Sets.{IsSet}
 use Rattle.message.specs.declared.message.ToClient.{ToClient}
@@ -8,10 +8,10 @@ use Rattle.message.specs.declared.message.ToVoter.{ToVoter}
 use Rattle.requester.specs.declared.state.Seen.{Seen}
 use Rattle.requester.specs.declared.state.Seen.TheVariants.{Nothing}
 use Rattle.requester.specs.declared.state.ClientState.{ClientState}
-use Rattle.requester.specs.Words.{holds}
 use Rattle.requester.specs.Soundness.{IsSound}
 use Rattle.requester.specs.RequesterContract.{Accepts}
-use Rattle.requester.specs.Steps.{Outcome, Cause, Asks, Leaves, GivesUp, step, ask, leave, give_up, take, relinquish, relinquish_if, relinquish_each, take_fail, take_fail_by, take_inquire, take_inquire_by}
+use Rattle.requester.specs.Steps.{Outcome, Cause, Asks, Leaves, GivesUp, step, ask, leave, give_up, take, take_fail, take_inquire}
+use Rattle.requester.proofs.Messages.{moves-fail_by, moves-inquire_by}
 use Rattle.requester.proofs.SoundSteps.{IsSound-step, IsSound-take}
 use Rattle.requester.proofs.ContractLemmas.{MeetsContract-step, MeetsContract-take}
 
@@ -66,27 +66,10 @@ IsSameClient-take x y m out seen s e =
 
 -- FAIL and INQUIRE let nothing be seen
 
-seen-relinquish_if : (b : Bool) (x : ClientState) (v : ℕ) → (relinquish_if b x v).seen ≡ Nothing
-seen-relinquish_if false x v = refl
-seen-relinquish_if true x v = refl
-
-seen-relinquish_each : (x : ClientState) (vs : List ℕ) → (relinquish_each x vs).seen ≡ Nothing
-seen-relinquish_each x [] = refl
-seen-relinquish_each x (v ∷ vs) = refl
-
-seen-take_fail_by : (b : Bool) (x : ClientState) (v : ℕ) → (take_fail_by b x v).seen ≡ Nothing
-seen-take_fail_by false x v = refl
-seen-take_fail_by true x v = seen-relinquish_each _ _
-
 pub seen-take_fail : (x : ClientState) (v t : ℕ) → (take_fail x v t).seen ≡ Nothing
 unfolding take_fail
-seen-take_fail x v t = seen-take_fail_by _ x v
-
-seen-take_inquire_by : (b hindered : Bool) (x : ClientState) (v : ℕ) → (take_inquire_by b hindered x v).seen ≡ Nothing
-unfolding relinquish
-seen-take_inquire_by true true x v = seen-relinquish_if (holds x v) x v
-seen-take_inquire_by b hindered x v = refl
+seen-take_fail x v t = (moves-fail_by _ x v).seen
 
 pub seen-take_inquire : (x : ClientState) (v g : ℕ) → (take_inquire x v g).seen ≡ Nothing
 unfolding take_inquire
-seen-take_inquire x v g = seen-take_inquire_by _ _ x v
+seen-take_inquire x v g = (moves-inquire_by _ _ x v).seen

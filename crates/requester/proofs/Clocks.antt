@@ -18,57 +18,22 @@ use Rattle.requester.specs.declared.state.Seen.TheVariants.{Nothing}
 use Rattle.requester.specs.Clocks.{KeepsTime}
 use Rattle.requester.specs.Words.{holds, is_asking, is_current, is_member, is_relinquished, last_of, members}
 use Rattle.requester.specs.Soundness.{IsSound}
-use Rattle.requester.specs.Steps.{Outcome, Cause, Asks, Takes, Leaves, GivesUp, step, take, take_body, see, tell, take_locked, take_locked_by, enter_if, hold, take_fail, take_fail_by, take_inquire}
-use Rattle.requester.specs.Steps.{take_inquire_by, remind, remind_in, remind_by, remind_member}
-use Rattle.requester.proofs.Giving.{GivesBack, GivesBack-relinquish}
-use Rattle.requester.proofs.SoundSteps.{GivesBack-take_fail_by, IsSound-see, Ok-same, ask-Ok, leave-Ok, give_up-Ok}
+use Rattle.requester.specs.Steps.{Outcome, Cause, Asks, Takes, Leaves, GivesUp, step, take, take_body, see, tell, take_locked, take_locked_by}
+use Rattle.requester.specs.Steps.{remind, remind_in, remind_by, remind_member}
+use Rattle.requester.proofs.Messages.{KeepsRequest-take}
+use Rattle.requester.proofs.SoundSteps.{Ok-same, ask-Ok, leave-Ok, give_up-Ok}
 
 -- ---- a message
 
--- the clock and the stamp are as they were, and a client that asks afterwards asked before
-record Stays (x y : ClientState) : Type 0 where
-  clock : y.clock ≡ x.clock
-  stamp : y.stamp ≡ x.stamp
-  asking : is_asking y.phase ≡ true → is_asking x.phase ≡ true
-
-Stays-self : (x : ClientState) → Stays x x
-Stays-self x = record { clock = refl; stamp = refl; asking = λ a. a }
-
-Stays-enter : (b : Bool) (x : ClientState) (v g : ℕ) → Stays x (enter_if b (hold x v g)).state
-Stays-enter false x v g = record { clock = refl; stamp = refl; asking = λ a. a }
-Stays-enter true x v g = record { clock = refl; stamp = refl; asking = λ a. absurd (false≢true a) }
-
-Stays-take_locked_by : (current fresh : Bool) (x : ClientState) (v t g : ℕ) → Stays x (take_locked_by current fresh x v t g).state
-Stays-take_locked_by true true x v t g = Stays-enter _ x v g
-Stays-take_locked_by current fresh x v t g = Stays-self x
-
-Stays-GivesBack : (x : ClientState) (o : Outcome) → GivesBack x o → Stays x o.state
-Stays-GivesBack x o k = record { clock = k.clock; stamp = k.stamp; asking = λ a. ap is_asking (sym k.phase) ∙ a }
-
-Stays-take_fail_by : (b : Bool) (x : ClientState) (v : ℕ) → IsSound x → Stays x (take_fail_by b x v).state
-Stays-take_fail_by false x v s = Stays-self x
-Stays-take_fail_by true x v s = Stays-GivesBack x (take_fail_by true x v) (GivesBack-take_fail_by x v s.places)
-
-Stays-take_inquire_by : (b hindered : Bool) (x : ClientState) (v : ℕ) → IsSound x → Stays x (take_inquire_by b hindered x v).state
-Stays-take_inquire_by false hindered x v s = Stays-self x
-Stays-take_inquire_by true false x v s = record { clock = refl; stamp = refl; asking = λ a. a }
-Stays-take_inquire_by true true x v s = Stays-GivesBack x (take_inquire_by true true x v) (GivesBack-relinquish x v s.places)
-
-Stays-body : (x : ClientState) (v : ℕ) (b : ClientBody) → IsSound x → Stays x (take_body x v b).state
-unfolding take_locked take_fail take_inquire
-Stays-body x v (to_client.Locked t g) s = Stays-take_locked_by _ _ x v t g
-Stays-body x v (to_client.Fail t) s = Stays-take_fail_by _ x v s
-Stays-body x v (to_client.Inquire g) s = Stays-take_inquire_by _ _ x v s
-
-Stays-take : (x : ClientState) (m : ToClient) → IsSound x → Stays (see x m.seen) (take x m).state
-unfolding take
-Stays-take x m s = Stays-body (see x m.seen) m.voter m.body (IsSound-see x m.seen s)
-
-KeepsTime-take : (x : ClientState) (m : ToClient) → IsSound x → KeepsTime x (Takes m) (take x m).state
-KeepsTime-take x m s =
-    let k = Stays-take x m s in
+KeepsTime-take : (x : ClientState) (m : ToClient) → KeepsTime x (Takes m) (take x m).state
+KeepsTime-take x m =
+    let k = KeepsRequest-take x m in
     let clock = k.clock in
-    record { clock = omega arith; heard = omega arith; asking = λ a. inl (k.asking a, k.stamp) }
+    record {
+      clock = omega arith;
+      heard = omega arith;
+      asking = λ asks. elim k.phase [ inl same ↦ inl (ap is_asking (sym same.0) ∙ asks, k.stamp) | inr enters ↦ absurd (false≢true (sym (ap is_asking enters.after) ∙ asks)) ];
+    }
 
 -- ---- a call
 
@@ -78,7 +43,7 @@ KeepsTime-call x cause o p same k = subst (λ (q : Outcome). KeepsTime x cause q
 pub KeepsTime-step : (x : ClientState) (cause : Cause) (o : Outcome) → IsSound x → step x cause ≡ Ok o → KeepsTime x cause o.state
 unfolding step
 KeepsTime-step x (Asks q) o s e = KeepsTime-call x (Asks q) o _ (ask-Ok x q o e).2 (record { clock = omega arith; heard = tt; asking = λ _. inr (omega arith) })
-KeepsTime-step x (Takes m) o s e = KeepsTime-call x (Takes m) o _ (Ok-same (take x m) o e) (KeepsTime-take x m s)
+KeepsTime-step x (Takes m) o s e = KeepsTime-call x (Takes m) o _ (Ok-same (take x m) o e) (KeepsTime-take x m)
 KeepsTime-step x Leaves o s e = KeepsTime-call x Leaves o _ (leave-Ok x o e).1 (record { clock = omega arith; heard = tt; asking = λ a. absurd (false≢true a) })
 KeepsTime-step x GivesUp o s e = KeepsTime-call x GivesUp o _ (give_up-Ok x o e).1 (record { clock = omega arith; heard = tt; asking = λ a. absurd (false≢true a) })
 

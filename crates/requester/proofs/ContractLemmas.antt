@@ -1,31 +1,27 @@
 -- The contract of a client.
 use Rattle.std.proofs.Common.{◌≡◌, ◌≢◌, ℕ, ◌+◌, ◌≤◌, Bool, true, false, ◌&&◌, not, ltb, eqb, List, refl, sym, ap, subst, ◌∙◌, ◌⊎◌, inl, inr, arith, Ok}
 use Rattle.std.specs.Prelude.{◌==◌}
-use Rattle.std.proofs.lemmas.Bool.{cases_eq, and_parts}
+use Rattle.std.proofs.lemmas.Bool.{and_parts}
 use Rattle.std.proofs.lemmas.Bool.Decides.{nat_tests}
 use Rattle.message.specs.declared.message.ToVoter.{ToVoter}
 use Rattle.message.specs.declared.message.ToClient.{ToClient}
-use Rattle.message.specs.declared.message.VoterBody.{VoterBody}
 use Rattle.message.specs.declared.message.VoterBody.TheVariants as asks
-use Rattle.message.specs.declared.message.ClientBody.{ClientBody}
-use Rattle.message.specs.declared.message.ClientBody.TheVariants as to_client
 use Rattle.requester.specs.declared.state.Phase.{Phase}
 use Rattle.requester.specs.declared.state.Phase.TheVariants.{Idle, Asking, Inside}
 use Rattle.requester.specs.declared.state.Seen.{Seen}
 use Rattle.requester.specs.declared.state.Seen.TheVariants.{Nothing, Left}
 use Rattle.requester.specs.declared.state.ClientState.{ClientState}
-use Rattle.requester.specs.Words.{is_idle, is_inside, members, is_current, held_of, holds, holds_under, last_of}
+use Rattle.requester.specs.Words.{is_idle, is_inside, members, held_of, holds, holds_under, last_of}
 use Rattle.requester.specs.Soundness.{IsSound}
+use Rattle.requester.specs.Votes.{KeepsRequest, IsGiving, IsReleasing, VoteFate}
 use Rattle.requester.specs.RequesterContract.{Accepts, IsLive, IsLocked, Locks, Sees, KeepsQuorum, Says, MeetsContract, Repeats, AllRepeat}
-use Rattle.requester.specs.Steps.{Outcome, no_effect, clear_votes, begin_request, send_requests, tell, is_fresh, hold, enter_if, take_locked, take_locked_by, take_fail, take_fail_by, take_inquire, take_inquire_by, see}
-use Rattle.requester.specs.Steps.{take_body, take, end_request, Cause, Asks, Takes, Leaves, GivesUp, step, remind, remind_in, remind_by, remind_member}
+use Rattle.requester.specs.Steps.{Outcome, clear_votes, begin_request, send_requests, tell}
+use Rattle.requester.specs.Steps.{take, end_request, Cause, Asks, Takes, Leaves, GivesUp, step, remind, remind_in, remind_by, remind_member}
 use Rattle.requester.proofs.Members.{absurd-true_false, AllByRecursion-map_members, AllByRecursion-flat_map_members}
-use Rattle.requester.proofs.Giving.{GivesBack, IsGiving, Given, GivesBack-no_effect, GivesBack-relinquish}
-use Rattle.requester.proofs.SoundSteps.{Counts, Counts-is_fresh, is_current-busy, HoldsMore-hold, is_inside-from_Counts, GivesBack-take_fail_by, is_asking-outside, IsSound-see}
+use Rattle.requester.proofs.Messages.{KeepsRequest-take, SendsBack-take, VoteFate-take, outside_then}
+use Rattle.requester.proofs.SoundSteps.{busy_after, is_asking-outside}
 use Rattle.requester.proofs.SoundSteps.{Ok-same, ask-Ok, leave-Ok, give_up-Ok}
 use Rattle.numbers.proofs.Lists.{AllByRecursion-weaker, slice_index-replicate_zero}
-
--- Steps that give votes back
 
 holds_under-parts : (x : ClientState) (v g : ℕ) → holds_under x v g ≡ true → (holds x v ≡ true) × (held_of x v ≡ g)
 holds_under-parts x v g e = let p = and_parts (holds x v) (held_of x v == g) e in (p.0, grind (arith, nat_tests))
@@ -33,163 +29,77 @@ holds_under-parts x v g e = let p = and_parts (holds x v) (held_of x v == g) e i
 holds_under-from_parts : (x : ClientState) (v g : ℕ) → holds x v ≡ true → held_of x v ≡ g → holds_under x v g ≡ true
 holds_under-from_parts x v g h e = grind (arith, nat_tests)
 
-holds_under-same_held : (x y : ClientState) (v g : ℕ) → held_of y v ≡ held_of x v → holds_under y v g ≡ true → holds_under x v g ≡ true
-holds_under-same_held x y v g same h = ap (λ n. ltb 0 n && eqb n g) (sym same) ∙ h
-
-Given-free : (x y : ClientState) (v : ℕ) → Given x y v → holds y v ≡ false
-Given-free x y v g = ap (ltb 0) g.gone
-
-Says-IsGiving : (x : ClientState) (cause : Cause) (y : ClientState) (m : ToVoter) → IsGiving x y m → (m.client ≡ x.id) × Says x cause y m.voter m.body
-Says-IsGiving x cause y m g = (
-  g.client,
-  subst (λ b. Says x cause y m.voter b) (sym g.body) (sym g.vote.last, holds_under-from_parts x m.voter (held_of x m.voter) g.vote.was refl, Given-free x y m.voter g.vote),
-)
-
-last_of-Given : (x y : ClientState) (v : ℕ) → IsSound x → Given x y v → last_of x v ≤ last_of y v
-last_of-Given x y v s g = let fresh = (s.held v g.was).fresh in let last = g.last in omega arith
-
-pub MeetsContract-GivesBack : (x : ClientState) (m : ToClient) (o : Outcome) → IsSound x → GivesBack x o → MeetsContract x (Takes m) o
-MeetsContract-GivesBack x m o s k = record {
-  id = k.id;
-  limit = k.limit;
-  later = record {
-    stamp = let stamp = k.stamp in omega arith;
-    last = λ v. elim (k.votes v) [
-      | inl kept ↦ let last = kept.last in omega arith
-      | inr given ↦ last_of-Given x o.state v s given.0
-    ];
-    idle = λ _ idle. ap is_idle k.phase ∙ idle;
-  };
-  held = λ v g h. elim (k.votes v) [
-    | inl kept ↦ inl (holds_under-same_held x o.state v g kept.held h, k.stamp)
-    | inr given ↦ absurd-true_false (holds o.state v) (holds_under-parts o.state v g h).0 (Given-free x o.state v given.0)
-  ];
-  last = λ v. elim (k.votes v) [
-    | inl kept ↦ inl kept.last
-    | inr given ↦ inr (holds_under-from_parts x v (last_of o.state v) given.0.was (sym given.0.last))
-  ];
-  out = AllByRecursion-weaker (IsGiving x o.state) (λ n. (n.client ≡ x.id) × Says x (Takes m) o.state n.voter n.body) (Says-IsGiving x (Takes m) o.state) o.out k.out;
-  seen = subst (λ (seen : Seen). Sees x.phase seen o.state.phase) (sym k.seen) (ap is_inside (sym k.phase));
-  quorum = (ap (λ q. q.items) k.quorum, ap is_idle k.phase, λ inside. ap is_inside k.phase ∙ inside);
-}
-
--- a step after which the same is held, and nothing is sent
-MeetsContract-no_effect : (x : ClientState) (m : ToClient) → IsSound x → MeetsContract x (Takes m) (no_effect x)
-MeetsContract-no_effect x m s = MeetsContract-GivesBack x m (no_effect x) s (GivesBack-no_effect x s.places)
-
--- LOCKED
+-- Any message
 
 is_current-false : (p : Phase) (s t : ℕ) → (not (is_idle p) && s == t) ≡ false → (is_idle p ≡ true) ⊎ (s ≢ t)
 is_current-false Idle s t e = inl refl
 is_current-false p s t e = inr (λ same. grind (arith, nat_tests))
 
-MeetsContract-enter : (b : Bool) (x : ClientState) (m : ToClient) (t g : ℕ) → m.body ≡ to_client.Locked t g → IsSound x → Counts x m.voter g → is_idle x.phase ≡ false → t ≡ x.stamp
-    → MeetsContract x (Takes m) (enter_if b (hold x m.voter g))
-MeetsContract-enter b x m t g body s c busy current = elim b as (λ b. MeetsContract x (Takes m) (enter_if b (hold x m.voter g))) [
-  | true ↦ record {
-    id = refl;
-    limit = refl;
-    later = record { stamp = omega arith; last = λ v. omega arith; idle = λ _ idle. absurd-true_false (is_idle x.phase) idle busy };
-    held = held Inside refl;
-    last = λ v. inl refl;
-    out = tt;
-    seen = (is_inside-from_Counts x m.voter g s c, refl);
-    quorum = (refl, sym busy, λ _. refl);
-  }
-  | false ↦ record {
-    id = refl;
-    limit = refl;
-    later = record { stamp = omega arith; last = λ v. omega arith; idle = λ _ idle. idle };
-    held = held x.phase busy;
-    last = λ v. inl refl;
-    out = tt;
-    seen = refl;
-    quorum = (refl, refl, λ inside. inside);
-  }
-]
-  where
-    locks : (v h : ℕ) → v ≡ m.voter → h ≡ g → IsLocked (Takes m) v x.stamp h
-    locks v h voter grant = subst (λ b. Locks m.voter b v x.stamp h) (sym body) (voter, sym current, grant)
+last_later : (x : ClientState) (m : ToClient) (o : Outcome) (v : ℕ) → IsSound x → VoteFate m x o v → last_of x v ≤ last_of o.state v
+last_later x m o v s (inl kept) = (let last = kept.last in omega arith)
+last_later x m o v s (inr (inl brought)) = (let last = brought.last in omega arith)
+last_later x m o v s (inr (inr back)) = (let fresh = (s.held v back.had).fresh in let last = back.last in omega arith)
 
-    held : (p : Phase) → is_idle p ≡ false → (v h : ℕ) → holds_under (hold x m.voter g) v h ≡ true
-        → ((holds_under x v h ≡ true) × (x.stamp ≡ x.stamp)) ⊎ (IsLocked (Takes m) v x.stamp h × IsLive (record (hold x m.voter g) { phase = p }) v x.stamp h)
-    held p runs v h e = elim (cases_eq v m.voter) [
-      | inl same ↦
-          let more = HoldsMore-hold x m.voter g s.places c.place in
-          let now : h ≡ g = sym (holds_under-parts (hold x m.voter g) v h e).1 ∙ ap (held_of (hold x m.voter g)) same ∙ more.held in
-          let newer = c.newer in
-          let last : last_of x v ≡ last_of x m.voter = ap (last_of x) same in
-          inr (locks v h same now, record { busy = runs; current = refl; fresh = omega arith })
-      | inr other ↦
-          let more = HoldsMore-hold x m.voter g s.places c.place in
-          inl (holds_under-same_held x (hold x m.voter g) v h (more.other_held v other) e, refl)
-    ]
+last_by : (x : ClientState) (m : ToClient) (o : Outcome) (v : ℕ) → VoteFate m x o v → (last_of o.state v ≡ last_of x v) ⊎ (holds_under x v (last_of o.state v) ≡ true)
+last_by x m o v (inl kept) = inl kept.last
+last_by x m o v (inr (inl brought)) = inl brought.last
+last_by x m o v (inr (inr back)) = inr (holds_under-from_parts x v (last_of o.state v) back.had (sym back.last))
 
-MeetsContract-take_locked_by : (current fresh : Bool) (x : ClientState) (m : ToClient) (t g : ℕ) → m.body ≡ to_client.Locked t g → IsSound x → is_current x t ≡ current → is_fresh x m.voter g ≡ fresh
-    → MeetsContract x (Takes m) (take_locked_by current fresh x m.voter t g)
-MeetsContract-take_locked_by false fresh x m t g body s c f = record {
-  id = refl;
-  limit = refl;
-  later = record { stamp = omega arith; last = λ v. omega arith; idle = λ _ idle. idle };
-  held = λ v h e. inl (e, refl);
-  last = λ v. inl refl;
-  out = ((refl, inr ((g, subst (λ b. Locks m.voter b m.voter t g) (sym body) (refl, refl, refl)), is_current-false x.phase t x.stamp c)), tt);
-  seen = refl;
-  quorum = (refl, refl, λ inside. inside);
-}
-MeetsContract-take_locked_by true false x m t g body s c f = MeetsContract-no_effect x m s
-MeetsContract-take_locked_by true true x m t g body s c f = let k = is_current-busy x t c in MeetsContract-enter _ x m t g body s (Counts-is_fresh x m.voter g s f) k.0 k.1
+held_by : (x : ClientState) (m : ToClient) (o : Outcome) (v g : ℕ) → KeepsRequest x m o → holds_under o.state v g ≡ true → VoteFate m x o v
+    → ((holds_under x v g ≡ true) × (o.state.stamp ≡ x.stamp)) ⊎ (IsLocked (Takes m) v o.state.stamp g × IsLive o.state v o.state.stamp g)
+held_by x m o v g k h (inl kept) = inl (ap (λ n. ltb 0 n && eqb n g) (sym kept.held) ∙ h, k.stamp)
+held_by x m o v g k h (inr (inl brought)) =
+    let number = (holds_under-parts o.state v g h).1 in
+    let newer = brought.newer in
+    let last = brought.last in
+    inr (
+      subst (λ b. Locks m.voter b v o.state.stamp g) (sym brought.body) (sym brought.voter, k.stamp, sym number),
+      record { busy = busy_after x m o k brought.busy; current = refl; fresh = omega arith },
+    )
+held_by x m o v g k h (inr (inr back)) = absurd-true_false (holds o.state v) (holds_under-parts o.state v g h).0 (ap (ltb 0) back.gone)
 
--- FAIL and INQUIRE
+idle_same : (x : ClientState) (m : ToClient) (o : Outcome) → KeepsRequest x m o → is_idle o.state.phase ≡ is_idle x.phase
+idle_same x m o k = elim k.phase [ inl same ↦ ap is_idle same.0 | inr enters ↦ ap is_idle enters.after ∙ sym enters.busy ]
 
-MeetsContract-take_fail_by : (b : Bool) (x : ClientState) (m : ToClient) → IsSound x → MeetsContract x (Takes m) (take_fail_by b x m.voter)
-MeetsContract-take_fail_by false x m s = MeetsContract-no_effect x m s
-MeetsContract-take_fail_by true x m s = MeetsContract-GivesBack x m (take_fail_by true x m.voter) s (GivesBack-take_fail_by x m.voter s.places)
-
-MeetsContract-take_inquire_by : (b hindered : Bool) (x : ClientState) (m : ToClient) → IsSound x → MeetsContract x (Takes m) (take_inquire_by b hindered x m.voter)
-MeetsContract-take_inquire_by false hindered x m s = MeetsContract-no_effect x m s
-MeetsContract-take_inquire_by true false x m s = record {
-  id = refl;
-  limit = refl;
-  later = record { stamp = omega arith; last = λ v. omega arith; idle = λ _ idle. idle };
-  held = λ v h e. inl (e, refl);
-  last = λ v. inl refl;
-  out = tt;
-  seen = refl;
-  quorum = (refl, refl, λ inside. inside);
-}
-MeetsContract-take_inquire_by true true x m s = MeetsContract-GivesBack x m (take_inquire_by true true x m.voter) s (GivesBack-relinquish x m.voter s.places)
-
--- Any message
-
-MeetsContract-body : (x : ClientState) (m : ToClient) (b : ClientBody) → m.body ≡ b → IsSound x → MeetsContract x (Takes m) (take_body x m.voter b)
-unfolding take_locked take_fail take_inquire
-MeetsContract-body x m (to_client.Locked t g) body s = MeetsContract-take_locked_by _ _ x m t g body s refl refl
-MeetsContract-body x m (to_client.Fail t) body s = MeetsContract-take_fail_by _ x m s
-MeetsContract-body x m (to_client.Inquire g) body s = MeetsContract-take_inquire_by _ _ x m s
+says : (x : ClientState) (m : ToClient) (o : Outcome) (n : ToVoter) → KeepsRequest x m o → IsGiving m x o n ⊎ IsReleasing m x n → (n.client ≡ x.id) × Says x (Takes m) o.state n.voter n.body
+says x m o n k (inl gives) =
+    let vote = gives.vote in (
+      gives.client,
+      subst (λ b. Says x (Takes m) o.state n.voter b) (sym gives.body) (sym vote.last, holds_under-from_parts x n.voter (held_of x n.voter) vote.had refl, ap (ltb 0) vote.gone),
+    )
+says x m o n k (inr releases) = (
+  releases.client,
+  subst (λ b. Says x (Takes m) o.state n.voter b) (sym releases.body) (inr (
+    (releases.grant, subst (λ b. Locks m.voter b n.voter releases.stamp releases.grant) (sym releases.locked) (releases.voter, refl, refl)),
+    elim (is_current-false x.phase releases.stamp x.stamp releases.over) [
+      | inl idle ↦ inl (idle_same x m o k ∙ idle)
+      | inr other ↦ inr (λ same. other (same ∙ k.stamp))
+    ],
+  )),
+)
 
 pub MeetsContract-take : (x : ClientState) (m : ToClient) → IsSound x → MeetsContract x (Takes m) (take x m)
-unfolding take
 MeetsContract-take x m s =
-    let y = see x m.seen in
-    let k = MeetsContract-body y m m.body refl (IsSound-see x m.seen s) in
-    let l = k.later in
+    let o = take x m in
+    let k = KeepsRequest-take x m in
+    let stamp = k.stamp in
     record {
       id = k.id;
       limit = k.limit;
-      later = record { stamp = l.stamp; last = l.last; idle = l.idle };
-      held = k.held;
-      last = k.last;
-      out = AllByRecursion-weaker (λ n. (n.client ≡ y.id) × Says y (Takes m) (take_body y m.voter m.body).state n.voter n.body)
-          (λ n. (n.client ≡ x.id) × Says x (Takes m) (take_body y m.voter m.body).state n.voter n.body)
-          (λ n p. (p.0, says_seen (take_body y m.voter m.body).state n.voter n.body p.1)) (take_body y m.voter m.body).out k.out;
-      seen = k.seen;
-      quorum = k.quorum;
+      later = record { stamp = omega arith; last = λ v. last_later x m o v s (VoteFate-take x m v s); idle = λ _ idle. idle_same x m o k ∙ idle };
+      held = λ v g h. held_by x m o v g k h (VoteFate-take x m v s);
+      last = λ v. last_by x m o v (VoteFate-take x m v s);
+      out = AllByRecursion-weaker (λ n. IsGiving m x o n ⊎ IsReleasing m x n) (λ n. (n.client ≡ x.id) × Says x (Takes m) o.state n.voter n.body) (λ n. says x m o n k) o.out (SendsBack-take x m s);
+      seen = elim k.phase [
+        | inl same ↦ subst (λ (seen : Seen). Sees x.phase seen o.state.phase) (sym same.1) (ap is_inside (sym same.0))
+        | inr enters ↦ subst (λ (seen : Seen). Sees x.phase seen o.state.phase) (sym enters.seen) (outside_then x m s enters.counts, ap is_inside enters.after)
+      ];
+      quorum = (
+        ap (λ q. q.items) k.quorum,
+        idle_same x m o k,
+        λ inside. elim k.phase [ inl same ↦ ap is_inside same.0 ∙ inside | inr enters ↦ ap is_inside enters.after ],
+      );
     }
-  where
-    says_seen : (z : ClientState) (v : ℕ) (b : VoterBody) → Says (see x m.seen) (Takes m) z v b → Says x (Takes m) z v b
-    says_seen z v (asks.Request t) p = p
-    says_seen z v b p = p
 
 -- Calls
 

@@ -5,6 +5,7 @@ pub mod Dropping
 pub mod Giving
 pub mod Hindered
 pub mod Members
+pub mod Messages
 pub mod RangeLemmas
 pub mod Rest
 pub mod SavedLemmas

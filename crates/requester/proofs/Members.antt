@@ -1,8 +1,8 @@
 -- Facts on the members of a quorum, on sets of voters, and on lists with a place for each voter.
 use Rattle.std.proofs.Common.{◌≡◌, ◌≢◌, ℕ, ◌+◌, ◌<◌, ◌≤◌, Bool, true, false, ◌&&◌, ◌||◌, not, map, eqb, ltb, List, [], ◌∷◌, length, get_or, refl, sym}
 use Rattle.std.proofs.Common.{ap, subst, ◌∙◌, ◌⊎◌, inl, inr, arith}
-use Rattle.std.specs.List.{AllByRecursion, IsDistinct, list_all, flat_map}
-use Rattle.std.proofs.lemmas.Bool.{false≢true, cases_lt, cases_eq, eq-eqb, ne_eqb, and_parts, not-true}
+use Rattle.std.specs.List.{AllByRecursion, IsDistinct, list_all, list_any, flat_map}
+use Rattle.std.proofs.lemmas.Bool.{false≢true, cases_lt, cases_eq, eq-eqb, ne_eqb, and_from, and_parts, not-true, or_left, or_right}
 use Rattle.std.proofs.lemmas.Bool.Decides.{nat_tests}
 use Rattle.std.proofs.lemmas.Map.Keys.{IsDistinct-cons}
 use Rattle.std.proofs.lemmas.List.{get_or_past}
@@ -47,6 +47,28 @@ list_all-member p v (u ∷ us) a b =
       | false ↦ λ _ rest. list_all-member p v us parts.1 rest
     ] refl b
 
+-- what holds of each number of a list under one test, holds under a weaker one
+pub list_all-weaker : (p q : ℕ → Bool) (vs : List ℕ) → ((v : ℕ) → p v ≡ true → q v ≡ true) → list_all p vs ≡ true → list_all q vs ≡ true
+list_all-weaker p q [] weaker all = refl
+list_all-weaker p q (v ∷ vs) weaker all =
+    let parts = and_parts (p v) (list_all p vs) all in
+    and_from (q v) (list_all q vs) (weaker v parts.0) (list_all-weaker p q vs weaker parts.1)
+
+pub list_any-weaker : (p q : ℕ → Bool) (vs : List ℕ) → ((v : ℕ) → p v ≡ true → q v ≡ true) → list_any p vs ≡ true → list_any q vs ≡ true
+list_any-weaker p q [] weaker any = absurd (false≢true any)
+list_any-weaker p q (v ∷ vs) weaker any = elim (p v) as (λ b. p v ≡ b → (b || list_any p vs) ≡ true → (q v || list_any q vs) ≡ true) [
+  | true ↦ λ is _. or_left (q v) (list_any q vs) (weaker v is)
+  | false ↦ λ _ rest. or_right (q v) (list_any q vs) (list_any-weaker p q vs weaker rest)
+] refl any
+
+pub list_any-member : (p : ℕ → Bool) (v : ℕ) (vs : List ℕ) → has vs v ≡ true → p v ≡ true → list_any p vs ≡ true
+list_any-member p v [] is passes = absurd (false≢true is)
+list_any-member p v (u ∷ us) is passes =
+    elim (eqb u v) as (λ t. eqb u v ≡ t → (t || has us v) ≡ true → list_any p (u ∷ us) ≡ true) [
+      | true ↦ λ e _. let same : v ≡ u = grind (arith, nat_tests) in or_left (p u) (list_any p us) (subst (λ n. p n ≡ true) same passes)
+      | false ↦ λ _ rest. or_right (p u) (list_any p us) (list_any-member p v us rest passes)
+    ] refl is
+
 -- Sets with one voter more or less
 
 pub has-with_voter : (s : List ℕ) (v u : ℕ) → has (with_voter s v) u ≡ true → (u ≡ v) ⊎ (has s u ≡ true)
@@ -70,6 +92,24 @@ has-without_voter s v u h =
 pub has-without_voter-other : (s : List ℕ) (v u : ℕ) → u < 64 → u ≢ v → has (without_voter s v) u ≡ has s u
 has-without_voter-other s v u below other =
     has-set_where (λ i. not (eqb i v) && has s i) u below ∙ ap (λ b. not b && has s u) (ne_eqb u v other)
+
+pub with_below : (s : List ℕ) (v u : ℕ) → has (with_voter s v) u ≡ true → u < 64
+with_below s v u is = (let p : ℕ → Bool = λ i. eqb i v || has s i in has-IsSet_below (set_where p) u (IsSet-set_where p) is)
+
+pub without_below : (s : List ℕ) (v u : ℕ) → has (without_voter s v) u ≡ true → u < 64
+without_below s v u is = (let p : ℕ → Bool = λ i. not (eqb i v) && has s i in has-IsSet_below (set_where p) u (IsSet-set_where p) is)
+
+pub has_with-self : (s : List ℕ) (v : ℕ) → v < 64 → has (with_voter s v) v ≡ true
+has_with-self s v below = has-set_where (λ i. eqb i v || has s i) v below ∙ or_left (eqb v v) (has s v) (eq-eqb v v refl)
+
+pub has_with-before : (s : List ℕ) (v u : ℕ) → u < 64 → has s u ≡ true → has (with_voter s v) u ≡ true
+has_with-before s v u below is = has-set_where (λ i. eqb i v || has s i) u below ∙ or_right (eqb u v) (has s u) is
+
+pub has_with-other : (s : List ℕ) (v u : ℕ) → u < 64 → u ≢ v → has (with_voter s v) u ≡ has s u
+has_with-other s v u below other = has-set_where (λ i. eqb i v || has s i) u below ∙ ap (λ b. b || has s u) (ne_eqb u v other)
+
+pub has_without-self : (s : List ℕ) (v : ℕ) → v < 64 → has (without_voter s v) v ≡ false
+has_without-self s v below = has-set_where (λ i. not (eqb i v) && has s i) v below ∙ ap (λ b. not b && has s v) (eq-eqb v v refl)
 
 -- Lists of messages
 

@@ -1,5 +1,5 @@
 -- To whom a client speaks, and with which numbers.
-use Rattle.std.proofs.Common.{◌≡◌, ℕ, ◌+◌, ◌<◌, ◌≤◌, Bool, true, false, List, refl, sym, ap, subst, ◌∙◌, inl, inr, arith, Ok}
+use Rattle.std.proofs.Common.{◌≡◌, ℕ, ◌+◌, ◌<◌, ◌≤◌, Bool, true, false, List, refl, sym, ap, subst, ◌∙◌, ◌⊎◌, inl, inr, arith, Ok}
 use Rattle.std.proofs.lemmas.Bool.Decides.{nat_tests}
 use Rattle.numbers.specs.Sets.{has, IsSet}
 use Rattle.numbers.proofs.SetLemmas.{has-IsSet_below}
@@ -7,8 +7,6 @@ use Rattle.numbers.proofs.Lists.{AllByRecursion-weaker}
 use Rattle.message.specs.declared.message.ToVoter.{ToVoter}
 use Rattle.message.specs.declared.message.ToClient.{ToClient}
 use Rattle.message.specs.declared.message.VoterBody.TheVariants as asks
-use Rattle.message.specs.declared.message.ClientBody.{ClientBody}
-use Rattle.message.specs.declared.message.ClientBody.TheVariants as to_client
 use Rattle.requester.specs.declared.state.Phase.{Phase}
 use Rattle.requester.specs.declared.state.Phase.TheVariants.{Idle, Asking}
 use Rattle.requester.specs.declared.state.Seen.{Seen}
@@ -16,63 +14,36 @@ use Rattle.requester.specs.declared.state.Seen.TheVariants.{Nothing, Left}
 use Rattle.requester.specs.declared.state.ClientState.{ClientState}
 use Rattle.requester.specs.Words.{is_idle, is_inside, members, is_member, held_of, is_relinquished}
 use Rattle.requester.specs.Soundness.{IsSound}
-use Rattle.requester.specs.RequesterContract.{Accepts, AllInRange, ComesInRange, IsLocked, IsReached, Locks, RemindersInRange, SaysInRange}
-use Rattle.requester.specs.Steps.{Outcome, send_requests, begin_request, tell, hold, enter_if, take_locked, take_locked_by, take_fail, take_fail_by, take_inquire, take_inquire_by, see, take, take_body, end_request, Cause}
+use Rattle.requester.specs.Votes.{KeepsRequest, IsGiving, IsReleasing}
+use Rattle.requester.specs.RequesterContract.{Accepts, AllInRange, ComesInRange, IsLocked, IsReached, IsStamp, Locks, RemindersInRange, SaysInRange}
+use Rattle.requester.specs.Steps.{Outcome, send_requests, begin_request, tell, take, end_request, Cause}
 use Rattle.requester.specs.Steps.{Asks, Takes, Leaves, GivesUp, step, remind, remind_in, remind_by, remind_member}
 use Rattle.requester.proofs.Members.{AllByRecursion-map_members, AllByRecursion-flat_map_members}
-use Rattle.requester.proofs.Giving.{GivesBack, IsGiving, GivesBack-relinquish}
-use Rattle.requester.proofs.SoundSteps.{is_asking-busy, ask-Ok, GivesBack-take_fail_by, give_up-Ok, leave-Ok, Ok-same, IsSound-see}
+use Rattle.requester.proofs.Messages.{KeepsRequest-take, SendsBack-take}
+use Rattle.requester.proofs.SoundSteps.{is_asking-busy, ask-Ok, give_up-Ok, leave-Ok, Ok-same}
 
 abbrev pub InRange : Cause → ClientState → ToVoter → Type 0
 InRange cause y m = IsReached cause y m.voter × (m.voter < 64) × SaysInRange y.limit m.body
 
--- Steps that give votes back
-
-InRange-IsGiving : (x : ClientState) (cause : Cause) (o : Outcome) → IsSound x → GivesBack x o → (m : ToVoter) → IsGiving x o.state m → InRange cause o.state m
-InRange-IsGiving x cause o s k m g =
-    let w = s.held m.voter g.vote.was in
-    let was = g.vote.was in
-    let some : 1 ≤ held_of x m.voter = grind (arith, nat_tests) in (
-      inl (ap (λ q. has q.items m.voter) k.quorum ∙ w.member),
-      has-IsSet_below (members x) m.voter s.quorum w.member,
-      subst (SaysInRange o.state.limit) (sym g.body) some,
-    )
-
-AllInRange-GivesBack : (x : ClientState) (cause : Cause) (o : Outcome) → IsSound x → GivesBack x o → AllInRange cause o.state o.out
-AllInRange-GivesBack x cause o s k = AllByRecursion-weaker (IsGiving x o.state) (InRange cause o.state) (InRange-IsGiving x cause o s k) o.out k.out
-
 -- Any message
 
-AllInRange-enter : (b : Bool) (cause : Cause) (x : ClientState) → AllInRange cause (enter_if b x).state (enter_if b x).out
-AllInRange-enter false cause x = tt
-AllInRange-enter true cause x = tt
-
-AllInRange-take_locked_by : (current fresh : Bool) (x : ClientState) (m : ToClient) (t g : ℕ) → m.body ≡ to_client.Locked t g → m.voter < 64 → ComesInRange x.limit (Takes m)
-    → AllInRange (Takes m) (take_locked_by current fresh x m.voter t g).state (take_locked_by current fresh x m.voter t g).out
-AllInRange-take_locked_by false fresh x m t g body below came =
-    let locks : IsLocked (Takes m) m.voter t g = subst (λ b. Locks m.voter b m.voter t g) (sym body) (refl, refl, refl) in
-    ((inr (t, (g, locks)), below, came m.voter t g locks), tt)
-AllInRange-take_locked_by true false x m t g body below came = tt
-AllInRange-take_locked_by true true x m t g body below came = AllInRange-enter _ (Takes m) (hold x m.voter g)
-
-AllInRange-take_fail_by : (b : Bool) (x : ClientState) (m : ToClient) → IsSound x → AllInRange (Takes m) (take_fail_by b x m.voter).state (take_fail_by b x m.voter).out
-AllInRange-take_fail_by false x m s = tt
-AllInRange-take_fail_by true x m s = AllInRange-GivesBack x (Takes m) (take_fail_by true x m.voter) s (GivesBack-take_fail_by x m.voter s.places)
-
-AllInRange-take_inquire_by : (b hindered : Bool) (x : ClientState) (m : ToClient) → IsSound x → AllInRange (Takes m) (take_inquire_by b hindered x m.voter).state (take_inquire_by b hindered x m.voter).out
-AllInRange-take_inquire_by true true x m s = AllInRange-GivesBack x (Takes m) (take_inquire_by true true x m.voter) s (GivesBack-relinquish x m.voter s.places)
-AllInRange-take_inquire_by b hindered x m s = tt
-
-AllInRange-body : (x : ClientState) (m : ToClient) (b : ClientBody) → m.body ≡ b → IsSound x → m.voter < 64 → ComesInRange x.limit (Takes m)
-    → AllInRange (Takes m) (take_body x m.voter b).state (take_body x m.voter b).out
-unfolding take_locked take_fail take_inquire
-AllInRange-body x m (to_client.Locked t g) body s below came = AllInRange-take_locked_by _ _ x m t g body below came
-AllInRange-body x m (to_client.Fail t) body s below came = AllInRange-take_fail_by _ x m s
-AllInRange-body x m (to_client.Inquire g) body s below came = AllInRange-take_inquire_by _ _ x m s
+in_range : (x : ClientState) (m : ToClient) (o : Outcome) (n : ToVoter) → IsSound x → KeepsRequest x m o → m.voter < 64 → ComesInRange x.limit (Takes m) → IsGiving m x o n ⊎ IsReleasing m x n → InRange (Takes m) o.state n
+in_range x m o n s k below came (inl gives) =
+    let had = gives.vote.had in
+    let member = (s.held n.voter had).member in
+    let some : 1 ≤ held_of x n.voter = grind (arith, nat_tests) in
+    (inl (ap (λ q. has q.items n.voter) k.quorum ∙ member), has-IsSet_below (members x) n.voter s.quorum member, subst (SaysInRange o.state.limit) (sym gives.body) some)
+in_range x m o n s k below came (inr releases) =
+    let locks : IsLocked (Takes m) n.voter releases.stamp releases.grant = subst (λ b. Locks m.voter b n.voter releases.stamp releases.grant) (sym releases.locked) (releases.voter, refl, refl) in (
+      inr (releases.stamp, (releases.grant, locks)),
+      subst (λ v. v < 64) (sym releases.voter) below,
+      subst (SaysInRange o.state.limit) (sym releases.body) (subst (λ l. IsStamp l releases.stamp) (sym k.limit) (came n.voter releases.stamp releases.grant locks)),
+    )
 
 AllInRange-take : (x : ClientState) (m : ToClient) → IsSound x → m.voter < 64 → ComesInRange x.limit (Takes m) → AllInRange (Takes m) (take x m).state (take x m).out
-unfolding take
-AllInRange-take x m s below came = AllInRange-body (see x m.seen) m m.body refl (IsSound-see x m.seen s) below came
+AllInRange-take x m s below came =
+    let o = take x m in
+    AllByRecursion-weaker (λ n. IsGiving m x o n ⊎ IsReleasing m x n) (InRange (Takes m) o.state) (λ n. in_range x m o n s (KeepsRequest-take x m) below came) o.out (SendsBack-take x m s)
 
 -- Calls
 

@@ -6,6 +6,7 @@ use Rattle.numbers.specs.Sets.{has}
 use Rattle.requester.specs.declared.state.ClientState.{ClientState}
 use Rattle.requester.specs.Words.{holds, is_inquired, without_voter}
 use Rattle.requester.specs.Steps.{relinquish, relinquish_if, relinquish_each, relinquish_marked, relinquish_marked_if, relinquish_inquired}
+use Rattle.requester.proofs.Giving.{moves-relinquish}
 use Rattle.requester.proofs.Members.{has-without_voter-other}
 
 filter-without_voter : (s t : ClientState) (v : ℕ) (vs : List ℕ) → t.inquired ≡ without_voter s.inquired v → AllByRecursion (λ u. u < 64) vs → AllByRecursion (λ u. eqb v u ≡ false) vs
@@ -45,14 +46,9 @@ relinquish_inquired-cons_out s v vs below h =
       | false ↦ refl
     ]
 
-quorum-relinquish_if : (b : Bool) (s : ClientState) (v : ℕ) → (relinquish_if b s v).state.quorum ≡ s.quorum
-quorum-relinquish_if false s v = refl
-quorum-relinquish_if true s v = refl
-
 quorum-relinquish_marked_if : (b : Bool) (s : ClientState) (v : ℕ) → (relinquish_marked_if b s v).state.quorum ≡ s.quorum
-unfolding relinquish
 quorum-relinquish_marked_if false s v = refl
-quorum-relinquish_marked_if true s v = quorum-relinquish_if (holds s v) s v
+quorum-relinquish_marked_if true s v = ap (λ (z : ClientState). z.quorum) (moves-relinquish s v).rest
 
 pub quorum-relinquish_marked : (s : ClientState) (v : ℕ) → (relinquish_marked s v).state.quorum ≡ s.quorum
 quorum-relinquish_marked s v = quorum-relinquish_marked_if (is_inquired s v) s v

@@ -9,10 +9,10 @@ use Rattle.requester.specs.declared.state.ClientState.{ClientState}
 use Rattle.requester.specs.Words.{is_idle, is_inside, is_member, members, held_of, holds}
 use Rattle.requester.specs.Soundness.{IsSound}
 use Rattle.requester.specs.Held.{HoldsBesides, HoldsNothing, IsKeptOrGiven}
-use Rattle.requester.specs.Steps.{Outcome, ask, hold, enter_if, take_locked, take_locked_by, take_fail, take_fail_by, take_inquire, take_inquire_by, see, take, take_body, would_hold, would_hold_body, leave, give_up}
+use Rattle.requester.specs.Steps.{Outcome, ask, hold, enter_if, take_locked, take_locked_by, see, take, take_body, would_hold, would_hold_body, leave, give_up}
 use Rattle.requester.proofs.Members.{absurd-true_false, list_all-member}
-use Rattle.requester.proofs.Giving.{GivesBack, GivesBack-relinquish}
-use Rattle.requester.proofs.SoundSteps.{GivesBack-take_fail_by, IsSound-see, ask-Ok, leave-Ok, give_up-Ok}
+use Rattle.requester.proofs.Messages.{VoteFate-take}
+use Rattle.requester.proofs.SoundSteps.{ask-Ok, leave-Ok, give_up-Ok}
 
 -- A LOCKED that counts
 
@@ -35,37 +35,12 @@ HoldsBesides-take x m e = HoldsBesides-take_body x m.seen m.voter m.body e
 
 -- Any other message
 
-IsKeptOrGiven-GivesBack : (x : ClientState) (o : Outcome) → GivesBack x o → (v : ℕ) → IsKeptOrGiven x o v
-IsKeptOrGiven-GivesBack x o k v = elim (k.votes v) [
-  | inl kept ↦ inl kept.held
-  | inr given ↦ inr (given.0.was, given.0.gone, given.1)
-]
-
-IsKeptOrGiven-take_locked_by : (current fresh : Bool) (x : ClientState) (v t g : ℕ) → (current && fresh) ≡ false → (u : ℕ) → IsKeptOrGiven x (take_locked_by current fresh x v t g) u
-IsKeptOrGiven-take_locked_by true true x v t g e u = absurd-true_false true refl e
-IsKeptOrGiven-take_locked_by current fresh x v t g e u = inl refl
-
-IsKeptOrGiven-take_fail_by : (b : Bool) (x : ClientState) (v : ℕ) → IsSound x → (u : ℕ) → IsKeptOrGiven x (take_fail_by b x v) u
-IsKeptOrGiven-take_fail_by false x v s u = inl refl
-IsKeptOrGiven-take_fail_by true x v s u = IsKeptOrGiven-GivesBack x (take_fail_by true x v) (GivesBack-take_fail_by x v s.places) u
-
-IsKeptOrGiven-take_inquire_by : (b hindered : Bool) (x : ClientState) (v : ℕ) → IsSound x → (u : ℕ) → IsKeptOrGiven x (take_inquire_by b hindered x v) u
-IsKeptOrGiven-take_inquire_by true true x v s u = IsKeptOrGiven-GivesBack x (take_inquire_by true true x v) (GivesBack-relinquish x v s.places) u
-IsKeptOrGiven-take_inquire_by b hindered x v s u = inl refl
-
-IsKeptOrGiven-take_body : (x : ClientState) (v : ℕ) (b : ClientBody) → IsSound x → would_hold_body x v b ≡ false → (u : ℕ) → IsKeptOrGiven x (take_body x v b) u
-unfolding take_locked take_fail take_inquire
-IsKeptOrGiven-take_body x v (to_client.Locked t g) s e u = IsKeptOrGiven-take_locked_by _ _ x v t g e u
-IsKeptOrGiven-take_body x v (to_client.Fail t) s e u = IsKeptOrGiven-take_fail_by _ x v s u
-IsKeptOrGiven-take_body x v (to_client.Inquire g) s e u = IsKeptOrGiven-take_inquire_by _ _ x v s u
-
-would_hold-see : (x : ClientState) (n v : ℕ) (b : ClientBody) → would_hold_body (see x n) v b ≡ would_hold_body x v b
-would_hold-see x n v (to_client.Locked t g) = refl
-would_hold-see x n v b = refl
-
 pub IsKeptOrGiven-take : (x : ClientState) (m : ToClient) → IsSound x → would_hold x m ≡ false → (v : ℕ) → IsKeptOrGiven x (take x m) v
-unfolding would_hold take
-IsKeptOrGiven-take x m s e v = IsKeptOrGiven-take_body (see x m.seen) m.voter m.body (IsSound-see x m.seen s) (would_hold-see x m.seen m.voter m.body ∙ e) v
+IsKeptOrGiven-take x m s e v = elim (VoteFate-take x m v s) [
+  | inl kept ↦ inl kept.held
+  | inr (inl brought) ↦ absurd-true_false (would_hold x m) brought.counts e
+  | inr (inr back) ↦ inr (back.had, back.gone, back.sent)
+]
 
 -- Phases
 

@@ -5,4 +5,5 @@ pub mod RequesterContract
 pub mod Saved
 pub mod Soundness
 pub mod Steps
+pub mod Votes
 pub mod Words

@@ -11,6 +11,7 @@ ghost use Rattle.requester.specs.Held.{HoldsBesides, HoldsNothing, IsGivenBack, 
 ghost use Rattle.requester.specs.RequesterContract.{Accepts, AllInRange, AllRepeat, ComesInRange, MeetsContract, RemindersInRange};
 ghost use Rattle.requester.specs.Soundness.{HoldsOfMembers, IsSound};
 ghost use Rattle.requester.specs.Steps.{Cause, Outcome, ask, send_requests, give_up, leave, end_request, remind, see, start, step, take, tell, would_hold};
+ghost use Rattle.requester.specs.Votes.{KeepsRequest, SendsBack, VoteFate};
 ghost use Rattle.requester.specs.Words.{held_of, holds, is_asking, is_current, is_hindered, is_idle, is_inside, is_member, is_relinquished, is_spent, last_of};
 
 use crate::fault::ClientFault;
@@ -50,14 +51,29 @@ pub fn messages_are_in_range()
     ensures reminders { (x : ClientState) → IsSound x → RemindersInRange x (remind x) }
 {}
 
-/// A message for which `would_hold` is true adds its vote to the held ones, and no other. Any other
-/// message adds none, and the votes that are no longer held are exactly those that the client
-/// relinquishes.
+/// A message does one of three things to a vote:
+///
+/// - The vote is kept, with its last grant and its mark.
+/// - The message brings it. Then the message is a LOCKED that counts.
+/// - The vote goes back by RELINQUISH, and its grant is the last one given back.
+///
+/// The request goes on under its stamp, and the client may enter. Besides these RELINQUISHes only
+/// RELEASE is sent, for a vote that came for another request.
+///
+/// So a message for which `would_hold` is true adds its vote to the held ones, and no other. Any
+/// other message adds none, and the votes that are no longer held are exactly those that the client
+/// relinquishes. A vote that was given back stays marked until it is held again, and its grant is
+/// the last one given back.
 pub fn messages_move_votes()
+    ensures votes { (x : ClientState) (m : ToClient) (v : ℕ) → IsSound x → VoteFate m x (take x m) v }
+    ensures request { (x : ClientState) (m : ToClient) → KeepsRequest x m (take x m) }
+    ensures sends { (x : ClientState) (m : ToClient) → IsSound x → SendsBack m x (take x m) }
     ensures would_hold { (x : ClientState) (m : ToClient) → IsSound x → would_hold x m ≡ true
         → HoldsBesides x m.voter m.body (take x m).state }
     ensures others { (x : ClientState) (m : ToClient) → IsSound x → would_hold x m ≡ false → (v : ℕ)
         → IsKeptOrGiven x (take x m) v }
+    ensures votes_given_back_are_marked { (x : ClientState) (m : ToClient) (v : ℕ) → IsSound x
+        → KeepsMark x (take x m).state v }
 {}
 
 /// A client holds only votes of members of its quorum. While it is idle it holds nothing, and while
@@ -99,12 +115,6 @@ pub fn old_votes_go_back()
     ensures { (x : ClientState) (m : ToClient) (stamp grant : ℕ) → m.body ≡ to_client.Locked stamp grant
         → is_current x stamp ≡ false
         → take x m ≡ record { out = tell x m.voter (asks.Release stamp) ∷ []; seen = Seen.Nothing; state = see x m.seen } }
-{}
-
-/// A vote that was given back stays marked until it is held again, and its grant is the last one given
-/// back.
-pub fn votes_given_back_are_marked()
-    ensures { (x : ClientState) (m : ToClient) (v : ℕ) → IsSound x → v < max_voters → KeepsMark x (take x m).state v }
 {}
 
 /// A FAIL of a member whose vote is not held hinders the request that runs. A client that is hindered

@@ -77,7 +77,6 @@ pub use laws::{
     clocks_never_fall, hindered_clients_give_votes_back, messages_are_in_range,
     messages_move_votes, old_votes_go_back, phases_show_refusals, phases_show_votes,
     reminders_ask_again, requesters_meet_the_contract, requesters_stay_sound,
-    votes_given_back_are_marked,
 };
 pub use requester::Requester;
 pub use saved::{SAVED_WORDS, SavedWords};

@@ -1,5 +1,5 @@
 -- how finished stamps change
-use Rattle.std.proofs.Common.{◌≡◌, ℕ, ◌<◌, Bool, true, false, List, Option, Some, None, refl, sym, ap, subst, ◌∙◌, ◌⊎◌, inl, inr, arith, length}
+use Rattle.std.proofs.Common.{◌≡◌, ℕ, ◌<◌, ◌≤◌, Bool, true, false, List, Option, Some, None, refl, sym, ap, subst, ◌∙◌, ◌⊎◌, inl, inr, arith, length}
 use Rattle.std.specs.Prelude.{slice_index, slice_set, max}
 use Rattle.std.proofs.lemmas.Bool.Decides.{nat_tests}
 use Rattle.std.proofs.lemmas.List.{get_or-set_same, get_or-set_other, length-set, set_past}
@@ -43,10 +43,11 @@ finished-take_release v c s = by_release (λ o. o.state.finished ≡ (finish v c
 places-take_release : (v : VoterState) (c s : ℕ) → length (take_release v c s).state.finished ≡ length v.finished
 places-take_release v c s = ap (λ (l : List ℕ). length l) (finished-take_release v c s) ∙ length-set v.finished c (max (slice_index v.finished c) s)
 
-max_cases : (a b : ℕ) → (max a b ≡ a) ⊎ (max a b ≡ b)
-max_cases a b = elim (cases_lt a b) [ inl less ↦ inr (grind (arith, nat_tests)) | inr least ↦ inl (grind (arith, nat_tests)) ]
+max_cases : (a b : ℕ) → (max a b ≡ a) ⊎ ((max a b ≡ b) × (a ≤ b))
+max_cases a b = elim (cases_lt a b) [ inl less ↦ inr (grind (arith, nat_tests), omega arith) | inr least ↦ inl (grind (arith, nat_tests)) ]
 
-finish_cases : (xs : List ℕ) (c s d : ℕ) → (slice_index (slice_set xs c (max (slice_index xs c) s)) d ≡ slice_index xs d) ⊎ ((d ≡ c) × (slice_index (slice_set xs c (max (slice_index xs c) s)) d ≡ s))
+finish_cases : (xs : List ℕ) (c s d : ℕ) → (slice_index (slice_set xs c (max (slice_index xs c) s)) d ≡ slice_index xs d)
+    ⊎ ((d ≡ c) × (slice_index (slice_set xs c (max (slice_index xs c) s)) d ≡ s) × (slice_index xs d ≤ s))
 finish_cases xs c s d =
     let top = max (slice_index xs c) s in
     elim (cases_eq d c) [
@@ -57,14 +58,15 @@ finish_cases xs c s d =
             let here : slice_index (slice_set xs c top) d ≡ top = ap (λ n. slice_index (slice_set xs c top) n) same ∙ get_or-set_same xs c top 0 within in
             elim (max_cases (slice_index xs c) s) [
               | inl old ↦ inl (here ∙ old ∙ ap (slice_index xs) (sym same))
-              | inr new ↦ inr (same, here ∙ new)
+              | inr new ↦ inr (same, here ∙ new.0, subst (λ n. slice_index xs n ≤ s) (sym same) new.1)
             ]
       ]
     ]
 
 -- a release finishes at most up to its stamp
-released_cases : (v : VoterState) (c s d : ℕ) → (slice_index (take_release v c s).state.finished d ≡ slice_index v.finished d) ⊎ ((d ≡ c) × (slice_index (take_release v c s).state.finished d ≡ s))
-released_cases v c s d = subst (λ (l : List ℕ). (slice_index l d ≡ slice_index v.finished d) ⊎ ((d ≡ c) × (slice_index l d ≡ s))) (sym (finished-take_release v c s)) (finish_cases v.finished c s d)
+released_cases : (v : VoterState) (c s d : ℕ) → (slice_index (take_release v c s).state.finished d ≡ slice_index v.finished d)
+    ⊎ ((d ≡ c) × (slice_index (take_release v c s).state.finished d ≡ s) × (slice_index v.finished d ≤ s))
+released_cases v c s d = subst (λ (l : List ℕ). (slice_index l d ≡ slice_index v.finished d) ⊎ ((d ≡ c) × (slice_index l d ≡ s) × (slice_index v.finished d ≤ s))) (sym (finished-take_release v c s)) (finish_cases v.finished c s d)
 
 finished-take_request : (v : VoterState) (c s : ℕ) → FinishesBy v c (asks.Request s) (take_request v c s).state
 finished-take_request v c s = by_request (λ o. FinishesBy v c (asks.Request s) o.state) v c s (record {
@@ -73,9 +75,9 @@ finished-take_request v c s = by_request (λ o. FinishesBy v c (asks.Request s) 
   only = λ _ _ d. inl (ap (λ (l : List ℕ). slice_index l d) (same-admit v c s));
   newer = λ _ t _ less d.
       let w = (take_release v c t).state in
-      subst (λ (l : List ℕ). (slice_index l d ≡ slice_index v.finished d) ⊎ ((d ≡ c) × (slice_index l d < s))) (sym (same-admit w c s)) (elim (released_cases v c t d) [
+      subst (λ (l : List ℕ). (slice_index l d ≡ slice_index v.finished d) ⊎ (((d ≡ c) × (slice_index l d < s)) × (slice_index v.finished d ≤ slice_index l d))) (sym (same-admit w c s)) (elim (released_cases v c t d) [
         | inl stays ↦ inl stays
-        | inr new ↦ inr (new.0, let is = new.1 in omega arith)
+        | inr new ↦ let is = new.1 in let up = new.2 in inr ((new.0, omega arith), omega arith)
       ]);
 })
 
@@ -95,7 +97,7 @@ pub FinishesBy-outcome_of : (v : VoterState) (c : ℕ) (b : VoterBody) → Finis
 FinishesBy-outcome_of v c (asks.Request s) d = finished-take_request (see v s) c s d
 FinishesBy-outcome_of v c (asks.Relinquish n) d =
     inl (ap (λ (l : List ℕ). slice_index l d) (by_relinquish (λ o. Same v o.state) v c n refl (λ g _. same-grant_front (queue (free_vote v) g.client g.stamp))))
-FinishesBy-outcome_of v c (asks.Release s) d = elim (released_cases (see v s) c s d) [ inl stays ↦ inl stays | inr new ↦ inr (new.0, let is = new.1 in omega arith) ]
+FinishesBy-outcome_of v c (asks.Release s) d = elim (released_cases (see v s) c s d) [ inl stays ↦ inl stays | inr new ↦ let is = new.1 in let up = new.2 in inr ((new.0, omega arith), omega arith) ]
 
 pub FinishesBy-step : (v : VoterState) (m : ToVoter) (o : Outcome) → step v m ≡ Some o → FinishesBy v m.client m.body o.state
 FinishesBy-step v m o e = let t = step-Some v m o e in subst (λ (p : Outcome). FinishesBy v m.client m.body p.state) t.1 (FinishesBy-outcome_of v m.client m.body)

@@ -7,6 +7,7 @@ pub mod Finished
 pub mod Freeing
 pub mod Front
 pub mod Grants
+pub mod Inquiring
 pub mod KeptLemmas
 pub mod Moves
 pub mod NewRequests

@@ -126,10 +126,10 @@ module _ (S : Type 0) where
   true_former v w None k waits = tt
   true_former v w (Some q) k waits = (record { voter = sym k.id; seen = sym k.seen; vote = tt; place = λ t. waits t q refl }, tt)
 
-  true_inquiry : (out : Bool) (v w : VoterState) (g : Grant) (o : Option Request) → GoesOn v w → v.held ≡ Some g → (S → (q : Request) → o ≡ Some q → get w.waiting q.client ≡ Some q.stamp)
+  true_inquiry : (out : Bool) (v w : VoterState) (g : Grant) (o : Option Request) → GoesOn v w → w.inquiring ≡ true → v.held ≡ Some g → (S → (q : Request) → o ≡ Some q → get w.waiting q.client ≡ Some q.stamp)
       → AreTrue w (inquiry out v g ++ fail_former v o)
-  true_inquiry true v w g o k is waits = true_former v w o k waits
-  true_inquiry false v w g o k is waits = (record { voter = sym k.id; seen = sym k.seen; vote = tt; place = λ _. (g, k.held g is, refl, refl) }, true_former v w o k waits)
+  true_inquiry true v w g o k out is waits = true_former v w o k waits
+  true_inquiry false v w g o k out is waits = (record { voter = sym k.id; seen = sym k.seen; vote = tt; place = λ _. (g, k.held g is, refl, refl, out) }, true_former v w o k waits)
 
   true-join_queue_by : (waits granted : Bool) (v : VoterState) (g : Grant) (c s : ℕ) → v.held ≡ Some g → (S → get v.waiting c ≡ None)
       → AreTrue (join_queue_by waits granted v g c s).state (join_queue_by waits granted v g c s).replies
@@ -139,7 +139,7 @@ module _ (S : Type 0) where
     true_former v (queue v c s) (front v.waiting) (record { id = refl; seen = refl; held = λ g is. is }) (λ t. front_waits v c s (none t)),
   )
   true-join_queue_by false false v g c s is none =
-      true_inquiry v.inquiring v (record (queue v c s) { inquiring = true }) g (front v.waiting) (record { id = refl; seen = refl; held = λ g is. is }) is (λ t. front_waits v c s (none t))
+      true_inquiry v.inquiring v (record (queue v c s) { inquiring = true }) g (front v.waiting) (record { id = refl; seen = refl; held = λ g is. is }) refl is (λ t. front_waits v c s (none t))
 
   true-admit : (v : VoterState) (c s : ℕ) → (S → get v.waiting c ≡ None) → AreTrue (admit v c s).state (admit v c s).replies
   unfolding join_queue
@@ -302,13 +302,13 @@ CarrySeen-step v m o e =
 
 -- A reminder.
 
-true_inquiry_again : (out : Bool) (v : VoterState) (g : Grant) → v.held ≡ Some g → AreTrue (Unit {0}) v (inquiry_again out v g)
-true_inquiry_again true v g is = (record { voter = refl; seen = refl; vote = tt; place = λ _. (g, is, refl, refl) }, tt)
-true_inquiry_again false v g is = tt
+true_inquiry_again : (out : Bool) (v : VoterState) (g : Grant) → v.inquiring ≡ out → v.held ≡ Some g → AreTrue (Unit {0}) v (inquiry_again out v g)
+true_inquiry_again true v g out is = (record { voter = refl; seen = refl; vote = tt; place = λ _. (g, is, refl, refl, out) }, tt)
+true_inquiry_again false v g out is = tt
 
 true_remind_of : (o : Option Grant) (v : VoterState) → v.held ≡ o → AreTrue (Unit {0}) v (remind_of o v)
 true_remind_of None v is = tt
-true_remind_of (Some g) v is = (record { voter = refl; seen = refl; vote = is; place = λ _. tt }, true_inquiry_again v.inquiring v g is)
+true_remind_of (Some g) v is = (record { voter = refl; seen = refl; vote = is; place = λ _. tt }, true_inquiry_again v.inquiring v g refl is)
 
 true-remind : (v : VoterState) → AreTrue (Unit {0}) v (remind v)
 unfolding remind

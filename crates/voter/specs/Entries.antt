@@ -27,10 +27,12 @@ abbrev pub AsksBack : VoterState → Type 0
 AsksBack v = (g : Grant) (client stamp : ℕ) → v.held ≡ Some g → get v.waiting client ≡ Some stamp
     → precedes (record { stamp = stamp; client = client }) (request_of g) ≡ true → v.inquiring ≡ true
 
--- each finished stamp is as before, or the message finishes the request of that stamp
+-- each finished stamp is as before, or the message finishes the request of that stamp, which isn't
+-- less
 abbrev pub FinishesBy : VoterState → ℕ → VoterBody → VoterState → Type 0
 FinishesBy v client body w =
-    (c : ℕ) → (slice_index w.finished c ≡ slice_index v.finished c) ⊎ Finishes client body c (slice_index w.finished c)
+    (c : ℕ) → (slice_index w.finished c ≡ slice_index v.finished c)
+    ⊎ (Finishes client body c (slice_index w.finished c) × (slice_index v.finished c ≤ slice_index w.finished c))
 
 -- each request of this client that has the vote or waits has at most this stamp
 abbrev pub KnowsUpTo : VoterState → ℕ → ℕ → Type 0

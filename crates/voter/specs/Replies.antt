@@ -1,5 +1,5 @@
 -- What the replies of a step say.
-use Rattle.std.specs.Prelude.{ℕ, ◌≡◌, ◌+◌, ◌≤◌, List, [], ◌∷◌, Some, max, length}
+use Rattle.std.specs.Prelude.{ℕ, ◌≡◌, ◌+◌, ◌≤◌, true, List, [], ◌∷◌, Some, max, length}
 use Rattle.std.specs.List.{AllByRecursion}
 use Rattle.std.specs.FinMap.{get}
 use Rattle.message.specs.declared.message.ToClient.{ToClient}
@@ -13,11 +13,11 @@ use Rattle.voter.specs.declared.state.VoterState.{VoterState}
 use Rattle.voter.specs.Steps.{Outcome}
 
 -- FAIL goes to a client that waits, with the stamp of its request. INQUIRE goes to the holder, with
--- the number of its grant.
+-- the number of its grant, and is outstanding then.
 abbrev pub ReportsPlace : VoterState → ℕ → ClientBody → Type 0
 ReportsPlace v client (to_client.Locked stamp grant) = Unit {0}
 ReportsPlace v client (to_client.Fail stamp) = get v.waiting client ≡ Some stamp
-ReportsPlace v client (to_client.Inquire grant) = (g : Grant) × (v.held ≡ Some g) × (g.client ≡ client) × (g.grant ≡ grant)
+ReportsPlace v client (to_client.Inquire grant) = (g : Grant) × (v.held ≡ Some g) × (g.client ≡ client) × (g.grant ≡ grant) × (v.inquiring ≡ true)
 
 -- each FAIL and each INQUIRE among these replies does so
 abbrev pub AllReportPlace : VoterState → List ToClient → Type 0

@@ -11,7 +11,7 @@ ghost use Rattle.voter.specs.Entries.{AsksBack, Finishes, FinishesBy, KnowsUpTo,
 ghost use Rattle.voter.specs.Replies.{AllCarry, AllReportPlace, AreAnswers, CarrySeen};
 ghost use Rattle.voter.specs.Saved.{IsKept, least_voter};
 ghost use Rattle.voter.specs.Steps.{IsSound, Outcome, effect_of, inquiry_again, remind, reply, start, step};
-ghost use Rattle.voter.specs.VoteMoves.{GrantIsNew, VoteMoves};
+ghost use Rattle.voter.specs.VoteMoves.{GrantIsNew, KeepsGrants, VoteMoves};
 ghost use Rattle.voter.specs.VoterContract.{AllReport, IsEntry, MeetsContract};
 ghost use Rattle.message.specs.Requests.{precedes};
 
@@ -53,7 +53,7 @@ pub fn voters_stay_kept()
 {}
 
 /// A message causes at most three replies, and at most one of them is LOCKED. Each FAIL goes to a
-/// client that waits after the step, and each INQUIRE to the holder.
+/// client that waits after the step, and each INQUIRE to the holder. It is outstanding then.
 pub fn replies_report_the_state()
     ensures steps { (v : VoterState) (m : ToVoter) (o : Outcome) → IsSound v → step v m ≡ Some o → AreAnswers o }
     ensures reminders { (v : VoterState) → AllReportPlace v (remind v) }
@@ -106,9 +106,15 @@ pub fn votes_given_back_go_on()
 
 /// If a waiting request precedes the one that has the vote, an INQUIRE is outstanding. So it is of a
 /// new voter, and so it stays.
+///
+/// The grant that has the vote after a message had it before, or has a greater number than all
+/// before it. An INQUIRE stays outstanding as long as its grant has the vote. A new one is sent only
+/// for a new request that the granted one doesn't precede.
 pub fn votes_are_asked_back()
     ensures first { (id limit : ℕ) → AsksBack (start id limit) }
     ensures steps { (v : VoterState) (m : ToVoter) (o : Outcome) → AsksBack v → step v m ≡ Some o → AsksBack o.state }
+    ensures grants { (v : VoterState) (m : ToVoter) (o : Outcome) → step v m ≡ Some o
+        → KeepsGrants v m.client m.body o.state }
 {}
 
 /// A finished stamp stays as it was, or the message finishes the request of that stamp.

@@ -1,7 +1,6 @@
 -- how the votes come to a request that precedes all others that run, once no voter's grant is behind it; later
 -- requests may begin and end meanwhile
 use Rattle.std.proofs.Common.{◌≡◌, ◌≢◌, ℕ, ◌<◌, ◌≤◌, true, false, List, [], ◌∷◌, ◌++◌, length, Some, refl, sym, ap, subst, subst₂, ◌∙◌, ◌⊎◌, inl, inr, arith}
-use Rattle.std.specs.Prelude.{slice_index}
 use Rattle.std.proofs.lemmas.Bool.{cases_eq, cases_lt, false≢true, false_from_ne_true}
 use Rattle.std.proofs.lemmas.Option.{same_Some}
 use Rattle.message.specs.declared.message.ToClient.{ToClient}
@@ -14,7 +13,8 @@ use Rattle.voter.specs.VoterContract.{IsEntry}
 use Rattle.message.specs.Requests.{precedes}
 use Rattle.requester.specs.declared.state.ClientState.{ClientState}
 use Rattle.requester.specs.Steps as requester
-use Rattle.requester.specs.Words.{held_of, holds, is_current, last_of}
+use Rattle.requester.specs.Votes.{AsksFor}
+use Rattle.requester.specs.Words.{held_of, holds, is_current, is_inquired, last_of}
 use Rattle.requester.proofs.SoundSteps.{is_asking-busy}
 use Rattle.world_state.specs.declared.step.Step.{Step}
 use Rattle.world_state.specs.declared.step.Step.TheVariants.{Deliver, RemindClient, RemindVoter}
@@ -24,7 +24,8 @@ use Rattle.world.proofs.Plans.{run_then}
 use Rattle.progress.specs.LiveRounds.{AreLiveRounds, IsLiveRound, IsReminded}
 use Rattle.progress.specs.Moves.{of_steps}
 use Rattle.progress.specs.Rules.{Laws}
-use Rattle.progress.proofs.block.Ahead.{asks_no_vote, grant_step}
+use Rattle.progress.proofs.block.Ahead.{grant_step}
+use Rattle.progress.proofs.invariants.Inquiries.{asks_no_vote}
 use Rattle.progress.proofs.run.Along.{Along, along-first, along-kept, along-last, along-or, along-split, next, reminded_at}
 use Rattle.progress.proofs.overtaking.Behind.{the_request}
 use Rattle.progress.proofs.invariants.Fitting.{held_grant, own_stamp}
@@ -35,7 +36,6 @@ use Rattle.progress.proofs.invariants.Outstanding.{came_noted}
 use Rattle.progress.proofs.block.Overdue.{Only, gives_back}
 use Rattle.progress.proofs.block.Steady.{AskedFor, GivenBack, GivenBack-lasting, HasVote, IsLasting, IsOf, Marked, Marked-lasting, Never, Never-lasting, Seeks, Steady, Told, Told-lasting, With, asked, asks_now, client_live, fate_goes, held_exists, not_given_back, steady_ok, told, voter_below, voter_within}
 use Rattle.progress.proofs.invariants.Sure.{Course, Sure}
-use Rattle.progress.proofs.invariants.Taking.{Returns}
 
 -- ---- worlds in which the request leads
 
@@ -96,17 +96,11 @@ inquiry_own laws p w m v f s x y calm moved g own held is = elim moved.0 [
             let stamp = (client_at w.clients m).stamp in
             let old = voter_at x.voters k.message.voter in
             let here = ap (voter_at y.voters) same ∙ k.here in
-            let z = client_at x.clients m in
             let entry = subst (λ q. IsEntry (voter_at x.voters q) m stamp) same (calm.known m v f.asks f.member) in
-            let busy = is_asking-busy z.phase ((calm.same m f.asks).asks ∙ calm.asks m f.asks) in
-            let unfinished = subst (λ n. slice_index old.finished m < n) (calm.same m f.asks).stamp (((calm.reached []).fits.pairs m k.message.voter).unfinished.busy busy) in
             let number : g.stamp ≡ stamp = own.1 ∙ ap (λ i. (client_at w.clients i).stamp) own.0 in
             let is_it : the_request w m ≡ request_of g = λ i. record { stamp = sym number i; client = sym own.0 i } in
             let r = asks_no_vote old k.message k.outcome (ok.voters k.message.voter) g (λ t body. elim (moves.2 t body) [
-              | inl mine ↦ inl (
-                subst₂ (λ d n. slice_index old.finished d < n) (sym mine.0) (sym mine.1) unfinished,
-                subst₂ (λ d n. IsEntry old d n) (sym mine.0) (sym mine.1) entry,
-              )
+              | inl mine ↦ inl (subst₂ (λ d n. IsEntry old d n) (sym mine.0) (sym mine.1) entry)
               | inr later ↦ inr (subst (λ (q : Request). precedes q (record { stamp = t; client = k.message.client }) ≡ true) is_it later)
             ]) k.step (ap (λ (q : VoterState). q.held) (sym here) ∙ held) (ap (λ (q : VoterState). q.inquiring) (sym here) ∙ is) in
             (ap (λ q. (voter_at x.voters q).held) same ∙ r.0, ap (λ q. (voter_at x.voters q).inquiring) same ∙ r.1)
@@ -143,9 +137,9 @@ own_step laws p w m v f s x y before after moved g held own = elim (grant_step l
 ]
 
 -- a vote that is given back was asked for
-returned_asked : (p : Course) (x y : WorldState) (d v : ℕ) → Sure p x → (t : ToClient) → Came x d (requester.Takes t) → Returns t (client_at x.clients d) (client_at y.clients d) v
+returned_asked : (p : Course) (x : WorldState) (d v : ℕ) → Sure p x → (t : ToClient) → Came x d (requester.Takes t) → (is_inquired (client_at x.clients d) v ≡ true) ⊎ AsksFor t (client_at x.clients d) v
     → p.old v ≤ held_of (client_at x.clients d) v → (voter_at x.voters v).inquiring ≡ true
-returned_asked p x y d v sure t came back new = elim back.why [
+returned_asked p x d v sure t came why new = elim why [
   | inl marked ↦ sure.out.marks d v marked new
   | inr asked ↦ came_noted p.old x sure.coherent d v t sure.out.noted came asked new
 ]
@@ -162,8 +156,8 @@ settled_kept laws p w m v f s x y before after moved g was held h = record {
       | inr (inr back) ↦ elim (cases_lt g.grant (p.old v)) [
         | inl older ↦ subst (λ c. last_of (client_at y.clients c) v < g.grant) h.own (moved.1 v g was older (subst (λ c. last_of (client_at x.clients c) v < g.grant) (sym h.own) h.fresh))
         | inr newer ↦
-            let number = held_grant x (before.reached []).coherent m v g was back.gone.had in
-            absurd (false≢true (sym h.quiet ∙ returned_asked p x y m v (before.reached []) took.0 took.1 back (omega arith)))
+            let number = held_grant x (before.reached []).coherent m v g was back.had in
+            absurd (false≢true (sym h.quiet ∙ returned_asked p x m v (before.reached []) took.0 took.1 back.why (omega arith)))
       ]
     ]
   ];

@@ -134,7 +134,7 @@ mark_or laws p w D m v f g live s x y before after moved h = elim (fate_goes law
     | inr (inl comes) ↦ absurd (false≢true (sym comes.free ∙ h.0))
     | inr (inr back) ↦
         let number = held_grant x (before.0.reached []).coherent g.client v g before.1 h.0 in
-        let last = back.gone.last in
+        let last = back.last in
         inr (omega arith)
   ]
 ]

@@ -21,8 +21,10 @@ use Rattle.voter.specs.VoterContract.{IsEntry}
 use Rattle.requester.specs.declared.state.ClientState.{ClientState}
 use Rattle.requester.specs.RequesterContract.{KeepsQuorum}
 use Rattle.requester.specs.Steps as requester
+use Rattle.requester.specs.Votes.{AsksFor, VoteFate}
 use Rattle.requester.specs.Words.{holds, is_asking, is_current, is_hindered, is_idle, is_inquired, is_member, last_of, held_of, members, is_relinquished, is_failed}
 use Rattle.requester.proofs.SoundSteps.{is_asking-busy}
+use Rattle.requester.proofs.Messages.{VoteFate-take}
 use Rattle.requester.proofs.VoteLemmas.{HoldsBesides-take}
 use Rattle.world.specs.Coherence.{IsCoherent}
 use Rattle.world_state.specs.declared.step.Step.{Step}
@@ -40,7 +42,6 @@ use Rattle.progress.proofs.run.Lists.{all_hold}
 use Rattle.progress.proofs.run.Moves.{Came, ClientMoved, Moved-by, MovedBy}
 use Rattle.progress.proofs.losses.Lasting.{RunsOn, SameAsk}
 use Rattle.progress.proofs.invariants.Sure.{Course, IsSure, Serves, live_by}
-use Rattle.progress.proofs.invariants.Taking.{Fate, Fate-take, marks-take}
 
 -- ---- grants
 
@@ -57,6 +58,10 @@ abbrev pub release_to : ℕ → ℕ → ℕ → ToVoter
 release_to d v s = record { client = d; voter = v; body = asks.Release s }
 
 -- ---- stages
+
+-- what a message does to a vote, if the client is b afterwards
+abbrev pub Fate : ToClient → ClientState → ClientState → ℕ → Type 0
+Fate t a b v = VoteFate t a (record { out = (requester.take a t).out; seen = (requester.take a t).seen; state = b }) v
 
 -- S is kept by each message that a client takes
 abbrev pub IsLasting : ℕ → (ClientState → Grant → Type 0) → Type 0
@@ -78,7 +83,7 @@ Never x g = ⊥
 given_on : (v : ℕ) (t : ToClient) (a b : ClientState) (g : Grant) → (holds a v ≡ true → g.grant ≡ held_of a v) → Fate t a b v → g.grant ≤ last_of a v → g.grant ≤ last_of b v
 given_on v t a b g number (inl stays) few = (let last = stays.last in omega arith)
 given_on v t a b g number (inr (inl comes)) few = (let last = comes.last in omega arith)
-given_on v t a b g number (inr (inr back)) few = (let last = back.gone.last in let same = number back.gone.had in omega arith)
+given_on v t a b g number (inr (inr back)) few = (let last = back.last in let same = number back.had in omega arith)
 
 pub Never-lasting : (v : ℕ) → IsLasting v Never
 Never-lasting v t a b g number fate h = h
@@ -89,7 +94,7 @@ GivenBack-lasting v t a b g number fate h = given_on v t a b g number fate h
 told_on : (v : ℕ) (t : ToClient) (a b : ClientState) (g : Grant) → (holds a v ≡ true → g.grant ≡ held_of a v) → Fate t a b v → holds a v ≡ true → Told v b g
 told_on v t a b g number (inl stays) has = inr (ap (λ n. nat_lt 0 n) stays.held ∙ has)
 told_on v t a b g number (inr (inl comes)) has = inr comes.has
-told_on v t a b g number (inr (inr back)) has = inl (let last = back.gone.last in let same = number has in omega arith)
+told_on v t a b g number (inr (inr back)) has = inl (let last = back.last in let same = number has in omega arith)
 
 pub Told-lasting : (v : ℕ) → IsLasting v (Told v)
 Told-lasting v t a b g number fate (inl few) = inl (given_on v t a b g number fate few)
@@ -98,7 +103,7 @@ Told-lasting v t a b g number fate (inr has) = told_on v t a b g number fate has
 marked_on : (v : ℕ) (t : ToClient) (a b : ClientState) (g : Grant) → (holds a v ≡ true → g.grant ≡ held_of a v) → Fate t a b v → holds a v ≡ true → is_inquired a v ≡ true → Marked v b g
 marked_on v t a b g number (inl stays) has mark = inr (ap (λ n. nat_lt 0 n) stays.held ∙ has, stays.marked mark)
 marked_on v t a b g number (inr (inl comes)) has mark = absurd (false≢true (sym comes.free ∙ has))
-marked_on v t a b g number (inr (inr back)) has mark = inl (let last = back.gone.last in let same = number has in omega arith)
+marked_on v t a b g number (inr (inr back)) has mark = inl (let last = back.last in let same = number has in omega arith)
 
 pub Marked-lasting : (v : ℕ) → IsLasting v (Marked v)
 Marked-lasting v t a b g number fate (inl few) = inl (given_on v t a b g number fate few)
@@ -222,7 +227,7 @@ fate_goes laws p w D s x y d v before after moved asking below = elim (client_go
   | inr took ↦ inr (
     took.0,
     took.2,
-    subst (λ (z : ClientState). Fate took.0 (client_at x.clients d) z v) (sym took.1) (Fate-take (client_at x.clients d) took.0 v ((steady_ok laws p w D x before).clients d) below),
+    subst (λ (z : ClientState). Fate took.0 (client_at x.clients d) z v) (sym took.1) (VoteFate-take (client_at x.clients d) took.0 v ((steady_ok laws p w D x before).clients d)),
   )
 ]
 
@@ -321,25 +326,12 @@ inquire_marks laws p w D x d v g t calm asking from below number is hold =
     let old = client_at x.clients d in
     let sound = (steady_ok laws p w D x calm).clients d in
     let asks_x = asks_now p w D x d calm asking in
-    let own : holds old t.voter ≡ true = ap (holds old) from ∙ hold in
-    let low : t.voter < 64 = subst (λ q. q < 64) (sym from) below in
-    let body : t.body ≡ to_client.Inquire (held_of old t.voter) = is ∙ ap (λ n. to_client.Inquire n) (number ∙ ap (held_of old) (sym from)) in
-    elim (is_hindered old) as (λ b. is_hindered old ≡ b → Marked v (requester.take old t).state g) [
-      | true ↦ λ hindered.
-          let gone = (laws.client.gives old t sound asks_x own hindered low body).0.1 in
-          let none : held_of (requester.take old t).state v ≡ 0 = subst (λ q. held_of (requester.take old t).state q ≡ 0) from gone in
-          elim (Fate-take old t v sound below) [
-            | inl same ↦ absurd (false≢true (ap (λ n. nat_lt 0 n) (sym none ∙ same.held) ∙ hold))
-            | inr (inl comes) ↦ absurd (false≢true (sym comes.free ∙ hold))
-            | inr (inr back) ↦ inl (let last = back.gone.last in omega arith)
-          ]
-      | false ↦ λ free.
-          let marks = marks-take old t asks_x own free low body in
-          inr (
-            subst (λ q. holds (requester.take old t).state q ≡ true) from (ap (λ n. nat_lt 0 n) marks.1 ∙ own),
-            subst (λ q. is_inquired (requester.take old t).state q ≡ true) from marks.0,
-          )
-    ] (refl {a = is_hindered old})
+    let asked : AsksFor t old v = record { voter = from; body = is ∙ ap (λ n. to_client.Inquire n) number; held = hold } in
+    elim (VoteFate-take old t v sound) [
+      | inl stays ↦ inr (ap (λ n. nat_lt 0 n) stays.held ∙ hold, (stays.asked asks_x asked).1)
+      | inr (inl comes) ↦ absurd (false≢true (sym comes.free ∙ hold))
+      | inr (inr back) ↦ inl (let last = back.last in omega arith)
+    ]
 
 -- the grant has the vote, and the voter has asked for it
 abbrev pub AskedFor : ℕ → Grant → WorldState → Type 0
@@ -403,7 +395,7 @@ HasMarked d v x = (holds (client_at x.clients d) v ≡ true) × (is_inquired (cl
 -- a client with a marked vote is not hindered
 not_hindered : (laws : Laws) (p : Course) (w : WorldState) (D : ℕ → Type 0) (x : WorldState) (d v : ℕ) → v < 64 → With p w D (HasMarked d v) x → is_hindered (client_at x.clients d) ≡ false
 not_hindered laws p w D x d v below here = false_from_ne_true (is_hindered (client_at x.clients d)) (λ hindered.
-    false≢true (sym ((here.0.reached []).out.clear d hindered v below) ∙ here.1.1))
+    false≢true (sym ((here.0.reached []).out.clear d hindered v) ∙ here.1.1))
 
 -- so it keeps each vote that it has
 keeps_vote : (laws : Laws) (p : Course) (w : WorldState) (D : ℕ → Type 0) (d v u : ℕ) → D d → v < 64 → is_member (client_at w.clients d) u ≡ true → (s : Step) (x y : WorldState)
@@ -415,7 +407,7 @@ keeps_vote laws p w D d v u asking below member s x y before after moved hold =
         | inl stays ↦ ap (λ n. nat_lt 0 n) stays.held ∙ hold
         | inr (inl comes) ↦ comes.has
         | inr (inr back) ↦ absurd (false≢true (sym (not_hindered laws p w D y d v below after)
-            ∙ hindered_by (client_at y.clients d) u (member_now p w D y d u after.0 asking member) back.gone.given))
+            ∙ hindered_by (client_at y.clients d) u (member_now p w D y d u after.0 asking member) back.given))
       ]
     ]
 
@@ -435,7 +427,7 @@ keeps_chance laws p w D d v u n asking below member s x y before after moved cha
         ]
         | inr (inl comes) ↦ inl comes.has
         | inr (inr back) ↦ absurd (false≢true (sym (not_hindered laws p w D y d v below after)
-            ∙ hindered_by (client_at y.clients d) u (member_now p w D y d u after.0 asking member) back.gone.given))
+            ∙ hindered_by (client_at y.clients d) u (member_now p w D y d u after.0 asking member) back.given))
       ]
     ]
 

@@ -13,6 +13,7 @@ use Rattle.message.specs.declared.message.VoterBody.{VoterBody}
 use Rattle.message.specs.declared.message.VoterBody.TheVariants as asks
 use Rattle.requester.specs.declared.state.ClientState.{ClientState}
 use Rattle.requester.specs.RequesterContract.{AllRepeat, Repeats}
+use Rattle.requester.specs.Soundness.{IsSound}
 use Rattle.requester.specs.Steps as requester
 use Rattle.requester.specs.Words.{is_asking, is_idle, is_inside, members}
 use Rattle.requester.proofs.SoundSteps.{give_up-Ok, leave-Ok}
@@ -30,7 +31,7 @@ use Rattle.progress.proofs.block.Known.{idle_by, left_idle, within_by}
 use Rattle.progress.proofs.rounds.Longer.{Grows, Grows-moved}
 use Rattle.progress.proofs.run.Moves.{ClientMoved, IsReminder, Moved, Moved-by, MovedBy, MovedBy-step, all_sent}
 use Rattle.progress.proofs.invariants.Outstanding.{step-GivesUp, step-Leaves}
-use Rattle.progress.proofs.invariants.Placed.{NoAsk, NoAsks, no-take}
+use Rattle.progress.proofs.invariants.Placed.{NoRequest, NoRequests, no-take}
 use Rattle.progress.proofs.losses.Lasting.{Lasts-moved, SameAsk, left_before, no_asks_to, reminds_asking, serving_both}
 use Rattle.progress.proofs.invariants.Sure.{Course, IsSure, IsSure-after, Serves, Serving}
 use Rattle.progress.proofs.patience.Turns.{idle_not_asking, no_turn, stamp_stays, turn}
@@ -93,12 +94,12 @@ pub record Tame (p : Course) (w : WorldState) (s : ℕ) (x : WorldState) : Type 
   pub same : (d : ℕ) → asks_up_to s w d ≡ true → SameAsk (client_at w.clients d) (client_at x.clients d)
   pub sends : Sends w s x
 
-fit_none : (w : WorldState) (s c : ℕ) (b : VoterBody) → NoAsk b → FitBody w s c b
+fit_none : (w : WorldState) (s c : ℕ) (b : VoterBody) → NoRequest b → FitBody w s c b
 fit_none w s c (asks.Request t) none = absurd none
 fit_none w s c (asks.Relinquish n) none = tt
 fit_none w s c (asks.Release t) none = tt
 
-fits_none : (w : WorldState) (s : ℕ) (out : List ToVoter) → NoAsks out → AllByRecursion (IsFitAt w s) (map kinds.ToVoter out)
+fits_none : (w : WorldState) (s : ℕ) (out : List ToVoter) → NoRequests out → AllByRecursion (IsFitAt w s) (map kinds.ToVoter out)
 fits_none w s [] none = tt
 fits_none w s (m ∷ out) none = (fit_none w s m.client m.body none.0, fits_none w s out none.1)
 
@@ -114,24 +115,24 @@ fit_of w s x d t ahead same asks stamp = elim (cases_lt s (client_at x.clients d
   | inr most ↦ (let is = sym (ahead d) ∙ up_to_is s x d asks most in inr (is, stamp ∙ (same d is).stamp))
 ]
 
-client_sends : (w : WorldState) (s : ℕ) (x y : WorldState) (k : ClientMoved x y) (id : ℕ) → (client_at x.clients k.who).id ≡ k.who → ((e : ℕ) → asks_up_to s y e ≡ asks_up_to s w e)
+client_sends : (w : WorldState) (s : ℕ) (x y : WorldState) (k : ClientMoved x y) (id : ℕ) → IsSound (client_at x.clients k.who) → (client_at x.clients k.who).id ≡ k.who → ((e : ℕ) → asks_up_to s y e ≡ asks_up_to s w e)
     → ((e : ℕ) → asks_up_to s w e ≡ true → SameAsk (client_at w.clients e) (client_at y.clients e)) → (cause : requester.Cause) → requester.step (client_at x.clients k.who) cause ≡ Ok k.outcome
     → AllByRecursion (IsFitAt w s) (map kinds.ToVoter k.outcome.out)
-client_sends w s x y k id own ahead same (requester.Asks q) step =
+client_sends w s x y k id sound own ahead same (requester.Asks q) step =
     let old = client_at x.clients k.who in
     let is = ask-Ok old q k.outcome step in
     let now = k.here ∙ ap (λ (o : requester.Outcome). o.state) (sym is) in
     let fit : FitBody w s k.who (asks.Request (old.clock + 1)) = fit_of w s y k.who (old.clock + 1) ahead same (ap (λ (z : ClientState). is_asking z.phase) now) (ap (λ (z : ClientState). z.stamp) (sym now)) in
     subst (λ (o : requester.Outcome). AllByRecursion (IsFitAt w s) (map kinds.ToVoter o.out)) is
     (fits_to w s (requester.begin_request old q) (old.clock + 1) q (subst (λ c. FitBody w s c (asks.Request (old.clock + 1))) (sym own) fit))
-client_sends w s x y k id own ahead same (requester.Takes m) step =
-    fits_none w s k.outcome.out (subst (λ (r : requester.Outcome). NoAsks r.out) (take-Ok (client_at x.clients k.who) m k.outcome step) (no-take (client_at x.clients k.who) m))
-client_sends w s x y k id own ahead same requester.Leaves step =
+client_sends w s x y k id sound own ahead same (requester.Takes m) step =
+    fits_none w s k.outcome.out (subst (λ (r : requester.Outcome). NoRequests r.out) (take-Ok (client_at x.clients k.who) m k.outcome step) (no-take (client_at x.clients k.who) m sound))
+client_sends w s x y k id sound own ahead same requester.Leaves step =
     let old = client_at x.clients k.who in
-    fits_none w s k.outcome.out (subst (λ (r : requester.Outcome). NoAsks r.out) (leave-Ok old k.outcome (step-Leaves old k.outcome step)).1 (no_asks_to old (asks.Release old.stamp) (members old) tt))
-client_sends w s x y k id own ahead same requester.GivesUp step =
+    fits_none w s k.outcome.out (subst (λ (r : requester.Outcome). NoRequests r.out) (leave-Ok old k.outcome (step-Leaves old k.outcome step)).1 (no_asks_to old (asks.Release old.stamp) (members old) tt))
+client_sends w s x y k id sound own ahead same requester.GivesUp step =
     let old = client_at x.clients k.who in
-    fits_none w s k.outcome.out (subst (λ (r : requester.Outcome). NoAsks r.out) (give_up-Ok old k.outcome (step-GivesUp old k.outcome step)).1 (no_asks_to old (asks.Release old.stamp) (members old) tt))
+    fits_none w s k.outcome.out (subst (λ (r : requester.Outcome). NoRequests r.out) (give_up-Ok old k.outcome (step-GivesUp old k.outcome step)).1 (no_asks_to old (asks.Release old.stamp) (members old) tt))
 
 fit_repeat : (w : WorldState) (s who v : ℕ) (x : ClientState) (b : VoterBody) → ((t : ℕ) → t ≡ x.stamp → FitBody w s who (asks.Request t)) → Repeats x v b → FitBody w s who b
 fit_repeat w s who v x (asks.Request t) fit says = fit t says
@@ -165,7 +166,7 @@ step_sends laws p w s x y before ahead same moved =
     let ok = (before.reached []).coherent in
     let h = before.sends in
     let out : (more : List Message) × (y.sent ≡ x.sent ++ more) × AllByRecursion (IsFitAt w s) more = elim moved [
-      | inl k ↦ (map kinds.ToVoter k.outcome.out, k.sent, client_sends w s x y k k.who (ok.numbered.clients k.who k.within) ahead same k.cause k.step)
+      | inl k ↦ (map kinds.ToVoter k.outcome.out, k.sent, client_sends w s x y k k.who (ok.clients k.who) (ok.numbered.clients k.who k.within) ahead same k.cause k.step)
       | inr (inl k) ↦ (map kinds.ToClient k.outcome.replies, k.sent, all_sent (IsFitAt w s) kinds.ToClient (λ m. tt) k.outcome.replies)
       | inr (inr k) ↦ (k.more, k.sent, reminder_sends laws w s x ok before.ahead before.same k.more k.reminder)
     ] in

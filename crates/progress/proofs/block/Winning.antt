@@ -156,7 +156,7 @@ won_on laws p w m v f g s x y before after moved h =
           | inr (inl comes) ↦ comes.has
           | inr (inr back) ↦
               let number = held_grant x (before.steady.reached []).coherent m v g h.its.held h.has in
-              let last = back.gone.last in
+              let last = back.last in
               let free = its.settled.fresh in
               absurd (omega arith)
         ]

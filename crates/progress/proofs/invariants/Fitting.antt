@@ -3,9 +3,9 @@ use Rattle.std.specs.FinMap.{get}
 use Rattle.voter.specs.VoterContract.{IsEntry}
 use Rattle.requester.specs.declared.state.Phase.TheVariants.{Asking, Idle, Inside}
 use Rattle.requester.specs.declared.state.Phase.{Phase}
-use Rattle.std.proofs.Common.{◌≡◌, ◌≢◌, ℕ, ◌+◌, ◌<◌, ◌≤◌, Bool, true, false, List, [], ◌∷◌, length, Option, Some, None, Ok, refl, sym, ap, subst, ◌∙◌, ◌⊎◌, inl, inr, arith}
-use Rattle.std.specs.Prelude.{slice_index, ◌&&◌, ◌==◌, not}
-use Rattle.std.specs.List.{filter, list_all}
+use Rattle.std.proofs.Common.{◌≡◌, ◌≢◌, ℕ, ◌+◌, ◌<◌, ◌≤◌, true, false, List, [], ◌∷◌, length, Option, Some, None, Ok, refl, sym, ap, subst, ◌∙◌, ◌⊎◌, inl, inr, arith}
+use Rattle.std.specs.Prelude.{slice_index, ◌&&◌, ◌==◌, nat_lt, not}
+use Rattle.std.specs.List.{list_all}
 use Rattle.std.specs.Result.{result_ok}
 use Rattle.std.proofs.lemmas.Bool.{cases_lt, false≢true, false_from_ne_true}
 use Rattle.std.proofs.lemmas.Bool.Decides.{nat_tests}
@@ -14,8 +14,6 @@ use Rattle.numbers.specs.Bounds.{max_voters}
 use Rattle.numbers.proofs.Options.{false-by}
 use Rattle.numbers.proofs.Lists.{slice_index-replicate_zero}
 use Rattle.message.specs.declared.message.ToClient.{ToClient}
-use Rattle.message.specs.declared.message.ClientBody.{ClientBody}
-use Rattle.message.specs.declared.message.ClientBody.TheVariants as to_client
 use Rattle.message.specs.declared.message.VoterBody.{VoterBody}
 use Rattle.message.specs.declared.message.VoterBody.TheVariants as asks
 use Rattle.voter.specs.declared.state.Grant.{Grant}
@@ -23,13 +21,12 @@ use Rattle.voter.specs.declared.state.VoterState.{VoterState}
 use Rattle.voter.specs.Entries.{Finishes, FinishesBy}
 use Rattle.voter.specs.Steps as voter
 use Rattle.requester.specs.declared.state.ClientState.{ClientState}
-use Rattle.requester.specs.declared.state.Seen.TheVariants.{Nothing}
 use Rattle.requester.specs.Clocks.{KeepsTime}
-use Rattle.requester.specs.Held.{KeepsMark}
-use Rattle.requester.specs.RequesterContract.{IsLater, Locks, MeetsContract}
+use Rattle.requester.specs.RequesterContract.{IsLater, MeetsContract}
 use Rattle.requester.specs.Soundness.{IsSound}
 use Rattle.requester.specs.Steps as requester
-use Rattle.requester.specs.Words.{held_of, holds, holds_under, is_asking, is_covered, is_current, is_idle, is_relinquished, last_of, members, is_inquired}
+use Rattle.requester.specs.Votes.{VoteFate}
+use Rattle.requester.specs.Words.{held_of, holds, holds_under, is_asking, is_covered, is_current, is_idle, is_relinquished, last_of, members}
 use Rattle.world.specs.Coherence.{AskOk, IsCoherent, Names}
 use Rattle.world.specs.Runs.{start}
 use Rattle.world_state.specs.Steps.{WorldState, client_at, step, voter_at}
@@ -38,7 +35,9 @@ use Rattle.world.proofs.Reached.{client_new, client_past, new_clients, new_voter
 use Rattle.progress.proofs.overtaking.Behind.{ask-Ok, grant_moved, meets}
 use Rattle.progress.specs.Rules.{Laws}
 use Rattle.progress.proofs.run.Moves.{ClientMoved, Moved, VoterMoved, each_client, each_voter}
-use Rattle.requester.proofs.SoundSteps.{is_asking-busy, holds_under-holds}
+use Rattle.requester.proofs.Members.{list_all-weaker}
+use Rattle.requester.proofs.Messages.{KeepsRequest-take, VoteFate-take}
+use Rattle.requester.proofs.SoundSteps.{is_asking-busy, is_asking-outside}
 use Rattle.world.proofs.Exclusion.{held_under}
 
 -- the voter finished no request of the client that runs
@@ -48,15 +47,15 @@ pub record Unfinished (x : ClientState) (c : ℕ) (y : VoterState) : Type 0 wher
 
 -- a grant that has the vote for the request that runs, and was given back, is the last one given back,
 -- and is marked so
-abbrev pub GivenBack : ClientState → ℕ → ℕ → VoterState → Type 0
-GivenBack x c v y = (g : Grant) → y.held ≡ Some g → g.client ≡ c → is_asking x.phase ≡ true → g.stamp ≡ x.stamp → g.grant ≤ last_of x v
+abbrev pub GivenIsLast : ClientState → ℕ → ℕ → VoterState → Type 0
+GivenIsLast x c v y = (g : Grant) → y.held ≡ Some g → g.client ≡ c → is_asking x.phase ≡ true → g.stamp ≡ x.stamp → g.grant ≤ last_of x v
     → (last_of x v ≡ g.grant) × (is_relinquished x v ≡ true)
 
 -- what fits together of a client and a voter
 pub record Pair (c v : ℕ) (x : ClientState) (y : VoterState) : Type 0 where
   pub unfinished : Unfinished x c y
   pub last : last_of x v ≤ y.granted
-  pub given : v < max_voters → GivenBack x c v y
+  pub given : v < max_voters → GivenIsLast x c v y
 
 -- a client that asks lacks a vote
 abbrev pub Lacks : ClientState → Type 0
@@ -141,43 +140,40 @@ entry_waits y c s g entry held other = elim entry [
   | inr waits ↦ waits
 ]
 
-given_by : (c v : ℕ) (x z : ClientState) (y : VoterState) → Vote c v x z y → KeepsMark x z v → z.stamp ≡ x.stamp → is_asking x.phase ≡ true → GivenBack x c v y → GivenBack z c v y
-given_by c v x z y st marks stamp asked was g held own asks same few = elim marks [
-  | inl kept ↦
-      let last = kept.0 in
-      let old = was g held own asked (same ∙ stamp) (omega arith) in
-      let first = old.0 in (
-        last ∙ old.0,
-        elim (kept.1 old.1) [
-          | inl marked ↦ marked
-          | inr has ↦
-              let n = grant_is y.held g c z.stamp (held_of z v) held (st.now (held_of z v) (held_under z v has)) in
-              let fresh = (st.sound.held v has).fresh in
-              absurd (omega arith)
-        ],
-      )
-  | inr given ↦
-      let n = grant_is y.held g c x.stamp (held_of x v) held (st.before (held_of x v) (held_under x v given.0)) in
-      (given.1 ∙ sym n, given.2)
-]
+given_by : (c v : ℕ) (x : ClientState) (m : ToClient) (p : requester.Outcome) (y : VoterState) → Vote c v x p.state y → VoteFate m x p v → p.state.stamp ≡ x.stamp → is_asking x.phase ≡ true
+    → GivenIsLast x c v y → GivenIsLast p.state c v y
+given_by c v x m p y st (inl kept) stamp asked was g held own asks same few =
+    let last = kept.last in
+    let old = was g held own asked (same ∙ stamp) (omega arith) in
+    (last ∙ old.0, kept.given ∙ old.1)
+given_by c v x m p y st (inr (inl brought)) stamp asked was g held own asks same few =
+    let z = p.state in
+    let n = grant_is y.held g c z.stamp (held_of z v) held (st.now (held_of z v) (held_under z v brought.has)) in
+    let newer = brought.newer in
+    let last = brought.last in
+    absurd (omega arith)
+given_by c v x m p y st (inr (inr back)) stamp asked was g held own asks same few =
+    let n = grant_is y.held g c x.stamp (held_of x v) held (st.before (held_of x v) (held_under x v back.had)) in
+    (back.last ∙ sym n, back.given)
 
-GivenBack-client : (laws : Laws) (c v : ℕ) (x z : ClientState) (y : VoterState) (cause : requester.Cause) (o : requester.Outcome) → IsSound x → v < max_voters
+GivenIsLast-client : (laws : Laws) (c v : ℕ) (x z : ClientState) (y : VoterState) (cause : requester.Cause) (o : requester.Outcome) → IsSound x → v < max_voters
     → Vote c v x z y → o.state ≡ z → requester.step x cause ≡ Ok o
-    → MeetsContract x cause o → KeepsTime x cause z → GivenBack x c v y → GivenBack z c v y
-GivenBack-client laws c v x z y (requester.Asks q) o sound below st is step contract time was g held own asks same few =
+    → MeetsContract x cause o → KeepsTime x cause z → GivenIsLast x c v y → GivenIsLast z c v y
+GivenIsLast-client laws c v x z y (requester.Asks q) o sound below st is step contract time was g held own asks same few =
     let stamp : x.clock + 1 ≡ z.stamp = ap (λ (p : requester.Outcome). p.state.stamp) (ask-Ok x q o step) ∙ ap (λ (w : ClientState). w.stamp) is in
     let made = st.made g held own in
     let behind = st.clock in
     absurd (omega arith)
-GivenBack-client laws c v x z y (requester.Takes m) o sound below st is step contract time was g held own asks same few =
-    let marks : KeepsMark x z v = subst (λ (w : ClientState). KeepsMark x w v) (ap (λ (p : requester.Outcome). p.state) (take-Ok x m o step) ∙ is) (laws.client.marks x m v sound below) in
+GivenIsLast-client laws c v x z y (requester.Takes m) o sound below st is step contract time was g held own asks same few =
+    let took : ClientState → requester.Outcome = λ w. record { out = (requester.take x m).out; seen = (requester.take x m).seen; state = w } in
+    let fate = subst (λ w. VoteFate m x (took w) v) (ap (λ (p : requester.Outcome). p.state) (take-Ok x m o step) ∙ is) (laws.client.votes x m v sound) in
     elim (time.asking asks) [
-      | inl before ↦ given_by c v x z y st marks before.1 before.0 was g held own asks same few
+      | inl before ↦ given_by c v x m (took z) y st fate before.1 before.0 was g held own asks same few
       | inr new ↦ let made = st.made g held own in let behind = st.clock in absurd (omega arith)
     ]
-GivenBack-client laws c v x z y requester.Leaves o sound below st is step contract time was g held own asks same few =
+GivenIsLast-client laws c v x z y requester.Leaves o sound below st is step contract time was g held own asks same few =
     absurd (false≢true (sym (is_asking-busy z.phase asks) ∙ ap (λ (w : ClientState). is_idle w.phase) (sym is) ∙ contract.quorum.1))
-GivenBack-client laws c v x z y requester.GivesUp o sound below st is step contract time was g held own asks same few =
+GivenIsLast-client laws c v x z y requester.GivesUp o sound below st is step contract time was g held own asks same few =
     absurd (false≢true (sym (is_asking-busy z.phase asks) ∙ ap (λ (w : ClientState). is_idle w.phase) (sym is) ∙ contract.quorum.1))
 
 last_by : (x z : ClientState) (v c : ℕ) (y : VoterState) → (last_of z v ≡ last_of x v) ⊎ (holds_under x v (last_of z v) ≡ true)
@@ -207,105 +203,24 @@ Pair-client laws u x ok now k v h =
     record {
       unfinished = Unfinished-later old new k.who y later h.unfinished;
       last = last_by old new v k.who y last (λ n has. ok.held k.who v n has) (ok.voters v) h.last;
-      given = λ below. GivenBack-client laws k.who v old new y k.cause k.outcome (ok.clients k.who) below st (sym k.here) k.step contract time (h.given below);
+      given = λ below. GivenIsLast-client laws k.who v old new y k.cause k.outcome (ok.clients k.who) below st (sym k.here) k.step contract time (h.given below);
     }
 
 -- ---- who asks lacks a vote
 
-all_before : (x z : ClientState) (vs : List ℕ) → ((v : ℕ) → holds z v ≡ true → holds x v ≡ true) → list_all (holds z) vs ≡ true → list_all (holds x) vs ≡ true
-all_before x z [] before all = refl
-all_before x z (v ∷ vs) before all =
-    let here = before v (grind (arith, nat_tests)) in
-    let rest = all_before x z vs before (grind (arith, nat_tests)) in
-    grind (arith, nat_tests)
-
-lacks_before : (x z : ClientState) → members z ≡ members x → ((v : ℕ) → holds z v ≡ true → holds x v ≡ true) → is_covered x ≡ false → is_covered z ≡ false
-lacks_before x z same before lacks = false_from_ne_true (is_covered z) (λ covered. false≢true (sym lacks ∙ all_before x z (members x) before (ap (λ q. list_all (holds z) q) (sym same) ∙ covered)))
-
-Lacks-enter : (b : Bool) (x : ClientState) → is_covered x ≡ b → Lacks (requester.enter_if b x).state
-Lacks-enter true x e asks = absurd (false≢true asks)
-Lacks-enter false x e asks = e
-
-Lacks-locked_by : (current fresh : Bool) (x : ClientState) (v t g : ℕ) → Lacks x → Lacks (requester.take_locked_by current fresh x v t g).state
-Lacks-locked_by false fresh x v t g h = h
-Lacks-locked_by true false x v t g h = h
-Lacks-locked_by true true x v t g h = Lacks-enter _ (requester.hold x v g) refl
-
-Lacks-locked : (x : ClientState) (v t g : ℕ) → Lacks x → Lacks (requester.take_locked x v t g).state
-unfolding requester.take_locked
-Lacks-locked x v t g h = Lacks-locked_by _ _ x v t g h
-
--- FAIL and INQUIRE leave the request
-
-pub record Stays (x : ClientState) (o : requester.Outcome) : Type 0 where
-  pub phase : o.state.phase ≡ x.phase
-  pub stamp : o.state.stamp ≡ x.stamp
-  pub quorum : members o.state ≡ members x
-  pub seen : o.seen ≡ Nothing
-
-Stays-relinquish_if : (b : Bool) (x : ClientState) (v : ℕ) → Stays x (requester.relinquish_if b x v)
-Stays-relinquish_if false x v = record { phase = refl; stamp = refl; quorum = refl; seen = refl }
-Stays-relinquish_if true x v = record { phase = refl; stamp = refl; quorum = refl; seen = refl }
-
-Stays-relinquish : (x : ClientState) (v : ℕ) → Stays x (requester.relinquish x v)
-unfolding requester.relinquish
-Stays-relinquish x v = Stays-relinquish_if (holds x v) x v
-
-Stays-relinquish_each : (x : ClientState) (vs : List ℕ) → Stays x (requester.relinquish_each x vs)
-Stays-relinquish_each x [] = record { phase = refl; stamp = refl; quorum = refl; seen = refl }
-Stays-relinquish_each x (v ∷ vs) =
-    let a = Stays-relinquish x v in
-    let b = Stays-relinquish_each (requester.relinquish x v).state vs in
-    record { phase = b.phase ∙ a.phase; stamp = b.stamp ∙ a.stamp; quorum = b.quorum ∙ a.quorum; seen = refl }
-
-Stays-take_fail_by : (b : Bool) (x : ClientState) (v : ℕ) → Stays x (requester.take_fail_by b x v)
-Stays-take_fail_by false x v = record { phase = refl; stamp = refl; quorum = refl; seen = refl }
-Stays-take_fail_by true x v =
-    let h = Stays-relinquish_each (requester.fail x v) (filter (is_inquired (requester.fail x v)) (members x)) in
-    record { phase = h.phase; stamp = h.stamp; quorum = h.quorum; seen = h.seen }
-
-Stays-take_inquire_by : (b hindered : Bool) (x : ClientState) (v : ℕ) → Stays x (requester.take_inquire_by b hindered x v)
-Stays-take_inquire_by false hindered x v = record { phase = refl; stamp = refl; quorum = refl; seen = refl }
-Stays-take_inquire_by true false x v = record { phase = refl; stamp = refl; quorum = refl; seen = refl }
-Stays-take_inquire_by true true x v = Stays-relinquish x v
-
-pub Stays-fail : (x : ClientState) (m : ToClient) (t : ℕ) → m.body ≡ to_client.Fail t → Stays x (requester.take x m)
-unfolding requester.take requester.take_fail
-Stays-fail x m t is = subst (λ b. Stays x (requester.take_body (requester.see x m.seen) m.voter b)) (sym is) (
-    let h = Stays-take_fail_by _ (requester.see x m.seen) m.voter in
-    record { phase = h.phase; stamp = h.stamp; quorum = h.quorum; seen = h.seen })
-
-pub Stays-inquire : (x : ClientState) (m : ToClient) (g : ℕ) → m.body ≡ to_client.Inquire g → Stays x (requester.take x m)
-unfolding requester.take requester.take_inquire
-Stays-inquire x m g is = subst (λ b. Stays x (requester.take_body (requester.see x m.seen) m.voter b)) (sym is) (
-    let h = Stays-take_inquire_by _ _ (requester.see x m.seen) m.voter in
-    record { phase = h.phase; stamp = h.stamp; quorum = h.quorum; seen = h.seen })
-
-abbrev NotLocked : ClientBody → Type 0
-NotLocked (to_client.Locked s g) = ⊥
-NotLocked (to_client.Fail s) = Unit {0}
-NotLocked (to_client.Inquire g) = Unit {0}
-
-not_locked : (sender v s g : ℕ) (b : ClientBody) → NotLocked b → Locks sender b v s g → ⊥
-not_locked sender v s g (to_client.Locked t h) other locks = other
-not_locked sender v s g (to_client.Fail t) other locks = locks
-not_locked sender v s g (to_client.Inquire h) other locks = locks
-
--- a message that is no LOCKED adds no vote
-Lacks-other : (x : ClientState) (m : ToClient) (o : requester.Outcome) → MeetsContract x (requester.Takes m) o → o.state.phase ≡ x.phase → NotLocked m.body → Lacks x → Lacks o.state
-Lacks-other x m o contract phase other h asks =
-    lacks_before x o.state contract.quorum.0 (λ v has. elim (contract.held v (held_of o.state v) (held_under o.state v has)) [
-      | inl before ↦ holds_under-holds x v _ before.0
-      | inr got ↦ absurd (not_locked m.voter v _ _ m.body other got.0)
-    ]) (h (ap is_asking (sym phase) ∙ asks))
-
-Lacks-take : (x : ClientState) (m : ToClient) → MeetsContract x (requester.Takes m) (requester.take x m) → Lacks x → (b : ClientBody) → m.body ≡ b → Lacks (requester.take x m).state
-unfolding requester.take
-Lacks-take x m contract h (to_client.Locked t g) is = subst (λ c. Lacks (requester.take_body (requester.see x m.seen) m.voter c).state) (sym is) (Lacks-locked (requester.see x m.seen) m.voter t g h)
-Lacks-take x m contract h (to_client.Fail t) is =
-    Lacks-other x m (requester.take x m) contract (Stays-fail x m t is).phase (subst NotLocked (sym is) tt) h
-Lacks-take x m contract h (to_client.Inquire g) is =
-    Lacks-other x m (requester.take x m) contract (Stays-inquire x m g is).phase (subst NotLocked (sym is) tt) h
+pub Lacks-take : (x : ClientState) (m : ToClient) → IsSound x → Lacks x → Lacks (requester.take x m).state
+Lacks-take x m sound h asks = false_from_ne_true (is_covered (requester.take x m).state) (λ covered.
+    let z = (requester.take x m).state in
+    let k = KeepsRequest-take x m in
+    let before : (v : ℕ) → holds z v ≡ true → holds x v ≡ true = λ v has. elim (VoteFate-take x m v sound) [
+      | inl kept ↦ ap (λ n. nat_lt 0 n) (sym kept.held) ∙ has
+      | inr (inl brought) ↦ absurd (false≢true (sym (is_asking-outside z.phase asks) ∙ brought.inside ∙ covered))
+      | inr (inr back) ↦ absurd (false≢true (sym (ap (λ n. nat_lt 0 n) back.gone) ∙ has))
+    ] in
+    elim k.phase [
+      | inl same ↦ false≢true (sym (h (ap is_asking (sym same.0) ∙ asks)) ∙ list_all-weaker (holds z) (holds x) (members x) before (ap (λ q. list_all (holds z) q.items) (sym k.quorum) ∙ covered))
+      | inr enters ↦ false≢true (sym (ap is_asking enters.after) ∙ asks)
+    ])
 
 none_held : (x : ClientState) (v : ℕ) → held_of x v ≡ 0 → holds x v ≡ false
 none_held x v none = grind (arith, nat_tests)
@@ -315,23 +230,21 @@ lacks_all : (x : ClientState) (q : List ℕ) → ((v : ℕ) → holds x v ≡ fa
 lacks_all x [] none some = absurd (omega arith)
 lacks_all x (v ∷ vs) none some = (let here = none v in grind (arith, nat_tests))
 
-Lacks-client : (x z : ClientState) (cause : requester.Cause) (o : requester.Outcome) → IsSound z → o.state ≡ z → requester.step x cause ≡ Ok o → MeetsContract x cause o → Lacks x → Lacks z
-Lacks-client x z (requester.Asks q) o sound is taken contract h asks =
+Lacks-client : (x z : ClientState) (cause : requester.Cause) (o : requester.Outcome) → IsSound x → IsSound z → o.state ≡ z → requester.step x cause ≡ Ok o → MeetsContract x cause o → Lacks x → Lacks z
+Lacks-client x z (requester.Asks q) o before sound is taken contract h asks =
     let state : requester.begin_request x q ≡ z = ap (λ (p : requester.Outcome). p.state) (ask-Ok x q o taken) ∙ is in
     subst (λ (w : ClientState). IsSound w → is_covered w ≡ false) state
     (λ ok. lacks_all (requester.begin_request x q) q (λ v. none_held (requester.begin_request x q) v (slice_index-replicate_zero max_voters v)) (ok.asked refl)) sound
-Lacks-client x z (requester.Takes m) o sound is taken contract h asks =
-    let same = take-Ok x m o taken in
-    subst (λ (w : ClientState). Lacks w) (ap (λ (p : requester.Outcome). p.state) same ∙ is)
-    (Lacks-take x m (subst (λ (p : requester.Outcome). MeetsContract x (requester.Takes m) p) (sym same) contract) h m.body refl) asks
-Lacks-client x z requester.Leaves o sound is taken contract h asks = absurd (false≢true (sym (is_asking-busy z.phase asks) ∙ ap (λ (w : ClientState). is_idle w.phase) (sym is) ∙ contract.quorum.1))
-Lacks-client x z requester.GivesUp o sound is taken contract h asks = absurd (false≢true (sym (is_asking-busy z.phase asks) ∙ ap (λ (w : ClientState). is_idle w.phase) (sym is) ∙ contract.quorum.1))
+Lacks-client x z (requester.Takes m) o before sound is taken contract h asks =
+    subst (λ (w : ClientState). Lacks w) (ap (λ (p : requester.Outcome). p.state) (take-Ok x m o taken) ∙ is) (Lacks-take x m before h) asks
+Lacks-client x z requester.Leaves o before sound is taken contract h asks = absurd (false≢true (sym (is_asking-busy z.phase asks) ∙ ap (λ (w : ClientState). is_idle w.phase) (sym is) ∙ contract.quorum.1))
+Lacks-client x z requester.GivesUp o before sound is taken contract h asks = absurd (false≢true (sym (is_asking-busy z.phase asks) ∙ ap (λ (w : ClientState). is_idle w.phase) (sym is) ∙ contract.quorum.1))
 
 Fits-client : (laws : Laws) (u x : WorldState) → IsCoherent u → IsCoherent x → ClientMoved u x → Fits u.clients u.voters → Fits x.clients x.voters
 Fits-client laws u x ok now k h = subst (λ (vs : List VoterState). Fits x.clients vs) (sym k.voters) (record {
   pairs = λ c v. each_client (λ c z. Pair c v z (voter_at u.voters v)) u x k (Pair-client laws u x ok now k v (h.pairs k.who v)) (λ c. h.pairs c v) c;
   lacks = each_client (λ _ z. Lacks z) u x k
-      (Lacks-client (client_at u.clients k.who) (client_at x.clients k.who) k.cause k.outcome (now.clients k.who) (sym k.here) k.step (meets laws.client u x ok now k) (h.lacks k.who)) h.lacks;
+      (Lacks-client (client_at u.clients k.who) (client_at x.clients k.who) k.cause k.outcome (ok.clients k.who) (now.clients k.who) (sym k.here) k.step (meets laws.client u x ok now k) (h.lacks k.who)) h.lacks;
 })
 
 -- ---- a voter moves
@@ -348,7 +261,7 @@ finished_ok x y v c client n (asks.Release s) asked may =
 Unfinished-voter : (x : ClientState) (v c client : ℕ) (b : VoterBody) (y z : VoterState) → (c ≡ client → AskOk x y v client b) → FinishesBy y client b z → Unfinished x c y → Unfinished x c z
 Unfinished-voter x v c client b y z asked by ok = elim (by c) [
   | inl stays ↦ let most = ok.most in record { most = omega arith; busy = λ busy. let less = ok.busy busy in omega arith }
-  | inr may ↦ let k = finished_ok x y v c client (slice_index z.finished c) b asked may in record { most = k.0; busy = k.1 }
+  | inr may ↦ let k = finished_ok x y v c client (slice_index z.finished c) b asked may.0 in record { most = k.0; busy = k.1 }
 ]
 
 Pair-voter : (laws : Laws) (u x : WorldState) → IsCoherent u → (k : VoterMoved u x) → (c : ℕ) → Pair c k.message.voter (client_at u.clients c) (voter_at u.voters k.message.voter)

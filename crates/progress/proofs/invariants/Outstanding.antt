@@ -1,8 +1,8 @@
 -- after every run, an INQUIRE that was sent for the current grant is outstanding, and so is one for
 -- each marked vote, unless the grant is old; and a client that is hindered has no mark
-use Rattle.std.proofs.Common.{◌≡◌, ℕ, ◌<◌, ◌≤◌, true, false, List, [], ◌∷◌, ◌++◌, map, Some, Ok, refl, sym, ap, subst, ◌∙◌, inl, inr, arith}
+use Rattle.std.proofs.Common.{◌≡◌, ℕ, ◌≤◌, true, false, List, [], ◌∷◌, ◌++◌, map, Some, Ok, refl, sym, ap, subst, ◌∙◌, inl, inr, arith}
 use Rattle.std.specs.List.{AllByRecursion}
-use Rattle.std.proofs.lemmas.Bool.{false≢true}
+use Rattle.std.proofs.lemmas.Bool.{false≢true, false_from_ne_true}
 use Rattle.numbers.proofs.Lists.{AllByRecursion-append, AllByRecursion-get, AllByRecursion-weaker}
 use Rattle.message.specs.declared.message.Message.{Message}
 use Rattle.message.specs.declared.message.Message.TheVariants as kinds
@@ -17,7 +17,9 @@ use Rattle.voter.proofs.ReplyLemmas.{AllReportPlace-remind, AreAnswers-step}
 use Rattle.requester.specs.declared.state.ClientState.{ClientState}
 use Rattle.requester.specs.Soundness.{IsSound}
 use Rattle.requester.specs.Steps as requester
-use Rattle.requester.specs.Words.{held_of, is_inquired}
+use Rattle.requester.specs.Votes.{AsksFor}
+use Rattle.requester.specs.Words.{held_of, is_hindered, is_inquired}
+use Rattle.requester.proofs.Messages.{VoteFate-take}
 use Rattle.requester.proofs.SoundSteps.{give_up-Ok, leave-Ok}
 use Rattle.world.specs.Coherence.{IsCoherent}
 use Rattle.world.specs.Runs.{start}
@@ -28,9 +30,8 @@ use Rattle.progress.specs.Rules.{Laws, VoterLaws}
 use Rattle.progress.proofs.invariants.Always.{is_named}
 use Rattle.progress.proofs.overtaking.Behind.{ask-Ok}
 use Rattle.progress.proofs.invariants.Fitting.{new_client, take-Ok}
-use Rattle.progress.proofs.invariants.Inquiries.{AllInquire, IfInquire, Inquired-remind, Inquired-step, Outlasts, Outlasts-self, Outlasts-step}
+use Rattle.progress.proofs.invariants.Inquiries.{Outlasts, Outlasts-self, Outlasts-step}
 use Rattle.progress.proofs.run.Moves.{Came, ClientMoved, IsReminder, Moved, OnlySent, VoterMoved, all_sent, each_client, each_voter}
-use Rattle.progress.proofs.invariants.Taking.{AsksFor, Fate-take, IsClear, IsClear-take}
 
 -- If the INQUIRE names the current grant, it is outstanding, unless the grant is below this number.
 abbrev pub IsNoted : ℕ → VoterState → ClientBody → Type 0
@@ -45,6 +46,10 @@ IsNotedAt old vs (kinds.ToClient m) = IsNoted (old m.voter) (voter_at vs m.voter
 -- the voter of each marked vote has asked for it, unless its grant is old
 abbrev pub AreMarked : (ℕ → ℕ) → ClientState → List VoterState → Type 0
 AreMarked old x vs = (v : ℕ) → is_inquired x v ≡ true → old v ≤ held_of x v → (voter_at vs v).inquiring ≡ true
+
+-- a client that is hindered has no mark
+abbrev pub IsClear : ClientState → Type 0
+IsClear x = is_hindered x ≡ true → (v : ℕ) → is_inquired x v ≡ false
 
 -- Grants of the voter v below the number `old v` are old: nothing is known of them.
 pub record Outstanding (old : ℕ → ℕ) (w : WorldState) : Type 0 where
@@ -88,41 +93,40 @@ unfolding Plain
 plain-gives_up x o step = subst (λ (p : requester.Outcome). (v : ℕ) → is_inquired p.state v ≡ false) (give_up-Ok x o (step-GivesUp x o step)).1 (λ v. refl)
 
 marked_by : (old : ℕ → ℕ) (w u : WorldState) → IsCoherent w → IsCoherent u → (k : ClientMoved w u) → Outstanding old w → (cause : requester.Cause) → Came w k.who cause
-    → requester.step (client_at w.clients k.who) cause ≡ Ok k.outcome → (v : ℕ) → v < 64 → is_inquired k.outcome.state v ≡ true → old v ≤ held_of k.outcome.state v
+    → requester.step (client_at w.clients k.who) cause ≡ Ok k.outcome → (v : ℕ) → is_inquired k.outcome.state v ≡ true → old v ≤ held_of k.outcome.state v
     → (voter_at w.voters v).inquiring ≡ true
 unfolding Plain
-marked_by old w u ok now k h (requester.Asks q) came step v below is new = absurd (false≢true (sym (plain-asks (client_at w.clients k.who) q k.outcome step v) ∙ is))
-marked_by old w u ok now k h (requester.Takes m) came step v below is new =
+marked_by old w u ok now k h (requester.Asks q) came step v is new = absurd (false≢true (sym (plain-asks (client_at w.clients k.who) q k.outcome step v) ∙ is))
+marked_by old w u ok now k h (requester.Takes m) came step v is new =
     let x = client_at w.clients k.who in
     let same = take-Ok x m k.outcome step in
     let marked : is_inquired (requester.take x m).state v ≡ true = ap (λ (p : requester.Outcome). is_inquired p.state v) same ∙ is in
-    elim (Fate-take x m v (ok.clients k.who) below) [
+    elim (VoteFate-take x m v (ok.clients k.who)) [
       | inl stays ↦
           let before : old v ≤ held_of x v = subst (λ n. old v ≤ n) (ap (λ (p : requester.Outcome). held_of p.state v) (sym same) ∙ stays.held) new in
           elim (stays.new marked) [
             | inl was ↦ h.marks k.who v was before
             | inr asked ↦ came_noted old w ok k.who v m h.noted came asked before
           ]
-      | inr (inl comes) ↦ absurd (false≢true (sym comes.plain ∙ marked))
-      | inr (inr returns) ↦ absurd (false≢true (sym returns.gone.inquired ∙ marked))
+      | inr (inl comes) ↦ absurd (false≢true (sym comes.inquired ∙ marked))
+      | inr (inr returns) ↦ absurd (false≢true (sym returns.inquired ∙ marked))
     ]
-marked_by old w u ok now k h requester.Leaves came step v below is new = absurd (false≢true (sym (plain-leaves (client_at w.clients k.who) k.outcome step v) ∙ is))
-marked_by old w u ok now k h requester.GivesUp came step v below is new = absurd (false≢true (sym (plain-gives_up (client_at w.clients k.who) k.outcome step v) ∙ is))
+marked_by old w u ok now k h requester.Leaves came step v is new = absurd (false≢true (sym (plain-leaves (client_at w.clients k.who) k.outcome step v) ∙ is))
+marked_by old w u ok now k h requester.GivesUp came step v is new = absurd (false≢true (sym (plain-gives_up (client_at w.clients k.who) k.outcome step v) ∙ is))
 
--- a marked voter is below 64
-marked_below : (u : WorldState) → IsCoherent u → (d v : ℕ) → is_inquired (client_at u.clients d) v ≡ true → v < 64
-marked_below u ok d v is =
-    let sound = ok.clients d in
-    let within = ok.members d v (sound.held v (sound.inquired v is)).member in
-    let few = ok.numbered.few_voters in
-    omega arith
+clear-take : (x : ClientState) (m : ToClient) → IsSound x → IsClear x → IsClear (requester.take x m).state
+clear-take x m s h hindered v = false_from_ne_true (is_inquired (requester.take x m).state v) (λ is. elim (VoteFate-take x m v s) [
+  | inl stays ↦ let was = stays.clear hindered is in false≢true (sym (h was.0 v) ∙ was.1)
+  | inr (inl comes) ↦ false≢true (sym comes.inquired ∙ is)
+  | inr (inr returns) ↦ false≢true (sym returns.inquired ∙ is)
+])
 
 clear_by : (x : ClientState) (cause : requester.Cause) (o : requester.Outcome) → IsSound x → requester.step x cause ≡ Ok o → IsClear x → IsClear o.state
 unfolding Plain
-clear_by x (requester.Asks q) o s step h hindered v below = plain-asks x q o step v
-clear_by x (requester.Takes m) o s step h hindered v below = subst (λ (p : requester.Outcome). IsClear p.state) (take-Ok x m o step) (IsClear-take x m s h) hindered v below
-clear_by x requester.Leaves o s step h hindered v below = plain-leaves x o step v
-clear_by x requester.GivesUp o s step h hindered v below = plain-gives_up x o step v
+clear_by x (requester.Asks q) o s step h hindered v = plain-asks x q o step v
+clear_by x (requester.Takes m) o s step h hindered v = subst (λ (p : requester.Outcome). IsClear p.state) (take-Ok x m o step) (clear-take x m s h) hindered v
+clear_by x requester.Leaves o s step h hindered v = plain-leaves x o step v
+clear_by x requester.GivesUp o s step h hindered v = plain-gives_up x o step v
 
 Outstanding-client : (old : ℕ → ℕ) (w u : WorldState) → IsCoherent w → IsCoherent u → ClientMoved w u → Outstanding old w → Outstanding old u
 Outstanding-client old w u ok now k h = record {
@@ -130,7 +134,7 @@ Outstanding-client old w u ok now k h = record {
       (AllByRecursion-append (IsNotedAt old w.voters) w.sent _ h.noted (all_sent (IsNotedAt old w.voters) kinds.ToVoter (λ m. tt) k.outcome.out)));
   marks = subst (λ (vs : List VoterState). (d : ℕ) → AreMarked old (client_at u.clients d) vs) (sym k.voters)
       (each_client (λ d x. AreMarked old x w.voters) w u k
-      (λ v is new. marked_by old w u ok now k h k.cause k.came k.step v (marked_below u now k.who v is) (subst (λ (x : ClientState). is_inquired x v ≡ true) k.here is)
+      (λ v is new. marked_by old w u ok now k h k.cause k.came k.step v (subst (λ (x : ClientState). is_inquired x v ≡ true) k.here is)
       (subst (λ (x : ClientState). old v ≤ held_of x v) k.here new)) h.marks);
   clear = each_client (λ d x. IsClear x) w u k (subst (λ (x : ClientState). IsClear x) (sym k.here)
       (clear_by (client_at w.clients k.who) k.cause k.outcome (ok.clients k.who) k.step (h.clear k.who))) h.clear;
@@ -155,18 +159,18 @@ noted_later : (old : ℕ → ℕ) (vs us : List VoterState) → ((v : ℕ) → O
 noted_later old vs us later (kinds.ToVoter m) h = tt
 noted_later old vs us later (kinds.ToClient m) h = still_noted (old m.voter) (voter_at vs m.voter) (voter_at us m.voter) (later m.voter) m.body h
 
-noted_now : (first : ℕ) (y : VoterState) (client : ℕ) (b : ClientBody) → voter.IsSound y → IfInquire y.inquiring b → ReportsPlace y client b → IsNoted first y b
-noted_now first y client (to_client.Locked s g) ok asked place = tt
-noted_now first y client (to_client.Fail s) ok asked place = tt
-noted_now first y client (to_client.Inquire n) ok asked place =
-    (let number = place.3 in let few = ok.numbered place.0 place.1 in omega arith, λ g held same new. asked)
+noted_now : (first : ℕ) (y : VoterState) (client : ℕ) (b : ClientBody) → voter.IsSound y → ReportsPlace y client b → IsNoted first y b
+noted_now first y client (to_client.Locked s g) ok place = tt
+noted_now first y client (to_client.Fail s) ok place = tt
+noted_now first y client (to_client.Inquire n) ok place =
+    (let number = place.3 in let few = ok.numbered place.0 place.1 in omega arith, λ g held same new. place.4)
 
-replies_noted : (old : ℕ → ℕ) (vs : List VoterState) (v seen : ℕ) (y : VoterState) → voter_at vs v ≡ y → voter.IsSound y → (rs : List ToClient) → AllInquire y.inquiring rs → AllReportPlace y rs
+replies_noted : (old : ℕ → ℕ) (vs : List VoterState) (v seen : ℕ) (y : VoterState) → voter_at vs v ≡ y → voter.IsSound y → (rs : List ToClient) → AllReportPlace y rs
     → AllCarry v seen rs → AllByRecursion (IsNotedAt old vs) (map kinds.ToClient rs)
-replies_noted old vs v seen y is ok [] asked place carry = tt
-replies_noted old vs v seen y is ok (r ∷ rs) asked place carry = (
-  subst (λ (z : VoterState). IsNoted (old r.voter) z r.body) (sym (ap (voter_at vs) carry.0.0 ∙ is)) (noted_now (old r.voter) y r.client r.body ok asked.0 place.0),
-  replies_noted old vs v seen y is ok rs asked.1 place.1 carry.1,
+replies_noted old vs v seen y is ok [] place carry = tt
+replies_noted old vs v seen y is ok (r ∷ rs) place carry = (
+  subst (λ (z : VoterState). IsNoted (old r.voter) z r.body) (sym (ap (voter_at vs) carry.0.0 ∙ is)) (noted_now (old r.voter) y r.client r.body ok place.0),
+  replies_noted old vs v seen y is ok rs place.1 carry.1,
 )
 
 pub Outlasts-voter : (w u : WorldState) → (k : VoterMoved w u) → (v : ℕ) → Outlasts (voter_at w.voters v) (voter_at u.voters v)
@@ -183,7 +187,7 @@ Outstanding-voter laws old w u ok now k h =
     record {
       noted = subst (λ ms. AllByRecursion (IsNotedAt old u.voters) ms) (sym k.sent) (AllByRecursion-append (IsNotedAt old u.voters) w.sent _
           (AllByRecursion-weaker (IsNotedAt old w.voters) (IsNotedAt old u.voters) (noted_later old w.voters u.voters later) w.sent h.noted)
-          (replies_noted old u.voters v (seen_after y.seen k.message.body) k.outcome.state k.here sound k.outcome.replies (Inquired-step y k.message k.outcome k.step)
+          (replies_noted old u.voters v (seen_after y.seen k.message.body) k.outcome.state k.here sound k.outcome.replies
           (AreAnswers-step y k.message k.outcome (ok.voters v) k.step).place
           (subst (λ i. AllCarry i (seen_after y.seen k.message.body) k.outcome.replies) (is_named w u ok k) carried)));
       marks = λ d q is fresh.
@@ -212,7 +216,7 @@ reminder_noted laws old w ok more said = elim said [
   | inl out ↦ subst (λ ms. AllByRecursion (IsNotedAt old w.voters) ms) (sym out.1) (all_sent (IsNotedAt old w.voters) kinds.ToVoter (λ m. tt) out.0)
   | inr v ↦
       let y = voter_at w.voters v.0 in
-      subst (λ ms. AllByRecursion (IsNotedAt old w.voters) ms) (sym v.2) (replies_noted old w.voters v.0 y.seen y refl (ok.voters v.0) (voter.remind y) (Inquired-remind y) (AllReportPlace-remind y)
+      subst (λ ms. AllByRecursion (IsNotedAt old w.voters) ms) (sym v.2) (replies_noted old w.voters v.0 y.seen y refl (ok.voters v.0) (voter.remind y) (AllReportPlace-remind y)
       (subst (λ i. AllCarry i y.seen (voter.remind y)) (ok.numbered.voters v.0 v.1) (laws.remembers y)))
 ]
 
@@ -239,5 +243,5 @@ unfolding new_clients
 Outstanding-start old voters clients limit = record {
   noted = tt;
   marks = λ d v is new. (let x = new_client clients limit d in absurd (false≢true (ap (λ (z : ClientState). is_inquired z v) (sym x.2) ∙ is)));
-  clear = λ d. (let x = new_client clients limit d in subst (λ (z : ClientState). IsClear z) (sym x.2) (λ hindered v below. refl));
+  clear = λ d. (let x = new_client clients limit d in subst (λ (z : ClientState). IsClear z) (sym x.2) (λ hindered v. refl));
 }

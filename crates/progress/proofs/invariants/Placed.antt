@@ -1,17 +1,15 @@
 -- requests are known only at members of their quorums, and votes are asked back, after every run
-use Rattle.std.proofs.Common.{◌≡◌, ◌≢◌, ℕ, ◌+◌, ◌≤◌, Bool, true, false, List, [], ◌∷◌, map, Ok, refl, sym, ap, subst, ◌∙◌, inl, inr, arith}
-use Rattle.std.specs.List.{AllByRecursion, filter}
+use Rattle.std.proofs.Common.{◌≡◌, ◌≢◌, ℕ, ◌+◌, ◌≤◌, true, List, [], ◌∷◌, map, Ok, refl, sym, ap, subst, ◌∙◌, ◌⊎◌, inl, inr, arith}
+use Rattle.std.specs.List.{AllByRecursion}
 use Rattle.std.proofs.lemmas.Bool.{cases_eq, false≢true}
 use Rattle.std.proofs.lemmas.Bool.Decides.{nat_tests}
 use Rattle.numbers.specs.Sets.{has}
 use Rattle.numbers.proofs.Options.{false-by}
-use Rattle.numbers.proofs.Lists.{AllByRecursion-append, AllByRecursion-get}
+use Rattle.numbers.proofs.Lists.{AllByRecursion-append, AllByRecursion-get, AllByRecursion-weaker}
 use Rattle.message.specs.declared.message.Message.{Message}
 use Rattle.message.specs.declared.message.Message.TheVariants as kinds
 use Rattle.message.specs.declared.message.ToClient.{ToClient}
 use Rattle.message.specs.declared.message.ToVoter.{ToVoter}
-use Rattle.message.specs.declared.message.ClientBody.{ClientBody}
-use Rattle.message.specs.declared.message.ClientBody.TheVariants as to_client
 use Rattle.message.specs.declared.message.VoterBody.{VoterBody}
 use Rattle.message.specs.declared.message.VoterBody.TheVariants as asks
 use Rattle.voter.specs.declared.state.VoterState.{VoterState}
@@ -22,7 +20,9 @@ use Rattle.requester.specs.declared.state.ClientState.{ClientState}
 use Rattle.requester.specs.RequesterContract.{AllSay, AllRepeat, IsLater, KeepsQuorum, RemindersInRange}
 use Rattle.requester.specs.Soundness.{IsSound}
 use Rattle.requester.specs.Steps as requester
-use Rattle.requester.specs.Words.{is_current, is_idle, is_inquired, is_member, members}
+use Rattle.requester.specs.Votes.{IsGiving, IsReleasing}
+use Rattle.requester.proofs.Messages.{SendsBack-take}
+use Rattle.requester.specs.Words.{is_current, is_idle, is_member, members}
 use Rattle.world.specs.Coherence.{AskOk, IsCoherent, MessageOk}
 use Rattle.world.specs.Runs.{start}
 use Rattle.world_state.specs.Steps.{WorldState, client_at, voter_at}
@@ -83,62 +83,28 @@ same_members x z requester.GivesUp o sound taken is keeps same = keeps.0
 abbrev AllAsked : ClientState → List ToVoter → Type 0
 AllAsked z out = AllByRecursion (λ m. AskedBy z m.voter m.body) out
 
-abbrev pub NoAsk : VoterBody → Type 0
-NoAsk (asks.Request s) = ⊥
-NoAsk (asks.Relinquish g) = Unit {0}
-NoAsk (asks.Release s) = Unit {0}
+abbrev pub NoRequest : VoterBody → Type 0
+NoRequest (asks.Request s) = ⊥
+NoRequest (asks.Relinquish g) = Unit {0}
+NoRequest (asks.Release s) = Unit {0}
 
-abbrev pub NoAsks : List ToVoter → Type 0
-NoAsks out = AllByRecursion (λ m. NoAsk m.body) out
+abbrev pub NoRequests : List ToVoter → Type 0
+NoRequests out = AllByRecursion (λ m. NoRequest m.body) out
 
-no-relinquish_if : (b : Bool) (x : ClientState) (v : ℕ) → NoAsks (requester.relinquish_if b x v).out
-no-relinquish_if false x v = tt
-no-relinquish_if true x v = (tt, tt)
+pub no-take : (x : ClientState) (m : ToClient) → IsSound x → NoRequests (requester.take x m).out
+no-take x m sound =
+    let o = requester.take x m in
+    AllByRecursion-weaker (λ n. IsGiving m x o n ⊎ IsReleasing m x n) (λ n. NoRequest n.body) (λ n back. elim back [
+      | inl gives ↦ subst NoRequest (sym gives.body) tt
+      | inr releases ↦ subst NoRequest (sym releases.body) tt
+    ]) o.out (SendsBack-take x m sound)
 
-no-relinquish : (x : ClientState) (v : ℕ) → NoAsks (requester.relinquish x v).out
-unfolding requester.relinquish
-no-relinquish x v = no-relinquish_if _ x v
-
-no-relinquish_each : (x : ClientState) (vs : List ℕ) → NoAsks (requester.relinquish_each x vs).out
-no-relinquish_each x [] = tt
-no-relinquish_each x (v ∷ vs) =
-    AllByRecursion-append (λ (m : ToVoter). NoAsk m.body) (requester.relinquish x v).out (requester.relinquish_each (requester.relinquish x v).state vs).out
-    (no-relinquish x v) (no-relinquish_each (requester.relinquish x v).state vs)
-
-no-failed_by : (b : Bool) (x : ClientState) (v : ℕ) → NoAsks (requester.take_fail_by b x v).out
-no-failed_by false x v = tt
-no-failed_by true x v = no-relinquish_each (requester.fail x v) (filter (is_inquired (requester.fail x v)) (members x))
-
-no-inquired_by : (b hindered : Bool) (x : ClientState) (v : ℕ) → NoAsks (requester.take_inquire_by b hindered x v).out
-no-inquired_by false hindered x v = tt
-no-inquired_by true false x v = tt
-no-inquired_by true true x v = no-relinquish x v
-
-no-enter_if : (b : Bool) (x : ClientState) → NoAsks (requester.enter_if b x).out
-no-enter_if false x = tt
-no-enter_if true x = tt
-
-no-locked_by : (a b : Bool) (x : ClientState) (v t g : ℕ) → NoAsks (requester.take_locked_by a b x v t g).out
-no-locked_by false b x v t g = (tt, tt)
-no-locked_by true false x v t g = tt
-no-locked_by true true x v t g = no-enter_if _ (requester.hold x v g)
-
-no-take_body : (x : ClientState) (v : ℕ) (b : ClientBody) → NoAsks (requester.take_body x v b).out
-unfolding requester.take_locked requester.take_fail requester.take_inquire
-no-take_body x v (to_client.Locked t g) = no-locked_by _ _ x v t g
-no-take_body x v (to_client.Fail t) = no-failed_by _ x v
-no-take_body x v (to_client.Inquire g) = no-inquired_by _ _ x v
-
-pub no-take : (x : ClientState) (m : ToClient) → NoAsks (requester.take x m).out
-unfolding requester.take
-no-take x m = no-take_body (requester.see x m.seen) m.voter m.body
-
-no_ask : (z : ClientState) (v : ℕ) (b : VoterBody) → NoAsk b → AskedBy z v b
+no_ask : (z : ClientState) (v : ℕ) (b : VoterBody) → NoRequest b → AskedBy z v b
 no_ask z v (asks.Request s) none = absurd none
 no_ask z v (asks.Relinquish g) none = tt
 no_ask z v (asks.Release s) none = tt
 
-none_asked : (z : ClientState) (out : List ToVoter) → NoAsks out → AllAsked z out
+none_asked : (z : ClientState) (out : List ToVoter) → NoRequests out → AllAsked z out
 none_asked z [] none = tt
 none_asked z (m ∷ out) none = (no_ask z m.voter m.body none.0, none_asked z out none.1)
 
@@ -160,12 +126,12 @@ members_asked : (x z : ClientState) (b : VoterBody) (q : List ℕ) → ((v : ℕ
 members_asked x z b [] all = tt
 members_asked x z b (v ∷ q) all = (member_ask z v b (all v (grind (arith, nat_tests))), members_asked x z b q (λ u is. all u (grind (arith, nat_tests))))
 
-asked_out : (x z : ClientState) (cause : requester.Cause) (o : requester.Outcome) → requester.step x cause ≡ Ok o → o.state ≡ z → KeepsQuorum x cause z → AllAsked z o.out
-asked_out x z (requester.Asks q) o taken is keeps =
+asked_out : (x z : ClientState) (cause : requester.Cause) (o : requester.Outcome) → IsSound x → requester.step x cause ≡ Ok o → o.state ≡ z → KeepsQuorum x cause z → AllAsked z o.out
+asked_out x z (requester.Asks q) o sound taken is keeps =
     subst (λ (p : requester.Outcome). AllAsked z p.out) (ask-Ok x q o taken) (members_asked (requester.begin_request x q) z (asks.Request (x.clock + 1)) q (λ v there. ap (λ l. has l v) keeps ∙ there))
-asked_out x z (requester.Takes m) o taken is keeps = none_asked z o.out (subst (λ (p : requester.Outcome). NoAsks p.out) (take-Ok x m o taken) (no-take x m))
-asked_out x z requester.Leaves o taken is keeps = idle_asked z o.out keeps.1
-asked_out x z requester.GivesUp o taken is keeps = idle_asked z o.out keeps.1
+asked_out x z (requester.Takes m) o sound taken is keeps = none_asked z o.out (subst (λ (p : requester.Outcome). NoRequests p.out) (take-Ok x m o taken) (no-take x m sound))
+asked_out x z requester.Leaves o sound taken is keeps = idle_asked z o.out keeps.1
+asked_out x z requester.GivesUp o sound taken is keeps = idle_asked z o.out keeps.1
 
 -- messages of one client
 sent_asked : (cs : List ClientState) (x z : ClientState) (cause : requester.Cause) (who : ℕ) (y : ClientState) (out : List ToVoter) → client_at cs who ≡ z → x.id ≡ who
@@ -215,7 +181,7 @@ Placed-client laws u x ok now k h =
       asked = subst (λ ms. AllByRecursion (AskedAt x.clients) ms) (sym k.sent) (AllByRecursion-append (AskedAt x.clients) u.sent _
           (all_still k.who u.clients x.clients (voter_at u.voters) moved u.sent ok.messages h.asked)
           (sent_asked x.clients old new k.cause k.who k.outcome.state k.outcome.out refl (ok.numbered.clients k.who k.within) contract.out
-          (asked_out old new k.cause k.outcome k.step (sym k.here) quorum)));
+          (asked_out old new k.cause k.outcome (ok.clients k.who) k.step (sym k.here) quorum)));
       places = subst (λ (vs : List VoterState). (v c : ℕ) → IsPlaced c (client_at x.clients c) v (voter_at vs v)) (sym k.voters)
           (λ v. each_client (λ c z. IsPlaced c z v (voter_at u.voters v)) u x k (λ s entry is.
           let before = ran_before old new s later (ok.made v k.who s entry).reached is in

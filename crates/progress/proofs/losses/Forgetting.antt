@@ -27,9 +27,8 @@ use Rattle.progress.specs.Rules.{Laws}
 use Rattle.progress.proofs.invariants.Always.{IsUpTo, WasGiven, given-moved}
 use Rattle.progress.proofs.invariants.Fitting.{Fits, Fits-moved, Fits-start, Lacks, Pair, current_busy}
 use Rattle.progress.proofs.run.Moves.{Moved, each_but}
-use Rattle.progress.proofs.invariants.Outstanding.{AreMarked, IsNoted, IsNotedAt, Outstanding, Outstanding-moved, Outstanding-start}
+use Rattle.progress.proofs.invariants.Outstanding.{AreMarked, IsClear, IsNoted, IsNotedAt, Outstanding, Outstanding-moved, Outstanding-start}
 use Rattle.progress.proofs.invariants.Placed.{AskedAt, AskedBy, IsPlaced, Placed, Placed-moved, Placed-start, idle_ask}
-use Rattle.progress.proofs.invariants.Taking.{IsClear}
 
 -- all grants are old: no voter gives as many
 abbrev pub beyond : ℕ → ℕ
@@ -146,7 +145,7 @@ Endures-client_lost u x now k h =
       out = record {
         noted = subst (λ ms. AllByRecursion (IsNotedAt beyond x.voters) ms) (sym k.sent) (subst (λ (vs : List VoterState). AllByRecursion (IsNotedAt beyond vs) u.sent) (sym k.voters) h.out.noted);
         marks = no_marks beyond x now (few_given x now);
-        clear = each (λ _ z. IsClear z) (λ hindered v below. refl) h.out.clear;
+        clear = each (λ _ z. IsClear z) (λ hindered v. refl) h.out.clear;
       };
       given = subst (λ ms. AllByRecursion (WasGiven x.voters) ms) (sym k.sent) (subst (λ (vs : List VoterState). AllByRecursion (WasGiven vs) u.sent) (sym k.voters) h.given);
     }

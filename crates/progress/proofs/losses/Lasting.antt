@@ -23,7 +23,7 @@ use Rattle.progress.proofs.rounds.Longer.{Grows-run}
 use Rattle.progress.proofs.invariants.Inquiries.{Outlasts, Outlasts-self, Outlasts-then}
 use Rattle.progress.proofs.run.Moves.{ClientMoved, Moved, each_client, each_voter, kept-by}
 use Rattle.progress.proofs.losses.Olds.{AreOld, Goes, KeepsOlds, Outlasts-moved, same_grant}
-use Rattle.progress.proofs.invariants.Placed.{NoAsk, NoAsks, same_members}
+use Rattle.progress.proofs.invariants.Placed.{NoRequest, NoRequests, same_members}
 use Rattle.progress.proofs.invariants.Sure.{Course, IsSure, IsSure-run, Serves, Serving, stays_coherent}
 
 -- ---- clients go on
@@ -185,7 +185,7 @@ pub record RunsOn (p : Course) (w : WorldState) (d : ℕ) (x : WorldState) : Typ
 
 -- ---- what is sent meanwhile
 
-pub no_asks_to : (x : ClientState) (b : VoterBody) (vs : List ℕ) → NoAsk b → NoAsks (map (λ v. requester.tell x v b) vs)
+pub no_asks_to : (x : ClientState) (b : VoterBody) (vs : List ℕ) → NoRequest b → NoRequests (map (λ v. requester.tell x v b) vs)
 no_asks_to x b [] none = tt
 no_asks_to x b (v ∷ vs) none = (none, no_asks_to x b vs none)
 

@@ -9,6 +9,7 @@ use Rattle.requester.specs.declared.state.ClientState.{ClientState}
 use Rattle.requester.specs.RequesterContract.{KeepsQuorum}
 use Rattle.requester.specs.Steps as requester
 use Rattle.requester.specs.Words.{is_asking, is_idle, is_member}
+use Rattle.requester.proofs.Messages.{KeepsRequest-take}
 use Rattle.requester.proofs.SoundSteps.{give_up-Ok, is_asking-busy, is_asking-outside, leave-Ok}
 use Rattle.world_state.specs.declared.step.Step.{Step}
 use Rattle.world_state.specs.declared.step.Step.TheVariants.{Ask, Deliver, Leave, GiveUp, RemindClient, RemindVoter, Exchange}
@@ -31,7 +32,7 @@ use Rattle.progress.proofs.block.Overdue.{along-and, runs_until}
 use Rattle.progress.proofs.losses.Lasting.{Lasts, Lasts-moved, Lasts-run, Lasts-self, Lasts-then, RunsOn}
 use Rattle.progress.proofs.invariants.Sure.{Course, live_by}
 use Rattle.progress.proofs.block.Tame.{above_bound, asks_up_to, turns_up_to, turns_up_to-append, up_to_asks, up_to_is, up_to_stamp}
-use Rattle.progress.proofs.patience.Turns.{asks_then, at_most_once, inside_by, stamp-take, step-Asks, turn}
+use Rattle.progress.proofs.patience.Turns.{asks_then, at_most_once, inside_by, step-Asks, turn}
 use Rattle.std.specs.Prelude.{if◌then◌else◌, nat_lt, ◌&&◌}
 use Rattle.numbers.specs.Sums.{sum_below}
 use Rattle.numbers.proofs.SumsBelow.{sum_below-add, sum_below-zero}
@@ -40,7 +41,7 @@ use Rattle.numbers.proofs.SumsBelow.{sum_below-add, sum_below-zero}
 
 stamp_or_asks_own : (x : ClientState) (cause : requester.Cause) (o : requester.Outcome) → requester.step x cause ≡ Ok o → (o.state.stamp ≡ x.stamp) ⊎ (is_asking o.state.phase ≡ true)
 stamp_or_asks_own x (requester.Asks q) o step = inr (asks_then x q o step)
-stamp_or_asks_own x (requester.Takes m) o step = inl (ap (λ (r : requester.Outcome). r.state.stamp) (sym (take-Ok x m o step)) ∙ stamp-take x m m.body refl)
+stamp_or_asks_own x (requester.Takes m) o step = inl (ap (λ (r : requester.Outcome). r.state.stamp) (sym (take-Ok x m o step)) ∙ (KeepsRequest-take x m).stamp)
 stamp_or_asks_own x requester.Leaves o step = inl (ap (λ (r : requester.Outcome). r.state.stamp) (sym (leave-Ok x o (step-Leaves x o step)).1))
 stamp_or_asks_own x requester.GivesUp o step = inl (ap (λ (r : requester.Outcome). r.state.stamp) (sym (give_up-Ok x o (step-GivesUp x o step)).1))
 

@@ -5,9 +5,6 @@ use Rattle.std.proofs.lemmas.Bool.Decides.{nat_tests}
 use Rattle.std.proofs.lemmas.List.{append-nil, append_cancel_left}
 use Rattle.numbers.specs.Sums.{sum_below}
 use Rattle.numbers.proofs.SumsBelow.{sum_below-add, sum_below-zero}
-use Rattle.message.specs.declared.message.ToClient.{ToClient}
-use Rattle.message.specs.declared.message.ClientBody.{ClientBody}
-use Rattle.message.specs.declared.message.ClientBody.TheVariants as to_client
 use Rattle.requester.specs.declared.state.ClientState.{ClientState}
 use Rattle.requester.specs.declared.state.Phase.{Phase}
 use Rattle.requester.specs.declared.state.Phase.TheVariants.{Idle, Asking, Inside}
@@ -16,6 +13,7 @@ use Rattle.requester.specs.declared.state.Seen.TheVariants.{Nothing, Entered, Le
 use Rattle.requester.specs.RequesterContract.{KeepsQuorum, Sees}
 use Rattle.requester.specs.Steps as requester
 use Rattle.requester.specs.Words.{is_asking, is_idle, is_inside}
+use Rattle.requester.proofs.Messages.{KeepsRequest-take}
 use Rattle.requester.proofs.RangeLemmas.{is_inside-busy}
 use Rattle.requester.proofs.SoundSteps.{ask-Ok as ask_ok, give_up-Ok, is_asking-busy, is_asking-outside, leave-Ok}
 use Rattle.world_state.specs.declared.step.Event.{Event}
@@ -30,7 +28,7 @@ use Rattle.progress.specs.Rules.{Laws}
 use Rattle.progress.proofs.run.Along.{next}
 use Rattle.progress.proofs.overtaking.Behind.{meets}
 use Rattle.progress.proofs.overtaking.Counting.{entries_of-append, left_not_entered, not_entered, one_entered}
-use Rattle.progress.proofs.invariants.Fitting.{Stays-fail, Stays-inquire, take-Ok}
+use Rattle.progress.proofs.invariants.Fitting.{take-Ok}
 use Rattle.progress.proofs.run.Moves.{Makes, MovedBy, MovedBy-step}
 use Rattle.progress.proofs.invariants.Outstanding.{step-GivesUp, step-Leaves}
 use Rattle.progress.proofs.invariants.Sure.{Course, IsSure, IsSure-after}
@@ -252,26 +250,6 @@ gives_up_never c (s ∷ steps) h = (let here = none_own c s h.0 in let rest = gi
 
 -- ---- who does not turn is as before
 
-stamp-locked_by : (current fresh : Bool) (x : ClientState) (v t g : ℕ) → (requester.take_locked_by current fresh x v t g).state.stamp ≡ x.stamp
-stamp-locked_by false fresh x v t g = refl
-stamp-locked_by true false x v t g = refl
-stamp-locked_by true true x v t g = stamp-enter _ (requester.hold x v g)
-  where
-    stamp-enter : (b : Bool) (x : ClientState) → (requester.enter_if b x).state.stamp ≡ x.stamp
-    stamp-enter false x = refl
-    stamp-enter true x = refl
-
-stamp-locked : (x : ClientState) (v t g : ℕ) → (requester.take_locked x v t g).state.stamp ≡ x.stamp
-unfolding requester.take_locked
-stamp-locked x v t g = stamp-locked_by _ _ x v t g
-
-pub stamp-take : (x : ClientState) (m : ToClient) (b : ClientBody) → m.body ≡ b → (requester.take x m).state.stamp ≡ x.stamp
-unfolding requester.take
-stamp-take x m (to_client.Locked t g) is =
-    subst (λ c. (requester.take_body (requester.see x m.seen) m.voter c).state.stamp ≡ x.stamp) (sym is) (stamp-locked (requester.see x m.seen) m.voter t g)
-stamp-take x m (to_client.Fail t) is = (Stays-fail x m t is).stamp
-stamp-take x m (to_client.Inquire g) is = (Stays-inquire x m g is).stamp
-
 pub idle_not_asking : (q : Phase) → is_idle q ≡ true → is_asking q ≡ false
 idle_not_asking Idle idle = refl
 idle_not_asking Asking idle = absurd (false≢true idle)
@@ -279,7 +257,7 @@ idle_not_asking Inside idle = refl
 
 stamp-cause : (x : ClientState) (cause : requester.Cause) (o : requester.Outcome) → requester.step x cause ≡ Ok o → is_asking o.state.phase ≡ is_asking x.phase → o.state.stamp ≡ x.stamp
 stamp-cause x (requester.Asks q) o step same = absurd (false≢true (sym (idle_not_asking x.phase (step-Asks x q o step)) ∙ sym same ∙ asks_then x q o step))
-stamp-cause x (requester.Takes m) o step same = ap (λ (r : requester.Outcome). r.state.stamp) (sym (take-Ok x m o step)) ∙ stamp-take x m m.body refl
+stamp-cause x (requester.Takes m) o step same = ap (λ (r : requester.Outcome). r.state.stamp) (sym (take-Ok x m o step)) ∙ (KeepsRequest-take x m).stamp
 stamp-cause x requester.Leaves o step same = ap (λ (r : requester.Outcome). r.state.stamp) (sym (leave-Ok x o (step-Leaves x o step)).1)
 stamp-cause x requester.GivesUp o step same = ap (λ (r : requester.Outcome). r.state.stamp) (sym (give_up-Ok x o (step-GivesUp x o step)).1)
 

@@ -7,8 +7,6 @@ use Rattle.std.proofs.lemmas.List.{append-nil}
 use Rattle.std.proofs.lemmas.List.Elements.{Contains-append_left, Contains-append_right}
 use Rattle.numbers.proofs.Lists.{AllByRecursion-append, AllByRecursion-weaker}
 use Rattle.message.specs.declared.message.Message.{Message}
-use Rattle.message.specs.declared.message.ClientBody.{ClientBody}
-use Rattle.message.specs.declared.message.ClientBody.TheVariants as to_client
 use Rattle.message.specs.declared.message.ToClient.{ToClient}
 use Rattle.voter.specs.declared.state.Grant.{Grant}
 use Rattle.voter.specs.declared.state.VoterState.{VoterState}
@@ -18,10 +16,11 @@ use Rattle.requester.specs.declared.state.ClientState.{ClientState}
 use Rattle.requester.specs.declared.state.Phase.{Phase}
 use Rattle.requester.specs.declared.state.Phase.TheVariants.{Asking, Idle, Inside}
 use Rattle.requester.proofs.Members.{list_all-member}
+use Rattle.requester.proofs.Messages.{KeepsRequest-take}
 use Rattle.requester.proofs.RangeLemmas.{is_inside-busy}
 use Rattle.numbers.specs.Sets.{has}
 use Rattle.requester.specs.Steps as requester
-use Rattle.requester.specs.Words.{is_asking, is_covered, is_idle, members}
+use Rattle.requester.specs.Words.{is_asking, is_idle, members}
 use Rattle.requester.proofs.SoundSteps.{give_up-Ok, is_asking-busy, leave-Ok}
 use Rattle.world_state.specs.declared.step.Event.{Event}
 use Rattle.world_state.specs.declared.step.Step.{Step}
@@ -34,7 +33,7 @@ use Rattle.progress.specs.LiveRounds.{HasGrantsThere, IsAnswered, IsLiveRound, I
 use Rattle.progress.specs.Moves.{EachMove, Goes, LetsGo, Move, let_go, move, moved, of_moves, release_of, steps_among}
 use Rattle.progress.specs.Rounds.{late_steps}
 use Rattle.progress.proofs.run.Along.{contains_split, next}
-use Rattle.progress.proofs.invariants.Fitting.{Stays-fail, Stays-inquire, take-Ok}
+use Rattle.progress.proofs.invariants.Fitting.{take-Ok}
 use Rattle.progress.proofs.rounds.LiveMaking.{Part, all_dead, allows_round, begins_move, blocks, chosen, client_block, duties, frees, is_caught, is_first, part_left, part_of, part_right, remind_voters, round, served, voter_block}
 use Rattle.progress.proofs.rounds.Making.{all_answered, answer_all, answer_all_serves, in_time, is_reminded, remind, remind_serves, sent_more}
 use Rattle.progress.proofs.rounds.Reminders.{answered_before, answered_goes, answered_then, reminded_goes, reminded_more}
@@ -210,26 +209,18 @@ calm_self x = record { stamp = refl; quorum = refl; asks = λ asks. asks }
 calm_then : (x y z : ClientState) → Calm x y → Calm y z → Calm x z
 calm_then x y z a b = record { stamp = b.stamp ∙ a.stamp; quorum = b.quorum ∙ a.quorum; asks = λ asks. a.asks (b.asks asks) }
 
-calm_locked : (x : ClientState) (v t g : ℕ) (current fresh : Bool) → Calm x (requester.take_locked_by current fresh x v t g).state
-calm_locked x v t g false fresh = calm_self x
-calm_locked x v t g true false = calm_self x
-calm_locked x v t g true true = by (is_covered (requester.hold x v g))
-  where
-    by : (b : Bool) → Calm x (requester.enter_if b (requester.hold x v g)).state
-    by true = record { stamp = refl; quorum = refl; asks = λ asks. absurd (false≢true asks) }
-    by false = record { stamp = refl; quorum = refl; asks = λ asks. asks }
-
-calm_take : (x : ClientState) (m : ToClient) (b : ClientBody) → m.body ≡ b → Calm x (requester.take x m).state
-unfolding requester.take requester.take_locked
-calm_take x m (to_client.Locked t g) is =
-    let seen = requester.see x m.seen in
-    subst (λ c. Calm x (requester.take_body seen m.voter c).state) (sym is) (let h = calm_locked seen m.voter t g _ _ in record { stamp = h.stamp; quorum = h.quorum; asks = h.asks })
-calm_take x m (to_client.Fail t) is = (let h = Stays-fail x m t is in record { stamp = h.stamp; quorum = h.quorum; asks = λ asks. ap is_asking (sym h.phase) ∙ asks })
-calm_take x m (to_client.Inquire g) is = (let h = Stays-inquire x m g is in record { stamp = h.stamp; quorum = h.quorum; asks = λ asks. ap is_asking (sym h.phase) ∙ asks })
+calm_take : (x : ClientState) (m : ToClient) → Calm x (requester.take x m).state
+calm_take x m =
+    let k = KeepsRequest-take x m in
+    record {
+      stamp = k.stamp;
+      quorum = ap (λ q. q.items) k.quorum;
+      asks = λ asks. elim k.phase [ inl same ↦ ap is_asking (sym same.0) ∙ asks | inr enters ↦ absurd (false≢true (sym (ap is_asking enters.after) ∙ asks)) ];
+    }
 
 calm_by : (t : Step) (who : ℕ) (x : ClientState) (cause : requester.Cause) (o : requester.Outcome) → Makes t who cause → IsNoAsk t → requester.step x cause ≡ Ok o → Calm x o.state
 calm_by t who x (requester.Asks q) o makes none is = absurd (subst IsNoAsk makes none)
-calm_by t who x (requester.Takes m) o makes none is = subst (λ (p : requester.Outcome). Calm x p.state) (take-Ok x m o is) (calm_take x m m.body refl)
+calm_by t who x (requester.Takes m) o makes none is = subst (λ (p : requester.Outcome). Calm x p.state) (take-Ok x m o is) (calm_take x m)
 calm_by t who x requester.Leaves o makes none is = subst (λ (p : requester.Outcome). Calm x p.state) (leave-Ok x o (step-Leaves x o is)).1 (record { stamp = refl; quorum = refl; asks = λ asks. absurd (false≢true asks) })
 calm_by t who x requester.GivesUp o makes none is = subst (λ (p : requester.Outcome). Calm x p.state) (give_up-Ok x o (step-GivesUp x o is)).1 (record { stamp = refl; quorum = refl; asks = λ asks. absurd (false≢true asks) })
 

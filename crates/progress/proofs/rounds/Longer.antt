@@ -1,15 +1,14 @@
 -- steps before and after a fair round are counted to it
-use Rattle.std.proofs.Common.{◌≡◌, ℕ, ◌<◌, ◌≤◌, Bool, true, false, List, [], ◌∷◌, ◌++◌, length, map, Ok, refl, sym, ap, subst, ◌∙◌, ◌⊎◌, inl, inr, arith, length-append, append_assoc}
+use Rattle.std.proofs.Common.{◌≡◌, ℕ, ◌<◌, ◌≤◌, true, List, [], ◌∷◌, ◌++◌, length, map, Ok, refl, sym, ap, subst, ◌∙◌, ◌⊎◌, inl, inr, arith, length-append, append_assoc}
 use Rattle.std.specs.List.{Contains}
 use Rattle.std.proofs.lemmas.Bool.{cases_eq, false≢true}
 use Rattle.std.proofs.lemmas.List.Elements.{Contains-append_left, Contains-append_right}
 use Rattle.message.specs.declared.message.Message.TheVariants as kinds
 use Rattle.message.specs.declared.message.ToClient.{ToClient}
-use Rattle.message.specs.declared.message.ClientBody.{ClientBody}
-use Rattle.message.specs.declared.message.ClientBody.TheVariants as to_client
 use Rattle.requester.specs.declared.state.ClientState.{ClientState}
 use Rattle.requester.specs.Steps as requester
 use Rattle.requester.specs.Words.{is_asking, is_inside}
+use Rattle.requester.proofs.Messages.{KeepsRequest-take}
 use Rattle.requester.proofs.RangeLemmas.{is_inside-busy}
 use Rattle.requester.proofs.SoundSteps.{give_up-Ok as give_up_ok}
 use Rattle.world_state.specs.declared.step.Step.{Step}
@@ -22,7 +21,7 @@ use Rattle.progress.specs.Rules.{ClientLaws, Laws}
 use Rattle.progress.specs.LiveRounds.{everybody}
 use Rattle.progress.proofs.overtaking.Behind.{ask-busy}
 use Rattle.progress.proofs.overtaking.Counting.{inside_not_asks}
-use Rattle.progress.proofs.invariants.Fitting.{Stays-fail, Stays-inquire, take-Ok}
+use Rattle.progress.proofs.invariants.Fitting.{take-Ok}
 use Rattle.progress.proofs.run.Moves.{Makes, Moved, MovedBy, MovedBy-step, Moved-step}
 use Rattle.progress.proofs.invariants.Sure.{Course, IsSure, IsSure-after, IsSure-reached, course_of}
 
@@ -73,25 +72,8 @@ Grows-run laws p (s ∷ steps) u r =
 
 -- ---- who is inside stays until it leaves
 
-inside-locked_by : (current fresh : Bool) (x : ClientState) (v t g : ℕ) → is_inside x.phase ≡ true → is_inside (requester.take_locked_by current fresh x v t g).state.phase ≡ true
-inside-locked_by false fresh x v t g inside = inside
-inside-locked_by true false x v t g inside = inside
-inside-locked_by true true x v t g inside = inside-enter _ (requester.hold x v g) inside
-  where
-    inside-enter : (b : Bool) (x : ClientState) → is_inside x.phase ≡ true → is_inside (requester.enter_if b x).state.phase ≡ true
-    inside-enter false x inside = inside
-    inside-enter true x inside = refl
-
-inside-locked : (x : ClientState) (v t g : ℕ) → is_inside x.phase ≡ true → is_inside (requester.take_locked x v t g).state.phase ≡ true
-unfolding requester.take_locked
-inside-locked x v t g inside = inside-locked_by _ _ x v t g inside
-
-inside-take : (x : ClientState) (m : ToClient) (b : ClientBody) → m.body ≡ b → is_inside x.phase ≡ true → is_inside (requester.take x m).state.phase ≡ true
-unfolding requester.take
-inside-take x m (to_client.Locked t g) is inside =
-    subst (λ c. is_inside (requester.take_body (requester.see x m.seen) m.voter c).state.phase ≡ true) (sym is) (inside-locked (requester.see x m.seen) m.voter t g inside)
-inside-take x m (to_client.Fail t) is inside = ap is_inside (Stays-fail x m t is).phase ∙ inside
-inside-take x m (to_client.Inquire g) is inside = ap is_inside (Stays-inquire x m g is).phase ∙ inside
+inside-take : (x : ClientState) (m : ToClient) → is_inside x.phase ≡ true → is_inside (requester.take x m).state.phase ≡ true
+inside-take x m inside = elim (KeepsRequest-take x m).phase [ inl same ↦ ap is_inside same.0 ∙ inside | inr enters ↦ ap is_inside enters.after ]
 
 gave_up : (x : ClientState) (o : requester.Outcome) → requester.step x requester.GivesUp ≡ Ok o → is_asking x.phase ≡ true
 unfolding requester.step
@@ -101,7 +83,7 @@ inside-cause : (laws : ClientLaws) (s : Step) (c : ℕ) (x : ClientState) (cause
     → is_inside x.phase ≡ true → (is_inside o.state.phase ≡ true) ⊎ (s ≡ Leave c)
 inside-cause laws s c x (requester.Asks q) o makes step inside = absurd (ask-busy x q o (laws.busy x q (is_inside-busy x.phase inside)) step)
 inside-cause laws s c x (requester.Takes m) o makes step inside =
-    inl (subst (λ (p : requester.Outcome). is_inside p.state.phase ≡ true) (take-Ok x m o step) (inside-take x m m.body refl inside))
+    inl (subst (λ (p : requester.Outcome). is_inside p.state.phase ≡ true) (take-Ok x m o step) (inside-take x m inside))
 inside-cause laws s c x requester.Leaves o makes step inside = inr makes
 inside-cause laws s c x requester.GivesUp o makes step inside = absurd (false≢true (sym (inside_not_asks x.phase inside) ∙ gave_up x o step))
 

@@ -5,4 +5,4 @@ pub returns-clause-hinders : goal.returns-clause-hinders
 returns-clause-hinders c = hinders-take
 
 pub returns-clause-gives : goal.returns-clause-gives
-returns-clause-gives c = gives-take
+returns-clause-gives c = λ x m s asking held hindered below is. gives-take x m s asking held hindered is
