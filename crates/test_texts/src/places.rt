@@ -1,8 +1,7 @@
 //! Where lines, marks and brackets are found in texts.
-use show_refusals::{
-    file_line, is_unended, line_at, line_of, near_mark, position_of, push_file, unclosed_line,
-};
+use show_refusals::{file_line, is_unended, line_of, near_mark, position_of, push_file};
 use std::alloc::{AllocError, Global};
+use toml_places::{line_at, unclosed_line};
 
 /// Texts, the number of a line, the line with that number or `none`, and whether it is the last one
 /// and lacks its newline.
@@ -31,21 +30,20 @@ fn lines_are_found(rt: HostRuntime) {
     }
 }
 
-/// Texts, the number of the first line, and that of the line that is almost a separating line, or 0.
-const NEAR_MARKS: [(&str, usize, usize); 8] = [
-    ("a\n%% \nb\n", 1, 2),
-    ("a\n%%\r\nb\n", 1, 2),
-    ("a\n%%", 1, 2),
-    ("a\n \t%%\nb\n", 1, 2),
-    ("b\n%%", 4, 5),
-    ("a\n%\nb\n", 1, 0),
-    ("a%%\nb\n", 1, 0),
-    ("", 1, 0),
+/// Texts, and the number of the line that is almost a separating line, or 0.
+const NEAR_MARKS: [(&str, usize); 7] = [
+    ("a\n%% \nb\n", 2),
+    ("a\n%%\r\nb\n", 2),
+    ("a\n%%", 2),
+    ("a\n \t%%\nb\n", 2),
+    ("a\n%\nb\n", 0),
+    ("a%%\nb\n", 0),
+    ("", 0),
 ];
 
 /// Returns the line that is almost a separating line, or 0.
-fn near_line(text: &str, first: usize) -> usize {
-    match near_mark(text.as_bytes(), first) {
+fn near_line(text: &str) -> usize {
+    match near_mark(text.as_bytes()) {
         Some((line, _)) => line,
         None => 0,
     }
@@ -53,8 +51,8 @@ fn near_line(text: &str, first: usize) -> usize {
 
 #[test]
 fn near_marks_are_found(rt: HostRuntime) {
-    for (text, first, line) in &NEAR_MARKS {
-        assert!(rt; near_line(text, *first) == *line);
+    for (text, line) in &NEAR_MARKS {
+        assert!(rt; near_line(text) == *line);
     }
 }
 
@@ -84,7 +82,7 @@ const BRACKETS: [(&str, usize); 10] = [
     ("a = \"[\" # [\n", 0),
     ("a = \"\\\"[\"\n", 0),
     ("a = '['\n", 0),
-    ("a = \"\"\"[\n[[" # [\n]\"\"\"\n", 0),
+    ("a = \"\"\"[\n[[\" # [\n]\"\"\"\n", 0),
     ("a = [\"b\"\nc = [[\"b\"]]\n", 1),
 ];
 
