@@ -232,7 +232,7 @@ impl<'a> Walk<'a> {
     /// coterie are in one other list at most, and no list has an equals sign.
     fn shows_unclosed(&self) -> bool {
         match first(self.rest) {
-            b'[' => self.brackets.len() == 2,
+            b'[' | b'{' => self.brackets.len() == 2,
             b'=' => self
                 .brackets
                 .last()
