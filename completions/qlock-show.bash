@@ -2,8 +2,8 @@
 
 _qlock_show() {
     local word=${COMP_WORDS[COMP_CWORD]}
-    local codes="I1 I2 I3 I4 I5 I6 O1 F1 F2 F3 F4 F5 F6 F7 F8 E1 E2 E3 E4 E5 E6 E7 E8 G1 G2 P1 P2 P3 P4 P5 P6 P7 P8 P9 P10 N1
-        A1 A2 A3 A4 A5 A6 A7 U1 U2 U3 C1 C2 C3 C4 V1 K2 B2 B3 Q1 Q2 S1 S2 S3 L1 L2 M1 B1 K1 K3 K4 U4 U5 U6 U7 J1"
+    local codes="I1 I2 I3 I4 I5 I6 O1 F1 F2 F3 F4 F5 F6 F7 F8 E1 E2 E3 E4 E5 E6 E7 E8 G1 G2 J1 P1 P2 P3 P4 P5 P6 P7 P8 P9 P10 N1 S1 S2 S3
+        A1 A2 A3 A4 A5 A6 A7 U1 U2 U3 U4 C1 C2 C3 C4 V1 K2 B2 B3"
     [ "${COMP_WORDS[COMP_CWORD - 1]}" = -f ] && return
     [ "${COMP_WORDS[1]} ${COMP_WORDS[COMP_CWORD - 1]}" = "near --down" ] && COMPREPLY=($(compgen -W "1 2" -- "$word")) && return
     [ "${COMP_WORDS[1]}" = compare ] && [ "$COMP_CWORD" -gt 2 ] && return
@@ -18,7 +18,7 @@ _qlock_show() {
                 coterie) COMPREPLY=($(compgen -W "racks centres votes any" -- "$word")) ;;
                 waiting) COMPREPLY=($(compgen -W "--round --down --dead" -- "$word")) ;;
                 explain) COMPREPLY=($(compgen -W "all $codes" -- "$word")) ;;
-                picture) COMPREPLY=($(compgen -W "load cycle world" -- "$word")) ;;
+                picture) COMPREPLY=($(compgen -W "load world" -- "$word")) ;;
                 fault) COMPREPLY=($(compgen -W "make plan check deal world run replay" -- "$word")) ;;
             esac
             ;;

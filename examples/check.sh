@@ -486,11 +486,12 @@ shapes() {
     awk '{ print $1, $2, NF - 2 }' | sort -u
 }
 
-# each fault is in the tests, and none else: in the tables of crates/test_texts/src/faults.rt, or for a wrong command line in
-# an example
+# each fault is in the tests, and none else but those of calls, which no command prints: in the tables of
+# crates/test_texts/src/faults.rt, or for a wrong command line in an example
+CALLS='B1|K1|K3|K4|L1|L2|M1|Q1|Q2|U5|U6|U7'
 "$show" explain | shapes > "$work/listed"
 {
-    grep -o '"[A-Z][0-9]* [^"]*"' "$here/../crates/test_texts/src/faults.rt" | tr -d '"'
+    grep -o '"[A-Z][0-9]* [^"]*"' "$here/../crates/test_texts/src/faults.rt" | tr -d '"' | grep -vE "^($CALLS) "
     cat "$here/expected/grid-of-one-number.err"
 } | shapes > "$work/tested"
 if diff -u "$work/tested" "$work/listed"; then passed=$((passed + 1)); else failed=$((failed + 1)); fi

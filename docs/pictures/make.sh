@@ -9,12 +9,11 @@ folder=${1:-$here}
 work=$(mktemp -d)
 trap 'rm -rf "$work"' EXIT
 
-# draws the load and the cycle of a plan of a coterie
+# draws the load of a plan of a coterie
 planned() {
     "$root/qlock" plan < "$root/examples/$1.toml" > "$work/plan"
     { cat "$root/examples/$1.toml"; echo %%; cat "$work/plan"; } > "$work/input"
     "$root/qlock-show" picture load < "$work/input" > "$folder/load-$1.svg"
-    "$root/qlock-show" picture cycle < "$work/input" > "$folder/cycle-$1.svg"
 }
 
 for coterie in grid-3-3 majority-5 wheel-3 wheel-3-fast-hub cyclic-7 tree-2 three-racks weighted-votes; do

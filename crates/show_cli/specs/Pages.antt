@@ -5,8 +5,7 @@ use Rattle.show_faults.specs.Pages.{IsFaultsList, IsFaultsPage}
 use Rattle.show_faults.specs.Texts.{text_of}
 use Rattle.show_waiting.specs.Waiting.{waiting_text}
 use Rattle.show_svg.specs.Pictures.{IsEnded}
-use Rattle.plan_inputs.specs.Inputs.{PlannedSystem}
-use Rattle.commands.specs.Commands.{Refuses, coterie_part, planned_in, reads_input, weighed_in}
+use Rattle.commands.specs.Commands.{Refuses, coterie_part, reads_input, weighed_in}
 use Rattle.commands.specs.declared.fault.Fault.{Fault}
 use Rattle.commands.specs.declared.fault.Fault.TheVariants.{Device, OutOfMemory}
 use Rattle.whole_io.specs.Devices.{AppendsBeginning}
@@ -27,12 +26,6 @@ use Rattle.show_command_line.specs.declared.command.ShowCommand.TheVariants as s
 -- the input is a coterie and weights of it, and the page ends as a picture does
 abbrev pub IsWeightsPicture : List ℕ → List ℕ → Type 0
 IsWeightsPicture input page = HasWeights input × IsEnded page
-
--- the input is a coterie and a plan of it, and the page ends as a picture does
-pub record IsPlanPicture (input page : List ℕ) : Type 0 where
-  pub planned : PlannedSystem
-  pub parts : planned_in input ≡ Ok planned
-  pub ended : IsEnded page
 
 -- the input is one of a story, and the page ends as a picture does
 abbrev pub IsStoryPicture : List ℕ → List ℕ → Type 0
@@ -58,7 +51,6 @@ IsPage show.ExplainAll input page = IsFaultsPage page
 IsPage show.ListFaults input page = IsFaultsList page
 IsPage (show.Fault command) input page = IsFaultPage command input page
 IsPage (show.Picture pictures.Load) input page = IsWeightsPicture input page
-IsPage (show.Picture pictures.Cycle) input page = IsPlanPicture input page
 IsPage (show.Picture pictures.World) input page = IsStoryPicture input page
 
 -- the fault is out of memory, or the command fails with it for the input: a part is missing or has a
@@ -76,7 +68,6 @@ RefusesPage (show.Explain explanation) input fault = fault ≡ OutOfMemory
 RefusesPage show.ExplainAll input fault = fault ≡ OutOfMemory
 RefusesPage show.ListFaults input fault = fault ≡ OutOfMemory
 RefusesPage (show.Fault command) input fault = fault ≡ OutOfMemory
-RefusesPage (show.Picture pictures.Cycle) input fault = Refuses fault (planned_in input)
 RefusesPage (show.Picture pictures.World) input fault = RefusesStory input fault
 RefusesPage command input fault = Refuses fault (weighed_in input)
 

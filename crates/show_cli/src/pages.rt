@@ -16,11 +16,11 @@ use crate::failing::{borne_page, left_page, pair_page};
 use crate::nearness::near_weights_page;
 use crate::scenes::{Scene, scene_of};
 use crate::shapes::shape_page;
-use commands::{Command, Fault, Weighed, planned_of, weighed_of};
+use commands::{Command, Fault, Weighed, weighed_of};
 use show_command_line::{Dealing, Form, Picture, ShowCommand, TicketForm};
 use show_faults::{Explanation, explanation_text, faults_list, faults_page};
 use show_json::{deal_json, weights_json};
-use show_plans::{cycle_picture, load_picture};
+use show_plans::load_picture;
 use show_refusals::fault_page;
 use show_report::report_page;
 use show_waiting::{Waiting, waiting_page};
@@ -101,21 +101,6 @@ fn load_page(alloc: Global, input: &[u8]) -> Result<String, Fault>
         Err(fault) => return Err(fault),
     };
     match load_picture(alloc, &weighed.named, &weighed.weights) {
-        Ok(drawing) => Ok(drawing.into_text()),
-        Err(_) => Err(Fault::OutOfMemory),
-    }
-}
-
-/// Returns the picture of the first cycle for an input.
-fn cycle_page(alloc: Global, input: &[u8]) -> Result<String, Fault>
-    ensures shown { IsShownBy string_bytes (ShowCommand.Picture Picture.Cycle) input.now result }
-    ensures own { IfErr result IsOwn }
-{
-    let planned = match planned_of(alloc, input) {
-        Ok(planned) => planned,
-        Err(fault) => return Err(fault),
-    };
-    match cycle_picture(alloc, &planned.named, &planned.plan) {
         Ok(drawing) => Ok(drawing.into_text()),
         Err(_) => Err(Fault::OutOfMemory),
     }
@@ -240,7 +225,6 @@ pub(crate) fn page_of(
         ShowCommand::Coterie(shape, capacities) => shape_page(alloc, shape, capacities),
         ShowCommand::Compare(files, form) => compared_page(alloc, files.as_slice(), *form, input),
         ShowCommand::Picture(Picture::Load) => load_page(alloc, input),
-        ShowCommand::Picture(Picture::Cycle) => cycle_page(alloc, input),
         ShowCommand::Without(words) => left_page(alloc, words, input),
         ShowCommand::Resilience(form) => borne_page(alloc, *form, input),
         ShowCommand::Bridge => pair_page(alloc, input),

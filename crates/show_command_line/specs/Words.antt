@@ -22,7 +22,7 @@ use Rattle.show_command_line.specs.declared.command.TicketForm.TheVariants as ti
 use Rattle.command_line.specs.declared.usage.Usage.{Usage}
 use Rattle.command_line.specs.declared.usage.Usage.TheVariants.{Arguments, OutOfMemory, Refused}
 use Rattle.show_command_line.specs.declared.command.Picture.{Picture}
-use Rattle.show_command_line.specs.declared.command.Picture.TheVariants.{Cycle, Load, World as Messages}
+use Rattle.show_command_line.specs.declared.command.Picture.TheVariants.{Load, World as Messages}
 use Rattle.show_command_line.specs.declared.command.ShowCommand.{ShowCommand}
 use Rattle.show_command_line.specs.declared.command.ShowCommand.TheVariants.{Bridge, Check, Compare, Coterie, Deal, Explain, ExplainAll, Fault, ListFaults, Near, Picture as Show, Plan, Report, Resilience, Waiting, Without, World}
 
@@ -213,7 +213,6 @@ qlock_words rows = codes "qlock" ∷ unwrap_or (all_of (codes "WORDS") rows) []
 -- the word for a picture, the value of KIND
 abbrev pub picture_word : Picture → Text
 picture_word Load = codes "load"
-picture_word Cycle = codes "cycle"
 picture_word Messages = codes "world"
 
 -- the command is the one that the used subcommand and its values name

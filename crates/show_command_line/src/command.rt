@@ -9,8 +9,6 @@ use show_waiting::Waiting;
 pub enum Picture {
     /// How often a plan, or other weights, use each voter and each quorum.
     Load,
-    /// The first cycle of a plan, and how evenly it uses the voters.
-    Cycle,
     /// The messages of a script.
     World,
 }

@@ -421,7 +421,7 @@ fn picture_command<'a>(alloc: Global) -> Result<clap::Command<'a>, AllocError>
     bare_command(alloc, "picture", "Draw a picture, as SVG").arg(word_argument(
         alloc,
         "KIND",
-        "load or cycle (a coterie, a line %%, a plan; for load also weights), or world (and a line %%, a script)",
+        "load (a coterie, a line %%, a plan or weights), or world (a coterie, a plan and a script)",
     ))
 }
 
@@ -682,7 +682,6 @@ fn picture_named(kind: &str) -> Option<Picture>
 {
     match kind {
         "load" => Some(Picture::Load),
-        "cycle" => Some(Picture::Cycle),
         "world" => Some(Picture::World),
         _ => None,
     }

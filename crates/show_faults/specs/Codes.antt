@@ -24,14 +24,14 @@ abbrev pub coterie_codes : List (List ℕ)
 coterie_codes =
     codes "F1" ∷ codes "F2" ∷ codes "F3" ∷ codes "F4" ∷ codes "F5" ∷ codes "F6" ∷ codes "F7" ∷ codes "F8" ∷
     codes "E1" ∷ codes "E2" ∷ codes "E3" ∷ codes "E4" ∷ codes "E5" ∷ codes "E6" ∷ codes "E7" ∷ codes "E8" ∷
-    codes "G1" ∷ codes "G2" ∷
+    codes "G1" ∷ codes "G2" ∷ codes "J1" ∷
     []
 
--- the codes of the faults of plans
+-- the codes of the faults of plans, and of the causes that `N1` has
 abbrev pub plan_codes : List (List ℕ)
 plan_codes =
     codes "P1" ∷ codes "P2" ∷ codes "P3" ∷ codes "P4" ∷ codes "P5" ∷ codes "P6" ∷ codes "P7" ∷ codes "P8" ∷ codes "P9" ∷
-    codes "P10" ∷ codes "N1" ∷
+    codes "P10" ∷ codes "N1" ∷ codes "S1" ∷ codes "S2" ∷ codes "S3" ∷
     []
 
 -- the codes of the faults of scripts and records
@@ -43,29 +43,16 @@ record_codes =
 -- the codes of the faults of clients, voters and runs
 abbrev pub protocol_codes : List (List ℕ)
 protocol_codes =
-    codes "U1" ∷ codes "U2" ∷ codes "U3" ∷
+    codes "U1" ∷ codes "U2" ∷ codes "U3" ∷ codes "U4" ∷
     codes "C1" ∷ codes "C2" ∷ codes "C3" ∷ codes "C4" ∷
     codes "V1" ∷
     codes "K2" ∷
     codes "B2" ∷ codes "B3" ∷
     []
 
--- the codes of the faults of calls of the crates
-abbrev pub call_codes : List (List ℕ)
-call_codes =
-    codes "Q1" ∷ codes "Q2" ∷
-    codes "S1" ∷ codes "S2" ∷ codes "S3" ∷
-    codes "L1" ∷ codes "L2" ∷
-    codes "M1" ∷
-    codes "B1" ∷
-    codes "K1" ∷ codes "K3" ∷ codes "K4" ∷
-    codes "U4" ∷ codes "U5" ∷ codes "U6" ∷ codes "U7" ∷
-    codes "J1" ∷
-    []
-
 -- the codes of all faults, in sections
 abbrev pub fault_codes : List (List (List ℕ))
-fault_codes = input_codes ∷ coterie_codes ∷ plan_codes ∷ record_codes ∷ protocol_codes ∷ call_codes ∷ []
+fault_codes = input_codes ∷ coterie_codes ∷ plan_codes ∷ record_codes ∷ protocol_codes ∷ []
 
 -- these sections have an explanation for each code of a fault, in the order of the codes
 abbrev pub HaveAllCodes : List Section → Type 0

@@ -1,7 +1,6 @@
 //! The sections of all explanations.
 ghost use Rattle.show_faults.specs.Codes.{HaveAllCodes};
 
-use crate::calls::calls;
 use crate::coteries::coteries;
 use crate::inputs::inputs;
 use crate::plans::plans;
@@ -9,8 +8,8 @@ use crate::protocol::protocol;
 use crate::records::records;
 use crate::section::Section;
 
-/// Returns the explanations of all faults, in a section for each kind.
-pub fn sections() -> [Section; 6]
+/// Returns the explanations of all faults that a command can print, in a section for each kind.
+pub fn sections() -> [Section; 5]
     ensures { HaveAllCodes result }
 {
     [
@@ -33,10 +32,6 @@ pub fn sections() -> [Section; 6]
         Section {
             title: "Clients, voters and runs",
             explanations: protocol(),
-        },
-        Section {
-            title: "Calls of the crates, which no command prints",
-            explanations: calls(),
         },
     ]
 }

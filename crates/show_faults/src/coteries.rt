@@ -262,11 +262,27 @@ const G2: Explanation = Explanation {
         for up to 64 voters, and a smaller load: see `docs/choosing.md`.",
 };
 
+const J1: Explanation = Explanation {
+    code: "J1",
+    name: "NotBridged",
+    arguments: "j k",
+    meaning: "Quorum j of the old coterie and quorum k of the new one have no common\n\
+        member. Quorums count from 0. While one plan is exchanged for the other, two\n\
+        clients could hold the lock at once. `qlock-show world` fails with it for an\n\
+        input of two coteries.",
+    example: "$ ./qlock-show world -f old.toml -f old.plan -f new.toml -f new.plan -f script.txt\n\
+        J1 NotBridged 2 0\n\
+        from any two of three voters to the first voter alone",
+    mistakes: "The new quorums are too small, or the voters of the new coterie are in\n\
+        another order. Exchange in two steps, over any n - c + 1 of the n voters,\n\
+        where the smallest quorum of the two coteries has c members.",
+};
+
 /// Returns the explanations of the faults of coteries.
 pub(crate) fn coteries() -> &'static [Explanation]
     ensures { codes_of result.now ≡ coterie_codes }
 {
     &[
-        F1, F2, F3, F4, F5, F6, F7, F8, E1, E2, E3, E4, E5, E6, E7, E8, G1, G2,
+        F1, F2, F3, F4, F5, F6, F7, F8, E1, E2, E3, E4, E5, E6, E7, E8, G1, G2, J1,
     ]
 }

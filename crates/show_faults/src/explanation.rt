@@ -11,7 +11,7 @@ pub struct Explanation {
     pub arguments: &'static str,
     /// What the fault means, in sentences.
     pub meaning: &'static str,
-    /// Lines that give the fault: a command and what matters of its input, or a call of a crate.
+    /// Lines that give the fault: a command and what matters of its input.
     pub example: &'static str,
     /// What usually led to it, and what to do.
     pub mistakes: &'static str,

@@ -1,4 +1,5 @@
-//! The explanations of the faults: what each means, how to get it, and what usually leads to it.
+//! The explanations of the faults that a command can print: what each means, how to get it, and what
+//! usually leads to it. Faults of calls alone are explained where these are declared.
 //!
 //! - [`explanation_of`] finds the explanation of a code, as of `E7`, or of a whole line of a fault.
 //! - [`explanation_text`] writes it as a text.
@@ -25,7 +26,6 @@
 #![tactic(auto)]
 
 mod all;
-mod calls;
 mod code;
 mod coteries;
 mod explanation;

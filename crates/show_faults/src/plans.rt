@@ -168,9 +168,43 @@ const N1: Explanation = Explanation {
         checked by `./qlock check`.",
 };
 
-/// Returns the explanations of the faults of plans.
+const S1: Explanation = Explanation {
+    code: "S1",
+    name: "Overflow",
+    arguments: "",
+    meaning: "The cause of an `N1 NoPlan`: a number of the simplex method did not fit, an\n\
+        entry of its table in 128 bits, or a weight in 64.",
+    example: "$ ./qlock plan < coterie.toml # with 100 irregular quorums of 56 voters\n\
+        N1 NoPlan S1",
+    mistakes: "The coterie is large and irregular. Take a regular shape, or fewer\n\
+        voters.",
+};
+
+const S2: Explanation = Explanation {
+    code: "S2",
+    name: "PivotLimit",
+    arguments: "",
+    meaning: "The cause of an `N1 NoPlan`: the simplex method needs more than 10,000\n\
+        pivots.",
+    example: "$ ./qlock plan < coterie.toml # with thousands of irregular quorums\n\
+        N1 NoPlan S2",
+    mistakes: "The coterie is very large. Take a regular shape, or fewer voters.",
+};
+
+const S3: Explanation = Explanation {
+    code: "S3",
+    name: "NoRow",
+    arguments: "",
+    meaning: "The cause of an `N1 NoPlan`: no row limits the column that enters, so the\n\
+        simplex method could go on without end.",
+    example: "None is known: what is maximised is at most the number of voters.",
+    mistakes: "It is not expected. If you meet it, report the coterie and its\n\
+        capacities.",
+};
+
+/// Returns the explanations of the faults of plans, and of the causes that `N1 NoPlan` has.
 pub(crate) fn plans() -> &'static [Explanation]
     ensures { codes_of result.now ≡ plan_codes }
 {
-    &[P1, P2, P3, P4, P5, P6, P7, P8, P9, P10, N1]
+    &[P1, P2, P3, P4, P5, P6, P7, P8, P9, P10, N1, S1, S2, S3]
 }

@@ -44,6 +44,19 @@ const U3: Explanation = Explanation {
         its number.",
 };
 
+const U4: Explanation = Explanation {
+    code: "U4",
+    name: "NoSecondPlan",
+    arguments: "",
+    meaning: "A step of the script exchanges the plan, and there is no second plan, or it\n\
+        was exchanged before. The step does nothing, and the script goes on.",
+    example: "$ printf 'world 1 1000\\nexchange\\n' > script.txt\n\
+        $ (cat examples/wheel-3-planned.txt; echo %%; cat script.txt) | ./qlock-show world\n\
+        refused: U4 NoSecondPlan",
+    mistakes: "The input has one coterie and one plan: put the second coterie and its plan\n\
+        in front of the script. A script makes one exchange.",
+};
+
 const C1: Explanation = Explanation {
     code: "C1",
     name: "Busy",
@@ -166,5 +179,5 @@ const B3: Explanation = Explanation {
 pub(crate) fn protocol() -> &'static [Explanation]
     ensures { codes_of result.now ≡ protocol_codes }
 {
-    &[U1, U2, U3, C1, C2, C3, C4, V1, K2, B2, B3]
+    &[U1, U2, U3, U4, C1, C2, C3, C4, V1, K2, B2, B3]
 }

@@ -25,7 +25,7 @@ pub struct Columns {
 }
 
 /// Returns how much room the longest name takes.
-pub fn name_room(named: &Named, voters: &[VoterFigure]) -> u64 {
+fn name_room(named: &Named, voters: &[VoterFigure]) -> u64 {
     let mut longest: u64 = 1;
     for figure in voters {
         longest = longest.max(name_of(named, figure.voter).len() as u64);

@@ -1,27 +1,15 @@
 //! What is wrong with the sizes of a shape, for `fault make`.
+use crate::lines::repeated;
+use crate::refused::{Page, Pushed};
+use crate::text_faults::push_coterie_fault;
 use command_line::Shape;
 use construct::ConstructFault;
-use quorum_set::CoterieFault;
-use std::alloc::AllocError;
-
-/// Returns the first number of a base that is no voter's number.
-fn outside(voters: u32, base: &[u32]) -> Option<u32> {
-    base.iter().copied().find(|number| *number >= voters)
-}
-
-/// Returns the first number of a base that is there twice.
-fn repeated(base: &[u32]) -> Option<u32> {
-    for (place, number) in base.iter().enumerate() {
-        if base[..place].contains(number) {
-            return Some(*number);
-        }
-    }
-    None
-}
+use coterie_file::NameLists;
+use std::alloc::{AllocError, Global};
 
 /// Appends what is wrong with a base.
-fn push_base(text: &mut String, voters: u32, base: &[u32]) -> Result<(), AllocError> {
-    if let Some(number) = outside(voters, base) {
+fn push_base(text: &mut String, voters: u32, base: &[u32]) -> Pushed {
+    if let Some(number) = base.iter().find(|number| **number >= voters) {
         return write!(
             text,
             "  the base has the number {number}; its numbers are below {voters}, the number of voters\n"
@@ -34,7 +22,7 @@ fn push_base(text: &mut String, voters: u32, base: &[u32]) -> Result<(), AllocEr
 }
 
 /// Appends which sizes of a shape are too small, or what is wrong with its base.
-fn push_bad_size(text: &mut String, shape: &Shape) -> Result<(), AllocError> {
+fn push_bad_size(text: &mut String, shape: &Shape) -> Pushed {
     match shape {
         Shape::Grid(_, _) => text.push_str("  a grid has 2 rows and 2 columns at least\n"),
         Shape::Majority(_) => text.push_str("  a majority has 1 voter at least\n"),
@@ -45,7 +33,7 @@ fn push_bad_size(text: &mut String, shape: &Shape) -> Result<(), AllocError> {
 }
 
 /// Appends which sizes of a shape are too large.
-fn push_too_large(text: &mut String, shape: &Shape) -> Result<(), AllocError> {
+fn push_too_large(text: &mut String, shape: &Shape) -> Pushed {
     match shape {
         Shape::Grid(rows, columns) => {
             let voters = u64::from(*rows).saturating_mul(u64::from(*columns));
@@ -67,73 +55,38 @@ fn push_too_large(text: &mut String, shape: &Shape) -> Result<(), AllocError> {
     }
 }
 
-/// Returns whether a quorum of a ring has a voter: whether the base, moved on by the quorum's number,
-/// has it.
-fn has(voters: u32, base: &[u32], quorum: usize, voter: u32) -> bool {
-    let voter = u64::from(voter);
-    let around = voter.saturating_add(u64::from(voters));
-    base.iter().any(|number| {
-        let moved = u64::from(*number).saturating_add(quorum as u64);
-        moved == voter || moved == around
+/// Returns the quorums of a ring, with the names of their members: quorum n has the voters of the base,
+/// each moved on by n.
+fn ring_lists(alloc: Global, voters: u32, base: &[u32]) -> Result<NameLists, AllocError> {
+    let mut quorums = Vec::new(alloc);
+    for quorum in 0..voters.min(64) {
+        let mut names = Vec::new(alloc);
+        for voter in 0..voters.min(64) {
+            let ahead = voter.saturating_add(voters).saturating_sub(quorum);
+            if base.contains(&ahead.checked_sub(voters).unwrap_or(ahead)) {
+                names.push(format!(in alloc; "v{voter}")?)?;
+            }
+        }
+        quorums.push(names)?;
+    }
+    Ok(NameLists {
+        names: Vec::new(alloc),
+        quorums,
+        capacities: Vec::new(alloc),
     })
 }
 
-/// Appends a quorum of a ring: its number and the names of its members.
-fn push_moved(
-    text: &mut String,
-    voters: u32,
-    base: &[u32],
-    quorum: usize,
-) -> Result<(), AllocError> {
-    write!(text, "{quorum} ")?;
-    let mut between = "{";
-    for voter in 0..voters.min(64) {
-        if has(voters, base, quorum, voter) {
-            write!(text, "{between}v{voter}")?;
-            between = ", ";
-        }
-    }
-    text.push('}')
-}
-
-/// Appends what is wrong with two quorums of a ring.
-fn push_pair(
-    text: &mut String,
-    shape: &Shape,
-    first: usize,
-    second: usize,
-    what: &str,
-) -> Result<(), AllocError> {
-    let Shape::Cyclic(voters, base) = shape else {
-        return Ok(());
-    };
-    text.push_str("  quorums ")?;
-    push_moved(text, *voters, base, first)?;
-    text.push_str(" and ")?;
-    push_moved(text, *voters, base, second)?;
-    text.push(' ')?;
-    text.push_str(what)
-}
-
 /// Appends what is wrong with the sizes of a shape.
-pub(crate) fn push_shape_fault(
-    text: &mut String,
-    shape: &Shape,
-    fault: ConstructFault,
-) -> Result<(), AllocError> {
-    match fault {
-        ConstructFault::BadSize => push_bad_size(text, shape),
-        ConstructFault::TooLarge => push_too_large(text, shape),
-        ConstructFault::Coterie(CoterieFault::Disjoint(first, second)) => {
-            push_pair(text, shape, first, second, "have no voter in common\n")
+pub(crate) fn push_shape_fault(page: &mut Page, shape: &Shape, fault: ConstructFault) -> Pushed {
+    match (fault, shape) {
+        (ConstructFault::BadSize, _) => push_bad_size(&mut page.text, shape),
+        (ConstructFault::TooLarge, _) => push_too_large(&mut page.text, shape),
+        (ConstructFault::Coterie(fault), Shape::Cyclic(voters, base)) => {
+            let lists = ring_lists(page.alloc, *voters, base)?;
+            page.text.push_str("  ")?;
+            push_coterie_fault(page, &lists, fault)?;
+            page.text.push('\n')
         }
-        ConstructFault::Coterie(CoterieFault::Contained(first, second)) => push_pair(
-            text,
-            shape,
-            first,
-            second,
-            "are equal, or one has all voters of the other\n",
-        ),
-        ConstructFault::Coterie(_) | ConstructFault::OutOfMemory => Ok(()),
+        _ => Ok(()),
     }
 }

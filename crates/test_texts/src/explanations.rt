@@ -32,5 +32,5 @@ fn whole() -> usize {
 
 #[test]
 fn explanations_are_whole(rt: HostRuntime) {
-    assert!(rt; whole() == 71);
+    assert!(rt; whole() == 59);
 }

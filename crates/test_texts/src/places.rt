@@ -1,9 +1,7 @@
 //! Where lines, marks and brackets are found in texts.
-use show_inputs::{
-    file_line, is_unended, item_line, key_line, line_of, near_mark, position_of, push_file,
-    unclosed_line,
-};
+use show_refusals::{file_line, is_unended, line_of, near_mark, position_of, push_file};
 use std::alloc::{AllocError, Global};
+use toml_places::{line_at, unclosed_line};
 
 /// Texts, the number of a line, the line with that number or `none`, and whether it is the last one
 /// and lacks its newline.
@@ -32,30 +30,29 @@ fn lines_are_found(rt: HostRuntime) {
     }
 }
 
-/// Texts, the number of the first line, and that of the line that is almost a separating line, or 0.
-const NEAR_MARKS: [(&str, usize, usize); 8] = [
-    ("a\n%% \nb\n", 1, 2),
-    ("a\n%%\r\nb\n", 1, 2),
-    ("a\n%%", 1, 2),
-    ("a\n \t%%\nb\n", 1, 2),
-    ("b\n%%", 4, 5),
-    ("a\n%\nb\n", 1, 0),
-    ("a%%\nb\n", 1, 0),
-    ("", 1, 0),
+/// Texts, and the number of the line that is almost a separating line, or 0.
+const NEAR_MARKS: [(&str, usize); 7] = [
+    ("a\n%% \nb\n", 2),
+    ("a\n%%\r\nb\n", 2),
+    ("a\n%%", 2),
+    ("a\n \t%%\nb\n", 2),
+    ("a\n%\nb\n", 0),
+    ("a%%\nb\n", 0),
+    ("", 0),
 ];
 
 /// Returns the line that is almost a separating line, or 0.
-fn near_line(text: &str, first: usize) -> usize {
-    match near_mark(text.as_bytes(), first) {
-        Some(near) => near.line,
+fn near_line(text: &str) -> usize {
+    match near_mark(text.as_bytes()) {
+        Some((line, _)) => line,
         None => 0,
     }
 }
 
 #[test]
 fn near_marks_are_found(rt: HostRuntime) {
-    for (text, first, line) in &NEAR_MARKS {
-        assert!(rt; near_line(text, *first) == *line);
+    for (text, line) in &NEAR_MARKS {
+        assert!(rt; near_line(text) == *line);
     }
 }
 
@@ -76,7 +73,7 @@ fn columns_count_characters(rt: HostRuntime) {
 }
 
 /// Texts, and the line of the bracket that is not closed, or 0.
-const BRACKETS: [(&str, usize); 8] = [
+const BRACKETS: [(&str, usize); 10] = [
     ("a = [", 1),
     ("a = []\nb = [[1],\n[2]", 2),
     ("a = []\nb = [[1],\n[2", 3),
@@ -85,25 +82,27 @@ const BRACKETS: [(&str, usize); 8] = [
     ("a = \"[\" # [\n", 0),
     ("a = \"\\\"[\"\n", 0),
     ("a = '['\n", 0),
+    ("a = \"\"\"[\n[[\" # [\n]\"\"\"\n", 0),
+    ("a = [\"b\"\nc = [[\"b\"]]\n", 1),
 ];
 
 /// Returns the line of the bracket that is not closed, or 0.
-fn unclosed_in(text: &str) -> usize {
-    match unclosed_line(text.as_bytes()) {
-        Some(line) => line,
-        None => 0,
+fn unclosed_in(alloc: Global, text: &str) -> usize {
+    match unclosed_line(alloc, text) {
+        Ok(Some(line)) => line,
+        _ => 0,
     }
 }
 
 #[test]
 fn unclosed_brackets_are_found(rt: HostRuntime) {
     for (text, line) in &BRACKETS {
-        assert!(rt; unclosed_in(text) == *line);
+        assert!(rt; unclosed_in(rt.alloc(), text) == *line);
     }
 }
 
 /// Texts, and the lines of their key `b` and of item 1 of its list, or 0.
-const KEYS: [(&str, (usize, usize)); 9] = [
+const KEYS: [(&str, (usize, usize)); 12] = [
     ("a = 1\nb = [1, 2]\n", (2, 2)),
     (
         "a = [\n\"b\",\n]\n \"b\" = [ # [1,\n  1,\n\n  [2,\n  3],\n]\n",
@@ -115,20 +114,23 @@ const KEYS: [(&str, (usize, usize)); 9] = [
     ("[b]\nc = 1\n", (1, 0)),
     ("a = \"b = 1\"\n", (0, 0)),
     ("b.c = [1]\n", (1, 0)),
+    ("[a]\nb = [1, 2]\n[b]\n", (3, 0)),
+    ("a = {b = [1, 2]}\nb = [1, 2]\n", (2, 2)),
+    ("a = '''\nb = [1, 2]\n'''\nb = [\"[\",\n[1]]\n", (4, 5)),
     ("", (0, 0)),
 ];
 
 /// Returns the lines of the key `b` and of item 1 of its list, or 0.
-fn lines_in(text: &str) -> (usize, usize) {
-    let key = key_line(text.as_bytes(), "b").unwrap_or(0);
-    let item = item_line(text.as_bytes(), "b", 1).unwrap_or(0);
-    (key, item)
+fn lines_in(alloc: Global, text: &str) -> Result<(usize, usize), AllocError> {
+    let key = line_at(alloc, text, "b", None)?.unwrap_or(0);
+    let item = line_at(alloc, text, "b", Some(1))?.unwrap_or(0);
+    Ok((key, item))
 }
 
 #[test]
 fn keys_and_items_are_found(rt: HostRuntime) {
     for (text, lines) in &KEYS {
-        assert!(rt; lines_in(text) == *lines);
+        assert!(rt; lines_in(rt.alloc(), text) == Ok(*lines));
     }
 }
 
