@@ -13,8 +13,11 @@
 //! ```
 #![tactic(auto)]
 
-mod cells;
+mod entries;
+mod figures;
+mod groups;
+mod legend;
 mod page;
-mod table;
 
-pub use page::{Candidate, compare_page};
+pub use entries::Candidate;
+pub use page::compare_page;
