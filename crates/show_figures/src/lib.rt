@@ -13,7 +13,7 @@
 //!   finds, with a bound.
 //! - [`dealt_tickets`] deals tickets of a plan by rounds, as `qlock deal` does, or those of any weights in
 //!   the even order, as [`evenly_dealt`] does.
-//! - [`share`], [`tenths`] and [`parts_above`] round parts of a whole, and [`name_of`] has the
+//! - [`share`], [`tenths`] and [`parts_above`] of `show_tables` round parts of a whole, and [`name_of`] has the
 //!   name of a voter.
 //!
 //! # What is proved
@@ -29,7 +29,7 @@
 //! voters may fail is that of `show_failures`.
 //!
 //! The tickets and the account are those of their order, and so are stride and slack of the even one. How
-//! parts are rounded is defined in `specs/Shares.antt`. A voter's name is the one that the coterie's text
+//! parts are rounded is defined in `show_tables`. A voter's name is the one that the coterie's text
 //! gives it.
 //!
 //! Depends on `certificate`, `known_loads`, `even`, `near` and `planner`, on `commands`, which deals by
@@ -51,7 +51,6 @@ mod deal;
 mod even_order;
 mod figures;
 mod names;
-mod shares;
 mod sizes;
 mod slacks;
 mod totals;
@@ -63,6 +62,6 @@ pub use figures::{
     weight_figures,
 };
 pub use names::name_of;
-pub use shares::{parts_above, share, tenths};
+pub use show_tables::{parts_above, share, tenths};
 pub use slacks::slack_of;
 pub use totals::{Totals, totals_of};

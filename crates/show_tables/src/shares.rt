@@ -1,6 +1,6 @@
 //! Parts of a whole, rounded.
 ghost use Rattle.std.specs.Prelude.{◌≡◌, ◌<◌, ◌≤◌, ◌+◌, ◌*◌, ◌/◌, ◌^◌};
-ghost use Rattle.show_figures.specs.Shares.{parts_above, share_of, tenths_of};
+ghost use Rattle.show_tables.specs.Shares.{parts_above, share_of, tenths_of};
 
 /// Returns the part of the whole in units of which `scale` are the whole, rounded to the nearest.
 /// The whole is 1 to 2^32 - 1, the part at most the whole, and the scale below 2^16.
