@@ -29,18 +29,18 @@ use Rattle.world.specs.Runs.{AreLimits}
 use Rattle.world.specs.SavedWorlds.{PlannedSaved, begin_by}
 use Rattle.world_state.specs.Steps.{Dealing, WorldState, client_at, dealing_of, voter_at}
 use Rattle.world.specs.Visible.{DealsFrom}
-use Rattle.world.proofs.Befalling.{Acts, Arrives, IsOf, Keeps, Known, Scene, befalls_keeps, client_turns, scene_of, voter_turns}
+use Rattle.world.proofs.Befalling.{Acts, Arrives, IsOfWorld, Keeps, Known, Scene, befalls_keeps, client_turns, scene_of, voter_turns}
 use Rattle.world.proofs.Claims.{Bounds}
 use Rattle.world.proofs.ClientMoves.{member_below}
 use Rattle.world.proofs.Exclusion.{under_grant}
 use Rattle.world.proofs.Places.{set_client, set_voter}
 use Rattle.world.proofs.Plans.{plans_deal, plans_meet, quorums_of}
-use Rattle.world.proofs.Reached.{Given, start_ok, start_unused}
+use Rattle.world.proofs.Reached.{RunPremises, start_ok, start_unused}
 use Rattle.world.proofs.SavedWorlds.{SavedLaws}
 use Rattle.world.specs.Incidents.{Incident, anew, befalls, limited, reborn, skipped}
 use Rattle.incidents.specs.Calls.{befalls_by}
 use Rattle.incidents.specs.Fit.{IsFit, IsFitState, IsWritten}
-use Rattle.incidents.proofs.Pieces.{Comes, FitClient, FitMessage, FitVoter, MayHear, anew_fit, asks_fit, client_after, comes_in_range, counted_fit, least_client_fit, least_voter_fit, may_hear, reborn_fit, reminders_fit, replies_fit, seen_carried, voter_after}
+use Rattle.incidents.proofs.Pieces.{ComesOfWorld, FitClient, FitMessage, FitVoter, MayHear, anew_fit, asks_fit, client_after, comes_in_range, counted_fit, least_client_fit, least_voter_fit, may_hear, reborn_fit, reminders_fit, replies_fit, seen_carried, voter_after}
 
 abbrev pub Fit : Bounds → Saved → Type 0
 Fit b s = IsFitState b.voters b.clients b.limit s
@@ -99,7 +99,7 @@ voter_on b s fit v y z rs live saved told = record {
 
 -- ---- what comes to clients and voters
 
-message_of : (b : Bounds) (m : Message) → FitMessage b m → IsOf b m
+message_of : (b : Bounds) (m : Message) → FitMessage b m → IsOfWorld b m
 message_of b (kinds.ToVoter m) fit = (fit.0, fit.1)
 message_of b (kinds.ToClient m) fit = (fit.0, fit.1)
 
@@ -111,14 +111,14 @@ known_of b s fit = record {
   sent = λ k m at. message_of b m (AllByRecursion-get (FitMessage b) s.live.sent k m fit.messages at);
 }
 
-comes_of : (b : Bounds) (s : Saved) → Fit b s → (c : ℕ) (cause : client.Cause) → Acts b (scene_of s) c cause → Comes b cause
+comes_of : (b : Bounds) (s : Saved) → Fit b s → (c : ℕ) (cause : client.Cause) → Acts b (scene_of s) c cause → ComesOfWorld b cause
 comes_of b s fit c cause act v t g locks =
     let at = act.came v t g locks in
     let m : ToClient = record { voter = v; client = c; seen = at.1; body = to_client.Locked t g } in
     let is = AllByRecursion-get (FitMessage b) s.live.sent at.0 (kinds.ToClient m) fit.messages at.2 in
     (is.1, is.3.0, is.3.1)
 
-hears_of : (b : Bounds) → Given b → (s : Saved) → Fit b s → (m : ToVoter) → Arrives b (λ n. HasLine (kinds.ToVoter n)) (scene_of s) m → MayHear b m
+hears_of : (b : Bounds) → RunPremises b → (s : Saved) → Fit b s → (m : ToVoter) → Arrives b (λ n. HasLine (kinds.ToVoter n)) (scene_of s) m → MayHear b m
 hears_of b given s fit m arrives = elim arrives.source [
   | inl sent ↦ may_hear b given m (AllByRecursion-get (FitMessage b) s.live.sent sent.0 (kinds.ToVoter m) fit.messages sent.1)
   | inr made ↦ record { client = arrives.client; voter = arrives.voter; asks = made.1; number = made.0.2.1 }
@@ -126,7 +126,7 @@ hears_of b given s fit m arrives = elim arrives.source [
 
 -- ---- what befalls
 
-fit_keeps : (b : Bounds) → Given b → (s : Saved) → Fit b s → Keeps b (λ m. HasLine (kinds.ToVoter m)) (scene_of s) (λ w. Fit b (with_scene s w))
+fit_keeps : (b : Bounds) → RunPremises b → (s : Saved) → Fit b s → Keeps b (λ m. HasLine (kinds.ToVoter m)) (scene_of s) (λ w. Fit b (with_scene s w))
 fit_keeps b given s fit =
     let X = client_at s.live.clients in
     let K = client_at s.clients in
@@ -183,13 +183,13 @@ fit_keeps b given s fit =
           voter_on b s fit v (skipped (Y v) above) (Z v) [] (counted_fit b given v (Y v) above (Y v).limit was least most was.limit) (fit.saved_voters_are v within) tt;
     }
 
-pub befalls_fit : (b : Bounds) → Given b → (deal : Dealing) → DealsFrom b.quorums deal → (s : Saved) → Fit b s → (i : Incident) → IsWritten i → Fit b (befalls deal s i)
+pub befalls_fit : (b : Bounds) → RunPremises b → (deal : Dealing) → DealsFrom b.quorums deal → (s : Saved) → Fit b s → (i : Incident) → IsWritten i → Fit b (befalls deal s i)
 befalls_fit b given deal deals s fit i written = fit_again b s (befalls deal s i)
     (befalls_keeps b given deal deals (λ m. HasLine (kinds.ToVoter m)) s (λ w. Fit b (with_scene s w)) (fit_keeps b given s fit) i (λ m e. subst (λ (j : Incident). IsWritten j) e written))
 
 -- ---- the first world
 
-begin_client : (b : Bounds) → Given b → (c : ℕ) → c < b.clients → FitClient b c (client_at (begin b.voters b.clients b.limit).live.clients c)
+begin_client : (b : Bounds) → RunPremises b → (c : ℕ) → c < b.clients → FitClient b c (client_at (begin b.voters b.clients b.limit).live.clients c)
 begin_client b given c within =
     let ok = start_ok b given in
     let x = client_at (begin b.voters b.clients b.limit).live.clients c in
@@ -209,7 +209,7 @@ begin_client b given c within =
           omega arith);
     }
 
-begin_voter : (b : Bounds) → Given b → (v : ℕ) → v < b.voters → FitVoter b v (voter_at (begin b.voters b.clients b.limit).live.voters v)
+begin_voter : (b : Bounds) → RunPremises b → (v : ℕ) → v < b.voters → FitVoter b v (voter_at (begin b.voters b.clients b.limit).live.voters v)
 begin_voter b given v within =
     let ok = (start_ok b given).world in
     let few = given.limits.few_stamps in
@@ -222,7 +222,7 @@ begin_voter b given v within =
       seen = (let most = (ok.voters v).seen in omega arith);
     }
 
-pub begin_fit : (b : Bounds) → Given b → Fit b (begin b.voters b.clients b.limit)
+pub begin_fit : (b : Bounds) → RunPremises b → Fit b (begin b.voters b.clients b.limit)
 begin_fit b given =
     let ok = start_ok b given in
     record {
@@ -287,7 +287,7 @@ lines_fit b limits s fit = AllByRecursion-weaker (FitMessage b) HasLine (line_fi
 abbrev bounds_of : (plans : PlanPair) (clients limit : ℕ) → Bounds
 bounds_of plans clients limit = record { voters = plans.first.system.voters; clients = clients; limit = limit; quorums = quorums_of plans.first plans.second }
 
-given_by : SavedLaws → (plans : PlanPair) (clients limit : ℕ) → ArePlans plans → AreLimits plans.first.system.voters clients limit → Given (bounds_of plans clients limit)
+given_by : SavedLaws → (plans : PlanPair) (clients limit : ℕ) → ArePlans plans → AreLimits plans.first.system.voters clients limit → RunPremises (bounds_of plans clients limit)
 given_by laws plans clients limit are limits = record {
   client = laws.client;
   voter = laws.voter;

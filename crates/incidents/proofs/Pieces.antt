@@ -40,7 +40,7 @@ use Rattle.world.proofs.Claims.{Bounds}
 use Rattle.world.proofs.ClientMoves.{Draws, member_below}
 use Rattle.world.proofs.Exclusion.{under_grant}
 use Rattle.world.proofs.IncidentLemmas.{AsksInRange, anew_sound, brought, counted, reborn_sound}
-use Rattle.world.proofs.Reached.{Given}
+use Rattle.world.proofs.Reached.{RunPremises}
 use Rattle.world.specs.Incidents.{anew, reborn}
 use Rattle.incidents.specs.Fit.{IsFitClient, IsFitMessage, IsFitVoter}
 
@@ -56,8 +56,8 @@ FitMessage b m = IsFitMessage b.voters b.clients b.limit m
 -- ---- a client's step
 
 -- a LOCKED that comes is of a voter of this world, and in range
-abbrev pub Comes : Bounds → client.Cause → Type 0
-Comes b cause = (v s g : ℕ) → IsLocked cause v s g → (v < b.voters) × IsWithin b.limit s × IsWithin b.limit g
+abbrev pub ComesOfWorld : Bounds → client.Cause → Type 0
+ComesOfWorld b cause = (v s g : ℕ) → IsLocked cause v s g → (v < b.voters) × IsWithin b.limit s × IsWithin b.limit g
 
 under_same : (x : ClientState) (v g : ℕ) → holds_under x v g ≡ true → held_of x v ≡ g
 under_same x v g is = grind (arith, nat_tests)
@@ -69,14 +69,14 @@ quorum_on b meet x y (client.Takes m) draws keeps was v is = was v (subst (λ (l
 quorum_on b meet x y client.Leaves draws keeps was v is = was v (subst (λ (l : List ℕ). has l v ≡ true) keeps.0 is)
 quorum_on b meet x y client.GivesUp draws keeps was v is = was v (subst (λ (l : List ℕ). has l v ≡ true) keeps.0 is)
 
-pub comes_in_range : (b : Bounds) (x : ClientState) (cause : client.Cause) → x.limit ≡ b.limit → Comes b cause → ComesInRange x.limit cause
+pub comes_in_range : (b : Bounds) (x : ClientState) (cause : client.Cause) → x.limit ≡ b.limit → ComesOfWorld b cause → ComesInRange x.limit cause
 comes_in_range b x cause limit comes v s g locks =
     let within = (comes v s g locks).1 in
     let most = within.1 in
     (within.0, omega arith)
 
 pub client_after : ClientLaws → (b : Bounds) → DoMeet b.voters b.quorums → (c : ℕ) (x : ClientState) (cause : client.Cause) (o : client.Outcome) → FitClient b c x → Accepts x cause → Draws b cause
-    → Comes b cause → client.step x cause ≡ Ok o → FitClient b c o.state
+    → ComesOfWorld b cause → client.step x cause ≡ Ok o → FitClient b c o.state
 client_after laws b meet c x cause o fit accepts draws comes is =
     let y = o.state in
     let move = laws.meets x cause o fit.sound accepts is in
@@ -100,7 +100,7 @@ client_after laws b meet c x cause o fit accepts draws comes is =
 
 -- ---- what a client sends
 
-reached : (b : Bounds) (y : ClientState) (cause : client.Cause) → Comes b cause → ((v : ℕ) → is_member y v ≡ true → v < b.voters) → (v : ℕ) → IsReached cause y v → v < b.voters
+reached : (b : Bounds) (y : ClientState) (cause : client.Cause) → ComesOfWorld b cause → ((v : ℕ) → is_member y v ≡ true → v < b.voters) → (v : ℕ) → IsReached cause y v → v < b.voters
 reached b y cause comes quorum v is = elim is [
   | inl member ↦ quorum v member
   | inr locked ↦ (comes v locked.0 locked.1.0 locked.1.1).0
@@ -112,7 +112,7 @@ number_said b x y cause limit v last (asks.Request s) says range = let most = ra
 number_said b x y cause limit v last (asks.Relinquish g) says range = let same = says.0 in (range, omega arith)
 number_said b x y cause limit v last (asks.Release s) says range = let most = range.1 in (range.0, omega arith)
 
-pub asks_fit : (b : Bounds) (c : ℕ) → c < b.clients → (x y : ClientState) (cause : client.Cause) → x.id ≡ c → FitClient b c y → Comes b cause → (out : List ToVoter) → AllSay x cause y out → AllInRange cause y out
+pub asks_fit : (b : Bounds) (c : ℕ) → c < b.clients → (x y : ClientState) (cause : client.Cause) → x.id ≡ c → FitClient b c y → ComesOfWorld b cause → (out : List ToVoter) → AllSay x cause y out → AllInRange cause y out
     → AllByRecursion (FitMessage b) (map kinds.ToVoter out)
 asks_fit b c within x y cause id fit comes [] say range = tt
 asks_fit b c within x y cause id fit comes (m ∷ ms) say range = (
@@ -165,7 +165,7 @@ asks_within limit (asks.Relinquish g) is = tt
 asks_within limit (asks.Release s) is = tt
 
 -- a message that was sent may be heard
-pub may_hear : (b : Bounds) → Given b → (m : ToVoter) → FitMessage b (kinds.ToVoter m) → MayHear b m
+pub may_hear : (b : Bounds) → RunPremises b → (m : ToVoter) → FitMessage b (kinds.ToVoter m) → MayHear b m
 may_hear b given m fit = record {
   client = fit.0;
   voter = fit.1;
@@ -256,7 +256,7 @@ client_empty b c x y fit id limit is_sound none held last = record {
 pub least_client_fit : (b : Bounds) (c : ℕ) (x : ClientState) → FitClient b c x → FitClient b c (least_client x)
 least_client_fit b c x fit = client_empty b c x (least_client x) fit refl refl (least_is_sound x fit.sound) refl (λ v. slice_index-replicate_zero 64 v) (λ v. slice_index-replicate_zero 64 v)
 
-pub anew_fit : (b : Bounds) → Given b → (c : ℕ) (x : ClientState) (clock : ℕ) → FitClient b c x → clock ≤ x.limit → FitClient b c (anew x clock)
+pub anew_fit : (b : Bounds) → RunPremises b → (c : ℕ) (x : ClientState) (clock : ℕ) → FitClient b c x → clock ≤ x.limit → FitClient b c (anew x clock)
 anew_fit b given c x clock fit most =
     client_empty b c x (anew x clock) fit refl refl (anew_sound b given x clock fit.sound most) refl (λ v. slice_index-replicate_zero 64 v) (λ v. slice_index-replicate_zero 64 v)
 
@@ -280,7 +280,7 @@ reborn_fit b v y above fit most = record {
   seen = omega arith;
 }
 
-pub counted_fit : (b : Bounds) → Given b → (v : ℕ) (y : VoterState) (granted limit : ℕ) → FitVoter b v y → y.granted ≤ granted → granted ≤ limit → limit ≤ b.limit
+pub counted_fit : (b : Bounds) → RunPremises b → (v : ℕ) (y : VoterState) (granted limit : ℕ) → FitVoter b v y → y.granted ≤ granted → granted ≤ limit → limit ≤ b.limit
     → FitVoter b v (counted y granted limit)
 counted_fit b given v y granted limit fit more within most = record {
   id = fit.id;

@@ -47,13 +47,13 @@ use Rattle.leases.specs.Orderly.{EndsOld}
 use Rattle.leases.proofs.Rebirths.{ends_within}
 use Rattle.leases.specs.Comeback.{AllIdle, AreLawful, IsEviction, IsLawful, unseen}
 use Rattle.world.proofs.Befalling.{Acts, Arrives, Keeps, Scene, befalls_keeps, client_turns, scene_of, voter_turns}
-use Rattle.leases.proofs.Numbers.{AreNumbered, Lives, Numbered, Told, Votes, befalls_on, begin_on, count, given_within, known_by, newborn, told_arrives}
+use Rattle.leases.proofs.Numbers.{AreNumbered, VoterLives, Numbered, ToldSaved, SoundVoter, befalls_on, begin_on, count, given_within, known_by, newborn, told_arrives}
 use Rattle.world.proofs.Restarts.{SavedOk, all_ok}
 use Rattle.world.proofs.VoterMoves.{more_granted}
 use Rattle.world.proofs.Claims.{AskOk, IsClient, MessageOk, ReportOk, WorldOk, Bounds}
 use Rattle.world.proofs.IncidentLemmas.{brought, counted}
 use Rattle.world.proofs.Places.{client_here, set_client, set_voter}
-use Rattle.world.proofs.Reached.{Given, new_voters, start_ok, start_unused, voter_new, voter_past}
+use Rattle.world.proofs.Reached.{RunPremises, new_voters, start_ok, start_unused, voter_new, voter_past}
 use Rattle.world_state.specs.Steps.{say}
 
 -- what `voter` says of the requests that a message finishes, and of votes that are asked back
@@ -74,9 +74,9 @@ SaidBody limit x (to_client.Locked s g) = (s ≤ x.stamp) × IsWithin limit s ×
 SaidBody limit x (to_client.Fail s) = IsWithin limit s
 SaidBody limit x (to_client.Inquire g) = IsWithin limit g
 
-abbrev pub Fits : Bounds → (ℕ → ℕ) → List ClientState → Message → Type 0
-Fits b N clients (kinds.ToVoter m) = AskedBody N (client_at clients m.client) m.voter m.body × IsWithin b.limit (voter_number m.body)
-Fits b N clients (kinds.ToClient m) = (m.seen ≤ b.limit) × SaidBody b.limit (client_at clients m.client) m.body
+abbrev pub MessageFits : Bounds → (ℕ → ℕ) → List ClientState → Message → Type 0
+MessageFits b N clients (kinds.ToVoter m) = AskedBody N (client_at clients m.client) m.voter m.body × IsWithin b.limit (voter_number m.body)
+MessageFits b N clients (kinds.ToClient m) = (m.seen ≤ b.limit) × SaidBody b.limit (client_at clients m.client) m.body
 
 pub record VoterFits (b : Bounds) (clients : List ClientState) (y : VoterState) : Type 0 where
   pub entries : (c s : ℕ) → IsEntry y c s → s ≤ (client_at clients c).stamp
@@ -86,28 +86,28 @@ pub record VoterFits (b : Bounds) (clients : List ClientState) (y : VoterState) 
   pub back : AsksBack y
 
 -- no stamp fell
-abbrev pub NotBehind : ClientState → ClientState → Type 0
-NotBehind x y = x.stamp ≤ y.stamp
+abbrev pub NoStampFell : ClientState → ClientState → Type 0
+NoStampFell x y = x.stamp ≤ y.stamp
 
 -- each grant that the client gave back last is one that its voter has saved
-abbrev pub IsCounted : (ℕ → ℕ) → ClientState → Type 0
-IsCounted N x = (v : ℕ) → last_of x v ≤ N v
+abbrev pub LastsAreSaved : (ℕ → ℕ) → ClientState → Type 0
+LastsAreSaved N x = (v : ℕ) → last_of x v ≤ N v
 
 pub record AreSettled (b : Bounds) (w : Scene) : Type 0 where
-  pub sent : AllByRecursion (Fits b (count w.voters) w.clients) w.live.sent
+  pub sent : AllByRecursion (MessageFits b (count w.voters) w.clients) w.live.sent
   pub live_voters : (v : ℕ) → VoterFits b w.clients (voter_at w.live.voters v)
   pub voters : (v : ℕ) → VoterFits b w.clients (voter_at w.voters v)
-  pub behind : (c : ℕ) → NotBehind (client_at w.clients c) (client_at w.live.clients c)
-  pub last : (c : ℕ) → IsCounted (count w.voters) (client_at w.live.clients c)
-  pub last_saved : (c : ℕ) → IsCounted (count w.voters) (client_at w.clients c)
+  pub behind : (c : ℕ) → NoStampFell (client_at w.clients c) (client_at w.live.clients c)
+  pub last : (c : ℕ) → LastsAreSaved (count w.voters) (client_at w.live.clients c)
+  pub last_saved : (c : ℕ) → LastsAreSaved (count w.voters) (client_at w.clients c)
 
 abbrev pub Settled : Bounds → Saved → Type 0
 Settled b s = AreSettled b (scene_of s)
 
-self : (x : ClientState) → NotBehind x x
+self : (x : ClientState) → NoStampFell x x
 self x = omega arith
 
-join : (x y z : ClientState) → NotBehind x y → NotBehind y z → NotBehind x z
+join : (x y z : ClientState) → NoStampFell x y → NoStampFell y z → NoStampFell x z
 join x y z one two = omega arith
 
 -- more grants are saved
@@ -117,24 +117,24 @@ AreMore N M = (v : ℕ) → N v ≤ M v
 as_many : (N : ℕ → ℕ) → AreMore N N
 as_many N v = omega arith
 
-counted_more : (N M : ℕ → ℕ) (x : ClientState) → AreMore N M → IsCounted N x → IsCounted M x
+counted_more : (N M : ℕ → ℕ) (x : ClientState) → AreMore N M → LastsAreSaved N x → LastsAreSaved M x
 counted_more N M x more few v = let a = more v in let c = few v in omega arith
 
-asked_on : (N M : ℕ → ℕ) (x y : ClientState) (v : ℕ) (body : VoterBody) → AreMore N M → NotBehind x y → AskedBody N x v body → AskedBody M y v body
+asked_on : (N M : ℕ → ℕ) (x y : ClientState) (v : ℕ) (body : VoterBody) → AreMore N M → NoStampFell x y → AskedBody N x v body → AskedBody M y v body
 asked_on N M x y v (asks.Request s) more on is = omega arith
 asked_on N M x y v (asks.Relinquish g) more on is = let a = more v in omega arith
 asked_on N M x y v (asks.Release s) more on is = omega arith
 
-said_on : (limit : ℕ) (x y : ClientState) (body : ClientBody) → NotBehind x y → SaidBody limit x body → SaidBody limit y body
+said_on : (limit : ℕ) (x y : ClientState) (body : ClientBody) → NoStampFell x y → SaidBody limit x body → SaidBody limit y body
 said_on limit x y (to_client.Locked s g) on is = let c = is.0 in (omega arith, is.1, is.2)
 said_on limit x y (to_client.Fail s) on is = is
 said_on limit x y (to_client.Inquire g) on is = is
 
-fits_on : (b : Bounds) (N M : ℕ → ℕ) (l k : List ClientState) → AreMore N M → ((c : ℕ) → NotBehind (client_at l c) (client_at k c)) → (m : Message) → Fits b N l m → Fits b M k m
+fits_on : (b : Bounds) (N M : ℕ → ℕ) (l k : List ClientState) → AreMore N M → ((c : ℕ) → NoStampFell (client_at l c) (client_at k c)) → (m : Message) → MessageFits b N l m → MessageFits b M k m
 fits_on b N M l k more on (kinds.ToVoter m) is = (asked_on N M (client_at l m.client) (client_at k m.client) m.voter m.body more (on m.client) is.0, is.1)
 fits_on b N M l k more on (kinds.ToClient m) is = (is.0, said_on b.limit (client_at l m.client) (client_at k m.client) m.body (on m.client) is.1)
 
-voter_fits_on : (b : Bounds) (l k : List ClientState) → ((c : ℕ) → NotBehind (client_at l c) (client_at k c)) → (y : VoterState) → VoterFits b l y → VoterFits b k y
+voter_fits_on : (b : Bounds) (l k : List ClientState) → ((c : ℕ) → NoStampFell (client_at l c) (client_at k c)) → (y : VoterState) → VoterFits b l y → VoterFits b k y
 voter_fits_on b l k on y is = record {
   entries = λ c s e. let a = is.entries c s e in let r = on c in omega arith;
   numbered = is.numbered;
@@ -144,34 +144,34 @@ voter_fits_on b l k on y is = record {
 }
 
 -- a client goes on, and what is saved of it, not past it
-client_settles : (b : Bounds) (w : Scene) → AreSettled b w → (c : ℕ) (x y : ClientState) (ms : List ToVoter) → c < length w.live.clients → NotBehind (client_at w.clients c) y → NotBehind y x
-    → IsCounted (count w.voters) x → IsCounted (count w.voters) y → AllByRecursion (Fits b (count w.voters) (slice_set w.clients c y)) (map kinds.ToVoter ms) → AreSettled b (client_turns w c x y ms)
+client_settles : (b : Bounds) (w : Scene) → AreSettled b w → (c : ℕ) (x y : ClientState) (ms : List ToVoter) → c < length w.live.clients → NoStampFell (client_at w.clients c) y → NoStampFell y x
+    → LastsAreSaved (count w.voters) x → LastsAreSaved (count w.voters) y → AllByRecursion (MessageFits b (count w.voters) (slice_set w.clients c y)) (map kinds.ToVoter ms) → AreSettled b (client_turns w c x y ms)
 client_settles b w st c x y ms within from to few few_saved fits =
     let N = count w.voters in
     let K = client_at w.clients in
     let k = slice_set w.clients c y in
     let live = slice_set w.live.clients c x in
-    let on : (q : ℕ) → NotBehind (K q) (client_at k q) = set_client (λ q a. NotBehind (K q) a) w.clients c y from (λ q. self (K q)) in
-    let ahead = set_client (λ q a. NotBehind (K q) a) w.live.clients c x (join (K c) y x from to) st.behind in
+    let on : (q : ℕ) → NoStampFell (K q) (client_at k q) = set_client (λ q a. NoStampFell (K q) a) w.clients c y from (λ q. self (K q)) in
+    let ahead = set_client (λ q a. NoStampFell (K q) a) w.live.clients c x (join (K c) y x from to) st.behind in
     record {
-      sent = AllByRecursion-append (Fits b N k) w.live.sent (map kinds.ToVoter ms) (AllByRecursion-weaker (Fits b N w.clients) (Fits b N k) (fits_on b N N w.clients k (as_many N) on) w.live.sent st.sent) fits;
+      sent = AllByRecursion-append (MessageFits b N k) w.live.sent (map kinds.ToVoter ms) (AllByRecursion-weaker (MessageFits b N w.clients) (MessageFits b N k) (fits_on b N N w.clients k (as_many N) on) w.live.sent st.sent) fits;
       live_voters = λ v. voter_fits_on b w.clients k on (voter_at w.live.voters v) (st.live_voters v);
       voters = λ v. voter_fits_on b w.clients k on (voter_at w.voters v) (st.voters v);
-      behind = set_client (λ q a. NotBehind a (client_at live q)) w.clients c y (subst (λ (a : ClientState). NotBehind y a) (sym (client_here w.live.clients c x within)) to) ahead;
-      last = set_client (λ q a. IsCounted N a) w.live.clients c x few st.last;
-      last_saved = set_client (λ q a. IsCounted N a) w.clients c y few_saved st.last_saved;
+      behind = set_client (λ q a. NoStampFell a (client_at live q)) w.clients c y (subst (λ (a : ClientState). NoStampFell y a) (sym (client_here w.live.clients c x within)) to) ahead;
+      last = set_client (λ q a. LastsAreSaved N a) w.live.clients c x few st.last;
+      last_saved = set_client (λ q a. LastsAreSaved N a) w.clients c y few_saved st.last_saved;
     }
 
 -- a voter goes on, and what is saved of it
 voter_settles : (b : Bounds) (w : Scene) → AreSettled b w → (v : ℕ) (y z : VoterState) (rs : List ToClient) → VoterFits b w.clients y → VoterFits b w.clients z → count w.voters v ≤ z.granted
-    → AllByRecursion (Fits b (count (slice_set w.voters v z)) w.clients) (map kinds.ToClient rs) → AreSettled b (voter_turns w v y z rs)
+    → AllByRecursion (MessageFits b (count (slice_set w.voters v z)) w.clients) (map kinds.ToClient rs) → AreSettled b (voter_turns w v y z rs)
 voter_settles b w st v y z rs live saved rises fits =
     let N = count w.voters in
     let M = count (slice_set w.voters v z) in
     let more : AreMore N M = set_voter (λ q a. N q ≤ a.granted) w.voters v z rises (as_many N) in
     record {
-      sent = AllByRecursion-append (Fits b M w.clients) w.live.sent (map kinds.ToClient rs)
-          (AllByRecursion-weaker (Fits b N w.clients) (Fits b M w.clients) (fits_on b N M w.clients w.clients more (λ c. self (client_at w.clients c))) w.live.sent st.sent) fits;
+      sent = AllByRecursion-append (MessageFits b M w.clients) w.live.sent (map kinds.ToClient rs)
+          (AllByRecursion-weaker (MessageFits b N w.clients) (MessageFits b M w.clients) (fits_on b N M w.clients w.clients more (λ c. self (client_at w.clients c))) w.live.sent st.sent) fits;
       live_voters = set_voter (λ q a. VoterFits b w.clients a) w.live.voters v y live st.live_voters;
       voters = set_voter (λ q a. VoterFits b w.clients a) w.voters v z saved st.voters;
       behind = st.behind;
@@ -197,7 +197,7 @@ number_says b N few x y cause limit held v (asks.Relinquish g) says within = (le
 number_says b N few x y cause limit held v (asks.Release s) says within = let most = within.1 in (within.0, omega arith)
 
 out_fits : (b : Bounds) (N : ℕ → ℕ) → ((v : ℕ) → N v ≤ b.limit) → (l : List ClientState) (c : ℕ) (x y : ClientState) (cause : client.Cause) → client_at l c ≡ y → x.id ≡ c → x.stamp ≤ y.stamp → ((v s g : ℕ) → IsLocked cause v s g → s ≤ x.stamp)
-    → y.limit ≡ b.limit → ((v g : ℕ) → holds_under x v g ≡ true → g ≤ N v) → (out : List ToVoter) → AllSay x cause y out → AllInRange cause y out → AllByRecursion (Fits b N l) (map kinds.ToVoter out)
+    → y.limit ≡ b.limit → ((v g : ℕ) → holds_under x v g ≡ true → g ≤ N v) → (out : List ToVoter) → AllSay x cause y out → AllInRange cause y out → AllByRecursion (MessageFits b N l) (map kinds.ToVoter out)
 out_fits b N few l c x y cause at id rises came limit held [] say range = tt
 out_fits b N few l c x y cause at id rises came limit held (m ∷ ms) say range = (
   (
@@ -207,19 +207,19 @@ out_fits b N few l c x y cause at id rises came limit held (m ∷ ms) say range 
   out_fits b N few l c x y cause at id rises came limit held ms say.1 range.1,
 )
 
-repeated : (N : ℕ → ℕ) (x : ClientState) → IsCounted N x → (v : ℕ) (body : VoterBody) → Repeats x v body → AskedBody N x v body
+repeated : (N : ℕ → ℕ) (x : ClientState) → LastsAreSaved N x → (v : ℕ) (body : VoterBody) → Repeats x v body → AskedBody N x v body
 repeated N x last v (asks.Request s) says = let same = says in omega arith
 repeated N x last v (asks.Relinquish g) says = let same = says in let most = last v in omega arith
 repeated N x last v (asks.Release s) says = absurd says
 
-number_repeats : (b : Bounds) (N : ℕ → ℕ) → ((v : ℕ) → N v ≤ b.limit) → (x : ClientState) → x.limit ≡ b.limit → IsCounted N x → (v : ℕ) (body : VoterBody) → Repeats x v body → SaysInRange x.limit body
+number_repeats : (b : Bounds) (N : ℕ → ℕ) → ((v : ℕ) → N v ≤ b.limit) → (x : ClientState) → x.limit ≡ b.limit → LastsAreSaved N x → (v : ℕ) (body : VoterBody) → Repeats x v body → SaysInRange x.limit body
     → IsWithin b.limit (voter_number body)
 number_repeats b N few x limit last v (asks.Request s) says within = let most = within.1 in (within.0, omega arith)
 number_repeats b N few x limit last v (asks.Relinquish g) says within = let up = last v in let most = few v in let same = says in (within, omega arith)
 number_repeats b N few x limit last v (asks.Release s) says within = absurd says
 
-repeats_fit : (b : Bounds) (N : ℕ → ℕ) → ((v : ℕ) → N v ≤ b.limit) → (l : List ClientState) (c : ℕ) (x : ClientState) → client_at l c ≡ x → x.id ≡ c → x.limit ≡ b.limit → IsCounted N x → (out : List ToVoter)
-    → AllRepeat x out → RemindersInRange x out → AllByRecursion (Fits b N l) (map kinds.ToVoter out)
+repeats_fit : (b : Bounds) (N : ℕ → ℕ) → ((v : ℕ) → N v ≤ b.limit) → (l : List ClientState) (c : ℕ) (x : ClientState) → client_at l c ≡ x → x.id ≡ c → x.limit ≡ b.limit → LastsAreSaved N x → (out : List ToVoter)
+    → AllRepeat x out → RemindersInRange x out → AllByRecursion (MessageFits b N l) (map kinds.ToVoter out)
 repeats_fit b N few l c x at id limit last [] say range = tt
 repeats_fit b N few l c x at id limit last (m ∷ ms) say range = (
   (
@@ -263,7 +263,7 @@ finished_reached N l v c (asks.Request t) asked d s ends = subst (λ (k : ℕ). 
 finished_reached N l v c (asks.Relinquish g) asked d s ends = absurd ends
 finished_reached N l v c (asks.Release t) asked d s ends = subst (λ (k : ℕ). s ≤ (client_at l k).stamp) (sym ends.0) (let less = ends.1 in let low = asked in omega arith)
 
-voter_after : VoterLaws → EndLaws → (b : Bounds) (N : ℕ → ℕ) (l : List ClientState) (y : VoterState) → voter.IsSound y → VoterFits b l y → (m : ToVoter) → Fits b N l (kinds.ToVoter m) → (o : voter.Outcome)
+voter_after : VoterLaws → EndLaws → (b : Bounds) (N : ℕ → ℕ) (l : List ClientState) (y : VoterState) → voter.IsSound y → VoterFits b l y → (m : ToVoter) → MessageFits b N l (kinds.ToVoter m) → (o : voter.Outcome)
     → voter.step y m ≡ Some o → VoterFits b l o.state
 voter_after laws end b N l y sound ok m fits o is =
     let meets = laws.meets y m o is in
@@ -301,7 +301,7 @@ said_by b l y known fits c (to_client.Fail s) vote place = known.stamps c s (inr
 said_by b l y known fits c (to_client.Inquire g) vote place = subst (λ n. IsWithin b.limit n) place.3 (grant_within b l y known fits place.0 place.1)
 
 replies_fit : (b : Bounds) (N : ℕ → ℕ) (l : List ClientState) (y : VoterState) → VoterKnown b y → VoterFits b l y → (id seen : ℕ) → seen ≤ b.limit → (rs : List ToClient) → AllReport y.held rs → AllReportPlace y rs → AllCarry id seen rs
-    → AllByRecursion (Fits b N l) (map kinds.ToClient rs)
+    → AllByRecursion (MessageFits b N l) (map kinds.ToClient rs)
 replies_fit b N l y known fits id seen few [] report place carry = tt
 replies_fit b N l y known fits id seen few (r ∷ rs) report place carry = (
   ((let same = carry.0.1 in omega arith), said_by b l y known fits r.client r.body report.0 place.0),
@@ -310,13 +310,13 @@ replies_fit b N l y known fits id seen few (r ∷ rs) report place carry = (
 
 -- ---- what the naming knows beside
 
-known_of : (b : Bounds) (v : ℕ) (y : VoterState) → Votes b v y → VoterKnown b y
+known_of : (b : Bounds) (v : ℕ) (y : VoterState) → SoundVoter b v y → VoterKnown b y
 known_of b v y is = record { sound = is.sound; limit = is.limit; stamps = λ c s e. (is.entries c s e).1 }
 
-held_counted : (b : Bounds) (G : Lives) (w : Scene) → AreNumbered b G w → (c v g : ℕ) → holds_under (client_at w.live.clients c) v g ≡ true → g ≤ count w.voters v
+held_counted : (b : Bounds) (G : VoterLives) (w : Scene) → AreNumbered b G w → (c v g : ℕ) → holds_under (client_at w.live.clients c) v g ≡ true → g ≤ count w.voters v
 held_counted b G w num c v g has = let had = (num.live_clients c).votes v g has in given_within b G w num v had.1 c (client_at w.live.clients c).stamp g had.0
 
-count_within : (b : Bounds) (G : Lives) (w : Scene) → AreNumbered b G w → (v : ℕ) → count w.voters v ≤ b.limit
+count_within : (b : Bounds) (G : VoterLives) (w : Scene) → AreNumbered b G w → (v : ℕ) → count w.voters v ≤ b.limit
 count_within b G w num v =
     let y = num.voters v in
     let most = y.sound.granted in
@@ -330,24 +330,24 @@ came_reached : (b : Bounds) (w : Scene) → AreSettled b w → (c : ℕ) (cause 
 came_reached b w st c cause act v t g locks =
     let at = act.came v t g locks in
     let m : ToClient = record { voter = v; client = c; seen = at.1; body = to_client.Locked t g } in
-    let fit = AllByRecursion-get (Fits b (count w.voters) w.clients) w.live.sent at.0 (kinds.ToClient m) st.sent at.2 in
+    let fit = AllByRecursion-get (MessageFits b (count w.voters) w.clients) w.live.sent at.0 (kinds.ToClient m) st.sent at.2 in
     let low = fit.1.0 in
     let behind = st.behind c in
     (omega arith, fit.1.1)
 
 -- what a client's step comes to
-record Later (w : Scene) (c : ℕ) (y : ClientState) : Type 0 where
-  on : NotBehind (client_at w.live.clients c) y
-  few : IsCounted (count w.voters) y
+record SceneLater (w : Scene) (c : ℕ) (y : ClientState) : Type 0 where
+  on : NoStampFell (client_at w.live.clients c) y
+  few : LastsAreSaved (count w.voters) y
 
-later : (b : Bounds) → Given b → (G : Lives) (w : Scene) → AreNumbered b G w → AreSettled b w → (c : ℕ) (cause : client.Cause) (o : client.Outcome) → Acts b w c cause
-    → client.step (client_at w.live.clients c) cause ≡ Ok o → Later w c o.state
+later : (b : Bounds) → RunPremises b → (G : VoterLives) (w : Scene) → AreNumbered b G w → AreSettled b w → (c : ℕ) (cause : client.Cause) (o : client.Outcome) → Acts b w c cause
+    → client.step (client_at w.live.clients c) cause ≡ Ok o → SceneLater w c o.state
 later b given G w num st c cause o act is =
     let kept = given.client.meets (client_at w.live.clients c) cause o (num.live_clients c).sound act.accepts is in
     record { on = kept.later.stamp; few = λ v. elim (kept.last v) [ inl same ↦ (let most = st.last c v in omega arith) | inr held ↦ held_counted b G w num c v (last_of o.state v) held ] }
 
-said_fits : (b : Bounds) → Given b → (G : Lives) (w : Scene) → AreNumbered b G w → AreSettled b w → (c : ℕ) (cause : client.Cause) (o : client.Outcome) → Acts b w c cause → client.step (client_at w.live.clients c) cause ≡ Ok o
-    → AllByRecursion (Fits b (count w.voters) (slice_set w.clients c o.state)) (map kinds.ToVoter o.out)
+said_fits : (b : Bounds) → RunPremises b → (G : VoterLives) (w : Scene) → AreNumbered b G w → AreSettled b w → (c : ℕ) (cause : client.Cause) (o : client.Outcome) → Acts b w c cause → client.step (client_at w.live.clients c) cause ≡ Ok o
+    → AllByRecursion (MessageFits b (count w.voters) (slice_set w.clients c o.state)) (map kinds.ToVoter o.out)
 said_fits b given G w num st c cause o act is =
     let x = client_at w.live.clients c in
     let was = num.live_clients c in
@@ -358,13 +358,13 @@ said_fits b given G w num st c cause o act is =
     out_fits b (count w.voters) (count_within b G w num) (slice_set w.clients c o.state) c x o.state cause (client_here w.clients c o.state (subst (λ n. c < n) (sym num.sizes.2) act.within)) (was.id act.within) kept.later.stamp
     (λ v t g locks. (came v t g locks).0) (kept.limit ∙ lim) (held_counted b G w num c) o.out kept.out (given.client.ranges x cause o was.sound act.accepts comes is)
 
-none_counted : (N : ℕ → ℕ) (x : ClientState) → ((v : ℕ) → last_of x v ≡ 0) → IsCounted N x
+none_counted : (N : ℕ → ℕ) (x : ClientState) → ((v : ℕ) → last_of x v ≡ 0) → LastsAreSaved N x
 none_counted N x none v = let zero = none v in omega arith
 
 -- ---- what voters do
 
 -- a message that is made up ends a request, and the request was made
-evicted_fits : (b : Bounds) (G : Lives) (s : Saved) → Numbered b G s → Settled b s → (m : ToVoter) → IsEviction s m → Fits b (count s.voters) s.clients (kinds.ToVoter m)
+evicted_fits : (b : Bounds) (G : VoterLives) (s : Saved) → Numbered b G s → Settled b s → (m : ToVoter) → IsEviction s m → MessageFits b (count s.voters) s.clients (kinds.ToVoter m)
 evicted_fits b G s num st m is =
     let g = is.grant in
     let entry : IsEntry (voter_at s.live.voters m.voter) g.client g.stamp = inl (g, is.held, refl, refl) in (
@@ -378,9 +378,9 @@ asked_old N x v (asks.Request t) ends = absurd ends
 asked_old N x v (asks.Relinquish g) ends = absurd ends
 asked_old N x v (asks.Release t) ends = ends.1
 
-fits_arrives : (b : Bounds) (G : Lives) (s : Saved) → Numbered b G s → Settled b s → (m : ToVoter) → Arrives b (λ n. IsLawful s (Hears n)) (scene_of s) m → Fits b (count s.voters) s.clients (kinds.ToVoter m)
+fits_arrives : (b : Bounds) (G : VoterLives) (s : Saved) → Numbered b G s → Settled b s → (m : ToVoter) → Arrives b (λ n. IsLawful s (Hears n)) (scene_of s) m → MessageFits b (count s.voters) s.clients (kinds.ToVoter m)
 fits_arrives b G s num st m arrives = elim arrives.source [
-  | inl sent ↦ AllByRecursion-get (Fits b (count s.voters) s.clients) s.live.sent sent.0 (kinds.ToVoter m) st.sent sent.1
+  | inl sent ↦ AllByRecursion-get (MessageFits b (count s.voters) s.clients) s.live.sent sent.0 (kinds.ToVoter m) st.sent sent.1
   | inr made ↦ elim made.0 [
     | inl evicts ↦ evicted_fits b G s num st m evicts
     | inr ends ↦
@@ -398,8 +398,8 @@ record StillFits (b : Bounds) (w : Scene) (v : ℕ) (y : VoterState) : Type 0 wh
   known : VoterKnown b y
   rises : count w.voters v ≤ y.granted
 
-still_fits : (b : Bounds) → Given b → EndLaws → (G : Lives) (w : Scene) → AreNumbered b G w → AreSettled b w → (m : ToVoter) (o : voter.Outcome) → Told b (count w.voters) (kinds.ToVoter m)
-    → Fits b (count w.voters) w.clients (kinds.ToVoter m) → voter.step (voter_at w.live.voters m.voter) m ≡ Some o → StillFits b w m.voter o.state
+still_fits : (b : Bounds) → RunPremises b → EndLaws → (G : VoterLives) (w : Scene) → AreNumbered b G w → AreSettled b w → (m : ToVoter) (o : voter.Outcome) → ToldSaved b (count w.voters) (kinds.ToVoter m)
+    → MessageFits b (count w.voters) w.clients (kinds.ToVoter m) → voter.step (voter_at w.live.voters m.voter) m ≡ Some o → StillFits b w m.voter o.state
 still_fits b given end G w num st m o told fits is =
     let v = m.voter in
     let y = voter_at w.live.voters v in
@@ -438,7 +438,7 @@ counted_fits b l y granted limit was = record { entries = was.entries; numbered 
 
 -- ---- what befalls
 
-settled_keeps : (b : Bounds) → Given b → EndLaws → (G : Lives) (s : Saved) → Numbered b G s → Settled b s → Keeps b (λ m. IsLawful s (Hears m)) (scene_of s) (AreSettled b)
+settled_keeps : (b : Bounds) → RunPremises b → EndLaws → (G : VoterLives) (s : Saved) → Numbered b G s → Settled b s → Keeps b (λ m. IsLawful s (Hears m)) (scene_of s) (AreSettled b)
 settled_keeps b given end G s num st =
     let w = scene_of s in
     let X = client_at s.live.clients in
@@ -497,16 +497,16 @@ settled_keeps b given end G s num st =
       voter_skipped = λ v above within least most. voter_settles b w st v (skipped (Y v) above) (Z v) [] (counted_fits b s.clients (Y v) above (Y v).limit (st.live_voters v)) (st.voters v) (as_many N v) tt;
     }
 
-settled_befalls : (b : Bounds) → Given b → EndLaws → (deal : Dealing) → DealsFrom b.quorums deal → (G : Lives) (s : Saved) → Numbered b G s → Settled b s → (i : Incident) → IsLawful s i → Settled b (befalls deal s i)
+settled_befalls : (b : Bounds) → RunPremises b → EndLaws → (deal : Dealing) → DealsFrom b.quorums deal → (G : VoterLives) (s : Saved) → Numbered b G s → Settled b s → (i : Incident) → IsLawful s i → Settled b (befalls deal s i)
 settled_befalls b given end deal deals G s num st i lawful =
     befalls_keeps b given deal deals (λ m. IsLawful s (Hears m)) s (AreSettled b) (settled_keeps b given end G s num st) i (λ m e. subst (λ (j : Incident). IsLawful s j) e lawful)
 
 pub record Reaches (b : Bounds) (s : Saved) : Type 0 where
-  pub lives : Lives
+  pub lives : VoterLives
   pub num : Numbered b lives s
   pub settled : Settled b s
 
-settled_all : (b : Bounds) → Given b → EndLaws → (deal : Dealing) → DealsFrom b.quorums deal → (is : List Incident) (s : Saved) → Reaches b s → AreLawful deal s is → Reaches b (all_befall deal is s)
+settled_all : (b : Bounds) → RunPremises b → EndLaws → (deal : Dealing) → DealsFrom b.quorums deal → (is : List Incident) (s : Saved) → Reaches b s → AreLawful deal s is → Reaches b (all_befall deal is s)
 settled_all b given end deal deals [] s r lawful = r
 settled_all b given end deal deals (i ∷ is) s r lawful =
     let one = befalls_on b given deal deals r.lives s r.num i in
@@ -519,7 +519,7 @@ first_finished voters limit v c = elim (cases_lt v voters) [
   | inr beyond ↦ ap (λ (y : VoterState). slice_index y.finished c) (voter_past voters limit v beyond) ∙ slice_index-replicate_zero 64 c
 ]
 
-begin_settled : (b : Bounds) → Given b → Settled b (begin b.voters b.clients b.limit)
+begin_settled : (b : Bounds) → RunPremises b → Settled b (begin b.voters b.clients b.limit)
 unfolding new_voters
 begin_settled b given =
     let w = start b.voters b.clients b.limit in
@@ -531,11 +531,11 @@ begin_settled b given =
       finished = λ c. (let none = first_finished b.voters b.limit v c in omega arith);
       back = λ g c t held waits. absurd (none-some g (sym (start_unused b given v).held ∙ held));
     } in
-    let last : (c : ℕ) → IsCounted (count w.voters) (client_at w.clients c) = world.last in
+    let last : (c : ℕ) → LastsAreSaved (count w.voters) (client_at w.clients c) = world.last in
     record { sent = tt; live_voters = fits; voters = fits; behind = λ c. self (client_at w.clients c); last = last; last_saved = last }
 
 -- what is settled after these incidents
-pub reaches_all : (b : Bounds) → Given b → EndLaws → (deal : Dealing) → DealsFrom b.quorums deal → (is : List Incident) → AreLawful deal (begin b.voters b.clients b.limit) is
+pub reaches_all : (b : Bounds) → RunPremises b → EndLaws → (deal : Dealing) → DealsFrom b.quorums deal → (is : List Incident) → AreLawful deal (begin b.voters b.clients b.limit) is
     → Reaches b (all_befall deal is (begin b.voters b.clients b.limit))
 reaches_all b given end deal deals is lawful =
     settled_all b given end deal deals is (begin b.voters b.clients b.limit) (record { lives = newborn; num = begin_on b given; settled = begin_settled b given }) lawful
@@ -557,18 +557,18 @@ reports_within b x (to_client.Locked t g) is = (is.1, is.2)
 reports_within b x (to_client.Fail t) is = is
 reports_within b x (to_client.Inquire g) is = is
 
-message_idle : (b : Bounds) (N : ℕ → ℕ) (l : List ClientState) (X : ℕ → ClientState) (Y : ℕ → VoterState) → ((c : ℕ) → is_idle (X c).phase ≡ true) → ((c : ℕ) → NotBehind (client_at l c) (X c))
-    → ((v : ℕ) → N v ≤ (Y v).granted) → (m : Message) → Fits b N l m → MessageOk X Y m
+message_idle : (b : Bounds) (N : ℕ → ℕ) (l : List ClientState) (X : ℕ → ClientState) (Y : ℕ → VoterState) → ((c : ℕ) → is_idle (X c).phase ≡ true) → ((c : ℕ) → NoStampFell (client_at l c) (X c))
+    → ((v : ℕ) → N v ≤ (Y v).granted) → (m : Message) → MessageFits b N l m → MessageOk X Y m
 message_idle b N l X Y idle on more (kinds.ToVoter m) fits =
     asked_idle (X m.client) (Y m.voter) N m.voter m.client m.body (idle m.client) (more m.voter) (asked_on N N (client_at l m.client) (X m.client) m.voter m.body (as_many N) (on m.client) fits.0)
 message_idle b N l X Y idle on more (kinds.ToClient m) fits =
     said_idle b (X m.client) (Y m.voter).held m.voter m.client m.body (idle m.client) (said_on b.limit (client_at l m.client) (X m.client) m.body (on m.client) fits.1)
 
-range_of : (b : Bounds) (N : ℕ → ℕ) (l : List ClientState) (m : Message) → Told b N m → Fits b N l m → IsInRange b.voters b.clients b.limit m
+range_of : (b : Bounds) (N : ℕ → ℕ) (l : List ClientState) (m : Message) → ToldSaved b N m → MessageFits b N l m → IsInRange b.voters b.clients b.limit m
 range_of b N l (kinds.ToVoter m) told fits = (told.0, told.1, fits.1)
 range_of b N l (kinds.ToClient m) told fits = (told.0, told.1, fits.0, reports_within b (client_at l m.client) m.body fits.1)
 
-ranges_of : (b : Bounds) (N : ℕ → ℕ) (l : List ClientState) (ms : List Message) → AllByRecursion (Told b N) ms → AllByRecursion (Fits b N l) ms → AllByRecursion (IsInRange b.voters b.clients b.limit) ms
+ranges_of : (b : Bounds) (N : ℕ → ℕ) (l : List ClientState) (ms : List Message) → AllByRecursion (ToldSaved b N) ms → AllByRecursion (MessageFits b N l) ms → AllByRecursion (IsInRange b.voters b.clients b.limit) ms
 ranges_of b N l [] told fits = tt
 ranges_of b N l (m ∷ ms) told fits = (range_of b N l m told.0 fits.0, ranges_of b N l ms told.1 fits.1)
 
@@ -581,13 +581,13 @@ pub record ClientKnown (b : Bounds) (N : ℕ → ℕ) (l : List ClientState) (c 
   pub quorum : (members x ≡ []) ⊎ IsAmong b.quorums (members x)
   pub id : c < b.clients → IsClient c b.limit x
   pub idle : is_idle x.phase ≡ true
-  pub on : NotBehind (client_at l c) x
-  pub last : IsCounted N x
+  pub on : NoStampFell (client_at l c) x
+  pub last : LastsAreSaved N x
 
-pub idle_world : (b : Bounds) (G : Lives) (s : Saved) → Numbered b G s → Settled b s → (X : ℕ → ClientState) (Y : ℕ → VoterState) → ((c : ℕ) → ClientKnown b (count s.voters) s.clients c (X c))
-    → ((v : ℕ) → Votes b v (Y v) × VoterFits b s.clients (Y v) × (count s.voters v ≤ (Y v).granted)) → WorldOk b X Y s.live.sent
+pub idle_world : (b : Bounds) (G : VoterLives) (s : Saved) → Numbered b G s → Settled b s → (X : ℕ → ClientState) (Y : ℕ → VoterState) → ((c : ℕ) → ClientKnown b (count s.voters) s.clients c (X c))
+    → ((v : ℕ) → SoundVoter b v (Y v) × VoterFits b s.clients (Y v) × (count s.voters v ≤ (Y v).granted)) → WorldOk b X Y s.live.sent
 idle_world b G s num st X Y clients voters = record {
-  messages = AllByRecursion-weaker (Fits b (count s.voters) s.clients) (MessageOk X Y)
+  messages = AllByRecursion-weaker (MessageFits b (count s.voters) s.clients) (MessageOk X Y)
       (message_idle b (count s.voters) s.clients X Y (λ c. (clients c).idle) (λ c. (clients c).on) (λ v. (voters v).2)) s.live.sent st.sent;
   ranges = ranges_of b (count s.voters) s.clients s.live.sent num.told st.sent;
   held = λ c v g is. absurd (false≢true (sym ((clients c).sound.held v (held_holds (X c) v g is)).busy ∙ (clients c).idle));
@@ -616,13 +616,13 @@ idle_out Idle e = refl
 idle_out Asking e = absurd (false≢true e)
 idle_out Inside e = absurd (false≢true e)
 
-pub live_known : (b : Bounds) (G : Lives) (s : Saved) → Numbered b G s → Settled b s → (c : ℕ) → is_idle (client_at s.live.clients c).phase ≡ true
+pub live_known : (b : Bounds) (G : VoterLives) (s : Saved) → Numbered b G s → Settled b s → (c : ℕ) → is_idle (client_at s.live.clients c).phase ≡ true
     → ClientKnown b (count s.voters) s.clients c (client_at s.live.clients c)
 live_known b G s num st c idle =
     let k = num.live_clients c in
     record { sound = k.sound; quorum = k.quorum; id = λ w. record { id = k.id w; limit = k.limit w }; idle = idle; on = st.behind c; last = st.last c }
 
-idle_ok : (b : Bounds) (G : Lives) (s : Saved) → Numbered b G s → Settled b s → AllIdle s → SavedOk b (unseen s)
+idle_ok : (b : Bounds) (G : VoterLives) (s : Saved) → Numbered b G s → Settled b s → AllIdle s → SavedOk b (unseen s)
 idle_ok b G s num st idle =
     let N = count s.voters in
     let live : (c : ℕ) → ClientKnown b N s.clients c (client_at s.live.clients c) = λ c. live_known b G s num st c (idle c).0 in
@@ -641,8 +641,8 @@ idle_ok b G s num st idle =
       mixes = λ X Y mix other. idle_world b G s num st X Y
           (λ c. elim (mix c) [ inl e ↦ subst (λ (x : ClientState). ClientKnown b N s.clients c x) (sym e) (live c) | inr e ↦ subst (λ (x : ClientState). ClientKnown b N s.clients c x) (sym e) (saved c) ])
           (λ v. elim (other v) [
-            | inl e ↦ subst (λ (y : VoterState). Votes b v y × VoterFits b s.clients y × (N v ≤ y.granted)) (sym e) (num.live_voters v, st.live_voters v, num.behind v)
-            | inr e ↦ subst (λ (y : VoterState). Votes b v y × VoterFits b s.clients y × (N v ≤ y.granted)) (sym e) (num.voters v, st.voters v, as_many N v)
+            | inl e ↦ subst (λ (y : VoterState). SoundVoter b v y × VoterFits b s.clients y × (N v ≤ y.granted)) (sym e) (num.live_voters v, st.live_voters v, num.behind v)
+            | inr e ↦ subst (λ (y : VoterState). SoundVoter b v y × VoterFits b s.clients y × (N v ≤ y.granted)) (sym e) (num.voters v, st.voters v, as_many N v)
           ]);
       walked = record { list = tt; inside = λ c. idle_out (client_at s.live.clients c).phase (idle c).0 };
       insides = λ c in_saved. absurd (false≢true (sym (idle_out (client_at s.clients c).phase (idle c).1) ∙ in_saved));
@@ -654,7 +654,7 @@ pub comes_back : ClientLaws → VoterLaws → EndLaws → (voters clients limit 
     → IsExclusive (all_happen deal hs (unseen (all_befall deal incidents (begin voters clients limit)))).live.visible
 comes_back cs vs end voters clients limit quorums deal incidents hs limits meets deals lawful idle =
     let b : Bounds = record { voters = voters; clients = clients; limit = limit; quorums = quorums } in
-    let given : Given b = record { client = cs; voter = vs; limits = limits; meet = meets } in
+    let given : RunPremises b = record { client = cs; voter = vs; limits = limits; meet = meets } in
     let first = begin voters clients limit in
     let r = reaches_all b given end deal deals incidents lawful in
     (all_ok b given deal deals hs (unseen (all_befall deal incidents first)) (idle_ok b r.lives (all_befall deal incidents first) r.num r.settled idle)).walked.list

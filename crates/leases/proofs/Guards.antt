@@ -12,7 +12,7 @@ use Rattle.world.specs.Visible.{DealsFrom, DoMeet}
 use Rattle.world.specs.Rules.{ClientLaws, VoterLaws}
 use Rattle.world.proofs.Claims.{Bounds}
 use Rattle.world.proofs.Exclusion.{list_all-holds, under_grant}
-use Rattle.world.proofs.Reached.{Given}
+use Rattle.world.proofs.Reached.{RunPremises}
 use Rattle.world.specs.Incidents.{Incident, all_befall, befalls}
 use Rattle.fence.specs.Passes.{Admits, is_not_older}
 use Rattle.leases.specs.Shows.{HasSeenOnly, IsCurrent, IsShown, Show, Story, WasIn, pass_in, story_of, world_at}
@@ -23,30 +23,30 @@ use Rattle.passes.proofs.Guards.{own_quorum}
 use Rattle.requester.specs.declared.state.ClientState.{ClientState}
 use Rattle.requester.specs.Words.{held_of, is_inside, members}
 use Rattle.leases.proofs.Passes.{one_pass}
-use Rattle.passes.proofs.Requests.{Begins, has_grant, one_begins}
-use Rattle.leases.proofs.Numbers.{Further, Knows, Lives, Numbered, all_on, among_of, begin_on, befalls_on, knows_on, newborn, voters_of}
+use Rattle.passes.proofs.Requests.{IsBeginning, has_grant, one_begins}
+use Rattle.leases.proofs.Numbers.{Further, HoldsByGrants, VoterLives, Numbered, all_on, among_of, begin_on, befalls_on, knows_on, newborn, voters_of}
 
 -- ---- every client at every moment
 
 -- what holds of a whole story: each client, at each moment, had votes by grants that its voters gave
-pub record Whole (b : Bounds) (deal : Dealing) (G : Lives) (s : Saved) (incidents : List Incident) : Type 0 where
-  pub lives : Lives
+pub record Whole (b : Bounds) (deal : Dealing) (G : VoterLives) (s : Saved) (incidents : List Incident) : Type 0 where
+  pub lives : VoterLives
   pub ok : Numbered b lives (all_befall deal incidents s)
   pub further : Further b G lives
-  pub every : (moment c : ℕ) → Knows b lives c (client_at (all_befall deal (take moment incidents) s).live.clients c)
+  pub every : (moment c : ℕ) → HoldsByGrants b lives c (client_at (all_befall deal (take moment incidents) s).live.clients c)
 
-first_moments : (b : Bounds) (deal : Dealing) (G : Lives) (s : Saved) → Numbered b G s → (moment c : ℕ) → Knows b G c (client_at (all_befall deal (take moment []) s).live.clients c)
+first_moments : (b : Bounds) (deal : Dealing) (G : VoterLives) (s : Saved) → Numbered b G s → (moment c : ℕ) → HoldsByGrants b G c (client_at (all_befall deal (take moment []) s).live.clients c)
 first_moments b deal G s ok zero c = ok.live_clients c
 first_moments b deal G s ok (suc n) c = ok.live_clients c
 
-next_moments : (b : Bounds) (deal : Dealing) (G H : Lives) (s : Saved) (i : Incident) (is : List Incident) → Numbered b G s
+next_moments : (b : Bounds) (deal : Dealing) (G H : VoterLives) (s : Saved) (i : Incident) (is : List Incident) → Numbered b G s
     → Further b G H
-    → ((moment c : ℕ) → Knows b H c (client_at (all_befall deal (take moment is) (befalls deal s i)).live.clients c))
-    → (moment c : ℕ) → Knows b H c (client_at (all_befall deal (take moment (i ∷ is)) s).live.clients c)
+    → ((moment c : ℕ) → HoldsByGrants b H c (client_at (all_befall deal (take moment is) (befalls deal s i)).live.clients c))
+    → (moment c : ℕ) → HoldsByGrants b H c (client_at (all_befall deal (take moment (i ∷ is)) s).live.clients c)
 next_moments b deal G H s i is ok f rest zero c = knows_on b G H f c (client_at s.live.clients c) (ok.live_clients c)
 next_moments b deal G H s i is ok f rest (suc n) c = rest n c
 
-whole : (b : Bounds) → Given b → (deal : Dealing) → DealsFrom b.quorums deal → (G : Lives) (s : Saved) → Numbered b G s → (incidents : List Incident) → Whole b deal G s incidents
+whole : (b : Bounds) → RunPremises b → (deal : Dealing) → DealsFrom b.quorums deal → (G : VoterLives) (s : Saved) → Numbered b G s → (incidents : List Incident) → Whole b deal G s incidents
 whole b given deal deals G s ok [] = record {
   lives = G;
   ok = ok;
@@ -67,7 +67,7 @@ befall-append deal (i ∷ is) js s = befall-append deal is js (befalls deal s i)
 
 -- one client is inside at two moments, under one stamp
 same_later : ClientLaws → VoterLaws → (voters clients limit : ℕ) (quorums : List (List ℕ)) (deal : Dealing) (is js : List Incident) (c : ℕ)
-    → AreLimits voters clients limit → DoMeet voters quorums → DealsFrom quorums deal → Begins is js
+    → AreLimits voters clients limit → DoMeet voters quorums → DealsFrom quorums deal → IsBeginning is js
     → IsIn (all_befall deal is (begin voters clients limit)) c → IsIn (all_befall deal js (begin voters clients limit)) c
     → stamp_of (all_befall deal is (begin voters clients limit)) c ≡ stamp_of (all_befall deal js (begin voters clients limit)) c
     → pass_of (all_befall deal js (begin voters clients limit)) c ≡ pass_of (all_befall deal is (begin voters clients limit)) c
@@ -96,7 +96,7 @@ same_pass cs vs voters clients limit quorums deal incidents w x limits meets dea
 
 -- ---- what is shown is a pass
 
-knows_pass : (b : Bounds) (G : Lives) (c : ℕ) (x : ClientState) → Knows b G c x → is_inside x.phase ≡ true
+knows_pass : (b : Bounds) (G : VoterLives) (c : ℕ) (x : ClientState) → HoldsByGrants b G c x → is_inside x.phase ≡ true
     → IsPass b.quorums (Gave (voters_of b G)) (record { client = c; stamp = x.stamp; grants = x.held })
 knows_pass b G c x k inside = record {
   quorum = members x;
@@ -110,7 +110,7 @@ pub have_voters : ClientLaws → VoterLaws → (voters clients limit : ℕ) (quo
     → (lives : Voters) × AreVoters voters limit quorums (story_of deal voters clients limit incidents) lives
 have_voters cs vs voters clients limit quorums deal incidents limits meets deals =
     let b : Bounds = record { voters = voters; clients = clients; limit = limit; quorums = quorums } in
-    let given : Given b = record { client = cs; voter = vs; limits = limits; meet = meets } in
+    let given : RunPremises b = record { client = cs; voter = vs; limits = limits; meet = meets } in
     let all = whole b given deal deals newborn (begin voters clients limit) (begin_on b given) incidents in
     let story = story_of deal voters clients limit incidents in
     let lives = voters_of b all.lives in (
@@ -180,7 +180,7 @@ pub apart_inside : ClientLaws → VoterLaws → ApartLaw → (voters clients lim
     ⊎ AreApart (pass_of (all_befall deal before (begin voters clients limit)) c) (pass_of (all_befall deal after (all_befall deal before (begin voters clients limit))) d)
 apart_inside cs vs apart voters clients limit quorums deal before after c d limits meets deals in_c in_d =
     let b : Bounds = record { voters = voters; clients = clients; limit = limit; quorums = quorums } in
-    let given : Given b = record { client = cs; voter = vs; limits = limits; meet = meets } in
+    let given : RunPremises b = record { client = cs; voter = vs; limits = limits; meet = meets } in
     let s = all_befall deal before (begin voters clients limit) in
     let t = all_befall deal after s in
     let first = all_on b given deal deals newborn (begin voters clients limit) (begin_on b given) before in
@@ -211,7 +211,7 @@ pub current_admitted : ClientLaws → VoterLaws → (voters clients limit : ℕ)
     → IsCurrent (all_befall deal incidents (begin voters clients limit)) pass → Admits seen pass
 current_admitted cs vs voters clients limit quorums deal incidents seen pass limits meets deals only current v few =
     let b : Bounds = record { voters = voters; clients = clients; limit = limit; quorums = quorums } in
-    let given : Given b = record { client = cs; voter = vs; limits = limits; meet = meets } in
+    let given : RunPremises b = record { client = cs; voter = vs; limits = limits; meet = meets } in
     let first = begin voters clients limit in
     let all = whole b given deal deals newborn first (begin_on b given) incidents in
     let story : Story = record { deal = deal; first = first; incidents = incidents } in

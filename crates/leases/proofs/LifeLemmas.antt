@@ -171,19 +171,19 @@ by_rests : (y z x w : VoterState) (n : nodes.Node) (rs : List ToClient) → IsNo
 by_rests y z x w n rs is to = subst (λ (m : nodes.Node). LivesTo m x w rs) (sym (is_rests y z n is)) to
 
 -- the node's event is this step of its voter
-abbrev pub IsStep : VoterState → nodes.Event → voter.Outcome → Type 0
-IsStep y e o = (w : VoterState) → nodes.node_step (rests y w) e ≡ Ok (nodes.silent (nodes.put (rests y w) o))
+abbrev pub EventIsStep : VoterState → nodes.Event → voter.Outcome → Type 0
+EventIsStep y e o = (w : VoterState) → nodes.node_step (rests y w) e ≡ Ok (nodes.silent (nodes.put (rests y w) o))
 
-pub takes_step : (y : VoterState) (m : ToVoter) (o : voter.Outcome) → voter.step y m ≡ Some o → IsStep y (nodes.Takes m) o
+pub takes_step : (y : VoterState) (m : ToVoter) (o : voter.Outcome) → voter.step y m ≡ Some o → EventIsStep y (nodes.Takes m) o
 unfolding nodes.node_step
 takes_step y m o is w = ap (λ (r : Option voter.Outcome). nodes.after_voter (rests y w) r) is
 
-pub reminds_step : (y : VoterState) → IsStep y nodes.Reminds (record { replies = voter.remind y; state = y })
+pub reminds_step : (y : VoterState) → EventIsStep y nodes.Reminds (record { replies = voter.remind y; state = y })
 unfolding nodes.node_step
 reminds_step y w = refl
 
 -- a step that sends nothing is not saved
-pub lives_silently : (y z : VoterState) (n : nodes.Node) (e : nodes.Event) (o : voter.Outcome) → IsNodeOf y z n → IsStep y e o → o.replies ≡ [] → LivesTo n o.state z []
+pub lives_silently : (y z : VoterState) (n : nodes.Node) (e : nodes.Event) (o : voter.Outcome) → IsNodeOf y z n → EventIsStep y e o → o.replies ≡ [] → LivesTo n o.state z []
 lives_silently y z n e o is by none =
     let w = n.saved in
     let there : node_after (rests y w) (Meets e ∷ []) ≡ rests o.state w = ap (nodes.after (rests y w)) (by w) ∙ (λ i. record { live = o.state; saved = w; outbox = none i }) in
@@ -194,7 +194,7 @@ lives_silently y z n e o is by none =
     })
 
 -- another one is saved, and then its messages leave
-pub lives_saved : (y z : VoterState) (n : nodes.Node) (e : nodes.Event) (o : voter.Outcome) → IsNodeOf y z n → IsStep y e o → LivesTo n o.state o.state o.replies
+pub lives_saved : (y z : VoterState) (n : nodes.Node) (e : nodes.Event) (o : voter.Outcome) → IsNodeOf y z n → EventIsStep y e o → LivesTo n o.state o.state o.replies
 unfolding nodes.node_step
 lives_saved y z n e o is by =
     let w = n.saved in

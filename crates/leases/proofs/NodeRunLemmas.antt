@@ -145,7 +145,7 @@ begins sure deal s y z has = record {
 }
 
 -- these incidents are this step of the node's voter
-record Leads (sure : Type 0) (deal : Dealing) (s : Saved) (y : VoterState) (n : nodes.Node) (is : List Incident) (o : voter.Outcome) : Type 0 where
+record IncidentsLead (sure : Type 0) (deal : Dealing) (s : Saved) (y : VoterState) (n : nodes.Node) (is : List Incident) (o : voter.Outcome) : Type 0 where
   to : (z : VoterState) → IsMid s y.id o.state (n.outbox ++ o.replies) (all_befall deal is (mid s y.id n.live z n.outbox))
   id : o.state.id ≡ y.id
   clients : (c stamp : ℕ) → IsEntry o.state c stamp → c < length s.live.clients
@@ -155,7 +155,7 @@ refused : (sure : Type 0) (deal : Dealing) (s : Saved) (y : VoterState) (n : nod
 refused sure deal s y n waiting under = subst (λ (is : List Incident). Underway sure deal s y n is) (sym (append-nil waiting)) under
 
 stepped : (sure : Type 0) (deal : Dealing) (s : Saved) (y : VoterState) (n : nodes.Node) (waiting is : List Incident) (b : Bool) (o : Option voter.Outcome) → Underway sure deal s y n waiting
-    → ((p : voter.Outcome) → o ≡ Some p → Leads sure deal s y n is p)
+    → ((p : voter.Outcome) → o ≡ Some p → IncidentsLead sure deal s y n is p)
     → Underway sure deal s y (nodes.after n (nodes.if_room b (nodes.after_voter n o))) (waiting ++ unless_refused (nodes.if_room b (nodes.after_voter n o)) is)
 stepped sure deal s y n waiting is false o under leads = refused sure deal s y n waiting under
 stepped sure deal s y n waiting is true None under leads = refused sure deal s y n waiting under
@@ -172,7 +172,7 @@ stepped sure deal s y n waiting is true (Some p) under leads =
     }
 
 nothing : (sure : Type 0) (deal : Dealing) (s : Saved) (y : VoterState) (n : nodes.Node) (waiting : List Incident) → Underway sure deal s y n waiting
-    → Leads sure deal s y n [] (voter.no_reply n.live)
+    → IncidentsLead sure deal s y n [] (voter.no_reply n.live)
 nothing sure deal s y n waiting under = record {
   to = λ z. (z, ap (mid s y.id n.live z) (sym (append-nil n.outbox)));
   id = under.id;
@@ -189,7 +189,7 @@ brings_own client (asks.Release s) c stamp brings = absurd brings
 takes : VoterLaws → (sure : Type 0) (deal : Dealing) (s : Saved) (y : VoterState) (n : nodes.Node) (waiting : List Incident) (m : ToVoter) (is : List Incident) → Underway sure deal s y n waiting
     → m.client < length s.live.clients → (p : voter.Outcome) → voter.step n.live m ≡ Some p
     → ((z : VoterState) → IsMid s y.id p.state (n.outbox ++ p.replies) (all_befall deal is (mid s y.id n.live z n.outbox)))
-    → (sure → (z : VoterState) → AreLawful deal (mid s y.id n.live z n.outbox) is) → Leads sure deal s y n is p
+    → (sure → (z : VoterState) → AreLawful deal (mid s y.id n.live z n.outbox) is) → IncidentsLead sure deal s y n is p
 takes laws sure deal s y n waiting m is under client p step_is to lawful =
     let carries = laws.carries n.live m p step_is in
     record {
@@ -220,7 +220,7 @@ comes_to deal s y n m k within own_message at p is z =
 arrives : VoterLaws → (sure : Type 0) (deal : Dealing) (s : Saved) (y : VoterState) (n : nodes.Node) (waiting : List Incident) (m : ToVoter) (place : Option ℕ) → Underway sure deal s y n waiting
     → (m.voter ≡ y.id) × (m.client < length s.live.clients) × IsInRange (client_at s.live.clients m.client) place m
     → ((k : ℕ) → place ≡ Some k → slice_get s.live.sent k ≡ Some (kinds.ToVoter m)) → (sure → (k : ℕ) × (place ≡ Some k))
-    → (p : voter.Outcome) → voter.step n.live m ≡ Some p → Leads sure deal s y n (arrival_by place m ∷ []) p
+    → (p : voter.Outcome) → voter.step n.live m ≡ Some p → IncidentsLead sure deal s y n (arrival_by place m ∷ []) p
 arrives laws sure deal s y n waiting m None under may at was p is =
     takes laws sure deal s y n waiting m (Hears m ∷ []) under may.1 p is (hears_to deal s y n m under.has.lives may.0 may.1 may.2 p is)
     (λ all. absurd (none-some (was all).0 (was all).1))
@@ -249,7 +249,7 @@ evicts_by laws sure deal s y n waiting r true g under held =
     (λ _ z. (inl (is_eviction s y.id n z g under.has.lives under.id held), tt)))
 evicts_by laws sure deal s y n waiting r false g under held =
     stepped sure deal s y n waiting [] r (Some (voter.no_reply n.live)) under
-    (λ p e. subst (λ (q : voter.Outcome). Leads sure deal s y n [] q) (same_Some _ _ e) (nothing sure deal s y n waiting under))
+    (λ p e. subst (λ (q : voter.Outcome). IncidentsLead sure deal s y n [] q) (same_Some _ _ e) (nothing sure deal s y n waiting under))
 
 evicts : VoterLaws → (sure : Type 0) (deal : Dealing) (s : Saved) (y : VoterState) (n : nodes.Node) (waiting : List Incident) (r : Bool) (grant : ℕ) (h : Option Grant) → Underway sure deal s y n waiting
     → n.live.held ≡ h
@@ -257,11 +257,11 @@ evicts : VoterLaws → (sure : Type 0) (deal : Dealing) (s : Saved) (y : VoterSt
     (waiting ++ unless_refused (nodes.if_room r (nodes.after_voter n (evict_held h n.live grant))) (eviction_of h n.live grant))
 evicts laws sure deal s y n waiting r grant None under held =
     stepped sure deal s y n waiting [] r (Some (voter.no_reply n.live)) under
-    (λ p e. subst (λ (q : voter.Outcome). Leads sure deal s y n [] q) (same_Some _ _ e) (nothing sure deal s y n waiting under))
+    (λ p e. subst (λ (q : voter.Outcome). IncidentsLead sure deal s y n [] q) (same_Some _ _ e) (nothing sure deal s y n waiting under))
 evicts laws sure deal s y n waiting r grant (Some g) under held = evicts_by laws sure deal s y n waiting r (g.grant == grant) g under held
 
 reminds : (sure : Type 0) (deal : Dealing) (s : Saved) (y : VoterState) (n : nodes.Node) (waiting : List Incident) → Underway sure deal s y n waiting
-    → Leads sure deal s y n (Happens (Goes (RemindVoter n.live.id)) ∷ []) (record { replies = voter.remind n.live; state = n.live })
+    → IncidentsLead sure deal s y n (Happens (Goes (RemindVoter n.live.id)) ∷ []) (record { replies = voter.remind n.live; state = n.live })
 reminds sure deal s y n waiting under = record {
   to = λ z. subst (λ v. IsMid s y.id n.live (n.outbox ++ voter.remind n.live) (happens deal (mid s y.id n.live z n.outbox) (Goes (RemindVoter v)))) (sym under.id)
       (reminded deal s y.id n.live z n.outbox under.has.lives);
@@ -315,19 +315,19 @@ no_sends n true None = refl
 no_sends n false o = refl
 
 -- what these incidents lead to, if they are lawful where all messages were sent
-pub record Ends (sure : Type 0) (deal : Dealing) (s : Saved) (v : ℕ) (is : List Incident) (y : VoterState) (out : List ToClient) : Type 0 where
+pub record RunEnds (sure : Type 0) (deal : Dealing) (s : Saved) (v : ℕ) (is : List Incident) (y : VoterState) (out : List ToClient) : Type 0 where
   pub led : all_befall deal is s ≡ with_voter s v y out
   pub has : HasVoter (with_voter s v y out) v y
   pub lawful : sure → AreLawful deal s is
 
 -- an event that gives nothing out, and then the others
-quiet : (sure : Type 0) (deal : Dealing) (s : Saved) (v : ℕ) (is : List Incident) (y : VoterState) (out more : List ToClient) → out ≡ [] → Ends sure deal s v is y more
-    → Ends sure deal s v is y (out ++ more)
-quiet sure deal s v is y out more none ends = subst (λ (l : List ToClient). Ends sure deal s v is y (l ++ more)) (sym none) ends
+quiet : (sure : Type 0) (deal : Dealing) (s : Saved) (v : ℕ) (is : List Incident) (y : VoterState) (out more : List ToClient) → out ≡ [] → RunEnds sure deal s v is y more
+    → RunEnds sure deal s v is y (out ++ more)
+quiet sure deal s v is y out more none ends = subst (λ (l : List ToClient). RunEnds sure deal s v is y (l ++ more)) (sym none) ends
 
 -- a batch ended in the world with this state of the voter, and then the others
 ended : (sure : Type 0) (deal : Dealing) (s : Saved) (v : ℕ) (y z : VoterState) (first more : List ToClient) (is js : List Incident) → all_befall deal is s ≡ mid s v y y first
-    → (sure → AreLawful deal s is) → Ends sure deal (mid s v y y first) v js z more → Ends sure deal s v (is ++ js) z (first ++ more)
+    → (sure → AreLawful deal s is) → RunEnds sure deal (mid s v y y first) v js z more → RunEnds sure deal s v (is ++ js) z (first ++ more)
 ended sure deal s v y z first more is js there lawful ends =
     let both = merges s v y z first more in
     record {
@@ -338,7 +338,7 @@ ended sure deal s v y z first more is js there lawful ends =
 
 leads_on : VoterLaws → (sure : Type 0) (deal : Dealing) (places : Places) (y : VoterState) (es : List nodes.Event) (s : Saved) (n : nodes.Node) (waiting : List Incident)
     → Underway sure deal s y n waiting → ArePlaces places s.live.sent → AllByRecursion (MayCome s.live.clients places y) es → (sure → AllByRecursion (WasSent places) es)
-    → Ends sure deal s y.id (incidents_from places n waiting es) (nodes.run n es).saved (nodes.gives n es)
+    → RunEnds sure deal s y.id (incidents_from places n waiting es) (nodes.run n es).saved (nodes.gives n es)
 unfolding nodes.node_step
 leads_on laws sure deal places y [] s n waiting under are may was =
     let has = under.has in
@@ -355,7 +355,7 @@ leads_on laws sure deal places y (nodes.Evicts grant ∷ es) s n waiting under a
 leads_on laws sure deal places y (nodes.Reminds ∷ es) s n waiting under are may was =
     let o : Option voter.Outcome = Some (record { replies = voter.remind n.live; state = n.live }) in
     let next = stepped sure deal s y n waiting (Happens (Goes (RemindVoter n.live.id)) ∷ []) (nodes.has_room n) o under
-    (λ p e. subst (λ (q : voter.Outcome). Leads sure deal s y n (Happens (Goes (RemindVoter n.live.id)) ∷ []) q) (same_Some _ _ e) (reminds sure deal s y n waiting under)) in
+    (λ p e. subst (λ (q : voter.Outcome). IncidentsLead sure deal s y n (Happens (Goes (RemindVoter n.live.id)) ∷ []) q) (same_Some _ _ e) (reminds sure deal s y n waiting under)) in
     quiet sure deal s y.id _ _ _ _ (no_sends n (nodes.has_room n) o) (leads_on laws sure deal places y es s _ _ next are may.1 (λ all. (was all).1))
 leads_on laws sure deal places y (nodes.IsSaved ∷ es) s n waiting under are may was =
     let v = y.id in
@@ -380,7 +380,7 @@ leads_on laws sure deal places y (nodes.Forgets ∷ es) s n waiting under are ma
     (places_more places s.live.sent [] are) may.1 (λ all. (was all).1))
 
 pub node_leads : VoterLaws → (sure : Type 0) (deal : Dealing) (s : Saved) (places : Places) (y : VoterState) (es : List nodes.Event) → MayRun s places y es → (sure → AllByRecursion (WasSent places) es)
-    → Ends sure deal s y.id (incidents_of places y es) (nodes.run (nodes.node_of y) es).saved (nodes.gives (nodes.node_of y) es)
+    → RunEnds sure deal s y.id (incidents_of places y es) (nodes.run (nodes.node_of y) es).saved (nodes.gives (nodes.node_of y) es)
 node_leads laws sure deal s places y es may was =
     leads_on laws sure deal places y es s (nodes.node_of y) [] (begins sure deal s y y may.voter) may.places_are may.events_may was
 

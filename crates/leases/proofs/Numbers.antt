@@ -44,15 +44,15 @@ use Rattle.world.proofs.Exclusion.{inside_busy}
 use Rattle.world.proofs.IncidentLemmas.{AsksInRange, anew_sound, brought, counted, reborn_sound}
 use Rattle.world.proofs.Places.{set_client, set_voter, voter_here, voter_others}
 use Rattle.world.proofs.VoterMoves.{more_granted}
-use Rattle.world.proofs.Reached.{Given, new_voters, start_ok, start_unused, voter_new}
+use Rattle.world.proofs.Reached.{RunPremises, new_voters, start_ok, start_unused, voter_new}
 use Rattle.world.proofs.Restarts.{AreAll}
 use Rattle.passes.specs.Grants.{Gave, IsGiven, Voters}
 use Rattle.passes.specs.Grants as grants
 use Rattle.voter_node.specs.Lives.{Fate, lived, said}
 use Rattle.voter_node.specs.Nodes as nodes
 use Rattle.leases.specs.WorldVoters.{IsNodeOf, said_by}
-use Rattle.world.proofs.Befalling.{Acts, Arrives, IsOf, Keeps, Known, Scene, befalls_keeps, client_turns, scene_of, voter_turns}
-use Rattle.leases.proofs.LifeLemmas.{IsStep, LivesTo, clients_say, forgets, given_before, has_limit, is_reborn, is_saved, is_skipped, given_by, given_or, lives_saved, lives_silently, locked_is, node-append, others_say, put_at, reminds_step, restarts, said_all, said_there, says-append, says_more, takes_step}
+use Rattle.world.proofs.Befalling.{Acts, Arrives, IsOfWorld, Keeps, Known, Scene, befalls_keeps, client_turns, scene_of, voter_turns}
+use Rattle.leases.proofs.LifeLemmas.{EventIsStep, LivesTo, clients_say, forgets, given_before, has_limit, is_reborn, is_saved, is_skipped, given_by, given_or, lives_saved, lives_silently, locked_is, node-append, others_say, put_at, reminds_step, restarts, said_all, said_there, says-append, says_more, takes_step}
 use Rattle.world.specs.Incidents.{Incident, all_befall, anew, limited, skipped, befalls, reborn}
 
 -- ---- what was given
@@ -61,11 +61,11 @@ abbrev pub grant_of : ℕ → ℕ → ℕ → Grant
 grant_of c s g = record { client = c; stamp = s; grant = g }
 
 -- what befell each voter by itself
-abbrev pub Lives : Type 0
-Lives = ℕ → List Fate
+abbrev pub VoterLives : Type 0
+VoterLives = ℕ → List Fate
 
 -- the voters with these lives
-abbrev pub voters_of : Bounds → Lives → Voters
+abbrev pub voters_of : Bounds → VoterLives → Voters
 voters_of b G = record { limit = λ v. b.limit; life = G }
 
 -- how many grants each voter has saved
@@ -73,28 +73,28 @@ abbrev pub count : List VoterState → ℕ → ℕ
 count voters v = (voter_at voters v).granted
 
 -- the voter gave the grant with this number to this client's request of this stamp
-abbrev pub IsGrant : Bounds → Lives → ℕ → ℕ → ℕ → ℕ → Type 0
+abbrev pub IsGrant : Bounds → VoterLives → ℕ → ℕ → ℕ → ℕ → Type 0
 IsGrant b G v c s g = Gave (voters_of b G) v c s g × (v < b.voters)
 
-abbrev pub IsNamed : Bounds → (ℕ → ℕ) → ℕ → ClientBody → Type 0
-IsNamed b N v (to_client.Locked s g) = (g ≤ N v) × IsWithin b.limit s
-IsNamed b N v (to_client.Fail s) = Unit {0}
-IsNamed b N v (to_client.Inquire g) = g ≤ N v
+abbrev pub IsNamedWithin : Bounds → (ℕ → ℕ) → ℕ → ClientBody → Type 0
+IsNamedWithin b N v (to_client.Locked s g) = (g ≤ N v) × IsWithin b.limit s
+IsNamedWithin b N v (to_client.Fail s) = Unit {0}
+IsNamedWithin b N v (to_client.Inquire g) = g ≤ N v
 
 -- a LOCKED or INQUIRE that was ever sent names a saved grant
-abbrev pub Told : Bounds → (ℕ → ℕ) → Message → Type 0
-Told b N (kinds.ToVoter m) = (m.client < b.clients) × (m.voter < b.voters) × AsksInRange b.limit m.body
-Told b N (kinds.ToClient m) = (m.client < b.clients) × (m.voter < b.voters) × IsNamed b N m.voter m.body
+abbrev pub ToldSaved : Bounds → (ℕ → ℕ) → Message → Type 0
+ToldSaved b N (kinds.ToVoter m) = (m.client < b.clients) × (m.voter < b.voters) × AsksInRange b.limit m.body
+ToldSaved b N (kinds.ToClient m) = (m.client < b.clients) × (m.voter < b.voters) × IsNamedWithin b N m.voter m.body
 
 -- a client holds votes by grants to its request
-pub record Knows (b : Bounds) (G : Lives) (c : ℕ) (x : ClientState) : Type 0 where
+pub record HoldsByGrants (b : Bounds) (G : VoterLives) (c : ℕ) (x : ClientState) : Type 0 where
   pub sound : sound.IsSound x
   pub quorum : (members x ≡ []) ⊎ IsAmong b.quorums (members x)
   pub id : c < b.clients → x.id ≡ c
   pub limit : c < b.clients → x.limit ≡ b.limit
   pub votes : (v g : ℕ) → holds_under x v g ≡ true → IsGrant b G v c x.stamp g
 
-pub record Votes (b : Bounds) (v : ℕ) (y : VoterState) : Type 0 where
+pub record SoundVoter (b : Bounds) (v : ℕ) (y : VoterState) : Type 0 where
   pub sound : voter.IsSound y
   pub id : v < b.voters → y.id ≡ v
   pub limit : y.limit ≤ b.limit
@@ -111,19 +111,19 @@ pub record Beside (b : Bounds) (v : ℕ) (life : List Fate) (y z : VoterState) :
   pub saved : IsLatest (said v b.limit life) z
 
 -- the voters gave more, and what they gave before
-abbrev pub Further : Bounds → Lives → Lives → Type 0
+abbrev pub Further : Bounds → VoterLives → VoterLives → Type 0
 Further b G H = (v c t g : ℕ) → Gave (voters_of b G) v c t g → Gave (voters_of b H) v c t g
 
-named_on : (b : Bounds) (N M : ℕ → ℕ) → ((v : ℕ) → N v ≤ M v) → (v : ℕ) (body : ClientBody) → IsNamed b N v body → IsNamed b M v body
+named_on : (b : Bounds) (N M : ℕ → ℕ) → ((v : ℕ) → N v ≤ M v) → (v : ℕ) (body : ClientBody) → IsNamedWithin b N v body → IsNamedWithin b M v body
 named_on b N M f v (to_client.Locked s g) is = let few = is.0 in let more = f v in (omega arith, is.1)
 named_on b N M f v (to_client.Fail s) is = tt
 named_on b N M f v (to_client.Inquire g) is = (let more = f v in omega arith)
 
-told_on : (b : Bounds) (N M : ℕ → ℕ) → ((v : ℕ) → N v ≤ M v) → (m : Message) → Told b N m → Told b M m
+told_on : (b : Bounds) (N M : ℕ → ℕ) → ((v : ℕ) → N v ≤ M v) → (m : Message) → ToldSaved b N m → ToldSaved b M m
 told_on b N M f (kinds.ToVoter m) is = is
 told_on b N M f (kinds.ToClient m) is = (is.0, is.1, named_on b N M f m.voter m.body is.2)
 
-pub knows_on : (b : Bounds) (G H : Lives) → Further b G H → (c : ℕ) (x : ClientState) → Knows b G c x → Knows b H c x
+pub knows_on : (b : Bounds) (G H : VoterLives) → Further b G H → (c : ℕ) (x : ClientState) → HoldsByGrants b G c x → HoldsByGrants b H c x
 knows_on b G H f c x k = record {
   sound = k.sound;
   quorum = k.quorum;
@@ -134,7 +134,7 @@ knows_on b G H f c x k = record {
 
 -- ---- a client's step
 
-abbrev CameNamed : Bounds → Lives → ℕ → client.Cause → Type 0
+abbrev CameNamed : Bounds → VoterLives → ℕ → client.Cause → Type 0
 CameNamed b G c cause = (v s g : ℕ) → IsLocked cause v s g → IsGrant b G v c s g × IsWithin b.limit s
 
 asked_on : (b : Bounds) (x y : ClientState) (cause : client.Cause) → Draws b cause → KeepsQuorum x cause y → (members x ≡ []) ⊎ IsAmong b.quorums (members x)
@@ -144,8 +144,8 @@ asked_on b x y (client.Takes m) draws keeps was = subst (λ (l : List ℕ). (l �
 asked_on b x y client.Leaves draws keeps was = subst (λ (l : List ℕ). (l ≡ []) ⊎ IsAmong b.quorums l) (sym keeps.0) was
 asked_on b x y client.GivesUp draws keeps was = subst (λ (l : List ℕ). (l ≡ []) ⊎ IsAmong b.quorums l) (sym keeps.0) was
 
-knows_after : ClientLaws → (b : Bounds) (G : Lives) (c : ℕ) (x : ClientState) (cause : client.Cause) (o : client.Outcome) → Knows b G c x → Accepts x cause → Draws b cause
-    → CameNamed b G c cause → client.step x cause ≡ Ok o → Knows b G c o.state
+knows_after : ClientLaws → (b : Bounds) (G : VoterLives) (c : ℕ) (x : ClientState) (cause : client.Cause) (o : client.Outcome) → HoldsByGrants b G c x → Accepts x cause → Draws b cause
+    → CameNamed b G c cause → client.step x cause ≡ Ok o → HoldsByGrants b G c o.state
 knows_after laws b G c x cause o k accepts draws came is =
     let kept = laws.meets x cause o k.sound accepts is in
     record {
@@ -161,7 +161,7 @@ knows_after laws b G c x cause o k accepts draws came is =
 
 -- ---- what a voter says
 
-named_by : (b : Bounds) (M : ℕ → ℕ) (v : ℕ) (z : VoterState) → Votes b v z → z.granted ≤ M v → (c : ℕ) (body : ClientBody) → ReportsVote z.held c body → ReportsPlace z c body → IsNamed b M v body
+named_by : (b : Bounds) (M : ℕ → ℕ) (v : ℕ) (z : VoterState) → SoundVoter b v z → z.granted ≤ M v → (c : ℕ) (body : ClientBody) → ReportsVote z.held c body → ReportsPlace z c body → IsNamedWithin b M v body
 named_by b M v z votes most c (to_client.Locked s g) vote place =
     let number = votes.sound.numbered (grant_of c s g) vote in
     (omega arith, (votes.entries c s (inl (grant_of c s g, vote, refl, refl))).1)
@@ -171,24 +171,24 @@ named_by b M v z votes most c (to_client.Inquire g) vote place =
     let same = place.3 in
     omega arith
 
-replied_to : (b : Bounds) (v : ℕ) (z : VoterState) → Votes b v z → (c : ℕ) (body : ClientBody) → ReportsVote z.held c body → ReportsPlace z c body → c < b.clients
+replied_to : (b : Bounds) (v : ℕ) (z : VoterState) → SoundVoter b v z → (c : ℕ) (body : ClientBody) → ReportsVote z.held c body → ReportsPlace z c body → c < b.clients
 replied_to b v z votes c (to_client.Locked s g) vote place = (votes.entries c s (inl (grant_of c s g, vote, refl, refl))).0
 replied_to b v z votes c (to_client.Fail s) vote place = (votes.entries c s (inr place)).0
 replied_to b v z votes c (to_client.Inquire g) vote place = subst (λ n. n < b.clients) place.2 (votes.entries place.0.client place.0.stamp (inl (place.0, place.1, refl, refl))).0
 
-replies_told : (b : Bounds) (M : ℕ → ℕ) (v seen : ℕ) (z : VoterState) → v < b.voters → Votes b v z → z.granted ≤ M v
-    → (rs : List ToClient) → AllReport z.held rs → AllReportPlace z rs → AllCarry v seen rs → AllByRecursion (Told b M) (map kinds.ToClient rs)
+replies_told : (b : Bounds) (M : ℕ → ℕ) (v seen : ℕ) (z : VoterState) → v < b.voters → SoundVoter b v z → z.granted ≤ M v
+    → (rs : List ToClient) → AllReport z.held rs → AllReportPlace z rs → AllCarry v seen rs → AllByRecursion (ToldSaved b M) (map kinds.ToClient rs)
 replies_told b M v seen z within votes most [] report place carry = tt
 replies_told b M v seen z within votes most (r ∷ rs) report place carry = (
   (
     replied_to b v z votes r.client r.body report.0 place.0,
     subst (λ n. n < b.voters) (sym carry.0.0) within,
-    subst (λ n. IsNamed b M n r.body) (sym carry.0.0) (named_by b M v z votes most r.client r.body report.0 place.0),
+    subst (λ n. IsNamedWithin b M n r.body) (sym carry.0.0) (named_by b M v z votes most r.client r.body report.0 place.0),
   ),
   replies_told b M v seen z within votes most rs report.1 place.1 carry.1,
 )
 
-reached : (b : Bounds) → DoMeet b.voters b.quorums → (y : ClientState) (G : Lives) (c : ℕ) (cause : client.Cause) → CameNamed b G c cause
+reached : (b : Bounds) → DoMeet b.voters b.quorums → (y : ClientState) (G : VoterLives) (c : ℕ) (cause : client.Cause) → CameNamed b G c cause
     → (members y ≡ []) ⊎ IsAmong b.quorums (members y) → (v : ℕ) → IsReached cause y v → v < b.voters
 reached b meet y G c cause came quorum v is = elim is [
   | inl member ↦ member_below b meet y quorum v member
@@ -200,9 +200,9 @@ asks_range b limit is (asks.Request s) says = let most = says.1 in (says.0, omeg
 asks_range b limit is (asks.Relinquish g) says = tt
 asks_range b limit is (asks.Release s) says = tt
 
-asks_told : (b : Bounds) → DoMeet b.voters b.quorums → (G : Lives) (N : ℕ → ℕ) (c : ℕ) → c < b.clients → (x y : ClientState) (cause : client.Cause) → x.id ≡ c → y.limit ≡ b.limit
+asks_told : (b : Bounds) → DoMeet b.voters b.quorums → (G : VoterLives) (N : ℕ → ℕ) (c : ℕ) → c < b.clients → (x y : ClientState) (cause : client.Cause) → x.id ≡ c → y.limit ≡ b.limit
     → (members y ≡ []) ⊎ IsAmong b.quorums (members y) → CameNamed b G c cause → (out : List ToVoter) → AllSay x cause y out → AllInRange cause y out
-    → AllByRecursion (Told b N) (map kinds.ToVoter out)
+    → AllByRecursion (ToldSaved b N) (map kinds.ToVoter out)
 asks_told b meet G N c within x y cause id limit quorum came [] say range = tt
 asks_told b meet G N c within x y cause id limit quorum came (m ∷ ms) say range = (
   (
@@ -213,8 +213,8 @@ asks_told b meet G N c within x y cause id limit quorum came (m ∷ ms) say rang
   asks_told b meet G N c within x y cause id limit quorum came ms say.1 range.1,
 )
 
-reminders_told : (b : Bounds) → DoMeet b.voters b.quorums → (G : Lives) (N : ℕ → ℕ) (c : ℕ) → c < b.clients → (x : ClientState) → Knows b G c x
-    → (out : List ToVoter) → AllRepeat x out → RemindersInRange x out → AllByRecursion (Told b N) (map kinds.ToVoter out)
+reminders_told : (b : Bounds) → DoMeet b.voters b.quorums → (G : VoterLives) (N : ℕ → ℕ) (c : ℕ) → c < b.clients → (x : ClientState) → HoldsByGrants b G c x
+    → (out : List ToVoter) → AllRepeat x out → RemindersInRange x out → AllByRecursion (ToldSaved b N) (map kinds.ToVoter out)
 reminders_told b meet G N c within x knows [] say range = tt
 reminders_told b meet G N c within x knows (m ∷ ms) say range = (
   (
@@ -228,82 +228,82 @@ reminders_told b meet G N c within x knows (m ∷ ms) say range = (
 -- ---- the world
 
 -- what holds of a world whose voters have these lives
-pub record AreNumbered (b : Bounds) (G : Lives) (w : Scene) : Type 0 where
+pub record AreNumbered (b : Bounds) (G : VoterLives) (w : Scene) : Type 0 where
   pub sizes : AreAll b (length w.live.clients) (length w.live.voters) (length w.clients) (length w.voters)
-  pub live_clients : (c : ℕ) → Knows b G c (client_at w.live.clients c)
-  pub clients : (c : ℕ) → Knows b G c (client_at w.clients c)
-  pub live_voters : (v : ℕ) → Votes b v (voter_at w.live.voters v)
-  pub voters : (v : ℕ) → Votes b v (voter_at w.voters v)
+  pub live_clients : (c : ℕ) → HoldsByGrants b G c (client_at w.live.clients c)
+  pub clients : (c : ℕ) → HoldsByGrants b G c (client_at w.clients c)
+  pub live_voters : (v : ℕ) → SoundVoter b v (voter_at w.live.voters v)
+  pub voters : (v : ℕ) → SoundVoter b v (voter_at w.voters v)
   pub behind : (v : ℕ) → count w.voters v ≤ count w.live.voters v
   pub nodes : (v : ℕ) → Beside b v (G v) (voter_at w.live.voters v) (voter_at w.voters v)
-  pub told : AllByRecursion (Told b (count w.voters)) w.live.sent
+  pub told : AllByRecursion (ToldSaved b (count w.voters)) w.live.sent
   pub says : (v : ℕ) → v < b.voters → said v b.limit (G v) ≡ said_by v w.live.sent
 
-abbrev pub Numbered : Bounds → Lives → Saved → Type 0
+abbrev pub Numbered : Bounds → VoterLives → Saved → Type 0
 Numbered b G s = AreNumbered b G (scene_of s)
 
 -- it holds of this world with longer lives
-pub record Goes_on (b : Bounds) (G : Lives) (w : Scene) : Type 0 where
-  pub lives : Lives
+pub record LivesGoOn (b : Bounds) (G : VoterLives) (w : Scene) : Type 0 where
+  pub lives : VoterLives
   pub ok : AreNumbered b lives w
   pub further : Further b G lives
 
 pub same_number : (n : ℕ) → n ≤ n
 same_number n = omega arith
 
-stays : (b : Bounds) (G : Lives) (w : Scene) → AreNumbered b G w → Goes_on b G w
+stays : (b : Bounds) (G : VoterLives) (w : Scene) → AreNumbered b G w → LivesGoOn b G w
 stays b G w ok = record { lives = G; ok = ok; further = λ v c t g is. is }
 
-then_on : (b : Bounds) (G : Lives) (w u : Scene) → (first : Goes_on b G w) → Goes_on b first.lives u → Goes_on b G u
+then_on : (b : Bounds) (G : VoterLives) (w u : Scene) → (first : LivesGoOn b G w) → LivesGoOn b first.lives u → LivesGoOn b G u
 then_on b G w u first second = record {
   lives = second.lives;
   ok = second.ok;
   further = λ v c t g is. second.further v c t g (first.further v c t g is);
 }
 
-told_of : (b : Bounds) (N : ℕ → ℕ) (m : Message) → Told b N m → IsOf b m
+told_of : (b : Bounds) (N : ℕ → ℕ) (m : Message) → ToldSaved b N m → IsOfWorld b m
 told_of b N (kinds.ToVoter m) is = (is.0, is.1)
 told_of b N (kinds.ToClient m) is = (is.0, is.1)
 
-pub known_by : (b : Bounds) (G : Lives) (w : Scene) → AreNumbered b G w → Known b w
+pub known_by : (b : Bounds) (G : VoterLives) (w : Scene) → AreNumbered b G w → Known b w
 known_by b G w ok = record {
   sizes = ok.sizes;
   ids = λ c within. (ok.live_clients c).id within;
   limits = λ c within. (ok.live_clients c).limit within;
-  sent = λ k m at. told_of b (count w.voters) m (AllByRecursion-get (Told b (count w.voters)) w.live.sent k m ok.told at);
+  sent = λ k m at. told_of b (count w.voters) m (AllByRecursion-get (ToldSaved b (count w.voters)) w.live.sent k m ok.told at);
 }
 
 -- ---- a client is in other states
 
 -- a client has other states, live and saved, and says this
-client_on : (b : Bounds) (G : Lives) (w : Scene) → AreNumbered b G w → (c : ℕ) (x y : ClientState) (ms : List ToVoter) → Knows b G c x → Knows b G c y → AllByRecursion (Told b (count w.voters)) (map kinds.ToVoter ms)
-    → Goes_on b G (client_turns w c x y ms)
+client_on : (b : Bounds) (G : VoterLives) (w : Scene) → AreNumbered b G w → (c : ℕ) (x y : ClientState) (ms : List ToVoter) → HoldsByGrants b G c x → HoldsByGrants b G c y → AllByRecursion (ToldSaved b (count w.voters)) (map kinds.ToVoter ms)
+    → LivesGoOn b G (client_turns w c x y ms)
 client_on b G w ok c x y ms live saved told = record {
   lives = G;
   ok = record {
     sizes = (length-set w.live.clients c x ∙ ok.sizes.0, ok.sizes.1, length-set w.clients c y ∙ ok.sizes.2, ok.sizes.3);
-    live_clients = set_client (Knows b G) w.live.clients c x live ok.live_clients;
-    clients = set_client (Knows b G) w.clients c y saved ok.clients;
+    live_clients = set_client (HoldsByGrants b G) w.live.clients c x live ok.live_clients;
+    clients = set_client (HoldsByGrants b G) w.clients c y saved ok.clients;
     live_voters = ok.live_voters;
     voters = ok.voters;
     behind = ok.behind;
     nodes = ok.nodes;
-    told = AllByRecursion-append (Told b (count w.voters)) w.live.sent (map kinds.ToVoter ms) ok.told told;
+    told = AllByRecursion-append (ToldSaved b (count w.voters)) w.live.sent (map kinds.ToVoter ms) ok.told told;
     says = λ v few. ok.says v few ∙ sym (clients_say v w.live.sent ms);
   };
   further = λ v c t g is. is;
 }
 
 -- a LOCKED that comes names a grant
-came_named : (b : Bounds) (G : Lives) (w : Scene) → AreNumbered b G w → (c : ℕ) (cause : client.Cause) → Acts b w c cause → CameNamed b G c cause
+came_named : (b : Bounds) (G : VoterLives) (w : Scene) → AreNumbered b G w → (c : ℕ) (cause : client.Cause) → Acts b w c cause → CameNamed b G c cause
 came_named b G w ok c cause act v t g locks =
     let at = act.came v t g locks in
     let m : ToClient = record { voter = v; client = c; seen = at.1; body = to_client.Locked t g } in
-    let told = AllByRecursion-get (Told b (count w.voters)) w.live.sent at.0 (kinds.ToClient m) ok.told at.2 in
+    let told = AllByRecursion-get (ToldSaved b (count w.voters)) w.live.sent at.0 (kinds.ToClient m) ok.told at.2 in
     ((subst (λ (l : List ToClient). IsGiven l c t g) (sym (ok.says v told.1)) (said_there w.live.sent at.0 m t g at.2 (refl, refl)), told.1), told.2.1)
 
-client_out : (b : Bounds) → Given b → (G : Lives) (w : Scene) → AreNumbered b G w → (c : ℕ) (cause : client.Cause) (o : client.Outcome) → Acts b w c cause → client.step (client_at w.live.clients c) cause ≡ Ok o
-    → Knows b G c o.state × AllByRecursion (Told b (count w.voters)) (map kinds.ToVoter o.out)
+client_out : (b : Bounds) → RunPremises b → (G : VoterLives) (w : Scene) → AreNumbered b G w → (c : ℕ) (cause : client.Cause) (o : client.Outcome) → Acts b w c cause → client.step (client_at w.live.clients c) cause ≡ Ok o
+    → HoldsByGrants b G c o.state × AllByRecursion (ToldSaved b (count w.voters)) (map kinds.ToVoter o.out)
 client_out b given G w ok c cause o act is =
     let x = client_at w.live.clients c in
     let was = ok.live_clients c in
@@ -318,10 +318,10 @@ client_out b given G w ok c cause o act is =
 pub nothing_held : (v g : ℕ) → (nat_lt 0 (slice_index (replicate 64 0) v) && (slice_index (replicate 64 0) v == g)) ≡ true → ⊥
 nothing_held v g is = let none = slice_index-replicate_zero 64 v in grind (arith, nat_tests)
 
-least_client_on : (b : Bounds) (G : Lives) (c : ℕ) (x : ClientState) → Knows b G c x → Knows b G c (least_client x)
+least_client_on : (b : Bounds) (G : VoterLives) (c : ℕ) (x : ClientState) → HoldsByGrants b G c x → HoldsByGrants b G c (least_client x)
 least_client_on b G c x k = record { sound = least_is_sound x k.sound; quorum = inl refl; id = k.id; limit = k.limit; votes = λ v g is. absurd (nothing_held v g is) }
 
-anew_knows : (b : Bounds) → Given b → (G : Lives) (c : ℕ) (x : ClientState) (clock : ℕ) → Knows b G c x → clock ≤ x.limit → Knows b G c (anew x clock)
+anew_knows : (b : Bounds) → RunPremises b → (G : VoterLives) (c : ℕ) (x : ClientState) (clock : ℕ) → HoldsByGrants b G c x → clock ≤ x.limit → HoldsByGrants b G c (anew x clock)
 anew_knows b given G c x clock was most = record {
   sound = anew_sound b given x clock was.sound most;
   quorum = inl refl;
@@ -332,17 +332,17 @@ anew_knows b given G c x clock was most = record {
 
 -- ---- a voter is in other states, as its node lives on
 
-record Moves (b : Bounds) (G : Lives) (w : Scene) (v : ℕ) (y z : VoterState) (rs : List ToClient) : Type 0 where
-  live : Votes b v y
-  saved : Votes b v z
+record VoterMovesOn (b : Bounds) (G : VoterLives) (w : Scene) (v : ℕ) (y z : VoterState) (rs : List ToClient) : Type 0 where
+  live : SoundVoter b v y
+  saved : SoundVoter b v z
   least : count w.voters v ≤ z.granted
   most : z.granted ≤ y.granted
   to : LivesTo (lived v b.limit (G v)) y z rs
-  told : AllByRecursion (Told b (count (slice_set w.voters v z))) (map kinds.ToClient rs)
+  told : AllByRecursion (ToldSaved b (count (slice_set w.voters v z))) (map kinds.ToClient rs)
   own : AllByRecursion (λ r. r.voter ≡ v) rs
   latest : IsLatest (said v b.limit (G v) ++ rs) y × IsLatest (said v b.limit (G v) ++ rs) z
 
-voter_on : (b : Bounds) (G : Lives) (w : Scene) → AreNumbered b G w → (v : ℕ) (y z : VoterState) (rs : List ToClient) → v < b.voters → Moves b G w v y z rs → Goes_on b G (voter_turns w v y z rs)
+voter_on : (b : Bounds) (G : VoterLives) (w : Scene) → AreNumbered b G w → (v : ℕ) (y z : VoterState) (rs : List ToClient) → v < b.voters → VoterMovesOn b G w v y z rs → LivesGoOn b G (voter_turns w v y z rs)
 voter_on b G w ok v y z rs within move =
     let N = count w.voters in
     let M = count (slice_set w.voters v z) in
@@ -350,7 +350,7 @@ voter_on b G w ok v y z rs within move =
     let most = move.most in
     let fates = move.to.fates in
     let longer = G v ++ fates in
-    let H : Lives = put G v longer in
+    let H : VoterLives = put G v longer in
     let first = λ (q : ℕ). nodes.node_of (voter.start q b.limit) in
     let live_here = voter_here w.live.voters v y (subst (λ k. v < k) (sym ok.sizes.1) within) in
     let saved_here = voter_here w.voters v z (subst (λ k. v < k) (sym ok.sizes.3) within) in
@@ -359,7 +359,7 @@ voter_on b G w ok v y z rs within move =
     (λ same. subst (λ (l : List ToClient). IsGiven l c t g) (sym (says-append (first q) (G v) fates))
     (given_before (said q b.limit (G v)) _ c t g (subst (λ k. IsGiven (said q b.limit (G k)) c t g) same is)))
     (λ other. is) in
-    let told = AllByRecursion-weaker (Told b N) (Told b M) (told_on b N M more) w.live.sent ok.told in
+    let told = AllByRecursion-weaker (ToldSaved b N) (ToldSaved b M) (told_on b N M more) w.live.sent ok.told in
     let live : List VoterState = slice_set w.live.voters v y in
     let saved : List VoterState = slice_set w.voters v z in
     let says_longer : said v b.limit longer ≡ said v b.limit (G v) ++ rs = says-append (first v) (G v) fates ∙ ap (λ (l : List ToClient). said v b.limit (G v) ++ l) move.to.sent in
@@ -377,15 +377,15 @@ voter_on b G w ok v y z rs within move =
         sizes = (ok.sizes.0, length-set w.live.voters v y ∙ ok.sizes.1, ok.sizes.2, length-set w.voters v z ∙ ok.sizes.3);
         live_clients = λ c. knows_on b G H f c (client_at w.live.clients c) (ok.live_clients c);
         clients = λ c. knows_on b G H f c (client_at w.clients c) (ok.clients c);
-        live_voters = set_voter (Votes b) w.live.voters v y move.live ok.live_voters;
-        voters = set_voter (Votes b) w.voters v z move.saved ok.voters;
+        live_voters = set_voter (SoundVoter b) w.live.voters v y move.live ok.live_voters;
+        voters = set_voter (SoundVoter b) w.voters v z move.saved ok.voters;
         behind = set_voter (λ q a. a.granted ≤ count live q) w.voters v z (let same = ap (λ (a : VoterState). a.granted) live_here in omega arith)
             (set_voter (λ q a. N q ≤ a.granted) w.live.voters v y (omega arith) ok.behind);
         nodes = λ q. put_at (λ (l : List Fate). Beside b q l (voter_at live q) (voter_at saved q)) G v longer q
             (λ same. subst (λ k. Beside b k longer (voter_at live k) (voter_at saved k)) (sym same) here)
             (λ other. subst (λ (a : VoterState). Beside b q (G q) a (voter_at saved q)) (sym (voter_others w.live.voters v y q other))
             (subst (λ (a : VoterState). Beside b q (G q) (voter_at w.live.voters q) a) (sym (voter_others w.voters v z q other)) (ok.nodes q)));
-        told = AllByRecursion-append (Told b M) w.live.sent (map kinds.ToClient rs) told move.told;
+        told = AllByRecursion-append (ToldSaved b M) w.live.sent (map kinds.ToClient rs) told move.told;
         says = λ q few. put_at (λ (l : List Fate). said q b.limit l ≡ said_by q (w.live.sent ++ map kinds.ToClient rs)) G v longer q
             (λ same. subst (λ k. said k b.limit longer ≡ said_by k (w.live.sent ++ map kinds.ToClient rs)) (sym same) says)
             (λ other. ok.says q few ∙ sym (others_say q v w.live.sent rs other move.own));
@@ -398,8 +398,8 @@ still : (rs : List ToClient) (y : VoterState) → IsLatest rs y → IsLatest (rs
 still rs y was = subst (λ (l : List ToClient). IsLatest l y) (sym (append-nil rs)) was
 
 -- it says nothing
-silent_voter_on : (b : Bounds) (G : Lives) (w : Scene) → AreNumbered b G w → (v : ℕ) (y z : VoterState) → v < b.voters → Votes b v y → Votes b v z → count w.voters v ≤ z.granted → z.granted ≤ y.granted
-    → LivesTo (lived v b.limit (G v)) y z [] → IsLatest (said v b.limit (G v)) y → IsLatest (said v b.limit (G v)) z → Goes_on b G (voter_turns w v y z [])
+silent_voter_on : (b : Bounds) (G : VoterLives) (w : Scene) → AreNumbered b G w → (v : ℕ) (y z : VoterState) → v < b.voters → SoundVoter b v y → SoundVoter b v z → count w.voters v ≤ z.granted → z.granted ≤ y.granted
+    → LivesTo (lived v b.limit (G v)) y z [] → IsLatest (said v b.limit (G v)) y → IsLatest (said v b.limit (G v)) z → LivesGoOn b G (voter_turns w v y z [])
 silent_voter_on b G w ok v y z within live saved least most to latest latest_saved = voter_on b G w ok v y z [] within
     (record { live = live; saved = saved; least = least; most = most; to = to; told = tt; own = tt; latest = (still (said v b.limit (G v)) y latest, still (said v b.limit (G v)) z latest_saved) })
 
@@ -431,23 +431,23 @@ latest_said z ls rs was report g is c t n given = elim (given_or ls rs c t n giv
 ]
 
 -- no voter gave a number above what it saved
-pub given_within : (b : Bounds) (G : Lives) (w : Scene) → AreNumbered b G w → (v : ℕ) → v < b.voters → (c t n : ℕ) → IsGiven (said v b.limit (G v)) c t n → n ≤ count w.voters v
+pub given_within : (b : Bounds) (G : VoterLives) (w : Scene) → AreNumbered b G w → (v : ℕ) → v < b.voters → (c t n : ℕ) → IsGiven (said v b.limit (G v)) c t n → n ≤ count w.voters v
 given_within b G w ok v within c t n given =
     let N = count w.voters in
-    let r = given_by (λ r. Told b N (kinds.ToClient r) × (r.voter ≡ v)) (said_by v w.live.sent) (said_all v (Told b N) w.live.sent ok.told) c t n
+    let r = given_by (λ r. ToldSaved b N (kinds.ToClient r) × (r.voter ≡ v)) (said_by v w.live.sent) (said_all v (ToldSaved b N) w.live.sent ok.told) c t n
     (subst (λ (l : List ToClient). IsGiven l c t n) (ok.says v within) given) in
-    subst (λ k. n ≤ N k) r.1.1 (subst (λ (x : ClientBody). IsNamed b N r.0.voter x) (locked_is r.0.body t n r.3) r.1.0.2).0
+    subst (λ k. n ≤ N k) r.1.1 (subst (λ (x : ClientBody). IsNamedWithin b N r.0.voter x) (locked_is r.0.body t n r.3) r.1.0.2).0
 
 -- a voter lives on by this event
-record LivesOn (b : Bounds) (G : Lives) (w : Scene) (v : ℕ) (e : nodes.Event) (o : voter.Outcome) : Type 0 where
-  by : IsStep (voter_at w.live.voters v) e o
-  votes : Votes b v o.state
+record LivesOn (b : Bounds) (G : VoterLives) (w : Scene) (v : ℕ) (e : nodes.Event) (o : voter.Outcome) : Type 0 where
+  by : EventIsStep (voter_at w.live.voters v) e o
+  votes : SoundVoter b v o.state
   more : count w.live.voters v ≤ o.state.granted
   latest : IsLatest (said v b.limit (G v)) o.state
 
 -- it is saved, and says this
-telling_voter_on : (b : Bounds) (G : Lives) (w : Scene) → AreNumbered b G w → (v seen : ℕ) → v < b.voters → (e : nodes.Event) (o : voter.Outcome) → LivesOn b G w v e o
-    → AllReport o.state.held o.replies → AllReportPlace o.state o.replies → AllCarry v seen o.replies → Goes_on b G (voter_turns w v o.state o.state o.replies)
+telling_voter_on : (b : Bounds) (G : VoterLives) (w : Scene) → AreNumbered b G w → (v seen : ℕ) → v < b.voters → (e : nodes.Event) (o : voter.Outcome) → LivesOn b G w v e o
+    → AllReport o.state.held o.replies → AllReportPlace o.state o.replies → AllCarry v seen o.replies → LivesGoOn b G (voter_turns w v o.state o.state o.replies)
 telling_voter_on b G w ok v seen within e o on report place carry =
     let here : count (slice_set w.voters v o.state) v ≡ o.state.granted = ap (λ (a : VoterState). a.granted) (voter_here w.voters v o.state (subst (λ k. v < k) (sym ok.sizes.3) within)) in
     let latest = latest_said o.state (said v b.limit (G v)) o.replies on.latest report in
@@ -464,14 +464,14 @@ telling_voter_on b G w ok v seen within e o on report place carry =
       latest = (latest, latest);
     })
 
-pub told_arrives : (b : Bounds) (G : Lives) (Made : ToVoter → Type 0) (w : Scene) → AreNumbered b G w → (m : ToVoter) → Arrives b Made w m → Told b (count w.voters) (kinds.ToVoter m)
+pub told_arrives : (b : Bounds) (G : VoterLives) (Made : ToVoter → Type 0) (w : Scene) → AreNumbered b G w → (m : ToVoter) → Arrives b Made w m → ToldSaved b (count w.voters) (kinds.ToVoter m)
 told_arrives b G Made w ok m arrives = elim arrives.source [
-  | inl sent ↦ AllByRecursion-get (Told b (count w.voters)) w.live.sent sent.0 (kinds.ToVoter m) ok.told sent.1
+  | inl sent ↦ AllByRecursion-get (ToldSaved b (count w.voters)) w.live.sent sent.0 (kinds.ToVoter m) ok.told sent.1
   | inr made ↦ (arrives.client, arrives.voter, made.1)
 ]
 
 -- a voter takes a message
-lives_on : VoterLaws → (b : Bounds) (G : Lives) (w : Scene) → AreNumbered b G w → (m : ToVoter) (o : voter.Outcome) → Told b (count w.voters) (kinds.ToVoter m) → voter.step (voter_at w.live.voters m.voter) m ≡ Some o
+lives_on : VoterLaws → (b : Bounds) (G : VoterLives) (w : Scene) → AreNumbered b G w → (m : ToVoter) (o : voter.Outcome) → ToldSaved b (count w.voters) (kinds.ToVoter m) → voter.step (voter_at w.live.voters m.voter) m ≡ Some o
     → LivesOn b G w m.voter (nodes.Takes m) o
 lives_on laws b G w ok m o told is =
     let v = m.voter in
@@ -494,7 +494,7 @@ lives_on laws b G w ok m o told is =
 
 -- ---- voters that forget, are reborn, or have other counts
 
-least_voter_on : (b : Bounds) (v : ℕ) (y : VoterState) → Votes b v y → Votes b v (least_voter y)
+least_voter_on : (b : Bounds) (v : ℕ) (y : VoterState) → SoundVoter b v y → SoundVoter b v (least_voter y)
 least_voter_on b v y k = record {
   sound = kept.least_is_sound y k.sound;
   id = k.id;
@@ -502,7 +502,7 @@ least_voter_on b v y k = record {
   entries = λ c s is. elim is [ inl held ↦ k.entries c s (inl held) | inr waits ↦ absurd (none-some s (sym (fin.get-empty nat_cmp c) ∙ waits)) ];
 }
 
-reborn_votes : (b : Bounds) (v : ℕ) (y : VoterState) (above : ℕ) → Votes b v y → above ≤ y.limit → Votes b v (reborn y above)
+reborn_votes : (b : Bounds) (v : ℕ) (y : VoterState) (above : ℕ) → SoundVoter b v y → above ≤ y.limit → SoundVoter b v (reborn y above)
 reborn_votes b v y above was most = record {
   sound = reborn_sound y above was.sound most;
   id = was.id;
@@ -510,7 +510,7 @@ reborn_votes b v y above was most = record {
   entries = λ c s is. elim is [ inl held ↦ absurd (none-some held.0 held.1) | inr waits ↦ absurd (none-some s (sym (fin.get-empty nat_cmp c) ∙ waits)) ];
 }
 
-counted_votes : (b : Bounds) → Given b → (v : ℕ) (y : VoterState) (granted limit : ℕ) → Votes b v y → y.granted ≤ granted → granted ≤ limit → limit ≤ b.limit → Votes b v (counted y granted limit)
+counted_votes : (b : Bounds) → RunPremises b → (v : ℕ) (y : VoterState) (granted limit : ℕ) → SoundVoter b v y → y.granted ≤ granted → granted ≤ limit → limit ≤ b.limit → SoundVoter b v (counted y granted limit)
 counted_votes b given v y granted limit was more within most = record {
   sound = IsSound-counted y granted limit was.sound more within (let few = given.limits.few_stamps in omega arith);
   id = was.id;
@@ -520,7 +520,7 @@ counted_votes b given v y granted limit was more within most = record {
 
 -- ---- what befalls
 
-numbered_keeps : (b : Bounds) → Given b → (G : Lives) (w : Scene) → AreNumbered b G w → Keeps b (λ m. Unit {0}) w (Goes_on b G)
+numbered_keeps : (b : Bounds) → RunPremises b → (G : VoterLives) (w : Scene) → AreNumbered b G w → Keeps b (λ m. Unit {0}) w (LivesGoOn b G)
 numbered_keeps b given G w ok =
     let X = λ (c : ℕ). client_at w.live.clients c in
     let Y = λ (v : ℕ). voter_at w.live.voters v in
@@ -577,11 +577,11 @@ numbered_keeps b given G w ok =
           (is_skipped (Y v) (Z v) (life v) above ((ok.nodes v).node within) least most) (ok.nodes v).live (ok.nodes v).saved;
     }
 
-pub befalls_on : (b : Bounds) → Given b → (deal : Dealing) → DealsFrom b.quorums deal → (G : Lives) (s : Saved) → Numbered b G s → (i : Incident) → Goes_on b G (scene_of (befalls deal s i))
+pub befalls_on : (b : Bounds) → RunPremises b → (deal : Dealing) → DealsFrom b.quorums deal → (G : VoterLives) (s : Saved) → Numbered b G s → (i : Incident) → LivesGoOn b G (scene_of (befalls deal s i))
 befalls_on b given deal deals G s ok i =
-    befalls_keeps b given deal deals (λ m. Unit {0}) s (Goes_on b G) (numbered_keeps b given G (scene_of s) ok) i (λ m e. tt)
+    befalls_keeps b given deal deals (λ m. Unit {0}) s (LivesGoOn b G) (numbered_keeps b given G (scene_of s) ok) i (λ m e. tt)
 
-pub all_on : (b : Bounds) → Given b → (deal : Dealing) → DealsFrom b.quorums deal → (G : Lives) (s : Saved) → Numbered b G s → (is : List Incident) → Goes_on b G (scene_of (all_befall deal is s))
+pub all_on : (b : Bounds) → RunPremises b → (deal : Dealing) → DealsFrom b.quorums deal → (G : VoterLives) (s : Saved) → Numbered b G s → (is : List Incident) → LivesGoOn b G (scene_of (all_befall deal is s))
 all_on b given deal deals G s ok [] = stays b G (scene_of s) ok
 all_on b given deal deals G s ok (i ∷ is) =
     let first = befalls_on b given deal deals G s ok i in
@@ -589,23 +589,23 @@ all_on b given deal deals G s ok (i ∷ is) =
 
 -- ---- the first world
 
-abbrev pub newborn : Lives
+abbrev pub newborn : VoterLives
 newborn v = []
 
-pub begin_on : (b : Bounds) → Given b → Numbered b newborn (begin b.voters b.clients b.limit)
+pub begin_on : (b : Bounds) → RunPremises b → Numbered b newborn (begin b.voters b.clients b.limit)
 unfolding new_voters
 begin_on b given =
     let w = start b.voters b.clients b.limit in
     let ok = start_ok b given in
     let world = ok.world in
-    let knows : (c : ℕ) → Knows b newborn c (client_at w.clients c) = λ c. record {
+    let knows : (c : ℕ) → HoldsByGrants b newborn c (client_at w.clients c) = λ c. record {
       sound = (world.clients c).sound;
       quorum = (world.clients c).quorum;
       id = λ within. (world.client_ids c within).id;
       limit = λ within. (world.client_ids c within).limit;
       votes = λ v g is. absurd (none-some _ (sym (start_unused b given v).held ∙ world.held c v g is));
     } in
-    let votes : (v : ℕ) → Votes b v (voter_at w.voters v) = λ v. record {
+    let votes : (v : ℕ) → SoundVoter b v (voter_at w.voters v) = λ v. record {
       sound = (world.voters v).sound;
       id = world.voter_ids v;
       limit = (world.voters v).limit;
@@ -629,7 +629,7 @@ begin_on b given =
 
 -- ---- two passes
 
-pub among_of : (b : Bounds) (G : Lives) (c : ℕ) (x : ClientState) → Knows b G c x → is_inside x.phase ≡ true → IsAmong b.quorums (members x)
+pub among_of : (b : Bounds) (G : VoterLives) (c : ℕ) (x : ClientState) → HoldsByGrants b G c x → is_inside x.phase ≡ true → IsAmong b.quorums (members x)
 among_of b G c x k inside = elim k.quorum [
   | inl none ↦ let some = k.sound.asked (inside_busy x.phase inside) in let len = ap (λ (q : List ℕ). length q) none in absurd (omega arith)
   | inr among ↦ among

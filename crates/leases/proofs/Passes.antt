@@ -19,11 +19,11 @@ use Rattle.world.specs.Visible.{DealsFrom, DoMeet}
 use Rattle.world.specs.Rules.{ClientLaws, VoterLaws}
 use Rattle.world.proofs.Claims.{Bounds, put}
 use Rattle.world.proofs.Places.{client_at-set}
-use Rattle.world.proofs.Reached.{Given}
+use Rattle.world.proofs.Reached.{RunPremises}
 use Rattle.world.specs.Incidents.{Incident, all_befall, anew, befalls}
 use Rattle.world.proofs.Exclusion.{inside_busy}
 use Rattle.world.proofs.Befalling.{Keeps, Scene, befalls_keeps, scene_of}
-use Rattle.leases.proofs.Numbers.{AreNumbered, Lives, Numbered, all_on, befalls_on, begin_on, known_by, newborn}
+use Rattle.leases.proofs.Numbers.{AreNumbered, VoterLives, Numbered, all_on, befalls_on, begin_on, known_by, newborn}
 use Rattle.passes.proofs.Requests.{HasOnly, only_after, only_anew, only_least, only_self, quiet_stays}
 
 -- ---- a client that is inside
@@ -34,7 +34,7 @@ IsSavedIn x y = is_inside x.phase ≡ true → HasOnly x.stamp x.held y
 
 -- ---- a property of each client, live and saved
 
-record Lasts (R : ℕ → ClientState → ClientState → Type 0) : Type 0 where
+record RelationLasts (R : ℕ → ClientState → ClientState → Type 0) : Type 0 where
   quiet : (c : ℕ) (x y : ClientState) (cause : client.Cause) (o : client.Outcome) → sound.IsSound x → Accepts x cause → client.step x cause ≡ Ok o → Sees x.phase Nothing o.state.phase → R c x y → R c o.state y
   loud : (c : ℕ) (x y : ClientState) (cause : client.Cause) (o : client.Outcome) → sound.IsSound x → Accepts x cause → client.step x cause ≡ Ok o → R c x y → R c o.state o.state
   saves : (c : ℕ) (x y : ClientState) → R c x y → R c x x
@@ -45,7 +45,7 @@ record Lasts (R : ℕ → ClientState → ClientState → Type 0) : Type 0 where
 abbrev BothHave : ℕ → ℕ → List ℕ → ℕ → ClientState → ClientState → Type 0
 BothHave d s p c x y = c ≡ d → HasOnly s p x × HasOnly s p y
 
-both_last : ClientLaws → (d s : ℕ) (p : List ℕ) → Lasts (BothHave d s p)
+both_last : ClientLaws → (d s : ℕ) (p : List ℕ) → RelationLasts (BothHave d s p)
 both_last laws d s p = record {
   quiet = λ c x y cause o ok accepts is sees has at. let h = has at in (only_after laws s p x cause o ok accepts is h.0, h.1);
   loud = λ c x y cause o ok accepts is has at. let h = only_after laws s p x cause o ok accepts is (has at).0 in (h, h);
@@ -58,7 +58,7 @@ both_last laws d s p = record {
 inside_idle : (p : Phase) → is_inside p ≡ true → is_idle p ≡ true → ⊥
 inside_idle p inside idle = false≢true (sym (inside_busy p inside) ∙ idle)
 
-saved_in_last : ClientLaws → Lasts (λ c x y. IsSavedIn x y)
+saved_in_last : ClientLaws → RelationLasts (λ c x y. IsSavedIn x y)
 saved_in_last laws = record {
   quiet = λ c x y cause o ok accepts is sees has inside.
       let before : is_inside x.phase ≡ true = sees ∙ inside in
@@ -94,7 +94,7 @@ set_both R lives saveds c x y within within_saved here all q =
 
 -- ---- what befalls
 
-pairs_keep : (R : ℕ → ClientState → ClientState → Type 0) → Lasts R → ClientLaws → (b : Bounds) (G : Lives) (w : Scene) → AreNumbered b G w → Pairs R w → Keeps b (λ m. Unit {0}) w (Pairs R)
+pairs_keep : (R : ℕ → ClientState → ClientState → Type 0) → RelationLasts R → ClientLaws → (b : Bounds) (G : VoterLives) (w : Scene) → AreNumbered b G w → Pairs R w → Keeps b (λ m. Unit {0}) w (Pairs R)
 pairs_keep R lasts laws b G w ok all =
     let X = client_at w.live.clients in
     let K = client_at w.clients in
@@ -124,7 +124,7 @@ pairs_keep R lasts laws b G w ok all =
       voter_skipped = λ v above within least most. all;
     }
 
-pair_all : (R : ℕ → ClientState → ClientState → Type 0) → Lasts R → (b : Bounds) → Given b → (deal : Dealing) → DealsFrom b.quorums deal → (is : List Incident) (G : Lives) (s : Saved) → Numbered b G s → Pairs R (scene_of s)
+pair_all : (R : ℕ → ClientState → ClientState → Type 0) → RelationLasts R → (b : Bounds) → RunPremises b → (deal : Dealing) → DealsFrom b.quorums deal → (is : List Incident) (G : VoterLives) (s : Saved) → Numbered b G s → Pairs R (scene_of s)
     → Pairs R (scene_of (all_befall deal is s))
 pair_all R lasts b given deal deals [] G s ok all = all
 pair_all R lasts b given deal deals (i ∷ is) G s ok all =
@@ -140,7 +140,7 @@ pub one_pass : ClientLaws → VoterLaws → (voters clients limit : ℕ) (quorum
     → pass_of (all_befall deal after (all_befall deal before (begin voters clients limit))) c ≡ pass_of (all_befall deal before (begin voters clients limit)) c
 one_pass cs vs voters clients limit quorums deal before after c limits meets deals in_s in_t same =
     let b : Bounds = record { voters = voters; clients = clients; limit = limit; quorums = quorums } in
-    let given : Given b = record { client = cs; voter = vs; limits = limits; meet = meets } in
+    let given : RunPremises b = record { client = cs; voter = vs; limits = limits; meet = meets } in
     let first = begin voters clients limit in
     let s = all_befall deal before first in
     let t = all_befall deal after s in

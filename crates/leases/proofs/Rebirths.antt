@@ -37,8 +37,8 @@ use Rattle.world.proofs.Claims.{AskOk, Bounds, ReportOk, MessageOk, VoterOk, Wor
 use Rattle.world.proofs.Exclusion.{Walked, Walked-step}
 use Rattle.world.proofs.IncidentLemmas.{anew_sound, counted, may_count, may_have, reborn_sound}
 use Rattle.world.proofs.Places.{client_at-set, voter_at-set, voter_here}
-use Rattle.world.proofs.Reached.{Given}
-use Rattle.world.proofs.Restarts.{ComesBack, Mix, SavedOk, begin_ok, client_less, client_tried, happens_ok, if_one, if_voter_one, live_ok, voter_tried}
+use Rattle.world.proofs.Reached.{RunPremises}
+use Rattle.world.proofs.Restarts.{ClientReturns, Mix, SavedOk, begin_ok, client_less, client_tried, happens_ok, if_one, if_voter_one, live_ok, voter_tried}
 use Rattle.world.specs.Incidents.{Incident, Happens, Hears, IsReborn, StartsAnew, HasLimit, IsRaised, IsSkipped, all_befall, anew, be_raised, be_reborn, be_skipped, befalls, have_limit, hear, is_above, is_ahead, is_limit, is_message, is_request_within, reborn, start_anew}
 use Rattle.leases.specs.Orderly.{AreDone, AreOrderly, CountsNoMore, EndsOld, IsOver, IsPast}
 use Rattle.world.proofs.Raises.{no_inquiry, raised_by_step}
@@ -54,9 +54,9 @@ past_report x held z v c (to_client.Locked s g) ok past = (ok.0, λ live. absurd
 past_report x held z v c (to_client.Fail s) ok past = tt
 past_report x held z v c (to_client.Inquire g) ok past = tt
 
-abbrev Counts : (ℕ → ClientState) → ℕ → Message → Type 0
-Counts X v (kinds.ToVoter m) = Unit {0}
-Counts X v (kinds.ToClient m) = m.voter ≡ v → IsPast (X m.client) v m.body
+abbrev CountsPast : (ℕ → ClientState) → ℕ → Message → Type 0
+CountsPast X v (kinds.ToVoter m) = Unit {0}
+CountsPast X v (kinds.ToClient m) = m.voter ≡ v → IsPast (X m.client) v m.body
 
 -- a free voter has no grant that a RELINQUISH could end
 ask_free : (x : ClientState) (y z : VoterState) (v c : ℕ) (body : VoterBody) → z.held ≡ None → y.granted ≤ z.granted → AskOk x y v c body → AskOk x z v c body
@@ -64,7 +64,7 @@ ask_free x y z v c (asks.Request t) free few ok = ok
 ask_free x y z v c (asks.Relinquish g) free few ok = ((let most = ok.0 in omega arith), λ t live names. none-some (record { client = c; stamp = t; grant = g }) (sym free ∙ names))
 ask_free x y z v c (asks.Release t) free few ok = ok
 
-past_message : (X : ℕ → ClientState) (Y : ℕ → VoterState) (v : ℕ) (z : VoterState) → z.held ≡ None → (Y v).granted ≤ z.granted → (m : Message) → MessageOk X Y m → Counts X v m
+past_message : (X : ℕ → ClientState) (Y : ℕ → VoterState) (v : ℕ) (z : VoterState) → z.held ≡ None → (Y v).granted ≤ z.granted → (m : Message) → MessageOk X Y m → CountsPast X v m
     → MessageOk X (put Y v z) m
 past_message X Y v z free few (kinds.ToVoter m) ok past = put_at (λ (y : VoterState). AskOk (X m.client) y m.voter m.client m.body) Y v z m.voter
     (λ same. ask_free (X m.client) (Y m.voter) z m.voter m.client m.body free (subst (λ n. (Y n).granted ≤ z.granted) (sym same) few) ok)
@@ -74,7 +74,7 @@ past_message X Y v z free few (kinds.ToClient m) ok past = put_at (λ (y : Voter
     (λ other. ok)
 
 past_messages : (X : ℕ → ClientState) (Y : ℕ → VoterState) (v : ℕ) (z : VoterState) → z.held ≡ None → (Y v).granted ≤ z.granted → (ms : List Message) → AllByRecursion (MessageOk X Y) ms
-    → AllByRecursion (Counts X v) ms → AllByRecursion (MessageOk X (put Y v z)) ms
+    → AllByRecursion (CountsPast X v) ms → AllByRecursion (MessageOk X (put Y v z)) ms
 past_messages X Y v z free few [] ok past = tt
 past_messages X Y v z free few (m ∷ ms) ok past = (past_message X Y v z free few m ok.0 past.0, past_messages X Y v z free few ms ok.1 past.1)
 
@@ -88,7 +88,7 @@ reborn_ok b X y above ok most = record {
 }
 
 reborn_world : (b : Bounds) (X : ℕ → ClientState) (Y : ℕ → VoterState) (sent : List Message) (v : ℕ) (z : VoterState) → WorldOk b X Y sent → VoterOk b X z → (v < b.voters → z.id ≡ v)
-    → z.held ≡ None → (Y v).granted ≤ z.granted → ((c g : ℕ) → holds_under (X c) v g ≡ true → ⊥) → AllByRecursion (Counts X v) sent → WorldOk b X (put Y v z) sent
+    → z.held ≡ None → (Y v).granted ≤ z.granted → ((c g : ℕ) → holds_under (X c) v g ≡ true → ⊥) → AllByRecursion (CountsPast X v) sent → WorldOk b X (put Y v z) sent
 reborn_world b X Y sent v z ok here id free few none past = record {
   messages = past_messages X Y v z free few sent ok.messages past;
   ranges = ok.ranges;
@@ -103,22 +103,22 @@ reborn_world b X Y sent v z ok here id free few none past = record {
 
 -- ---- live and saved
 
-one_past : (L K : ℕ → ClientState) (v : ℕ) (X : ℕ → ClientState) → Mix L K X → (m : Message) → Counts L v m → Counts K v m → Counts X v m
+one_past : (L K : ℕ → ClientState) (v : ℕ) (X : ℕ → ClientState) → Mix L K X → (m : Message) → CountsPast L v m → CountsPast K v m → CountsPast X v m
 one_past L K v X mix (kinds.ToVoter m) live saved = tt
 one_past L K v X mix (kinds.ToClient m) live saved = λ same. elim (mix m.client) [
   | inl e ↦ subst (λ (x : ClientState). IsPast x v m.body) (sym e) (live same)
   | inr e ↦ subst (λ (x : ClientState). IsPast x v m.body) (sym e) (saved same)
 ]
 
-all_past : (L K : ℕ → ClientState) (v : ℕ) (X : ℕ → ClientState) → Mix L K X → (ms : List Message) → AllByRecursion (Counts L v) ms → AllByRecursion (Counts K v) ms → AllByRecursion (Counts X v) ms
+all_past : (L K : ℕ → ClientState) (v : ℕ) (X : ℕ → ClientState) → Mix L K X → (ms : List Message) → AllByRecursion (CountsPast L v) ms → AllByRecursion (CountsPast K v) ms → AllByRecursion (CountsPast X v) ms
 all_past L K v X mix [] live saved = tt
 all_past L K v X mix (m ∷ ms) live saved = (one_past L K v X mix m live.0 saved.0, all_past L K v X mix ms live.1 saved.1)
 
-counts_of : (clients : List ClientState) (v : ℕ) (m : Message) → CountsNoMore clients v m → Counts (client_at clients) v m
+counts_of : (clients : List ClientState) (v : ℕ) (m : Message) → CountsNoMore clients v m → CountsPast (client_at clients) v m
 counts_of clients v (kinds.ToVoter m) is = tt
 counts_of clients v (kinds.ToClient m) is = is
 
-all_counts : (clients : List ClientState) (v : ℕ) (ms : List Message) → AllByRecursion (CountsNoMore clients v) ms → AllByRecursion (Counts (client_at clients) v) ms
+all_counts : (clients : List ClientState) (v : ℕ) (ms : List Message) → AllByRecursion (CountsNoMore clients v) ms → AllByRecursion (CountsPast (client_at clients) v) ms
 all_counts clients v [] is = tt
 all_counts clients v (m ∷ ms) is = (counts_of clients v m is.0, all_counts clients v ms is.1)
 
@@ -154,7 +154,7 @@ over_or_free b s ok v is = elim is [ inl over ↦ over | inr free ↦ free_over 
 
 -- ---- a voter that is reborn
 
-rebirth_ok : (b : Bounds) → Given b → (s : Saved) → SavedOk b s → (v above : ℕ) → IsOver s v → (t : Bool) → (nat_lt v (length s.live.voters) && is_above (voter_at s.live.voters v) above) ≡ t
+rebirth_ok : (b : Bounds) → RunPremises b → (s : Saved) → SavedOk b s → (v above : ℕ) → IsOver s v → (t : Bool) → (nat_lt v (length s.live.voters) && is_above (voter_at s.live.voters v) above) ≡ t
     → SavedOk b (be_reborn t s v above)
 rebirth_ok b given s ok v above over false is = ok
 rebirth_ok b given s ok v above over true is =
@@ -197,7 +197,7 @@ rebirth_ok b given s ok v above over true is =
 
 -- ---- a client that starts anew
 
-anew_comes : (b : Bounds) → Given b → (x : ClientState) (clock : ℕ) → sound.IsSound x → x.stamp ≤ clock → clock ≤ x.limit → ComesBack x (anew x clock)
+anew_comes : (b : Bounds) → RunPremises b → (x : ClientState) (clock : ℕ) → sound.IsSound x → x.stamp ≤ clock → clock ≤ x.limit → ClientReturns x (anew x clock)
 anew_comes b given x clock ok least most = record {
   sound = anew_sound b given x clock ok most;
   id = refl;
@@ -218,7 +218,7 @@ inside_both : (L K : ℕ → ClientState) (c : ℕ) (z : ClientState) → ((q : 
     → is_inside (put L c z q).phase ≡ true
 inside_both L K c z behind q = elim (eqb q c) as (λ t. is_inside (cond t z (K q)).phase ≡ true → is_inside (cond t z (L q)).phase ≡ true) [ true ↦ λ e. e | false ↦ behind q ]
 
-anew_ok : (b : Bounds) → Given b → (s : Saved) → SavedOk b s → (c clock : ℕ) (t : Bool) → (nat_lt c (length s.live.clients) && is_ahead (client_at s.live.clients c) clock) ≡ t
+anew_ok : (b : Bounds) → RunPremises b → (s : Saved) → SavedOk b s → (c clock : ℕ) (t : Bool) → (nat_lt c (length s.live.clients) && is_ahead (client_at s.live.clients c) clock) ≡ t
     → SavedOk b (start_anew t s c clock)
 anew_ok b given s ok c clock false is = ok
 anew_ok b given s ok c clock true is =
@@ -250,7 +250,7 @@ anew_ok b given s ok c clock true is =
             | inr e ↦ inr (e ∙ ap (λ (f : ℕ → ClientState). f q) (sym saved) ∙ put_at (λ (a : ClientState). a ≡ K q) K c z q (λ same. absurd (apart same)) (λ _. refl))
           ]) in
           subst (λ (W : ℕ → ClientState). WorldOk b W Y s.live.sent) (put_back X c x z at)
-          (client_less b Z Y s.live.sent c z (ok.mixes Z Y before other) (subst (λ (a : ClientState). ComesBack a z) (sym (put-same X c x)) comes));
+          (client_less b Z Y s.live.sent c z (ok.mixes Z Y before other) (subst (λ (a : ClientState). ClientReturns a z) (sym (put-same X c x)) comes));
       walked = subst (λ (W : ℕ → ClientState). Walked (s.live.visible ++ events c (crash_seen (is_inside x.phase) false)) W) live
           (Walked-step s.live.visible L c z (crash_seen (is_inside x.phase) false) ok.walked (left_by x.phase)
           (λ d in_c in_d. absurd (false≢true (sym (ap (λ (a : ClientState). is_inside a.phase) (put-same L c z)) ∙ in_c))));
@@ -273,7 +273,7 @@ counted_message X Y v granted limit more (kinds.ToClient m) ok = put_at (λ (y :
     (λ same. subst (λ (k : ℕ). ReportOk (X m.client) (Y k).held m.voter m.client m.body) same ok)
     (λ other. ok)
 
-counted_ok : (b : Bounds) → Given b → (X : ℕ → ClientState) (y : VoterState) (granted limit : ℕ) → VoterOk b X y → y.granted ≤ granted → granted ≤ limit → limit ≤ b.limit
+counted_ok : (b : Bounds) → RunPremises b → (X : ℕ → ClientState) (y : VoterState) (granted limit : ℕ) → VoterOk b X y → y.granted ≤ granted → granted ≤ limit → limit ≤ b.limit
     → VoterOk b X (counted y granted limit)
 counted_ok b given X y granted limit ok more within most = record {
   sound = IsSound-counted y granted limit ok.sound more within (let few = given.limits.few_stamps in omega arith);
@@ -283,7 +283,7 @@ counted_ok b given X y granted limit ok more within most = record {
   seen = ok.seen;
 }
 
-counted_world : (b : Bounds) → Given b → (X : ℕ → ClientState) (Y : ℕ → VoterState) (sent : List Message) (v granted limit : ℕ) → WorldOk b X Y sent → (Y v).granted ≤ granted → granted ≤ limit
+counted_world : (b : Bounds) → RunPremises b → (X : ℕ → ClientState) (Y : ℕ → VoterState) (sent : List Message) (v granted limit : ℕ) → WorldOk b X Y sent → (Y v).granted ≤ granted → granted ≤ limit
     → limit ≤ b.limit → WorldOk b X (put Y v (counted (Y v) granted limit)) sent
 counted_world b given X Y sent v granted limit ok more within most =
     let z = counted (Y v) granted limit in
@@ -314,7 +314,7 @@ mix_saved lives v z within N Y other is q = elim (eqb q v) as (λ t. eqb q v ≡
 ] refl
 
 -- a live voter skips numbers, or has another limit
-recount_ok : (b : Bounds) → Given b → (s : Saved) → SavedOk b s → (v granted limit : ℕ) → v < length s.live.voters → (voter_at s.live.voters v).granted ≤ granted → granted ≤ limit → limit ≤ b.limit
+recount_ok : (b : Bounds) → RunPremises b → (s : Saved) → SavedOk b s → (v granted limit : ℕ) → v < length s.live.voters → (voter_at s.live.voters v).granted ≤ granted → granted ≤ limit → limit ≤ b.limit
     → SavedOk b (record s { live = record s.live { voters = slice_set s.live.voters v (counted (voter_at s.live.voters v) granted limit) } })
 recount_ok b given s ok v granted limit there more within most =
     let M = voter_at s.live.voters in
@@ -338,19 +338,19 @@ recount_ok b given s ok v granted limit there more within most =
       insides = ok.insides;
     }
 
-limit_ok : (b : Bounds) → Given b → (s : Saved) → SavedOk b s → (v limit : ℕ) (t : Bool) → (nat_lt v (length s.live.voters) && is_limit s v limit) ≡ t → SavedOk b (have_limit t s v limit)
+limit_ok : (b : Bounds) → RunPremises b → (s : Saved) → SavedOk b s → (v limit : ℕ) (t : Bool) → (nat_lt v (length s.live.voters) && is_limit s v limit) ≡ t → SavedOk b (have_limit t s v limit)
 limit_ok b given s ok v limit false is = ok
 limit_ok b given s ok v limit true is =
     let may = may_have b s ok.sizes.0 (λ some. ((live_ok b s ok).client_ids 0 some).limit) v limit is in
     recount_ok b given s ok v (voter_at s.live.voters v).granted limit may.within (omega arith) may.least may.most
 
-skip_ok : (b : Bounds) → Given b → (s : Saved) → SavedOk b s → (v above : ℕ) (t : Bool) → (nat_lt v (length s.live.voters) && is_above (voter_at s.live.voters v) above) ≡ t → SavedOk b (be_skipped t s v above)
+skip_ok : (b : Bounds) → RunPremises b → (s : Saved) → SavedOk b s → (v above : ℕ) (t : Bool) → (nat_lt v (length s.live.voters) && is_above (voter_at s.live.voters v) above) ≡ t → SavedOk b (be_skipped t s v above)
 skip_ok b given s ok v above false is = ok
 skip_ok b given s ok v above true is =
     let may = may_count s v above is in
     recount_ok b given s ok v above (voter_at s.live.voters v).limit may.within may.least may.most ((live_ok b s ok).voters v).limit
 
-raise_ok : (b : Bounds) → Given b → (s : Saved) → SavedOk b s → (c clock : ℕ) (t : Bool) → nat_lt c (length s.live.clients) ≡ t → SavedOk b (be_raised t s c clock)
+raise_ok : (b : Bounds) → RunPremises b → (s : Saved) → SavedOk b s → (c clock : ℕ) (t : Bool) → nat_lt c (length s.live.clients) ≡ t → SavedOk b (be_raised t s c clock)
 unfolding client.step
 raise_ok b given s ok c clock false is = ok
 raise_ok b given s ok c clock true is =
@@ -370,7 +370,7 @@ ends_within limit x (asks.Request t) ends most = absurd ends
 ends_within limit x (asks.Relinquish g) ends most = absurd ends
 ends_within limit x (asks.Release t) ends most = (let low = ends.1 in (ends.0, omega arith))
 
-hear_ok : (b : Bounds) → Given b → (s : Saved) → SavedOk b s → (m : ToVoter) → EndsOld (client_at s.live.clients m.client) m.body × EndsOld (client_at s.clients m.client) m.body → SavedOk b (hear s m)
+hear_ok : (b : Bounds) → RunPremises b → (s : Saved) → SavedOk b s → (m : ToVoter) → EndsOld (client_at s.live.clients m.client) m.body × EndsOld (client_at s.clients m.client) m.body → SavedOk b (hear s m)
 hear_ok b given s ok m ends = if_voter_one b s ok (OneVoter m.voter) (nat_lt m.voter (length s.live.voters)) m.voter _ (λ t.
     if_one b s ok (OneVoter m.voter) (is_message s m) m.client _ (λ u.
     let parts = and_parts (nat_lt m.client (length s.live.clients)) (is_request_within (client_at s.live.clients m.client).limit m.body) u in
@@ -389,7 +389,7 @@ hear_ok b given s ok m ends = if_voter_one b s ok (OneVoter m.voter) (nat_lt m.v
 
 -- ---- all that may befall
 
-orderly_ok : (b : Bounds) → Given b → (deal : Dealing) → DealsFrom b.quorums deal → (is : List Incident) (s : Saved) → SavedOk b s → AreOrderly deal s is → SavedOk b (all_befall deal is s)
+orderly_ok : (b : Bounds) → RunPremises b → (deal : Dealing) → DealsFrom b.quorums deal → (is : List Incident) (s : Saved) → SavedOk b s → AreOrderly deal s is → SavedOk b (all_befall deal is s)
 orderly_ok b given deal deals [] s ok orderly = ok
 orderly_ok b given deal deals (Happens h ∷ is) s ok orderly = orderly_ok b given deal deals is (befalls deal s (Happens h)) (happens_ok b given deal deals s ok h) orderly.1
 orderly_ok b given deal deals (Hears m ∷ is) s ok orderly = orderly_ok b given deal deals is (befalls deal s (Hears m)) (hear_ok b given s ok m orderly.0) orderly.1
@@ -404,7 +404,7 @@ every_orderly : ClientLaws → VoterLaws → (voters clients limit : ℕ) (quoru
     → SavedOk (record { voters = voters; clients = clients; limit = limit; quorums = quorums }) (all_befall deal is (begin voters clients limit))
 every_orderly cs vs voters clients limit quorums deal is limits meets deals orderly =
     let b : Bounds = record { voters = voters; clients = clients; limit = limit; quorums = quorums } in
-    let given : Given b = record { client = cs; voter = vs; limits = limits; meet = meets } in
+    let given : RunPremises b = record { client = cs; voter = vs; limits = limits; meet = meets } in
     orderly_ok b given deal deals is (begin voters clients limit) (begin_ok b given) orderly
 
 pub every_rebirth : ClientLaws → VoterLaws → (voters clients limit : ℕ) (quorums : List (List ℕ)) (deal : Dealing) (is : List Incident)

@@ -27,7 +27,7 @@ use Rattle.world_state.specs.Steps.{Dealing, WorldState, client_at, voter_at}
 use Rattle.world_state.specs.declared.step.Step.{Step}
 use Rattle.world.proofs.Claims.{Bounds}
 use Rattle.world.proofs.EveryRun.{coherent_by, run_from}
-use Rattle.world.proofs.Reached.{Given}
+use Rattle.world.proofs.Reached.{RunPremises}
 use Rattle.progress.proofs.losses.Losses.{course_at}
 use Rattle.progress.proofs.losses.Olds.{AreOld}
 use Rattle.progress.proofs.invariants.Outstanding.{IsNoted, IsNotedAt, Outstanding}
@@ -41,36 +41,36 @@ use Rattle.progress.specs.Moves.{Goes, LetsGo, Move, let_go, move, moved, steps_
 use Rattle.progress.specs.Rules.{Laws}
 use Rattle.progress.proofs.invariants.Always.{IsUpTo, WasGiven, heeds}
 use Rattle.progress.proofs.invariants.Fitting.{current_busy}
-use Rattle.progress.proofs.invariants.Kept.{IsKept, IsKept-first, IsKept-run, Keeps}
+use Rattle.progress.proofs.invariants.Kept.{WorldIsKept, IsKept-first, IsKept-run, StepsKeep}
 use Rattle.progress.proofs.run.Moves.{StaysCoherent}
 use Rattle.progress.proofs.invariants.Placed.{AskedAt, idle_ask}
 use Rattle.leases.specs.Again.{IsReachedAgain, IsReachedLive}
 use Rattle.leases.specs.Comeback.{unseen}
 use Rattle.world.specs.Incidents.{all_befall}
 use Rattle.leases.proofs.Comeback.{ClientKnown, EndLaws, Settled, idle_out, idle_world, live_known, reaches_all}
-use Rattle.leases.proofs.Numbers.{IsNamed, Lives, Numbered, Told, count}
+use Rattle.leases.proofs.Numbers.{IsNamedWithin, VoterLives, Numbered, ToldSaved, count}
 
 -- a LOCKED that was ever sent reports a grant that its voter gave
-named_given : (b : Bounds) (N : ℕ → ℕ) (v n : ℕ) (body : ClientBody) → N v ≤ n → IsNamed b N v body → IsUpTo n body
+named_given : (b : Bounds) (N : ℕ → ℕ) (v n : ℕ) (body : ClientBody) → N v ≤ n → IsNamedWithin b N v body → IsUpTo n body
 named_given b N v n (to_client.Locked t g) most named = let few = named.0 in omega arith
 named_given b N v n (to_client.Fail t) most named = tt
 named_given b N v n (to_client.Inquire g) most named = tt
 
-told_given : (b : Bounds) (N : ℕ → ℕ) (vs : List VoterState) → ((v : ℕ) → N v ≤ (voter_at vs v).granted) → (m : Message) → Told b N m → WasGiven vs m
+told_given : (b : Bounds) (N : ℕ → ℕ) (vs : List VoterState) → ((v : ℕ) → N v ≤ (voter_at vs v).granted) → (m : Message) → ToldSaved b N m → WasGiven vs m
 told_given b N vs most (kinds.ToVoter m) told = tt
 told_given b N vs most (kinds.ToClient m) told = named_given b N m.voter (voter_at vs m.voter).granted m.body (most m.voter) told.2
 
-told_asked : (b : Bounds) (N : ℕ → ℕ) (cs : List ClientState) → ((c : ℕ) → is_idle (client_at cs c).phase ≡ true) → (m : Message) → Told b N m → AskedAt cs m
+told_asked : (b : Bounds) (N : ℕ → ℕ) (cs : List ClientState) → ((c : ℕ) → is_idle (client_at cs c).phase ≡ true) → (m : Message) → ToldSaved b N m → AskedAt cs m
 told_asked b N cs idle (kinds.ToVoter m) told = idle_ask (client_at cs m.client) m.voter m.body (idle m.client)
 told_asked b N cs idle (kinds.ToClient m) told = tt
 
 -- an INQUIRE that was ever sent names a grant that is old
-named_old : (b : Bounds) (N : ℕ → ℕ) (v : ℕ) (y : VoterState) (body : ClientBody) → N v ≤ y.granted → IsNamed b N v body → IsNoted (suc y.granted) y body
+named_old : (b : Bounds) (N : ℕ → ℕ) (v : ℕ) (y : VoterState) (body : ClientBody) → N v ≤ y.granted → IsNamedWithin b N v body → IsNoted (suc y.granted) y body
 named_old b N v y (to_client.Locked t g) most named = tt
 named_old b N v y (to_client.Fail t) most named = tt
 named_old b N v y (to_client.Inquire g) most named = (omega arith, λ h held same new. absurd (omega arith))
 
-told_old : (b : Bounds) (N : ℕ → ℕ) (u : WorldState) → ((v : ℕ) → N v ≤ (voter_at u.voters v).granted) → (deal : Dealing) (m : Message) → Told b N m → IsNotedAt (course_at everybody deal u).old u.voters m
+told_old : (b : Bounds) (N : ℕ → ℕ) (u : WorldState) → ((v : ℕ) → N v ≤ (voter_at u.voters v).granted) → (deal : Dealing) (m : Message) → ToldSaved b N m → IsNotedAt (course_at everybody deal u).old u.voters m
 told_old b N u most deal (kinds.ToVoter m) told = tt
 told_old b N u most deal (kinds.ToClient m) told = named_old b N m.voter (voter_at u.voters m.voter) m.body (most m.voter) told.2
 
@@ -87,10 +87,10 @@ eased s cs front = record (unseen s).live { clients = cs; sent = front ++ s.live
 -- what `progress` rests on in such a world: all grants that were given before are old
 record Eased (deal : Dealing) (u : WorldState) : Type 0 where
   rests : Rests deal u
-  keeps : Keeps u
+  keeps : StepsKeep u
   out : Outstanding (course_at everybody deal u).old u
 
-ease : Laws → (b : Bounds) → Given b → (deal : Dealing) → DealsFrom b.quorums deal → (G : Lives) (s : Saved) → Numbered b G s → Settled b s → (cs : List ClientState) → length cs ≡ length s.live.clients
+ease : Laws → (b : Bounds) → RunPremises b → (deal : Dealing) → DealsFrom b.quorums deal → (G : VoterLives) (s : Saved) → Numbered b G s → Settled b s → (cs : List ClientState) → length cs ≡ length s.live.clients
     → ((c : ℕ) → ClientKnown b (count s.voters) s.clients c (client_at cs c)) → (front : List Message) → AllByRecursion (MessageOk (client_at cs) (voter_at s.live.voters)) front → AllByRecursion (IsInRange b.voters b.clients b.limit) front
     → ((P : Message → Type 0) → ((m : ToVoter) → P (kinds.ToVoter m)) → AllByRecursion P front) → Eased deal (eased s cs front)
 ease rules b given deal deals G s num st cs many known front fine range each =
@@ -123,7 +123,7 @@ ease rules b given deal deals G s num st cs many known front fine range each =
       keeps = record {
         always = record {
           seen = λ v c t entry runs. absurd (false≢true (sym (current_busy (client_at cs c) t runs) ∙ idle c));
-          given = AllByRecursion-append (WasGiven vs) front s.live.sent (each (WasGiven vs) (λ m. tt)) (AllByRecursion-weaker (Told b N) (WasGiven vs) (told_given b N vs num.behind) s.live.sent num.told);
+          given = AllByRecursion-append (WasGiven vs) front s.live.sent (each (WasGiven vs) (λ m. tt)) (AllByRecursion-weaker (ToldSaved b N) (WasGiven vs) (told_given b N vs num.behind) s.live.sent num.told);
         };
         fits = record {
           pairs = λ c v. record {
@@ -138,21 +138,21 @@ ease rules b given deal deals G s num st cs many known front fine range each =
         };
         placed = record {
           asked = AllByRecursion-append (AskedAt cs) front s.live.sent (each (AskedAt cs) (λ m. idle_ask (client_at cs m.client) m.voter m.body (idle m.client)))
-              (AllByRecursion-weaker (Told b N) (AskedAt cs) (told_asked b N cs idle) s.live.sent num.told);
+              (AllByRecursion-weaker (ToldSaved b N) (AskedAt cs) (told_asked b N cs idle) s.live.sent num.told);
           places = λ v c t entry runs. absurd (false≢true (sym (current_busy (client_at cs c) t runs) ∙ idle c));
           back = λ v. (st.live_voters v).back;
         };
       };
       out = record {
         noted = AllByRecursion-append (IsNotedAt old vs) front s.live.sent (each (IsNotedAt old vs) (λ m. tt))
-            (AllByRecursion-weaker (Told b N) (IsNotedAt old vs) (told_old b N (eased s cs front) num.behind deal) s.live.sent num.told);
+            (AllByRecursion-weaker (ToldSaved b N) (IsNotedAt old vs) (told_old b N (eased s cs front) num.behind deal) s.live.sent num.told);
         marks = λ d v marked new. absurd (no_mark (client_at cs d) v (known d).sound (idle d) marked);
         clear = λ d hindered v. false_from_ne_true (is_inquired (client_at cs d) v) (no_mark (client_at cs d) v (known d).sound (idle d));
       };
     }
 
 -- a client whose request has ended
-quit_known : (b : Bounds) (G : Lives) (s : Saved) → Numbered b G s → Settled b s → (c : ℕ) → ClientKnown b (count s.voters) s.clients c (quit (client_at s.live.clients c))
+quit_known : (b : Bounds) (G : VoterLives) (s : Saved) → Numbered b G s → Settled b s → (c : ℕ) → ClientKnown b (count s.voters) s.clients c (quit (client_at s.live.clients c))
 quit_known b G s num st c =
     let k = num.live_clients c in
     record { sound = (let x = client_at s.live.clients c in let o = k.sound in IsSound-clear_votes x Idle refl o.id o.some o.limit o.places.last o.stamp o.clock o.quorum (λ busy. absurd (false≢true (sym busy)))); quorum = k.quorum; id = λ w. record { id = k.id w; limit = k.limit w }; idle = refl; on = st.behind c; last = st.last c }
@@ -160,16 +160,16 @@ quit_known b G s num st c =
 -- what incidents lead to
 record Befallen (deal : Dealing) (s : Saved) : Type 0 where
   b : Bounds
-  given : Given b
+  given : RunPremises b
   deals : DealsFrom b.quorums deal
-  G : Lives
+  G : VoterLives
   num : Numbered b G s
   settled : Settled b s
 
 befallen : Laws → ClientLaws → VoterLaws → (live : Live) (deal : Dealing) (w : WorldState) (more : List Move) → (r : IsReachedLive live deal w more) → Befallen deal (all_befall deal r.incidents (begin r.voters r.clients r.limit))
 befallen rules cs vs live deal w more r =
     let b : Bounds = record { voters = r.voters; clients = r.clients; limit = r.limit; quorums = r.quorums } in
-    let given : Given b = record { client = cs; voter = vs; limits = r.limits; meet = r.meet } in
+    let given : RunPremises b = record { client = cs; voter = vs; limits = r.limits; meet = r.meet } in
     let end : EndLaws = record { finishes = rules.voter.finishes; asks_back = rules.voter.asks_back } in
     let t = reaches_all b given end deal r.deals r.incidents r.lawful in
     record { b = b; given = given; deals = r.deals; G = t.lives; num = t.num; settled = t.settled }
@@ -190,13 +190,13 @@ only_steps deal (LetsGo v ∷ moves) x lets = only_steps deal moves (move deal x
     by (Some g) is = absurd (false≢true (sym (lets.0 g is).0))
 
 -- what the laws of `progress` that name no rounds rest on
-record Begun (deal : Dealing) (w : WorldState) : Type 0 where
+record LawPremises (deal : Dealing) (w : WorldState) : Type 0 where
   first : WorldState
   eased : Eased deal first
   steps : List Step
   state : w ≡ run_of deal steps first
 
-begun : Laws → ClientLaws → VoterLaws → (deal : Dealing) (w : WorldState) → IsReachedAgain deal w → Begun deal w
+begun : Laws → ClientLaws → VoterLaws → (deal : Dealing) (w : WorldState) → IsReachedAgain deal w → LawPremises deal w
 begun rules cs vs deal w r =
     let s = all_befall deal r.incidents (begin r.voters r.clients r.limit) in
     let f = befallen rules cs vs everybody deal w [] r in
@@ -213,10 +213,10 @@ stays_so deal u e = λ steps. coherent_by e.rests.bounds e.rests.given (run_of d
 eased_sure : Laws → (live : Live) (deal : Dealing) (u : WorldState) → Eased deal u → IsSure (course_at live deal u) u
 eased_sure rules live deal u e = IsSure-first rules (course_at live deal u) u (stays_so deal u e) (record { fits = e.keeps.fits; placed = e.keeps.placed; out = e.out })
 
-pub kept_again : Laws → ClientLaws → VoterLaws → (deal : Dealing) (w : WorldState) → IsReachedAgain deal w → IsKept deal w
+pub kept_again : Laws → ClientLaws → VoterLaws → (deal : Dealing) (w : WorldState) → IsReachedAgain deal w → WorldIsKept deal w
 kept_again rules cs vs deal w r =
     let g = begun rules cs vs deal w r in
-    subst (IsKept deal) (sym g.state) (IsKept-run deal g.steps g.first (IsKept-first rules deal g.first (stays_so deal g.first g.eased) g.eased.keeps))
+    subst (WorldIsKept deal) (sym g.state) (IsKept-run deal g.steps g.first (IsKept-first rules deal g.first (stays_so deal g.first g.eased) g.eased.keeps))
 
 -- what its laws on ways in rest on
 pub record Resumes (deal : Dealing) (w : WorldState) : Type 0 where

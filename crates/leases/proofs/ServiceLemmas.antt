@@ -21,11 +21,11 @@ use Rattle.world.specs.Incidents.{Incident, Happens, Hears, IsReborn, StartsAnew
 use Rattle.world.proofs.IncidentLemmas.{counted, may_count}
 use Rattle.leases.specs.NodeRuns.{HasVoter, Places, WasSent, given_out, incidents_of, saved_after, with_voter}
 use Rattle.leases.specs.Orderly.{AreOrderly}
-use Rattle.leases.specs.Services.{Along, Befalls, IsLawfulEpisode, IsOrderlyEpisode, IsServed, LeavesVoters, MayRunIn, MayFollow, Runs, Episode, all_serve, incidents_in, incidents_served, save_after, saved_voter, serve}
+use Rattle.leases.specs.Services.{AlongEpisodes, Befalls, IsLawfulEpisode, IsOrderlyEpisode, IsServed, LeavesVoters, MayRunIn, MayFollow, Runs, Episode, all_serve, incidents_in, incidents_served, save_after, saved_voter, serve}
 use Rattle.world.proofs.Places.{voter_here, voter_others}
 use Rattle.world.proofs.Restarts.{within_or}
 use Rattle.leases.proofs.Guards.{befall-append}
-use Rattle.leases.proofs.NodeRunLemmas.{Ends, lawful-append, node_leads, node_orderly, put_has}
+use Rattle.leases.proofs.NodeRunLemmas.{RunEnds, lawful-append, node_leads, node_orderly, put_has}
 use Rattle.leases.proofs.LifeLemmas.{as_mid, set_own}
 
 -- ---- a new service
@@ -130,11 +130,11 @@ skipped_served s v above true is served = recount_served s v above (voter_at s.l
 
 run_ends : VoterLaws → (sure : Type 0) (deal : Dealing) (s : Saved) (v : ℕ) (places : Places) (events : List nodes.Event) → IsServed s → MayRunIn s v places events
     → (sure → AllByRecursion (WasSent places) events)
-    → Ends sure deal s v (incidents_of places (saved_voter s v) events) (saved_after (saved_voter s v) events) (given_out (saved_voter s v) events)
+    → RunEnds sure deal s v (incidents_of places (saved_voter s v) events) (saved_after (saved_voter s v) events) (given_out (saved_voter s v) events)
 run_ends laws sure deal s v places events served may was =
     let y = saved_voter s v in
     let has = served v may.there in
-    subst (λ k. Ends sure deal s k (incidents_of places y events) (saved_after y events) (given_out y events)) has.id
+    subst (λ k. RunEnds sure deal s k (incidents_of places y events) (saved_after y events) (given_out y events)) has.id
     (node_leads laws sure deal s places y events (record {
       voter = subst (λ k. HasVoter s k y) (sym has.id) has;
       places_are = may.places_are;
@@ -152,7 +152,7 @@ episode_served laws deal s (Befalls i) served may = may
 episode_served laws deal s (Runs v places events) served may =
     run_served s v (saved_after (saved_voter s v) events) (given_out (saved_voter s v) events) served (λ _. (run_ends laws ⊥ deal s v places events served may (λ no. absurd no)).has)
 
-pub episodes_led : VoterLaws → (deal : Dealing) (ts : List Episode) (s : Saved) → IsServed s → Along deal (MayFollow deal) s ts → all_befall deal (incidents_served deal s ts) s ≡ all_serve deal s ts
+pub episodes_led : VoterLaws → (deal : Dealing) (ts : List Episode) (s : Saved) → IsServed s → AlongEpisodes deal (MayFollow deal) s ts → all_befall deal (incidents_served deal s ts) s ≡ all_serve deal s ts
 episodes_led laws deal [] s served may = refl
 episodes_led laws deal (t ∷ ts) s served may =
     let rest = incidents_served deal (serve deal s t) ts in
@@ -173,7 +173,7 @@ episode_lawful : VoterLaws → (deal : Dealing) (s : Saved) (t : Episode) → Is
 episode_lawful laws deal s (Befalls i) served may lawful = (lawful, (save_may deal (befalls deal s i) i).0)
 episode_lawful laws deal s (Runs v places events) served may lawful = (run_ends laws (Unit {0}) deal s v places events served may (λ _. lawful)).lawful tt
 
-pub episodes_lawful : VoterLaws → (deal : Dealing) (ts : List Episode) (s : Saved) → IsServed s → Along deal (MayFollow deal) s ts → Along deal IsLawfulEpisode s ts → AreLawful deal s (incidents_served deal s ts)
+pub episodes_lawful : VoterLaws → (deal : Dealing) (ts : List Episode) (s : Saved) → IsServed s → AlongEpisodes deal (MayFollow deal) s ts → AlongEpisodes deal IsLawfulEpisode s ts → AreLawful deal s (incidents_served deal s ts)
 episodes_lawful laws deal [] s served may lawful = tt
 episodes_lawful laws deal (t ∷ ts) s served may lawful =
     lawful-append deal (incidents_in s t) (incidents_served deal (serve deal s t) ts) s (episode_lawful laws deal s t served may.0 lawful.0)
@@ -188,7 +188,7 @@ episode_orderly : (deal : Dealing) (s : Saved) (t : Episode) → IsOrderlyEpisod
 episode_orderly deal s (Befalls i) orderly = (orderly, (save_may deal (befalls deal s i) i).1)
 episode_orderly deal s (Runs v places events) orderly = node_orderly deal s places (saved_voter s v) events orderly.0 orderly.1
 
-pub episodes_orderly : VoterLaws → (deal : Dealing) (ts : List Episode) (s : Saved) → IsServed s → Along deal (MayFollow deal) s ts → Along deal IsOrderlyEpisode s ts → AreOrderly deal s (incidents_served deal s ts)
+pub episodes_orderly : VoterLaws → (deal : Dealing) (ts : List Episode) (s : Saved) → IsServed s → AlongEpisodes deal (MayFollow deal) s ts → AlongEpisodes deal IsOrderlyEpisode s ts → AreOrderly deal s (incidents_served deal s ts)
 episodes_orderly laws deal [] s served may orderly = tt
 episodes_orderly laws deal (t ∷ ts) s served may orderly =
     orderly-append deal (incidents_in s t) (incidents_served deal (serve deal s t) ts) s (episode_orderly deal s t orderly.0)

@@ -50,9 +50,9 @@ incidents_served deal s [] = []
 incidents_served deal s (t ∷ ts) = incidents_in s t ++ incidents_served deal (serve deal s t) ts
 
 -- this holds of each episode, and of the service when it comes
-abbrev pub Along : Dealing → (Saved → Episode → Type 0) → Saved → List Episode → Type 0
-Along deal P s [] = Unit {0}
-Along deal P s (t ∷ ts) = P s t × Along deal P (serve deal s t) ts
+abbrev pub AlongEpisodes : Dealing → (Saved → Episode → Type 0) → Saved → List Episode → Type 0
+AlongEpisodes deal P s [] = Unit {0}
+AlongEpisodes deal P s (t ∷ ts) = P s t × AlongEpisodes deal P (serve deal s t) ts
 
 -- Each voter of the service has one state, live and saved, and each client of which it has a request is
 -- there: between two episodes a voter's node has nothing that is not saved.

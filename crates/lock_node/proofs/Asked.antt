@@ -29,7 +29,7 @@ use Rattle.voter_node.specs.Lives.{Fate, HasLimit, IsReborn, IsSkipped, be_rebor
 use Rattle.voter_node.specs.Nodes as nodes
 use Rattle.lock_node.specs.Letters.{Letter, hearer, letter_to, letters_of, may_say, subject}
 use Rattle.lock_node.specs.Locks.{Begins, Calls, Crashes, Event, Extends, IsForgotten, LetsGo, LockNode, Reminds, Saves, Skips, Speaks, all_leave, alters, forgets, happens, leaves, letters_by, moves, outcome_at, request_turn, turn_of, turns_of}
-use Rattle.lock_node.proofs.LockLemmas.{IsAltered, IsStep, evicts, letter_lock, limit_keeps, one_filtered, one_of_two, reminds, set_by, skip_keeps, takes}
+use Rattle.lock_node.proofs.LockLemmas.{IsAltered, StepsVoter, evicts, letter_lock, limit_keeps, one_filtered, one_of_two, reminds, set_by, skip_keeps, takes}
 
 -- ---- one number
 
@@ -92,8 +92,8 @@ pub record Tells (v : VoterState) (New : ℕ → ℕ → Type 0) (o : Outcome) :
   pub entries : (client stamp : ℕ) → IsEntry o.state client stamp → IsEntry v client stamp ⊎ New client stamp
   pub heard : AllReport o.state.held o.replies
 
-abbrev Nobody : ℕ → ℕ → Type 0
-Nobody client stamp = ⊥
+abbrev NobodyAsked : ℕ → ℕ → Type 0
+NobodyAsked client stamp = ⊥
 
 pub take_tells : (v : VoterState) (m : ToVoter) (o : Outcome) → step v m ≡ Some o → Tells v (Brings m.client m.body) o
 take_tells v m o is = (let meets = MeetsContract-step v m o is in record { entries = meets.entries; heard = meets.heard })
@@ -101,24 +101,24 @@ take_tells v m o is = (let meets = MeetsContract-step v m o is in record { entri
 nothing_tells : (v : VoterState) (New : ℕ → ℕ → Type 0) (o : Outcome) → Some (no_reply v) ≡ Some o → Tells v New o
 nothing_tells v New o is = subst (λ (x : Outcome). Tells v New x) (same_Some (no_reply v) o is) (record { entries = λ c s at. inl at; heard = tt })
 
-letting_by : (b : Bool) (v : VoterState) (g : Grant) (o : Outcome) → (if b then step v (release_of v g) else Some (no_reply v)) ≡ Some o → Tells v Nobody o
+letting_by : (b : Bool) (v : VoterState) (g : Grant) (o : Outcome) → (if b then step v (release_of v g) else Some (no_reply v)) ≡ Some o → Tells v NobodyAsked o
 letting_by true v g o is = (let meets = MeetsContract-step v (release_of v g) o is in record { entries = meets.entries; heard = meets.heard })
-letting_by false v g o is = nothing_tells v Nobody o is
+letting_by false v g o is = nothing_tells v NobodyAsked o is
 
-pub letting_go : (held : Option Grant) (v : VoterState) (grant : ℕ) (o : Outcome) → evict_held held v grant ≡ Some o → Tells v Nobody o
-letting_go None v grant o is = nothing_tells v Nobody o is
+pub letting_go : (held : Option Grant) (v : VoterState) (grant : ℕ) (o : Outcome) → evict_held held v grant ≡ Some o → Tells v NobodyAsked o
+letting_go None v grant o is = nothing_tells v NobodyAsked o is
 letting_go (Some g) v grant o is = letting_by (g.grant == grant) v g o is
 
-pub remind_tells : (n : nodes.Node) (o : Outcome) → outcome_at n nodes.Reminds ≡ Some o → Tells n.live Nobody o
+pub remind_tells : (n : nodes.Node) (o : Outcome) → outcome_at n nodes.Reminds ≡ Some o → Tells n.live NobodyAsked o
 remind_tells n o is =
     let reminder : Outcome = record { replies = remind n.live; state = n.live } in
-    let told : Tells n.live Nobody reminder = record { entries = λ c s at. inl at; heard = AllReport-remind n.live } in
-    subst (λ (x : Outcome). Tells n.live Nobody x) (same_Some reminder o is) told
+    let told : Tells n.live NobodyAsked reminder = record { entries = λ c s at. inl at; heard = AllReport-remind n.live } in
+    subst (λ (x : Outcome). Tells n.live NobodyAsked x) (same_Some reminder o is) told
 
 -- ---- all numbers and all locks
 
 -- of one lock: each session whose request is granted or waits asked, and so did whoever hears of a grant
-pub record IsServed (at : ℕ) (r : ℕ → Row) (h : ℕ → Voter) (n : LockNode) : Type 0 where
+pub record EachAsked (at : ℕ) (r : ℕ → Row) (h : ℕ → Voter) (n : LockNode) : Type 0 where
   pub led : (c : ℕ) → Led (r c) (h c)
   pub live : (c : ℕ) → n.rows c ≡ (h c).live
   pub saved : (c : ℕ) → n.saved c ≡ (h c).saved
@@ -129,12 +129,12 @@ pub record IsServed (at : ℕ) (r : ℕ → Row) (h : ℕ → Voter) (n : LockNo
       → (epoch : ℕ) × IsOneOf (record { session = l.session; epoch = epoch; stamp = t }) (h l.message.client).took
 
 -- who hears of a stamp
-record Hears (row : Row) (t s : ℕ) : Type 0 where
+record HearsStamp (row : Row) (t s : ℕ) : Type 0 where
   of_session : row.session ≡ Some s
   above : row.base < t
 
 hears_of : (o : Option ℕ) (row : Row) (t lock : ℕ) (m : ToClient) (l : Letter) → row.session ≡ o → row.base < t
-    → IsOneOf l (letter_to o lock m) → Hears row t l.session × (l.message ≡ m)
+    → IsOneOf l (letter_to o lock m) → HearsStamp row t l.session × (l.message ≡ m)
 hears_of None row t lock m l at less is = absurd is
 hears_of (Some s) row t lock m l at less is = elim is [
   | inl here ↦ (record { of_session = at ∙ ap (λ (x : Letter). Some x.session) (sym here); above = less }, ap (λ (x : Letter). x.message) here)
@@ -142,7 +142,7 @@ hears_of (Some s) row t lock m l at less is = elim is [
 ]
 
 hears_by : (row : Row) (t : ℕ) (b : Bool) (lock : ℕ) (m : ToClient) (l : Letter) → nat_lt row.base t ≡ b
-    → IsOneOf l (letter_to (if b then row.session else None) lock m) → Hears row t l.session × (l.message ≡ m)
+    → IsOneOf l (letter_to (if b then row.session else None) lock m) → HearsStamp row t l.session × (l.message ≡ m)
 hears_by row t false lock m l e is = absurd is
 hears_by row t true lock m l e is =
     let less : row.base < t = grind (arith, nat_tests) in
@@ -187,20 +187,20 @@ heard_asked h rs r lock v (m ∷ ms) led live asked heard l t grant is body =
 -- ---- what events are to a number
 
 -- the number asked more, and else is as it was
-record Grows (v w : Voter) : Type 0 where
+record AskedGrows (v w : Voter) : Type 0 where
   live : w.live ≡ v.live
   saved : w.saved ≡ v.saved
   kept : w.kept ≡ v.kept
   took : (u : Use) → IsOneOf u v.took → IsOneOf u w.took
 
-same_voter : (v : Voter) → Grows v v
+same_voter : (v : Voter) → AskedGrows v v
 same_voter v = record { live = refl; saved = refl; kept = refl; took = λ u is. is }
 
 one_more : (u x : Use) (uses : List Use) (b : Bool) → IsOneOf u uses → IsOneOf u (if b then x ∷ uses else uses)
 one_more u x uses true is = inr is
 one_more u x uses false is = is
 
-request_grows : (v : Voter) (s e : ℕ) (body : VoterBody) → Grows v (rows.after_turns v (request_turn s e body))
+request_grows : (v : Voter) (s e : ℕ) (body : VoterBody) → AskedGrows v (rows.after_turns v (request_turn s e body))
 request_grows v s e (asks.Request stamp) = record {
   live = refl;
   saved = refl;
@@ -210,15 +210,15 @@ request_grows v s e (asks.Request stamp) = record {
 request_grows v s e (asks.Relinquish grant) = same_voter v
 request_grows v s e (asks.Release stamp) = same_voter v
 
-speaks_grows : (v : Voter) (b : Bool) (s e : ℕ) (body : VoterBody) → Grows v (rows.after_turns v (if b then request_turn s e body else []))
+speaks_grows : (v : Voter) (b : Bool) (s e : ℕ) (body : VoterBody) → AskedGrows v (rows.after_turns v (if b then request_turn s e body else []))
 speaks_grows v true s e body = request_grows v s e body
 speaks_grows v false s e body = same_voter v
 
-asked_more : (v w : Voter) (t : ℕ) → Grows v w → Asked v.took t → Asked w.took t
+asked_more : (v w : Voter) (t : ℕ) → AskedGrows v w → Asked v.took t → Asked w.took t
 asked_more v w t grows asked = (asked.0, asked.1, grows.took _ asked.2)
 
 -- the same process, once numbers asked more
-grown : (at : ℕ) (r : ℕ → Row) (h k : ℕ → Voter) (n : LockNode) → IsServed at r h n → ((c : ℕ) → Led (r c) (k c)) → ((c : ℕ) → Grows (h c) (k c)) → IsServed at r k n
+grown : (at : ℕ) (r : ℕ → Row) (h k : ℕ → Voter) (n : LockNode) → EachAsked at r h n → ((c : ℕ) → Led (r c) (k c)) → ((c : ℕ) → AskedGrows (h c) (k c)) → EachAsked at r k n
 grown at r h k n is led grows = record {
   led = led;
   live = λ c. is.live c ∙ sym (grows c).live;
@@ -246,7 +246,7 @@ saved_after node true None = refl
 saved_after node true (Some x) = refl
 
 letters_after : (at : ℕ) (r : ℕ → Row) (h : ℕ → Voter) (n : LockNode) (lock : ℕ) (node : nodes.Node) (New : ℕ → ℕ → Type 0) (b : Bool) (o : Option Outcome)
-    → IsServed at r h n → ((x : Outcome) → o ≡ Some x → Tells node.live New x) → ((c t : ℕ) → New c t → Asked (h c).took t)
+    → EachAsked at r h n → ((x : Outcome) → o ≡ Some x → Tells node.live New x) → ((c t : ℕ) → New c t → Asked (h c).took t)
     → ((c t : ℕ) → IsEntry node.live c t → Asked (h c).took t)
     → (l : Letter) (t grant : ℕ) → IsOneOf l (letters_by b n.rows lock o) → l.message.body ≡ to_client.Locked t grant
     → (epoch : ℕ) × IsOneOf (record { session = l.session; epoch = epoch; stamp = t }) (h l.message.client).took
@@ -259,9 +259,9 @@ letters_after at r h n lock node New true (Some x) is tells new old l t grant am
       | inr now ↦ new c s now
     ]) (tells x refl).heard l t grant among body
 
-moves_served : (at : ℕ) (r : ℕ → Row) (h : ℕ → Voter) (n : LockNode) (lock : ℕ) (e : nodes.Event) (New : ℕ → ℕ → Type 0) → IsServed at r h n → IsStep e
+moves_served : (at : ℕ) (r : ℕ → Row) (h : ℕ → Voter) (n : LockNode) (lock : ℕ) (e : nodes.Event) (New : ℕ → ℕ → Type 0) → EachAsked at r h n → StepsVoter e
     → ((x : Outcome) → outcome_at (n.locks lock) e ≡ Some x → Tells (n.locks lock).live New x) → (lock ≡ at → (c t : ℕ) → New c t → Asked (h c).took t)
-    → IsServed at r h (moves n lock e)
+    → EachAsked at r h (moves n lock e)
 moves_served at r h n lock e New is of tells new =
     let node = n.locks lock in
     let next = nodes.after node (nodes.node_step node e) in
@@ -321,18 +321,18 @@ brings_asked at h n lock session epoch m c t same live may new =
     (brought n (h m.client) session epoch m.client m.body c t live may new))
 
 speaks_by : (at : ℕ) (r : ℕ → Row) (h : ℕ → Voter) (n : LockNode) (lock session epoch : ℕ) (m : ToVoter) (b : Bool) → may_say (n.rows m.client) session epoch m.body ≡ b
-    → IsServed at r h n → IsServed at r (lives at h (Speaks lock session epoch m)) n
-    → IsServed at r (lives at h (Speaks lock session epoch m)) (if b then moves n lock (nodes.Takes m) else n)
+    → EachAsked at r h n → EachAsked at r (lives at h (Speaks lock session epoch m)) n
+    → EachAsked at r (lives at h (Speaks lock session epoch m)) (if b then moves n lock (nodes.Takes m) else n)
 speaks_by at r h n lock session epoch m false may is more = more
 speaks_by at r h n lock session epoch m true may is more =
     moves_served at r (lives at h (Speaks lock session epoch m)) n lock (nodes.Takes m) (Brings m.client m.body) more (takes m) (λ x at. take_tells (n.locks lock).live m x at)
     (λ same c t new. brings_asked at h n lock session epoch m c t same (is.live m.client) may new)
 
 speaks_served : (at : ℕ) (r : ℕ → Row) (h : ℕ → Voter) (n : LockNode) (lock session epoch : ℕ) (m : ToVoter) (b : Bool) → may_say (n.rows m.client) session epoch m.body ≡ b
-    → IsServed at r h n → IsServed at r (lives at h (Speaks lock session epoch m)) (if b then moves n lock (nodes.Takes m) else n)
+    → EachAsked at r h n → EachAsked at r (lives at h (Speaks lock session epoch m)) (if b then moves n lock (nodes.Takes m) else n)
 speaks_served at r h n lock session epoch m b may is =
     let k = lives at h (Speaks lock session epoch m) in
-    let more : IsServed at r k n = grown at r h k n is (λ c. led_on (r c) (h c) (turn_of at c (Speaks lock session epoch m)) (is.led c))
+    let more : EachAsked at r k n = grown at r h k n is (λ c. led_on (r c) (h c) (turn_of at c (Speaks lock session epoch m)) (is.led c))
     (λ c. speaks_grows (h c) ((m.client == c) && (lock == at)) session epoch m.body) in
     speaks_by at r h n lock session epoch m b may is more
 
@@ -350,8 +350,8 @@ calls_keep : (v : Voter) (call : rows.Call) (b : Bool) → IsCalled v (rows.afte
 calls_keep v call true = record { saved = refl; kept = refl; took = refl }
 calls_keep v call false = record { saved = refl; kept = refl; took = refl }
 
-calls_served : (at : ℕ) (r : ℕ → Row) (h : ℕ → Voter) (n : LockNode) (number : ℕ) (call : rows.Call) → IsServed at r h n
-    → IsServed at r (lives at h (Calls number call)) (happens n (Calls number call))
+calls_served : (at : ℕ) (r : ℕ → Row) (h : ℕ → Voter) (n : LockNode) (number : ℕ) (call : rows.Call) → EachAsked at r h n
+    → EachAsked at r (lives at h (Calls number call)) (happens n (Calls number call))
 calls_served at r h n number call is =
     let keep : (c : ℕ) → IsCalled (h c) (lives at h (Calls number call) c) = λ c. calls_keep (h c) call (number == c) in
     record {
@@ -366,7 +366,7 @@ calls_served at r h n number call is =
           (one.0, subst (λ (us : List Use). IsOneOf (record { session = l.session; epoch = one.0; stamp = t }) us) (sym (keep l.message.client).took) one.1));
     }
 
-saves_served : (at : ℕ) (r : ℕ → Row) (h : ℕ → Voter) (n : LockNode) → IsServed at r h n → IsServed at r (lives at h Saves) (happens n Saves)
+saves_served : (at : ℕ) (r : ℕ → Row) (h : ℕ → Voter) (n : LockNode) → EachAsked at r h n → EachAsked at r (lives at h Saves) (happens n Saves)
 unfolding nodes.node_step
 saves_served at r h n is = record {
   led = λ c. led_on (r c) (h c) (turn_of at c Saves) (is.led c);
@@ -384,7 +384,7 @@ least_entry v c t at = elim at [
   | inr waits ↦ absurd (none-some t (sym (get-empty _ c) ∙ waits))
 ]
 
-crashes_served : (at : ℕ) (r : ℕ → Row) (h : ℕ → Voter) (n : LockNode) → IsServed at r h n → IsServed at r (lives at h Crashes) (happens n Crashes)
+crashes_served : (at : ℕ) (r : ℕ → Row) (h : ℕ → Voter) (n : LockNode) → EachAsked at r h n → EachAsked at r (lives at h Crashes) (happens n Crashes)
 unfolding nodes.node_step
 crashes_served at r h n is = record {
   led = λ c. led_on (r c) (h c) (turn_of at c Crashes) (is.led c);
@@ -402,7 +402,7 @@ same_entry v w c t held waiting at = elim at [
   | inr waits ↦ inr (subst (λ (q : Waiting). get q c ≡ Some t) waiting waits)
 ]
 
-alters_served : (at : ℕ) (r : ℕ → Row) (h : ℕ → Voter) (n : LockNode) (lock : ℕ) (f : Fate) → IsServed at r h n → IsAltered (n.locks lock) (becomes (n.locks lock) f) → IsServed at r h (alters n lock f)
+alters_served : (at : ℕ) (r : ℕ → Row) (h : ℕ → Voter) (n : LockNode) (lock : ℕ) (f : Fate) → EachAsked at r h n → IsAltered (n.locks lock) (becomes (n.locks lock) f) → EachAsked at r h (alters n lock f)
 alters_served at r h n lock f is same = record {
   led = is.led;
   live = is.live;
@@ -435,8 +435,8 @@ reborn_entries n above limit true = record {
 }
 reborn_entries n above limit false = record { live = λ c t at. at; saved = λ c t at. at }
 
-forgets_served : (at : ℕ) (r : ℕ → Row) (h : ℕ → Voter) (n : LockNode) (lock above limit : ℕ) → IsServed at r h n → HasNone (n.locks lock) (becomes (n.locks lock) (IsReborn above limit))
-    → IsServed at r h (forgets n lock (IsReborn above limit))
+forgets_served : (at : ℕ) (r : ℕ → Row) (h : ℕ → Voter) (n : LockNode) (lock above limit : ℕ) → EachAsked at r h n → HasNone (n.locks lock) (becomes (n.locks lock) (IsReborn above limit))
+    → EachAsked at r h (forgets n lock (IsReborn above limit))
 forgets_served at r h n lock above limit is none = record {
   led = is.led;
   live = is.live;
@@ -449,13 +449,13 @@ forgets_served at r h n lock above limit is none = record {
   letters = λ l t grant among its body. is.letters l t grant (one_filtered (λ (x : Letter). not (lock == x.lock)) l n.outbox among).0 its body;
 }
 
-pub served_after : (at : ℕ) (r : ℕ → Row) (h : ℕ → Voter) (n : LockNode) (e : Event) → IsServed at r h n → IsServed at r (lives at h e) (happens n e)
+pub served_after : (at : ℕ) (r : ℕ → Row) (h : ℕ → Voter) (n : LockNode) (e : Event) → EachAsked at r h n → EachAsked at r (lives at h e) (happens n e)
 served_after at r h n (Calls number call) is = calls_served at r h n number call is
 served_after at r h n (Speaks lock session epoch m) is = speaks_served at r h n lock session epoch m (may_say (n.rows m.client) session epoch m.body) refl is
 served_after at r h n (LetsGo lock grant) is =
-    moves_served at r h n lock (nodes.Evicts grant) Nobody is (evicts grant) (λ x at. letting_go (n.locks lock).live.held (n.locks lock).live grant x at) (λ same c t none. absurd none)
+    moves_served at r h n lock (nodes.Evicts grant) NobodyAsked is (evicts grant) (λ x at. letting_go (n.locks lock).live.held (n.locks lock).live grant x at) (λ same c t none. absurd none)
 served_after at r h n (Reminds lock) is =
-    moves_served at r h n lock nodes.Reminds Nobody is reminds (λ x at. remind_tells (n.locks lock) x at) (λ same c t none. absurd none)
+    moves_served at r h n lock nodes.Reminds NobodyAsked is reminds (λ x at. remind_tells (n.locks lock) x at) (λ same c t none. absurd none)
 served_after at r h n (Extends lock limit) is =
     alters_served at r h n lock (HasLimit limit) is (limit_keeps (n.locks lock) limit (nat_le (n.locks lock).live.granted limit && nat_le limit max_limit))
 served_after at r h n (Skips lock above) is =
@@ -466,7 +466,7 @@ served_after at r h n Saves is = saves_served at r h n is
 served_after at r h n Crashes is = crashes_served at r h n is
 
 -- what one number asked and saved stays so
-pub kept_now : (at : ℕ) (r : ℕ → Row) (h : ℕ → Voter) (n : LockNode) (e : Event) (c : ℕ) (u : Use) → IsServed at r h n → IsOneOf u (h c).kept → IsOneOf u (lives at h e c).kept
+pub kept_now : (at : ℕ) (r : ℕ → Row) (h : ℕ → Voter) (n : LockNode) (e : Event) (c : ℕ) (u : Use) → EachAsked at r h n → IsOneOf u (h c).kept → IsOneOf u (lives at h e c).kept
 kept_now at r h n (Calls number call) c u is among = subst (λ (us : List Use). IsOneOf u us) (sym (calls_keep (h c) call (number == c)).kept) among
 kept_now at r h n (Speaks lock session epoch m) c u is among = subst (λ (us : List Use). IsOneOf u us) (sym (speaks_grows (h c) ((m.client == c) && (lock == at)) session epoch m.body).kept) among
 kept_now at r h n (LetsGo lock grant) c u is among = among
@@ -477,14 +477,14 @@ kept_now at r h n (IsForgotten lock above limit) c u is among = among
 kept_now at r h n Saves c u is among = is.grows c u among
 kept_now at r h n Crashes c u is among = among
 
-pub kept_on : (at : ℕ) (r : ℕ → Row) (h : ℕ → Voter) (n : LockNode) (es : List Event) (c : ℕ) (u : Use) → IsServed at r h n → IsOneOf u (h c).kept
+pub kept_on : (at : ℕ) (r : ℕ → Row) (h : ℕ → Voter) (n : LockNode) (es : List Event) (c : ℕ) (u : Use) → EachAsked at r h n → IsOneOf u (h c).kept
     → IsOneOf u (rows.after_turns (h c) (turns_of at c es)).kept
 kept_on at r h n [] c u is among = among
 kept_on at r h n (e ∷ es) c u is among =
     subst (λ (v : Voter). IsOneOf u v.kept) (sym (turns_more (h c) (turn_of at c e) (turns_of at c es)))
     (kept_on at r (lives at h e) (happens n e) es c u (served_after at r h n e is) (kept_now at r h n e c u is among))
 
-pub left_now : (at : ℕ) (r : ℕ → Row) (h : ℕ → Voter) (n : LockNode) (e : Event) (l : Letter) (t grant : ℕ) → IsServed at r h n → IsOneOf l (leaves n e)
+pub left_now : (at : ℕ) (r : ℕ → Row) (h : ℕ → Voter) (n : LockNode) (e : Event) (l : Letter) (t grant : ℕ) → EachAsked at r h n → IsOneOf l (leaves n e)
     → l.lock ≡ at → l.message.body ≡ to_client.Locked t grant
     → (epoch : ℕ) × IsOneOf (record { session = l.session; epoch = epoch; stamp = t }) (lives at h e l.message.client).kept
 left_now at r h n (Calls number call) l t grant is among its body = absurd among
@@ -497,7 +497,7 @@ left_now at r h n (IsForgotten lock above limit) l t grant is among its body = a
 left_now at r h n Saves l t grant is among its body = is.letters l t grant among its body
 left_now at r h n Crashes l t grant is among its body = absurd among
 
-left_then : (at : ℕ) (r : ℕ → Row) (h : ℕ → Voter) (n : LockNode) (es : List Event) (l : Letter) (t grant : ℕ) → IsServed at r h n → IsOneOf l (all_leave n es)
+left_then : (at : ℕ) (r : ℕ → Row) (h : ℕ → Voter) (n : LockNode) (es : List Event) (l : Letter) (t grant : ℕ) → EachAsked at r h n → IsOneOf l (all_leave n es)
     → l.lock ≡ at → l.message.body ≡ to_client.Locked t grant
     → (epoch : ℕ) × IsOneOf (record { session = l.session; epoch = epoch; stamp = t }) (rows.after_turns (h l.message.client) (turns_of at l.message.client es)).kept
 left_then at r h n [] l t grant is among its body = absurd among
@@ -511,7 +511,7 @@ left_then at r h n (e ∷ es) l t grant is among its body =
     ])
 
 -- a process that begins
-pub begins_served : (at : ℕ) (n : LockNode) → Begins n → IsServed at n.rows (λ c. begin (n.rows c)) n
+pub begins_served : (at : ℕ) (n : LockNode) → Begins n → EachAsked at n.rows (λ c. begin (n.rows c)) n
 begins_served at n begins = record {
   led = λ c. ([], refl);
   live = λ c. refl;

@@ -28,17 +28,17 @@ use Rattle.lock_node.specs.Letters.{Letter, hearer, letter_to, letters_of, may_s
 use Rattle.lock_node.specs.Locks.{Calls, Crashes, Event, Extends, IsForgotten, LetsGo, LockNode, Reminds, Saves, Skips, Speaks, happens, leaves, letters_by, moves, outcome_at}
 use Rattle.lock_node.specs.Thrift.{Befalls, HostTurn, host_sent}
 use Rattle.lock_node.proofs.LeavingLemmas.{leaves_then}
-use Rattle.lock_node.proofs.LockLemmas.{IsStep, evicts, one_left, one_right, reminds, takes}
+use Rattle.lock_node.proofs.LockLemmas.{StepsVoter, evicts, one_left, one_right, reminds, takes}
 
 -- ---- one step of a vote
 
 -- one of these messages says LOCKED by this grant
-abbrev Says : List ToClient → Grant → Type 0
-Says messages g = (m : ToClient) × IsOneOf m messages × (m.client ≡ g.client) × (m.body ≡ to_client.Locked g.stamp g.grant)
+abbrev SaysLocked : List ToClient → Grant → Type 0
+SaysLocked messages g = (m : ToClient) × IsOneOf m messages × (m.client ≡ g.client) × (m.body ≡ to_client.Locked g.stamp g.grant)
 
 -- who has the vote then, by a grant above this number, is told
-abbrev Tells : ℕ → Outcome → Type 0
-Tells k o = (g : Grant) → o.state.held ≡ Some g → k < g.grant → Says o.replies g
+abbrev TellsNew : ℕ → Outcome → Type 0
+TellsNew k o = (g : Grant) → o.state.held ≡ Some g → k < g.grant → SaysLocked o.replies g
 
 -- the vote has no grant above this number
 abbrev UpTo : ℕ → VoterState → Type 0
@@ -48,10 +48,10 @@ not_above : (a b : ℕ) → a < b → b ≤ a → ⊥
 not_above a b less more = grind (arith, nat_tests)
 
 -- a step that keeps the grant
-same_grant : (k : ℕ) (v : VoterState) (o : Outcome) → UpTo k v → o.state.held ≡ v.held → Tells k o
+same_grant : (k : ℕ) (v : VoterState) (o : Outcome) → UpTo k v → o.state.held ≡ v.held → TellsNew k o
 same_grant k v o up same = λ g held more. absurd (not_above k g.grant more (up g (sym same ∙ held)))
 
-tells-grant_to : (k : ℕ) (v : VoterState) (o : Option Request) → v.held ≡ None → Tells k (grant_to v o)
+tells-grant_to : (k : ℕ) (v : VoterState) (o : Option Request) → v.held ≡ None → TellsNew k (grant_to v o)
 tells-grant_to k v None free = λ g held more. absurd (none-some g (sym free ∙ held))
 tells-grant_to k v (Some r) free = λ g held more. (
     let same = same_Some (record { client = r.client; stamp = r.stamp; grant = v.granted + 1 }) g held in (
@@ -61,12 +61,12 @@ tells-grant_to k v (Some r) free = λ g held more. (
       ap (λ (x : Grant). to_client.Locked x.stamp x.grant) same,
     ))
 
-tells-grant_front : (k : ℕ) (v : VoterState) → v.held ≡ None → Tells k (grant_front v)
+tells-grant_front : (k : ℕ) (v : VoterState) → v.held ≡ None → TellsNew k (grant_front v)
 unfolding grant_front
 tells-grant_front k v free = tells-grant_to k v (front v.waiting) free
 
-tells-take_release : (k : ℕ) (v : VoterState) (c s : ℕ) → UpTo k v → Tells k (take_release v c s)
-tells-take_release k v c s up = by_release (Tells k) v c s (λ _. tells-grant_front k (free_vote (finish v c s)) refl)
+tells-take_release : (k : ℕ) (v : VoterState) (c s : ℕ) → UpTo k v → TellsNew k (take_release v c s)
+tells-take_release k v c s up = by_release (TellsNew k) v c s (λ _. tells-grant_front k (free_vote (finish v c s)) refl)
     (λ _ _ g held more. absurd (not_above k g.grant more (up g held))) (λ _ _ g held more. absurd (not_above k g.grant more (up g held)))
 
 held-join_queue_by : (waits granted : Bool) (v : VoterState) (g : Grant) (c s : ℕ) → (join_queue_by waits granted v g c s).state.held ≡ v.held
@@ -80,55 +80,55 @@ held-join_queue v g c s = held-join_queue_by _ _ v g c s
 
 -- the vote is free, and is granted by this step, or its grant stays
 abbrev TellsOrStays : ℕ → VoterState → Outcome → Type 0
-TellsOrStays k v o = Tells k o ⊎ (o.state.held ≡ v.held)
+TellsOrStays k v o = TellsNew k o ⊎ (o.state.held ≡ v.held)
 
 tells-admit : (k : ℕ) (v : VoterState) (c s : ℕ) → TellsOrStays k v (admit v c s)
 tells-admit k v c s = by_admit (TellsOrStays k v) v c s (λ free. inl (tells-grant_front k (queue v c s) free)) (λ g _. inr (held-join_queue v g c s))
 
-more_said : (first more : List ToClient) (g : Grant) → Says first g ⊎ Says more g → Says (first ++ more) g
+more_said : (first more : List ToClient) (g : Grant) → SaysLocked first g ⊎ SaysLocked more g → SaysLocked (first ++ more) g
 more_said first more g (inl says) = (says.0, one_left says.0 first more says.1, says.2, says.3)
 more_said first more g (inr says) = (says.0, one_right says.0 first more says.1, says.2, says.3)
 
-tells-both : (k : ℕ) (a b : Outcome) → Tells k a → TellsOrStays k a.state b → Tells k (and_then a b)
+tells-both : (k : ℕ) (a b : Outcome) → TellsNew k a → TellsOrStays k a.state b → TellsNew k (and_then a b)
 tells-both k a b first (inl then_told) = λ g held more. more_said a.replies b.replies g (inr (then_told g held more))
 tells-both k a b first (inr stays) = λ g held more. more_said a.replies b.replies g (inl (first g (sym stays ∙ held) more))
 
-told_of : (k : ℕ) (v : VoterState) (o : Outcome) → UpTo k v → TellsOrStays k v o → Tells k o
+told_of : (k : ℕ) (v : VoterState) (o : Outcome) → UpTo k v → TellsOrStays k v o → TellsNew k o
 told_of k v o up (inl tells) = tells
 told_of k v o up (inr stays) = same_grant k v o up stays
 
-tells-take_request : (k : ℕ) (v : VoterState) (c s : ℕ) → UpTo k v → Tells k (take_request v c s)
-tells-take_request k v c s up = by_request (Tells k) v c s (record {
+tells-take_request : (k : ℕ) (v : VoterState) (c s : ℕ) → UpTo k v → TellsNew k (take_request v c s)
+tells-take_request k v c s up = by_request (TellsNew k) v c s (record {
   stale = λ is. same_grant k v (no_reply v) up refl;
   repeated = λ is g held more. absurd (not_above k g.grant more (up g held));
   only = λ new none. told_of k v (admit v c s) up (tells-admit k v c s);
   newer = λ new t now less. tells-both k (take_release v c t) (admit (take_release v c t).state c s) (tells-take_release k v c t up) (tells-admit k (take_release v c t).state c s);
 })
 
-tells-outcome_of : (k : ℕ) (v : VoterState) (c : ℕ) (b : VoterBody) → UpTo k v → Tells k (outcome_of v c b)
+tells-outcome_of : (k : ℕ) (v : VoterState) (c : ℕ) (b : VoterBody) → UpTo k v → TellsNew k (outcome_of v c b)
 tells-outcome_of k v c (asks.Request s) up = tells-take_request k (see v s) c s up
 tells-outcome_of k v c (asks.Relinquish n) up =
-    by_relinquish (Tells k) v c n (same_grant k v (no_reply v) up refl) (λ g _. tells-grant_front k (queue (free_vote v) g.client g.stamp) refl)
+    by_relinquish (TellsNew k) v c n (same_grant k v (no_reply v) up refl) (λ g _. tells-grant_front k (queue (free_vote v) g.client g.stamp) refl)
 tells-outcome_of k v c (asks.Release s) up = tells-take_release k (see v s) c s up
 
-tells-step : (k : ℕ) (v : VoterState) (m : ToVoter) (o : Outcome) → UpTo k v → step v m ≡ Some o → Tells k o
-tells-step k v m o up is = subst (λ (x : Outcome). Tells k x) (step-Some v m o is).1 (tells-outcome_of k v m.client m.body up)
+tells-step : (k : ℕ) (v : VoterState) (m : ToVoter) (o : Outcome) → UpTo k v → step v m ≡ Some o → TellsNew k o
+tells-step k v m o up is = subst (λ (x : Outcome). TellsNew k x) (step-Some v m o is).1 (tells-outcome_of k v m.client m.body up)
 
-tells_nothing : (k : ℕ) (v : VoterState) (o : Outcome) → UpTo k v → Some (no_reply v) ≡ Some o → Tells k o
-tells_nothing k v o up is = subst (λ (x : Outcome). Tells k x) (same_Some (no_reply v) o is) (same_grant k v (no_reply v) up refl)
+tells_nothing : (k : ℕ) (v : VoterState) (o : Outcome) → UpTo k v → Some (no_reply v) ≡ Some o → TellsNew k o
+tells_nothing k v o up is = subst (λ (x : Outcome). TellsNew k x) (same_Some (no_reply v) o is) (same_grant k v (no_reply v) up refl)
 
-letting_by : (k : ℕ) (b : Bool) (v : VoterState) (g : Grant) (o : Outcome) → UpTo k v → (if b then step v (release_of v g) else Some (no_reply v)) ≡ Some o → Tells k o
+letting_by : (k : ℕ) (b : Bool) (v : VoterState) (g : Grant) (o : Outcome) → UpTo k v → (if b then step v (release_of v g) else Some (no_reply v)) ≡ Some o → TellsNew k o
 letting_by k true v g o up is = tells-step k v (release_of v g) o up is
 letting_by k false v g o up is = tells_nothing k v o up is
 
-tells-evict : (k : ℕ) (held : Option Grant) (v : VoterState) (grant : ℕ) (o : Outcome) → UpTo k v → evict_held held v grant ≡ Some o → Tells k o
+tells-evict : (k : ℕ) (held : Option Grant) (v : VoterState) (grant : ℕ) (o : Outcome) → UpTo k v → evict_held held v grant ≡ Some o → TellsNew k o
 tells-evict k None v grant o up is = tells_nothing k v o up is
 tells-evict k (Some g) v grant o up is = letting_by k (g.grant == grant) v g o up is
 
-tells-remind : (k : ℕ) (n : nodes.Node) (o : Outcome) → UpTo k n.live → outcome_at n nodes.Reminds ≡ Some o → Tells k o
+tells-remind : (k : ℕ) (n : nodes.Node) (o : Outcome) → UpTo k n.live → outcome_at n nodes.Reminds ≡ Some o → TellsNew k o
 tells-remind k n o up is =
     let now : Outcome = record { replies = remind n.live; state = n.live } in
-    subst (λ (x : Outcome). Tells k x) (same_Some now o is) (same_grant k n.live now up refl)
+    subst (λ (x : Outcome). TellsNew k x) (same_Some now o is) (same_grant k n.live now up refl)
 
 -- ---- a process
 
@@ -148,7 +148,7 @@ letter_for rs lock session held (x ∷ xs) m is hears =
       | inr there ↦ one_right l (letter_to (hearer (rs x.client) (subject held x.client x.body)) lock x) (letters_of rs lock held xs) (letter_for rs lock session held xs m there hears)
     ]
 
-told_by : (rs : ℕ → Row) (lock session : ℕ) (o : Outcome) (g : Grant) → Says o.replies g → hearer (rs g.client) g.stamp ≡ Some session
+told_by : (rs : ℕ → Row) (lock session : ℕ) (o : Outcome) (g : Grant) → SaysLocked o.replies g → hearer (rs g.client) g.stamp ≡ Some session
     → IsTold (letters_of rs lock o.state.held o.replies) lock session g
 told_by rs lock session o g says hears =
     let m = says.0 in
@@ -167,7 +167,7 @@ told_then n ts lock session g keeps told =
 
 -- the node of a lock after a step has a grant that is new
 told_node : (n : nodes.Node) (rs : ℕ → Row) (lock session : ℕ) (b : Bool) (o : Option Outcome) (g : Grant) → UpTo n.live.granted n.live
-    → ((x : Outcome) → o ≡ Some x → Tells n.live.granted x) → (nodes.after n (nodes.if_room b (nodes.after_voter n o))).live.held ≡ Some g → n.live.granted < g.grant
+    → ((x : Outcome) → o ≡ Some x → TellsNew n.live.granted x) → (nodes.after n (nodes.if_room b (nodes.after_voter n o))).live.held ≡ Some g → n.live.granted < g.grant
     → hearer (rs g.client) g.stamp ≡ Some session → IsTold (letters_by b rs lock o) lock session g
 told_node n rs lock session false o g up tells held more hears = absurd (not_above n.live.granted g.grant more (up g held))
 told_node n rs lock session true None g up tells held more hears = absurd (not_above n.live.granted g.grant more (up g held))
@@ -180,8 +180,8 @@ up_to v sound = λ g held. sound.numbered g held
 no_news : (v : VoterState) (g : Grant) → IsSound v → v.held ≡ Some g → v.granted < g.grant → ⊥
 no_news v g sound held more = not_above v.granted g.grant more (sound.numbered g held)
 
-moves_by : (n : LockNode) (other lock session : ℕ) (e : nodes.Event) (g : Grant) (b : Bool) → (other == lock) ≡ b → IsStep e → IsSound (n.locks lock).live
-    → ((x : Outcome) → outcome_at (n.locks other) e ≡ Some x → UpTo (n.locks other).live.granted (n.locks other).live → Tells (n.locks other).live.granted x)
+moves_by : (n : LockNode) (other lock session : ℕ) (e : nodes.Event) (g : Grant) (b : Bool) → (other == lock) ≡ b → StepsVoter e → IsSound (n.locks lock).live
+    → ((x : Outcome) → outcome_at (n.locks other) e ≡ Some x → UpTo (n.locks other).live.granted (n.locks other).live → TellsNew (n.locks other).live.granted x)
     → (if b then nodes.after (n.locks other) (nodes.node_step (n.locks other) e) else n.locks lock).live.held ≡ Some g → (n.locks lock).live.granted < g.grant
     → hearer (n.rows g.client) g.stamp ≡ Some session → IsTold (moves n other e).outbox lock session g
 moves_by n other lock session e g false at of sound tells held more hears = absurd (no_news (n.locks lock).live g sound held more)

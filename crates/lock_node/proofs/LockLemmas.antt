@@ -100,7 +100,7 @@ locks_after n (e ∷ es) lock =
 -- ---- letters
 
 -- a letter with a message of these, of this lock
-pub record IsOf (lock : ℕ) (messages : List ToClient) (l : Letter) : Type 0 where
+pub record IsLetterOf (lock : ℕ) (messages : List ToClient) (l : Letter) : Type 0 where
   pub of_lock : l.lock ≡ lock
   pub among : IsOneOf l.message messages
 
@@ -112,7 +112,7 @@ letter_is (Some session) lock m l is = elim is [
 ]
 
 pub letters_are : (r : ℕ → Row) (lock : ℕ) (held : Option Grant) (messages : List ToClient) (l : Letter)
-    → IsOneOf l (letters_of r lock held messages) → IsOf lock messages l
+    → IsOneOf l (letters_of r lock held messages) → IsLetterOf lock messages l
 letters_are r lock held [] l is = absurd is
 letters_are r lock held (m ∷ ms) l is =
     elim (one_of_two l (letter_to (hearer (r m.client) (subject held m.client m.body)) lock m) (letters_of r lock held ms) is) [
@@ -143,18 +143,18 @@ letter_lock r lock true None l is = absurd is
 letter_lock r lock true (Some o) l is = (letters_are r lock o.state.held o.replies l is).of_lock
 
 -- an event of a node that is a step of its voter
-pub record IsStep (e : nodes.Event) : Type 0 where
+pub record StepsVoter (e : nodes.Event) : Type 0 where
   pub is : (n : nodes.Node) → nodes.node_step n e ≡ nodes.if_room (nodes.has_room n) (nodes.after_voter n (outcome_at n e))
 
-pub takes : (m : ToVoter) → IsStep (nodes.Takes m)
+pub takes : (m : ToVoter) → StepsVoter (nodes.Takes m)
 unfolding nodes.node_step
 takes m = record { is = λ n. refl }
 
-pub evicts : (grant : ℕ) → IsStep (nodes.Evicts grant)
+pub evicts : (grant : ℕ) → StepsVoter (nodes.Evicts grant)
 unfolding nodes.node_step
 evicts grant = record { is = λ n. refl }
 
-pub reminds : IsStep nodes.Reminds
+pub reminds : StepsVoter nodes.Reminds
 unfolding nodes.node_step
 reminds = record { is = λ n. refl }
 
@@ -172,7 +172,7 @@ now_waits n r lock true (Some o) l is =
     let at = letters_are r lock o.state.held o.replies l is in
     (at.of_lock, one_right l.message n.outbox o.replies at.among)
 
-moves_wait : (n : LockNode) (lock : ℕ) (e : nodes.Event) → IsStep e → AllWait n → AllWait (moves n lock e)
+moves_wait : (n : LockNode) (lock : ℕ) (e : nodes.Event) → StepsVoter e → AllWait n → AllWait (moves n lock e)
 moves_wait n lock e of wait l is =
     let node = n.locks lock in
     let next = nodes.after node (nodes.node_step node e) in

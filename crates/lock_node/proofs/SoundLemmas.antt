@@ -19,7 +19,7 @@ use Rattle.lock_node.specs.Leaving.{AreSound}
 use Rattle.lock_node.specs.Letters.{may_say}
 use Rattle.lock_node.specs.Locks.{Calls, Crashes, Event, Extends, IsForgotten, LetsGo, LockNode, Reminds, Saves, Skips, Speaks, happens, moves, outcome_at, set}
 use Rattle.lock_node.specs.Thrift.{Befalls, HandsOut, HostTurn, host_after, host_does}
-use Rattle.lock_node.proofs.LockLemmas.{IsStep, evicts, reminds, set_by, takes}
+use Rattle.lock_node.proofs.LockLemmas.{StepsVoter, evicts, reminds, set_by, takes}
 
 -- of one node
 abbrev BothSound : nodes.Node → Type 0
@@ -81,7 +81,7 @@ sound_skipped n above true e sound = (
 set_sound : (n : LockNode) (lock : ℕ) (next : nodes.Node) → AreSound n → BothSound next → (k : ℕ) → BothSound (set n.locks lock next k)
 set_sound n lock next sound here k = set_by (λ (place : ℕ) (x : nodes.Node). BothSound x) n.locks lock next k here (sound k)
 
-moves_sound : (n : LockNode) (lock : ℕ) (e : nodes.Event) → IsStep e → AreSound n → ((x : Outcome) → outcome_at (n.locks lock) e ≡ Some x → IsSound x.state) → AreSound (moves n lock e)
+moves_sound : (n : LockNode) (lock : ℕ) (e : nodes.Event) → StepsVoter e → AreSound n → ((x : Outcome) → outcome_at (n.locks lock) e ≡ Some x → IsSound x.state) → AreSound (moves n lock e)
 moves_sound n lock e of sound then_sound =
     let node = n.locks lock in
     set_sound n lock (nodes.after node (nodes.node_step node e)) sound

@@ -32,23 +32,23 @@ use Rattle.voter_node.specs.Nodes as nodes
 use Rattle.lock_node.specs.Letters.{Letter, may_say}
 use Rattle.lock_node.specs.Locks.{Begins, Calls, Crashes, Event, Extends, IsForgotten, LetsGo, LockNode, Reminds, Saves, Skips, Speaks, happens, letters_by, moves, outcome_at, set, turn_of, turns_of}
 use Rattle.lock_node.specs.Thrift.{Befalls, HandsOut, HostTurn, MayLeaveOut, LeaveOut, host_does, events_in, handed_out, host_sends, host_sent}
-use Rattle.lock_node.proofs.LockLemmas.{IsStep, evicts, letter_lock, letters_are, one_filtered, one_of_two, reminds, set_by, set_here, takes}
-use Rattle.lock_node.proofs.Asked.{Asked, IsServed, Led, begins_served, kept_now, left_now, lives, served_after, turns_more}
+use Rattle.lock_node.proofs.LockLemmas.{StepsVoter, evicts, letter_lock, letters_are, one_filtered, one_of_two, reminds, set_by, set_here, takes}
+use Rattle.lock_node.proofs.Asked.{Asked, EachAsked, Led, begins_served, kept_now, left_now, lives, served_after, turns_more}
 
 -- ---- a vote, and what of it is on the disk
 
 -- More grants were given than are on the disk, or as many. Then the grant is that on the disk, or there is none.
-abbrev Follows : VoterState → VoterState → Type 0
-Follows disk v = (disk.granted < v.granted) ⊎ ((v.granted ≡ disk.granted) × ((v.held ≡ disk.held) ⊎ (v.held ≡ None)))
+abbrev FollowsDisk : VoterState → VoterState → Type 0
+FollowsDisk disk v = (disk.granted < v.granted) ⊎ ((v.granted ≡ disk.granted) × ((v.held ≡ disk.held) ⊎ (v.held ≡ None)))
 
 -- a LOCKED tells of the grant that is on the disk, or of one that is not there yet: disk, vote, client, stamp, grant
-abbrev Tells : VoterState → VoterState → ℕ → ℕ → ℕ → Type 0
-Tells disk v client stamp grant = (disk.granted < v.granted) ⊎ (disk.held ≡ Some (record { client = client; stamp = stamp; grant = grant }))
+abbrev TellsOfDisk : VoterState → VoterState → ℕ → ℕ → ℕ → Type 0
+TellsOfDisk disk v client stamp grant = (disk.granted < v.granted) ⊎ (disk.held ≡ Some (record { client = client; stamp = stamp; grant = grant }))
 
 -- a step of a vote, and what it says
-record Goes (v : VoterState) (o : Outcome) : Type 0 where
+record StepGoes (v : VoterState) (o : Outcome) : Type 0 where
   more : v.granted ≤ o.state.granted
-  follows : (disk : VoterState) → Follows disk v → Follows disk o.state
+  follows : (disk : VoterState) → FollowsDisk disk v → FollowsDisk disk o.state
   heard : AllReport o.state.held o.replies
 
 stays_more : (a b : ℕ) → b ≡ a → a ≤ b
@@ -69,7 +69,7 @@ moved_more true v w (inr k) = one_more v.granted w.granted k.granted
 moved_more false v w (inl k) = stays_more v.granted w.granted k.granted
 moved_more false v w (inr k) = one_more v.granted w.granted k.1.granted
 
-moved_follows : (e : Bool) (disk v w : VoterState) → VoteMoves e v w → Follows disk v → Follows disk w
+moved_follows : (e : Bool) (disk v w : VoterState) → VoteMoves e v w → FollowsDisk disk v → FollowsDisk disk w
 moved_follows e disk v w moves (inl less) = inl (still_less disk.granted v.granted w.granted less (moved_more e v w moves))
 moved_follows true disk v w (inl k) (inr at) = inr (k.granted ∙ at.0, inr k.held)
 moved_follows true disk v w (inr k) (inr at) = inl (now_less disk.granted v.granted w.granted at.0 k.granted)
@@ -82,55 +82,55 @@ moved_follows false disk v w (inl k) (inr at) = inr (
 )
 moved_follows false disk v w (inr k) (inr at) = inl (now_less disk.granted v.granted w.granted at.0 k.1.granted)
 
-stays : (v : VoterState) (replies : List ToClient) → AllReport v.held replies → Goes v (record { replies = replies; state = v })
+stays : (v : VoterState) (replies : List ToClient) → AllReport v.held replies → StepGoes v (record { replies = replies; state = v })
 stays v replies heard = record { more = stays_more v.granted v.granted refl; follows = λ disk at. at; heard = heard }
 
 take_moves : (v : VoterState) (m : ToVoter) (o : Outcome) → step v m ≡ Some o → VoteMoves (ends_grant v m.client m.body) v o.state
 take_moves v m o is = subst (λ (x : Outcome). VoteMoves (ends_grant v m.client m.body) v x.state) (step-Some v m o is).1 (VoteMoves-outcome_of v m.client m.body)
 
-take_goes : (v : VoterState) (m : ToVoter) (o : Outcome) → step v m ≡ Some o → Goes v o
+take_goes : (v : VoterState) (m : ToVoter) (o : Outcome) → step v m ≡ Some o → StepGoes v o
 take_goes v m o is = record {
   more = moved_more (ends_grant v m.client m.body) v o.state (take_moves v m o is);
   follows = λ disk at. moved_follows (ends_grant v m.client m.body) disk v o.state (take_moves v m o is) at;
   heard = (MeetsContract-step v m o is).heard;
 }
 
-nothing_goes : (v : VoterState) (o : Outcome) → Some (no_reply v) ≡ Some o → Goes v o
-nothing_goes v o is = subst (λ (x : Outcome). Goes v x) (same_Some (no_reply v) o is) (stays v [] tt)
+nothing_goes : (v : VoterState) (o : Outcome) → Some (no_reply v) ≡ Some o → StepGoes v o
+nothing_goes v o is = subst (λ (x : Outcome). StepGoes v x) (same_Some (no_reply v) o is) (stays v [] tt)
 
-letting_by : (b : Bool) (v : VoterState) (g : Grant) (o : Outcome) → (if b then step v (release_of v g) else Some (no_reply v)) ≡ Some o → Goes v o
+letting_by : (b : Bool) (v : VoterState) (g : Grant) (o : Outcome) → (if b then step v (release_of v g) else Some (no_reply v)) ≡ Some o → StepGoes v o
 letting_by true v g o is = take_goes v (release_of v g) o is
 letting_by false v g o is = nothing_goes v o is
 
-letting_goes : (held : Option Grant) (v : VoterState) (grant : ℕ) (o : Outcome) → evict_held held v grant ≡ Some o → Goes v o
+letting_goes : (held : Option Grant) (v : VoterState) (grant : ℕ) (o : Outcome) → evict_held held v grant ≡ Some o → StepGoes v o
 letting_goes None v grant o is = nothing_goes v o is
 letting_goes (Some g) v grant o is = letting_by (g.grant == grant) v g o is
 
-remind_goes : (n : nodes.Node) (o : Outcome) → outcome_at n nodes.Reminds ≡ Some o → Goes n.live o
+remind_goes : (n : nodes.Node) (o : Outcome) → outcome_at n nodes.Reminds ≡ Some o → StepGoes n.live o
 remind_goes n o is =
-    subst (λ (x : Outcome). Goes n.live x) (same_Some (record { replies = remind n.live; state = n.live }) o is) (stays n.live (remind n.live) (AllReport-remind n.live))
+    subst (λ (x : Outcome). StepGoes n.live x) (same_Some (record { replies = remind n.live; state = n.live }) o is) (stays n.live (remind n.live) (AllReport-remind n.live))
 
 -- ---- a node
 
 -- a vote stays so while nothing is saved
-record IsLater (n m : nodes.Node) : Type 0 where
+record IsUnsavedLater (n m : nodes.Node) : Type 0 where
   saved : m.saved ≡ n.saved
   more : n.live.granted ≤ m.live.granted
-  follows : (disk : VoterState) → Follows disk n.live → Follows disk m.live
+  follows : (disk : VoterState) → FollowsDisk disk n.live → FollowsDisk disk m.live
 
-later_by : (n : nodes.Node) (b : Bool) (o : Option Outcome) → ((x : Outcome) → o ≡ Some x → Goes n.live x) → IsLater n (nodes.after n (nodes.if_room b (nodes.after_voter n o)))
+later_by : (n : nodes.Node) (b : Bool) (o : Option Outcome) → ((x : Outcome) → o ≡ Some x → StepGoes n.live x) → IsUnsavedLater n (nodes.after n (nodes.if_room b (nodes.after_voter n o)))
 later_by n false o goes = record { saved = refl; more = stays_more n.live.granted n.live.granted refl; follows = λ disk at. at }
 later_by n true None goes = record { saved = refl; more = stays_more n.live.granted n.live.granted refl; follows = λ disk at. at }
 later_by n true (Some x) goes = record { saved = refl; more = (goes x refl).more; follows = (goes x refl).follows }
 
-later_limit : (n : nodes.Node) (limit : ℕ) (b : Bool) → IsLater n (have_limit b n limit)
+later_limit : (n : nodes.Node) (limit : ℕ) (b : Bool) → IsUnsavedLater n (have_limit b n limit)
 later_limit n limit true = record { saved = refl; more = stays_more n.live.granted n.live.granted refl; follows = λ disk at. at }
 later_limit n limit false = record { saved = refl; more = stays_more n.live.granted n.live.granted refl; follows = λ disk at. at }
 
 less_or_same : (a b c : ℕ) → b ≡ a → b ≤ c → (a < c) ⊎ (c ≡ a)
 less_or_same a b c e more = grind (arith, nat_tests)
 
-skipped_to : (disk v : VoterState) (above : ℕ) → v.granted ≤ above → Follows disk v → Follows disk (record v { granted = above })
+skipped_to : (disk v : VoterState) (above : ℕ) → v.granted ≤ above → FollowsDisk disk v → FollowsDisk disk (record v { granted = above })
 skipped_to disk v above more (inl less) = inl (still_less disk.granted v.granted above less more)
 skipped_to disk v above more (inr at) = elim (less_or_same disk.granted v.granted above at.0 more) [
   | inl less ↦ inl less
@@ -140,7 +140,7 @@ skipped_to disk v above more (inr at) = elim (less_or_same disk.granted v.grante
 up_to_above : (v : VoterState) (above : ℕ) → (nat_le v.granted above && nat_le above v.limit) ≡ true → v.granted ≤ above
 up_to_above v above e = grind (arith, nat_tests)
 
-later_skipped : (n : nodes.Node) (above : ℕ) (b : Bool) → (nat_le n.live.granted above && nat_le above n.live.limit) ≡ b → IsLater n (be_skipped b n above)
+later_skipped : (n : nodes.Node) (above : ℕ) (b : Bool) → (nat_le n.live.granted above && nat_le above n.live.limit) ≡ b → IsUnsavedLater n (be_skipped b n above)
 later_skipped n above true e = (
     let more = up_to_above n.live above e in
     record { saved = refl; more = more; follows = λ disk at. skipped_to disk n.live above more at })
@@ -150,16 +150,16 @@ later_skipped n above false e = record { saved = refl; more = stays_more n.live.
 
 -- of one lock: the vote follows what is on the disk, and the LOCKEDs that wait tell of grants there, or of new ones
 record IsSteady (at : ℕ) (n : LockNode) : Type 0 where
-  vote : Follows (n.locks at).saved (n.locks at).live
+  vote : FollowsDisk (n.locks at).saved (n.locks at).live
   letters : (l : Letter) (t grant : ℕ) → IsOneOf l n.outbox → l.lock ≡ at → l.message.body ≡ to_client.Locked t grant
-      → Tells (n.locks at).saved (n.locks at).live l.message.client t grant
+      → TellsOfDisk (n.locks at).saved (n.locks at).live l.message.client t grant
 
-tells_later : (n m : nodes.Node) (c t grant : ℕ) → IsLater n m → Tells n.saved n.live c t grant → Tells m.saved m.live c t grant
+tells_later : (n m : nodes.Node) (c t grant : ℕ) → IsUnsavedLater n m → TellsOfDisk n.saved n.live c t grant → TellsOfDisk m.saved m.live c t grant
 tells_later n m c t grant later (inl less) = inl (subst (λ (v : VoterState). v.granted < m.live.granted) (sym later.saved) (still_less n.saved.granted n.live.granted m.live.granted less later.more))
 tells_later n m c t grant later (inr held) = inr (ap (λ (v : VoterState). v.held) later.saved ∙ held)
 
-follows_later : (n m : nodes.Node) → IsLater n m → Follows n.saved n.live → Follows m.saved m.live
-follows_later n m later at = subst (λ (v : VoterState). Follows v m.live) (sym later.saved) (later.follows n.saved at)
+follows_later : (n m : nodes.Node) → IsUnsavedLater n m → FollowsDisk n.saved n.live → FollowsDisk m.saved m.live
+follows_later n m later at = subst (λ (v : VoterState). FollowsDisk v m.live) (sym later.saved) (later.follows n.saved at)
 
 -- a LOCKED that a vote says now
 reported : (held : Option Grant) (messages : List ToClient) (m : ToClient) (t grant : ℕ) → AllReport held messages → IsOneOf m messages → m.body ≡ to_client.Locked t grant
@@ -167,16 +167,16 @@ reported : (held : Option Grant) (messages : List ToClient) (m : ToClient) (t gr
 reported held messages m t grant heard is body =
     subst (λ (b : ClientBody). ReportsVote held m.client b) body (one_of (λ (r : ToClient). ReportsVote held r.client r.body) messages m heard is)
 
-tells_held : (disk v : VoterState) (g : Grant) → Follows disk v → v.held ≡ Some g → (disk.granted < v.granted) ⊎ (disk.held ≡ Some g)
+tells_held : (disk v : VoterState) (g : Grant) → FollowsDisk disk v → v.held ≡ Some g → (disk.granted < v.granted) ⊎ (disk.held ≡ Some g)
 tells_held disk v g (inl less) held = inl less
 tells_held disk v g (inr at) held = elim at.1 [
   | inl same ↦ inr (sym same ∙ held)
   | inr none ↦ absurd (none-some g (sym none ∙ held))
 ]
 
-said_tells : (n : nodes.Node) (rs : ℕ → Row) (lock : ℕ) (b : Bool) (o : Option Outcome) → ((x : Outcome) → o ≡ Some x → Goes n.live x) → Follows n.saved n.live
+said_tells : (n : nodes.Node) (rs : ℕ → Row) (lock : ℕ) (b : Bool) (o : Option Outcome) → ((x : Outcome) → o ≡ Some x → StepGoes n.live x) → FollowsDisk n.saved n.live
     → (l : Letter) (t grant : ℕ) → IsOneOf l (letters_by b rs lock o) → l.message.body ≡ to_client.Locked t grant
-    → Tells (nodes.after n (nodes.if_room b (nodes.after_voter n o))).saved (nodes.after n (nodes.if_room b (nodes.after_voter n o))).live l.message.client t grant
+    → TellsOfDisk (nodes.after n (nodes.if_room b (nodes.after_voter n o))).saved (nodes.after n (nodes.if_room b (nodes.after_voter n o))).live l.message.client t grant
 said_tells n rs lock false o goes at l t grant is body = absurd is
 said_tells n rs lock true None goes at l t grant is body = absurd is
 said_tells n rs lock true (Some x) goes at l t grant is body =
@@ -184,26 +184,26 @@ said_tells n rs lock true (Some x) goes at l t grant is body =
     (reported x.state.held x.replies l.message t grant (goes x refl).heard (letters_are rs lock x.state.held x.replies l is).among body)
 
 -- the node of one lock becomes another one, and its letters stay
-altered_steady : (at : ℕ) (n : LockNode) (lock : ℕ) (next : nodes.Node) (rows saved : ℕ → Row) → IsSteady at n → IsLater (n.locks lock) next
+altered_steady : (at : ℕ) (n : LockNode) (lock : ℕ) (next : nodes.Node) (rows saved : ℕ → Row) → IsSteady at n → IsUnsavedLater (n.locks lock) next
     → IsSteady at (record { rows = rows; saved = saved; locks = set n.locks lock next; outbox = n.outbox })
 altered_steady at n lock next rows saved is later = record {
-  vote = set_by (λ (k : ℕ) (x : nodes.Node). k ≡ at → Follows x.saved x.live) n.locks lock next at
-      (λ same. follows_later (n.locks lock) next later (subst (λ (k : ℕ). Follows (n.locks k).saved (n.locks k).live) (sym same) is.vote))
+  vote = set_by (λ (k : ℕ) (x : nodes.Node). k ≡ at → FollowsDisk x.saved x.live) n.locks lock next at
+      (λ same. follows_later (n.locks lock) next later (subst (λ (k : ℕ). FollowsDisk (n.locks k).saved (n.locks k).live) (sym same) is.vote))
       (λ same. is.vote) refl;
-  letters = λ l t grant among its body. set_by (λ (k : ℕ) (x : nodes.Node). k ≡ at → Tells x.saved x.live l.message.client t grant) n.locks lock next at
+  letters = λ l t grant among its body. set_by (λ (k : ℕ) (x : nodes.Node). k ≡ at → TellsOfDisk x.saved x.live l.message.client t grant) n.locks lock next at
       (λ same. tells_later (n.locks lock) next l.message.client t grant later
-      (subst (λ (k : ℕ). Tells (n.locks k).saved (n.locks k).live l.message.client t grant) (sym same) (is.letters l t grant among its body)))
+      (subst (λ (k : ℕ). TellsOfDisk (n.locks k).saved (n.locks k).live l.message.client t grant) (sym same) (is.letters l t grant among its body)))
       (λ same. is.letters l t grant among its body) refl;
 }
 
-moves_steady : (at : ℕ) (n : LockNode) (lock : ℕ) (e : nodes.Event) → IsStep e → ((x : Outcome) → outcome_at (n.locks lock) e ≡ Some x → Goes (n.locks lock).live x)
+moves_steady : (at : ℕ) (n : LockNode) (lock : ℕ) (e : nodes.Event) → StepsVoter e → ((x : Outcome) → outcome_at (n.locks lock) e ≡ Some x → StepGoes (n.locks lock).live x)
     → IsSteady at n → IsSteady at (moves n lock e)
 moves_steady at n lock e of goes is =
     let node = n.locks lock in
     let next = nodes.after node (nodes.node_step node e) in
     let plain = nodes.after node (nodes.if_room (nodes.has_room node) (nodes.after_voter node (outcome_at node e))) in
     let by : plain ≡ next = ap (λ (t : Result nodes.Turn _). nodes.after node t) (sym (of.is node)) in
-    let later : IsLater node next = subst (λ (x : nodes.Node). IsLater node x) by (later_by node (nodes.has_room node) (outcome_at node e) goes) in
+    let later : IsUnsavedLater node next = subst (λ (x : nodes.Node). IsUnsavedLater node x) by (later_by node (nodes.has_room node) (outcome_at node e) goes) in
     let old = altered_steady at n lock next n.rows n.saved is later in
     record {
       vote = old.vote;
@@ -211,12 +211,12 @@ moves_steady at n lock e of goes is =
         | inl before ↦ old.letters l t grant before its body
         | inr fresh ↦ (
             let same : lock ≡ at = sym (letter_lock n.rows lock (nodes.has_room node) (outcome_at node e) l fresh) ∙ its in
-            let here : Follows node.saved node.live = subst (λ (k : ℕ). Follows (n.locks k).saved (n.locks k).live) (sym same) is.vote in
-            let told : Tells next.saved next.live l.message.client t grant =
-            subst (λ (x : nodes.Node). Tells x.saved x.live l.message.client t grant) by
+            let here : FollowsDisk node.saved node.live = subst (λ (k : ℕ). FollowsDisk (n.locks k).saved (n.locks k).live) (sym same) is.vote in
+            let told : TellsOfDisk next.saved next.live l.message.client t grant =
+            subst (λ (x : nodes.Node). TellsOfDisk x.saved x.live l.message.client t grant) by
             (said_tells node n.rows lock (nodes.has_room node) (outcome_at node e) goes here l t grant fresh body) in
-            subst (λ (k : ℕ). Tells (set n.locks lock next k).saved (set n.locks lock next k).live l.message.client t grant) same
-            (set_here (λ (x : nodes.Node). Tells x.saved x.live l.message.client t grant) n.locks lock next told))
+            subst (λ (k : ℕ). TellsOfDisk (set n.locks lock next k).saved (set n.locks lock next k).live l.message.client t grant) same
+            (set_here (λ (x : nodes.Node). TellsOfDisk x.saved x.live l.message.client t grant) n.locks lock next told))
       ];
     }
 
@@ -224,28 +224,28 @@ speaks_steady : (at : ℕ) (n : LockNode) (lock : ℕ) (m : ToVoter) (b : Bool) 
 speaks_steady at n lock m true is = moves_steady at n lock (nodes.Takes m) (takes m) (λ x made. take_goes (n.locks lock).live m x made) is
 speaks_steady at n lock m false is = is
 
-same_follows : (v : VoterState) → Follows v v
+same_follows : (v : VoterState) → FollowsDisk v v
 same_follows v = inr (refl, inl refl)
 
-reborn_follows : (n : nodes.Node) (above limit : ℕ) (b : Bool) → Follows n.saved n.live → Follows (be_reborn b n above limit).saved (be_reborn b n above limit).live
+reborn_follows : (n : nodes.Node) (above limit : ℕ) (b : Bool) → FollowsDisk n.saved n.live → FollowsDisk (be_reborn b n above limit).saved (be_reborn b n above limit).live
 reborn_follows n above limit true at = same_follows (be_reborn true n above limit).live
 reborn_follows n above limit false at = at
 
 -- the node of one lock becomes another one, and its letters are gone
-gone_steady : (at : ℕ) (n : LockNode) (lock : ℕ) (next : nodes.Node) → IsSteady at n → (Follows (n.locks lock).saved (n.locks lock).live → Follows next.saved next.live)
+gone_steady : (at : ℕ) (n : LockNode) (lock : ℕ) (next : nodes.Node) → IsSteady at n → (FollowsDisk (n.locks lock).saved (n.locks lock).live → FollowsDisk next.saved next.live)
     → IsSteady at (record { rows = n.rows; saved = n.saved; locks = set n.locks lock next; outbox = filter (λ l. not (lock == l.lock)) n.outbox })
 gone_steady at n lock next is follows = record {
-  vote = set_by (λ (k : ℕ) (x : nodes.Node). k ≡ at → Follows x.saved x.live) n.locks lock next at
-      (λ same. follows (subst (λ (k : ℕ). Follows (n.locks k).saved (n.locks k).live) (sym same) is.vote))
+  vote = set_by (λ (k : ℕ) (x : nodes.Node). k ≡ at → FollowsDisk x.saved x.live) n.locks lock next at
+      (λ same. follows (subst (λ (k : ℕ). FollowsDisk (n.locks k).saved (n.locks k).live) (sym same) is.vote))
       (λ same. is.vote) refl;
   letters = λ l t grant among its body. (
       let one = one_filtered (λ (x : Letter). not (lock == x.lock)) l n.outbox among in
-      set_by (λ (k : ℕ) (x : nodes.Node). k ≡ at → Tells x.saved x.live l.message.client t grant) n.locks lock next at
+      set_by (λ (k : ℕ) (x : nodes.Node). k ≡ at → TellsOfDisk x.saved x.live l.message.client t grant) n.locks lock next at
       (λ same. absurd (false≢true (sym (ap not (eq-eqb lock l.lock (same ∙ sym its))) ∙ one.1)))
       (λ same. is.letters l t grant one.0 its body) refl);
 }
 
-silent_steady : (at : ℕ) (n : LockNode) → n.outbox ≡ [] → Follows (n.locks at).saved (n.locks at).live → IsSteady at n
+silent_steady : (at : ℕ) (n : LockNode) → n.outbox ≡ [] → FollowsDisk (n.locks at).saved (n.locks at).live → IsSteady at n
 silent_steady at n none follows = record {
   vote = follows;
   letters = λ l t grant among its body. absurd (subst (λ (ls : List Letter). IsOneOf l ls) none among);
@@ -276,7 +276,7 @@ steady_turn at n (HandsOut lock) is = gone_steady at n lock (handed_out (n.locks
 -- ---- whose requests are on the disk
 
 -- letters of a lock leave, and nothing is saved: who is served is the same
-served_out : (at : ℕ) (r : ℕ → Row) (h : ℕ → Voter) (n : LockNode) (lock : ℕ) → IsServed at r h n → IsServed at r h (host_does n (HandsOut lock))
+served_out : (at : ℕ) (r : ℕ → Row) (h : ℕ → Voter) (n : LockNode) (lock : ℕ) → EachAsked at r h n → EachAsked at r h (host_does n (HandsOut lock))
 served_out at r h n lock is = record {
   led = is.led;
   live = is.live;
@@ -299,7 +299,7 @@ not_less : (a b : ℕ) → a ≡ b → a < b → ⊥
 not_less a b e less = grind (arith, nat_tests)
 
 -- a LOCKED that leaves with no save is of a request that is on the disk
-kept_one : (at : ℕ) (r : ℕ → Row) (h : ℕ → Voter) (n : LockNode) (l : Letter) (t grant : ℕ) → IsServed at r h n → IsSteady at n → HaveSameLeast (n.locks at).saved (n.locks at).live
+kept_one : (at : ℕ) (r : ℕ → Row) (h : ℕ → Voter) (n : LockNode) (l : Letter) (t grant : ℕ) → EachAsked at r h n → IsSteady at n → HaveSameLeast (n.locks at).saved (n.locks at).live
     → IsOneOf l n.outbox → l.lock ≡ at → l.message.body ≡ to_client.Locked t grant
     → (epoch : ℕ) × IsOneOf (record { session = l.session; epoch = epoch; stamp = t }) (h l.message.client).kept
 kept_one at r h n l t grant is steady same among its body =
@@ -319,11 +319,11 @@ abbrev lives_by : ℕ → (ℕ → Voter) → HostTurn → ℕ → Voter
 lives_by at h (Befalls e) = lives at h e
 lives_by at h (HandsOut lock) = h
 
-served_turn : (at : ℕ) (r : ℕ → Row) (h : ℕ → Voter) (n : LockNode) (t : HostTurn) → IsServed at r h n → IsServed at r (lives_by at h t) (host_does n t)
+served_turn : (at : ℕ) (r : ℕ → Row) (h : ℕ → Voter) (n : LockNode) (t : HostTurn) → EachAsked at r h n → EachAsked at r (lives_by at h t) (host_does n t)
 served_turn at r h n (Befalls e) is = served_after at r h n e is
 served_turn at r h n (HandsOut lock) is = served_out at r h n lock is
 
-out_now : (at : ℕ) (r : ℕ → Row) (h : ℕ → Voter) (n : LockNode) (t : HostTurn) (l : Letter) (s grant : ℕ) → IsServed at r h n → IsSteady at n → MayLeaveOut n t
+out_now : (at : ℕ) (r : ℕ → Row) (h : ℕ → Voter) (n : LockNode) (t : HostTurn) (l : Letter) (s grant : ℕ) → EachAsked at r h n → IsSteady at n → MayLeaveOut n t
     → IsOneOf l (host_sends n t) → l.lock ≡ at → l.message.body ≡ to_client.Locked s grant
     → (epoch : ℕ) × IsOneOf (record { session = l.session; epoch = epoch; stamp = s }) (lives_by at h t l.message.client).kept
 out_now at r h n (Befalls e) l s grant is steady may among its body = left_now at r h n e l s grant is among its body
@@ -340,14 +340,14 @@ first_turn : (at : ℕ) (h : ℕ → Voter) (t : HostTurn) (ts : List HostTurn) 
 first_turn at h (Befalls e) ts c = ap (λ (v : Voter). v.kept) (sym (turns_more (h c) (turn_of at c e) (turns_of at c (events_in ts))))
 first_turn at h (HandsOut lock) ts c = refl
 
-stays_kept : (at : ℕ) (r : ℕ → Row) (h : ℕ → Voter) (n : LockNode) (ts : List HostTurn) (c : ℕ) (u : Use) → IsServed at r h n → IsOneOf u (h c).kept → IsOneOf u (kept_by at h ts c)
+stays_kept : (at : ℕ) (r : ℕ → Row) (h : ℕ → Voter) (n : LockNode) (ts : List HostTurn) (c : ℕ) (u : Use) → EachAsked at r h n → IsOneOf u (h c).kept → IsOneOf u (kept_by at h ts c)
 stays_kept at r h n [] c u is among = among
 stays_kept at r h n (Befalls e ∷ ts) c u is among =
     subst (λ (us : List Use). IsOneOf u us) (first_turn at h (Befalls e) ts c)
     (stays_kept at r (lives at h e) (happens n e) ts c u (served_after at r h n e is) (kept_now at r h n e c u is among))
 stays_kept at r h n (HandsOut lock ∷ ts) c u is among = stays_kept at r h (host_does n (HandsOut lock)) ts c u (served_out at r h n lock is) among
 
-out_then : (at : ℕ) (r : ℕ → Row) (h : ℕ → Voter) (n : LockNode) (ts : List HostTurn) (l : Letter) (s grant : ℕ) → IsServed at r h n → IsSteady at n → LeaveOut n ts
+out_then : (at : ℕ) (r : ℕ → Row) (h : ℕ → Voter) (n : LockNode) (ts : List HostTurn) (l : Letter) (s grant : ℕ) → EachAsked at r h n → IsSteady at n → LeaveOut n ts
     → IsOneOf l (host_sent n ts) → l.lock ≡ at → l.message.body ≡ to_client.Locked s grant
     → (epoch : ℕ) × IsOneOf (record { session = l.session; epoch = epoch; stamp = s }) (kept_by at h ts l.message.client)
 out_then at r h n [] l s grant is steady may among its body = absurd among
@@ -368,5 +368,5 @@ pub thrifty_reaches : (n : LockNode) (ts : List HostTurn) (l : Letter) (s grant 
     (rows.after_turns (begin (n.rows l.message.client)) (turns_of l.lock l.message.client (events_in ts))).kept
 thrifty_reaches n ts l s grant begins may among body =
     out_then l.lock n.rows (λ c. begin (n.rows c)) n ts l s grant (begins_served l.lock n begins)
-    (silent_steady l.lock n begins.waits (subst (λ (v : VoterState). Follows v (n.locks l.lock).live) (sym (begins.saved l.lock)) (same_follows (n.locks l.lock).live)))
+    (silent_steady l.lock n begins.waits (subst (λ (v : VoterState). FollowsDisk v (n.locks l.lock).live) (sym (begins.saved l.lock)) (same_follows (n.locks l.lock).live)))
     may among refl body

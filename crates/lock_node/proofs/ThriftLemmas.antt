@@ -206,27 +206,27 @@ all_lives n (e ∷ es) lock = ap (λ (fs : List Fate). fate_at lock n e ++ fs) (
 -- ---- votes that stay as they are on the disk
 
 -- what is on the disk stays, or is the vote
-abbrev IsKept : nodes.Node → nodes.Node → Type 0
-IsKept n m = (m.saved ≡ n.saved) ⊎ (m.saved ≡ m.live)
+abbrev DiskIsKept : nodes.Node → nodes.Node → Type 0
+DiskIsKept n m = (m.saved ≡ n.saved) ⊎ (m.saved ≡ m.live)
 
-kept_step : (n : nodes.Node) (b : Bool) (o : Option Outcome) → IsKept n (nodes.after n (nodes.if_room b (nodes.after_voter n o)))
+kept_step : (n : nodes.Node) (b : Bool) (o : Option Outcome) → DiskIsKept n (nodes.after n (nodes.if_room b (nodes.after_voter n o)))
 kept_step n false o = inl refl
 kept_step n true None = inl refl
 kept_step n true (Some o) = inl refl
 
-kept_reborn : (n : nodes.Node) (above limit : ℕ) (b : Bool) → IsKept n (be_reborn b n above limit)
+kept_reborn : (n : nodes.Node) (above limit : ℕ) (b : Bool) → DiskIsKept n (be_reborn b n above limit)
 kept_reborn n above limit true = inr refl
 kept_reborn n above limit false = inl refl
 
-kept_limit : (n : nodes.Node) (limit : ℕ) (b : Bool) → IsKept n (have_limit b n limit)
+kept_limit : (n : nodes.Node) (limit : ℕ) (b : Bool) → DiskIsKept n (have_limit b n limit)
 kept_limit n limit true = inl refl
 kept_limit n limit false = inl refl
 
-kept_skipped : (n : nodes.Node) (above : ℕ) (b : Bool) → IsKept n (be_skipped b n above)
+kept_skipped : (n : nodes.Node) (above : ℕ) (b : Bool) → DiskIsKept n (be_skipped b n above)
 kept_skipped n above true = inl refl
 kept_skipped n above false = inl refl
 
-kept_fate : (n : nodes.Node) (f : Fate) → IsKept n (becomes n f)
+kept_fate : (n : nodes.Node) (f : Fate) → DiskIsKept n (becomes n f)
 unfolding nodes.node_step
 kept_fate n (Meets (nodes.Takes m)) = kept_step n (nodes.has_room n) (step n.live m)
 kept_fate n (Meets (nodes.Evicts grant)) = kept_step n (nodes.has_room n) (evict n.live grant)
@@ -238,16 +238,16 @@ kept_fate n (IsReborn above limit) = kept_reborn n above limit _
 kept_fate n (HasLimit limit) = kept_limit n limit _
 kept_fate n (IsSkipped above) = kept_skipped n above _
 
-kept_set : (n : LockNode) (other : ℕ) (next : nodes.Node) (lock : ℕ) → IsKept (n.locks other) next → IsKept (n.locks lock) (set n.locks other next lock)
+kept_set : (n : LockNode) (other : ℕ) (next : nodes.Node) (lock : ℕ) → DiskIsKept (n.locks other) next → DiskIsKept (n.locks lock) (set n.locks other next lock)
 kept_set n other next lock here =
-    set_by (λ (k : ℕ) (x : nodes.Node). k ≡ lock → IsKept (n.locks lock) x) n.locks other next lock
-    (λ same. subst (λ (k : ℕ). IsKept (n.locks k) next) same here) (λ same. inl refl) refl
+    set_by (λ (k : ℕ) (x : nodes.Node). k ≡ lock → DiskIsKept (n.locks lock) x) n.locks other next lock
+    (λ same. subst (λ (k : ℕ). DiskIsKept (n.locks k) next) same here) (λ same. inl refl) refl
 
-kept_said : (n : LockNode) (other : ℕ) (m : ToVoter) (lock : ℕ) (b : Bool) → IsKept (n.locks lock) ((if b then moves n other (nodes.Takes m) else n).locks lock)
+kept_said : (n : LockNode) (other : ℕ) (m : ToVoter) (lock : ℕ) (b : Bool) → DiskIsKept (n.locks lock) ((if b then moves n other (nodes.Takes m) else n).locks lock)
 kept_said n other m lock true = kept_set n other (becomes (n.locks other) (Meets (nodes.Takes m))) lock (kept_fate (n.locks other) (Meets (nodes.Takes m)))
 kept_said n other m lock false = inl refl
 
-kept_event : (n : LockNode) (e : Event) (lock : ℕ) → IsKept (n.locks lock) ((happens n e).locks lock)
+kept_event : (n : LockNode) (e : Event) (lock : ℕ) → DiskIsKept (n.locks lock) ((happens n e).locks lock)
 kept_event n (Calls number call) lock = inl refl
 kept_event n (Speaks other session epoch m) lock = kept_said n other m lock (may_say (n.rows m.client) session epoch m.body)
 kept_event n (LetsGo other grant) lock = kept_set n other (becomes (n.locks other) (Meets (nodes.Evicts grant))) lock (kept_fate (n.locks other) (Meets (nodes.Evicts grant)))
@@ -258,11 +258,11 @@ kept_event n (IsForgotten other above limit) lock = kept_set n other (becomes (n
 kept_event n Saves lock = kept_fate (n.locks lock) (Meets nodes.IsSaved)
 kept_event n Crashes lock = kept_fate (n.locks lock) (Meets nodes.Forgets)
 
-kept_turn : (n : LockNode) (t : HostTurn) (lock : ℕ) → IsKept (n.locks lock) ((host_does n t).locks lock)
+kept_turn : (n : LockNode) (t : HostTurn) (lock : ℕ) → DiskIsKept (n.locks lock) ((host_does n t).locks lock)
 kept_turn n (Befalls e) lock = kept_event n e lock
 kept_turn n (HandsOut other) lock = kept_set n other (handed_out (n.locks other)) lock (inl refl)
 
-least_turn : (n m : nodes.Node) → IsKept n m → HaveSameLeast n.saved n.live → HaveSameLeast n.live m.live → HaveSameLeast m.saved m.live
+least_turn : (n m : nodes.Node) → DiskIsKept n m → HaveSameLeast n.saved n.live → HaveSameLeast n.live m.live → HaveSameLeast m.saved m.live
 least_turn n m (inl saved) same keeps = ap least_voter saved ∙ same ∙ keeps
 least_turn n m (inr live) same keeps = ap least_voter live
 

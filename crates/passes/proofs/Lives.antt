@@ -22,7 +22,7 @@ use Rattle.voter_node.specs.Lives.{Fate, Meets, IsReborn, HasLimit, IsSkipped, b
 use Rattle.world.specs.Rules.{VoterLaws}
 
 -- the property is kept by each thing that may befall a node
-pub record Endures (I : List ToClient → nodes.Node → Type 0) : Type 0 where
+pub record LifeKeeps (I : List ToClient → nodes.Node → Type 0) : Type 0 where
   pub limit : (told : List ToClient) (n : nodes.Node) → I told n → n.live.limit ≤ max_limit
   -- the voter makes a step, and its replies wait
   pub steps : (told : List ToClient) (n : nodes.Node) (m : ToVoter) (o : voter.Outcome) → I told n → voter.step n.live m ≡ Some o → I told (nodes.put n o)
@@ -67,20 +67,20 @@ by_voter : (I : List ToClient → nodes.Node → Type 0) (told : List ToClient) 
 by_voter I told n is None on = quiet I told n is
 by_voter I told n is (Some o) on = quiet I told (nodes.put n o) (on o refl)
 
-silent_on : (I : List ToClient → nodes.Node → Type 0) → Endures I → (told : List ToClient) (n : nodes.Node) → I told n → (o : voter.Outcome) → Some (voter.no_reply n.live) ≡ Some o → I told (nodes.put n o)
+silent_on : (I : List ToClient → nodes.Node → Type 0) → LifeKeeps I → (told : List ToClient) (n : nodes.Node) → I told n → (o : voter.Outcome) → Some (voter.no_reply n.live) ≡ Some o → I told (nodes.put n o)
 silent_on I keeps told n is o e = subst (λ (p : voter.Outcome). I told (nodes.put n p)) (same_Some (voter.no_reply n.live) o e) (keeps.reports told n [] is tt)
 
-evicted_if : (I : List ToClient → nodes.Node → Type 0) → Endures I → (told : List ToClient) (n : nodes.Node) → I told n → (m : ToVoter) (t : Bool) → (o : voter.Outcome)
+evicted_if : (I : List ToClient → nodes.Node → Type 0) → LifeKeeps I → (told : List ToClient) (n : nodes.Node) → I told n → (m : ToVoter) (t : Bool) → (o : voter.Outcome)
     → (if t then voter.step n.live m else Some (voter.no_reply n.live)) ≡ Some o → I told (nodes.put n o)
 evicted_if I keeps told n is m true o e = keeps.steps told n m o is e
 evicted_if I keeps told n is m false o e = silent_on I keeps told n is o e
 
-evicted : (I : List ToClient → nodes.Node → Type 0) → Endures I → (told : List ToClient) (n : nodes.Node) → I told n → (grant : ℕ) (held : Option Grant) (o : voter.Outcome)
+evicted : (I : List ToClient → nodes.Node → Type 0) → LifeKeeps I → (told : List ToClient) (n : nodes.Node) → I told n → (grant : ℕ) (held : Option Grant) (o : voter.Outcome)
     → evict_held held n.live grant ≡ Some o → I told (nodes.put n o)
 evicted I keeps told n is grant None o e = silent_on I keeps told n is o e
 evicted I keeps told n is grant (Some g) o e = evicted_if I keeps told n is (release_of n.live g) (g.grant == grant) o e
 
-event_on : (I : List ToClient → nodes.Node → Type 0) → Endures I → VoterLaws → (told : List ToClient) (n : nodes.Node) → I told n → (e : nodes.Event) → GoesBy I told n (nodes.node_step n e)
+event_on : (I : List ToClient → nodes.Node → Type 0) → LifeKeeps I → VoterLaws → (told : List ToClient) (n : nodes.Node) → I told n → (e : nodes.Event) → GoesBy I told n (nodes.node_step n e)
 unfolding nodes.node_step
 event_on I keeps laws told n is (nodes.Takes m) = room_on I told n is (nodes.has_room n) (nodes.after_voter n (voter.step n.live m)) (by_voter I told n is (voter.step n.live m) (λ o e. keeps.steps told n m o is e))
 event_on I keeps laws told n is (nodes.Evicts grant) = room_on I told n is (nodes.has_room n) (nodes.after_voter n (evict n.live grant)) (by_voter I told n is (evict n.live grant) (λ o e. evicted I keeps told n is grant n.live.held o e))
@@ -92,7 +92,7 @@ event_on I keeps laws told n is nodes.Forgets = quiet I told (nodes.node_of (lea
 
 -- ---- what befalls
 
-reborn_on : (I : List ToClient → nodes.Node → Type 0) → Endures I → (told : List ToClient) (n : nodes.Node) → I told n → (above limit : ℕ) (t : Bool)
+reborn_on : (I : List ToClient → nodes.Node → Type 0) → LifeKeeps I → (told : List ToClient) (n : nodes.Node) → I told n → (above limit : ℕ) (t : Bool)
     → (nat_le n.saved.granted above && (nat_le above limit && nat_le limit max_limit)) ≡ t → I told (be_reborn t n above limit)
 reborn_on I keeps told n is above limit false e = is
 reborn_on I keeps told n is above limit true e =
@@ -103,7 +103,7 @@ reborn_on I keeps told n is above limit true e =
     let few : limit ≤ max_limit = (let h = ends.1 in grind (arith, nat_tests)) in
     keeps.reborn told n above limit is least most few
 
-limit_on : (I : List ToClient → nodes.Node → Type 0) → Endures I → (told : List ToClient) (n : nodes.Node) → I told n → (limit : ℕ) (t : Bool) → (nat_le n.live.granted limit && nat_le limit max_limit) ≡ t → I told (have_limit t n limit)
+limit_on : (I : List ToClient → nodes.Node → Type 0) → LifeKeeps I → (told : List ToClient) (n : nodes.Node) → I told n → (limit : ℕ) (t : Bool) → (nat_le n.live.granted limit && nat_le limit max_limit) ≡ t → I told (have_limit t n limit)
 limit_on I keeps told n is limit false e = is
 limit_on I keeps told n is limit true e =
     let parts = and_parts (nat_le n.live.granted limit) (nat_le limit max_limit) e in
@@ -111,7 +111,7 @@ limit_on I keeps told n is limit true e =
     let most : limit ≤ max_limit = (let h = parts.1 in grind (arith, nat_tests)) in
     keeps.counts told n n.live.granted limit is (same_number n.live.granted) least most
 
-skip_on : (I : List ToClient → nodes.Node → Type 0) → Endures I → (told : List ToClient) (n : nodes.Node) → I told n → (above : ℕ) (t : Bool) → (nat_le n.live.granted above && nat_le above n.live.limit) ≡ t → I told (be_skipped t n above)
+skip_on : (I : List ToClient → nodes.Node → Type 0) → LifeKeeps I → (told : List ToClient) (n : nodes.Node) → I told n → (above : ℕ) (t : Bool) → (nat_le n.live.granted above && nat_le above n.live.limit) ≡ t → I told (be_skipped t n above)
 skip_on I keeps told n is above false e = is
 skip_on I keeps told n is above true e =
     let parts = and_parts (nat_le n.live.granted above) (nat_le above n.live.limit) e in
@@ -119,14 +119,14 @@ skip_on I keeps told n is above true e =
     let most : above ≤ n.live.limit = (let h = parts.1 in grind (arith, nat_tests)) in
     keeps.counts told n above n.live.limit is least most (keeps.limit told n is)
 
-fate_on : (I : List ToClient → nodes.Node → Type 0) → Endures I → VoterLaws → (told : List ToClient) (n : nodes.Node) → I told n → (f : Fate) → I (told ++ sends n f) (becomes n f)
+fate_on : (I : List ToClient → nodes.Node → Type 0) → LifeKeeps I → VoterLaws → (told : List ToClient) (n : nodes.Node) → I told n → (f : Fate) → I (told ++ sends n f) (becomes n f)
 fate_on I keeps laws told n is (Meets e) = event_on I keeps laws told n is e
 fate_on I keeps laws told n is (IsReborn above limit) = quiet I told (becomes n (IsReborn above limit)) (reborn_on I keeps told n is above limit _ refl)
 fate_on I keeps laws told n is (HasLimit limit) = quiet I told (becomes n (HasLimit limit)) (limit_on I keeps told n is limit _ refl)
 fate_on I keeps laws told n is (IsSkipped above) = quiet I told (becomes n (IsSkipped above)) (skip_on I keeps told n is above _ refl)
 
 -- it holds after a whole life
-pub lasts : (I : List ToClient → nodes.Node → Type 0) → Endures I → VoterLaws → (told : List ToClient) (n : nodes.Node) → I told n → (life : List Fate) → I (told ++ says n life) (node_after n life)
+pub lasts : (I : List ToClient → nodes.Node → Type 0) → LifeKeeps I → VoterLaws → (told : List ToClient) (n : nodes.Node) → I told n → (life : List Fate) → I (told ++ says n life) (node_after n life)
 lasts I keeps laws told n is [] = quiet I told n is
 lasts I keeps laws told n is (f ∷ fs) =
     subst (λ (ms : List ToClient). I ms (node_after (becomes n f) fs)) (append_assoc told (sends n f) (says (becomes n f) fs))

@@ -24,8 +24,8 @@ GivenOut = (n : LockNode) (turns : List HostTurn) (l : Letter) → Begins n → 
     → IsOneOf l.message (says (n.locks l.lock) (life_by l.lock n turns))
 
 -- what leaves reaches who asked
-abbrev pub Reaches : Type 0
-Reaches = (n : LockNode) (turns : List HostTurn) (l : Letter) (stamp grant : ℕ) → Begins n → LeaveOut n turns → IsOneOf l (host_sent n turns)
+abbrev pub LettersReach : Type 0
+LettersReach = (n : LockNode) (turns : List HostTurn) (l : Letter) (stamp grant : ℕ) → Begins n → LeaveOut n turns → IsOneOf l (host_sent n turns)
     → l.message.body ≡ to_client.Locked stamp grant
     → (epoch : ℕ) × IsOneOf (record { session = l.session; epoch = epoch; stamp = stamp }) (rows.after_turns (begin (n.rows l.message.client)) (turns_of l.lock l.message.client (events_in turns))).kept
 
@@ -79,20 +79,20 @@ runs_on quorums gave more run all is = record { idle = is.idle; may = all_may qu
 -- ---- sessions are served
 
 -- what a number has kept it took
-abbrev Keeps : Voter → Type 0
-Keeps v = (u : Use) → IsOneOf u v.kept → IsOneOf u v.took
+abbrev KeptIsTaken : Voter → Type 0
+KeptIsTaken v = (u : Use) → IsOneOf u v.kept → IsOneOf u v.took
 
 more_took : (v : Voter) (x u : Use) (b : Bool) → IsOneOf u v.took → IsOneOf u (if b then x ∷ v.took else v.took)
 more_took v x u true is = inr is
 more_took v x u false is = is
 
-keeps_turn : (v : Voter) (t : rows.Turn) → Keeps v → Keeps (rows.after_turn v t)
+keeps_turn : (v : Voter) (t : rows.Turn) → KeptIsTaken v → KeptIsTaken (rows.after_turn v t)
 keeps_turn v (rows.Calls call) keeps = keeps
 keeps_turn v (rows.Requests session epoch stamp) keeps = λ u is. more_took v (record { session = session; epoch = epoch; stamp = stamp }) u (is_taken v.live session epoch stamp) (keeps u is)
 keeps_turn v rows.Saves keeps = λ u is. is
 keeps_turn v rows.Crashes keeps = λ u is. is
 
-keeps_turns : (v : Voter) (ts : List rows.Turn) → Keeps v → Keeps (rows.after_turns v ts)
+keeps_turns : (v : Voter) (ts : List rows.Turn) → KeptIsTaken v → KeptIsTaken (rows.after_turns v ts)
 keeps_turns v [] keeps = keeps
 keeps_turns v (t ∷ ts) keeps = keeps_turns (rows.after_turn v t) ts (keeps_turn v t keeps)
 
@@ -103,7 +103,7 @@ rows_of voting lock client = record {
   deeds = λ v. (turns_lead (begin ((voting v).first.rows client)) (turns_of lock client (events_in (voting v).turns))).deeds;
 }
 
-told_took : Reaches → (voting : ℕ → Voting) (lock session v client stamp grant : ℕ) → Begins (voting v).first → LeaveOut (voting v).first (voting v).turns → Told voting lock session v client stamp grant
+told_took : LettersReach → (voting : ℕ → Voting) (lock session v client stamp grant : ℕ) → Begins (voting v).first → LeaveOut (voting v).first (voting v).turns → Told voting lock session v client stamp grant
     → TookFrom (rows_of voting lock) v client session stamp
 told_took reaches voting lock session v client stamp grant begins may told =
     let n = (voting v).first in
@@ -119,7 +119,7 @@ told_took reaches voting lock session v client stamp grant begins may told =
     let took = keeps_turns (begin (n.rows client)) (turns_of lock client es) (λ u is. is) (use_of session one.0) mine in
     (one.0, subst (λ (x : Voter). IsOneOf (use_of session one.0) x.took) (sym (turns_lead (begin (n.rows client)) (turns_of lock client es)).there) took)
 
-pub served_by : Reaches → (quorums : List (List ℕ)) (voting : ℕ → Voting) (lock : ℕ) (session : ℕ → ℕ) (runs : ℕ → Run)
+pub served_by : LettersReach → (quorums : List (List ℕ)) (voting : ℕ → Voting) (lock : ℕ) (session : ℕ → ℕ) (runs : ℕ → Run)
     → ((v : ℕ) → Begins (voting v).first) → ((v : ℕ) → LeaveOut (voting v).first (voting v).turns) → ((w : Show) → WasInside runs w → IsPass quorums (Told voting lock (session w.process)) (shown runs w))
     → ((k l : ℕ) → session k ≡ session l → k ≡ l) → AreServed (rows_of voting lock) session runs
 served_by reaches quorums voting lock session runs begins may show own = record {

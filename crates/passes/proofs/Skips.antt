@@ -21,44 +21,44 @@ use Rattle.voter_node.specs.Lives.{Fate, node_after, said, says}
 use Rattle.world.specs.Rules.{VoterLaws}
 use Rattle.passes.specs.Grants.{IsGiven, IsLocked}
 use Rattle.passes.specs.Turns.{HasSkipped}
-use Rattle.passes.proofs.Lives.{Endures, lasts, reborn_is_sound, same_number, says-join}
+use Rattle.passes.proofs.Lives.{LifeKeeps, lasts, reborn_is_sound, same_number, says-join}
 
 -- ---- numbers in messages
 
 -- the number of a LOCKED has this property
-abbrev Names : (ℕ → Type 0) → ClientBody → Type 0
-Names P (to_client.Locked s g) = P g
-Names P (to_client.Fail s) = Unit {0}
-Names P (to_client.Inquire g) = Unit {0}
+abbrev NumberIs : (ℕ → Type 0) → ClientBody → Type 0
+NumberIs P (to_client.Locked s g) = P g
+NumberIs P (to_client.Fail s) = Unit {0}
+NumberIs P (to_client.Inquire g) = Unit {0}
 
 abbrev AllName : (ℕ → Type 0) → List ToClient → Type 0
-AllName P rs = AllByRecursion (λ r. Names P r.body) rs
+AllName P rs = AllByRecursion (λ r. NumberIs P r.body) rs
 
-names_also : (P Q : ℕ → Type 0) → ((n : ℕ) → P n → Q n) → (body : ClientBody) → Names P body → Names Q body
+names_also : (P Q : ℕ → Type 0) → ((n : ℕ) → P n → Q n) → (body : ClientBody) → NumberIs P body → NumberIs Q body
 names_also P Q f (to_client.Locked s g) is = f g is
 names_also P Q f (to_client.Fail s) is = tt
 names_also P Q f (to_client.Inquire g) is = tt
 
 all_name_also : (P Q : ℕ → Type 0) → ((n : ℕ) → P n → Q n) → (rs : List ToClient) → AllName P rs → AllName Q rs
-all_name_also P Q f rs all = AllByRecursion-weaker (λ r. Names P r.body) (λ r. Names Q r.body) (λ r is. names_also P Q f r.body is) rs all
+all_name_also P Q f rs all = AllByRecursion-weaker (λ r. NumberIs P r.body) (λ r. NumberIs Q r.body) (λ r is. names_also P Q f r.body is) rs all
 
 all_name_join : (P : ℕ → Type 0) (rs ms : List ToClient) → AllName P rs → AllName P ms → AllName P (rs ++ ms)
-all_name_join P rs ms all more = AllByRecursion-append (λ r. Names P r.body) rs ms all more
+all_name_join P rs ms all more = AllByRecursion-append (λ r. NumberIs P r.body) rs ms all more
 
 -- messages about the grant that has the vote name its number
-reported : (P : ℕ → Type 0) (held : Option Grant) → ((g : Grant) → held ≡ Some g → P g.grant) → (c : ℕ) (body : ClientBody) → ReportsVote held c body → Names P body
+reported : (P : ℕ → Type 0) (held : Option Grant) → ((g : Grant) → held ≡ Some g → P g.grant) → (c : ℕ) (body : ClientBody) → ReportsVote held c body → NumberIs P body
 reported P held is c (to_client.Locked s g) vote = is (record { client = c; stamp = s; grant = g }) vote
 reported P held is c (to_client.Fail s) vote = tt
 reported P held is c (to_client.Inquire g) vote = tt
 
 all_reported : (P : ℕ → Type 0) (held : Option Grant) → ((g : Grant) → held ≡ Some g → P g.grant) → (rs : List ToClient) → AllReport held rs → AllName P rs
-all_reported P held is rs all = AllByRecursion-weaker (λ r. ReportsVote held r.client r.body) (λ r. Names P r.body) (λ r one. reported P held is r.client r.body one) rs all
+all_reported P held is rs all = AllByRecursion-weaker (λ r. ReportsVote held r.client r.body) (λ r. NumberIs P r.body) (λ r one. reported P held is r.client r.body one) rs all
 
 named_in : (P : ℕ → Type 0) (rs : List ToClient) (c s g : ℕ) → AllName P rs → IsGiven rs c s g → P g
 named_in P [] c s g all is = absurd is
 named_in P (r ∷ rs) c s g all (inl is) = here r.body all.0 is.1
   where
-    here : (body : ClientBody) → Names P body → IsLocked body s g → P g
+    here : (body : ClientBody) → NumberIs P body → IsLocked body s g → P g
     here (to_client.Locked t h) one locks = subst P locks.1 one
     here (to_client.Fail t) one locks = absurd locks
     here (to_client.Inquire t) one locks = absurd locks
@@ -91,8 +91,8 @@ held_after P y z was next (inr (inr stays)) g is = was g (sym stays.1 ∙ is)
 
 -- ---- before: the grant that is saved has the greatest number of all that left, and what waits is newer, or is of that grant
 
-abbrev IsUpTo : ℕ → ℕ → Type 0
-IsUpTo top n = n ≤ top
+abbrev IsNoMoreThan : ℕ → ℕ → Type 0
+IsNoMoreThan top n = n ≤ top
 
 -- the number was given after the last save, or is that of the grant which is saved
 abbrev IsFresh : VoterState → ℕ → Type 0
@@ -102,16 +102,16 @@ record Newest (told : List ToClient) (n : nodes.Node) : Type 0 where
   live : voter.IsSound n.live
   saved : voter.IsSound n.saved
   behind : n.saved.granted ≤ n.live.granted
-  left : AllName (IsUpTo n.saved.granted) told
-  waits : AllName (IsUpTo n.live.granted) n.outbox
-  saved_newest : (g : Grant) → n.saved.held ≡ Some g → AllName (IsUpTo g.grant) told
-  live_newest : (g : Grant) → n.live.held ≡ Some g → AllName (IsUpTo g.grant) told
-  waits_newest : (g : Grant) → n.live.held ≡ Some g → AllName (IsUpTo g.grant) n.outbox
+  left : AllName (IsNoMoreThan n.saved.granted) told
+  waits : AllName (IsNoMoreThan n.live.granted) n.outbox
+  saved_newest : (g : Grant) → n.saved.held ≡ Some g → AllName (IsNoMoreThan g.grant) told
+  live_newest : (g : Grant) → n.live.held ≡ Some g → AllName (IsNoMoreThan g.grant) told
+  waits_newest : (g : Grant) → n.live.held ≡ Some g → AllName (IsNoMoreThan g.grant) n.outbox
   live_fresh : (g : Grant) → n.live.held ≡ Some g → IsFresh n.saved g.grant
   waits_fresh : AllName (IsFresh n.saved) n.outbox
 
-up_to_more : (low top : ℕ) → low ≤ top → (rs : List ToClient) → AllName (IsUpTo low) rs → AllName (IsUpTo top) rs
-up_to_more low top more rs all = all_name_also (IsUpTo low) (IsUpTo top) (λ n is. omega arith) rs all
+up_to_more : (low top : ℕ) → low ≤ top → (rs : List ToClient) → AllName (IsNoMoreThan low) rs → AllName (IsNoMoreThan top) rs
+up_to_more low top more rs all = all_name_also (IsNoMoreThan low) (IsNoMoreThan top) (λ n is. omega arith) rs all
 
 -- the voter's next state, and messages about its grant that wait
 newer_on : (told : List ToClient) (n : nodes.Node) → Newest told n → (z : VoterState) (rs : List ToClient) → voter.IsSound z → Steps n.live z → AllReport z.held rs
@@ -120,19 +120,19 @@ newer_on told n k z rs sound steps report =
     let behind = k.behind in
     let more = more_after n.live z steps in
     let fresh : (g : Grant) → z.held ≡ Some g → IsFresh n.saved g.grant = held_after (IsFresh n.saved) n.live z k.live_fresh (inl (omega arith)) steps in
-    let newest : (top : ℕ) (ms : List ToClient) → top ≤ n.live.granted → AllName (IsUpTo top) ms → ((g : Grant) → n.live.held ≡ Some g → AllName (IsUpTo g.grant) ms)
-    → (g : Grant) → z.held ≡ Some g → AllName (IsUpTo g.grant) ms =
-    λ top ms few all was. held_after (λ m. AllName (IsUpTo m) ms) n.live z was (up_to_more top (n.live.granted + 1) (omega arith) ms all) steps in
+    let newest : (top : ℕ) (ms : List ToClient) → top ≤ n.live.granted → AllName (IsNoMoreThan top) ms → ((g : Grant) → n.live.held ≡ Some g → AllName (IsNoMoreThan g.grant) ms)
+    → (g : Grant) → z.held ≡ Some g → AllName (IsNoMoreThan g.grant) ms =
+    λ top ms few all was. held_after (λ m. AllName (IsNoMoreThan m) ms) n.live z was (up_to_more top (n.live.granted + 1) (omega arith) ms all) steps in
     record {
       live = sound;
       saved = k.saved;
       behind = omega arith;
       left = k.left;
-      waits = all_name_join (IsUpTo z.granted) n.outbox rs (up_to_more n.live.granted z.granted more n.outbox k.waits) (all_reported (IsUpTo z.granted) z.held sound.numbered rs report);
+      waits = all_name_join (IsNoMoreThan z.granted) n.outbox rs (up_to_more n.live.granted z.granted more n.outbox k.waits) (all_reported (IsNoMoreThan z.granted) z.held sound.numbered rs report);
       saved_newest = k.saved_newest;
       live_newest = newest n.saved.granted told k.behind k.left k.live_newest;
-      waits_newest = λ g is. all_name_join (IsUpTo g.grant) n.outbox rs (newest n.live.granted n.outbox (same_number n.live.granted) k.waits k.waits_newest g is)
-          (all_reported (IsUpTo g.grant) z.held (λ h of_h. subst (λ (i : Grant). i.grant ≤ g.grant) (same_Some g h (sym is ∙ of_h)) (same_number g.grant)) rs report);
+      waits_newest = λ g is. all_name_join (IsNoMoreThan g.grant) n.outbox rs (newest n.live.granted n.outbox (same_number n.live.granted) k.waits k.waits_newest g is)
+          (all_reported (IsNoMoreThan g.grant) z.held (λ h of_h. subst (λ (i : Grant). i.grant ≤ g.grant) (same_Some g h (sym is ∙ of_h)) (same_number g.grant)) rs report);
       live_fresh = fresh;
       waits_fresh = all_name_join (IsFresh n.saved) n.outbox rs k.waits_fresh (all_reported (IsFresh n.saved) z.held fresh rs report);
     }
@@ -153,7 +153,7 @@ newest_begins told n k y sound more held = record {
   waits_fresh = tt;
 }
 
-newest_endures : VoterLaws → Endures Newest
+newest_endures : VoterLaws → LifeKeeps Newest
 newest_endures laws = record {
   limit = λ told n k. k.live.limit;
   steps = λ told n m o k is. newer_on told n k o.state o.replies (laws.stays n.live m o k.live is)
@@ -163,10 +163,10 @@ newest_endures laws = record {
     live = k.live;
     saved = k.live;
     behind = same_number n.live.granted;
-    left = all_name_join (IsUpTo n.live.granted) told n.outbox (up_to_more n.saved.granted n.live.granted k.behind told k.left) k.waits;
+    left = all_name_join (IsNoMoreThan n.live.granted) told n.outbox (up_to_more n.saved.granted n.live.granted k.behind told k.left) k.waits;
     waits = tt;
-    saved_newest = λ g is. all_name_join (IsUpTo g.grant) told n.outbox (k.live_newest g is) (k.waits_newest g is);
-    live_newest = λ g is. all_name_join (IsUpTo g.grant) told n.outbox (k.live_newest g is) (k.waits_newest g is);
+    saved_newest = λ g is. all_name_join (IsNoMoreThan g.grant) told n.outbox (k.live_newest g is) (k.waits_newest g is);
+    live_newest = λ g is. all_name_join (IsNoMoreThan g.grant) told n.outbox (k.live_newest g is) (k.waits_newest g is);
     waits_newest = λ g is. tt;
     live_fresh = λ g is. inr (g, is, refl);
     waits_fresh = tt;
@@ -191,25 +191,25 @@ newest_endures laws = record {
 
 -- ---- after: no number between the grant and those that were skipped
 
-abbrev IsApart : ℕ → ℕ → ℕ → Type 0
-IsApart low top n = (n ≤ low) ⊎ (top < n)
+abbrev IsOutside : ℕ → ℕ → ℕ → Type 0
+IsOutside low top n = (n ≤ low) ⊎ (top < n)
 
 record Apart (low top : ℕ) (told : List ToClient) (n : nodes.Node) : Type 0 where
   live : voter.IsSound n.live
   saved : voter.IsSound n.saved
   live_past : top ≤ n.live.granted
   saved_past : top ≤ n.saved.granted
-  live_apart : (g : Grant) → n.live.held ≡ Some g → IsApart low top g.grant
-  saved_apart : (g : Grant) → n.saved.held ≡ Some g → IsApart low top g.grant
-  left : AllName (IsApart low top) told
-  waits : AllName (IsApart low top) n.outbox
+  live_apart : (g : Grant) → n.live.held ≡ Some g → IsOutside low top g.grant
+  saved_apart : (g : Grant) → n.saved.held ≡ Some g → IsOutside low top g.grant
+  left : AllName (IsOutside low top) told
+  waits : AllName (IsOutside low top) n.outbox
 
 apart_on : (low top : ℕ) (told : List ToClient) (n : nodes.Node) → Apart low top told n → (z : VoterState) (rs : List ToClient) → voter.IsSound z → Steps n.live z → AllReport z.held rs
     → Apart low top told (nodes.put n (record { replies = rs; state = z }))
 apart_on low top told n k z rs sound steps report =
     let past = k.live_past in
     let more = more_after n.live z steps in
-    let apart : (g : Grant) → z.held ≡ Some g → IsApart low top g.grant = held_after (IsApart low top) n.live z k.live_apart (inr (omega arith)) steps in
+    let apart : (g : Grant) → z.held ≡ Some g → IsOutside low top g.grant = held_after (IsOutside low top) n.live z k.live_apart (inr (omega arith)) steps in
     record {
       live = sound;
       saved = k.saved;
@@ -218,7 +218,7 @@ apart_on low top told n k z rs sound steps report =
       live_apart = apart;
       saved_apart = k.saved_apart;
       left = k.left;
-      waits = all_name_join (IsApart low top) n.outbox rs k.waits (all_reported (IsApart low top) z.held apart rs report);
+      waits = all_name_join (IsOutside low top) n.outbox rs k.waits (all_reported (IsOutside low top) z.held apart rs report);
     }
 
 apart_begins : (low top : ℕ) (told : List ToClient) (n : nodes.Node) → Apart low top told n → (y : VoterState) → voter.IsSound y → n.saved.granted ≤ y.granted
@@ -236,7 +236,7 @@ apart_begins low top told n k y sound more held =
       waits = tt;
     }
 
-apart_endures : VoterLaws → (low top : ℕ) → Endures (Apart low top)
+apart_endures : VoterLaws → (low top : ℕ) → LifeKeeps (Apart low top)
 apart_endures laws low top = record {
   limit = λ told n k. k.live.limit;
   steps = λ told n m o k is. apart_on low top told n k o.state o.replies (laws.stays n.live m o k.live is)
@@ -249,7 +249,7 @@ apart_endures laws low top = record {
     saved_past = k.live_past;
     live_apart = k.live_apart;
     saved_apart = k.live_apart;
-    left = all_name_join (IsApart low top) told n.outbox k.left k.waits;
+    left = all_name_join (IsOutside low top) told n.outbox k.left k.waits;
     waits = tt;
   };
   restarts = λ told n k. apart_begins low top told n k n.saved k.saved (same_number n.saved.granted) (λ g is. is);
@@ -270,7 +270,7 @@ apart_endures laws low top = record {
 
 -- ---- both
 
-fresh_apart : (saved : VoterState) (low top : ℕ) (holder : Grant) → saved.held ≡ Some holder → holder.grant ≡ low → top ≤ saved.granted → (n : ℕ) → IsFresh saved n → IsApart low top n
+fresh_apart : (saved : VoterState) (low top : ℕ) (holder : Grant) → saved.held ≡ Some holder → holder.grant ≡ low → top ≤ saved.granted → (n : ℕ) → IsFresh saved n → IsOutside low top n
 fresh_apart saved low top holder held number spent n (inl newer) = inr (omega arith)
 fresh_apart saved low top holder held number spent n (inr of_grant) =
     let same : of_grant.0 ≡ holder = same_Some of_grant.0 holder (sym of_grant.1 ∙ held) in
@@ -288,8 +288,8 @@ skips n told k low top holder held number spent =
       saved_past = spent;
       live_apart = λ g is. fresh_apart n.saved low top holder held number spent g.grant (k.live_fresh g is);
       saved_apart = λ g is. fresh_apart n.saved low top holder held number spent g.grant (inr (g, is, refl));
-      left = all_name_also (IsUpTo holder.grant) (IsApart low top) (λ m few. inl (subst (λ (j : ℕ). m ≤ j) number few)) told (k.saved_newest holder held);
-      waits = all_name_also (IsFresh n.saved) (IsApart low top) (λ m is. fresh_apart n.saved low top holder held number spent m is) n.outbox k.waits_fresh;
+      left = all_name_also (IsNoMoreThan holder.grant) (IsOutside low top) (λ m few. inl (subst (λ (j : ℕ). m ≤ j) number few)) told (k.saved_newest holder held);
+      waits = all_name_also (IsFresh n.saved) (IsOutside low top) (λ m is. fresh_apart n.saved low top holder held number spent m is) n.outbox k.waits_fresh;
     }
 
 newest_first : VoterLaws → (id limit : ℕ) → limit ≤ max_limit → Newest [] (nodes.node_of (voter.start id limit))
@@ -321,7 +321,7 @@ newer_is_above laws id limit life grant top client stamp number few skipped give
     let all = lasts (Apart grant top) (apart_endures laws grant top) laws (says first before) n apart after in
     let whole : says first life ≡ says first before ++ says n after = ap (λ (l : List Fate). says first l) skipped.parts ∙ says-join first before after in
     let there : IsGiven (says first before ++ says n after) client stamp number = subst (λ (rs : List ToClient). IsGiven rs client stamp number) whole given in
-    elim (named_in (IsApart grant top) (says first before ++ says n after) client stamp number all.left there) [
+    elim (named_in (IsOutside grant top) (says first before ++ says n after) client stamp number all.left there) [
       | inl low ↦ absurd (omega arith)
       | inr high ↦ high
     ]

@@ -14,7 +14,7 @@ use Rattle.message.specs.declared.message.VoterBody.TheVariants as asks
 use Rattle.quiet_time.specs.declared.since_start.SinceStart.{SinceStart}
 use Rattle.quiet_time.specs.Quiet.{end_of, is_old, is_said, is_stamp, noted, puts_off, quiet_step, step_of_old}
 use Rattle.quiet_time.specs.Runs.{AllLeave, Begins, CanEnd, Event, Extends, Hears, IsOver, IsSaid, IsSaidBy, Leaves, LetsGo, Lock, after, all_happen, ended, happens, hears, with_limit}
-use Rattle.quiet_time.proofs.QuietLemmas.{Known, known, not_old, quiet_sound, set_cases}
+use Rattle.quiet_time.proofs.QuietLemmas.{KnownOfQuiet, known, not_old, quiet_sound, set_cases}
 use Rattle.quiet_time.proofs.Split.{Split, split-step}
 use Rattle.voter.specs.declared.state.Grant.{Grant}
 use Rattle.voter.specs.declared.state.VoterState.{VoterState}
@@ -40,7 +40,7 @@ let_go_is T v h g x sound held split e is = elim ((split-step T (Is T h) (λ c s
   | inr said ↦ said
 ]
 
-ends_by : (T : ℕ → ℕ → Type 0) (o : Option Grant) (begun : ℕ) (l : Lock) (g : Grant) (x : Outcome) (held : Option Grant) → Known T o begun l → l.vote.held ≡ held → end_of l.since l.vote held ≡ Some x
+ends_by : (T : ℕ → ℕ → Type 0) (o : Option Grant) (begun : ℕ) (l : Lock) (g : Grant) (x : Outcome) (held : Option Grant) → KnownOfQuiet T o begun l → l.vote.held ≡ held → end_of l.since l.vote held ≡ Some x
     → x.state.held ≡ Some g → T g.client g.stamp
 unfolding Is
 ends_by T o begun l g x None k at e is = absurd (none-some g (sym at ∙ ap (λ (y : Outcome). y.state.held) (same_Some _ x e) ∙ is))
@@ -53,7 +53,7 @@ ends_by T o begun l g x (Some h) k at e is = elim (is_old l.since (Some h)) as (
       subst (λ (j : Grant). T j.client j.stamp) same (not_old T o begun l h k new (k.split.held h at))
 ] refl e
 
-end_held : (T : ℕ → ℕ → Type 0) (o : Option Grant) (begun : ℕ) (l : Lock) (g : Grant) → Known T o begun l → (x : Option Outcome) → end_of l.since l.vote l.vote.held ≡ x → x ≢ None
+end_held : (T : ℕ → ℕ → Type 0) (o : Option Grant) (begun : ℕ) (l : Lock) (g : Grant) → KnownOfQuiet T o begun l → (x : Option Outcome) → end_of l.since l.vote l.vote.held ≡ x → x ≢ None
     → (after l (λ v. l.since) x).vote.held ≡ Some g → T g.client g.stamp
 end_held T o begun l g k None e some is = absurd (some refl)
 end_held T o begun l g k (Some x) e some is = ends_by T o begun l g x l.vote.held k refl e is
@@ -69,7 +69,7 @@ old_end l es g b can is =
 
 -- ---- who has the vote, and says so, keeps it
 
-record Stays (g : Grant) (l : Lock) : Type 0 where
+record GrantIsKept (g : Grant) (l : Lock) : Type 0 where
   held : l.vote.held ≡ Some g
   sound : IsSound l.vote
   places : length l.since.inside ≡ max_clients
@@ -167,8 +167,8 @@ again_taken v m g sound held own is =
 
 -- ---- one event, and all of them
 
-after_heard : (g : Grant) (l : Lock) (m : ToVoter) (inside : Bool) → Stays g l → (Ends m.client m.body g → ⊥) → (out : Option Outcome) → quiet_step (is_old l.since l.vote.held) l.vote m ≡ out
-    → Stays g (after l (λ v. noted true inside l.since v m.client m.body) out)
+after_heard : (g : Grant) (l : Lock) (m : ToVoter) (inside : Bool) → GrantIsKept g l → (Ends m.client m.body g → ⊥) → (out : Option Outcome) → quiet_step (is_old l.since l.vote.held) l.vote m ≡ out
+    → GrantIsKept g (after l (λ v. noted true inside l.since v m.client m.body) out)
 after_heard g l m inside k leaves None e = k
 after_heard g l m inside k leaves (Some o) e = record {
   held = quiet_keeps g (is_old l.since l.vote.held) l.vote m o k.held leaves e;
@@ -176,20 +176,20 @@ after_heard g l m inside k leaves (Some o) e = record {
   places = noted_places inside l.since o.state m.client m.body ∙ k.places;
 }
 
-renewed_heard : (g : Grant) (l : Lock) (m : ToVoter) (inside : Bool) → Stays g l → (Ends m.client m.body g → ⊥) → Renewed g l.since → (out : Option Outcome)
+renewed_heard : (g : Grant) (l : Lock) (m : ToVoter) (inside : Bool) → GrantIsKept g l → (Ends m.client m.body g → ⊥) → Renewed g l.since → (out : Option Outcome)
     → quiet_step (is_old l.since l.vote.held) l.vote m ≡ out → Renewed g (after l (λ v. noted true inside l.since v m.client m.body) out).since
 renewed_heard g l m inside k leaves is None e = is
 renewed_heard g l m inside k leaves is (Some o) e = noted_keeps inside l.since o.state m.client m.body g (quiet_keeps g (is_old l.since l.vote.held) l.vote m o k.held leaves e) is
 
 -- a lock after an event by which nothing is said of the grant, for any property of locks
-let_go_keeps : (P : Lock → Type 0) (g : Grant) (l : Lock) (n : ℕ) → Stays g l → g.grant ≢ n → P l → P (after l (λ v. l.since) (evict l.vote n))
+let_go_keeps : (P : Lock → Type 0) (g : Grant) (l : Lock) (n : ℕ) → GrantIsKept g l → g.grant ≢ n → P l → P (after l (λ v. l.since) (evict l.vote n))
 let_go_keeps P g l n k other p = subst (λ (x : Option Outcome). P (after l (λ v. l.since) x)) (sym (evict-other l.vote g n k.held other)) p
 
 limit_keeps : (P : Lock → Type 0) (l : Lock) (limit : ℕ) (b : Bool) → P l → P (record { vote = record l.vote { limit = limit }; since = l.since }) → P (with_limit b l limit)
 limit_keeps P l limit true p q = q
 limit_keeps P l limit false p q = p
 
-limit_stays : (g : Grant) (l : Lock) (limit : ℕ) (b : Bool) → (nat_le l.vote.granted limit && nat_le limit max_limit) ≡ b → Stays g l → Stays g (with_limit b l limit)
+limit_stays : (g : Grant) (l : Lock) (limit : ℕ) (b : Bool) → (nat_le l.vote.granted limit && nat_le limit max_limit) ≡ b → GrantIsKept g l → GrantIsKept g (with_limit b l limit)
 limit_stays g l limit false e k = k
 limit_stays g l limit true e k =
     let both = and-true (nat_le l.vote.granted limit) (nat_le limit max_limit) e in
@@ -205,16 +205,16 @@ limit_stays g l limit true e k =
       places = k.places;
     }
 
-stays : (g : Grant) (l : Lock) (e : Event) → Stays g l → Leaves e g → Stays g (happens l e)
-stays g l (Hears m inside) k leaves = elim (puts_off true inside m.body) as (λ b. Stays g (if b then l else hears l m inside)) [
+stays : (g : Grant) (l : Lock) (e : Event) → GrantIsKept g l → Leaves e g → GrantIsKept g (happens l e)
+stays g l (Hears m inside) k leaves = elim (puts_off true inside m.body) as (λ b. GrantIsKept g (if b then l else hears l m inside)) [
   | true ↦ k
   | false ↦ after_heard g l m inside k leaves (quiet_step (is_old l.since l.vote.held) l.vote m) refl
 ]
-stays g l (LetsGo n) k leaves = let_go_keeps (Stays g) g l n k leaves k
+stays g l (LetsGo n) k leaves = let_go_keeps (GrantIsKept g) g l n k leaves k
 stays g l (IsOver client) k leaves = record { held = k.held; sound = k.sound; places = length-set l.since.inside client 0 ∙ k.places }
 stays g l (Extends limit) k leaves = limit_stays g l limit (nat_le l.vote.granted limit && nat_le limit max_limit) refl k
 
-renewed : (g : Grant) (l : Lock) (e : Event) → Stays g l → Leaves e g → Renewed g l.since → Renewed g (happens l e).since
+renewed : (g : Grant) (l : Lock) (e : Event) → GrantIsKept g l → Leaves e g → Renewed g l.since → Renewed g (happens l e).since
 renewed g l (Hears m inside) k leaves is = elim (puts_off true inside m.body) as (λ b. Renewed g (if b then l else hears l m inside).since) [
   | true ↦ is
   | false ↦ renewed_heard g l m inside k leaves is (quiet_step (is_old l.since l.vote.held) l.vote m) refl
@@ -228,7 +228,7 @@ request_step : (old : Bool) (v : VoterState) (m : ToVoter) (s : ℕ) → m.body 
 request_step false v m s is = refl
 request_step true v m s is = ap (step_of_old v m) is
 
-says_now : (g : Grant) (l : Lock) (m : ToVoter) → Stays g l → (Ends m.client m.body g → ⊥) → 0 < g.stamp → g.client < max_clients → m.client ≡ g.client → m.body ≡ asks.Request g.stamp
+says_now : (g : Grant) (l : Lock) (m : ToVoter) → GrantIsKept g l → (Ends m.client m.body g → ⊥) → 0 < g.stamp → g.client < max_clients → m.client ≡ g.client → m.body ≡ asks.Request g.stamp
     → Renewed g (hears l m true).since
 says_now g l m k leaves some few own is =
     let old = is_old l.since l.vote.held in
@@ -239,7 +239,7 @@ says_now g l m k leaves some few own is =
     (subst (λ (b : VoterBody). Renewed g (noted true true l.since o.state m.client b)) (sym is)
     (subst (λ c. Renewed g (noted true true l.since o.state c (asks.Request g.stamp))) (sym own) (noted_now l.since o.state g held some few k.places)))
 
-said_by : (g : Grant) (l : Lock) (e : Event) → Stays g l → Leaves e g → 0 < g.stamp → g.client < max_clients → IsSaidBy e g.client g.stamp → Renewed g (happens l e).since
+said_by : (g : Grant) (l : Lock) (e : Event) → GrantIsKept g l → Leaves e g → 0 < g.stamp → g.client < max_clients → IsSaidBy e g.client g.stamp → Renewed g (happens l e).since
 said_by g l (Hears m inside) k leaves some few is =
     let taken : puts_off true inside m.body ≡ false = ap (puts_off true inside) is.2 ∙ ap not is.0 in
     subst (λ (b : Bool). Renewed g (if b then l else hears l m inside).since) (sym taken)
@@ -248,15 +248,15 @@ said_by g l (LetsGo n) k leaves some few none = absurd none
 said_by g l (IsOver client) k leaves some few none = absurd none
 said_by g l (Extends limit) k leaves some few none = absurd none
 
-all_stay : (g : Grant) (l : Lock) (es : List Event) → Stays g l → AllLeave es g → Stays g (all_happen l es)
+all_stay : (g : Grant) (l : Lock) (es : List Event) → GrantIsKept g l → AllLeave es g → GrantIsKept g (all_happen l es)
 all_stay g l [] k leaves = k
 all_stay g l (e ∷ es) k leaves = all_stay g (happens l e) es (stays g l e k leaves.0) leaves.1
 
-all_renewed : (g : Grant) (l : Lock) (es : List Event) → Stays g l → AllLeave es g → Renewed g l.since → Renewed g (all_happen l es).since
+all_renewed : (g : Grant) (l : Lock) (es : List Event) → GrantIsKept g l → AllLeave es g → Renewed g l.since → Renewed g (all_happen l es).since
 all_renewed g l [] k leaves is = is
 all_renewed g l (e ∷ es) k leaves is = all_renewed g (happens l e) es (stays g l e k leaves.0) leaves.1 (renewed g l e k leaves.0 is)
 
-all_said : (g : Grant) (l : Lock) (es : List Event) → Stays g l → AllLeave es g → 0 < g.stamp → g.client < max_clients → IsSaid es g.client g.stamp → Renewed g (all_happen l es).since
+all_said : (g : Grant) (l : Lock) (es : List Event) → GrantIsKept g l → AllLeave es g → 0 < g.stamp → g.client < max_clients → IsSaid es g.client g.stamp → Renewed g (all_happen l es).since
 all_said g l [] k leaves some few none = absurd none
 all_said g l (e ∷ es) k leaves some few (inl now) = all_renewed g (happens l e) es (stays g l e k leaves.0) leaves.1 (said_by g l e k leaves.0 some few now)
 all_said g l (e ∷ es) k leaves some few (inr later) = all_said g (happens l e) es (stays g l e k leaves.0) leaves.1 some few later
@@ -278,7 +278,7 @@ ended_keeps g l held is =
 pub those_inside_stay : (l : Lock) (es : List Event) (g : Grant) → Begins l → l.vote.held ≡ Some g → 0 < g.stamp → g.client < max_clients
     → IsSaid es g.client g.stamp → AllLeave es g → (ended (all_happen l es)).vote.held ≡ Some g
 those_inside_stay l es g b held some few said leaves =
-    let k : Stays g l = record {
+    let k : GrantIsKept g l = record {
       held = held;
       sound = b.sound;
       places = ap (λ (s : SinceStart). length s.inside) b.nothing ∙ length-replicate {A = ℕ} max_clients 0;

@@ -14,7 +14,7 @@ use Rattle.message.specs.declared.message.VoterBody.TheVariants as asks
 use Rattle.quiet_time.specs.declared.since_start.SinceStart.{SinceStart}
 use Rattle.quiet_time.specs.Quiet.{is_old, is_said, is_stamp, noted, puts_off, quiet_step, since_start, step_of_old}
 use Rattle.quiet_time.specs.Runs.{Begins, Event, Extends, Hears, IsOver, IsSaid, IsSaidBy, LetsGo, Lock, after, all_happen, happens, hears, with_limit}
-use Rattle.quiet_time.proofs.Split.{Brings, Grants, Split, split-step}
+use Rattle.quiet_time.proofs.Split.{BringsAs, Grants, Split, split-step}
 use Rattle.voter.specs.declared.state.Grant.{Grant}
 use Rattle.voter.specs.declared.state.VoterState.{VoterState}
 use Rattle.voter.specs.Leases.{evict, evict_held, release_of}
@@ -29,7 +29,7 @@ abbrev pub Held : (ℕ → ℕ → Type 0) → Option Grant → ℕ → Grant �
 Held S o begun g = ((o ≡ Some g) × (g.grant ≤ begun)) ⊎ S g.client g.stamp
 
 -- S says which requests were said, o is the grant at the start, and so many were given then
-pub record Known (S : ℕ → ℕ → Type 0) (o : Option Grant) (begun : ℕ) (l : Lock) : Type 0 where
+pub record KnownOfQuiet (S : ℕ → ℕ → Type 0) (o : Option Grant) (begun : ℕ) (l : Lock) : Type 0 where
   pub split : Split S (Held S o begun) l.vote
   pub said : (c s : ℕ) → is_said l.since c s ≡ true → S c s
   pub begun_at : l.since.begun ≡ begun
@@ -39,7 +39,7 @@ held_more : (S T : ℕ → ℕ → Type 0) (o : Option Grant) (begun : ℕ) (g :
 held_more S T o begun g up (inl first) = inl first
 held_more S T o begun g up (inr said) = inr (up g.client g.stamp said)
 
-more : (S T : ℕ → ℕ → Type 0) (o : Option Grant) (begun : ℕ) (l : Lock) → ((c s : ℕ) → S c s → T c s) → Known S o begun l → Known T o begun l
+more : (S T : ℕ → ℕ → Type 0) (o : Option Grant) (begun : ℕ) (l : Lock) → ((c s : ℕ) → S c s → T c s) → KnownOfQuiet S o begun l → KnownOfQuiet T o begun l
 more S T o begun l up k = record {
   split = record {
     held = λ g is. held_more S T o begun g up (k.split.held g is);
@@ -57,14 +57,14 @@ is_old_said : (s : SinceStart) (g : Grant) (low : Bool) → nat_le g.grant s.beg
 is_old_said s g false low least new = absurd (false≢true (sym low ∙ grind (arith, nat_tests)))
 is_old_said s g true low least new = grind (arith, nat_tests)
 
-pub not_old : (S : ℕ → ℕ → Type 0) (o : Option Grant) (begun : ℕ) (l : Lock) (g : Grant) → Known S o begun l → is_old l.since (Some g) ≡ false
+pub not_old : (S : ℕ → ℕ → Type 0) (o : Option Grant) (begun : ℕ) (l : Lock) (g : Grant) → KnownOfQuiet S o begun l → is_old l.since (Some g) ≡ false
     → Held S o begun g → S g.client g.stamp
 not_old S o begun l g k new (inl first) =
     k.said g.client g.stamp (is_old_said l.since g (nat_le g.grant l.since.begun) refl (subst (λ (n : ℕ). g.grant ≤ n) (sym k.begun_at) first.1) new)
 not_old S o begun l g k new (inr said) = said
 
 -- all that has the vote or waits was said, unless the grant is old
-stamps_of : (S : ℕ → ℕ → Type 0) (o : Option Grant) (begun : ℕ) (l : Lock) → Known S o begun l → is_old l.since l.vote.held ≡ false → Stamps S l.vote
+stamps_of : (S : ℕ → ℕ → Type 0) (o : Option Grant) (begun : ℕ) (l : Lock) → KnownOfQuiet S o begun l → is_old l.since l.vote.held ≡ false → Stamps S l.vote
 stamps_of S o begun l k new = record {
   held = λ g is. not_old S o begun l g k (ap (is_old l.since) (sym is) ∙ new) (k.split.held g is);
   waiting = k.split.waiting;
@@ -106,11 +106,11 @@ inside_by true e = refl
 inside_by false e = absurd (false≢true (sym e))
 
 -- what the message brings is said by it
-Told : (ℕ → ℕ → Type 0) → ToVoter → Bool → Type 0
-Told T m inside = (s : ℕ) → inside ≡ true → m.body ≡ asks.Request s → T m.client s
+ToldBy : (ℕ → ℕ → Type 0) → ToVoter → Bool → Type 0
+ToldBy T m inside = (s : ℕ) → inside ≡ true → m.body ≡ asks.Request s → T m.client s
 
-says_of : (T : ℕ → ℕ → Type 0) (m : ToVoter) (inside : Bool) (b : VoterBody) → m.body ≡ b → puts_off true inside b ≡ false → Told T m inside → Says T m.client b
-unfolding Told
+says_of : (T : ℕ → ℕ → Type 0) (m : ToVoter) (inside : Bool) (b : VoterBody) → m.body ≡ b → puts_off true inside b ≡ false → ToldBy T m inside → Says T m.client b
+unfolding ToldBy
 says_of T m inside (asks.Request s) is taken told = told s (inside_by inside taken) is
 says_of T m inside (asks.Relinquish n) is taken told = tt
 says_of T m inside (asks.Release s) is taken told = tt
@@ -118,15 +118,15 @@ says_of T m inside (asks.Release s) is taken told = tt
 heard_new : (T : ℕ → ℕ → Type 0) (v : VoterState) (m : ToVoter) (o : Outcome) → Says T m.client m.body → step v m ≡ Some o → Stamps T v → Stamps T o.state
 heard_new T v m o says e h = subst (λ (k : Outcome). Stamps T k.state) (step-Some v m o e).1 (Stamps-outcome_of T v m.client m.body says h)
 
-heard_old : (T : ℕ → ℕ → Type 0) (Q : Grant → Type 0) → Grants T Q → (v : VoterState) (m : ToVoter) (o : Outcome) (inside : Bool) (b : VoterBody) → m.body ≡ b → puts_off true inside b ≡ false → Told T m inside
+heard_old : (T : ℕ → ℕ → Type 0) (Q : Grant → Type 0) → Grants T Q → (v : VoterState) (m : ToVoter) (o : Outcome) (inside : Bool) (b : VoterBody) → m.body ≡ b → puts_off true inside b ≡ false → ToldBy T m inside
     → step_of_old v m b ≡ Some o → Split T Q v → Split T Q o.state
-unfolding Told
-heard_old T Q up v m o inside (asks.Request s) is taken told e h = split-step T Q up v m o e (subst (Brings T m.client) (sym is) (told s (inside_by inside taken) is)) h
+unfolding ToldBy
+heard_old T Q up v m o inside (asks.Request s) is taken told e h = split-step T Q up v m o e (subst (BringsAs T m.client) (sym is) (told s (inside_by inside taken) is)) h
 heard_old T Q up v m o inside (asks.Relinquish n) is taken told e h = elim (is_grant v.held m.client n) as (λ c. (if c then evict v n else Some (no_reply v)) ≡ Some o → Split T Q o.state) [
   | true ↦ λ now. evicted T Q up v n o now h
   | false ↦ λ now. subst (λ (k : Outcome). Split T Q k.state) (same_Some _ o now) h
 ] e
-heard_old T Q up v m o inside (asks.Release s) is taken told e h = split-step T Q up v m o e (subst (Brings T m.client) (sym is) tt) h
+heard_old T Q up v m o inside (asks.Release s) is taken told e h = split-step T Q up v m o e (subst (BringsAs T m.client) (sym is) tt) h
 
 old_sound : (v : VoterState) (m : ToVoter) (o : Outcome) (b : VoterBody) → step_of_old v m b ≡ Some o → IsSound v → IsSound o.state
 old_sound v m o (asks.Request s) e h = IsSound-step v m o h e
@@ -141,7 +141,7 @@ quiet_sound false v m o e h = IsSound-step v m o h e
 quiet_sound true v m o e h = old_sound v m o m.body e h
 
 heard_split : (T : ℕ → ℕ → Type 0) (o : Option Grant) (begun : ℕ) (l : Lock) (m : ToVoter) (inside : Bool) (out : Outcome) (old : Bool) → is_old l.since l.vote.held ≡ old → puts_off true inside m.body ≡ false
-    → Told T m inside → quiet_step old l.vote m ≡ Some out → Known T o begun l → Split T (Held T o begun) out.state
+    → ToldBy T m inside → quiet_step old l.vote m ≡ Some out → KnownOfQuiet T o begun l → Split T (Held T o begun) out.state
 heard_split T o begun l m inside out false is taken told e k = split_of T o begun out.state (heard_new T l.vote m out (says_of T m inside m.body refl taken told) e (stamps_of T o begun l k is))
 heard_split T o begun l m inside out true is taken told e k = heard_old T (Held T o begun) (λ c s n said. inr said) l.vote m out inside m.body refl taken told e k.split
 
@@ -172,9 +172,9 @@ set_said T s c t told h d n is = elim (set_cases s.inside c t d) [
       subst (λ k. T k n) (sym here.0) (subst (T c) by.0 (told (subst (λ k. 0 < k) (sym by.0) by.1)))
 ]
 
-noted_said : (T : ℕ → ℕ → Type 0) (s : SinceStart) (v : VoterState) (m : ToVoter) (inside : Bool) (b : VoterBody) → m.body ≡ b → Told T m inside → ((d n : ℕ) → is_said s d n ≡ true → T d n)
+noted_said : (T : ℕ → ℕ → Type 0) (s : SinceStart) (v : VoterState) (m : ToVoter) (inside : Bool) (b : VoterBody) → m.body ≡ b → ToldBy T m inside → ((d n : ℕ) → is_said s d n ≡ true → T d n)
     → (d n : ℕ) → is_said (noted true inside s v m.client b) d n ≡ true → T d n
-unfolding Told
+unfolding ToldBy
 noted_said T s v m false (asks.Request t) is told h d n said = h d n said
 noted_said T s v m true (asks.Request t) is told h d n said = elim (is_stamp (current_stamp v m.client) t) as (λ b. is_said (if b then record s { inside = slice_set s.inside m.client t } else s) d n ≡ true → T d n) [
   | true ↦ set_said T s m.client t (λ some. told t refl is) h d n
@@ -194,8 +194,8 @@ noted_begun inside s v c (asks.Release t) = refl
 
 -- ---- one event, and all of them
 
-heard : (T : ℕ → ℕ → Type 0) (o : Option Grant) (begun : ℕ) (l : Lock) (m : ToVoter) (inside : Bool) → puts_off true inside m.body ≡ false → Told T m inside → Known T o begun l → (out : Option Outcome)
-    → quiet_step (is_old l.since l.vote.held) l.vote m ≡ out → Known T o begun (after l (λ v. noted true inside l.since v m.client m.body) out)
+heard : (T : ℕ → ℕ → Type 0) (o : Option Grant) (begun : ℕ) (l : Lock) (m : ToVoter) (inside : Bool) → puts_off true inside m.body ≡ false → ToldBy T m inside → KnownOfQuiet T o begun l → (out : Option Outcome)
+    → quiet_step (is_old l.since l.vote.held) l.vote m ≡ out → KnownOfQuiet T o begun (after l (λ v. noted true inside l.since v m.client m.body) out)
 heard T o begun l m inside taken told k None e = k
 heard T o begun l m inside taken told k (Some out) e = record {
   split = heard_split T o begun l m inside out (is_old l.since l.vote.held) refl taken told e k;
@@ -204,7 +204,7 @@ heard T o begun l m inside taken told k (Some out) e = record {
   sound = quiet_sound (is_old l.since l.vote.held) l.vote m out e k.sound;
 }
 
-let_go : (T : ℕ → ℕ → Type 0) (o : Option Grant) (begun : ℕ) (l : Lock) (n : ℕ) → Known T o begun l → (out : Option Outcome) → evict l.vote n ≡ out → Known T o begun (after l (λ v. l.since) out)
+let_go : (T : ℕ → ℕ → Type 0) (o : Option Grant) (begun : ℕ) (l : Lock) (n : ℕ) → KnownOfQuiet T o begun l → (out : Option Outcome) → evict l.vote n ≡ out → KnownOfQuiet T o begun (after l (λ v. l.since) out)
 let_go T o begun l n k None e = k
 let_go T o begun l n k (Some out) e = record {
   split = evicted T (Held T o begun) (λ c s m said. inr said) l.vote n out e k.split;
@@ -213,7 +213,7 @@ let_go T o begun l n k (Some out) e = record {
   sound = evicted_sound l.vote n out e k.sound;
 }
 
-limited : (T : ℕ → ℕ → Type 0) (o : Option Grant) (begun : ℕ) (l : Lock) (limit : ℕ) (b : Bool) → (nat_le l.vote.granted limit && nat_le limit max_limit) ≡ b → Known T o begun l → Known T o begun (with_limit b l limit)
+limited : (T : ℕ → ℕ → Type 0) (o : Option Grant) (begun : ℕ) (l : Lock) (limit : ℕ) (b : Bool) → (nat_le l.vote.granted limit && nat_le limit max_limit) ≡ b → KnownOfQuiet T o begun l → KnownOfQuiet T o begun (with_limit b l limit)
 limited T o begun l limit false e k = k
 limited T o begun l limit true e k =
     let both = and-true (nat_le l.vote.granted limit) (nat_le limit max_limit) e in
@@ -230,39 +230,39 @@ limited T o begun l limit true e k =
       };
     }
 
-abbrev By : (ℕ → ℕ → Type 0) → Event → ℕ → ℕ → Type 0
-By S e c s = S c s ⊎ IsSaidBy e c s
+abbrev SaidOrBy : (ℕ → ℕ → Type 0) → Event → ℕ → ℕ → Type 0
+SaidOrBy S e c s = S c s ⊎ IsSaidBy e c s
 
-happened : (S : ℕ → ℕ → Type 0) (o : Option Grant) (begun : ℕ) (l : Lock) (e : Event) → Known S o begun l → Known (By S e) o begun (happens l e)
-unfolding Told
+happened : (S : ℕ → ℕ → Type 0) (o : Option Grant) (begun : ℕ) (l : Lock) (e : Event) → KnownOfQuiet S o begun l → KnownOfQuiet (SaidOrBy S e) o begun (happens l e)
+unfolding ToldBy
 happened S o begun l (Hears m inside) k =
-    let T = By S (Hears m inside) in
+    let T = SaidOrBy S (Hears m inside) in
     let before = more S T o begun l (λ c s said. inl said) k in
-    elim (puts_off true inside m.body) as (λ b. puts_off true inside m.body ≡ b → Known T o begun (if b then l else hears l m inside)) [
+    elim (puts_off true inside m.body) as (λ b. puts_off true inside m.body ≡ b → KnownOfQuiet T o begun (if b then l else hears l m inside)) [
       | true ↦ λ e. before
       | false ↦ λ e. heard T o begun l m inside e (λ s is body. inr (is, refl, body)) before (quiet_step (is_old l.since l.vote.held) l.vote m) refl
     ] refl
-happened S o begun l (LetsGo grant) k = let_go (By S (LetsGo grant)) o begun l grant (more S (By S (LetsGo grant)) o begun l (λ c s said. inl said) k) (evict l.vote grant) refl
+happened S o begun l (LetsGo grant) k = let_go (SaidOrBy S (LetsGo grant)) o begun l grant (more S (SaidOrBy S (LetsGo grant)) o begun l (λ c s said. inl said) k) (evict l.vote grant) refl
 happened S o begun l (IsOver client) k =
-    let before = more S (By S (IsOver client)) o begun l (λ c s said. inl said) k in
+    let before = more S (SaidOrBy S (IsOver client)) o begun l (λ c s said. inl said) k in
     record {
       split = record { held = before.split.held; waiting = before.split.waiting };
-      said = set_said (By S (IsOver client)) l.since client 0 (λ some. absurd (omega (arith, some))) before.said;
+      said = set_said (SaidOrBy S (IsOver client)) l.since client 0 (λ some. absurd (omega (arith, some))) before.said;
       begun_at = k.begun_at;
       sound = k.sound;
     }
-happened S o begun l (Extends limit) k = limited (By S (Extends limit)) o begun l limit (nat_le l.vote.granted limit && nat_le limit max_limit) refl (more S (By S (Extends limit)) o begun l (λ c s said. inl said) k)
+happened S o begun l (Extends limit) k = limited (SaidOrBy S (Extends limit)) o begun l limit (nat_le l.vote.granted limit && nat_le limit max_limit) refl (more S (SaidOrBy S (Extends limit)) o begun l (λ c s said. inl said) k)
 
-by_more : (S : ℕ → ℕ → Type 0) (e : Event) (es : List Event) (c s : ℕ) → By S e c s ⊎ IsSaid es c s → S c s ⊎ IsSaid (e ∷ es) c s
+by_more : (S : ℕ → ℕ → Type 0) (e : Event) (es : List Event) (c s : ℕ) → SaidOrBy S e c s ⊎ IsSaid es c s → S c s ⊎ IsSaid (e ∷ es) c s
 by_more S e es c s (inl (inl before)) = inl before
 by_more S e es c s (inl (inr now)) = inr (inl now)
 by_more S e es c s (inr later) = inr (inr later)
 
-pub all_known : (S : ℕ → ℕ → Type 0) (o : Option Grant) (begun : ℕ) (l : Lock) (es : List Event) → Known S o begun l → Known (λ c s. S c s ⊎ IsSaid es c s) o begun (all_happen l es)
+pub all_known : (S : ℕ → ℕ → Type 0) (o : Option Grant) (begun : ℕ) (l : Lock) (es : List Event) → KnownOfQuiet S o begun l → KnownOfQuiet (λ c s. S c s ⊎ IsSaid es c s) o begun (all_happen l es)
 all_known S o begun l [] k = more S (λ c s. S c s ⊎ IsSaid [] c s) o begun l (λ c s said. inl said) k
 all_known S o begun l (e ∷ es) k =
-    more (λ c s. By S e c s ⊎ IsSaid es c s) (λ c s. S c s ⊎ IsSaid (e ∷ es) c s) o begun (all_happen (happens l e) es) (by_more S e es)
-    (all_known (By S e) o begun (happens l e) es (happened S o begun l e k))
+    more (λ c s. SaidOrBy S e c s ⊎ IsSaid es c s) (λ c s. S c s ⊎ IsSaid (e ∷ es) c s) o begun (all_happen (happens l e) es) (by_more S e es)
+    (all_known (SaidOrBy S e) o begun (happens l e) es (happened S o begun l e k))
 
 -- ---- from the start
 
@@ -274,7 +274,7 @@ new_says begun c s is =
     let by = said_stamp (since_start begun) c s 0 (slice_index-replicate_zero max_clients c) is in
     omega (arith, by.0, by.1)
 
-pub begun : (l : Lock) → Begins l → Known Nothing l.vote.held l.vote.granted l
+pub begun : (l : Lock) → Begins l → KnownOfQuiet Nothing l.vote.held l.vote.granted l
 begun l b = record {
   split = record { held = λ g is. inl (is, b.sound.numbered g is); waiting = λ c s is. none-some s (sym (b.nobody c) ∙ is) };
   said = λ c s is. new_says l.vote.granted c s (ap (λ (k : SinceStart). is_said k c s) (sym b.nothing) ∙ is);
@@ -282,7 +282,7 @@ begun l b = record {
   sound = b.sound;
 }
 
-pub known : (l : Lock) (es : List Event) → Begins l → Known (λ c s. Nothing c s ⊎ IsSaid es c s) l.vote.held l.vote.granted (all_happen l es)
+pub known : (l : Lock) (es : List Event) → Begins l → KnownOfQuiet (λ c s. Nothing c s ⊎ IsSaid es c s) l.vote.held l.vote.granted (all_happen l es)
 known l es b = all_known Nothing l.vote.held l.vote.granted l es (begun l b)
 
 -- nobody gets a vote who did not say that he is inside

@@ -26,10 +26,10 @@ abbrev pub Grants : (ℕ → ℕ → Type 0) → (Grant → Type 0) → Type 0
 Grants P Q = (c s n : ℕ) → P c s → Q (record { client = c; stamp = s; grant = n })
 
 -- a message that gives no vote back, of which the request is of the first kind, if it is one
-abbrev pub Brings : (ℕ → ℕ → Type 0) → ℕ → VoterBody → Type 0
-Brings P c (asks.Request s) = P c s
-Brings P c (asks.Relinquish n) = ⊥
-Brings P c (asks.Release s) = Unit {0}
+abbrev pub BringsAs : (ℕ → ℕ → Type 0) → ℕ → VoterBody → Type 0
+BringsAs P c (asks.Request s) = P c s
+BringsAs P c (asks.Relinquish n) = ⊥
+BringsAs P c (asks.Release s) = Unit {0}
 
 inserted : (P : ℕ → ℕ → Type 0) (w : Waiting) (c s : ℕ) → ((d t : ℕ) → get w d ≡ Some t → P d t) → P c s → (d t : ℕ) → get (insert w c s) d ≡ Some t → P d t
 inserted P w c s h p d t is = elim (eqb d c) as (λ b. eqb d c ≡ b → cond b (Some s) (get w d) ≡ Some t → P d t) [
@@ -83,10 +83,10 @@ module _ (P : ℕ → ℕ → Type 0) (Q : Grant → Type 0) (up : Grants P Q) w
     newer = λ _ t _ _. split-admit (take_release v c t).state c s p (split-take_release v c t h);
   })
 
-  split-outcome_of : (v : VoterState) (c : ℕ) (b : VoterBody) → Brings P c b → Split P Q v → Split P Q (outcome_of v c b).state
+  split-outcome_of : (v : VoterState) (c : ℕ) (b : VoterBody) → BringsAs P c b → Split P Q v → Split P Q (outcome_of v c b).state
   split-outcome_of v c (asks.Request s) p h = split-take_request (see v s) c s p (record { held = h.held; waiting = h.waiting })
   split-outcome_of v c (asks.Relinquish n) none h = absurd none
   split-outcome_of v c (asks.Release s) p h = split-take_release (see v s) c s (record { held = h.held; waiting = h.waiting })
 
-  pub split-step : (v : VoterState) (m : ToVoter) (o : Outcome) → step v m ≡ Some o → Brings P m.client m.body → Split P Q v → Split P Q o.state
+  pub split-step : (v : VoterState) (m : ToVoter) (o : Outcome) → step v m ≡ Some o → BringsAs P m.client m.body → Split P Q v → Split P Q o.state
   split-step v m o e p h = subst (λ (k : Outcome). Split P Q k.state) (step-Some v m o e).1 (split-outcome_of v m.client m.body p h)

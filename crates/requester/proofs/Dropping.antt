@@ -12,7 +12,7 @@ use Rattle.requester.proofs.Members.{absurd-true_false}
 use Rattle.requester.proofs.VoteLemmas.{HoldsNothing-idle, held_of-not_held}
 
 -- of the 64 votes none is held but those of the voters that are left
-pub record Dropped (rest held : List ℕ) : Type 0 where
+pub record HeldOfRest (rest held : List ℕ) : Type 0 where
   pub wide : length held ≡ 64
   pub none : (v : ℕ) → has rest v ≡ false → slice_index held v ≡ 0
 
@@ -20,7 +20,7 @@ pub record Dropped (rest held : List ℕ) : Type 0 where
 is_zeros : (held : List ℕ) → length held ≡ 64 → ((v : ℕ) → slice_index held v ≡ 0) → held ≡ replicate 64 0
 is_zeros held wide none = same_number_lists held (replicate 64 0) wide (λ k lt. none k ∙ sym (slice_index-replicate_zero 64 k))
 
-pub held-dropped : (voters held : List ℕ) (n : ℕ) → length voters ≤ n → Dropped (drop n voters) held → held ≡ replicate 64 0
+pub held-dropped : (voters held : List ℕ) (n : ℕ) → length voters ≤ n → HeldOfRest (drop n voters) held → held ≡ replicate 64 0
 held-dropped voters held n past d = is_zeros held d.wide (λ v. d.none v (at_drop_all (λ vs. has vs v) voters n past))
 
 pub held-idle : (x : ClientState) → IsSound x → is_idle x.phase ≡ true → x.held ≡ replicate 64 0

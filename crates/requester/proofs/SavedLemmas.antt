@@ -157,7 +157,7 @@ length-words_of x kept =
     omega (arith, length-head_words x, kept.sound.places.held, kept.sound.places.last)
 
 -- the client that these numbers are read as
-pub record Read (words : List ℕ) (x : ClientState) : Type 0 where
+pub record ReadClient (words : List ℕ) (x : ClientState) : Type 0 where
   pub id : get_or words 1 0 ≡ x.id
   pub limit : get_or words 2 0 ≡ x.limit
   pub clock : get_or words 3 0 ≡ x.clock
@@ -170,7 +170,7 @@ pub record Read (words : List ℕ) (x : ClientState) : Type 0 where
   pub held : take 64 (drop 10 words) ≡ x.held
   pub last : take 64 (drop 74 words) ≡ x.last
 
-pub Read-words_of : (x : ClientState) (words : List ℕ) → IsKept x → words ≡ words_of x → Read words x
+pub Read-words_of : (x : ClientState) (words : List ℕ) → IsKept x → words ≡ words_of x → ReadClient words x
 unfolding words_of
 Read-words_of x words kept is =
     let places = kept.sound.places in

@@ -144,14 +144,14 @@ module _ (P : ℕ → ℕ → Type 0) where
       (λ g is. stamps-grant_front (queue (free_vote v) g.client g.stamp) (stamps-queue (free_vote v) g.client g.stamp (h.held g is) (stamps-free_vote v h)))
   Stamps-outcome_of v c (asks.Release s) p h = stamps-take_release (see v s) c s (record { held = h.held; waiting = h.waiting })
 
-abbrev pub Came : VoterState → ℕ → VoterBody → ℕ → ℕ → Type 0
-Came v c b d t = IsEntry v d t ⊎ Brings c b d t
+abbrev pub CameOrBrought : VoterState → ℕ → VoterBody → ℕ → ℕ → Type 0
+CameOrBrought v c b d t = IsEntry v d t ⊎ Brings c b d t
 
-Says-Came : (v : VoterState) (c : ℕ) (b : VoterBody) → Says (Came v c b) c b
+Says-Came : (v : VoterState) (c : ℕ) (b : VoterBody) → Says (CameOrBrought v c b) c b
 Says-Came v c (asks.Request s) = inr (refl, refl)
 Says-Came v c b = tt
 
-came_before : (v : VoterState) (c : ℕ) (b : VoterBody) → Stamps (Came v c b) v
+came_before : (v : VoterState) (c : ℕ) (b : VoterBody) → Stamps (CameOrBrought v c b) v
 came_before v c b = record { held = λ g is. inl (inl (g, is, refl, refl)); waiting = λ d t is. inl (inr is) }
 
 entry_of : (P : ℕ → ℕ → Type 0) (w : VoterState) → Stamps P w → (d t : ℕ) → IsEntry w d t → P d t
@@ -159,7 +159,7 @@ entry_of P w h d t (inl e) = subst (λ n. P d n) e.3 (subst (λ n. P n e.0.stamp
 entry_of P w h d t (inr e) = h.waiting d t e
 
 pub IsEntry-outcome_of : (v : VoterState) (c : ℕ) (b : VoterBody) (d t : ℕ) → IsEntry (outcome_of v c b).state d t → IsEntry v d t ⊎ Brings c b d t
-IsEntry-outcome_of v c b d t e = entry_of (Came v c b) (outcome_of v c b).state (Stamps-outcome_of (Came v c b) v c b (Says-Came v c b) (came_before v c b)) d t e
+IsEntry-outcome_of v c b d t e = entry_of (CameOrBrought v c b) (outcome_of v c b).state (Stamps-outcome_of (CameOrBrought v c b) v c b (Says-Came v c b) (came_before v c b)) d t e
 
 -- The step.
 

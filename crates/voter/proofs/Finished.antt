@@ -18,24 +18,24 @@ use Rattle.voter.proofs.Cases.{by_admit, by_release, by_relinquish, by_request}
 use Rattle.voter.proofs.Effects.{step-Some}
 
 -- the finished stamps stay
-abbrev pub Same : VoterState → VoterState → Type 0
-Same v w = w.finished ≡ v.finished
+abbrev pub SameFinished : VoterState → VoterState → Type 0
+SameFinished v w = w.finished ≡ v.finished
 
-same-grant_to : (v : VoterState) (o : Option Request) → Same v (grant_to v o).state
+same-grant_to : (v : VoterState) (o : Option Request) → SameFinished v (grant_to v o).state
 same-grant_to v None = refl
 same-grant_to v (Some r) = refl
 
-pub same-grant_front : (v : VoterState) → Same v (grant_front v).state
+pub same-grant_front : (v : VoterState) → SameFinished v (grant_front v).state
 unfolding grant_front
 same-grant_front v = same-grant_to v (front v.waiting)
 
-same-join_queue_by : (waits granted : Bool) (v : VoterState) (g : Grant) (c s : ℕ) → Same v (join_queue_by waits granted v g c s).state
+same-join_queue_by : (waits granted : Bool) (v : VoterState) (g : Grant) (c s : ℕ) → SameFinished v (join_queue_by waits granted v g c s).state
 same-join_queue_by false true v g c s = refl
 same-join_queue_by waits granted v g c s = refl
 
-pub same-admit : (v : VoterState) (c s : ℕ) → Same v (admit v c s).state
+pub same-admit : (v : VoterState) (c s : ℕ) → SameFinished v (admit v c s).state
 unfolding join_queue
-same-admit v c s = by_admit (λ o. Same v o.state) v c s (λ _. same-grant_front (queue v c s)) (λ g _. same-join_queue_by _ _ v g c s)
+same-admit v c s = by_admit (λ o. SameFinished v o.state) v c s (λ _. same-grant_front (queue v c s)) (λ g _. same-join_queue_by _ _ v g c s)
 
 pub finished-take_release : (v : VoterState) (c s : ℕ) → (take_release v c s).state.finished ≡ (finish v c s).finished
 finished-take_release v c s = by_release (λ o. o.state.finished ≡ (finish v c s).finished) v c s (λ _. same-grant_front (free_vote (finish v c s))) (λ _ _. refl) (λ _ _. refl)
@@ -90,13 +90,13 @@ places-outcome_of v c (asks.Request s) = by_request (λ o. length o.state.finish
   newer = λ _ t _ _. ap (λ (l : List ℕ). length l) (same-admit (take_release (see v s) c t).state c s) ∙ places-take_release (see v s) c t;
 })
 places-outcome_of v c (asks.Relinquish n) =
-    ap (λ (l : List ℕ). length l) (by_relinquish (λ o. Same v o.state) v c n refl (λ g _. same-grant_front (queue (free_vote v) g.client g.stamp)))
+    ap (λ (l : List ℕ). length l) (by_relinquish (λ o. SameFinished v o.state) v c n refl (λ g _. same-grant_front (queue (free_vote v) g.client g.stamp)))
 places-outcome_of v c (asks.Release s) = places-take_release (see v s) c s
 
 pub FinishesBy-outcome_of : (v : VoterState) (c : ℕ) (b : VoterBody) → FinishesBy v c b (outcome_of v c b).state
 FinishesBy-outcome_of v c (asks.Request s) d = finished-take_request (see v s) c s d
 FinishesBy-outcome_of v c (asks.Relinquish n) d =
-    inl (ap (λ (l : List ℕ). slice_index l d) (by_relinquish (λ o. Same v o.state) v c n refl (λ g _. same-grant_front (queue (free_vote v) g.client g.stamp))))
+    inl (ap (λ (l : List ℕ). slice_index l d) (by_relinquish (λ o. SameFinished v o.state) v c n refl (λ g _. same-grant_front (queue (free_vote v) g.client g.stamp))))
 FinishesBy-outcome_of v c (asks.Release s) d = elim (released_cases (see v s) c s d) [ inl stays ↦ inl stays | inr new ↦ let is = new.1 in let up = new.2 in inr ((new.0, omega arith), omega arith) ]
 
 pub FinishesBy-step : (v : VoterState) (m : ToVoter) (o : Outcome) → step v m ≡ Some o → FinishesBy v m.client m.body o.state

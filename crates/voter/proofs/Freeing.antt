@@ -14,7 +14,7 @@ use Rattle.voter.specs.VoterContract.{IsEntry}
 use Rattle.voter.specs.Steps.{grant_to, grant_front, take_release, take_release_by, queue, free_vote, finish, held_stamp, is_up_to, is_grant, take_relinquish, take_relinquish_by, put_back, see, outcome_of}
 use Rattle.voter.specs.Entries.{request_of}
 use Rattle.voter.proofs.Front.{front-found}
-use Rattle.voter.proofs.Soundness.{IsOrderly, IsOrderly-see}
+use Rattle.voter.proofs.Soundness.{GrantsAreOrderly, IsOrderly-see}
 use Rattle.voter.proofs.AskedBack.{front-first, still_removed}
 use Rattle.voter.proofs.NewRequests.{entry-grant_front, kept_inserted, here_inserted}
 
@@ -56,21 +56,21 @@ held_up_to : (o : Option Grant) (g : Grant) (s : ℕ) → o ≡ Some g → g.sta
 held_up_to None g s is most = absurd (none-some g is)
 held_up_to (Some h) g s is most = let same = same_Some h g is in let c = ap (λ (k : Grant). k.client) same in let t = ap (λ (k : Grant). k.stamp) same in grind (arith, nat_tests)
 
-frees-take_release_by : (holds waits : Bool) (v : VoterState) (g : Grant) (s : ℕ) → holds ≡ true → v.held ≡ Some g → IsOrderly v
+frees-take_release_by : (holds waits : Bool) (v : VoterState) (g : Grant) (s : ℕ) → holds ≡ true → v.held ≡ Some g → GrantsAreOrderly v
     → ((t : ℕ) → IsEntry (take_release_by holds waits v g.client s).state g.client t → ⊥) × HolderFirst (take_release_by holds waits v g.client s).state
 frees-take_release_by false waits v g s up is ok = absurd (false≢true up)
 frees-take_release_by true waits v g s up is ok =
     let w = free_vote (finish v g.client s) in
     (λ t entry. none-some t (sym (ok.apart g is) ∙ back-grant_front w refl g.client t entry), HolderFirst-grant_front w refl)
 
-pub frees-release : (v : VoterState) (g : Grant) (s : ℕ) → v.held ≡ Some g → g.stamp ≤ s → IsOrderly v
+pub frees-release : (v : VoterState) (g : Grant) (s : ℕ) → v.held ≡ Some g → g.stamp ≤ s → GrantsAreOrderly v
     → ((t : ℕ) → IsEntry (outcome_of v g.client (asks.Release s)).state g.client t → ⊥) × HolderFirst (outcome_of v g.client (asks.Release s)).state
 unfolding take_release
 frees-release v g s is most ok = frees-take_release_by _ _ (see v s) g s (held_up_to v.held g s is most) is (IsOrderly-see v s ok)
 
 -- RELINQUISH of the grant: every entry stays, and the first has the vote
 
-entry-put_back : (v : VoterState) (g : Grant) → v.held ≡ Some g → IsOrderly v → (d t : ℕ) → IsEntry v d t → IsEntry (put_back (Some g) v).state d t
+entry-put_back : (v : VoterState) (g : Grant) → v.held ≡ Some g → GrantsAreOrderly v → (d t : ℕ) → IsEntry v d t → IsEntry (put_back (Some g) v).state d t
 entry-put_back v g is ok d t entry = entry-grant_front (queue (free_vote v) g.client g.stamp) refl d t (elim entry [
   | inl held ↦
       let same = same_Some g held.0 (sym is ∙ held.1) in
@@ -83,14 +83,14 @@ entry-put_back v g is ok d t entry = entry-grant_front (queue (free_vote v) g.cl
   ]
 ])
 
-pub requeues_by : (o : Option Grant) (v : VoterState) (g : Grant) → o ≡ Some g → v.held ≡ Some g → IsOrderly v
+pub requeues_by : (o : Option Grant) (v : VoterState) (g : Grant) → o ≡ Some g → v.held ≡ Some g → GrantsAreOrderly v
     → ((d t : ℕ) → IsEntry v d t → IsEntry (put_back o v).state d t) × HolderFirst (put_back o v).state
 requeues_by None v g e is ok = absurd (none-some g e)
 requeues_by (Some h) v g e is ok =
     let same = same_Some h g e in
     (entry-put_back v h (is ∙ ap (λ (k : Grant). Some k) (sym same)) ok, HolderFirst-grant_front (queue (free_vote v) h.client h.stamp) refl)
 
-relinquishes_by : (b : Bool) (v : VoterState) (g : Grant) → b ≡ true → v.held ≡ Some g → IsOrderly v
+relinquishes_by : (b : Bool) (v : VoterState) (g : Grant) → b ≡ true → v.held ≡ Some g → GrantsAreOrderly v
     → ((d t : ℕ) → IsEntry v d t → IsEntry (take_relinquish_by b v).state d t) × HolderFirst (take_relinquish_by b v).state
 relinquishes_by false v g e is ok = absurd (false≢true e)
 relinquishes_by true v g e is ok = requeues_by v.held v g is is ok
@@ -99,7 +99,7 @@ pub own_grant : (o : Option Grant) (g : Grant) → o ≡ Some g → is_grant o g
 own_grant None g is = absurd (none-some g is)
 own_grant (Some h) g is = let same = same_Some h g is in let c = ap (λ (k : Grant). k.client) same in let n = ap (λ (k : Grant). k.grant) same in grind (arith, nat_tests)
 
-pub requeues-relinquish : (v : VoterState) (g : Grant) → v.held ≡ Some g → IsOrderly v
+pub requeues-relinquish : (v : VoterState) (g : Grant) → v.held ≡ Some g → GrantsAreOrderly v
     → ((d t : ℕ) → IsEntry v d t → IsEntry (outcome_of v g.client (asks.Relinquish g.grant)).state d t) × HolderFirst (outcome_of v g.client (asks.Relinquish g.grant)).state
 unfolding take_relinquish
 requeues-relinquish v g is ok = relinquishes_by _ v g (own_grant v.held g is) is ok

@@ -129,37 +129,37 @@ granted-outcome_of v c (asks.Release s) = granted-take_release (see v s) c s
 
 -- The number of the voter, the limit and what was seen stay.
 
-pub record Keeps (v w : VoterState) : Type 0 where
+pub record KeepsRest (v w : VoterState) : Type 0 where
   pub id : w.id ≡ v.id
   pub limit : w.limit ≡ v.limit
   pub seen : w.seen ≡ v.seen
 
-kept : (v : VoterState) → Keeps v v
+kept : (v : VoterState) → KeepsRest v v
 kept v = record { id = refl; limit = refl; seen = refl }
 
-kept_to : (v : VoterState) (o : Option Request) → Keeps v (grant_to v o).state
+kept_to : (v : VoterState) (o : Option Request) → KeepsRest v (grant_to v o).state
 kept_to v None = kept v
 kept_to v (Some r) = record { id = refl; limit = refl; seen = refl }
 
-kept-grant_front : (v : VoterState) → Keeps v (grant_front v).state
+kept-grant_front : (v : VoterState) → KeepsRest v (grant_front v).state
 unfolding grant_front
 kept-grant_front v = kept_to v (front v.waiting)
 
-pub Keeps-take_release : (v : VoterState) (c s : ℕ) → Keeps v (take_release v c s).state
-Keeps-take_release v c s = by_release (λ o. Keeps v o.state) v c s (λ _. let k = kept-grant_front (free_vote (finish v c s)) in record { id = k.id; limit = k.limit; seen = k.seen })
+pub Keeps-take_release : (v : VoterState) (c s : ℕ) → KeepsRest v (take_release v c s).state
+Keeps-take_release v c s = by_release (λ o. KeepsRest v o.state) v c s (λ _. let k = kept-grant_front (free_vote (finish v c s)) in record { id = k.id; limit = k.limit; seen = k.seen })
     (λ _ _. record { id = refl; limit = refl; seen = refl }) (λ _ _. record { id = refl; limit = refl; seen = refl })
 
-kept-join_queue_by : (waits granted : Bool) (v : VoterState) (g : Grant) (c s : ℕ) → Keeps v (join_queue_by waits granted v g c s).state
+kept-join_queue_by : (waits granted : Bool) (v : VoterState) (g : Grant) (c s : ℕ) → KeepsRest v (join_queue_by waits granted v g c s).state
 kept-join_queue_by false true v g c s = record { id = refl; limit = refl; seen = refl }
 kept-join_queue_by waits granted v g c s = record { id = refl; limit = refl; seen = refl }
 
-pub Keeps-admit : (v : VoterState) (c s : ℕ) → Keeps v (admit v c s).state
+pub Keeps-admit : (v : VoterState) (c s : ℕ) → KeepsRest v (admit v c s).state
 unfolding join_queue
-Keeps-admit v c s = by_admit (λ o. Keeps v o.state) v c s (λ _. let k = kept-grant_front (queue v c s) in record { id = k.id; limit = k.limit; seen = k.seen })
+Keeps-admit v c s = by_admit (λ o. KeepsRest v o.state) v c s (λ _. let k = kept-grant_front (queue v c s) in record { id = k.id; limit = k.limit; seen = k.seen })
     (λ g _. kept-join_queue_by _ _ v g c s)
 
-kept-take_request : (v : VoterState) (c s : ℕ) → Keeps v (take_request v c s).state
-kept-take_request v c s = by_request (λ o. Keeps v o.state) v c s (record {
+kept-take_request : (v : VoterState) (c s : ℕ) → KeepsRest v (take_request v c s).state
+kept-take_request v c s = by_request (λ o. KeepsRest v o.state) v c s (record {
   stale = λ _. kept v;
   repeated = λ _. kept v;
   only = λ _ _. Keeps-admit v c s;
@@ -169,8 +169,8 @@ kept-take_request v c s = by_request (λ o. Keeps v o.state) v c s (record {
       record { id = a.id ∙ r.id; limit = a.limit ∙ r.limit; seen = a.seen ∙ r.seen };
 })
 
-kept-take_relinquish : (v : VoterState) (c n : ℕ) → Keeps v (take_relinquish v c n).state
-kept-take_relinquish v c n = by_relinquish (λ o. Keeps v o.state) v c n (kept v)
+kept-take_relinquish : (v : VoterState) (c n : ℕ) → KeepsRest v (take_relinquish v c n).state
+kept-take_relinquish v c n = by_relinquish (λ o. KeepsRest v o.state) v c n (kept v)
     (λ g _. let k = kept-grant_front (queue (free_vote v) g.client g.stamp) in record { id = k.id; limit = k.limit; seen = k.seen })
 
 -- and of what was seen only a stamp is new

@@ -29,8 +29,8 @@ is_nothing (asks.Relinquish n) = inr (λ e. cc)
 is_nothing (asks.Release s) = inr (λ e. cc)
 
 -- a client below 64, and a stamp that is not 0
-abbrev Known : ℕ → ℕ → Type 0
-Known c s = (c < 64) × (1 ≤ s)
+abbrev IsKnownRequest : ℕ → ℕ → Type 0
+IsKnownRequest c s = (c < 64) × (1 ≤ s)
 
 below_waits : (v : VoterState) → IsKept v → (c s : ℕ) → get v.waiting c ≡ Some s → c < 64
 below_waits v kept c s is = elim (ltb c 64) as (λ b. ltb c 64 ≡ b → c < 64) [
@@ -38,7 +38,7 @@ below_waits v kept c s is = elim (ltb c 64) as (λ b. ltb c 64 ≡ b → c < 64)
   | false ↦ λ e. let past : 64 ≤ c = grind (arith, nat_tests) in absurd (none-some s (sym (kept.few c past) ∙ is))
 ] refl
 
-known : (v : VoterState) → IsKept v → (c s : ℕ) → IsEntry v c s → Known c s
+known : (v : VoterState) → IsKept v → (c s : ℕ) → IsEntry v c s → IsKnownRequest c s
 known v kept c s is = elim is [
   | inl held ↦
       let h : IsHolder (Some held.0) = subst (λ o. IsHolder o) held.1 kept.holder in
@@ -46,7 +46,7 @@ known v kept c s is = elim is [
   | inr waits ↦ (below_waits v kept c s waits, kept.stamped c s waits)
 ]
 
-brought : (client : ℕ) (b : VoterBody) → client < 64 → (b ≡ asks.Request 0 → ⊥) → (c s : ℕ) → Brings client b c s → Known c s
+brought : (client : ℕ) (b : VoterBody) → client < 64 → (b ≡ asks.Request 0 → ⊥) → (c s : ℕ) → Brings client b c s → IsKnownRequest c s
 brought client (asks.Request zero) few some c s brings = absurd (some refl)
 brought client (asks.Request (suc n)) few some c s brings = (subst (λ n. n < 64) (sym brings.0) few, let is = brings.1 in omega arith)
 brought client b few some c s brings = absurd brings
@@ -56,13 +56,13 @@ nothing : (v : VoterState) (c : ℕ) → outcome_of v c (asks.Request 0) ≡ no_
 unfolding take_request
 nothing v c = let done : nat_le 0 (slice_index v.finished c) ≡ true = grind (arith, nat_tests) in ap (λ b. take_request_by b (see v 0) c 0) done
 
-known_after : (v : VoterState) (m : ToVoter) (o : Outcome) → IsKept v → m.client < 64 → (m.body ≡ asks.Request 0 → ⊥) → MeetsContract v m o → (c s : ℕ) → IsEntry o.state c s → Known c s
+known_after : (v : VoterState) (m : ToVoter) (o : Outcome) → IsKept v → m.client < 64 → (m.body ≡ asks.Request 0 → ⊥) → MeetsContract v m o → (c s : ℕ) → IsEntry o.state c s → IsKnownRequest c s
 known_after v m o kept few some meets c s is = elim (meets.entries c s is) [
   | inl was ↦ known v kept c s was
   | inr brings ↦ brought m.client m.body few some c s brings
 ]
 
-known_by : (v : VoterState) (m : ToVoter) (o : Outcome) → IsKept v → m.client < 64 → step v m ≡ Some o → (c s : ℕ) → IsEntry o.state c s → Known c s
+known_by : (v : VoterState) (m : ToVoter) (o : Outcome) → IsKept v → m.client < 64 → step v m ≡ Some o → (c s : ℕ) → IsEntry o.state c s → IsKnownRequest c s
 known_by v m o kept few is = elim (is_nothing m.body) [
   | inl same ↦ λ c s entry. known v kept c s (subst (λ (p : Outcome). IsEntry p.state c s) (sym (step-Some v m o is).1 ∙ ap (outcome_of v m.client) same ∙ nothing v m.client) entry)
   | inr some ↦ known_after v m o kept few some (MeetsContract-step v m o is)

@@ -16,7 +16,7 @@ use Rattle.voter.specs.Steps.{first_some, take_request, see, outcome_of}
 use Rattle.voter.specs.Entries.{KnowsUpTo}
 use Rattle.voter.proofs.Cases.{by_admit, by_release, by_request}
 use Rattle.voter.proofs.Front.{front-found}
-use Rattle.voter.proofs.Soundness.{IsOrderly, IsOrderly-see, get-removed, get-inserted, orderly-take_release}
+use Rattle.voter.proofs.Soundness.{GrantsAreOrderly, IsOrderly-see, get-removed, get-inserted, orderly-take_release}
 
 -- the requests of the other clients still have the vote or wait
 abbrev pub OthersStay : VoterState → ℕ → VoterState → Type 0
@@ -73,13 +73,13 @@ present-join_queue_by : (waits granted : Bool) (v : VoterState) (g : Grant) (c s
 present-join_queue_by false true v g c s = (inr (here_inserted v.waiting c s), λ d t other entry. queue_entry v c s d t other entry)
 present-join_queue_by waits granted v g c s = (inr (here_inserted v.waiting c s), λ d t other entry. queue_entry v c s d t other entry)
 
-pub no_entry : (v : VoterState) → v.held ≡ None → IsOrderly v → (d t : ℕ) → IsEntry v d t → ⊥
+pub no_entry : (v : VoterState) → v.held ≡ None → GrantsAreOrderly v → (d t : ℕ) → IsEntry v d t → ⊥
 no_entry v free ok d t entry = elim entry [
   | inl held ↦ none-some held.0 (sym free ∙ held.1)
   | inr waits ↦ none-some t (sym (ok.free free d) ∙ waits)
 ]
 
-pub present-admit : (v : VoterState) (c s : ℕ) → IsOrderly v → IsEntry (admit v c s).state c s × OthersStay v c (admit v c s).state
+pub present-admit : (v : VoterState) (c s : ℕ) → GrantsAreOrderly v → IsEntry (admit v c s).state c s × OthersStay v c (admit v c s).state
 unfolding join_queue
 present-admit v c s ok = by_admit (λ o. IsEntry o.state c s × OthersStay v c o.state) v c s
     (λ is. (entry-grant_front (queue v c s) is c s (here_inserted v.waiting c s), λ d t other entry. absurd (no_entry v is ok d t entry)))
@@ -92,7 +92,7 @@ entry_by v c t (Some g) is e = elim (cases_eq g.client c) [
   | inr other ↦ inr (grind (arith, nat_tests))
 ]
 
-present_by : (v : VoterState) (c s : ℕ) → slice_index v.finished c < s → KnowsUpTo v c s → IsOrderly v → IsEntry (take_request v c s).state c s × OthersStay v c (take_request v c s).state
+present_by : (v : VoterState) (c s : ℕ) → slice_index v.finished c < s → KnowsUpTo v c s → GrantsAreOrderly v → IsEntry (take_request v c s).state c s × OthersStay v c (take_request v c s).state
 present_by v c s new most ok = by_request (λ o. IsEntry o.state c s × OthersStay v c o.state) v c s (record {
   stale = λ why. absurd (elim why [
     | inl done ↦ omega arith
@@ -106,6 +106,6 @@ present_by v c s new most ok = by_request (λ o. IsEntry o.state c s × OthersSt
 })
 
 -- a REQUEST that is not finished, and no older than what the voter knows of its client, holds the vote or waits; the others stay
-pub present-take_request : (v : VoterState) (c s : ℕ) → slice_index v.finished c < s → KnowsUpTo v c s → IsOrderly v
+pub present-take_request : (v : VoterState) (c s : ℕ) → slice_index v.finished c < s → KnowsUpTo v c s → GrantsAreOrderly v
     → IsEntry (outcome_of v c (asks.Request s)).state c s × OthersStay v c (outcome_of v c (asks.Request s)).state
 present-take_request v c s new most ok = present_by (see v s) c s new most (IsOrderly-see v s ok)

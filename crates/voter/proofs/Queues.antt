@@ -115,15 +115,15 @@ placed_cases : (c k s l t : ℕ) (b : Bool) (o p : Option ℕ) → k ≢ l → p
 placed_cases c k s l t b o p ne e = grind (arith, nat_tests)
 
 -- the client of r is none of these
-abbrev pub IsNew : Request → List Request → Type 0
-IsNew r rs = AllByRecursion (λ q. r.client ≢ q.client) rs
+abbrev pub IsNewClient : Request → List Request → Type 0
+IsNewClient r rs = AllByRecursion (λ q. r.client ≢ q.client) rs
 
-stamp_placed : (r : Request) (c : ℕ) (rs : List Request) → IsNew r rs → stamp_in c (placed r rs) ≡ cond (eqb c r.client) (Some r.stamp) (stamp_in c rs)
+stamp_placed : (r : Request) (c : ℕ) (rs : List Request) → IsNewClient r rs → stamp_in c (placed r rs) ≡ cond (eqb c r.client) (Some r.stamp) (stamp_in c rs)
 stamp_placed r c [] h = refl
 stamp_placed r c (q ∷ rs) h = stamp_placed_choice c (precedes q r) (q ∷ placed r rs) (r ∷ q ∷ rs)
     ∙ placed_cases c r.client r.stamp q.client q.stamp (precedes q r) _ _ h.0 (stamp_placed r c rs h.1)
 
-pub waiting_of-placed : (r : Request) (rs : List Request) → IsNew r rs → waiting_of (placed r rs) ≡ fin.insert (waiting_of rs) r.client r.stamp
+pub waiting_of-placed : (r : Request) (rs : List Request) → IsNewClient r rs → waiting_of (placed r rs) ≡ fin.insert (waiting_of rs) r.client r.stamp
 waiting_of-placed r rs h = Waiting-same _ _ (λ q. get-waiting_of (placed r rs) q ∙ stamp_placed r q rs h
     ∙ sym (fin.get-insert nat_cmp_total (waiting_of rs) r.client r.stamp q ∙ ap (λ b. cond b (Some r.stamp) (get (waiting_of rs) q)) (eq_by_cmp-nat q r.client)
     ∙ ap (cond (eqb q r.client) (Some r.stamp)) (get-waiting_of rs q)))
@@ -139,11 +139,11 @@ follows_placed q r (p ∷ rs) f h = elim (precedes p r) as (λ b. AllByRecursion
 precedes-from_not_before : (q r : Request) → r.client ≢ q.client → precedes q r ≡ false → precedes r q ≡ true
 precedes-from_not_before q r ne h = grind (arith, nat_tests)
 
-follows_all : (q r : Request) (rs : List Request) → precedes r q ≡ true → AllByRecursion (Follows q) rs → IsNew r rs → AllByRecursion (Follows r) rs
+follows_all : (q r : Request) (rs : List Request) → precedes r q ≡ true → AllByRecursion (Follows q) rs → IsNewClient r rs → AllByRecursion (Follows r) rs
 follows_all q r [] before h new = tt
 follows_all q r (p ∷ rs) before h new = (record { later = precedes-trans r q p before h.0.later; other = new.0 }, follows_all q r rs before h.1 new.1)
 
-pub IsQueue-placed : (r : Request) (rs : List Request) → r.client < 64 → IsNew r rs → IsQueue rs → IsQueue (placed r rs)
+pub IsQueue-placed : (r : Request) (rs : List Request) → r.client < 64 → IsNewClient r rs → IsQueue rs → IsQueue (placed r rs)
 IsQueue-placed r [] small new h = (small, tt, tt)
 IsQueue-placed r (q ∷ rs) small new h = elim (precedes q r) as (λ b. precedes q r ≡ b → IsQueue (cond b (q ∷ placed r rs) (r ∷ q ∷ rs))) [
   | true ↦ λ e. (h.0, follows_placed q r rs (record { later = e; other = λ s. new.0 (sym s) }) h.1, IsQueue-placed r rs small new.1 h.2)
@@ -153,9 +153,9 @@ IsQueue-placed r (q ∷ rs) small new h = elim (precedes q r) as (λ b. precedes
 is_new_step : (k c : ℕ) → eqb k c ≡ false → c ≢ k
 is_new_step k c e = grind (arith, nat_tests)
 
-pub IsNew-without : (r : Request) (rs : List Request) → IsNew r (without r.client rs)
+pub IsNew-without : (r : Request) (rs : List Request) → IsNewClient r (without r.client rs)
 IsNew-without r [] = tt
-IsNew-without r (q ∷ rs) = elim (eqb q.client r.client) as (λ b. eqb q.client r.client ≡ b → IsNew r (cond (not b) (q ∷ without r.client rs) (without r.client rs))) [
+IsNew-without r (q ∷ rs) = elim (eqb q.client r.client) as (λ b. eqb q.client r.client ≡ b → IsNewClient r (cond (not b) (q ∷ without r.client rs) (without r.client rs))) [
   | true ↦ λ e. IsNew-without r rs
   | false ↦ λ e. (is_new_step q.client r.client e, IsNew-without r rs)
 ] refl
@@ -164,11 +164,11 @@ found_head : (c k t : ℕ) (o : Option ℕ) → cond (eqb c k) (Some t) o ≡ No
 found_head c k t o e = grind (arith, nat_tests)
 
 -- a client without a request is the client of none of these
-new_of : (r : Request) (rs : List Request) → stamp_in r.client rs ≡ None → IsNew r rs
+new_of : (r : Request) (rs : List Request) → stamp_in r.client rs ≡ None → IsNewClient r rs
 new_of r [] e = tt
 new_of r (q ∷ rs) e = let h = found_head r.client q.client q.stamp _ e in (h.0, new_of r rs h.1)
 
-pub IsNew-from_get : (r : Request) (rs : List Request) → get (waiting_of rs) r.client ≡ None → IsNew r rs
+pub IsNew-from_get : (r : Request) (rs : List Request) → get (waiting_of rs) r.client ≡ None → IsNewClient r rs
 IsNew-from_get r rs e = new_of r rs (sym (get-waiting_of rs r.client) ∙ e)
 
 -- ---- how many can wait
@@ -186,7 +186,7 @@ unfolding clients IsDistinct
 IsDistinct-clients [] h = tt
 IsDistinct-clients (r ∷ rs) h = IsDistinct-cons eqb r.client (clients rs) (all_apart r rs h.1) (IsDistinct-clients rs h.2)
 
-new_apart : (r : Request) (rs : List Request) → IsNew r rs → AllByRecursion (λ c. eqb r.client c ≡ false) (clients rs)
+new_apart : (r : Request) (rs : List Request) → IsNewClient r rs → AllByRecursion (λ c. eqb r.client c ≡ false) (clients rs)
 unfolding clients
 new_apart r [] h = tt
 new_apart r (q ∷ rs) h = (let ne = h.0 in grind (arith, nat_tests), new_apart r rs h.1)
@@ -205,7 +205,7 @@ small_with r rs small h q e = elim (eqb q r.client) as (λ b. eqb q r.client ≡
   | false ↦ λ _ rest. small_clients rs h q rest
 ] refl e
 
-pub length-IsQueue : (r : Request) (rs : List Request) → r.client < 64 → IsNew r rs → IsQueue rs → length rs < 64
+pub length-IsQueue : (r : Request) (rs : List Request) → r.client < 64 → IsNewClient r rs → IsQueue rs → length rs < 64
 unfolding clients
 length-IsQueue r rs small new h =
     let most = length-le_from_distinct_below (r.client ∷ clients rs) 64 (IsDistinct-cons eqb r.client (clients rs) (new_apart r rs new) (IsDistinct-clients rs h)) (small_with r rs small h) in

@@ -28,7 +28,7 @@ use Rattle.voter.proofs.Cases.{by_admit, by_release, by_relinquish, by_request}
 use Rattle.voter.proofs.Front.{front-found}
 use Rattle.voter.proofs.Grants.{granted-compare_by, granted-admit, Keeps-admit, KeepsBut-outcome_of, up_to_own, more}
 use Rattle.voter.proofs.Moves.{VoteMoves-admit}
-use Rattle.voter.proofs.Soundness.{IsOrderly, get-inserted, get-removed_none, get-removed_self, held_stamp-holder, IsOrderly-see}
+use Rattle.voter.proofs.Soundness.{GrantsAreOrderly, get-inserted, get-removed_none, get-removed_self, held_stamp-holder, IsOrderly-see}
 use Rattle.voter.proofs.Effects.{step-Some}
 use Rattle.voter.proofs.NewRequests.{here_inserted}
 
@@ -42,19 +42,19 @@ record IsTrue (S : Type 0) (w : VoterState) (r : ToClient) : Type 0 where
   place : S → ReportsPlace w r.client r.body
 
 -- after v, the voter w has seen no more, and keeps the grant
-record GoesOn (v w : VoterState) : Type 0 where
+record SeenNoMore (v w : VoterState) : Type 0 where
   id : w.id ≡ v.id
   seen : w.seen ≡ v.seen
   held : (g : Grant) → v.held ≡ Some g → w.held ≡ Some g
 
-goes_on : (v : VoterState) → GoesOn v v
+goes_on : (v : VoterState) → SeenNoMore v v
 goes_on v = record { id = refl; seen = refl; held = λ g is. is }
 
 held_on : (v w : VoterState) → VoteMoves false v w → (g : Grant) → v.held ≡ Some g → w.held ≡ Some g
 held_on v w (inl k) g is = k.held ∙ is
 held_on v w (inr k) g is = absurd (none-some g (sym k.0 ∙ is))
 
-GoesOn-admit : (v : VoterState) (c s : ℕ) → GoesOn v (admit v c s).state
+GoesOn-admit : (v : VoterState) (c s : ℕ) → SeenNoMore v (admit v c s).state
 GoesOn-admit v c s = let k = Keeps-admit v c s in record { id = k.id; seen = k.seen; held = held_on v (admit v c s).state (VoteMoves-admit v c s) }
 
 -- who waited still does, when another comes
@@ -96,7 +96,7 @@ gone_by : (o w : Option ℕ) (t : ℕ) → first_some o w ≡ Some t → is_up_t
 gone_by None w t present held waits = absurd (false≢true (sym waits ∙ ap (λ x. is_up_to x t) present ∙ grind (arith, nat_tests)))
 gone_by (Some u) w t present held waits = let same = same_Some u t present in absurd (false≢true (sym held ∙ grind (arith, nat_tests)))
 
-gone-take_release : (v : VoterState) (c t : ℕ) → current_stamp v c ≡ Some t → IsOrderly v → get (take_release v c t).state.waiting c ≡ None
+gone-take_release : (v : VoterState) (c t : ℕ) → current_stamp v c ≡ Some t → GrantsAreOrderly v → get (take_release v c t).state.waiting c ≡ None
 gone-take_release v c t present h = by_release (λ o. get o.state.waiting c ≡ None) v c t
     (λ e.
     let own = held_stamp-holder v.held c (sym (up_to_own (held_stamp v.held c) (get v.waiting c) t present) ∙ e) in
@@ -111,22 +111,22 @@ module _ (S : Type 0) where
   abbrev AreTrue : VoterState → List ToClient → Type 0
   AreTrue w replies = AllByRecursion (IsTrue S w) replies
 
-  true-grant_to : (v w : VoterState) (o : Option Request) → GoesOn (grant_to v o).state w → AreTrue w (grant_to v o).replies
+  true-grant_to : (v w : VoterState) (o : Option Request) → SeenNoMore (grant_to v o).state w → AreTrue w (grant_to v o).replies
   true-grant_to v w None k = tt
   true-grant_to v w (Some r) k = (record { voter = sym k.id; seen = sym k.seen; vote = k.held _ refl; place = λ _. tt }, tt)
 
-  true-grant_front : (v w : VoterState) → GoesOn (grant_front v).state w → AreTrue w (grant_front v).replies
+  true-grant_front : (v w : VoterState) → SeenNoMore (grant_front v).state w → AreTrue w (grant_front v).replies
   unfolding grant_front
   true-grant_front v w k = true-grant_to v w (front v.waiting) k
 
-  true-take_release : (v w : VoterState) (c s : ℕ) → GoesOn (take_release v c s).state w → AreTrue w (take_release v c s).replies
-  true-take_release v w c s = by_release (λ o. GoesOn o.state w → AreTrue w o.replies) v c s (λ _ k. true-grant_front (free_vote (finish v c s)) w k) (λ _ _ _. tt) (λ _ _ _. tt)
+  true-take_release : (v w : VoterState) (c s : ℕ) → SeenNoMore (take_release v c s).state w → AreTrue w (take_release v c s).replies
+  true-take_release v w c s = by_release (λ o. SeenNoMore o.state w → AreTrue w o.replies) v c s (λ _ k. true-grant_front (free_vote (finish v c s)) w k) (λ _ _ _. tt) (λ _ _ _. tt)
 
-  true_former : (v w : VoterState) (o : Option Request) → GoesOn v w → (S → (q : Request) → o ≡ Some q → get w.waiting q.client ≡ Some q.stamp) → AreTrue w (fail_former v o)
+  true_former : (v w : VoterState) (o : Option Request) → SeenNoMore v w → (S → (q : Request) → o ≡ Some q → get w.waiting q.client ≡ Some q.stamp) → AreTrue w (fail_former v o)
   true_former v w None k waits = tt
   true_former v w (Some q) k waits = (record { voter = sym k.id; seen = sym k.seen; vote = tt; place = λ t. waits t q refl }, tt)
 
-  true_inquiry : (out : Bool) (v w : VoterState) (g : Grant) (o : Option Request) → GoesOn v w → w.inquiring ≡ true → v.held ≡ Some g → (S → (q : Request) → o ≡ Some q → get w.waiting q.client ≡ Some q.stamp)
+  true_inquiry : (out : Bool) (v w : VoterState) (g : Grant) (o : Option Request) → SeenNoMore v w → w.inquiring ≡ true → v.held ≡ Some g → (S → (q : Request) → o ≡ Some q → get w.waiting q.client ≡ Some q.stamp)
       → AreTrue w (inquiry out v g ++ fail_former v o)
   true_inquiry true v w g o k out is waits = true_former v w o k waits
   true_inquiry false v w g o k out is waits = (record { voter = sym k.id; seen = sym k.seen; vote = tt; place = λ _. (g, k.held g is, refl, refl, out) }, true_former v w o k waits)
@@ -157,7 +157,7 @@ module _ (S : Type 0) where
   true_again None v c s is present = (record { voter = refl; seen = refl; vote = tt; place = λ _. waits_free v.held (get v.waiting c) c s is present }, tt)
   true_again (Some g) v c s is present = true_again_by _ v g c s refl is present
 
-  true-take_request : (v : VoterState) (c s : ℕ) → (S → IsOrderly v) → AreTrue (take_request v c s).state (take_request v c s).replies
+  true-take_request : (v : VoterState) (c s : ℕ) → (S → GrantsAreOrderly v) → AreTrue (take_request v c s).state (take_request v c s).replies
   true-take_request v c s h = by_request (λ o. AreTrue o.state o.replies) v c s (record {
     stale = λ _. tt;
     repeated = λ present. true_again v.held v c s refl present;
@@ -168,7 +168,7 @@ module _ (S : Type 0) where
         AllByRecursion-append _ (take_release v c t).replies a.replies (true-take_release v a.state c t (GoesOn-admit w c s)) (true-admit w c s (λ o. gone-take_release v c t present (h o)));
   })
 
-  true_after : (v : VoterState) (c : ℕ) (b : VoterBody) → (S → IsOrderly v) → AreTrue (outcome_of v c b).state (outcome_of v c b).replies
+  true_after : (v : VoterState) (c : ℕ) (b : VoterBody) → (S → GrantsAreOrderly v) → AreTrue (outcome_of v c b).state (outcome_of v c b).replies
   true_after v c (asks.Request s) h = true-take_request (see v s) c s (λ t. IsOrderly-see v s (h t))
   true_after v c (asks.Relinquish n) h = by_relinquish (λ o. AreTrue o.state o.replies) v c n tt
       (λ g _. let u = queue (free_vote v) g.client g.stamp in true-grant_front u _ (goes_on (grant_front u).state))

@@ -111,7 +111,7 @@ truth true = refl
 truth false = refl
 
 -- the voter that these numbers are read as
-pub record Read (words : List ℕ) (v : VoterState) : Type 0 where
+pub record ReadVoter (words : List ℕ) (v : VoterState) : Type 0 where
   pub id : get_or words 1 0 ≡ v.id
   pub limit : get_or words 2 0 ≡ v.limit
   pub granted : get_or words 3 0 ≡ v.granted
@@ -121,7 +121,7 @@ pub record Read (words : List ℕ) (v : VoterState) : Type 0 where
   pub waiting : take 64 (drop 10 words) ≡ waiting_words v.waiting
   pub finished : take 64 (drop 74 words) ≡ v.finished
 
-pub Read-words_of : (v : VoterState) (words : List ℕ) → IsKept v → words ≡ words_of v → Read words v
+pub Read-words_of : (v : VoterState) (words : List ℕ) → IsKept v → words ≡ words_of v → ReadVoter words v
 unfolding words_of
 Read-words_of v words kept is =
     let head = head_words v in

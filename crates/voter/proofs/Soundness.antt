@@ -40,12 +40,12 @@ other_inserted w c s d ne e = get-inserted w c s d ∙ grind (arith, nat_tests)
 
 -- The vote and the queue.
 
-pub record IsOrderly (v : VoterState) : Type 0 where
+pub record GrantsAreOrderly (v : VoterState) : Type 0 where
   pub numbered : (g : Grant) → v.held ≡ Some g → g.grant ≤ v.granted
   pub apart : (g : Grant) → v.held ≡ Some g → get v.waiting g.client ≡ None
   pub free : v.held ≡ None → (client : ℕ) → get v.waiting client ≡ None
 
-orderly-grant_to : (v : VoterState) (o : Option Request) → front v.waiting ≡ o → v.held ≡ None → IsOrderly (grant_to v o).state
+orderly-grant_to : (v : VoterState) (o : Option Request) → front v.waiting ≡ o → v.held ≡ None → GrantsAreOrderly (grant_to v o).state
 orderly-grant_to v None is free = record {
   numbered = λ g held. absurd (none-some g (sym free ∙ held));
   apart = λ g held. absurd (none-some g (sym free ∙ held));
@@ -59,12 +59,12 @@ orderly-grant_to v (Some r) is free =
       free = λ none. absurd (none-some new (sym none));
     }
 
-orderly-grant_front : (v : VoterState) → v.held ≡ None → IsOrderly (grant_front v).state
+orderly-grant_front : (v : VoterState) → v.held ≡ None → GrantsAreOrderly (grant_front v).state
 unfolding grant_front
 orderly-grant_front v free = orderly-grant_to v (front v.waiting) refl free
 
-pub orderly-take_release : (v : VoterState) (c s : ℕ) → IsOrderly v → IsOrderly (take_release v c s).state
-orderly-take_release v c s h = by_release (λ o. IsOrderly o.state) v c s (λ _. orderly-grant_front (free_vote (finish v c s)) refl)
+pub orderly-take_release : (v : VoterState) (c s : ℕ) → GrantsAreOrderly v → GrantsAreOrderly (take_release v c s).state
+orderly-take_release v c s h = by_release (λ o. GrantsAreOrderly o.state) v c s (λ _. orderly-grant_front (free_vote (finish v c s)) refl)
     (λ _ _. record {
       numbered = h.numbered;
       apart = λ g held. get-removed_none v.waiting c g.client (h.apart g held);
@@ -76,20 +76,20 @@ not_holder : (o : Option Grant) (c : ℕ) (g : Grant) → held_stamp o c ≡ Non
 not_holder None c g none is = absurd (none-some g is)
 not_holder (Some h) c g none is = λ e. let same = ap (λ (k : Grant). k.client) (same_Some h g is) in absurd (none-some h.stamp (sym none ∙ grind (arith, nat_tests)))
 
-orderly_queue : (v : VoterState) (g : Grant) (c s : ℕ) → v.held ≡ Some g → held_stamp v.held c ≡ None → IsOrderly v → IsOrderly (queue v c s)
+orderly_queue : (v : VoterState) (g : Grant) (c s : ℕ) → v.held ≡ Some g → held_stamp v.held c ≡ None → GrantsAreOrderly v → GrantsAreOrderly (queue v c s)
 orderly_queue v g c s is away h = record {
   numbered = h.numbered;
   apart = λ k held. other_inserted v.waiting c s k.client (not_holder v.held c k away held) (h.apart k held);
   free = λ none. absurd (none-some g (sym none ∙ is));
 }
 
-orderly-join_queue_by : (waits granted : Bool) (v : VoterState) (g : Grant) (c s : ℕ) → v.held ≡ Some g → held_stamp v.held c ≡ None → IsOrderly v → IsOrderly (join_queue_by waits granted v g c s).state
+orderly-join_queue_by : (waits granted : Bool) (v : VoterState) (g : Grant) (c s : ℕ) → v.held ≡ Some g → held_stamp v.held c ≡ None → GrantsAreOrderly v → GrantsAreOrderly (join_queue_by waits granted v g c s).state
 orderly-join_queue_by false false v g c s is away h = let k = orderly_queue v g c s is away h in record { numbered = k.numbered; apart = k.apart; free = k.free }
 orderly-join_queue_by waits granted v g c s is away h = orderly_queue v g c s is away h
 
-orderly-admit : (v : VoterState) (c s : ℕ) → held_stamp v.held c ≡ None → IsOrderly v → IsOrderly (admit v c s).state
+orderly-admit : (v : VoterState) (c s : ℕ) → held_stamp v.held c ≡ None → GrantsAreOrderly v → GrantsAreOrderly (admit v c s).state
 unfolding join_queue
-orderly-admit v c s away h = by_admit (λ o. IsOrderly o.state) v c s (orderly-grant_front (queue v c s)) (λ g is. orderly-join_queue_by _ _ v g c s is away h)
+orderly-admit v c s away h = by_admit (λ o. GrantsAreOrderly o.state) v c s (orderly-grant_front (queue v c s)) (λ g is. orderly-join_queue_by _ _ v g c s is away h)
 
 -- After its release a client does not hold the vote.
 
@@ -113,7 +113,7 @@ pub held_stamp-holder : (o : Option Grant) (c : ℕ) → is_some (held_stamp o c
 held_stamp-holder None c e = absurd (false≢true e)
 held_stamp-holder (Some g) c e = (g, refl, grind (arith, nat_tests))
 
-pub held_stamp-take_release : (v : VoterState) (c t : ℕ) → current_stamp v c ≡ Some t → IsOrderly v → held_stamp (take_release v c t).state.held c ≡ None
+pub held_stamp-take_release : (v : VoterState) (c t : ℕ) → current_stamp v c ≡ Some t → GrantsAreOrderly v → held_stamp (take_release v c t).state.held c ≡ None
 held_stamp-take_release v c t present h =
     let up = up_to_own (held_stamp v.held c) (get v.waiting c) t present in
     by_release (λ o. held_stamp o.state.held c ≡ None) v c t
@@ -124,20 +124,20 @@ away_none : (o w : Option ℕ) → first_some o w ≡ None → o ≡ None
 away_none None w e = refl
 away_none (Some s) w e = absurd (none-some s (sym e))
 
-orderly-take_request : (v : VoterState) (c s : ℕ) → IsOrderly v → IsOrderly (take_request v c s).state
-orderly-take_request v c s h = by_request (λ o. IsOrderly o.state) v c s (record {
+orderly-take_request : (v : VoterState) (c s : ℕ) → GrantsAreOrderly v → GrantsAreOrderly (take_request v c s).state
+orderly-take_request v c s h = by_request (λ o. GrantsAreOrderly o.state) v c s (record {
   stale = λ _. h;
   repeated = λ _. h;
   only = λ _ present. orderly-admit v c s (away_none (held_stamp v.held c) (get v.waiting c) present) h;
   newer = λ _ t present _. orderly-admit (take_release v c t).state c s (held_stamp-take_release v c t present h) (orderly-take_release v c t h);
 })
 
-pub IsOrderly-see : (v : VoterState) (s : ℕ) → IsOrderly v → IsOrderly (see v s)
+pub IsOrderly-see : (v : VoterState) (s : ℕ) → GrantsAreOrderly v → GrantsAreOrderly (see v s)
 IsOrderly-see v s h = record { numbered = h.numbered; apart = h.apart; free = h.free }
 
-pub IsOrderly-outcome_of : (v : VoterState) (c : ℕ) (b : VoterBody) → IsOrderly v → IsOrderly (outcome_of v c b).state
+pub IsOrderly-outcome_of : (v : VoterState) (c : ℕ) (b : VoterBody) → GrantsAreOrderly v → GrantsAreOrderly (outcome_of v c b).state
 IsOrderly-outcome_of v c (asks.Request s) h = orderly-take_request (see v s) c s (IsOrderly-see v s h)
-IsOrderly-outcome_of v c (asks.Relinquish n) h = by_relinquish (λ o. IsOrderly o.state) v c n h (λ g _. orderly-grant_front (queue (free_vote v) g.client g.stamp) refl)
+IsOrderly-outcome_of v c (asks.Relinquish n) h = by_relinquish (λ o. GrantsAreOrderly o.state) v c n h (λ g _. orderly-grant_front (queue (free_vote v) g.client g.stamp) refl)
 IsOrderly-outcome_of v c (asks.Release s) h = orderly-take_release (see v s) c s (IsOrderly-see v s h)
 
 -- With the limit.

@@ -24,10 +24,10 @@ use Rattle.voter.proofs.Cases.{by_admit, by_release, by_relinquish, by_request}
 use Rattle.voter.proofs.Effects.{IsSound-step, step-Some, step-taken}
 use Rattle.voter.proofs.Moves.{VoteMoves-outcome_of}
 use Rattle.voter.proofs.Freeing.{HolderFirst-grant_front, own_grant, requeues-relinquish, requeues_by, frees-release}
-use Rattle.voter.proofs.Soundness.{IsOrderly, IsOrderly-see, orderly-take_release}
+use Rattle.voter.proofs.Soundness.{GrantsAreOrderly, IsOrderly-see, orderly-take_release}
 use Rattle.voter.proofs.NewRequests.{OthersStay, OthersStay-take_release, entry-grant_front, kept_removed, present-admit, present-take_request}
 
-orderly : (v : VoterState) → IsSound v → IsOrderly v
+orderly : (v : VoterState) → IsSound v → GrantsAreOrderly v
 orderly v ok = record { numbered = ok.numbered; apart = ok.apart; free = ok.free }
 
 -- ---- a RELEASE
@@ -61,7 +61,7 @@ stay-take_release v c t d s entry = by_release (λ o. IsEntry o.state d s ⊎ ((
 
 -- ---- a REQUEST
 
-others-take_request : (v : VoterState) (c s : ℕ) → IsOrderly v → OthersStay v c (take_request v c s).state
+others-take_request : (v : VoterState) (c s : ℕ) → GrantsAreOrderly v → OthersStay v c (take_request v c s).state
 others-take_request v c s ok = by_request (λ o. OthersStay v c o.state) v c s (record {
   stale = λ _ d u other entry. entry;
   repeated = λ _ d u other entry. entry;
@@ -71,7 +71,7 @@ others-take_request v c s ok = by_request (λ o. OthersStay v c o.state) v c s (
 })
 
 -- a client with a request has one, and it is this one
-current_stamp_by : (v : VoterState) (c u : ℕ) (o : Option Grant) → v.held ≡ o → IsOrderly v → IsEntry v c u → first_some (held_stamp o c) (get v.waiting c) ≡ Some u
+current_stamp_by : (v : VoterState) (c u : ℕ) (o : Option Grant) → v.held ≡ o → GrantsAreOrderly v → IsEntry v c u → first_some (held_stamp o c) (get v.waiting c) ≡ Some u
 current_stamp_by v c u None is ok entry = elim entry [
   | inl held ↦ absurd (none-some held.0 (sym is ∙ held.1))
   | inr waits ↦ waits
@@ -88,10 +88,10 @@ current_stamp_by v c u (Some g) is ok entry = elim entry [
   ]
 ]
 
-pub current_stamp-entry : (v : VoterState) (c u : ℕ) → IsOrderly v → IsEntry v c u → current_stamp v c ≡ Some u
+pub current_stamp-entry : (v : VoterState) (c u : ℕ) → GrantsAreOrderly v → IsEntry v c u → current_stamp v c ≡ Some u
 current_stamp-entry v c u ok entry = current_stamp_by v c u v.held refl ok entry
 
-own-take_request : (v : VoterState) (c s u : ℕ) → IsOrderly v → s ≤ u → IsEntry v c u → IsEntry (take_request v c s).state c u
+own-take_request : (v : VoterState) (c s u : ℕ) → GrantsAreOrderly v → s ≤ u → IsEntry v c u → IsEntry (take_request v c s).state c u
 own-take_request v c s u ok most entry =
     let now = current_stamp-entry v c u ok entry in
     by_request (λ o. IsEntry o.state c u) v c s (record {
@@ -101,7 +101,7 @@ own-take_request v c s u ok most entry =
       newer = λ _ t present less. absurd (let same = same_Some t u (sym present ∙ now) in omega arith);
     })
 
-stay-take_request : (v : VoterState) (c s d u : ℕ) → IsOrderly v → IsEntry v d u → IsEntry (take_request v c s).state d u ⊎ ((d ≡ c) × (u < s))
+stay-take_request : (v : VoterState) (c s d u : ℕ) → GrantsAreOrderly v → IsEntry v d u → IsEntry (take_request v c s).state d u ⊎ ((d ≡ c) × (u < s))
 stay-take_request v c s d u ok entry = elim (cases_eq d c) [
   | inl same ↦ elim (cases_lt u s) [
     | inl less ↦ inr (same, less)
@@ -112,7 +112,7 @@ stay-take_request v c s d u ok entry = elim (cases_eq d c) [
 
 -- ---- any message
 
-stay-outcome_of : (v : VoterState) (c : ℕ) (b : VoterBody) → IsOrderly v → (d s : ℕ) → IsEntry v d s → IsEntry (outcome_of v c b).state d s ⊎ Finishes c b d s
+stay-outcome_of : (v : VoterState) (c : ℕ) (b : VoterBody) → GrantsAreOrderly v → (d s : ℕ) → IsEntry v d s → IsEntry (outcome_of v c b).state d s ⊎ Finishes c b d s
 stay-outcome_of v c (asks.Request t) ok d s entry = stay-take_request (see v t) c t d s (IsOrderly-see v t ok) entry
 stay-outcome_of v c (asks.Relinquish n) ok d s entry = inl (by_relinquish (λ o. IsEntry o.state d s) v c n entry (λ g is. (requeues_by (Some g) v g refl is ok).0 d s entry))
 stay-outcome_of v c (asks.Release t) ok d s entry = stay-take_release (see v t) c t d s entry
@@ -133,10 +133,10 @@ NewFirst n w = (g : Grant) (d t : ℕ) → w.held ≡ Some g → n < g.grant →
 abbrev NewFirstOf : VoterState → VoterState → Type 0
 NewFirstOf v w = (g : Grant) (d t : ℕ) → w.held ≡ Some g → v.granted < g.grant → IsEntry v d t → get w.waiting d ≡ Some t → precedes (record { stamp = t; client = d }) (request_of g) ≡ false
 
-first-old : (v : VoterState) → IsOrderly v → NewFirst v.granted v
+first-old : (v : VoterState) → GrantsAreOrderly v → NewFirst v.granted v
 first-old v ok g d t held new waits = let most = ok.numbered g held in absurd (omega arith)
 
-first-take_release : (v : VoterState) (c t : ℕ) → IsOrderly v → NewFirst v.granted (take_release v c t).state
+first-take_release : (v : VoterState) (c t : ℕ) → GrantsAreOrderly v → NewFirst v.granted (take_release v c t).state
 first-take_release v c t ok = by_release (λ o. NewFirst v.granted o.state) v c t
     (λ _ g d s held new waiting. HolderFirst-grant_front (free_vote (finish v c t)) refl g d s held waiting)
     (λ _ _ g d s held new waiting. let most = ok.numbered g held in absurd (omega arith))
@@ -166,7 +166,7 @@ first-admit v c s n first g d t = by_admit (λ o. o.state.held ≡ Some g → n 
       | inr before ↦ first g d t (sym same ∙ held) new before
     ])
 
-first-take_request : (v : VoterState) (c s : ℕ) → IsOrderly v → NewFirstOf v (take_request v c s).state
+first-take_request : (v : VoterState) (c s : ℕ) → GrantsAreOrderly v → NewFirstOf v (take_request v c s).state
 first-take_request v c s ok = by_request (λ o. NewFirstOf v o.state) v c s (record {
   stale = λ _ g d u held new entry waits. first-old v ok g d u held new waits;
   repeated = λ _ g d u held new entry waits. first-old v ok g d u held new waits;
@@ -180,7 +180,7 @@ first-take_request v c s ok = by_request (λ o. NewFirstOf v o.state) v c s (rec
       waits;
 })
 
-first-outcome_of : (v : VoterState) (c : ℕ) (b : VoterBody) → IsOrderly v → NewFirstOf v (outcome_of v c b).state
+first-outcome_of : (v : VoterState) (c : ℕ) (b : VoterBody) → GrantsAreOrderly v → NewFirstOf v (outcome_of v c b).state
 first-outcome_of v c (asks.Request s) ok g d t held new entry waits = first-take_request (see v s) c s (IsOrderly-see v s ok) g d t held new entry waits
 first-outcome_of v c (asks.Relinquish n) ok g d t held new entry waits = by_relinquish (λ o. NewFirst v.granted o.state) v c n (first-old v ok)
     (λ h is g d t held new waits. (requeues_by (Some h) v h refl is ok).1 g d t held waits) g d t held new waits

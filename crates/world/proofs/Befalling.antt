@@ -33,20 +33,20 @@ use Rattle.world.proofs.ClientMoves.{Draws}
 use Rattle.world.proofs.IncidentLemmas.{AsksInRange, asks_by, may_count, may_have}
 use Rattle.world.proofs.Places.{client_here, voter_here}
 use Rattle.world.proofs.Raises.{no_inquiry, raised_by_step}
-use Rattle.world.proofs.Reached.{Given, accepts_among}
+use Rattle.world.proofs.Reached.{RunPremises, accepts_among}
 use Rattle.world.proofs.Restarts.{AreAll, within_or}
 
 -- ---- clients and voters
 
 -- clients and voters as they are, and every message that was sent
-pub record Live : Type 0 where
+pub record LiveWorld : Type 0 where
   pub clients : List ClientState
   pub voters : List VoterState
   pub sent : List Message
 
 -- clients and voters as they are, and as they are saved: a saved world without its tickets and what was seen
 pub record Scene : Type 0 where
-  pub live : Live
+  pub live : LiveWorld
   pub clients : List ClientState
   pub voters : List VoterState
 
@@ -72,16 +72,16 @@ voter_turns w v y z rs = record {
 -- ---- what is known where something befalls
 
 -- the message is of a client and a voter of the world
-abbrev pub IsOf : Bounds → Message → Type 0
-IsOf b (kinds.ToVoter m) = (m.client < b.clients) × (m.voter < b.voters)
-IsOf b (kinds.ToClient m) = (m.client < b.clients) × (m.voter < b.voters)
+abbrev pub IsOfWorld : Bounds → Message → Type 0
+IsOfWorld b (kinds.ToVoter m) = (m.client < b.clients) × (m.voter < b.voters)
+IsOfWorld b (kinds.ToClient m) = (m.client < b.clients) × (m.voter < b.voters)
 
 -- clients have their numbers and limits, and messages name clients and voters of the world
 pub record Known (b : Bounds) (w : Scene) : Type 0 where
   pub sizes : AreAll b (length w.live.clients) (length w.live.voters) (length w.clients) (length w.voters)
   pub ids : (c : ℕ) → c < b.clients → (client_at w.live.clients c).id ≡ c
   pub limits : (c : ℕ) → c < b.clients → (client_at w.live.clients c).limit ≡ b.limit
-  pub sent : (k : ℕ) (m : Message) → slice_get w.live.sent k ≡ Some m → IsOf b m
+  pub sent : (k : ℕ) (m : Message) → slice_get w.live.sent k ≡ Some m → IsOfWorld b m
 
 -- this LOCKED was sent to the client
 abbrev pub WasLocked : Scene → ℕ → ℕ → ℕ → ℕ → Type 0
@@ -274,7 +274,7 @@ was_locked w k sender c n (to_client.Locked stamp grant) at v t g locks =
 was_locked w k sender c n (to_client.Fail stamp) at v t g locks = absurd locks
 was_locked w k sender c n (to_client.Inquire grant) at v t g locks = absurd locks
 
-come_keeps : (b : Bounds) → Given b → (Made : ToVoter → Type 0) (s : Saved) (To : Scene → Type 0) → Keeps b Made (scene_of s) To → (k : ℕ) (o : Option Message) → slice_get s.live.sent k ≡ o
+come_keeps : (b : Bounds) → RunPremises b → (Made : ToVoter → Type 0) (s : Saved) (To : Scene → Type 0) → Keeps b Made (scene_of s) To → (k : ℕ) (o : Option Message) → slice_get s.live.sent k ≡ o
     → To (scene_of (save_and_send s (receiver o) (come s.live k o)))
 come_keeps b given Made s To keeps k None at = keeps.stays
 come_keeps b given Made s To keeps k (Some (kinds.ToVoter m)) at =
@@ -298,7 +298,7 @@ alone_keeps : (b : Bounds) (Made : ToVoter → Type 0) (s : Saved) (To : Scene �
 alone_keeps b Made s To keeps c cause accepts draws never = when To (λ t. save_and_send s (OneClient c) (if_client t c (act s.live c cause))) keeps.stays (nat_lt c (length s.live.clients)) (λ t.
     client_keeps b Made s To keeps c cause (record { within = subst (λ n. c < n) keeps.known.sizes.0 (ltb-true _ _ t); accepts = accepts; draws = draws; came = λ v u g locks. absurd (never v u g locks) }) _ refl)
 
-happens_keeps : (b : Bounds) → Given b → (deal : Dealing) → DealsFrom b.quorums deal → (Made : ToVoter → Type 0) (s : Saved) (To : Scene → Type 0) → Keeps b Made (scene_of s) To → (h : Happening)
+happens_keeps : (b : Bounds) → RunPremises b → (deal : Dealing) → DealsFrom b.quorums deal → (Made : ToVoter → Type 0) (s : Saved) (To : Scene → Type 0) → Keeps b Made (scene_of s) To → (h : Happening)
     → To (scene_of (happens deal s h))
 unfolding step
 happens_keeps b given deal deals Made s To keeps (Goes (Ask c)) =
@@ -344,7 +344,7 @@ raised_keeps b Made s To keeps c clock is =
     subst (λ (u : Saved). To (scene_of u)) (raised_by_step s c clock) (client_keeps b Made s To keeps c (client.Takes (no_inquiry x clock))
     (record { within = subst (λ n. c < n) keeps.known.sizes.0 (ltb-true _ _ is); accepts = (refl, omega arith); draws = tt; came = λ v t g never. absurd never }) (Ok (client.take x (no_inquiry x clock))) refl)
 
-pub befalls_keeps : (b : Bounds) → Given b → (deal : Dealing) → DealsFrom b.quorums deal → (Made : ToVoter → Type 0) (s : Saved) (To : Scene → Type 0) → Keeps b Made (scene_of s) To
+pub befalls_keeps : (b : Bounds) → RunPremises b → (deal : Dealing) → DealsFrom b.quorums deal → (Made : ToVoter → Type 0) (s : Saved) (To : Scene → Type 0) → Keeps b Made (scene_of s) To
     → (i : Incident) → ((m : ToVoter) → i ≡ Hears m → Made m) → To (scene_of (befalls deal s i))
 befalls_keeps b given deal deals Made s To keeps (Happens h) made = happens_keeps b given deal deals Made s To keeps h
 befalls_keeps b given deal deals Made s To keeps (Hears m) made = when To (λ t. save_and_send s (OneVoter m.voter) (if_voter t m.voter (if_client (is_message s m) m.client (vote s.live m)))) keeps.stays (nat_lt m.voter (length s.live.voters)) (λ t.

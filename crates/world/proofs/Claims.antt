@@ -101,10 +101,10 @@ less_or_same a b h = elim (ltb a b) as (λ t. ltb a b ≡ t → (a < b) ⊎ (a �
 ] refl
 
 -- the voter's vote is granted to requests that this client reached
-abbrev IsKnown : ClientState → VoterState → ℕ → Type 0
-IsKnown x w c = (s g : ℕ) → Names w.held c s g → s ≤ x.stamp
+abbrev VoteIsKnown : ClientState → VoterState → ℕ → Type 0
+VoteIsKnown x w c = (s g : ℕ) → Names w.held c s g → s ≤ x.stamp
 
-ask_later : (x y : ClientState) (w : VoterState) (v c : ℕ) (b : VoterBody) → IsAfter x y → IsKnown x w c → AskOk x w v c b → AskOk y w v c b
+ask_later : (x y : ClientState) (w : VoterState) (v c : ℕ) (b : VoterBody) → IsAfter x y → VoteIsKnown x w c → AskOk x w v c b → AskOk y w v c b
 ask_later x y w v c (asks.Request s) later known ok = let rises = later.stamp in omega arith
 ask_later x y w v c (asks.Relinquish g) later known ok = (ok.0, λ s live names. ok.1 s (later.live v s g (known s g names) live) names)
 ask_later x y w v c (asks.Release s) later known ok =
@@ -127,7 +127,7 @@ report_later x y held v c (to_client.Inquire g) later ok = tt
 
 -- each voter's vote is granted to a request that its client reached
 abbrev AreKnown : (ℕ → ClientState) → (ℕ → VoterState) → Type 0
-AreKnown X Y = (v c : ℕ) → IsKnown (X c) (Y v) c
+AreKnown X Y = (v c : ℕ) → VoteIsKnown (X c) (Y v) c
 
 message_later : (X W : ℕ → ClientState) (Y : ℕ → VoterState) → ((c : ℕ) → IsAfter (X c) (W c)) → AreKnown X Y → (m : Message) → MessageOk X Y m → MessageOk W Y m
 message_later X W Y later known (kinds.ToVoter m) ok = ask_later (X m.client) (W m.client) (Y m.voter) m.voter m.client m.body (later m.client) (known m.voter m.client) ok
@@ -180,30 +180,30 @@ ask_keeps x y z v c (asks.Relinquish g) more ok = (
 ask_keeps x y z v c (asks.Release s) more ok = ok
 
 -- no vote that its holder may still count is ended
-abbrev pub SparesLive : (ℕ → ClientState) → (ℕ → Grant → Type 0) → Type 0
-SparesLive X Killed = (v : ℕ) (h : Grant) → IsLive (X h.client) v h.stamp h.grant → Killed v h → ⊥
+abbrev pub SparesCounted : (ℕ → ClientState) → (ℕ → Grant → Type 0) → Type 0
+SparesCounted X Killed = (v : ℕ) (h : Grant) → IsLive (X h.client) v h.stamp h.grant → Killed v h → ⊥
 
-pub Names-still : (Y Z : ℕ → VoterState) (X : ℕ → ClientState) (Killed : ℕ → Grant → Type 0) → VotesKeep Y Z Killed → SparesLive X Killed
+pub Names-still : (Y Z : ℕ → VoterState) (X : ℕ → ClientState) (Killed : ℕ → Grant → Type 0) → VotesKeep Y Z Killed → SparesCounted X Killed
     → (v c s g : ℕ) → IsLive (X c) v s g → Names (Y v).held c s g → Names (Z v).held c s g
 Names-still Y Z X Killed keep spares v c s g live names = elim (keep v (record { client = c; stamp = s; grant = g }) names) [
   | inl kept ↦ kept
   | inr killed ↦ absurd (spares v (record { client = c; stamp = s; grant = g }) live killed)
 ]
 
-report_keeps : (X : ℕ → ClientState) (Y Z : ℕ → VoterState) (Killed : ℕ → Grant → Type 0) → VotesKeep Y Z Killed → SparesLive X Killed
+report_keeps : (X : ℕ → ClientState) (Y Z : ℕ → VoterState) (Killed : ℕ → Grant → Type 0) → VotesKeep Y Z Killed → SparesCounted X Killed
     → (v c : ℕ) (b : ClientBody) → ReportOk (X c) (Y v).held v c b → ReportOk (X c) (Z v).held v c b
 report_keeps X Y Z Killed keep spares v c (to_client.Locked s g) ok = (ok.0, λ live. Names-still Y Z X Killed keep spares v c s g live (ok.1 live))
 report_keeps X Y Z Killed keep spares v c (to_client.Fail s) ok = tt
 report_keeps X Y Z Killed keep spares v c (to_client.Inquire g) ok = tt
 
-message_keeps : (X : ℕ → ClientState) (Y Z : ℕ → VoterState) (Killed : ℕ → Grant → Type 0) → VotesKeep Y Z Killed → SparesLive X Killed
+message_keeps : (X : ℕ → ClientState) (Y Z : ℕ → VoterState) (Killed : ℕ → Grant → Type 0) → VotesKeep Y Z Killed → SparesCounted X Killed
     → ((v : ℕ) → GrantsMore (Y v) (Z v)) → (m : Message) → MessageOk X Y m → MessageOk X Z m
 message_keeps X Y Z Killed keep spares more (kinds.ToVoter m) ok = ask_keeps (X m.client) (Y m.voter) (Z m.voter) m.voter m.client m.body (more m.voter) ok
 message_keeps X Y Z Killed keep spares more (kinds.ToClient m) ok = report_keeps X Y Z Killed keep spares m.voter m.client m.body ok
 
 -- ---- lists of messages
 
-pub MessageOk-keep : (X : ℕ → ClientState) (Y Z : ℕ → VoterState) (Killed : ℕ → Grant → Type 0) → VotesKeep Y Z Killed → SparesLive X Killed
+pub MessageOk-keep : (X : ℕ → ClientState) (Y Z : ℕ → VoterState) (Killed : ℕ → Grant → Type 0) → VotesKeep Y Z Killed → SparesCounted X Killed
     → ((v : ℕ) → GrantsMore (Y v) (Z v)) → (ms : List Message) → AllByRecursion (MessageOk X Y) ms → AllByRecursion (MessageOk X Z) ms
 MessageOk-keep X Y Z Killed keep spares more ms h = AllByRecursion-weaker (MessageOk X Y) (MessageOk X Z) (message_keeps X Y Z Killed keep spares more) ms h
 

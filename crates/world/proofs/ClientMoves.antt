@@ -25,8 +25,8 @@ use Rattle.world.proofs.Claims.{Bounds, Names, AskOk, MessageOk, ClientOk, IsCli
 use Rattle.world.proofs.Claims.{MessageOk-later, put, put-each, put-same}
 
 -- what came: each LOCKED names voters and stamps that are in range, and is so
-abbrev pub Came : Bounds → ClientState → (ℕ → VoterState) → ℕ → client.Cause → Type 0
-Came b x Y c cause = (v s g : ℕ) → IsLocked cause v s g → (v < b.voters) × IsWithin b.limit s × (s ≤ x.stamp) × (IsLive x v s g → Names (Y v).held c s g)
+abbrev pub CameTrue : Bounds → ClientState → (ℕ → VoterState) → ℕ → client.Cause → Type 0
+CameTrue b x Y c cause = (v s g : ℕ) → IsLocked cause v s g → (v < b.voters) × IsWithin b.limit s × (s ≤ x.stamp) × (IsLive x v s g → Names (Y v).held c s g)
 
 -- the quorum that is asked is one of the quorums
 abbrev pub Draws : Bounds → client.Cause → Type 0
@@ -51,7 +51,7 @@ last_not_live : (x : ClientState) (v s g : ℕ) → g ≡ last_of x v → IsLive
 last_not_live x v s g same live = let above = live.fresh in omega arith
 
 says_ok : (b : Bounds) (x y : ClientState) (X : ℕ → ClientState) (Y : ℕ → VoterState) (c : ℕ) (cause : client.Cause) → ((v : ℕ) → VoterOk b X (Y v))
-    → ((v g : ℕ) → holds_under x v g ≡ true → Names (Y v).held c x.stamp g) → Came b x Y c cause → IsLater x y
+    → ((v g : ℕ) → holds_under x v g ≡ true → Names (Y v).held c x.stamp g) → CameTrue b x Y c cause → IsLater x y
     → (v : ℕ) (body : VoterBody) → Says x cause y v body → AskOk y (Y v) v c body
 says_ok b x y X Y c cause voters held came later v (asks.Request s) says = let same = says in omega arith
 says_ok b x y X Y c cause voters held came later v (asks.Relinquish g) says =
@@ -91,7 +91,7 @@ member_below b meet x quorum v is = elim quorum [
   | inr j ↦ has_below b.voters (members x) v (recursion_from_All (λ i. i < b.voters) (members x) (subst (λ (q : List ℕ). All (λ i. i < b.voters) q) (sym j.2) (meet.in_range j.0 [] j.1))) is
 ]
 
-reached_below : (b : Bounds) → DoMeet b.voters b.quorums → (x y : ClientState) (Y : ℕ → VoterState) (c : ℕ) (cause : client.Cause) → Came b x Y c cause
+reached_below : (b : Bounds) → DoMeet b.voters b.quorums → (x y : ClientState) (Y : ℕ → VoterState) (c : ℕ) (cause : client.Cause) → CameTrue b x Y c cause
     → (members y ≡ []) ⊎ IsAmong b.quorums (members y) → (v : ℕ) → IsReached cause y v → v < b.voters
 reached_below b meet x y Y c cause came quorum v reached = elim reached [
   | inl member ↦ member_below b meet y quorum v member
@@ -106,13 +106,13 @@ quorum_after b x y client.Leaves draws keeps was = subst (λ (q : List ℕ). (q 
 quorum_after b x y client.GivesUp draws keeps was = subst (λ (q : List ℕ). (q ≡ []) ⊎ IsAmong b.quorums q) (sym keeps.0) was
 
 -- what is known of one message that a client sends
-record Sent (b : Bounds) (c : ℕ) (y : ClientState) (Y : ℕ → VoterState) (m : ToVoter) : Type 0 where
+record SentByClient (b : Bounds) (c : ℕ) (y : ClientState) (Y : ℕ → VoterState) (m : ToVoter) : Type 0 where
   client : m.client ≡ c
   voter : m.voter < b.voters
   number : IsWithin b.limit (voter_number m.body)
   ok : AskOk y (Y m.voter) m.voter c m.body
 
-asks_ok : (b : Bounds) (W : ℕ → ClientState) (Y : ℕ → VoterState) (c : ℕ) (y : ClientState) → W c ≡ y → (out : List ToVoter) → AllByRecursion (Sent b c y Y) out
+asks_ok : (b : Bounds) (W : ℕ → ClientState) (Y : ℕ → VoterState) (c : ℕ) (y : ClientState) → W c ≡ y → (out : List ToVoter) → AllByRecursion (SentByClient b c y Y) out
     → AllByRecursion (MessageOk W Y) (map kinds.ToVoter out)
 asks_ok b W Y c y is [] h = tt
 asks_ok b W Y c y is (m ∷ ms) h = (
@@ -120,15 +120,15 @@ asks_ok b W Y c y is (m ∷ ms) h = (
   asks_ok b W Y c y is ms h.1,
 )
 
-asks_range : (b : Bounds) (c : ℕ) (y : ClientState) (Y : ℕ → VoterState) → c < b.clients → (out : List ToVoter) → AllByRecursion (Sent b c y Y) out
+asks_range : (b : Bounds) (c : ℕ) (y : ClientState) (Y : ℕ → VoterState) → c < b.clients → (out : List ToVoter) → AllByRecursion (SentByClient b c y Y) out
     → AreInRange b.voters b.clients b.limit (map kinds.ToVoter out)
 asks_range b c y Y within [] h = tt
 asks_range b c y Y within (m ∷ ms) h = ((subst (λ n. n < b.clients) (sym h.0.client) within, h.0.voter, h.0.number), asks_range b c y Y within ms h.1)
 
 all_sent : (b : Bounds) → DoMeet b.voters b.quorums → (X : ℕ → ClientState) (Y : ℕ → VoterState) → ((v : ℕ) → VoterOk b X (Y v)) → (c : ℕ) (x y : ClientState) (cause : client.Cause) → x.id ≡ c
     → ((v g : ℕ) → holds_under x v g ≡ true → Names (Y v).held c x.stamp g) → y.limit ≡ b.limit → IsLater x y
-    → (members y ≡ []) ⊎ IsAmong b.quorums (members y) → Came b x Y c cause
-    → (out : List ToVoter) → AllSay x cause y out → AllInRange cause y out → AllByRecursion (Sent b c y Y) out
+    → (members y ≡ []) ⊎ IsAmong b.quorums (members y) → CameTrue b x Y c cause
+    → (out : List ToVoter) → AllSay x cause y out → AllInRange cause y out → AllByRecursion (SentByClient b c y Y) out
 all_sent b meet X Y voters c x y cause id held limit later quorum came [] say range = tt
 all_sent b meet X Y voters c x y cause id held limit later quorum came (m ∷ ms) say range = (
   record {
@@ -142,11 +142,11 @@ all_sent b meet X Y voters c x y cause id held limit later quorum came (m ∷ ms
 
 -- ---- a client takes a step
 
-comes_in_range : (b : Bounds) (x : ClientState) (Y : ℕ → VoterState) (c : ℕ) (cause : client.Cause) → x.limit ≡ b.limit → Came b x Y c cause → ComesInRange x.limit cause
+comes_in_range : (b : Bounds) (x : ClientState) (Y : ℕ → VoterState) (c : ℕ) (cause : client.Cause) → x.limit ≡ b.limit → CameTrue b x Y c cause → ComesInRange x.limit cause
 comes_in_range b x Y c cause limit came = λ v s g locked. let within = (came v s g locked).1 in let most = within.1 in (within.0, omega arith)
 
 pub client_moves : ClientLaws → (b : Bounds) → DoMeet b.voters b.quorums → (X : ℕ → ClientState) (Y : ℕ → VoterState) (sent : List Message) → WorldOk b X Y sent → (c : ℕ) → c < b.clients
-    → (cause : client.Cause) (o : client.Outcome) → Accepts (X c) cause → client.step (X c) cause ≡ Ok o → Came b (X c) Y c cause → Draws b cause
+    → (cause : client.Cause) (o : client.Outcome) → Accepts (X c) cause → client.step (X c) cause ≡ Ok o → CameTrue b (X c) Y c cause → Draws b cause
     → WorldOk b (put X c o.state) Y (sent ++ map kinds.ToVoter o.out)
 client_moves laws b meet X Y sent ok c within cause o accepts step came draws =
     let x = X c in
@@ -197,7 +197,7 @@ repeat_within b X x y ok limit v (asks.Relinquish g) last says within =
 repeat_within b X x y ok limit v (asks.Release s) last says within = absurd says
 
 all_repeated : (b : Bounds) → DoMeet b.voters b.quorums → (X : ℕ → ClientState) (Y : ℕ → VoterState) → ((v : ℕ) → VoterOk b X (Y v)) → (c : ℕ) (x : ClientState) → ClientOk b x → x.id ≡ c → x.limit ≡ b.limit
-    → ((v : ℕ) → last_of x v ≤ (Y v).granted) → (out : List ToVoter) → AllRepeat x out → RemindersInRange x out → AllByRecursion (Sent b c x Y) out
+    → ((v : ℕ) → last_of x v ≤ (Y v).granted) → (out : List ToVoter) → AllRepeat x out → RemindersInRange x out → AllByRecursion (SentByClient b c x Y) out
 all_repeated b meet X Y voters c x ok id limit last [] say range = tt
 all_repeated b meet X Y voters c x ok id limit last (m ∷ ms) say range = (
   record {

@@ -18,7 +18,7 @@ use Rattle.world.proofs.Added.{AreDrawn-run}
 use Rattle.world.proofs.Claims.{Bounds}
 use Rattle.world.proofs.ClientMoves.{member_below}
 use Rattle.world.proofs.Exclusion.{quorum_busy}
-use Rattle.world.proofs.Reached.{Given, RunOk, start_ok}
+use Rattle.world.proofs.Reached.{RunPremises, RunOk, start_ok}
 use Rattle.world.proofs.Restarts.{all_ok, live_ok, saved_now}
 
 -- ---- the live world
@@ -38,14 +38,14 @@ live_run deal [] s = refl
 live_run deal (t ∷ steps) s = live_run deal steps (happens deal s (Goes t)) ∙ ap (run_of deal steps) (live_gone s (maker s.live t) (step deal s.live t))
 
 -- after any steps from such a world
-pub run_from : (b : Bounds) → Given b → (deal : Dealing) → DealsFrom b.quorums deal → (steps : List Step) (w : WorldState) → RunOk b w → RunOk b (run_of deal steps w)
+pub run_from : (b : Bounds) → RunPremises b → (deal : Dealing) → DealsFrom b.quorums deal → (steps : List Step) (w : WorldState) → RunOk b w → RunOk b (run_of deal steps w)
 run_from b given deal deals steps w first_ok =
     let first : Saved = record { live = w; clients = w.clients; voters = w.voters } in
     let s = all_happen deal (map Goes steps) first in
     let ok = all_ok b given deal deals (map Goes steps) first (saved_now b w first_ok) in
     subst (λ (w : WorldState). RunOk b w) (live_run deal steps first) (record { clients = ok.sizes.0; voters = ok.sizes.1; world = live_ok b s ok; walked = ok.walked })
 
-pub run_ok : (b : Bounds) → Given b → (deal : Dealing) → DealsFrom b.quorums deal → (steps : List Step) → RunOk b (run_of deal steps (start b.voters b.clients b.limit))
+pub run_ok : (b : Bounds) → RunPremises b → (deal : Dealing) → DealsFrom b.quorums deal → (steps : List Step) → RunOk b (run_of deal steps (start b.voters b.clients b.limit))
 run_ok b given deal deals steps = run_from b given deal deals steps (start b.voters b.clients b.limit) (start_ok b given)
 
 -- ---- what holds of a run
@@ -54,7 +54,7 @@ IsAddressed-in_range : (b : Bounds) (w : WorldState) → length w.clients ≡ b.
 IsAddressed-in_range b w clients voters (kinds.ToVoter m) range = (subst (λ n. m.client < n) (sym clients) range.0, subst (λ n. m.voter < n) (sym voters) range.1)
 IsAddressed-in_range b w clients voters (kinds.ToClient m) range = (subst (λ n. m.client < n) (sym clients) range.0, subst (λ n. m.voter < n) (sym voters) range.1)
 
-pub numbered_by : (b : Bounds) → Given b → (w : WorldState) → RunOk b w → IsNumbered w
+pub numbered_by : (b : Bounds) → RunPremises b → (w : WorldState) → RunOk b w → IsNumbered w
 numbered_by b given w ok =
     let clients = ok.clients in
     let voters = ok.voters in
@@ -73,7 +73,7 @@ pub every_run : ClientLaws → VoterLaws → (voters clients limit : ℕ) (quoru
     → AreLimits voters clients limit → DoMeet voters quorums → DealsFrom quorums deal → IsSound voters clients limit (run_of deal steps (start voters clients limit))
 every_run cs vs voters clients limit quorums deal steps limits meets deals =
     let b : Bounds = record { voters = voters; clients = clients; limit = limit; quorums = quorums } in
-    let given : Given b = record { client = cs; voter = vs; limits = limits; meet = meets } in
+    let given : RunPremises b = record { client = cs; voter = vs; limits = limits; meet = meets } in
     let first = start voters clients limit in
     let ok = run_ok b given deal deals steps in
     let drawn = AreDrawn-run deal steps first (refl, refl) in
@@ -81,7 +81,7 @@ every_run cs vs voters clients limit quorums deal steps limits meets deals =
 
 -- ---- what fits together
 
-pub coherent_by : (b : Bounds) → Given b → (w : WorldState) → RunOk b w → IsCoherent w
+pub coherent_by : (b : Bounds) → RunPremises b → (w : WorldState) → RunOk b w → IsCoherent w
 coherent_by b given w ok = record {
   numbered = numbered_by b given w ok;
   clients = λ c. (ok.world.clients c).sound;
@@ -108,5 +108,5 @@ pub every_run_coherent : ClientLaws → VoterLaws → (voters clients limit : �
     → AreLimits voters clients limit → DoMeet voters quorums → DealsFrom quorums deal → IsCoherent (run_of deal steps (start voters clients limit))
 every_run_coherent cs vs voters clients limit quorums deal steps limits meets deals =
     let b : Bounds = record { voters = voters; clients = clients; limit = limit; quorums = quorums } in
-    let given : Given b = record { client = cs; voter = vs; limits = limits; meet = meets } in
+    let given : RunPremises b = record { client = cs; voter = vs; limits = limits; meet = meets } in
     coherent_by b given (run_of deal steps (start voters clients limit)) (run_ok b given deal deals steps)

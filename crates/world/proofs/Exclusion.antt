@@ -80,15 +80,15 @@ inside_after inside [] = inside
 inside_after None (e ∷ es) = inside_after (Some e.client) es
 inside_after (Some c) (e ∷ es) = inside_after None es
 
-abbrev Follows : Option ℕ → Event → Type 0
-Follows None e = e.entered ≡ true
-Follows (Some c) e = (e.entered ≡ false) × (e.client ≡ c)
+abbrev EntersOrIs : Option ℕ → Event → Type 0
+EntersOrIs None e = e.entered ≡ true
+EntersOrIs (Some c) e = (e.entered ≡ false) × (e.client ≡ c)
 
 abbrev next_inside : Option ℕ → Event → Option ℕ
 next_inside None e = Some e.client
 next_inside (Some c) e = None
 
-GoesOn-push : (o : Option ℕ) (es : List Event) (e : Event) → GoesOn o es → Follows (inside_after o es) e → GoesOn o (es ++ e ∷ [])
+GoesOn-push : (o : Option ℕ) (es : List Event) (e : Event) → GoesOn o es → EntersOrIs (inside_after o es) e → GoesOn o (es ++ e ∷ [])
 GoesOn-push None [] e h g = (g, tt)
 GoesOn-push (Some c) [] e h g = (g.0, g.1, tt)
 GoesOn-push None (x ∷ es) e h g = (h.0, GoesOn-push (Some x.client) es e h.1 g)
@@ -137,7 +137,7 @@ Walked-step es X c x Entered h sees alone =
     let e : Event = record { client = c; entered = true } in
     let none = is_inside_by-nobody_else es X c x (inside_after None es) h.inside sees.1 sees.0 alone in
     record {
-      list = GoesOn-push None es e h.list (subst (λ o. Follows o e) (sym none) refl);
+      list = GoesOn-push None es e h.list (subst (λ o. EntersOrIs o e) (sym none) refl);
       inside = λ q. elim (eqb q c) as (λ b. eqb q c ≡ b → is_inside (cond b x (X q)).phase ≡ b) [
         | true ↦ λ _. sees.1
         | false ↦ λ _. h.inside q ∙ ap (λ o. is_inside_by o q) none
@@ -147,7 +147,7 @@ Walked-step es X c x Left h sees alone =
     let e : Event = record { client = c; entered = false } in
     let self = is_inside_by-true c (inside_after None es) (sym (h.inside c) ∙ sees.0) in
     record {
-      list = GoesOn-push None es e h.list (subst (λ o. Follows o e) (sym self) (refl, refl));
+      list = GoesOn-push None es e h.list (subst (λ o. EntersOrIs o e) (sym self) (refl, refl));
       inside = λ q. elim (eqb q c) as (λ b. eqb q c ≡ b → is_inside (cond b x (X q)).phase ≡ false) [
         | true ↦ λ _. sees.1
         | false ↦ λ apart. h.inside q ∙ ap (λ o. is_inside_by o q) self ∙ apart

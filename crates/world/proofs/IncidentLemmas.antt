@@ -20,7 +20,7 @@ use Rattle.world.specs.Incidents.{anew, is_above, is_limit, is_request_within, r
 use Rattle.world.specs.Ranges.{IsWithin}
 use Rattle.world.specs.Restarts.{Saved}
 use Rattle.world.proofs.Claims.{Bounds}
-use Rattle.world.proofs.Reached.{Given}
+use Rattle.world.proofs.Reached.{RunPremises}
 
 -- a REQUEST has a stamp from 1 to the limit
 abbrev pub AsksInRange : ℕ → VoterBody → Type 0
@@ -59,7 +59,7 @@ abbrev pub counted : VoterState → ℕ → ℕ → VoterState
 counted y granted limit = record y { granted = granted; limit = limit }
 
 -- a client that starts anew
-pub anew_sound : (b : Bounds) → Given b → (x : ClientState) (clock : ℕ) → sound.IsSound x → clock ≤ x.limit → sound.IsSound (anew x clock)
+pub anew_sound : (b : Bounds) → RunPremises b → (x : ClientState) (clock : ℕ) → sound.IsSound x → clock ≤ x.limit → sound.IsSound (anew x clock)
 anew_sound b given x clock was most = IsSound-clear_votes (anew x clock) Idle refl was.id was.some was.limit
     (given.client.first x.id x.limit was.id was.some was.limit).places.last most (omega arith) tt (λ busy. absurd (false≢true (sym busy)))
 

@@ -34,7 +34,7 @@ use Rattle.world.proofs.Claims.{Bounds, put, put-same}
 use Rattle.world.proofs.EveryRun.{numbered_by, run_ok}
 use Rattle.world.proofs.Places.{client_at-set, client_here, voter_at-set, voter_here}
 use Rattle.world.proofs.Plans.{run_then}
-use Rattle.world.proofs.Reached.{Given, RunOk, accepts_among}
+use Rattle.world.proofs.Reached.{RunPremises, RunOk, accepts_among}
 use Rattle.world.proofs.Restarts.{Mix, MixBut, Mix-back, Mix-restarted, Mix-saved, Mix-with, MixBut-put, MixBut-put_left, none_of, nothing_more, put-both, silent_parts, within_or}
 
 -- ---- lists
@@ -83,13 +83,13 @@ Agrees Nobody w X Y = Unit {0}
 abbrev moved : Node → List ClientState → List VoterState → Outcome → Outcome
 moved who X Y o = record o { state = with_nodes o.state (put_client who X o.state) (put_voter who Y o.state) }
 
-record Moves (who : Node) (w u : WorldState) : Type 0 where
+record NodeMoves (who : Node) (w u : WorldState) : Type 0 where
   clients : u.clients ≡ put_client who w.clients u
   voters : u.voters ≡ put_voter who w.voters u
 
 -- the same outcome, and nobody but the maker changes
 abbrev Alike : WorldState → List ClientState → List VoterState → Node → Result Outcome WorldFault → Result Outcome WorldFault → Type 0
-Alike w X Y who (Ok o) r = (r ≡ Ok (moved who X Y o)) × Moves who w o.state
+Alike w X Y who (Ok o) r = (r ≡ Ok (moved who X Y o)) × NodeMoves who w o.state
 Alike w X Y who (Err fault) r = r ≡ Err fault
 
 alike_client : (w : WorldState) (X : List ClientState) (Y : List VoterState) (c : ℕ) → length X ≡ length w.clients → (r : Result client.Outcome ClientFault)
@@ -232,12 +232,12 @@ abbrev IsRest : WorldState → WorldState → Type 0
 IsRest w u = u ≡ with_nodes w u.clients u.voters
 
 -- unless nobody makes it
-abbrev Rests : Node → WorldState → Result Outcome WorldFault → Type 0
-Rests Nobody w r = Unit {0}
-Rests (OneClient c) w (Ok o) = is_silent o.sent o.seen ≡ true → IsRest w o.state
-Rests (OneClient c) w (Err fault) = Unit {0}
-Rests (OneVoter v) w (Ok o) = is_silent o.sent o.seen ≡ true → IsRest w o.state
-Rests (OneVoter v) w (Err fault) = Unit {0}
+abbrev RestsUnless : Node → WorldState → Result Outcome WorldFault → Type 0
+RestsUnless Nobody w r = Unit {0}
+RestsUnless (OneClient c) w (Ok o) = is_silent o.sent o.seen ≡ true → IsRest w o.state
+RestsUnless (OneClient c) w (Err fault) = Unit {0}
+RestsUnless (OneVoter v) w (Ok o) = is_silent o.sent o.seen ≡ true → IsRest w o.state
+RestsUnless (OneVoter v) w (Err fault) = Unit {0}
 
 rest_by : (w : WorldState) (X : List ClientState) (Y : List VoterState) (sent : List Message) (c : ℕ) (seen : Seen) → w.sent ≡ sent → seen ≡ Nothing
     → ◌≡◌ {A = WorldState} (record w { clients = X; voters = Y; sent = sent; visible = w.visible ++ events c seen }) (with_nodes w X Y)
@@ -248,13 +248,13 @@ rest_by w X Y sent c seen same none = λ i. record w {
   visible = (ap (λ (s : Seen). w.visible ++ events c s) none ∙ append-nil w.visible) i;
 }
 
-rests_client : (w : WorldState) (c : ℕ) (r : Result client.Outcome ClientFault) → Rests (OneClient c) w (after_client w c r)
+rests_client : (w : WorldState) (c : ℕ) (r : Result client.Outcome ClientFault) → RestsUnless (OneClient c) w (after_client w c r)
 rests_client w c (Ok o) = λ silent.
     let parts = silent_parts (length o.out) o.seen silent in
     rest_by w (slice_set w.clients c o.state) w.voters (w.sent ++ map kinds.ToVoter o.out) c o.seen (none_of kinds.ToVoter w.sent o.out parts.0) parts.1
 rests_client w c (Err fault) = tt
 
-rests_voter : (w : WorldState) (v : ℕ) (r : Option voter.Outcome) → Rests (OneVoter v) w (after_voter w v r)
+rests_voter : (w : WorldState) (v : ℕ) (r : Option voter.Outcome) → RestsUnless (OneVoter v) w (after_voter w v r)
 rests_voter w v (Some o) = λ silent.
     let parts = silent_parts (length o.replies) Nothing silent in
     ap (λ (l : List Message). record w { voters = slice_set w.voters v o.state; sent = l }) (sym (none_of kinds.ToClient w.sent o.replies parts.0))
@@ -277,7 +277,7 @@ unfolding client.step client.ask
 asks_loud x q o some is = subst (λ r. 1 ≤ out_len r) is (loud_unless (client.ask_fault x) x q some)
 
 rests_ask : (side : Side) (w : WorldState) (c : ℕ) (q : List ℕ) (r : Result client.Outcome ClientFault) → 1 ≤ length q → client.step (client_at w.clients c) (client.Asks q) ≡ r
-    → Rests (OneClient c) w (after_client (draw_of side w c) c r)
+    → RestsUnless (OneClient c) w (after_client (draw_of side w c) c r)
 rests_ask side w c q (Ok o) some is = λ silent.
     let parts = silent_parts (length o.out) o.seen silent in
     let none = parts.0 in
@@ -285,15 +285,15 @@ rests_ask side w c q (Ok o) some is = λ silent.
     absurd (omega arith)
 rests_ask side w c q (Err fault) some is = tt
 
-if_client_rests : (w : WorldState) (c : ℕ) (t : Bool) (r : Result Outcome WorldFault) → Rests (OneClient c) w r → Rests (OneClient c) w (if_client t c r)
+if_client_rests : (w : WorldState) (c : ℕ) (t : Bool) (r : Result Outcome WorldFault) → RestsUnless (OneClient c) w r → RestsUnless (OneClient c) w (if_client t c r)
 if_client_rests w c true r h = h
 if_client_rests w c false r h = tt
 
-if_voter_rests : (w : WorldState) (v : ℕ) (t : Bool) (r : Result Outcome WorldFault) → Rests (OneVoter v) w r → Rests (OneVoter v) w (if_voter t v r)
+if_voter_rests : (w : WorldState) (v : ℕ) (t : Bool) (r : Result Outcome WorldFault) → RestsUnless (OneVoter v) w r → RestsUnless (OneVoter v) w (if_voter t v r)
 if_voter_rests w v true r h = h
 if_voter_rests w v false r h = tt
 
-rests_come : (w : WorldState) (k : ℕ) (o : Option Message) → Rests (receiver o) w (come w k o)
+rests_come : (w : WorldState) (k : ℕ) (o : Option Message) → RestsUnless (receiver o) w (come w k o)
 rests_come w k None = tt
 rests_come w k (Some (kinds.ToVoter m)) = rests_voter w m.voter (voter.step (voter_at w.voters m.voter) m)
 rests_come w k (Some (kinds.ToClient m)) = rests_client w m.client (client.step (client_at w.clients m.client) (client.Takes m))
@@ -302,12 +302,12 @@ rests_come w k (Some (kinds.ToClient m)) = rests_client w m.client (client.step 
 abbrev AsksSomebody : Dealing → Type 0
 AsksSomebody deal = (side : Side) (ticket : ℕ) → 1 ≤ length (quorum_dealt deal side ticket)
 
-by_client : (w : WorldState) (c : ℕ) (cause : client.Cause) → Rests (OneClient c) w (if_client (nat_lt c (length w.clients)) c (after_client w c (client.step (client_at w.clients c) cause)))
+by_client : (w : WorldState) (c : ℕ) (cause : client.Cause) → RestsUnless (OneClient c) w (if_client (nat_lt c (length w.clients)) c (after_client w c (client.step (client_at w.clients c) cause)))
 by_client w c cause =
     let r = client.step (client_at w.clients c) cause in
     if_client_rests w c (nat_lt c (length w.clients)) (after_client w c r) (rests_client w c r)
 
-rests : (deal : Dealing) (w : WorldState) (st : Step) → AsksSomebody deal → Rests (maker w st) w (step deal w st)
+rests : (deal : Dealing) (w : WorldState) (st : Step) → AsksSomebody deal → RestsUnless (maker w st) w (step deal w st)
 unfolding step
 rests deal w (Ask c) some =
     let q = quorum_dealt deal w.side (next_ticket w) in
@@ -368,8 +368,8 @@ record Taken (deal : Dealing) (first : WorldState) (s : Saved) (st : Step) (who 
   within : Within who s.live
   goes : (X : List ClientState) (Y : List VoterState) → length X ≡ length s.live.clients → length Y ≡ length s.live.voters → Agrees who s.live X Y
       → Alike s.live X Y who (Ok o) (step deal (with_nodes s.live X Y) st)
-  quiet : Rests who s.live (Ok o)
-  moves : Moves who s.live o.state
+  quiet : RestsUnless who s.live (Ok o)
+  moves : NodeMoves who s.live o.state
 
 -- a client as it is after its step, and the others mixed
 client_led : (deal : Dealing) (first : WorldState) (s : Saved) (st : Step) (c : ℕ) (o : Outcome) → Taken deal first s st (OneClient c) o
@@ -531,7 +531,7 @@ agrees_self (OneClient c) w = refl
 agrees_self (OneVoter v) w = refl
 agrees_self Nobody w = tt
 
-lengths_by : (who : Node) (w u : WorldState) → Moves who w u → (length u.clients ≡ length w.clients) × (length u.voters ≡ length w.voters)
+lengths_by : (who : Node) (w u : WorldState) → NodeMoves who w u → (length u.clients ≡ length w.clients) × (length u.voters ≡ length w.voters)
 lengths_by (OneClient c) w u m = (
   ap (λ (l : List ClientState). length l) m.clients ∙ length-set w.clients c (client_at u.clients c),
   ap (λ (l : List VoterState). length l) m.voters,
@@ -549,10 +549,10 @@ same_lengths deal w st o is =
     lengths_by (maker w st) w o.state
     (subst (λ r. Alike w w.clients w.voters (maker w st) r (step deal (with_nodes w w.clients w.voters) st)) is (alike deal w w.clients w.voters st refl refl (agrees_self (maker w st) w))).1
 
-asks_somebody : (b : Bounds) → Given b → (deal : Dealing) → DealsFrom b.quorums deal → AsksSomebody deal
+asks_somebody : (b : Bounds) → RunPremises b → (deal : Dealing) → DealsFrom b.quorums deal → AsksSomebody deal
 asks_somebody b given deal deals side ticket = (accepts_among b given.meet (quorum_dealt deal side ticket) (deals side ticket)).1
 
-goes_led : (b : Bounds) → Given b → (deal : Dealing) → DealsFrom b.quorums deal → (s : Saved) → EachMixIsLed deal (start b.voters b.clients b.limit) s → (st : Step)
+goes_led : (b : Bounds) → RunPremises b → (deal : Dealing) → DealsFrom b.quorums deal → (s : Saved) → EachMixIsLed deal (start b.voters b.clients b.limit) s → (st : Step)
     → (r : Result Outcome WorldFault) → step deal s.live st ≡ r → EachMixIsLed deal (start b.voters b.clients b.limit) (save_and_send s (maker s.live st) r)
 goes_led b given deal deals s ok st (Err fault) is = ok
 goes_led b given deal deals s ok st (Ok o) is =
@@ -568,7 +568,7 @@ goes_led b given deal deals s ok st (Ok o) is =
       ok = ok;
       within = within_step deal w st o numbered is;
       goes = same;
-      quiet = subst (λ r. Rests (maker w st) w r) is (rests deal w st (asks_somebody b given deal deals));
+      quiet = subst (λ r. RestsUnless (maker w st) w r) is (rests deal w st (asks_somebody b given deal deals));
       moves = (same w.clients w.voters refl refl (agrees_self (maker w st) w)).1;
     }) _ refl
 
@@ -614,7 +614,7 @@ no_crash false true e = absurd (false≢true e)
 no_crash false false e = refl
 
 -- a client is inside as it was saved, if and only if it is inside
-pub same_inside : (b : Bounds) → Given b → (deal : Dealing) → DealsFrom b.quorums deal → (s : Saved) → EachMixIsLed deal (start b.voters b.clients b.limit) s → (c : ℕ) → c < length s.live.clients
+pub same_inside : (b : Bounds) → RunPremises b → (deal : Dealing) → DealsFrom b.quorums deal → (s : Saved) → EachMixIsLed deal (start b.voters b.clients b.limit) s → (c : ℕ) → c < length s.live.clients
     → is_inside (client_at s.live.clients c).phase ≡ is_inside (client_at s.clients c).phase
 same_inside b given deal deals s ok c within =
     let w = s.live in
@@ -634,12 +634,12 @@ same_inside b given deal deals s ok c within =
     here.walked.inside c ∙ sym (there.walked.inside c) ∙ ap (λ (x : ClientState). is_inside x.phase) (client_here w.clients c (K c) within)
 
 -- a client that restarts is not seen
-pub unseen : (b : Bounds) → Given b → (deal : Dealing) → DealsFrom b.quorums deal → (s : Saved) → EachMixIsLed deal (start b.voters b.clients b.limit) s → (c : ℕ) → c < length s.live.clients
+pub unseen : (b : Bounds) → RunPremises b → (deal : Dealing) → DealsFrom b.quorums deal → (s : Saved) → EachMixIsLed deal (start b.voters b.clients b.limit) s → (c : ℕ) → c < length s.live.clients
     → s.live.visible ++ events c (crash_seen (is_inside (client_at s.live.clients c).phase) (is_inside (client_at s.clients c).phase)) ≡ s.live.visible
 unseen b given deal deals s ok c within =
     ap (λ (seen : Seen). s.live.visible ++ events c seen) (no_crash _ _ (same_inside b given deal deals s ok c within)) ∙ append-nil s.live.visible
 
-restarts_led : (b : Bounds) → Given b → (deal : Dealing) → DealsFrom b.quorums deal → (who : Node) (s : Saved) → EachMixIsLed deal (start b.voters b.clients b.limit) s
+restarts_led : (b : Bounds) → RunPremises b → (deal : Dealing) → DealsFrom b.quorums deal → (who : Node) (s : Saved) → EachMixIsLed deal (start b.voters b.clients b.limit) s
     → EachMixIsLed deal (start b.voters b.clients b.limit) (restart who s)
 restarts_led b given deal deals Nobody s ok = ok
 restarts_led b given deal deals (OneVoter v) s ok = elim (within_or s.live.voters v) [
@@ -681,14 +681,14 @@ restarts_led b given deal deals (OneClient c) s ok = by (nat_lt c (length s.live
         }
     by false test = ok
 
-pub happens_led : (b : Bounds) → Given b → (deal : Dealing) → DealsFrom b.quorums deal → (s : Saved) → EachMixIsLed deal (start b.voters b.clients b.limit) s → (h : Happening) → LosesNothing h
+pub happens_led : (b : Bounds) → RunPremises b → (deal : Dealing) → DealsFrom b.quorums deal → (s : Saved) → EachMixIsLed deal (start b.voters b.clients b.limit) s → (h : Happening) → LosesNothing h
     → EachMixIsLed deal (start b.voters b.clients b.limit) (happens deal s h)
 happens_led b given deal deals s ok (Goes st) nothing = goes_led b given deal deals s ok st (step deal s.live st) refl
 happens_led b given deal deals s ok (Saves who) nothing = saves_led deal (start b.voters b.clients b.limit) who s ok
 happens_led b given deal deals s ok (Forgets who) nothing = absurd nothing
 happens_led b given deal deals s ok (Restarts who) nothing = restarts_led b given deal deals who s ok
 
-pub all_led : (b : Bounds) → Given b → (deal : Dealing) → DealsFrom b.quorums deal → (hs : List Happening) → LoseNothing hs → (s : Saved) → EachMixIsLed deal (start b.voters b.clients b.limit) s
+pub all_led : (b : Bounds) → RunPremises b → (deal : Dealing) → DealsFrom b.quorums deal → (hs : List Happening) → LoseNothing hs → (s : Saved) → EachMixIsLed deal (start b.voters b.clients b.limit) s
     → EachMixIsLed deal (start b.voters b.clients b.limit) (all_happen deal hs s)
 all_led b given deal deals [] nothing s ok = ok
 all_led b given deal deals (h ∷ hs) nothing s ok = all_led b given deal deals hs nothing.1 (happens deal s h) (happens_led b given deal deals s ok h nothing.0)
@@ -719,6 +719,6 @@ pub every_world_is_led : ClientLaws → VoterLaws → (voters clients limit : �
     → AreLimits voters clients limit → DoMeet voters quorums → DealsFrom quorums deal → LoseNothing hs → IsLed deal (start voters clients limit) (all_happen deal hs (begin voters clients limit)).live
 every_world_is_led cs vs voters clients limit quorums deal hs limits meets deals nothing =
     let b : Bounds = record { voters = voters; clients = clients; limit = limit; quorums = quorums } in
-    let given : Given b = record { client = cs; voter = vs; limits = limits; meet = meets } in
+    let given : RunPremises b = record { client = cs; voter = vs; limits = limits; meet = meets } in
     live_led deal (start voters clients limit) (all_happen deal hs (begin voters clients limit))
     (all_led b given deal deals hs nothing (begin voters clients limit) (begin_led deal voters clients limit))

@@ -62,10 +62,10 @@ quorums_of w None = w.system.quorums
 quorums_of w (Some v) = w.system.quorums ++ v.system.quorums
 
 -- the second plan, if there is one, meets its certificate, and there is a bridge to its coterie
-abbrev pub Follows : Weighted → Option Weighted → Type 0
-Follows w second = IfSome second (λ v. IsCertificate v × IsBridge (coteries_of w v))
+abbrev pub SecondFollows : Weighted → Option Weighted → Type 0
+SecondFollows w second = IfSome second (λ v. IsCertificate v × IsBridge (coteries_of w v))
 
-pub plans_meet : AllCoteriesMeet → AllBridgesMeet → (w : Weighted) → IsCertificate w → (second : Option Weighted) → Follows w second → DoMeet w.system.voters (quorums_of w second)
+pub plans_meet : AllCoteriesMeet → AllBridgesMeet → (w : Weighted) → IsCertificate w → (second : Option Weighted) → SecondFollows w second → DoMeet w.system.voters (quorums_of w second)
 plans_meet all_meet all_bridged w is None follows = plan_meets all_meet w is
 plans_meet all_meet all_bridged w is (Some v) follows =
     let below : All (λ q. All (λ i. i < w.system.voters) q) v.system.quorums = subst (λ n. All (λ q. All (λ i. i < n) q) v.system.quorums) (sym follows.1.same_voters) follows.0.coterie.in_range in
@@ -75,7 +75,7 @@ plans_meet all_meet all_bridged w is (Some v) follows =
       meets = all_bridged (coteries_of w v) follows.1;
     }
 
-pub plans_deal : AllNameQuorums → (w : Weighted) → IsCertificate w → (second : Option Weighted) → Follows w second
+pub plans_deal : AllNameQuorums → (w : Weighted) → IsCertificate w → (second : Option Weighted) → SecondFollows w second
     → DealsFrom (quorums_of w second) (record { first = quorum_by w; second = option_map quorum_by second })
 plans_deal all_name w is None follows First ticket = IsAmong-plan all_name w is ticket
 plans_deal all_name w is None follows Second ticket = IsAmong-plan all_name w is ticket

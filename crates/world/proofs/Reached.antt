@@ -28,7 +28,7 @@ use Rattle.world.proofs.Claims.{Bounds, Names, ReportOk, ClientOk, IsClient, Vot
 use Rattle.world.proofs.Exclusion.{Walked}
 
 -- what a proof of runs rests on
-pub record Given (b : Bounds) : Type 0 where
+pub record RunPremises (b : Bounds) : Type 0 where
   pub client : ClientLaws
   pub voter : VoterLaws
   pub limits : AreLimits b.voters b.clients b.limit
@@ -73,7 +73,7 @@ record Fresh (b : Bounds) (x : ClientState) : Type 0 where
   held : (v : ℕ) → held_of x v ≡ 0
   last : (v : ℕ) → last_of x v ≡ 0
 
-Fresh-start : (b : Bounds) → Given b → (id limit : ℕ) → id < 64 → 1 ≤ limit → limit ≤ 2 ^ 62 → Fresh b (client.start id limit)
+Fresh-start : (b : Bounds) → RunPremises b → (id limit : ℕ) → id < 64 → 1 ≤ limit → limit ≤ 2 ^ 62 → Fresh b (client.start id limit)
 Fresh-start b given id limit few least most = record {
   ok = record { sound = given.client.first id limit few least most; quorum = inl refl };
   idle = refl;
@@ -89,7 +89,7 @@ pub record Unused (b : Bounds) (y : VoterState) : Type 0 where
   pub limit : y.limit ≤ b.limit
   pub seen : y.seen ≤ b.limit
 
-Unused-start : (b : Bounds) → Given b → (id limit : ℕ) → limit ≤ 2 ^ 62 → limit ≤ b.limit → Unused b (voter.start id limit)
+Unused-start : (b : Bounds) → RunPremises b → (id limit : ℕ) → limit ≤ 2 ^ 62 → limit ≤ b.limit → Unused b (voter.start id limit)
 Unused-start b given id limit most below = record {
   sound = given.voter.first id limit most;
   held = refl;
@@ -135,7 +135,7 @@ pub voter_past : (n limit v : ℕ) → n ≤ v → voter_at (new_voters n limit)
 unfolding voter_at new_voters
 voter_past n limit v beyond = get_or_past (new_voters n limit) v (voter.start 0 1) (let len = length-map-range_with_len (λ i. voter.start i limit) 0 n in omega arith)
 
-fresh_at : (b : Bounds) → Given b → (c : ℕ) → Fresh b (client_at (new_clients b.clients b.limit) c)
+fresh_at : (b : Bounds) → RunPremises b → (c : ℕ) → Fresh b (client_at (new_clients b.clients b.limit) c)
 fresh_at b given c =
     let few = given.limits.few_clients in
     elim (cases_lt c b.clients) [
@@ -143,21 +143,21 @@ fresh_at b given c =
       | inr beyond ↦ subst (λ (x : ClientState). Fresh b x) (sym (client_past b.clients b.limit c beyond)) (Fresh-start b given 0 1 (omega arith) (omega arith) (omega arith))
     ]
 
-unused_at : (b : Bounds) → Given b → (v : ℕ) → Unused b (voter_at (new_voters b.voters b.limit) v)
+unused_at : (b : Bounds) → RunPremises b → (v : ℕ) → Unused b (voter_at (new_voters b.voters b.limit) v)
 unused_at b given v = elim (cases_lt v b.voters) [
   | inl within ↦ subst (λ (y : VoterState). Unused b y) (sym (voter_new b.voters b.limit v within)) (Unused-start b given v b.limit given.limits.few_stamps (omega arith))
   | inr beyond ↦ subst (λ (y : VoterState). Unused b y) (sym (voter_past b.voters b.limit v beyond)) (Unused-start b given 0 1 (omega arith) given.limits.some_stamp)
 ]
 
 -- no voter of the first world received anything
-pub start_unused : (b : Bounds) → Given b → (v : ℕ) → Unused b (voter_at (start b.voters b.clients b.limit).voters v)
+pub start_unused : (b : Bounds) → RunPremises b → (v : ℕ) → Unused b (voter_at (start b.voters b.clients b.limit).voters v)
 unfolding new_voters
 start_unused b given v = unused_at b given v
 
 none_held : (x : ClientState) (v g : ℕ) → held_of x v ≡ 0 → holds_under x v g ≡ true → ⊥
 none_held x v g none is = grind (arith, nat_tests)
 
-pub start_ok : (b : Bounds) → Given b → RunOk b (start b.voters b.clients b.limit)
+pub start_ok : (b : Bounds) → RunPremises b → RunOk b (start b.voters b.clients b.limit)
 unfolding new_clients new_voters
 start_ok b given = record {
   clients = length-map-range_with_len (λ c. client.start c b.limit) 0 b.clients;

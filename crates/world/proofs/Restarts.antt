@@ -77,11 +77,11 @@ use Rattle.world.specs.Visible.{DealsFrom, DoMeet, IsExclusive}
 use Rattle.world.specs.Rules.{ClientLaws, VoterLaws}
 use Rattle.world.proofs.Claims.{Bounds, Names, AskOk, ReportOk, MessageOk, ClientOk, IsClient, VoterOk, WorldOk, IsAfter, IsAfter-idle, IsAfter-self, VoterOk-later}
 use Rattle.world.proofs.Claims.{MessageOk-later, put, put-each, put-same}
-use Rattle.world.proofs.ClientMoves.{Came, Draws, client_moves, client_reminds}
+use Rattle.world.proofs.ClientMoves.{CameTrue, Draws, client_moves, client_reminds}
 use Rattle.world.proofs.VoterMoves.{voter_moves, voter_reminds}
 use Rattle.world.proofs.Exclusion.{Walked, one_inside, Walked-step}
 use Rattle.world.proofs.Places.{client_at-set, voter_at-set}
-use Rattle.world.proofs.Reached.{Given, RunOk, start_ok, came_by, accepts_among}
+use Rattle.world.proofs.Reached.{RunPremises, RunOk, start_ok, came_by, accepts_among}
 
 -- ---- mixes
 
@@ -136,9 +136,9 @@ put-both L K X c x mix = elim (mix c) [ inl e ↦ e ∙ put-same L c x | inr e �
 
 -- what came is so in each mix
 abbrev CameAll : Bounds → (ℕ → ClientState) → List Message → ℕ → client.Cause → Type 0
-CameAll b L sent c cause = (X : ℕ → ClientState) (Y : ℕ → VoterState) → WorldOk b X Y sent → Came b (X c) Y c cause
+CameAll b L sent c cause = (X : ℕ → ClientState) (Y : ℕ → VoterState) → WorldOk b X Y sent → CameTrue b (X c) Y c cause
 
-record Acts (b : Bounds) (L K : ℕ → ClientState) (M N : ℕ → VoterState) (sent : List Message) (c : ℕ) (cause : client.Cause) (o : client.Outcome) : Type 0 where
+record ClientActs (b : Bounds) (L K : ℕ → ClientState) (M N : ℕ → VoterState) (sent : List Message) (c : ℕ) (cause : client.Cause) (o : client.Outcome) : Type 0 where
   within : c < b.clients
   accepts : Accepts (L c) cause
   step : client.step (L c) cause ≡ Ok o
@@ -146,7 +146,7 @@ record Acts (b : Bounds) (L K : ℕ → ClientState) (M N : ℕ → VoterState) 
   draws : Draws b cause
 
 client_mix : ClientLaws → (b : Bounds) → DoMeet b.voters b.quorums → (L K : ℕ → ClientState) (M N : ℕ → VoterState) (sent : List Message) → Mixes b L K M N sent
-    → (c : ℕ) (cause : client.Cause) (o : client.Outcome) → Acts b L K M N sent c cause o
+    → (c : ℕ) (cause : client.Cause) (o : client.Outcome) → ClientActs b L K M N sent c cause o
     → (X : ℕ → ClientState) (Y : ℕ → VoterState) → X c ≡ o.state → MixBut c L K X → Mix M N Y → WorldOk b X Y (sent ++ map kinds.ToVoter o.out)
 client_mix laws b meet L K M N sent all c cause o act X Y here others mix =
     let Z = put X c (L c) in
@@ -157,13 +157,13 @@ client_mix laws b meet L K M N sent all c cause o act X Y here others mix =
     (subst (λ (x : ClientState). client.step x cause ≡ Ok o) at act.step) (act.came Z Y world) act.draws)
 
 client_loud : ClientLaws → (b : Bounds) → DoMeet b.voters b.quorums → (L K : ℕ → ClientState) (M N : ℕ → VoterState) (sent : List Message) → Mixes b L K M N sent
-    → (c : ℕ) (cause : client.Cause) (o : client.Outcome) → Acts b L K M N sent c cause o
+    → (c : ℕ) (cause : client.Cause) (o : client.Outcome) → ClientActs b L K M N sent c cause o
     → Mixes b (put L c o.state) (put K c o.state) M N (sent ++ map kinds.ToVoter o.out)
 client_loud laws b meet L K M N sent all c cause o act X Y mix other =
     client_mix laws b meet L K M N sent all c cause o act X Y (put-both L K X c o.state mix) (MixBut-put L K X c o.state o.state mix) other
 
 client_quiet : ClientLaws → (b : Bounds) → DoMeet b.voters b.quorums → (L K : ℕ → ClientState) (M N : ℕ → VoterState) (sent : List Message) → Mixes b L K M N sent
-    → (c : ℕ) (cause : client.Cause) (o : client.Outcome) → Acts b L K M N sent c cause o → sent ≡ sent ++ map kinds.ToVoter o.out
+    → (c : ℕ) (cause : client.Cause) (o : client.Outcome) → ClientActs b L K M N sent c cause o → sent ≡ sent ++ map kinds.ToVoter o.out
     → Mixes b (put L c o.state) K M N (sent ++ map kinds.ToVoter o.out)
 client_quiet laws b meet L K M N sent all c cause o act none X Y mix other = elim (mix c) [
   | inl e ↦ client_mix laws b meet L K M N sent all c cause o act X Y (e ∙ put-same L c o.state) (MixBut-put_left L K X c o.state mix) other
@@ -173,16 +173,16 @@ client_quiet laws b meet L K M N sent all c cause o act none X Y mix other = eli
 -- ---- a voter's step
 
 -- what the message says is so in each mix
-abbrev pub IsAsked : Bounds → (ℕ → ClientState) → (ℕ → ClientState) → List Message → ToVoter → Type 0
-IsAsked b L K sent m = (X : ℕ → ClientState) (Y : ℕ → VoterState) → Mix L K X → WorldOk b X Y sent → AskOk (X m.client) (Y m.voter) m.voter m.client m.body
+abbrev pub IsAskedInMix : Bounds → (ℕ → ClientState) → (ℕ → ClientState) → List Message → ToVoter → Type 0
+IsAskedInMix b L K sent m = (X : ℕ → ClientState) (Y : ℕ → VoterState) → Mix L K X → WorldOk b X Y sent → AskOk (X m.client) (Y m.voter) m.voter m.client m.body
 
-record Votes (b : Bounds) (L K : ℕ → ClientState) (M : ℕ → VoterState) (sent : List Message) (m : ToVoter) (o : voter.Outcome) : Type 0 where
+record VoterActs (b : Bounds) (L K : ℕ → ClientState) (M : ℕ → VoterState) (sent : List Message) (m : ToVoter) (o : voter.Outcome) : Type 0 where
   range : IsInRange b.voters b.clients b.limit (kinds.ToVoter m)
-  asked : IsAsked b L K sent m
+  asked : IsAskedInMix b L K sent m
   step : voter.step (M m.voter) m ≡ Some o
 
 voter_mix : VoterLaws → (b : Bounds) (L K : ℕ → ClientState) (M N : ℕ → VoterState) (sent : List Message) → Mixes b L K M N sent
-    → (m : ToVoter) (o : voter.Outcome) → Votes b L K M sent m o
+    → (m : ToVoter) (o : voter.Outcome) → VoterActs b L K M sent m o
     → (X : ℕ → ClientState) (Y : ℕ → VoterState) → Mix L K X → Y m.voter ≡ o.state → MixBut m.voter M N Y → WorldOk b X Y (sent ++ map kinds.ToClient o.replies)
 voter_mix laws b L K M N sent all m o act X Y mix here others =
     let Z = put Y m.voter (M m.voter) in
@@ -192,12 +192,12 @@ voter_mix laws b L K M N sent all m o act X Y mix here others =
     (voter_moves laws b X Z sent world m act.range (act.asked X Z mix world) o (subst (λ (y : VoterState). voter.step y m ≡ Some o) at act.step))
 
 voter_loud : VoterLaws → (b : Bounds) (L K : ℕ → ClientState) (M N : ℕ → VoterState) (sent : List Message) → Mixes b L K M N sent
-    → (m : ToVoter) (o : voter.Outcome) → Votes b L K M sent m o → Mixes b L K (put M m.voter o.state) (put N m.voter o.state) (sent ++ map kinds.ToClient o.replies)
+    → (m : ToVoter) (o : voter.Outcome) → VoterActs b L K M sent m o → Mixes b L K (put M m.voter o.state) (put N m.voter o.state) (sent ++ map kinds.ToClient o.replies)
 voter_loud laws b L K M N sent all m o act X Y other mix =
     voter_mix laws b L K M N sent all m o act X Y other (put-both M N Y m.voter o.state mix) (MixBut-put M N Y m.voter o.state o.state mix)
 
 voter_quiet : VoterLaws → (b : Bounds) (L K : ℕ → ClientState) (M N : ℕ → VoterState) (sent : List Message) → Mixes b L K M N sent
-    → (m : ToVoter) (o : voter.Outcome) → Votes b L K M sent m o → sent ≡ sent ++ map kinds.ToClient o.replies → Mixes b L K (put M m.voter o.state) N (sent ++ map kinds.ToClient o.replies)
+    → (m : ToVoter) (o : voter.Outcome) → VoterActs b L K M sent m o → sent ≡ sent ++ map kinds.ToClient o.replies → Mixes b L K (put M m.voter o.state) N (sent ++ map kinds.ToClient o.replies)
 voter_quiet laws b L K M N sent all m o act none X Y other mix = elim (mix m.voter) [
   | inl e ↦ voter_mix laws b L K M N sent all m o act X Y other (e ∙ put-same M m.voter o.state) (MixBut-put_left M N Y m.voter o.state mix)
   | inr e ↦ subst (λ (ms : List Message). WorldOk b X Y ms) none (all X Y other (Mix-with M N Y m.voter (MixBut-put_left M N Y m.voter o.state mix) (inr e)))
@@ -234,19 +234,19 @@ pub live_ok : (b : Bounds) (s : Saved) → SavedOk b s → WorldOk b (client_at 
 live_ok b s ok = ok.mixes (client_at s.live.clients) (voter_at s.live.voters) (λ q. inl refl) (λ q. inl refl)
 
 -- who was saved inside is inside
-abbrev Behind : (ℕ → ClientState) → (ℕ → ClientState) → Type 0
-Behind K L = (q : ℕ) → is_inside (K q).phase ≡ true → is_inside (L q).phase ≡ true
+abbrev SavedInside : (ℕ → ClientState) → (ℕ → ClientState) → Type 0
+SavedInside K L = (q : ℕ) → is_inside (K q).phase ≡ true → is_inside (L q).phase ≡ true
 
-Behind-both : (K L : ℕ → ClientState) (c : ℕ) (x : ClientState) → Behind K L → Behind (put K c x) (put L c x)
+Behind-both : (K L : ℕ → ClientState) (c : ℕ) (x : ClientState) → SavedInside K L → SavedInside (put K c x) (put L c x)
 Behind-both K L c x behind q = elim (eqb q c) as (λ b. is_inside (cond b x (K q)).phase ≡ true → is_inside (cond b x (L q)).phase ≡ true) [ true ↦ λ e. e | false ↦ behind q ]
 
-Behind-live : (K L : ℕ → ClientState) (c : ℕ) (x : ClientState) → Behind K L → (is_inside (K c).phase ≡ true → is_inside x.phase ≡ true) → Behind K (put L c x)
+Behind-live : (K L : ℕ → ClientState) (c : ℕ) (x : ClientState) → SavedInside K L → (is_inside (K c).phase ≡ true → is_inside x.phase ≡ true) → SavedInside K (put L c x)
 Behind-live K L c x behind here q = by_number (λ y. is_inside (K q).phase ≡ true → is_inside y.phase ≡ true) L c x q (λ same e. here (ap (λ n. is_inside (K n).phase) (sym same) ∙ e)) (λ _. behind q)
 
-Behind-kept : (K L : ℕ → ClientState) (c : ℕ) → Behind K L → Behind (put K c (L c)) L
+Behind-kept : (K L : ℕ → ClientState) (c : ℕ) → SavedInside K L → SavedInside (put K c (L c)) L
 Behind-kept K L c behind q = by_number (λ y. is_inside y.phase ≡ true → is_inside (L q).phase ≡ true) K c (L c) q (λ same e. ap (λ n. is_inside (L n).phase) same ∙ e) (λ _. behind q)
 
-Behind-out : (K L : ℕ → ClientState) (c : ℕ) (x : ClientState) → is_inside x.phase ≡ false → Behind K L → Behind (put K c x) L
+Behind-out : (K L : ℕ → ClientState) (c : ℕ) (x : ClientState) → is_inside x.phase ≡ false → SavedInside K L → SavedInside (put K c x) L
 Behind-out K L c x out behind q = by_number (λ y. is_inside y.phase ≡ true → is_inside (L q).phase ≡ true) K c x q (λ same e. absurd (false≢true (sym out ∙ e))) (λ _. behind q)
 
 pub silent_parts : (n : ℕ) (seen : Seen) → is_silent n seen ≡ true → (n ≡ 0) × (seen ≡ Nothing)
@@ -264,8 +264,8 @@ nothing_more sent (x ∷ xs) e = absurd (omega arith)
 
 -- ---- a client's step, in the lists
 
-client_walks : (b : Bounds) → Given b → (s : Saved) → SavedOk b s → (c : ℕ) (cause : client.Cause) (o : client.Outcome)
-    → Acts b (client_at s.live.clients) (client_at s.clients) (voter_at s.live.voters) (voter_at s.voters) s.live.sent c cause o
+client_walks : (b : Bounds) → RunPremises b → (s : Saved) → SavedOk b s → (c : ℕ) (cause : client.Cause) (o : client.Outcome)
+    → ClientActs b (client_at s.live.clients) (client_at s.clients) (voter_at s.live.voters) (voter_at s.voters) s.live.sent c cause o
     → Walked (s.live.visible ++ events c o.seen) (put (client_at s.live.clients) c o.state)
 client_walks b given s ok c cause o act =
     let L = client_at s.live.clients in
@@ -275,8 +275,8 @@ client_walks b given s ok c cause o act =
     Walked-step s.live.visible L c o.state o.seen ok.walked sees (λ d in_c in_d. one_inside b given.meet (put L c o.state) M _ world c d in_c in_d)
 
 -- what a client did, saved or not
-client_gone : (b : Bounds) → Given b → (s : Saved) → SavedOk b s → (c : ℕ) (cause : client.Cause) (o : client.Outcome)
-    → Acts b (client_at s.live.clients) (client_at s.clients) (voter_at s.live.voters) (voter_at s.voters) s.live.sent c cause o
+client_gone : (b : Bounds) → RunPremises b → (s : Saved) → SavedOk b s → (c : ℕ) (cause : client.Cause) (o : client.Outcome)
+    → ClientActs b (client_at s.live.clients) (client_at s.clients) (voter_at s.live.voters) (voter_at s.voters) s.live.sent c cause o
     → (silent : Bool) → is_silent (length o.out) o.seen ≡ silent → SavedOk b (save_unless silent (OneClient c) (record s { live = (client_did s.live c o).state }))
 client_gone b given s ok c cause o act false is =
     let L = client_at s.live.clients in
@@ -294,8 +294,8 @@ client_gone b given s ok c cause o act false is =
           (subst (λ (W : ℕ → ClientState). Mixes b (put L c o.state) W (voter_at s.live.voters) (voter_at s.voters) (s.live.sent ++ map kinds.ToVoter o.out)) kept
           (client_loud given.client b given.meet L K (voter_at s.live.voters) (voter_at s.voters) s.live.sent ok.mixes c cause o act));
       walked = subst (λ (W : ℕ → ClientState). Walked (s.live.visible ++ events c o.seen) W) same (client_walks b given s ok c cause o act);
-      insides = subst (λ (W : ℕ → ClientState). Behind (client_at (slice_set s.clients c (client_at now c))) W) same
-          (subst (λ (W : ℕ → ClientState). Behind W (put L c o.state)) kept (Behind-both K L c o.state ok.insides));
+      insides = subst (λ (W : ℕ → ClientState). SavedInside (client_at (slice_set s.clients c (client_at now c))) W) same
+          (subst (λ (W : ℕ → ClientState). SavedInside W (put L c o.state)) kept (Behind-both K L c o.state ok.insides));
     }
 client_gone b given s ok c cause o act true is =
     let L = client_at s.live.clients in
@@ -310,10 +310,10 @@ client_gone b given s ok c cause o act true is =
       mixes = subst (λ (W : ℕ → ClientState). Mixes b W K (voter_at s.live.voters) (voter_at s.voters) (s.live.sent ++ map kinds.ToVoter o.out)) same
           (client_quiet given.client b given.meet L K (voter_at s.live.voters) (voter_at s.voters) s.live.sent ok.mixes c cause o act (none_of kinds.ToVoter s.live.sent o.out parts.0));
       walked = subst (λ (W : ℕ → ClientState). Walked (s.live.visible ++ events c o.seen) W) same (client_walks b given s ok c cause o act);
-      insides = subst (λ (W : ℕ → ClientState). Behind K W) same (Behind-live K L c o.state ok.insides (λ e. sym alike ∙ ok.insides c e));
+      insides = subst (λ (W : ℕ → ClientState). SavedInside K W) same (Behind-live K L c o.state ok.insides (λ e. sym alike ∙ ok.insides c e));
     }
 
-pub client_tried : (b : Bounds) → Given b → (s : Saved) → SavedOk b s → (c : ℕ) → c < length s.live.clients → (cause : client.Cause)
+pub client_tried : (b : Bounds) → RunPremises b → (s : Saved) → SavedOk b s → (c : ℕ) → c < length s.live.clients → (cause : client.Cause)
     → Accepts (client_at s.live.clients c) cause → CameAll b (client_at s.live.clients) s.live.sent c cause → Draws b cause
     → (r : Result client.Outcome ClientFault) → client.step (client_at s.live.clients c) cause ≡ r → SavedOk b (save_and_send s (OneClient c) (after_client s.live c r))
 client_tried b given s ok c within cause accepts came draws (Ok o) is =
@@ -321,7 +321,7 @@ client_tried b given s ok c within cause accepts came draws (Ok o) is =
 client_tried b given s ok c within cause accepts came draws (Err fault) is = ok
 
 -- the same with a ticket that is drawn
-client_drew : (b : Bounds) → Given b → (s : Saved) → SavedOk b s → (c : ℕ) → c < length s.live.clients → (cause : client.Cause)
+client_drew : (b : Bounds) → RunPremises b → (s : Saved) → SavedOk b s → (c : ℕ) → c < length s.live.clients → (cause : client.Cause)
     → Accepts (client_at s.live.clients c) cause → CameAll b (client_at s.live.clients) s.live.sent c cause → Draws b cause
     → (side : Side) (r : Result client.Outcome ClientFault) → client.step (client_at s.live.clients c) cause ≡ r → SavedOk b (save_and_send s (OneClient c) (after_client (draw_of side s.live c) c r))
 client_drew b given s ok c within cause accepts came draws First (Ok o) is =
@@ -336,8 +336,8 @@ client_drew b given s ok c within cause accepts came draws side (Err fault) is =
 
 -- ---- a voter's step, in the lists
 
-voter_gone : (b : Bounds) → Given b → (s : Saved) → SavedOk b s → (m : ToVoter) (o : voter.Outcome)
-    → Votes b (client_at s.live.clients) (client_at s.clients) (voter_at s.live.voters) s.live.sent m o
+voter_gone : (b : Bounds) → RunPremises b → (s : Saved) → SavedOk b s → (m : ToVoter) (o : voter.Outcome)
+    → VoterActs b (client_at s.live.clients) (client_at s.clients) (voter_at s.live.voters) s.live.sent m o
     → (silent : Bool) → is_silent (length o.replies) Nothing ≡ silent → SavedOk b (save_unless silent (OneVoter m.voter) (record s { live = (voter_did s.live m.voter o).state }))
 voter_gone b given s ok m o act false is =
     let M = voter_at s.live.voters in
@@ -374,8 +374,8 @@ voter_gone b given s ok m o act true is =
       insides = ok.insides;
     }
 
-pub voter_tried : (b : Bounds) → Given b → (s : Saved) → SavedOk b s → (m : ToVoter) → IsInRange b.voters b.clients b.limit (kinds.ToVoter m)
-    → IsAsked b (client_at s.live.clients) (client_at s.clients) s.live.sent m
+pub voter_tried : (b : Bounds) → RunPremises b → (s : Saved) → SavedOk b s → (m : ToVoter) → IsInRange b.voters b.clients b.limit (kinds.ToVoter m)
+    → IsAskedInMix b (client_at s.live.clients) (client_at s.clients) s.live.sent m
     → (r : Option voter.Outcome) → voter.step (voter_at s.live.voters m.voter) m ≡ r → SavedOk b (save_and_send s (OneVoter m.voter) (after_voter s.live m.voter r))
 voter_tried b given s ok m range asked (Some o) is = voter_gone b given s ok m o (record { range = range; asked = asked; step = is }) _ refl
 voter_tried b given s ok m range asked None is = ok
@@ -401,7 +401,7 @@ save_ok b (OneClient c) s ok = elim (within_or s.clients c) [
             (Mixes-fewer b L K L (put K c (L c)) (voter_at s.live.voters) (voter_at s.voters) (voter_at s.live.voters) (voter_at s.voters) s.live.sent ok.mixes
             (λ X mix. Mix-saved L K c X mix) (λ Y mix. mix));
         walked = ok.walked;
-        insides = subst (λ (W : ℕ → ClientState). Behind W L) kept (Behind-kept K L c ok.insides);
+        insides = subst (λ (W : ℕ → ClientState). SavedInside W L) kept (Behind-kept K L c ok.insides);
       }
   | inr past ↦ subst (λ (l : List ClientState). SavedOk b (record s { clients = l })) (sym (set_past s.clients c (client_at s.live.clients c) past)) ok
 ]
@@ -435,7 +435,7 @@ sees_crash Inside Inside h = refl
 Mix-one : {A : Type 0} (L K : ℕ → A) (c : ℕ) → Mix L K (put L c (K c))
 Mix-one L K c q = by_number (λ z. (z ≡ L q) ⊎ (z ≡ K q)) L c (K c) q (λ same. inr (ap K (sym same))) (λ _. inl refl)
 
-come_back_ok : (b : Bounds) → Given b → (s : Saved) → SavedOk b s → (c : ℕ) → c < length s.live.clients → SavedOk b (come_back s c (client_at s.clients c))
+come_back_ok : (b : Bounds) → RunPremises b → (s : Saved) → SavedOk b s → (c : ℕ) → c < length s.live.clients → SavedOk b (come_back s c (client_at s.clients c))
 come_back_ok b given s ok c within =
     let L = client_at s.live.clients in
     let K = client_at s.clients in
@@ -450,14 +450,14 @@ come_back_ok b given s ok c within =
       walked = subst (λ (W : ℕ → ClientState). Walked (s.live.visible ++ events c seen) W) same
           (Walked-step s.live.visible L c (K c) seen ok.walked (sees_crash (L c).phase (K c).phase (ok.insides c))
           (λ d in_c in_d. one_inside b given.meet (put L c (K c)) (voter_at s.live.voters) _ world c d in_c in_d));
-      insides = subst (λ (W : ℕ → ClientState). Behind K W) same (Behind-live K L c (K c) ok.insides (λ e. e));
+      insides = subst (λ (W : ℕ → ClientState). SavedInside K W) same (Behind-live K L c (K c) ok.insides (λ e. e));
     }
 
 there : (b : Bounds) (s : Saved) → SavedOk b s → (t : Bool) (u : Saved) → (t ≡ true → SavedOk b u) → SavedOk b (if_there t u s)
 there b s ok true u then = then refl
 there b s ok false u then = ok
 
-restart_ok : (b : Bounds) → Given b → (who : Node) (s : Saved) → SavedOk b s → SavedOk b (restart who s)
+restart_ok : (b : Bounds) → RunPremises b → (who : Node) (s : Saved) → SavedOk b s → SavedOk b (restart who s)
 restart_ok b given Nobody s ok = ok
 restart_ok b given (OneClient c) s ok = there b s ok _ _ (λ t. come_back_ok b given s ok c (ltb-true _ _ t))
 restart_ok b given (OneVoter v) s ok = elim (within_or s.live.voters v) [
@@ -521,7 +521,7 @@ voter_less b X Y sent v ok =
 
 -- What a client comes back with, if it lost its state: it is idle, no stamp fell, and it gave back no
 -- grant that it had not given back before.
-pub record ComesBack (x y : ClientState) : Type 0 where
+pub record ClientReturns (x y : ClientState) : Type 0 where
   pub sound : sound.IsSound y
   pub id : y.id ≡ x.id
   pub limit : y.limit ≡ x.limit
@@ -533,7 +533,7 @@ pub record ComesBack (x y : ClientState) : Type 0 where
 held_busy : (x : ClientState) → sound.IsSound x → (v g : ℕ) → holds_under x v g ≡ true → is_idle x.phase ≡ false
 held_busy x ok v g is = (ok.held v (grind (arith, nat_tests))).busy
 
-pub client_less : (b : Bounds) (X : ℕ → ClientState) (Y : ℕ → VoterState) (sent : List Message) (c : ℕ) (y : ClientState) → WorldOk b X Y sent → ComesBack (X c) y → WorldOk b (put X c y) Y sent
+pub client_less : (b : Bounds) (X : ℕ → ClientState) (Y : ℕ → VoterState) (sent : List Message) (c : ℕ) (y : ClientState) → WorldOk b X Y sent → ClientReturns (X c) y → WorldOk b (put X c y) Y sent
 client_less b X Y sent c y ok back =
     let W = put X c y in
     let later : (q : ℕ) → IsAfter (X q) (W q) = put-each (λ q z. IsAfter (X q) z) X c y (IsAfter-idle (X c) y back.stamp back.idle) (λ q. IsAfter-self (X q)) in
@@ -550,7 +550,7 @@ client_less b X Y sent c y ok back =
       voter_ids = ok.voter_ids;
     }
 
-least_comes_back : (x : ClientState) → sound.IsSound x → ComesBack x (least_client x)
+least_comes_back : (x : ClientState) → sound.IsSound x → ClientReturns x (least_client x)
 least_comes_back x ok = record {
   sound = least_is_sound x ok;
   id = refl;
@@ -598,7 +598,7 @@ forget_ok b (OneClient c) s ok = elim (within_or s.clients c) [
         mixes = subst (λ (W : ℕ → ClientState). Mixes b L W (voter_at s.live.voters) (voter_at s.voters) s.live.sent) kept
             (client_forgets b L K (voter_at s.live.voters) (voter_at s.voters) s.live.sent c ok.mixes);
         walked = ok.walked;
-        insides = subst (λ (W : ℕ → ClientState). Behind W L) kept (Behind-out K L c (least_client (K c)) refl ok.insides);
+        insides = subst (λ (W : ℕ → ClientState). SavedInside W L) kept (Behind-out K L c (least_client (K c)) refl ok.insides);
       }
   | inr past ↦ subst (λ (l : List ClientState). SavedOk b (record s { clients = l })) (sym (set_past s.clients c (least_client (client_at s.clients c)) past)) ok
 ]
@@ -619,7 +619,7 @@ forget_ok b (OneVoter v) s ok = elim (within_or s.voters v) [
 
 -- ---- reminders
 
-client_said : (b : Bounds) → Given b → (s : Saved) → SavedOk b s → (c : ℕ) → c < length s.live.clients
+client_said : (b : Bounds) → RunPremises b → (s : Saved) → SavedOk b s → (c : ℕ) → c < length s.live.clients
     → (silent : Bool) → is_silent (length (map kinds.ToVoter (client.remind (client_at s.live.clients c)))) Nothing ≡ silent
     → SavedOk b (save_unless silent (OneClient c) (record s { live = (say s.live (map kinds.ToVoter (client.remind (client_at s.live.clients c)))).state }))
 client_said b given s ok c within false is =
@@ -643,7 +643,7 @@ client_said b given s ok c within true is =
     subst (λ (ms : List Message). SavedOk b (record s { live = record s.live { sent = ms } }))
     (nothing_more s.live.sent (map kinds.ToVoter (client.remind (client_at s.live.clients c))) (silent_parts _ Nothing is).0) ok
 
-voter_said : (b : Bounds) → Given b → (s : Saved) → SavedOk b s → (v : ℕ) → v < length s.live.voters
+voter_said : (b : Bounds) → RunPremises b → (s : Saved) → SavedOk b s → (v : ℕ) → v < length s.live.voters
     → (silent : Bool) → is_silent (length (map kinds.ToClient (voter.remind (voter_at s.live.voters v)))) Nothing ≡ silent
     → SavedOk b (save_unless silent (OneVoter v) (record s { live = (say s.live (map kinds.ToClient (voter.remind (voter_at s.live.voters v)))).state }))
 voter_said b given s ok v within false is =
@@ -688,7 +688,7 @@ exchange_ok b s ok true First = record {
 exchange_ok b s ok true Second = ok
 exchange_ok b s ok false side = ok
 
-comes_ok : (b : Bounds) → Given b → (s : Saved) → SavedOk b s → (k : ℕ) (o : Option Message)
+comes_ok : (b : Bounds) → RunPremises b → (s : Saved) → SavedOk b s → (k : ℕ) (o : Option Message)
     → ((X : ℕ → ClientState) (Y : ℕ → VoterState) → WorldOk b X Y s.live.sent → (m : Message) → o ≡ Some m → MessageOk X Y m)
     → ((m : Message) → o ≡ Some m → IsInRange b.voters b.clients b.limit m) → SavedOk b (save_and_send s (receiver o) (come s.live k o))
 comes_ok b given s ok k None known range = ok
@@ -703,7 +703,7 @@ comes_ok b given s ok k (Some (kinds.ToClient m)) known range =
     (λ X Y world. came_by b (X m.client) Y m.voter m.client m.body within.1 within.3 (known X Y world (kinds.ToClient m) refl))
     tt _ refl
 
-pub happens_ok : (b : Bounds) → Given b → (deal : Dealing) → DealsFrom b.quorums deal → (s : Saved) → SavedOk b s → (h : Happening) → SavedOk b (happens deal s h)
+pub happens_ok : (b : Bounds) → RunPremises b → (deal : Dealing) → DealsFrom b.quorums deal → (s : Saved) → SavedOk b s → (h : Happening) → SavedOk b (happens deal s h)
 unfolding step
 happens_ok b given deal deals s ok (Goes (Ask c)) = if_one b s ok (OneClient c) _ c _ (λ t.
     let among = deals s.live.side (next_ticket s.live) in
@@ -723,7 +723,7 @@ happens_ok b given deal deals s ok (Saves who) = save_ok b who s ok
 happens_ok b given deal deals s ok (Forgets who) = forget_ok b who s ok
 happens_ok b given deal deals s ok (Restarts who) = restart_ok b given who s ok
 
-pub all_ok : (b : Bounds) → Given b → (deal : Dealing) → DealsFrom b.quorums deal → (hs : List Happening) (s : Saved) → SavedOk b s → SavedOk b (all_happen deal hs s)
+pub all_ok : (b : Bounds) → RunPremises b → (deal : Dealing) → DealsFrom b.quorums deal → (hs : List Happening) (s : Saved) → SavedOk b s → SavedOk b (all_happen deal hs s)
 all_ok b given deal deals [] s ok = ok
 all_ok b given deal deals (h ∷ hs) s ok = all_ok b given deal deals hs (happens deal s h) (happens_ok b given deal deals s ok h)
 
@@ -742,7 +742,7 @@ saved_now b w ok = record {
   insides = λ c e. e;
 }
 
-pub begin_ok : (b : Bounds) → Given b → SavedOk b (begin b.voters b.clients b.limit)
+pub begin_ok : (b : Bounds) → RunPremises b → SavedOk b (begin b.voters b.clients b.limit)
 begin_ok b given = saved_now b (start b.voters b.clients b.limit) (start_ok b given)
 
 -- over every list of happenings
@@ -750,5 +750,5 @@ pub every_restart : ClientLaws → VoterLaws → (voters clients limit : ℕ) (q
     → AreLimits voters clients limit → DoMeet voters quorums → DealsFrom quorums deal → IsExclusive (all_happen deal hs (begin voters clients limit)).live.visible
 every_restart cs vs voters clients limit quorums deal hs limits meets deals =
     let b : Bounds = record { voters = voters; clients = clients; limit = limit; quorums = quorums } in
-    let given : Given b = record { client = cs; voter = vs; limits = limits; meet = meets } in
+    let given : RunPremises b = record { client = cs; voter = vs; limits = limits; meet = meets } in
     (all_ok b given deal deals hs (begin voters clients limit) (begin_ok b given)).walked.list

@@ -19,7 +19,7 @@ use Rattle.world.specs.Visible.{DealsFrom}
 use Rattle.world.proofs.Claims.{Bounds}
 use Rattle.world.proofs.Mixes.{begin_led, happens_led, live_led, unseen}
 use Rattle.world.proofs.Plans.{AllBridgesMeet, AllCoteriesMeet, AllNameQuorums, plans_deal, plans_meet, quorums_of}
-use Rattle.world.proofs.Reached.{Given}
+use Rattle.world.proofs.Reached.{RunPremises}
 
 -- the laws that a saved world rests on
 pub record SavedLaws : Type 0 where
@@ -32,7 +32,7 @@ pub record SavedLaws : Type 0 where
 abbrev bounds_of : (plans : PlanPair) (clients limit : ℕ) → Bounds
 bounds_of plans clients limit = record { voters = plans.first.system.voters; clients = clients; limit = limit; quorums = quorums_of plans.first plans.second }
 
-given_by : SavedLaws → (plans : PlanPair) (clients limit : ℕ) → ArePlans plans → AreLimits plans.first.system.voters clients limit → Given (bounds_of plans clients limit)
+given_by : SavedLaws → (plans : PlanPair) (clients limit : ℕ) → ArePlans plans → AreLimits plans.first.system.voters clients limit → RunPremises (bounds_of plans clients limit)
 given_by laws plans clients limit are limits = record {
   client = laws.client;
   voter = laws.voter;

@@ -25,7 +25,7 @@ use Rattle.requester.specs.Soundness as sound
 use Rattle.requester.specs.Words.{holds, holds_under, held_of}
 use Rattle.world.specs.Ranges.{AreInRange, IsInRange, IsWithin, ReportsWithin}
 use Rattle.world.specs.Rules.{VoterLaws}
-use Rattle.world.proofs.Claims.{Bounds, AskOk, ReportOk, MessageOk, HeldOk, ClientOk, EntryOk, VoterOk, WorldOk, VotesKeep, SparesLive, AskOk-not_ends, Ends-client, Names-still}
+use Rattle.world.proofs.Claims.{Bounds, AskOk, ReportOk, MessageOk, HeldOk, ClientOk, EntryOk, VoterOk, WorldOk, VotesKeep, SparesCounted, AskOk-not_ends, Ends-client, Names-still}
 use Rattle.world.proofs.Claims.{GrantsMore, GrantsMore-self, MessageOk-keep, put, put-each, put-same}
 
 -- ---- what is replied
@@ -107,10 +107,10 @@ seen_within limit seen (asks.Request s) h within = let most = within.1 in omega 
 seen_within limit seen (asks.Relinquish g) h within = h
 seen_within limit seen (asks.Release s) h within = let most = within.1 in omega arith
 
-abbrev Numbered : VoterState → Type 0
-Numbered y = (g : Grant) → y.held ≡ Some g → 1 ≤ g.grant
+abbrev GrantIsNumbered : VoterState → Type 0
+GrantIsNumbered y = (g : Grant) → y.held ≡ Some g → 1 ≤ g.grant
 
-new_numbered : (w : VoterState) (n : ℕ) (h : Grant) → w.held ≡ Some h → h.grant ≡ n + 1 → Numbered w
+new_numbered : (w : VoterState) (n : ℕ) (h : Grant) → w.held ≡ Some h → h.grant ≡ n + 1 → GrantIsNumbered w
 new_numbered w n h is number g held =
     let same : h ≡ g = same_Some h g (sym is ∙ held) in
     let here = ap (λ (k : Grant). k.grant) same in
@@ -122,7 +122,7 @@ new_granted y w new = (
   λ h held. (let number : h.grant ≡ new.grant.grant = ap (λ (k : Grant). k.grant) (same_Some h new.grant (sym held ∙ new.held)) in let next = new.number in inr (omega arith)),
 )
 
-numbered_after : (frees : Bool) (y w : VoterState) → VoteMoves frees y w → Numbered y → Numbered w
+numbered_after : (frees : Bool) (y w : VoterState) → VoteMoves frees y w → GrantIsNumbered y → GrantIsNumbered w
 numbered_after true y w moves was = elim moves [
   | inl ends ↦ λ g held. absurd (none-some g (sym ends.held ∙ held))
   | inr new ↦ new_numbered w y.granted new.grant new.held new.number
@@ -170,7 +170,7 @@ live_held x ok v g is =
     let same = u.1 in
     record { busy = well.busy; current = refl; fresh = omega arith }
 
-held_keeps : (b : Bounds) (X : ℕ → ClientState) (Y Z : ℕ → VoterState) (Killed : ℕ → Grant → Type 0) → VotesKeep Y Z Killed → SparesLive X Killed → ((c : ℕ) → ClientOk b (X c))
+held_keeps : (b : Bounds) (X : ℕ → ClientState) (Y Z : ℕ → VoterState) (Killed : ℕ → Grant → Type 0) → VotesKeep Y Z Killed → SparesCounted X Killed → ((c : ℕ) → ClientOk b (X c))
     → HeldOk X Y → HeldOk X Z
 held_keeps b X Y Z Killed keep spares clients ok c v g is = Names-still Y Z X Killed keep spares v c (X c).stamp g (live_held (X c) (clients c).sound v g is) (ok c v g is)
 
@@ -191,7 +191,7 @@ voter_moves laws b X Y sent ok m range asked o step =
     let Killed : ℕ → Grant → Type 0 = λ v h. (v ≡ m.voter) × Ends m.client m.body h × ((Y m.voter).held ≡ Some h) in
     let keep : VotesKeep Y Z Killed = λ v. put-each (λ v z. (h : Grant) → (Y v).held ≡ Some h → (z.held ≡ Some h) ⊎ Killed v h) Y m.voter o.state
     (λ h is. elim (meets.kept h is) [ inl stays ↦ inl stays | inr ended ↦ inr (refl, ended, is) ]) (λ v h is. inl is) v in
-    let spares : SparesLive X Killed = λ v h live killed.
+    let spares : SparesCounted X Killed = λ v h live killed.
     let own = Ends-client m.client m.body h killed.1 in
     AskOk-not_ends (X h.client) y m.voter m.client m.body h (subst (λ n. AskOk (X n) y m.voter m.client m.body) (sym own) asked) killed.2
     (subst (λ n. IsLive (X h.client) n h.stamp h.grant) killed.0 live) killed.1 in

@@ -258,11 +258,11 @@ hushed p w s m f b base t x y sent more old here grown least long none moved = e
 ]
 
 -- tame, and ready
-abbrev Both : Course → WorldState → ℕ → ℕ → WorldState → Type 0
-Both p w s m x = Tame p w s x × Ready w s m x
+abbrev TameAndReady : Course → WorldState → ℕ → ℕ → WorldState → Type 0
+TameAndReady p w s m x = Tame p w s x × Ready w s m x
 
 quiet_steps : (laws : Laws) (p : Course) (w : WorldState) (s m : ℕ) → IsFirst w s m → (b : WorldState) → Tame p w s b → (sent : List Message) (old : ℕ) → length w.sent ≤ old → length w.sent ≤ length sent
-    → (steps : List Step) (x : WorldState) (more : List Message) → x.sent ≡ sent ++ more → Along (Both p w s m) MovedBy p.deal steps x → late_steps old sent steps ≡ 0
+    → (steps : List Step) (x : WorldState) (more : List Message) → x.sent ≡ sent ++ more → Along (TameAndReady p w s m) MovedBy p.deal steps x → late_steps old sent steps ≡ 0
     → AreOld p x → KeepsOlds p x (run_of p.deal steps x) → Along (Clear p b m) (Quietly p b m) p.deal steps x
 quiet_steps laws p w s m f b base sent old least long [] x more grown h late few keeps = clear_at p w s m f b x base h.0 h.1
 quiet_steps laws p w s m f b base sent old least long (t ∷ steps) x more grown h late few keeps =
@@ -277,15 +277,15 @@ quiet_steps laws p w s m f b base sent old least long (t ∷ steps) x more grown
     )
 
 clear_rounds : (laws : Laws) (p : Course) (w : WorldState) (s m : ℕ) → IsFirst w s m → (b : WorldState) → Tame p w s b → (rounds : List (List Step)) (x : WorldState) (old : ℕ) → length w.sent ≤ old
-    → Along (Both p w s m) MovedBy p.deal (steps_of rounds) x → late_in p.deal old x rounds ≡ 0 → AreOld p x → KeepsOlds p x (run_of p.deal (steps_of rounds) x) → ClearRounds p b m rounds x
+    → Along (TameAndReady p w s m) MovedBy p.deal (steps_of rounds) x → late_in p.deal old x rounds ≡ 0 → AreOld p x → KeepsOlds p x (run_of p.deal (steps_of rounds) x) → ClearRounds p b m rounds x
 clear_rounds laws p w s m f b base [] x old least h late few keeps = clear_at p w s m f b x base h.0 h.1
 clear_rounds laws p w s m f b base (r ∷ rs) x old least h late few keeps =
     let deal = p.deal in
     let z = run_of deal r x in
-    let parts = along-split (Both p w s m) MovedBy deal r (steps_of rs) x h in
+    let parts = along-split (TameAndReady p w s m) MovedBy deal r (steps_of rs) x h in
     let here : late_steps old x.sent r ≡ 0 = omega arith in
     let rest : late_in deal (length x.sent) z rs ≡ 0 = omega arith in
-    let now = along-first (Both p w s m) MovedBy deal r x parts.0 in
+    let now = along-first (TameAndReady p w s m) MovedBy deal r x parts.0 in
     let olds = keeps_both laws p r (steps_of rs) x few now.0.reached keeps in (
       quiet_steps laws p w s m f b base x.sent old least now.0.grows.sent r x [] (sym (append-nil x.sent)) parts.0 here few olds.first,
       clear_rounds laws p w s m f b base rs z (length x.sent) now.0.grows.sent parts.1 rest olds.few olds.rest,

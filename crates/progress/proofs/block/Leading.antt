@@ -34,7 +34,7 @@ use Rattle.progress.proofs.block.Known.{within_by}
 use Rattle.progress.proofs.losses.Olds.{KeepsOlds, Outlasts-moved}
 use Rattle.progress.proofs.invariants.Outstanding.{came_noted}
 use Rattle.progress.proofs.block.Overdue.{Only, gives_back}
-use Rattle.progress.proofs.block.Steady.{AskedFor, GivenBack, GivenBack-lasting, HasVote, IsLasting, IsOf, Marked, Marked-lasting, Never, Never-lasting, Seeks, Steady, Told, Told-lasting, With, asked, asks_now, client_live, fate_goes, held_exists, not_given_back, steady_ok, told, voter_below, voter_within}
+use Rattle.progress.proofs.block.Steady.{AskedFor, GivenBack, GivenBack-lasting, GrantHasVote, IsLasting, IsOfSome, Marked, Marked-lasting, Never, Never-lasting, Seeks, Steady, KnowsGrant, Told-lasting, With, asked, asks_now, client_live, fate_goes, held_exists, not_given_back, steady_ok, told, voter_below, voter_within}
 use Rattle.progress.proofs.invariants.Sure.{Course, Sure}
 
 -- ---- worlds in which the request leads
@@ -73,7 +73,7 @@ along-quiet P p w m [] x h = h
 along-quiet P p w m (s ∷ steps) x h = (h.0, quietly_moved p w m s x (next p.deal x s) h.1, along-quiet P p w m steps (next p.deal x s) h.2)
 
 -- the grant is of the request itself
-pub is_own : (laws : Laws) (p : Course) (w : WorldState) (m v : ℕ) → Seeks p w (Only m) m v → (x : WorldState) → Steady p w (Only m) x → (g : Grant) → (voter_at x.voters v).held ≡ Some g → g.client ≡ m → IsOf w (Only m) g
+pub is_own : (laws : Laws) (p : Course) (w : WorldState) (m v : ℕ) → Seeks p w (Only m) m v → (x : WorldState) → Steady p w (Only m) x → (g : Grant) → (voter_at x.voters v).held ≡ Some g → g.client ≡ m → IsOfSome w (Only m) g
 is_own laws p w m v f x calm g held own = (
   own,
   own_stamp (voter_at x.voters v) m (client_at w.clients m).stamp g ((steady_ok laws p w (Only m) x calm).voters v) (calm.known m v f.asks f.member) held own
@@ -83,7 +83,7 @@ is_own laws p w m v f x calm g held own = (
 -- ---- INQUIRE
 
 -- an INQUIRE for its own grant was outstanding before
-pub inquiry_own : (laws : Laws) (p : Course) (w : WorldState) (m v : ℕ) → Seeks p w (Only m) m v → (s : Step) (x y : WorldState) → Steady p w (Only m) x → Quietly p w m s x y → (g : Grant) → IsOf w (Only m) g
+pub inquiry_own : (laws : Laws) (p : Course) (w : WorldState) (m v : ℕ) → Seeks p w (Only m) m v → (s : Step) (x y : WorldState) → Steady p w (Only m) x → Quietly p w m s x y → (g : Grant) → IsOfSome w (Only m) g
     → (voter_at y.voters v).held ≡ Some g → (voter_at y.voters v).inquiring ≡ true → ((voter_at x.voters v).held ≡ Some g) × ((voter_at x.voters v).inquiring ≡ true)
 inquiry_own laws p w m v f s x y calm moved g own held is = elim moved.0 [
   | inl k ↦ (ap (λ (vs : List VoterState). (voter_at vs v).held) (sym k.0.voters) ∙ held, ap (λ (vs : List VoterState). (voter_at vs v).inquiring) (sym k.0.voters) ∙ is)
@@ -117,7 +117,7 @@ pub record IsSettled (m v : ℕ) (x : WorldState) (g : Grant) : Type 0 where
   pub quiet : (voter_at x.voters v).inquiring ≡ false
 
 -- a new grant of the request is settled
-new_settled : (laws : Laws) (p : Course) (w : WorldState) (m v : ℕ) → Seeks p w (Only m) m v → (s : Step) (x y : WorldState) → Steady p w (Only m) x → Quietly p w m s x y → (g : Grant) → IsOf w (Only m) g
+new_settled : (laws : Laws) (p : Course) (w : WorldState) (m v : ℕ) → Seeks p w (Only m) m v → (s : Step) (x y : WorldState) → Steady p w (Only m) x → Quietly p w m s x y → (g : Grant) → IsOfSome w (Only m) g
     → (voter_at y.voters v).held ≡ Some g → (voter_at x.voters v).granted < g.grant → y.clients ≡ x.clients → IsSettled m v y g
 new_settled laws p w m v f s x y calm moved g own held new clients = record {
   own = own.0;
@@ -213,16 +213,16 @@ own_from S m v x h g held own = elim (h g held own) [
 -- all along a round its grant has the vote, or at the end the grant is settled
 own_all : (laws : Laws) (p : Course) (w : WorldState) (m v : ℕ) → Seeks p w (Only m) m v → (g : Grant) → (round : List Step) (x : WorldState)
     → Along (Steady p w (Only m)) (Quietly p w m) p.deal round x → (voter_at x.voters v).held ≡ Some g
-    → OwnStage Never m v (run_of p.deal round x) ⊎ Along (With p w (Only m) (HasVote v g)) (Quietly p w m) p.deal round x
+    → OwnStage Never m v (run_of p.deal round x) ⊎ Along (With p w (Only m) (GrantHasVote v g)) (Quietly p w m) p.deal round x
 own_all laws p w m v f g round x all held =
-    along-or (Steady p w (Only m)) (Quietly p w m) p.deal (HasVote v g) (OwnStage Never m v) (own_holds_on laws p w m v f g) (own_stage_kept laws p w m v f Never (Never-lasting v)) round x all held
+    along-or (Steady p w (Only m)) (Quietly p w m) p.deal (GrantHasVote v g) (OwnStage Never m v) (own_holds_on laws p w m v f g) (own_stage_kept laws p w m v f Never (Never-lasting v)) round x all held
 
 -- ---- the four rounds
 
 -- In a round a stage S of its grant becomes T, if it does so while the grant has the vote.
 climbs : (laws : Laws) (p : Course) (w : WorldState) (m v : ℕ) → Seeks p w (Only m) m v → (S T : ClientState → Grant → Type 0) → IsLasting v T → (round : List Step) (x : WorldState)
     → Along (Steady p w (Only m)) (Quietly p w m) p.deal round x
-    → ((g : Grant) → IsOf w (Only m) g → Along (With p w (Only m) (HasVote v g)) MovedBy p.deal round x → S (client_at x.clients g.client) g → T (client_at (run_of p.deal round x).clients g.client) g)
+    → ((g : Grant) → IsOfSome w (Only m) g → Along (With p w (Only m) (GrantHasVote v g)) MovedBy p.deal round x → S (client_at x.clients g.client) g → T (client_at (run_of p.deal round x).clients g.client) g)
     → OwnStage S m v x → OwnStage T m v (run_of p.deal round x)
 climbs laws p w m v f S T lasting round x all climb stage =
     let deal = p.deal in
@@ -239,7 +239,7 @@ climbs laws p w m v f S T lasting round x all climb stage =
         | inr low ↦ elim (own_all laws p w m v f g round x all now.1) [
           | inl settled ↦ own_from T m v z settled
           | inr kept ↦
-              let P = With p w D (HasVote v g) in
+              let P = With p w D (GrantHasVote v g) in
               let moves = along-quiet P p w m round x kept in
               let end = along-last P MovedBy deal round x moves in
               let high = climb g (is_own laws p w m v f x calm g now.1 own) moves (subst (λ c. S (client_at x.clients c) g) (sym own) low) in
@@ -249,10 +249,10 @@ climbs laws p w m v f S T lasting round x all climb stage =
     ]
 
 own_told : (laws : Laws) (p : Course) (w : WorldState) (m v : ℕ) → Seeks p w (Only m) m v → (round : List Step) (x : WorldState) → Along (Steady p w (Only m)) (Quietly p w m) p.deal round x
-    → IsReminded of_steps p.live p.deal x round (RemindVoter v) → OwnStage (Told v) m v (run_of p.deal round x)
+    → IsReminded of_steps p.live p.deal x round (RemindVoter v) → OwnStage (KnowsGrant v) m v (run_of p.deal round x)
 own_told laws p w m v f round x all fair =
-    climbs laws p w m v f (λ _ _. Unit {0}) (Told v) (Told-lasting v) round x all
-    (λ g of moves _. told laws p w (Only m) m v f g of x (run_of p.deal round x) (reminded_at (With p w (Only m) (HasVote v g)) MovedBy p.live p.deal round x (RemindVoter v) moves fair)) (λ g held own. inr tt)
+    climbs laws p w m v f (λ _ _. Unit {0}) (KnowsGrant v) (Told-lasting v) round x all
+    (λ g of moves _. told laws p w (Only m) m v f g of x (run_of p.deal round x) (reminded_at (With p w (Only m) (GrantHasVote v g)) MovedBy p.live p.deal round x (RemindVoter v) moves fair)) (λ g held own. inr tt)
 
 inquiring_on : (v : ℕ) (g : Grant) (s : Step) (x y : WorldState) → MovedBy s x y → (voter_at x.voters v).held ≡ Some g → (voter_at x.voters v).inquiring ≡ true → (g.grant ≤ (voter_at x.voters v).granted)
     → (voter_at y.voters v).held ≡ Some g → (voter_at y.voters v).inquiring ≡ true
@@ -262,7 +262,7 @@ inquiring_on v g s x y moved held is few now = elim ((Outlasts-moved x y (Moved-
 ]
 
 own_marked : (laws : Laws) (p : Course) (w : WorldState) (m v : ℕ) → Seeks p w (Only m) m v → (round : List Step) (x : WorldState) → Along (Steady p w (Only m)) (Quietly p w m) p.deal round x
-    → IsReminded of_steps p.live p.deal x round (RemindVoter v) → OwnStage (Told v) m v x → OwnStage (Marked v) m v (run_of p.deal round x)
+    → IsReminded of_steps p.live p.deal x round (RemindVoter v) → OwnStage (KnowsGrant v) m v x → OwnStage (Marked v) m v (run_of p.deal round x)
 own_marked laws p w m v f round x all fair stage =
     let deal = p.deal in
     let D = Only m in
@@ -316,7 +316,7 @@ own_settled : (laws : Laws) (p : Course) (w : WorldState) (m v : ℕ) → Seeks 
 own_settled laws p w m v f round x all fair =
     climbs laws p w m v f (GivenBack v) Never (Never-lasting v) round x all
     (λ g of moves few. not_given_back laws p w (Only m) v (voter_below laws p w (Only m) x m v (along-first (Steady p w (Only m)) (Quietly p w m) p.deal round x all) f.asks f.member) f.up g of x (run_of p.deal round x)
-    (reminded_at (With p w (Only m) (HasVote v g)) MovedBy p.live p.deal round x (RemindClient g.client) moves (subst (λ c. IsReminded of_steps p.live p.deal x round (RemindClient c)) (sym of.0) fair)) few)
+    (reminded_at (With p w (Only m) (GrantHasVote v g)) MovedBy p.live p.deal round x (RemindClient g.client) moves (subst (λ c. IsReminded of_steps p.live p.deal x round (RemindClient c)) (sym of.0) fair)) few)
 
 -- four rounds settle its grant
 pub four_settle : (laws : Laws) (p : Course) (w : WorldState) (m v : ℕ) → Seeks p w (Only m) m v → (a b c e : List Step) (x : WorldState)

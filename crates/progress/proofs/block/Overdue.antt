@@ -37,17 +37,17 @@ use Rattle.progress.proofs.invariants.Inquiries.{ends_up_to}
 use Rattle.world.proofs.Exclusion.{inside_busy}
 use Rattle.progress.proofs.block.Known.{entry_kept, holds_down, idle_by, known_after, left_idle, within_by}
 use Rattle.progress.proofs.run.Moves.{Moved-by, MovedBy}
-use Rattle.progress.proofs.block.Steady.{AskedFor, GivenBack, GivenBack-lasting, HasMarked, HasVote, IsOf, Seeks, Steady, With, asked, asks_now, client_live, fate_goes, held_exists, locked_to, mark_goes, not_given_back, not_marked, release_to, steady_ok, told, voter_below, voter_within}
+use Rattle.progress.proofs.block.Steady.{AskedFor, GivenBack, GivenBack-lasting, HasMarked, GrantHasVote, IsOfSome, Seeks, Steady, With, asked, asks_now, client_live, fate_goes, held_exists, locked_to, mark_goes, not_given_back, not_marked, release_to, steady_ok, told, voter_below, voter_within}
 use Rattle.progress.proofs.losses.Lasting.{Lasts, Lasts-moved, Lasts-run, Lasts-self, Lasts-then, RunsOn, SameAsk, same_between}
-use Rattle.progress.proofs.invariants.Sure.{Course, IsSure, Serves, live_by}
+use Rattle.progress.proofs.invariants.Sure.{Course, IsSure, LiveServe, live_by}
 use Rattle.requester.proofs.SoundSteps.{is_asking-busy}
 
 -- the client m alone; the clients m and d
 abbrev pub Only : ℕ → ℕ → Type 0
 Only m e = e ≡ m
 
-abbrev pub Pair : ℕ → ℕ → ℕ → Type 0
-Pair m d e = (e ≡ m) ⊎ (e ≡ d)
+abbrev pub EitherOf : ℕ → ℕ → ℕ → Type 0
+EitherOf m d e = (e ≡ m) ⊎ (e ≡ d)
 
 -- ---- along
 
@@ -66,7 +66,7 @@ along-all P R deal K keep (s ∷ steps) x h k =
 
 -- a request that runs at the end ran all along
 pub runs_until : (laws : Laws) (p : Course) (w : WorldState) (P : WorldState → Type 0) → ((y : WorldState) → P y → IsSure p y)
-    → ((y : WorldState) → P y → Serves p y) → (d : ℕ) (steps : List Step) (x : WorldState)
+    → ((y : WorldState) → P y → LiveServe p y) → (d : ℕ) (steps : List Step) (x : WorldState)
     → Along P MovedBy p.deal steps x → Lasts (client_at w.clients d) (client_at x.clients d) → (client_at (run_of p.deal steps x).clients d).stamp ≡ (client_at w.clients d).stamp
     → is_asking (client_at (run_of p.deal steps x).clients d).phase ≡ true → Along (RunsOn p w d) MovedBy p.deal steps x
 runs_until laws p w P sure left d [] x h lasts stamp asks = record {
@@ -94,10 +94,10 @@ runs_until laws p w P sure left d (s ∷ steps) x h lasts stamp asks =
 -- ---- two clients
 
 -- each voter of its quorum knows the request of the client d
-abbrev IsKnown : WorldState → ℕ → WorldState → Type 0
-IsKnown w d x = (v : ℕ) → is_member (client_at w.clients d) v ≡ true → IsEntry (voter_at x.voters v) d (client_at w.clients d).stamp
+abbrev IsKnownByAll : WorldState → ℕ → WorldState → Type 0
+IsKnownByAll w d x = (v : ℕ) → is_member (client_at w.clients d) v ≡ true → IsEntry (voter_at x.voters v) d (client_at w.clients d).stamp
 
-steady_pair : (p : Course) (w : WorldState) (m d : ℕ) (x : WorldState) → is_asking (client_at w.clients d).phase ≡ true → Steady p w (Only m) x → RunsOn p w d x → IsKnown w d x → Steady p w (Pair m d) x
+steady_pair : (p : Course) (w : WorldState) (m d : ℕ) (x : WorldState) → is_asking (client_at w.clients d).phase ≡ true → Steady p w (Only m) x → RunsOn p w d x → IsKnownByAll w d x → Steady p w (EitherOf m d) x
 steady_pair p w m d x asking calm runs known = record {
   reached = calm.reached;
   left = calm.left;
@@ -119,13 +119,13 @@ steady_pair p w m d x asking calm runs known = record {
 
 -- the vote is asked for while the grant is behind
 asked_for : (laws : Laws) (p : Course) (w : WorldState) (D : ℕ → Type 0) (m v : ℕ) → Seeks p w D m v → (g : Grant) → g.client ≢ m → precedes (the_request w m) (request_of g) ≡ true → (x : WorldState)
-    → With p w D (HasVote v g) x → With p w D (AskedFor v g) x
+    → With p w D (GrantHasVote v g) x → With p w D (AskedFor v g) x
 asked_for laws p w D m v f g other behind x here =
     let stamp = (client_at w.clients m).stamp in
     let waits = entry_waits (voter_at x.voters v) m stamp g (here.0.known m v f.asks f.member) here.1 other in
     (here.0, (here.1, (here.0.reached []).placed.back v g m stamp here.1 waits behind))
 
-mark_or : (laws : Laws) (p : Course) (w : WorldState) (D : ℕ → Type 0) (m v : ℕ) → Seeks p w D m v → (g : Grant) → IsOf w D g → (s : Step) (x y : WorldState) → With p w D (HasVote v g) x → With p w D (HasVote v g) y
+mark_or : (laws : Laws) (p : Course) (w : WorldState) (D : ℕ → Type 0) (m v : ℕ) → Seeks p w D m v → (g : Grant) → IsOfSome w D g → (s : Step) (x y : WorldState) → With p w D (GrantHasVote v g) x → With p w D (GrantHasVote v g) y
     → MovedBy s x y → HasMarked g.client v x → HasMarked g.client v y ⊎ GivenBack v (client_at y.clients g.client) g
 mark_or laws p w D m v f g live s x y before after moved h = elim (fate_goes laws p w D s x y g.client v before.0 after.0 moved live.0 (voter_below laws p w D x m v before.0 f.asks f.member)) [
   | inl same ↦ inl (subst (λ (z : ClientState). (holds z v ≡ true) × (is_inquired z v ≡ true)) (sym same) h)
@@ -139,19 +139,19 @@ mark_or laws p w D m v f g live s x y before after moved h = elim (fate_goes law
   ]
 ]
 
-given_kept : (laws : Laws) (p : Course) (w : WorldState) (D : ℕ → Type 0) (m v : ℕ) → Seeks p w D m v → (g : Grant) → IsOf w D g → (s : Step) (x y : WorldState) → With p w D (HasVote v g) x → With p w D (HasVote v g) y
+given_kept : (laws : Laws) (p : Course) (w : WorldState) (D : ℕ → Type 0) (m v : ℕ) → Seeks p w D m v → (g : Grant) → IsOfSome w D g → (s : Step) (x y : WorldState) → With p w D (GrantHasVote v g) x → With p w D (GrantHasVote v g) y
     → MovedBy s x y → GivenBack v (client_at x.clients g.client) g → GivenBack v (client_at y.clients g.client) g
 given_kept laws p w D m v f g live s x y before after moved h =
     mark_goes laws p w D (GivenBack v) v (GivenBack-lasting v) s x y before.0 after.0 moved (voter_below laws p w D x m v before.0 f.asks f.member) g before.1 live h
 
 -- a marked vote is given back in a round
-pub gives_back : (laws : Laws) (p : Course) (w : WorldState) (D : ℕ → Type 0) (m v : ℕ) → Seeks p w D m v → (g : Grant) → IsOf w D g → (round : List Step) (x : WorldState)
-    → Along (With p w D (HasVote v g)) MovedBy p.deal round x → IsLiveRound of_steps p.live p.deal x round
+pub gives_back : (laws : Laws) (p : Course) (w : WorldState) (D : ℕ → Type 0) (m v : ℕ) → Seeks p w D m v → (g : Grant) → IsOfSome w D g → (round : List Step) (x : WorldState)
+    → Along (With p w D (GrantHasVote v g)) MovedBy p.deal round x → IsLiveRound of_steps p.live p.deal x round
     → (g.grant ≤ last_of (client_at x.clients g.client) v) ⊎ HasMarked g.client v x → GivenBack v (client_at (run_of p.deal round x).clients g.client) g
 gives_back laws p w D m v f g live round x all fair before =
     let deal = p.deal in
     let z = run_of deal round x in
-    let P = With p w D (HasVote v g) in
+    let P = With p w D (GrantHasVote v g) in
     let keep = given_kept laws p w D m v f g live in
     elim before [
       | inl few ↦ along-kept P MovedBy deal (λ q. GivenBack v (client_at q.clients g.client) g) keep round x all few
@@ -172,14 +172,14 @@ gives_back laws p w D m v f g live round x all fair before =
     ]
 
 -- four rounds in which the grant has the vote and its request runs
-four_rounds : (laws : Laws) (p : Course) (w : WorldState) (D : ℕ → Type 0) (m v : ℕ) → Seeks p w D m v → (g : Grant) → IsOf w D g → g.client ≢ m → precedes (the_request w m) (request_of g) ≡ true
-    → (a b c e : List Step) (x : WorldState) → Along (With p w D (HasVote v g)) MovedBy p.deal (a ++ (b ++ (c ++ e))) x
+four_rounds : (laws : Laws) (p : Course) (w : WorldState) (D : ℕ → Type 0) (m v : ℕ) → Seeks p w D m v → (g : Grant) → IsOfSome w D g → g.client ≢ m → precedes (the_request w m) (request_of g) ≡ true
+    → (a b c e : List Step) (x : WorldState) → Along (With p w D (GrantHasVote v g)) MovedBy p.deal (a ++ (b ++ (c ++ e))) x
     → IsReminded of_steps p.live p.deal x a (RemindVoter v) → IsReminded of_steps p.live p.deal (run_of p.deal a x) b (RemindVoter v)
     → IsLiveRound of_steps p.live p.deal (run_of p.deal b (run_of p.deal a x)) c
     → IsReminded of_steps p.live p.deal (run_of p.deal c (run_of p.deal b (run_of p.deal a x))) e (RemindClient g.client) → ⊥
 four_rounds laws p w D m v f g live other behind a b c e x all ra rb rc re =
     let deal = p.deal in
-    let P = With p w D (HasVote v g) in
+    let P = With p w D (GrantHasVote v g) in
     let x1 = run_of deal a x in
     let x2 = run_of deal b x1 in
     let x3 = run_of deal c x2 in
@@ -201,8 +201,8 @@ four_rounds laws p w D m v f g live other behind a b c e x all ra rb rc re =
 abbrev HasEnded : ℕ → ℕ → WorldState → Type 0
 HasEnded d t x = (t ≤ (client_at x.clients d).stamp) × (is_asking (client_at x.clients d).phase ≡ true → t < (client_at x.clients d).stamp)
 
-abbrev pub IsOver : ℕ → ℕ → WorldState → Type 0
-IsOver d t x = (t < (client_at x.clients d).stamp) ⊎ ((t ≤ (client_at x.clients d).stamp) × (is_idle (client_at x.clients d).phase ≡ true))
+abbrev pub RequestIsOver : ℕ → ℕ → WorldState → Type 0
+RequestIsOver d t x = (t < (client_at x.clients d).stamp) ⊎ ((t ≤ (client_at x.clients d).stamp) × (is_idle (client_at x.clients d).phase ≡ true))
 
 ended_kept : (laws : Laws) (p : Course) (w : WorldState) (D : ℕ → Type 0) (d t : ℕ) → (s : Step) (x y : WorldState) → Steady p w D x → Steady p w D y → MovedBy s x y → HasEnded d t x → HasEnded d t y
 ended_kept laws p w D d t s x y before after moved h =
@@ -216,7 +216,7 @@ ended_kept laws p w D d t s x y before after moved h =
       ],
     )
 
-pub over_kept : (laws : Laws) (p : Course) (w : WorldState) (D : ℕ → Type 0) (d t : ℕ) → (s : Step) (x y : WorldState) → Steady p w D x → Steady p w D y → MovedBy s x y → IsOver d t x → IsOver d t y
+pub over_kept : (laws : Laws) (p : Course) (w : WorldState) (D : ℕ → Type 0) (d t : ℕ) → (s : Step) (x y : WorldState) → Steady p w D x → Steady p w D y → MovedBy s x y → RequestIsOver d t x → RequestIsOver d t y
 over_kept laws p w D d t s x y before after moved h =
     let lasts = Lasts-moved laws x y (before.reached []).coherent (after.reached []).coherent (Moved-by s x y moved) d in
     let rises = lasts.stamp in
@@ -230,7 +230,7 @@ over_kept laws p w D d t s x y before after moved h =
           ]
     ]
 
-pub over_current : (d t : ℕ) (x : WorldState) → IsOver d t x → is_current (client_at x.clients d) t ≡ false
+pub over_current : (d t : ℕ) (x : WorldState) → RequestIsOver d t x → is_current (client_at x.clients d) t ≡ false
 over_current d t x h = elim h [
   | inl less ↦ later (client_at x.clients d) t less
   | inr idle ↦ not_current (client_at x.clients d) t idle.1
@@ -241,27 +241,27 @@ over_current d t x h = elim h [
 
 -- who is inside when a round begins leaves in it
 leaves_by : (laws : Laws) (p : Course) (w : WorldState) (D : ℕ → Type 0) (d t : ℕ) (round : List Step) (x : WorldState) → Along (Steady p w D) MovedBy p.deal round x
-    → (is_inside (client_at x.clients d).phase ≡ true → Contains round (Leave d)) → HasEnded d t x → IsOver d t (run_of p.deal round x)
+    → (is_inside (client_at x.clients d).phase ≡ true → Contains round (Leave d)) → HasEnded d t x → RequestIsOver d t (run_of p.deal round x)
 leaves_by laws p w D d t round x all leaves h =
     let deal = p.deal in
     let P = Steady p w D in
     let z = run_of deal round x in
     let keep = over_kept laws p w D d t in
-    let outside : (y : WorldState) → HasEnded d t y → is_inside (client_at y.clients d).phase ≡ false → IsOver d t y = λ y e out.
-    elim (is_asking (client_at y.clients d).phase) as (λ b. is_asking (client_at y.clients d).phase ≡ b → IsOver d t y) [
+    let outside : (y : WorldState) → HasEnded d t y → is_inside (client_at y.clients d).phase ≡ false → RequestIsOver d t y = λ y e out.
+    elim (is_asking (client_at y.clients d).phase) as (λ b. is_asking (client_at y.clients d).phase ≡ b → RequestIsOver d t y) [
       | true ↦ λ asks. inl (e.1 asks)
       | false ↦ λ not. inr (e.0, idle_by (client_at y.clients d).phase not out)
     ] refl in
-    elim (is_inside (client_at x.clients d).phase) as (λ b. is_inside (client_at x.clients d).phase ≡ b → IsOver d t z) [
-      | false ↦ λ out. along-kept P MovedBy deal (IsOver d t) keep round x all (outside x h out)
+    elim (is_inside (client_at x.clients d).phase) as (λ b. is_inside (client_at x.clients d).phase ≡ b → RequestIsOver d t z) [
+      | false ↦ λ out. along-kept P MovedBy deal (RequestIsOver d t) keep round x all (outside x h out)
       | true ↦ λ inside.
           let spot = spot_in P MovedBy deal round x (Leave d) all (leaves inside) in
           let u = spot.before in
           let e = spot_before P MovedBy deal (HasEnded d t) (ended_kept laws p w D d t) x z (Leave d) spot h in
           let y = next deal u (Leave d) in
           let after_calm = spot_after P MovedBy deal x z (Leave d) spot in
-          spot_end P MovedBy deal (IsOver d t) keep x z (Leave d) spot
-          (elim (is_inside (client_at u.clients d).phase) as (λ b. is_inside (client_at u.clients d).phase ≡ b → IsOver d t y) [
+          spot_end P MovedBy deal (RequestIsOver d t) keep x z (Leave d) spot
+          (elim (is_inside (client_at u.clients d).phase) as (λ b. is_inside (client_at u.clients d).phase ≡ b → RequestIsOver d t y) [
             | false ↦ λ out. keep (Leave d) u y spot.here after_calm spot.moved (outside u e out)
             | true ↦ λ still.
                 let lasts = Lasts-moved laws u y (spot.here.reached []).coherent (after_calm.reached []).coherent (Moved-by (Leave d) u y spot.moved) d in
@@ -273,10 +273,10 @@ leaves_by laws p w D d t round x all leaves h =
 
 -- the reminder of the voter frees the vote of a request that is over
 not_over : (laws : Laws) (p : Course) (w : WorldState) (D : ℕ → Type 0) (m v : ℕ) → Seeks p w D m v → (g : Grant) → (x z : WorldState)
-    → Reminded (λ y. With p w D (HasVote v g) y × IsOver g.client g.stamp y) MovedBy p.live p.deal x z (RemindVoter v) → p.live.client g.client ≡ true → ⊥
+    → Reminded (λ y. With p w D (GrantHasVote v g) y × RequestIsOver g.client g.stamp y) MovedBy p.live p.deal x z (RemindVoter v) → p.live.client g.client ≡ true → ⊥
 not_over laws p w D m v f g x z r alive =
     let deal = p.deal in
-    let P : WorldState → Type 0 = λ y. With p w D (HasVote v g) y × IsOver g.client g.stamp y in
+    let P : WorldState → Type 0 = λ y. With p w D (GrantHasVote v g) y × RequestIsOver g.client g.stamp y in
     let stays : (k : ℕ) (n : Message) (s : Step) (a b : WorldState) → P a → P b → MovedBy s a b → slice_get a.sent k ≡ Some n → slice_get b.sent k ≡ Some n =
     λ k n s a b _ _ moved is. message_stays k n a b (Moved-by s a b moved) is in
     let d = g.client in
@@ -320,29 +320,29 @@ not_over laws p w D m v f g x z r alive =
 
 -- or the voter drops it, if its client is not live
 pub served_over : (laws : Laws) (p : Course) (w : WorldState) (D : ℕ → Type 0) (m v : ℕ) → Seeks p w D m v → (g : Grant) → (x z : WorldState)
-    → Served (λ y. With p w D (HasVote v g) y × IsOver g.client g.stamp y) MovedBy p.live p.deal x z v → ⊥
+    → Served (λ y. With p w D (GrantHasVote v g) y × RequestIsOver g.client g.stamp y) MovedBy p.live p.deal x z v → ⊥
 served_over laws p w D m v f g x z r = elim (p.live.client g.client) as (λ b. p.live.client g.client ≡ b → ⊥) [
   | true ↦ λ alive. not_over laws p w D m v f g x z r.reminded alive
   | false ↦ λ dead.
-      let P : WorldState → Type 0 = λ y. With p w D (HasVote v g) y × IsOver g.client g.stamp y in
+      let P : WorldState → Type 0 = λ y. With p w D (GrantHasVote v g) y × RequestIsOver g.client g.stamp y in
       let d = r.drops g r.reminded.spot.here.0.1 dead in
       d.over (inl (g, (along-last P MovedBy p.deal d.first r.reminded.spot.before d.lead).0.1, refl, refl))
 ] refl
 
 -- ---- seven rounds
 
-made_at : (laws : Laws) (p : Course) (w : WorldState) (D : ℕ → Type 0) (v : ℕ) (g : Grant) (x : WorldState) → With p w D (HasVote v g) x → g.client < length x.clients
+made_at : (laws : Laws) (p : Course) (w : WorldState) (D : ℕ → Type 0) (v : ℕ) (g : Grant) (x : WorldState) → With p w D (GrantHasVote v g) x → g.client < length x.clients
 made_at laws p w D v g x here = ((steady_ok laws p w D x here.0).made v g.client g.stamp (inl (g, here.1, refl, refl))).client
 
 -- the request of the grant does not run through the first five rounds
 runs_not : (laws : Laws) (p : Course) (w : WorldState) (m v : ℕ) → Seeks p w (Only m) m v → (g : Grant) → g.client ≢ m → precedes (the_request w m) (request_of g) ≡ true → (a b c d e : List Step)
-    → Along (With p w (Only m) (HasVote v g)) MovedBy p.deal (a ++ (b ++ (c ++ (d ++ e)))) w → AreLiveRounds of_steps p.live p.deal w (a ∷ b ∷ c ∷ d ∷ e ∷ [])
+    → Along (With p w (Only m) (GrantHasVote v g)) MovedBy p.deal (a ++ (b ++ (c ++ (d ++ e)))) w → AreLiveRounds of_steps p.live p.deal w (a ∷ b ∷ c ∷ d ∷ e ∷ [])
     → g.stamp ≡ (client_at w.clients g.client).stamp → (client_at (run_of p.deal (a ++ (b ++ (c ++ (d ++ e)))) w).clients g.client).stamp ≡ (client_at w.clients g.client).stamp
     → is_asking (client_at (run_of p.deal (a ++ (b ++ (c ++ (d ++ e)))) w).clients g.client).phase ≡ true → ⊥
 runs_not laws p w m v f g other behind a b c d e all fair number stamp asks =
     let deal = p.deal in
     let D = Only m in
-    let P = With p w D (HasVote v g) in
+    let P = With p w D (GrantHasVote v g) in
     let q = g.client in
     let mid = b ++ (c ++ (d ++ e)) in
     let start = along-first P MovedBy deal (a ++ mid) w all in
@@ -353,10 +353,10 @@ runs_not laws p w m v f g other behind a b c d e all fair number stamp asks =
     let runs_parts = along-split R MovedBy deal a mid w runs in
     let parts = along-split P MovedBy deal a mid w all in
     let x1 = run_of deal a w in
-    let known : IsKnown w q x1 = λ u member. known_after laws p w a q u runs_parts.0 fair.0 asking member in
+    let known : IsKnownByAll w q x1 = λ u member. known_after laws p w a q u runs_parts.0 fair.0 asking member in
     let both = along-and P R MovedBy deal mid x1 parts.1 runs_parts.1 in
-    let with_known = along-all (λ y. P y × R y) MovedBy deal (IsKnown w q) (λ s x y before after moved k u member. entry_kept laws p w q u asking s x y before.1 after.1 moved (k u member)) mid x1 both known in
-    let pairs = along-weaker (λ y. (P y × R y) × IsKnown w q y) (With p w (Pair m q) (HasVote v g)) MovedBy deal (λ y h. (steady_pair p w m q y asking h.0.0.0 h.0.1 h.1, h.0.0.1)) mid x1 with_known in
+    let with_known = along-all (λ y. P y × R y) MovedBy deal (IsKnownByAll w q) (λ s x y before after moved k u member. entry_kept laws p w q u asking s x y before.1 after.1 moved (k u member)) mid x1 both known in
+    let pairs = along-weaker (λ y. (P y × R y) × IsKnownByAll w q y) (With p w (EitherOf m q) (GrantHasVote v g)) MovedBy deal (λ y h. (steady_pair p w m q y asking h.0.0.0 h.0.1 h.1, h.0.0.1)) mid x1 with_known in
     let x2 = run_of deal b x1 in
     let x3 = run_of deal c x2 in
     let x4 = run_of deal d x3 in
@@ -366,27 +366,27 @@ runs_not laws p w m v f g other behind a b c d e all fair number stamp asks =
     let h1 = along-first P MovedBy deal mid x1 parts.1 in
     let h2 = along-first P MovedBy deal (c ++ (d ++ e)) x2 B.1 in
     let h4 = along-first P MovedBy deal e x4 E.1 in
-    let pair4 = along-first (With p w (Pair m q) (HasVote v g)) MovedBy deal e x4
-    (along-split (With p w (Pair m q) (HasVote v g)) MovedBy deal d e x3 (along-split (With p w (Pair m q) (HasVote v g)) MovedBy deal c (d ++ e) x2 (along-split (With p w (Pair m q) (HasVote v g)) MovedBy deal b (c ++ (d ++ e)) x1 pairs).1).1).1 in
-    four_rounds laws p w (Pair m q) m v (record { up = f.up; asks = inl refl; member = f.member }) g (inr refl, number) other behind b c d e x1 pairs
+    let pair4 = along-first (With p w (EitherOf m q) (GrantHasVote v g)) MovedBy deal e x4
+    (along-split (With p w (EitherOf m q) (GrantHasVote v g)) MovedBy deal d e x3 (along-split (With p w (EitherOf m q) (GrantHasVote v g)) MovedBy deal c (d ++ e) x2 (along-split (With p w (EitherOf m q) (GrantHasVote v g)) MovedBy deal b (c ++ (d ++ e)) x1 pairs).1).1).1 in
+    four_rounds laws p w (EitherOf m q) m v (record { up = f.up; asks = inl refl; member = f.member }) g (inr refl, number) other behind b c d e x1 pairs
     (fair.1.0.voters v (voter_within laws p w D x1 m v h1.0 f.asks f.member) f.up).reminded (fair.1.1.0.voters v (voter_within laws p w D x2 m v h2.0 f.asks f.member) f.up).reminded
-    fair.1.1.1.0 (fair.1.1.1.1.0.clients q (made_at laws p w D v g x4 h4) (client_live p w (Pair m q) x4 q pair4.0 (inr refl)))
+    fair.1.1.1.0 (fair.1.1.1.1.0.clients q (made_at laws p w D v g x4 h4) (client_live p w (EitherOf m q) x4 q pair4.0 (inr refl)))
 
 -- it is over before the last two rounds, and then the vote is free
 ends_not : (laws : Laws) (p : Course) (w : WorldState) (m v : ℕ) → Seeks p w (Only m) m v → (g : Grant) → (l q : List Step) (x : WorldState)
-    → Along (With p w (Only m) (HasVote v g)) MovedBy p.deal (l ++ q) x → AreLiveRounds of_steps p.live p.deal x (l ∷ q ∷ []) → HasEnded g.client g.stamp x → ⊥
+    → Along (With p w (Only m) (GrantHasVote v g)) MovedBy p.deal (l ++ q) x → AreLiveRounds of_steps p.live p.deal x (l ∷ q ∷ []) → HasEnded g.client g.stamp x → ⊥
 ends_not laws p w m v f g l q x all fair ended =
     let deal = p.deal in
     let D = Only m in
-    let P = With p w D (HasVote v g) in
+    let P = With p w D (GrantHasVote v g) in
     let x1 = run_of deal l x in
     let parts = along-split P MovedBy deal l q x all in
     let steadily = along-weaker P (Steady p w D) MovedBy deal (λ y h. h.0) l x parts.0 in
     let over = leaves_by laws p w D g.client g.stamp l x steadily (λ inside. fair.0.leaves g.client (live_by p x g.client (along-first P MovedBy deal (l ++ q) x all).0.left (inside_busy (client_at x.clients g.client).phase inside)) inside) ended in
-    let overs = along-all P MovedBy deal (IsOver g.client g.stamp) (λ s a b before after moved k. over_kept laws p w D g.client g.stamp s a b before.0 after.0 moved k) q x1 parts.1 over in
+    let overs = along-all P MovedBy deal (RequestIsOver g.client g.stamp) (λ s a b before after moved k. over_kept laws p w D g.client g.stamp s a b before.0 after.0 moved k) q x1 parts.1 over in
     let here = along-first P MovedBy deal q x1 parts.1 in
     served_over laws p w D m v f g x1 (run_of deal q x1)
-    (served_at (λ y. P y × IsOver g.client g.stamp y) MovedBy p.live deal q x1 v overs (fair.1.0.voters v (voter_within laws p w D x1 m v here.0 f.asks f.member) f.up))
+    (served_at (λ y. P y × RequestIsOver g.client g.stamp y) MovedBy p.live deal q x1 v overs (fair.1.0.voters v (voter_within laws p w D x1 m v here.0 f.asks f.member) f.up))
 
 -- after seven rounds the voter's grant is not behind the request
 pub catches_up : (laws : Laws) (p : Course) (w : WorldState) (m v : ℕ) → Seeks p w (Only m) m v → (a b c d e l q : List Step)
@@ -410,12 +410,12 @@ catches_up laws p w m v f a b c d e l q all fair last =
           (λ h held. subst (λ (k : Grant). precedes (the_request w m) (request_of k) ≡ false) (same_Some g h (sym now.1 ∙ held)) ahead)
       | true ↦ λ behind.
           let other : g.client ≢ m = λ same. false≢true (sym (own_not g m stamp same (own_stamp (voter_at w.voters v) m stamp g (ok.voters v) (start.known m v f.asks f.member) now.1 same)) ∙ behind) in
-          elim (along-or P MovedBy deal (HasVote v g) (NotBehind w m v) (vote_or_ahead laws p w D m v f g) keep steps w all now.1) [
+          elim (along-or P MovedBy deal (GrantHasVote v g) (NotBehind w m v) (vote_or_ahead laws p w D m v f g) keep steps w all now.1) [
             | inl done ↦ done
             | inr kept ↦
                 let t = g.stamp in
                 let u = g.client in
-                let K = With p w D (HasVote v g) in
+                let K = With p w D (GrantHasVote v g) in
                 let parts = along-split K MovedBy deal five (l ++ q) w kept in
                 let x = run_of deal five w in
                 let most = (ok.made v u t (inl (g, now.1, refl, refl))).reached in

@@ -41,13 +41,13 @@ use Rattle.progress.proofs.block.Known.{HoldsDown, asks_for, request_to, within_
 use Rattle.progress.proofs.run.Lists.{all_hold}
 use Rattle.progress.proofs.run.Moves.{Came, ClientMoved, Moved-by, MovedBy}
 use Rattle.progress.proofs.losses.Lasting.{RunsOn, SameAsk}
-use Rattle.progress.proofs.invariants.Sure.{Course, IsSure, Serves, live_by}
+use Rattle.progress.proofs.invariants.Sure.{Course, IsSure, LiveServe, live_by}
 
 -- ---- grants
 
 -- the grant has the vote
-abbrev pub HasVote : ℕ → Grant → WorldState → Type 0
-HasVote v g x = (voter_at x.voters v).held ≡ Some g
+abbrev pub GrantHasVote : ℕ → Grant → WorldState → Type 0
+GrantHasVote v g x = (voter_at x.voters v).held ≡ Some g
 
 -- LOCKED of the voter v to the client d
 abbrev pub locked_to : ℕ → ℕ → ℕ → ℕ → ℕ → ToClient
@@ -60,16 +60,16 @@ release_to d v s = record { client = d; voter = v; body = asks.Release s }
 -- ---- stages
 
 -- what a message does to a vote, if the client is b afterwards
-abbrev pub Fate : ToClient → ClientState → ClientState → ℕ → Type 0
-Fate t a b v = VoteFate t a (record { out = (requester.take a t).out; seen = (requester.take a t).seen; state = b }) v
+abbrev pub GrantFate : ToClient → ClientState → ClientState → ℕ → Type 0
+GrantFate t a b v = VoteFate t a (record { out = (requester.take a t).out; seen = (requester.take a t).seen; state = b }) v
 
 -- S is kept by each message that a client takes
 abbrev pub IsLasting : ℕ → (ClientState → Grant → Type 0) → Type 0
-IsLasting v S = (t : ToClient) (a b : ClientState) (g : Grant) → (holds a v ≡ true → g.grant ≡ held_of a v) → Fate t a b v → S a g → S b g
+IsLasting v S = (t : ToClient) (a b : ClientState) (g : Grant) → (holds a v ≡ true → g.grant ≡ held_of a v) → GrantFate t a b v → S a g → S b g
 
 -- the stages: the client knows of the grant; it has a mark; it gave the grant back; the grant is settled
-abbrev pub Told : ℕ → ClientState → Grant → Type 0
-Told v x g = (g.grant ≤ last_of x v) ⊎ (holds x v ≡ true)
+abbrev pub KnowsGrant : ℕ → ClientState → Grant → Type 0
+KnowsGrant v x g = (g.grant ≤ last_of x v) ⊎ (holds x v ≡ true)
 
 abbrev pub Marked : ℕ → ClientState → Grant → Type 0
 Marked v x g = (g.grant ≤ last_of x v) ⊎ ((holds x v ≡ true) × (is_inquired x v ≡ true))
@@ -80,7 +80,7 @@ GivenBack v x g = g.grant ≤ last_of x v
 abbrev pub Never : ClientState → Grant → Type 0
 Never x g = ⊥
 
-given_on : (v : ℕ) (t : ToClient) (a b : ClientState) (g : Grant) → (holds a v ≡ true → g.grant ≡ held_of a v) → Fate t a b v → g.grant ≤ last_of a v → g.grant ≤ last_of b v
+given_on : (v : ℕ) (t : ToClient) (a b : ClientState) (g : Grant) → (holds a v ≡ true → g.grant ≡ held_of a v) → GrantFate t a b v → g.grant ≤ last_of a v → g.grant ≤ last_of b v
 given_on v t a b g number (inl stays) few = (let last = stays.last in omega arith)
 given_on v t a b g number (inr (inl comes)) few = (let last = comes.last in omega arith)
 given_on v t a b g number (inr (inr back)) few = (let last = back.last in let same = number back.had in omega arith)
@@ -91,16 +91,16 @@ Never-lasting v t a b g number fate h = h
 pub GivenBack-lasting : (v : ℕ) → IsLasting v (GivenBack v)
 GivenBack-lasting v t a b g number fate h = given_on v t a b g number fate h
 
-told_on : (v : ℕ) (t : ToClient) (a b : ClientState) (g : Grant) → (holds a v ≡ true → g.grant ≡ held_of a v) → Fate t a b v → holds a v ≡ true → Told v b g
+told_on : (v : ℕ) (t : ToClient) (a b : ClientState) (g : Grant) → (holds a v ≡ true → g.grant ≡ held_of a v) → GrantFate t a b v → holds a v ≡ true → KnowsGrant v b g
 told_on v t a b g number (inl stays) has = inr (ap (λ n. nat_lt 0 n) stays.held ∙ has)
 told_on v t a b g number (inr (inl comes)) has = inr comes.has
 told_on v t a b g number (inr (inr back)) has = inl (let last = back.last in let same = number has in omega arith)
 
-pub Told-lasting : (v : ℕ) → IsLasting v (Told v)
+pub Told-lasting : (v : ℕ) → IsLasting v (KnowsGrant v)
 Told-lasting v t a b g number fate (inl few) = inl (given_on v t a b g number fate few)
 Told-lasting v t a b g number fate (inr has) = told_on v t a b g number fate has
 
-marked_on : (v : ℕ) (t : ToClient) (a b : ClientState) (g : Grant) → (holds a v ≡ true → g.grant ≡ held_of a v) → Fate t a b v → holds a v ≡ true → is_inquired a v ≡ true → Marked v b g
+marked_on : (v : ℕ) (t : ToClient) (a b : ClientState) (g : Grant) → (holds a v ≡ true → g.grant ≡ held_of a v) → GrantFate t a b v → holds a v ≡ true → is_inquired a v ≡ true → Marked v b g
 marked_on v t a b g number (inl stays) has mark = inr (ap (λ n. nat_lt 0 n) stays.held ∙ has, stays.marked mark)
 marked_on v t a b g number (inr (inl comes)) has mark = absurd (false≢true (sym comes.free ∙ has))
 marked_on v t a b g number (inr (inr back)) has mark = inl (let last = back.last in let same = number has in omega arith)
@@ -115,14 +115,14 @@ Marked-lasting v t a b g number fate (inr mark) = marked_on v t a b g number fat
 -- a grant left.
 pub record Steady (p : Course) (w : WorldState) (D : ℕ → Type 0) (x : WorldState) : Type 0 where
   pub reached : IsSure p x
-  pub left : Serves p x
+  pub left : LiveServe p x
   pub asks : (d : ℕ) → D d → is_asking (client_at w.clients d).phase ≡ true
   pub same : (d : ℕ) → D d → SameAsk (client_at w.clients d) (client_at x.clients d)
   pub known : (d v : ℕ) → D d → is_member (client_at w.clients d) v ≡ true → IsEntry (voter_at x.voters v) d (client_at w.clients d).stamp
 
 -- the grant is for the request of a client in D
-abbrev pub IsOf : WorldState → (ℕ → Type 0) → Grant → Type 0
-IsOf w D g = D g.client × (g.stamp ≡ (client_at w.clients g.client).stamp)
+abbrev pub IsOfSome : WorldState → (ℕ → Type 0) → Grant → Type 0
+IsOfSome w D g = D g.client × (g.stamp ≡ (client_at w.clients g.client).stamp)
 
 -- a client in D, and a voter of its quorum that is live
 pub record Seeks (p : Course) (w : WorldState) (D : ℕ → Type 0) (m v : ℕ) : Type 0 where
@@ -186,11 +186,11 @@ idle_absurd : (p : Course) (w : WorldState) (D : ℕ → Type 0) (x : WorldState
 idle_absurd p w D x d calm asking idle = false≢true (sym (is_asking-busy (client_at x.clients d).phase (asks_now p w D x d calm asking)) ∙ idle)
 
 -- the client took this message
-abbrev pub Took : WorldState → WorldState → ℕ → Type 0
-Took x y d = (m : ToClient) × (client_at y.clients d ≡ (requester.take (client_at x.clients d) m).state) × Came x d (requester.Takes m)
+abbrev pub TookMessage : WorldState → WorldState → ℕ → Type 0
+TookMessage x y d = (m : ToClient) × (client_at y.clients d ≡ (requester.take (client_at x.clients d) m).state) × Came x d (requester.Takes m)
 
 took_by : (laws : Laws) (p : Course) (w : WorldState) (D : ℕ → Type 0) (x y : WorldState) (k : ClientMoved x y) → Steady p w D x → Steady p w D y → D k.who → (cause : requester.Cause)
-    → Came x k.who cause → requester.step (client_at x.clients k.who) cause ≡ Ok k.outcome → cause ≡ k.cause → Took x y k.who
+    → Came x k.who cause → requester.step (client_at x.clients k.who) cause ≡ Ok k.outcome → cause ≡ k.cause → TookMessage x y k.who
 took_by laws p w D x y k before after asking (requester.Asks q) came step is =
     let stamp : (client_at x.clients k.who).clock + 1 ≡ k.outcome.state.stamp = ap (λ (o : requester.Outcome). o.state.stamp) (ask-Ok (client_at x.clients k.who) q k.outcome step) in
     let now : k.outcome.state.stamp ≡ (client_at x.clients k.who).stamp = ap (λ (z : ClientState). z.stamp) (sym k.here) ∙ (after.same k.who asking).stamp ∙ sym (before.same k.who asking).stamp in
@@ -209,10 +209,10 @@ took_by laws p w D x y k before after asking requester.GivesUp came step is =
 
 -- the client is as before, or took a message
 pub client_goes : (laws : Laws) (p : Course) (w : WorldState) (D : ℕ → Type 0) (s : Step) (x y : WorldState) (d : ℕ) → Steady p w D x → Steady p w D y → MovedBy s x y → D d
-    → (client_at y.clients d ≡ client_at x.clients d) ⊎ Took x y d
+    → (client_at y.clients d ≡ client_at x.clients d) ⊎ TookMessage x y d
 client_goes laws p w D s x y d before after moved asking = elim moved [
   | inl k ↦ elim (cases_eq d k.0.who) [
-    | inl same ↦ inr (subst (λ i. Took x y i) (sym same) (took_by laws p w D x y k.0 before after (subst D same asking) k.0.cause k.0.came k.0.step refl))
+    | inl same ↦ inr (subst (λ i. TookMessage x y i) (sym same) (took_by laws p w D x y k.0 before after (subst D same asking) k.0.cause k.0.came k.0.step refl))
     | inr other ↦ inl (k.0.others d other)
   ]
   | inr (inl k) ↦ inl (ap (λ (cs : List ClientState). client_at cs d) k.0.clients)
@@ -221,13 +221,13 @@ client_goes laws p w D s x y d before after moved asking = elim moved [
 
 -- what a step does to a vote of a client that asks
 pub fate_goes : (laws : Laws) (p : Course) (w : WorldState) (D : ℕ → Type 0) (s : Step) (x y : WorldState) (d v : ℕ) → Steady p w D x → Steady p w D y → MovedBy s x y → D d → v < 64
-    → (client_at y.clients d ≡ client_at x.clients d) ⊎ ((t : ToClient) × Came x d (requester.Takes t) × Fate t (client_at x.clients d) (client_at y.clients d) v)
+    → (client_at y.clients d ≡ client_at x.clients d) ⊎ ((t : ToClient) × Came x d (requester.Takes t) × GrantFate t (client_at x.clients d) (client_at y.clients d) v)
 fate_goes laws p w D s x y d v before after moved asking below = elim (client_goes laws p w D s x y d before after moved asking) [
   | inl same ↦ inl same
   | inr took ↦ inr (
     took.0,
     took.2,
-    subst (λ (z : ClientState). Fate took.0 (client_at x.clients d) z v) (sym took.1) (VoteFate-take (client_at x.clients d) took.0 v ((steady_ok laws p w D x before).clients d)),
+    subst (λ (z : ClientState). GrantFate took.0 (client_at x.clients d) z v) (sym took.1) (VoteFate-take (client_at x.clients d) took.0 v ((steady_ok laws p w D x before).clients d)),
   )
 ]
 
@@ -244,7 +244,7 @@ holds_set : (xs ys : List ℕ) (v g : ℕ) → ys ≡ slice_set xs v g → v < l
 holds_set xs ys v g is within some = (let here : slice_index ys v ≡ g = ap (λ l. slice_index l v) is ∙ get_or-set_same xs v g 0 within in grind (arith, nat_tests))
 
 pub mark_goes : (laws : Laws) (p : Course) (w : WorldState) (D : ℕ → Type 0) (S : ClientState → Grant → Type 0) (v : ℕ) → IsLasting v S → (s : Step) (x y : WorldState) → Steady p w D x → Steady p w D y → MovedBy s x y
-    → v < 64 → (g : Grant) → (voter_at x.voters v).held ≡ Some g → IsOf w D g → S (client_at x.clients g.client) g → S (client_at y.clients g.client) g
+    → v < 64 → (g : Grant) → (voter_at x.voters v).held ≡ Some g → IsOfSome w D g → S (client_at x.clients g.client) g → S (client_at y.clients g.client) g
 mark_goes laws p w D S v lasting s x y before after moved below g held live h =
     let d = g.client in
     elim (fate_goes laws p w D s x y d v before after moved (live.0) below) [
@@ -268,13 +268,13 @@ takes_vote laws p w D x d v k seen grant calm asking member is free less =
     let below = voter_below laws p w D x d v calm asking member in
     ap (λ (z : ClientState). holds z v) t.here ∙ holds_set old.held (requester.take old m).state.held v grant besides (omega arith) (omega arith)
 
-keeps_mark : (laws : Laws) (p : Course) (w : WorldState) (D : ℕ → Type 0) (m v : ℕ) → Seeks p w D m v → (g : Grant) → IsOf w D g → (s : Step) (x y : WorldState)
-    → With p w D (HasVote v g) x → With p w D (HasVote v g) y → MovedBy s x y → Told v (client_at x.clients g.client) g → Told v (client_at y.clients g.client) g
+keeps_mark : (laws : Laws) (p : Course) (w : WorldState) (D : ℕ → Type 0) (m v : ℕ) → Seeks p w D m v → (g : Grant) → IsOfSome w D g → (s : Step) (x y : WorldState)
+    → With p w D (GrantHasVote v g) x → With p w D (GrantHasVote v g) y → MovedBy s x y → KnowsGrant v (client_at x.clients g.client) g → KnowsGrant v (client_at y.clients g.client) g
 keeps_mark laws p w D m v f g live s x y before after moved h =
-    mark_goes laws p w D (Told v) v (Told-lasting v) s x y before.0 after.0 moved (voter_below laws p w D x m v before.0 f.asks f.member) g before.1 live h
+    mark_goes laws p w D (KnowsGrant v) v (Told-lasting v) s x y before.0 after.0 moved (voter_below laws p w D x m v before.0 f.asks f.member) g before.1 live h
 
 -- the voter is one of the client's quorum
-pub live_member : (laws : Laws) (p : Course) (w : WorldState) (D : ℕ → Type 0) (x : WorldState) (v : ℕ) (g : Grant) → Steady p w D x → HasVote v g x → IsOf w D g → is_member (client_at w.clients g.client) v ≡ true
+pub live_member : (laws : Laws) (p : Course) (w : WorldState) (D : ℕ → Type 0) (x : WorldState) (v : ℕ) (g : Grant) → Steady p w D x → GrantHasVote v g x → IsOfSome w D g → is_member (client_at w.clients g.client) v ≡ true
 live_member laws p w D x v g calm held live =
     let d = g.client in
     let asking = live.0 in
@@ -282,11 +282,11 @@ live_member laws p w D x v g calm held live =
     let current = current_is (client_at x.clients d) g.stamp (asks_now p w D x d calm asking) (live.1 ∙ sym same.stamp) in
     ap (λ l. has l v) (sym (same.quorum (calm.asks d asking))) ∙ (calm.reached []).placed.places v d g.stamp (inl (g, held, refl, refl)) current
 
-pub told : (laws : Laws) (p : Course) (w : WorldState) (D : ℕ → Type 0) (m v : ℕ) → Seeks p w D m v → (g : Grant) → IsOf w D g → (x z : WorldState)
-    → Reminded (With p w D (HasVote v g)) MovedBy p.live p.deal x z (RemindVoter v) → Told v (client_at z.clients g.client) g
+pub told : (laws : Laws) (p : Course) (w : WorldState) (D : ℕ → Type 0) (m v : ℕ) → Seeks p w D m v → (g : Grant) → IsOfSome w D g → (x z : WorldState)
+    → Reminded (With p w D (GrantHasVote v g)) MovedBy p.live p.deal x z (RemindVoter v) → KnowsGrant v (client_at z.clients g.client) g
 told laws p w D m v f g live x z r =
     let deal = p.deal in
-    let P = With p w D (HasVote v g) in
+    let P = With p w D (GrantHasVote v g) in
     let keep = keeps_mark laws p w D m v f g live in
     let d = g.client in
     let spot = r.spot in
@@ -304,17 +304,17 @@ told laws p w D m v f g live x z r =
     let sends = reminds_first deal u v msg (voter.inquiry_again y.inquiring y g) within out in
     let u1 = next deal u (RemindVoter v) in
     let heard = r.heard sends.place sends.least (between_from p.live (slice_get u1.sent sends.place) msg sends.is (client_live p w D u d calm (live.0)) f.up) in
-    let there = spot_before P MovedBy deal (λ q. slice_get q.sent sends.place ≡ Some (kinds.ToClient msg)) (sent_stays p w D (HasVote v g) sends.place (kinds.ToClient msg)) u1 z (Deliver sends.place) heard.spot
+    let there = spot_before P MovedBy deal (λ q. slice_get q.sent sends.place ≡ Some (kinds.ToClient msg)) (sent_stays p w D (GrantHasVote v g) sends.place (kinds.ToClient msg)) u1 z (Deliver sends.place) heard.spot
     sends.is in
     let x2 = heard.spot.before in
     let calm2 = heard.spot.here.0 in
     let old = client_at x2.clients d in
-    let through : Told v old g → Told v (client_at z.clients d) g = spot_through P MovedBy deal (λ q. Told v (client_at q.clients d) g) keep u1 z (Deliver sends.place) heard.spot in
-    elim (holds old v) as (λ b. holds old v ≡ b → Told v (client_at z.clients d) g) [
+    let through : KnowsGrant v old g → KnowsGrant v (client_at z.clients d) g = spot_through P MovedBy deal (λ q. KnowsGrant v (client_at q.clients d) g) keep u1 z (Deliver sends.place) heard.spot in
+    elim (holds old v) as (λ b. holds old v ≡ b → KnowsGrant v (client_at z.clients d) g) [
       | true ↦ λ has. through (inr has)
       | false ↦ λ free. elim (cases_lt (last_of old v) g.grant) [
         | inr few ↦ through (inl few)
-        | inl less ↦ spot_end P MovedBy deal (λ q. Told v (client_at q.clients d) g) keep u1 z (Deliver sends.place) heard.spot
+        | inl less ↦ spot_end P MovedBy deal (λ q. KnowsGrant v (client_at q.clients d) g) keep u1 z (Deliver sends.place) heard.spot
             (inr (takes_vote laws p w D x2 d v sends.place y.seen g.grant calm2 (live.0) (live_member laws p w D u v g calm held live) there free less))
       ]
     ] (refl {a = holds old v})
@@ -335,19 +335,19 @@ inquire_marks laws p w D x d v g t calm asking from below number is hold =
 
 -- the grant has the vote, and the voter has asked for it
 abbrev pub AskedFor : ℕ → Grant → WorldState → Type 0
-AskedFor v g x = HasVote v g x × ((voter_at x.voters v).inquiring ≡ true)
+AskedFor v g x = GrantHasVote v g x × ((voter_at x.voters v).inquiring ≡ true)
 
-keeps_marked : (laws : Laws) (p : Course) (w : WorldState) (D : ℕ → Type 0) (m v : ℕ) → Seeks p w D m v → (g : Grant) → IsOf w D g → (S : ClientState → Grant → Type 0) → IsLasting v S → (s : Step) (x y : WorldState)
+keeps_marked : (laws : Laws) (p : Course) (w : WorldState) (D : ℕ → Type 0) (m v : ℕ) → Seeks p w D m v → (g : Grant) → IsOfSome w D g → (S : ClientState → Grant → Type 0) → IsLasting v S → (s : Step) (x y : WorldState)
     → With p w D (AskedFor v g) x → With p w D (AskedFor v g) y → MovedBy s x y → S (client_at x.clients g.client) g → S (client_at y.clients g.client) g
 keeps_marked laws p w D m v f g live S lasting s x y before after moved h =
     mark_goes laws p w D S v lasting s x y before.0 after.0 moved (voter_below laws p w D x m v before.0 f.asks f.member) g before.1.0 live h
 
-pub asked : (laws : Laws) (p : Course) (w : WorldState) (D : ℕ → Type 0) (m v : ℕ) → Seeks p w D m v → (g : Grant) → IsOf w D g → (x z : WorldState)
-    → Reminded (With p w D (AskedFor v g)) MovedBy p.live p.deal x z (RemindVoter v) → Told v (client_at x.clients g.client) g → Marked v (client_at z.clients g.client) g
+pub asked : (laws : Laws) (p : Course) (w : WorldState) (D : ℕ → Type 0) (m v : ℕ) → Seeks p w D m v → (g : Grant) → IsOfSome w D g → (x z : WorldState)
+    → Reminded (With p w D (AskedFor v g)) MovedBy p.live p.deal x z (RemindVoter v) → KnowsGrant v (client_at x.clients g.client) g → Marked v (client_at z.clients g.client) g
 asked laws p w D m v f g live x z r before =
     let deal = p.deal in
     let P = With p w D (AskedFor v g) in
-    let keep = keeps_marked laws p w D m v f g live (Told v) (Told-lasting v) in
+    let keep = keeps_marked laws p w D m v f g live (KnowsGrant v) (Told-lasting v) in
     let keep_mark = keeps_marked laws p w D m v f g live (Marked v) (Marked-lasting v) in
     let d = g.client in
     let spot = r.spot in
@@ -360,7 +360,7 @@ asked laws p w D m v f g live x z r before =
     let below = voter_below laws p w D u m v calm f.asks f.member in
     let id : y.id ≡ v = ok.numbered.voters v within in
     let u1 = next deal u (RemindVoter v) in
-    let told_u = spot_before P MovedBy deal (λ q. Told v (client_at q.clients d) g) keep x z (RemindVoter v) spot before in
+    let told_u = spot_before P MovedBy deal (λ q. KnowsGrant v (client_at q.clients d) g) keep x z (RemindVoter v) spot before in
     elim told_u [
       | inl few ↦ spot_through P MovedBy deal (λ q. Marked v (client_at q.clients d) g) keep_mark x z (RemindVoter v) spot (inl few)
       | inr hold ↦
@@ -376,7 +376,7 @@ asked laws p w D m v f g live x z r before =
           let calm2 = heard.spot.here.0 in
           let y2 = next deal x2 (Deliver sends.place) in
           let told_u1 = keep (RemindVoter v) u u1 spot.here (spot_after P MovedBy deal x z (RemindVoter v) spot) spot.moved (inr hold) in
-          let told2 = spot_before P MovedBy deal (λ q. Told v (client_at q.clients d) g) keep u1 z (Deliver sends.place) heard.spot told_u1 in
+          let told2 = spot_before P MovedBy deal (λ q. KnowsGrant v (client_at q.clients d) g) keep u1 z (Deliver sends.place) heard.spot told_u1 in
           elim told2 [
             | inl few ↦ spot_through P MovedBy deal (λ q. Marked v (client_at q.clients d) g) keep_mark u1 z (Deliver sends.place) heard.spot (inl few)
             | inr hold2 ↦
@@ -558,16 +558,16 @@ not_marked laws p w D d v asking below x z first calm down r =
 abbrev relinquish_to : ℕ → ℕ → ℕ → ToVoter
 relinquish_to d v n = record { client = d; voter = v; body = asks.Relinquish n }
 
-keeps_given : (laws : Laws) (p : Course) (w : WorldState) (D : ℕ → Type 0) (v : ℕ) → v < 64 → (g : Grant) → IsOf w D g → (s : Step) (x y : WorldState)
-    → With p w D (HasVote v g) x → With p w D (HasVote v g) y → MovedBy s x y → GivenBack v (client_at x.clients g.client) g → GivenBack v (client_at y.clients g.client) g
+keeps_given : (laws : Laws) (p : Course) (w : WorldState) (D : ℕ → Type 0) (v : ℕ) → v < 64 → (g : Grant) → IsOfSome w D g → (s : Step) (x y : WorldState)
+    → With p w D (GrantHasVote v g) x → With p w D (GrantHasVote v g) y → MovedBy s x y → GivenBack v (client_at x.clients g.client) g → GivenBack v (client_at y.clients g.client) g
 keeps_given laws p w D v below g live s x y before after moved h = mark_goes laws p w D (GivenBack v) v (GivenBack-lasting v) s x y before.0 after.0 moved below g before.1 live h
 
 -- the grant ends with the reminder of its client
-pub not_given_back : (laws : Laws) (p : Course) (w : WorldState) (D : ℕ → Type 0) (v : ℕ) → v < 64 → p.live.voter v ≡ true → (g : Grant) → IsOf w D g → (x z : WorldState)
-    → Reminded (With p w D (HasVote v g)) MovedBy p.live p.deal x z (RemindClient g.client) → GivenBack v (client_at x.clients g.client) g → ⊥
+pub not_given_back : (laws : Laws) (p : Course) (w : WorldState) (D : ℕ → Type 0) (v : ℕ) → v < 64 → p.live.voter v ≡ true → (g : Grant) → IsOfSome w D g → (x z : WorldState)
+    → Reminded (With p w D (GrantHasVote v g)) MovedBy p.live p.deal x z (RemindClient g.client) → GivenBack v (client_at x.clients g.client) g → ⊥
 not_given_back laws p w D v below up g live x z r given =
     let deal = p.deal in
-    let P = With p w D (HasVote v g) in
+    let P = With p w D (GrantHasVote v g) in
     let d = g.client in
     let asking = live.0 in
     let spot = r.spot in
@@ -591,7 +591,7 @@ not_given_back laws p w D v below up g live x z r given =
     let sends = says deal x1 d msg within (subst (Contains (requester.remind old)) is there) in
     let u1 = next deal x1 (RemindClient d) in
     let heard = r.heard sends.place sends.least (between_to p.live (slice_get u1.sent sends.place) msg sends.is (client_live p w D x1 d calm asking) up) in
-    let got = spot_before P MovedBy deal (λ q. slice_get q.sent sends.place ≡ Some (kinds.ToVoter msg)) (sent_stays p w D (HasVote v g) sends.place (kinds.ToVoter msg)) u1 z
+    let got = spot_before P MovedBy deal (λ q. slice_get q.sent sends.place ≡ Some (kinds.ToVoter msg)) (sent_stays p w D (GrantHasVote v g) sends.place (kinds.ToVoter msg)) u1 z
     (Deliver sends.place) heard.spot sends.is in
     let x2 = heard.spot.before in
     let calm2 = heard.spot.here.0 in

@@ -33,7 +33,7 @@ use Rattle.progress.proofs.run.Moves.{ClientMoved, IsReminder, Moved, Moved-by, 
 use Rattle.progress.proofs.invariants.Outstanding.{step-GivesUp, step-Leaves}
 use Rattle.progress.proofs.invariants.Placed.{NoRequest, NoRequests, no-take}
 use Rattle.progress.proofs.losses.Lasting.{Lasts-moved, SameAsk, left_before, no_asks_to, reminds_asking, serving_both}
-use Rattle.progress.proofs.invariants.Sure.{Course, IsSure, IsSure-after, Serves, Serving}
+use Rattle.progress.proofs.invariants.Sure.{Course, IsSure, IsSure-after, LiveServe, Serving}
 use Rattle.progress.proofs.patience.Turns.{idle_not_asking, no_turn, stamp_stays, turn}
 
 -- ---- requests up to a stamp
@@ -80,7 +80,7 @@ IsFitAt w s (kinds.ToVoter m) = FitBody w s m.client m.body
 IsFitAt w s (kinds.ToClient m) = Unit {0}
 
 -- each message that was sent since the world w is such
-pub record Sends (w : WorldState) (s : ℕ) (x : WorldState) : Type 0 where
+pub record SentSince (w : WorldState) (s : ℕ) (x : WorldState) : Type 0 where
   pub more : List Message
   pub sent : x.sent ≡ w.sent ++ more
   pub fit : AllByRecursion (IsFitAt w s) more
@@ -88,11 +88,11 @@ pub record Sends (w : WorldState) (s : ℕ) (x : WorldState) : Type 0 where
 -- The clients that asked under a stamp up to s do so, as before, and no others. Each voter has a grant left.
 pub record Tame (p : Course) (w : WorldState) (s : ℕ) (x : WorldState) : Type 0 where
   pub reached : IsSure p x
-  pub left : Serves p x
+  pub left : LiveServe p x
   pub grows : Grows w x
   pub ahead : (d : ℕ) → asks_up_to s x d ≡ asks_up_to s w d
   pub same : (d : ℕ) → asks_up_to s w d ≡ true → SameAsk (client_at w.clients d) (client_at x.clients d)
-  pub sends : Sends w s x
+  pub sends : SentSince w s x
 
 fit_none : (w : WorldState) (s c : ℕ) (b : VoterBody) → NoRequest b → FitBody w s c b
 fit_none w s c (asks.Request t) none = absurd none
@@ -161,7 +161,7 @@ reminder_sends laws w s x ok ahead same more said = elim said [
 ]
 
 step_sends : (laws : Laws) (p : Course) (w : WorldState) (s : ℕ) (x y : WorldState) → Tame p w s x → ((e : ℕ) → asks_up_to s y e ≡ asks_up_to s w e)
-    → ((e : ℕ) → asks_up_to s w e ≡ true → SameAsk (client_at w.clients e) (client_at y.clients e)) → Moved x y → Sends w s y
+    → ((e : ℕ) → asks_up_to s w e ≡ true → SameAsk (client_at w.clients e) (client_at y.clients e)) → Moved x y → SentSince w s y
 step_sends laws p w s x y before ahead same moved =
     let ok = (before.reached []).coherent in
     let h = before.sends in
@@ -178,7 +178,7 @@ step_sends laws p w s x y before ahead same moved =
 
 -- ---- all along
 
-tame_next : (laws : Laws) (p : Course) (w : WorldState) (s : ℕ) (t : Step) (x y : WorldState) → Tame p w s x → IsSure p y → (Serves p y)
+tame_next : (laws : Laws) (p : Course) (w : WorldState) (s : ℕ) (t : Step) (x y : WorldState) → Tame p w s x → IsSure p y → (LiveServe p y)
     → MovedBy t x y → ((d : ℕ) → turn (asks_up_to s x d) (asks_up_to s y d) ≡ 0) → Tame p w s y
 tame_next laws p w s t x y before reached left moved none =
     let ahead : (d : ℕ) → asks_up_to s y d ≡ asks_up_to s w d = λ d. no_turn (asks_up_to s x d) (asks_up_to s y d) (none d) ∙ before.ahead d in

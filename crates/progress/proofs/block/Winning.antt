@@ -47,7 +47,7 @@ use Rattle.progress.proofs.block.Leading.{Clear, Hushed, IsSettled, NotAhead, Ow
 use Rattle.progress.proofs.run.Lists.{has_range, remove_from, shorter, still_there}
 use Rattle.progress.proofs.run.Moves.{Moved-by, MovedBy}
 use Rattle.progress.proofs.block.Overdue.{Only}
-use Rattle.progress.proofs.block.Steady.{HasVote, Never, Never-lasting, Seeks, Steady, With, asks_now, fate_goes, held_exists, locked_to, release_to, steady_ok, told, voter_below, voter_within}
+use Rattle.progress.proofs.block.Steady.{GrantHasVote, Never, Never-lasting, Seeks, Steady, With, asks_now, fate_goes, held_exists, locked_to, release_to, steady_ok, told, voter_below, voter_within}
 use Rattle.progress.proofs.invariants.Sure.{Course}
 
 -- ---- requests that are over
@@ -96,7 +96,7 @@ olds_on laws p w m v alive s x y before after moved h d t entry first = h d t (k
 
 -- the grant is settled
 pub record IsIts (m v : ℕ) (g : Grant) (x : WorldState) : Type 0 where
-  pub held : HasVote v g x
+  pub held : GrantHasVote v g x
   pub settled : IsSettled m v x g
 
 -- no message ends it
@@ -108,7 +108,7 @@ ends_never y v g c (asks.Relinquish n) has z busy stamp fresh asked ends =
     (subst₂ (λ d k. y.held ≡ Some (record { client = d; stamp = g.stamp; grant = k })) ends.0 ends.1 has)
 ends_never y v g c (asks.Release t) has z busy stamp fresh asked ends = (let less = (asked ends.0).1 busy in let most = ends.1 in omega arith)
 
-its_held : (laws : Laws) (p : Course) (w : WorldState) (m v : ℕ) → Seeks p w (Only m) m v → (g : Grant) → (s : Step) (x y : WorldState) → Steady p w (Only m) x → Quietly p w m s x y → IsIts m v g x → HasVote v g y
+its_held : (laws : Laws) (p : Course) (w : WorldState) (m v : ℕ) → Seeks p w (Only m) m v → (g : Grant) → (s : Step) (x y : WorldState) → Steady p w (Only m) x → Quietly p w m s x y → IsIts m v g x → GrantHasVote v g y
 its_held laws p w m v f g s x y before moved h = elim moved.0 [
   | inl k ↦ ap (λ (vs : List VoterState). (voter_at vs v).held) k.0.voters ∙ h.held
   | inr (inl moves) ↦
@@ -289,10 +289,10 @@ won_after laws p w m v f g round x all fair h =
           let P = λ (q : WorldState). Clear p w m q × IsIts m v g q in
           let end = (along-last P (Quietly p w m) deal round x kept).1 in
           let moves = along-quiet P p w m round x kept in
-          let votes = along-weaker P (With p w D (HasVote v g)) MovedBy deal (λ q k. (k.0.steady, k.1.held)) round x moves in
+          let votes = along-weaker P (With p w D (GrantHasVote v g)) MovedBy deal (λ q k. (k.0.steady, k.1.held)) round x moves in
           let calm = (along-first (Clear p w m) (Quietly p w m) deal round x all).steady in
           let own = h.settled.own in
-          let knows = told laws p w D m v f g (is_own laws p w m v f x calm g h.held own) x z (reminded_at (With p w D (HasVote v g)) MovedBy p.live deal round x (RemindVoter v) votes fair) in
+          let knows = told laws p w D m v f g (is_own laws p w m v f x calm g h.held own) x z (reminded_at (With p w D (GrantHasVote v g)) MovedBy p.live deal round x (RemindVoter v) votes fair) in
           elim knows [
             | inl few ↦ (let fresh = subst (λ c. last_of (client_at z.clients c) v < g.grant) (sym own) end.settled.fresh in absurd (omega arith))
             | inr has ↦ record { its = end; has = subst (λ c. holds (client_at z.clients c) v ≡ true) own has }

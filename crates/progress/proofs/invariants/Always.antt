@@ -31,12 +31,12 @@ use Rattle.progress.proofs.run.Moves.{ClientMoved, IsReminder, Moved, OnlySent, 
 use Rattle.numbers.proofs.Lists.{AllByRecursion-append, AllByRecursion-get, AllByRecursion-weaker}
 
 -- the voter has seen the stamp of the client's request that runs, if it knows it
-abbrev pub HasSeen : ℕ → ClientState → VoterState → Type 0
-HasSeen c x y = (s : ℕ) → IsEntry y c s → is_current x s ≡ true → s ≤ y.seen
+abbrev pub VoterHasSeen : ℕ → ClientState → VoterState → Type 0
+VoterHasSeen c x y = (s : ℕ) → IsEntry y c s → is_current x s ≡ true → s ≤ y.seen
 
 -- each voter has seen the stamp of each request that runs and that it knows
 abbrev pub AllSeen : List ClientState → List VoterState → Type 0
-AllSeen cs vs = (v c : ℕ) → HasSeen c (client_at cs c) (voter_at vs v)
+AllSeen cs vs = (v c : ℕ) → VoterHasSeen c (client_at cs c) (voter_at vs v)
 
 -- the grant of a LOCKED is one of the first n
 abbrev pub IsUpTo : ℕ → ClientBody → Type 0
@@ -51,7 +51,7 @@ WasGiven vs (kinds.ToClient m) = IsUpTo (voter_at vs m.voter).granted m.body
 
 -- what holds of one client's request, and of each LOCKED
 pub record Heeds (c : ℕ) (w : WorldState) : Type 0 where
-  pub seen : (v : ℕ) → HasSeen c (client_at w.clients c) (voter_at w.voters v)
+  pub seen : (v : ℕ) → VoterHasSeen c (client_at w.clients c) (voter_at w.voters v)
   pub given : AllByRecursion (WasGiven w.voters) w.sent
 
 pub record Always (w : WorldState) : Type 0 where
@@ -104,17 +104,17 @@ seen_brought seen client c s (asks.Request t) brings = let same = brings.1 in gr
 seen_brought seen client c s (asks.Relinquish g) brings = absurd brings
 seen_brought seen client c s (asks.Release t) brings = absurd brings
 
-seen_by : (laws : VoterLaws) (y : VoterState) (m : ToVoter) (o : voter.Outcome) → voter.step y m ≡ Some o → (c : ℕ) (x : ClientState) → HasSeen c x y → HasSeen c x o.state
+seen_by : (laws : VoterLaws) (y : VoterState) (m : ToVoter) (o : voter.Outcome) → voter.step y m ≡ Some o → (c : ℕ) (x : ClientState) → VoterHasSeen c x y → VoterHasSeen c x o.state
 seen_by laws y m o step c x was s entry runs =
     subst (λ n. s ≤ n) (sym (laws.carries y m o step).seen) (elim ((laws.meets y m o step).entries c s entry) [
       | inl before ↦ seen_before y.seen s m.body (was s before runs)
       | inr brings ↦ seen_brought y.seen m.client c s m.body brings
     ])
 
-pub Seen-voter : (laws : VoterLaws) (w u : WorldState) (c : ℕ) → VoterMoved w u → ((v : ℕ) → HasSeen c (client_at w.clients c) (voter_at w.voters v))
-    → (v : ℕ) → HasSeen c (client_at u.clients c) (voter_at u.voters v)
-Seen-voter laws w u c k seen v = subst (λ (cs : List ClientState). HasSeen c (client_at cs c) (voter_at u.voters v)) (sym k.clients)
-    (each_voter (λ q y. HasSeen c (client_at w.clients c) y) w u k
+pub Seen-voter : (laws : VoterLaws) (w u : WorldState) (c : ℕ) → VoterMoved w u → ((v : ℕ) → VoterHasSeen c (client_at w.clients c) (voter_at w.voters v))
+    → (v : ℕ) → VoterHasSeen c (client_at u.clients c) (voter_at u.voters v)
+Seen-voter laws w u c k seen v = subst (λ (cs : List ClientState). VoterHasSeen c (client_at cs c) (voter_at u.voters v)) (sym k.clients)
+    (each_voter (λ q y. VoterHasSeen c (client_at w.clients c) y) w u k
     (seen_by laws (voter_at w.voters k.message.voter) k.message k.outcome k.step c (client_at w.clients c) (seen k.message.voter)) seen v)
 
 -- the voter that took the message is the one that it names
@@ -146,7 +146,7 @@ given-client w u k given =
     subst (λ ms. AllByRecursion (WasGiven u.voters) ms) (sym k.sent) (subst (λ (vs : List VoterState). AllByRecursion (WasGiven vs) (w.sent ++ map kinds.ToVoter k.outcome.out)) (sym k.voters)
     (AllByRecursion-append (WasGiven w.voters) w.sent _ given (all_sent (WasGiven w.voters) kinds.ToVoter (λ m. tt) k.outcome.out)))
 
-pub Heeds-client : (w u : WorldState) (c : ℕ) → ClientMoved w u → ((v : ℕ) → HasSeen c (client_at u.clients c) (voter_at u.voters v)) → Heeds c w → Heeds c u
+pub Heeds-client : (w u : WorldState) (c : ℕ) → ClientMoved w u → ((v : ℕ) → VoterHasSeen c (client_at u.clients c) (voter_at u.voters v)) → Heeds c w → Heeds c u
 Heeds-client w u c k seen a = record { seen = seen; given = given-client w u k a.given }
 
 reminder_given : (laws : VoterLaws) (w : WorldState) → IsCoherent w → (more : List Message) → IsReminder w more → AllByRecursion (WasGiven w.voters) more
@@ -172,8 +172,8 @@ given-moved laws w u ok now moved given = elim moved [
 
 pub Heeds-sent : (laws : VoterLaws) (w u : WorldState) (c : ℕ) → IsCoherent w → OnlySent w u → Heeds c w → Heeds c u
 Heeds-sent laws w u c ok k a = record {
-  seen = λ v. subst (λ (cs : List ClientState). HasSeen c (client_at cs c) (voter_at u.voters v)) (sym k.clients)
-      (subst (λ (vs : List VoterState). HasSeen c (client_at w.clients c) (voter_at vs v)) (sym k.voters) (a.seen v));
+  seen = λ v. subst (λ (cs : List ClientState). VoterHasSeen c (client_at cs c) (voter_at u.voters v)) (sym k.clients)
+      (subst (λ (vs : List VoterState). VoterHasSeen c (client_at w.clients c) (voter_at vs v)) (sym k.voters) (a.seen v));
   given = given-sent laws w u ok k a.given;
 }
 

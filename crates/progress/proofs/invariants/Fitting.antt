@@ -52,7 +52,7 @@ GivenIsLast x c v y = (g : Grant) → y.held ≡ Some g → g.client ≡ c → i
     → (last_of x v ≡ g.grant) × (is_relinquished x v ≡ true)
 
 -- what fits together of a client and a voter
-pub record Pair (c v : ℕ) (x : ClientState) (y : VoterState) : Type 0 where
+pub record PairFits (c v : ℕ) (x : ClientState) (y : VoterState) : Type 0 where
   pub unfinished : Unfinished x c y
   pub last : last_of x v ≤ y.granted
   pub given : v < max_voters → GivenIsLast x c v y
@@ -61,8 +61,8 @@ pub record Pair (c v : ℕ) (x : ClientState) (y : VoterState) : Type 0 where
 abbrev pub Lacks : ClientState → Type 0
 Lacks x = is_asking x.phase ≡ true → is_covered x ≡ false
 
-pub record Fits (cs : List ClientState) (vs : List VoterState) : Type 0 where
-  pub pairs : (c v : ℕ) → Pair c v (client_at cs c) (voter_at vs v)
+pub record ClientsFit (cs : List ClientState) (vs : List VoterState) : Type 0 where
+  pub pairs : (c v : ℕ) → PairFits c v (client_at cs c) (voter_at vs v)
   pub lacks : (c : ℕ) → Lacks (client_at cs c)
 
 -- ---- words
@@ -183,8 +183,8 @@ last_by x z v c y last held sound ok = elim last [
   | inr was ↦ sound.numbered (record { client = c; stamp = x.stamp; grant = last_of z v }) (held (last_of z v) was)
 ]
 
-Pair-client : (laws : Laws) (u x : WorldState) → IsCoherent u → IsCoherent x → (k : ClientMoved u x) → (v : ℕ) → Pair k.who v (client_at u.clients k.who) (voter_at u.voters v)
-    → Pair k.who v (client_at x.clients k.who) (voter_at u.voters v)
+Pair-client : (laws : Laws) (u x : WorldState) → IsCoherent u → IsCoherent x → (k : ClientMoved u x) → (v : ℕ) → PairFits k.who v (client_at u.clients k.who) (voter_at u.voters v)
+    → PairFits k.who v (client_at x.clients k.who) (voter_at u.voters v)
 Pair-client laws u x ok now k v h =
     let old = client_at u.clients k.who in
     let new = client_at x.clients k.who in
@@ -240,9 +240,9 @@ Lacks-client x z (requester.Takes m) o before sound is taken contract h asks =
 Lacks-client x z requester.Leaves o before sound is taken contract h asks = absurd (false≢true (sym (is_asking-busy z.phase asks) ∙ ap (λ (w : ClientState). is_idle w.phase) (sym is) ∙ contract.quorum.1))
 Lacks-client x z requester.GivesUp o before sound is taken contract h asks = absurd (false≢true (sym (is_asking-busy z.phase asks) ∙ ap (λ (w : ClientState). is_idle w.phase) (sym is) ∙ contract.quorum.1))
 
-Fits-client : (laws : Laws) (u x : WorldState) → IsCoherent u → IsCoherent x → ClientMoved u x → Fits u.clients u.voters → Fits x.clients x.voters
-Fits-client laws u x ok now k h = subst (λ (vs : List VoterState). Fits x.clients vs) (sym k.voters) (record {
-  pairs = λ c v. each_client (λ c z. Pair c v z (voter_at u.voters v)) u x k (Pair-client laws u x ok now k v (h.pairs k.who v)) (λ c. h.pairs c v) c;
+Fits-client : (laws : Laws) (u x : WorldState) → IsCoherent u → IsCoherent x → ClientMoved u x → ClientsFit u.clients u.voters → ClientsFit x.clients x.voters
+Fits-client laws u x ok now k h = subst (λ (vs : List VoterState). ClientsFit x.clients vs) (sym k.voters) (record {
+  pairs = λ c v. each_client (λ c z. PairFits c v z (voter_at u.voters v)) u x k (Pair-client laws u x ok now k v (h.pairs k.who v)) (λ c. h.pairs c v) c;
   lacks = each_client (λ _ z. Lacks z) u x k
       (Lacks-client (client_at u.clients k.who) (client_at x.clients k.who) k.cause k.outcome (ok.clients k.who) (now.clients k.who) (sym k.here) k.step (meets laws.client u x ok now k) (h.lacks k.who)) h.lacks;
 })
@@ -264,8 +264,8 @@ Unfinished-voter x v c client b y z asked by ok = elim (by c) [
   | inr may ↦ let k = finished_ok x y v c client (slice_index z.finished c) b asked may.0 in record { most = k.0; busy = k.1 }
 ]
 
-Pair-voter : (laws : Laws) (u x : WorldState) → IsCoherent u → (k : VoterMoved u x) → (c : ℕ) → Pair c k.message.voter (client_at u.clients c) (voter_at u.voters k.message.voter)
-    → Pair c k.message.voter (client_at u.clients c) k.outcome.state
+Pair-voter : (laws : Laws) (u x : WorldState) → IsCoherent u → (k : VoterMoved u x) → (c : ℕ) → PairFits c k.message.voter (client_at u.clients c) (voter_at u.voters k.message.voter)
+    → PairFits c k.message.voter (client_at u.clients c) k.outcome.state
 Pair-voter laws u x ok k c h =
     let y = voter_at u.voters k.message.voter in
     let asked = asked_by u x ok k c in
@@ -280,17 +280,17 @@ Pair-voter laws u x ok k c h =
       ];
     }
 
-Fits-voter : (laws : Laws) (u x : WorldState) → IsCoherent u → VoterMoved u x → Fits u.clients u.voters → Fits x.clients x.voters
-Fits-voter laws u x ok k h = subst (λ (cs : List ClientState). Fits cs x.voters) (sym k.clients) (record {
-  pairs = λ c. each_voter (λ v y. Pair c v (client_at u.clients c) y) u x k (Pair-voter laws u x ok k c (h.pairs c k.message.voter)) (h.pairs c);
+Fits-voter : (laws : Laws) (u x : WorldState) → IsCoherent u → VoterMoved u x → ClientsFit u.clients u.voters → ClientsFit x.clients x.voters
+Fits-voter laws u x ok k h = subst (λ (cs : List ClientState). ClientsFit cs x.voters) (sym k.clients) (record {
+  pairs = λ c. each_voter (λ v y. PairFits c v (client_at u.clients c) y) u x k (Pair-voter laws u x ok k c (h.pairs c k.message.voter)) (h.pairs c);
   lacks = h.lacks;
 })
 
-pub Fits-moved : (laws : Laws) (u x : WorldState) → IsCoherent u → IsCoherent x → Moved u x → Fits u.clients u.voters → Fits x.clients x.voters
+pub Fits-moved : (laws : Laws) (u x : WorldState) → IsCoherent u → IsCoherent x → Moved u x → ClientsFit u.clients u.voters → ClientsFit x.clients x.voters
 Fits-moved laws u x ok now moved h = elim moved [
   | inl client ↦ Fits-client laws u x ok now client h
   | inr (inl voter) ↦ Fits-voter laws u x ok voter h
-  | inr (inr sent) ↦ subst (λ (cs : List ClientState). Fits cs x.voters) (sym sent.clients) (subst (λ (vs : List VoterState). Fits u.clients vs) (sym sent.voters) h)
+  | inr (inr sent) ↦ subst (λ (cs : List ClientState). ClientsFit cs x.voters) (sym sent.clients) (subst (λ (vs : List VoterState). ClientsFit u.clients vs) (sym sent.voters) h)
 ]
 
 -- ---- every run
@@ -298,20 +298,20 @@ Fits-moved laws u x ok now moved h = elim moved [
 pub new_client : (n limit c : ℕ) → (i : ℕ) × (l : ℕ) × (client_at (new_clients n limit) c ≡ requester.start i l)
 new_client n limit c = elim (cases_lt c n) [ inl within ↦ (c, limit, client_new n limit c within) | inr beyond ↦ (0, 1, client_past n limit c beyond) ]
 
-Pair-start : (c v i l j m : ℕ) → Pair c v (requester.start i l) (voter.start j m)
+Pair-start : (c v i l j m : ℕ) → PairFits c v (requester.start i l) (voter.start j m)
 Pair-start c v i l j m = record {
   unfinished = record { most = (let none = slice_index-replicate_zero 64 c in omega arith); busy = λ busy. absurd (false≢true (sym busy)) };
   last = (let none = slice_index-replicate_zero 64 v in omega arith);
   given = λ below g held. absurd (none-some g held);
 }
 
-pub Fits-start : (voters clients limit : ℕ) → Fits (start voters clients limit).clients (start voters clients limit).voters
+pub Fits-start : (voters clients limit : ℕ) → ClientsFit (start voters clients limit).clients (start voters clients limit).voters
 unfolding new_clients new_voters
 Fits-start voters clients limit = record {
   pairs = λ c v.
       let x = new_client clients limit c in
       let y = new_voter voters limit v in
-      subst (λ (z : ClientState). Pair c v z (voter_at (new_voters voters limit) v)) (sym x.2)
-      (subst (λ (z : VoterState). Pair c v (requester.start x.0 x.1) z) (sym y.2) (Pair-start c v x.0 x.1 y.0 y.1));
+      subst (λ (z : ClientState). PairFits c v z (voter_at (new_voters voters limit) v)) (sym x.2)
+      (subst (λ (z : VoterState). PairFits c v (requester.start x.0 x.1) z) (sym y.2) (Pair-start c v x.0 x.1 y.0 y.1));
   lacks = λ c. (let x = new_client clients limit c in subst (λ (z : ClientState). Lacks z) (sym x.2) (λ asks. absurd (false≢true asks)));
 }

@@ -18,7 +18,7 @@ use Rattle.message.specs.Requests.{precedes}
 use Rattle.voter.proofs.Cases.{by_release, by_request}
 use Rattle.voter.proofs.Effects.{step-Some}
 use Rattle.voter.proofs.Inquiring.{KeepsGrants-step}
-use Rattle.voter.proofs.Soundness.{IsOrderly, get-removed_self}
+use Rattle.voter.proofs.Soundness.{GrantsAreOrderly, get-removed_self}
 use Rattle.voter.proofs.Staying.{current_stamp-entry}
 use Rattle.progress.specs.Rules.{VoterLaws}
 
@@ -55,7 +55,7 @@ Outlasts-step v m o e = (let k = KeepsGrants-step v m o e in record {
 
 -- ---- a REQUEST that is known gets its reply again, and changes nothing else
 
-pub orderly : (v : VoterState) → voter.IsSound v → IsOrderly v
+pub orderly : (v : VoterState) → voter.IsSound v → GrantsAreOrderly v
 orderly v ok = record { numbered = ok.numbered; apart = ok.apart; free = ok.free }
 
 pub replies_again : (y : VoterState) (m : ToVoter) (s : ℕ) (o : voter.Outcome) → voter.IsSound y → m.body ≡ asks.Request s → slice_index y.finished m.client < s → IsEntry y m.client s
@@ -109,11 +109,11 @@ waits_above : (o : Option ℕ) (s t : ℕ) → o ≡ Some t → voter.is_up_to o
 waits_above None s t is e = absurd (none-some t is)
 waits_above (Some u) s t is e = (let same = same_Some u t is in grind (arith, nat_tests))
 
-abbrev Ended : ℕ → ℕ → voter.Outcome → Type 0
-Ended c s o = (t : ℕ) → IsEntry o.state c t → s < t
+abbrev EndedUpTo : ℕ → ℕ → voter.Outcome → Type 0
+EndedUpTo c s o = (t : ℕ) → IsEntry o.state c t → s < t
 
-ended-waiting : (v : VoterState) (c s : ℕ) → voter.is_up_to (voter.held_stamp v.held c) s ≡ false → Ended c s (voter.take_release v c s)
-ended-waiting v c s none = by_release (Ended c s) v c s (λ up. absurd (false≢true (sym none ∙ up)))
+ended-waiting : (v : VoterState) (c s : ℕ) → voter.is_up_to (voter.held_stamp v.held c) s ≡ false → EndedUpTo c s (voter.take_release v c s)
+ended-waiting v c s none = by_release (EndedUpTo c s) v c s (λ up. absurd (false≢true (sym none ∙ up)))
     (λ _ _ t entry. elim entry [
       | inl held ↦ above v.held held.0 c s t held.1 held.2 held.3 none
       | inr waits ↦ absurd (none-some t (sym (get-removed_self v.waiting c) ∙ waits))
@@ -138,5 +138,5 @@ ends_up_to laws y m s o ok is step = elim (voter.is_up_to (voter.held_stamp y.he
       | true ↦ λ up t entry.
           let g = up_to_some y.held m.client s up in
           absurd (laws.ends y m o g.0 s ok g.1 (sym g.2) is g.3 step t (subst (λ c. IsEntry o.state c t) (sym g.2) entry))
-      | false ↦ λ none. subst (Ended m.client s) (sym (ap (voter.outcome_of y m.client) is) ∙ (step-Some y m o step).1) (ended-waiting (voter.see y s) m.client s none)
+      | false ↦ λ none. subst (EndedUpTo m.client s) (sym (ap (voter.outcome_of y m.client) is) ∙ (step-Some y m o step).1) (ended-waiting (voter.see y s) m.client s none)
     ] refl

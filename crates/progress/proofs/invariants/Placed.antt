@@ -26,7 +26,7 @@ use Rattle.requester.specs.Words.{is_current, is_idle, is_member, members}
 use Rattle.world.specs.Coherence.{AskOk, IsCoherent, MessageOk}
 use Rattle.world.specs.Runs.{start}
 use Rattle.world_state.specs.Steps.{WorldState, client_at, voter_at}
-use Rattle.progress.proofs.invariants.Always.{Always, HasSeen, Heeds, Heeds-client, Heeds-sent, Heeds-voter, heeds, heeds_all, none_entry, new_voter}
+use Rattle.progress.proofs.invariants.Always.{Always, VoterHasSeen, Heeds, Heeds-client, Heeds-sent, Heeds-voter, heeds, heeds_all, none_entry, new_voter}
 use Rattle.world.proofs.Reached.{new_voters}
 use Rattle.progress.proofs.overtaking.Behind.{ask-Ok, is_current_of, meets}
 use Rattle.progress.proofs.invariants.Fitting.{current_busy, current_stamp, take-Ok}
@@ -146,12 +146,12 @@ asked_later x z y v c (asks.Relinquish g) later same ok h = tt
 asked_later x z y v c (asks.Release s) later same ok h = tt
 
 -- what one client's step leaves of the clients
-record Later (who : ℕ) (cs ds : List ClientState) : Type 0 where
+record ClientsLater (who : ℕ) (cs ds : List ClientState) : Type 0 where
   later : IsLater (client_at cs who) (client_at ds who)
   same : (client_at ds who).stamp ≡ (client_at cs who).stamp → members (client_at ds who) ≡ members (client_at cs who)
   others : (q : ℕ) → q ≢ who → client_at ds q ≡ client_at cs q
 
-asked_still : (who : ℕ) (cs ds : List ClientState) (Y : ℕ → VoterState) → Later who cs ds → (m : Message) → MessageOk (client_at cs) Y m → AskedAt cs m → AskedAt ds m
+asked_still : (who : ℕ) (cs ds : List ClientState) (Y : ℕ → VoterState) → ClientsLater who cs ds → (m : Message) → MessageOk (client_at cs) Y m → AskedAt cs m → AskedAt ds m
 asked_still who cs ds Y k (kinds.ToClient m) ok h = tt
 asked_still who cs ds Y k (kinds.ToVoter m) ok h = elim (cases_eq m.client who) [
   | inl same ↦
@@ -160,7 +160,7 @@ asked_still who cs ds Y k (kinds.ToVoter m) ok h = elim (cases_eq m.client who) 
   | inr other ↦ subst (λ (w : ClientState). AskedBy w m.voter m.body) (sym (k.others m.client other)) h
 ]
 
-all_still : (who : ℕ) (cs ds : List ClientState) (Y : ℕ → VoterState) → Later who cs ds → (ms : List Message) → AllByRecursion (MessageOk (client_at cs) Y) ms
+all_still : (who : ℕ) (cs ds : List ClientState) (Y : ℕ → VoterState) → ClientsLater who cs ds → (ms : List Message) → AllByRecursion (MessageOk (client_at cs) Y) ms
     → AllByRecursion (AskedAt cs) ms → AllByRecursion (AskedAt ds) ms
 all_still who cs ds Y k [] ok h = tt
 all_still who cs ds Y k (m ∷ ms) ok h = (asked_still who cs ds Y k m ok.0 h.0, all_still who cs ds Y k ms ok.1 h.1)
@@ -172,7 +172,7 @@ Placed-client laws u x ok now k h =
     let contract = meets laws.client u x ok now k in
     let quorum = subst (λ (z : ClientState). KeepsQuorum old k.cause z) (sym k.here) contract.quorum in
     let later = subst (λ (z : ClientState). IsLater old z) (sym k.here) contract.later in
-    let moved : Later k.who u.clients x.clients = record {
+    let moved : ClientsLater k.who u.clients x.clients = record {
       later = later;
       same = same_members old new k.cause k.outcome (ok.clients k.who) k.step (sym k.here) quorum;
       others = k.others;
@@ -265,19 +265,19 @@ Placed-start laws voters clients limit = record {
 
 -- ---- what voters have seen
 
-pub Seen-client : (laws : Laws) (u x : WorldState) (e : ℕ) → IsCoherent u → IsCoherent x → ClientMoved u x → ((v : ℕ) → HasSeen e (client_at u.clients e) (voter_at u.voters v))
-    → (v : ℕ) → HasSeen e (client_at x.clients e) (voter_at x.voters v)
+pub Seen-client : (laws : Laws) (u x : WorldState) (e : ℕ) → IsCoherent u → IsCoherent x → ClientMoved u x → ((v : ℕ) → VoterHasSeen e (client_at u.clients e) (voter_at u.voters v))
+    → (v : ℕ) → VoterHasSeen e (client_at x.clients e) (voter_at x.voters v)
 Seen-client laws u x e ok now k a v =
     let old = client_at u.clients k.who in
     let new = client_at x.clients k.who in
     let later = subst (λ (z : ClientState). IsLater old z) (sym k.here) (meets laws.client u x ok now k).later in
-    subst (λ (vs : List VoterState). HasSeen e (client_at x.clients e) (voter_at vs v)) (sym k.voters) (elim (cases_eq e k.who) [
+    subst (λ (vs : List VoterState). VoterHasSeen e (client_at x.clients e) (voter_at vs v)) (sym k.voters) (elim (cases_eq e k.who) [
       | inl same ↦ λ s entry is.
           let own : IsEntry (voter_at u.voters v) k.who s = subst (λ i. IsEntry (voter_at u.voters v) i s) same entry in
           let runs : is_current new s ≡ true = subst (λ i. is_current (client_at x.clients i) s ≡ true) same is in
           let before = ran_before old new s later (ok.made v k.who s own).reached runs in
           a v s entry (subst (λ i. is_current (client_at u.clients i) s ≡ true) (sym same) before.1)
-      | inr other ↦ subst (λ (z : ClientState). HasSeen e z (voter_at u.voters v)) (sym (k.others e other)) (a v)
+      | inr other ↦ subst (λ (z : ClientState). VoterHasSeen e z (voter_at u.voters v)) (sym (k.others e other)) (a v)
     ])
 
 pub Heeds-moved : (laws : Laws) (c : ℕ) (w u : WorldState) → IsCoherent w → IsCoherent u → Moved w u → Heeds c w → Heeds c u

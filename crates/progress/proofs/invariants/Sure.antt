@@ -6,7 +6,7 @@ use Rattle.world.specs.Runs.{IsReached, after, run_of, start_by}
 use Rattle.world_state.specs.Steps.{Dealing, Planned, WorldState, dealing_of, step, voter_at, client_at}
 use Rattle.progress.specs.LiveRounds.{HasGrantsThere, Live}
 use Rattle.progress.specs.Rules.{Laws}
-use Rattle.progress.proofs.invariants.Fitting.{Fits, Fits-moved, Fits-start}
+use Rattle.progress.proofs.invariants.Fitting.{ClientsFit, Fits-moved, Fits-start}
 use Rattle.progress.proofs.invariants.Kept.{IsKept-reached}
 use Rattle.progress.proofs.run.Moves.{Moved, StaysCoherent, kept-by, with_state}
 use Rattle.progress.proofs.invariants.Outstanding.{Outstanding, Outstanding-moved, Outstanding-start}
@@ -26,7 +26,7 @@ abbrev pub AreOut : Live → WorldState → WorldState → Type 0
 AreOut live x z = (c : ℕ) → live.client c ≡ false → (is_idle (client_at x.clients c).phase ≡ true) × ((client_at z.clients c).stamp ≡ (client_at x.clients c).stamp)
 
 -- each live voter has a grant left, and who is not live is idle
-pub record Serves (p : Course) (x : WorldState) : Type 0 where
+pub record LiveServe (p : Course) (x : WorldState) : Type 0 where
   pub grants : (v : ℕ) → v < length x.voters → p.live.voter v ≡ true → (voter_at x.voters v).granted < (voter_at x.voters v).limit
   pub out : (d : ℕ) → p.live.client d ≡ false → is_idle (client_at x.clients d).phase ≡ true
 
@@ -36,7 +36,7 @@ pub record Serving (p : Course) (x z : WorldState) : Type 0 where
   pub out : AreOut p.live x z
 
 -- who is not idle is live
-pub live_by : (p : Course) (x : WorldState) (d : ℕ) → Serves p x → is_idle (client_at x.clients d).phase ≡ false → p.live.client d ≡ true
+pub live_by : (p : Course) (x : WorldState) (d : ℕ) → LiveServe p x → is_idle (client_at x.clients d).phase ≡ false → p.live.client d ≡ true
 live_by p x d serves busy = by (p.live.client d) refl
   where
     by : (b : Bool) → p.live.client d ≡ b → p.live.client d ≡ true
@@ -45,13 +45,13 @@ live_by p x d serves busy = by (p.live.client d) refl
 
 -- what each step keeps
 pub record Bears (p : Course) (u : WorldState) : Type 0 where
-  pub fits : Fits u.clients u.voters
+  pub fits : ClientsFit u.clients u.voters
   pub placed : Placed u.clients u.voters u.sent
   pub out : Outstanding p.old u
 
 pub record Sure (p : Course) (u : WorldState) : Type 0 where
   pub coherent : IsCoherent u
-  pub fits : Fits u.clients u.voters
+  pub fits : ClientsFit u.clients u.voters
   pub placed : Placed u.clients u.voters u.sent
   pub out : Outstanding p.old u
 

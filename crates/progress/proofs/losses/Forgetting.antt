@@ -25,7 +25,7 @@ use Rattle.world_state.specs.Steps.{WorldState, client_at, voter_at}
 use Rattle.world.proofs.Exclusion.{held_under}
 use Rattle.progress.specs.Rules.{Laws}
 use Rattle.progress.proofs.invariants.Always.{IsUpTo, WasGiven, given-moved}
-use Rattle.progress.proofs.invariants.Fitting.{Fits, Fits-moved, Fits-start, Lacks, Pair, current_busy}
+use Rattle.progress.proofs.invariants.Fitting.{ClientsFit, Fits-moved, Fits-start, Lacks, PairFits, current_busy}
 use Rattle.progress.proofs.run.Moves.{Moved, each_but}
 use Rattle.progress.proofs.invariants.Outstanding.{AreMarked, IsClear, IsNoted, IsNotedAt, Outstanding, Outstanding-moved, Outstanding-start}
 use Rattle.progress.proofs.invariants.Placed.{AskedAt, AskedBy, IsPlaced, Placed, Placed-moved, Placed-start, idle_ask}
@@ -35,7 +35,7 @@ abbrev pub beyond : ℕ → ℕ
 beyond v = suc max_limit
 
 pub record Endures (u : WorldState) : Type 0 where
-  pub fits : Fits u.clients u.voters
+  pub fits : ClientsFit u.clients u.voters
   pub placed : Placed u.clients u.voters u.sent
   pub out : Outstanding beyond u
   pub given : AllByRecursion (WasGiven u.voters) u.sent
@@ -93,7 +93,7 @@ outstanding_by old new u ok few h = record {
 
 pub Endures-same : (u x : WorldState) → IsCoherent x → x.clients ≡ u.clients → x.voters ≡ u.voters → x.sent ≡ u.sent → Endures u → Endures x
 Endures-same u x now clients voters sent h = record {
-  fits = subst (λ (cs : List ClientState). Fits cs x.voters) (sym clients) (subst (λ (vs : List VoterState). Fits u.clients vs) (sym voters) h.fits);
+  fits = subst (λ (cs : List ClientState). ClientsFit cs x.voters) (sym clients) (subst (λ (vs : List VoterState). ClientsFit u.clients vs) (sym voters) h.fits);
   placed = subst (λ ms. Placed x.clients x.voters ms) (sym sent)
       (subst (λ (cs : List ClientState). Placed cs x.voters u.sent) (sym clients) (subst (λ (vs : List VoterState). Placed u.clients vs u.sent) (sym voters) h.placed));
   out = record {
@@ -113,7 +113,7 @@ pub record ClientLost (u x : WorldState) : Type 0 where
   pub voters : x.voters ≡ u.voters
   pub sent : x.sent ≡ u.sent
 
-least_pair : (c v : ℕ) (x : ClientState) (y : VoterState) → Pair c v x y → Pair c v (least_client x) y
+least_pair : (c v : ℕ) (x : ClientState) (y : VoterState) → PairFits c v x y → PairFits c v (least_client x) y
 least_pair c v x y h = record {
   unfinished = record { most = h.unfinished.most; busy = λ busy. absurd (false≢true (sym busy)) };
   last = (let none = slice_index-replicate_zero 64 v in omega arith);
@@ -133,8 +133,8 @@ Endures-client_lost u x now k h =
     let each : (P : ℕ → ClientState → Type 0) → P k.who (least_client old) → ((q : ℕ) → P q (client_at u.clients q)) → (q : ℕ) → P q (client_at x.clients q) =
     λ P least all. each_but P (client_at u.clients) (client_at x.clients) k.who k.others (subst (P k.who) (sym k.here) least) all in
     record {
-      fits = subst (λ (vs : List VoterState). Fits x.clients vs) (sym k.voters) (record {
-        pairs = λ c v. each (λ c z. Pair c v z (voter_at u.voters v)) (least_pair k.who v old (voter_at u.voters v) (h.fits.pairs k.who v)) (λ c. h.fits.pairs c v) c;
+      fits = subst (λ (vs : List VoterState). ClientsFit x.clients vs) (sym k.voters) (record {
+        pairs = λ c v. each (λ c z. PairFits c v z (voter_at u.voters v)) (least_pair k.who v old (voter_at u.voters v) (h.fits.pairs k.who v)) (λ c. h.fits.pairs c v) c;
         lacks = each (λ _ z. Lacks z) (λ asks. absurd (false≢true asks)) h.fits.lacks;
       });
       placed = subst (λ (vs : List VoterState). Placed x.clients vs x.sent) (sym k.voters) (subst (λ ms. Placed x.clients u.voters ms) (sym k.sent) (record {
@@ -159,7 +159,7 @@ pub record VoterLost (u x : WorldState) : Type 0 where
   pub clients : x.clients ≡ u.clients
   pub sent : x.sent ≡ u.sent
 
-least_voter_pair : (c v : ℕ) (x : ClientState) (y : VoterState) → Pair c v x y → Pair c v x (least_voter y)
+least_voter_pair : (c v : ℕ) (x : ClientState) (y : VoterState) → PairFits c v x y → PairFits c v x (least_voter y)
 least_voter_pair c v x y h = record {
   unfinished = record {
     most = (let none = slice_index-replicate_zero 64 c in omega arith);
@@ -197,8 +197,8 @@ Endures-voter_lost u x now k h =
     λ P least all. each_but P (voter_at u.voters) (voter_at x.voters) k.who k.others (subst (P k.who) (sym k.here) least) all in
     let same : (v : ℕ) → (voter_at u.voters v).granted ≡ (voter_at x.voters v).granted = each (λ v y. (voter_at u.voters v).granted ≡ y.granted) refl (λ v. refl) in
     record {
-      fits = subst (λ (cs : List ClientState). Fits cs x.voters) (sym k.clients) (record {
-        pairs = λ c. each (λ v y. Pair c v (client_at u.clients c) y) (least_voter_pair c k.who (client_at u.clients c) old (h.fits.pairs c k.who)) (h.fits.pairs c);
+      fits = subst (λ (cs : List ClientState). ClientsFit cs x.voters) (sym k.clients) (record {
+        pairs = λ c. each (λ v y. PairFits c v (client_at u.clients c) y) (least_voter_pair c k.who (client_at u.clients c) old (h.fits.pairs c k.who)) (h.fits.pairs c);
         lacks = h.fits.lacks;
       });
       placed = subst (λ (cs : List ClientState). Placed cs x.voters x.sent) (sym k.clients) (subst (λ ms. Placed u.clients x.voters ms) (sym k.sent) (record {

@@ -22,9 +22,9 @@ use Rattle.progress.proofs.overtaking.Behind.{meets}
 use Rattle.progress.proofs.rounds.Longer.{Grows-run}
 use Rattle.progress.proofs.invariants.Inquiries.{Outlasts, Outlasts-self, Outlasts-then}
 use Rattle.progress.proofs.run.Moves.{ClientMoved, Moved, each_client, each_voter, kept-by}
-use Rattle.progress.proofs.losses.Olds.{AreOld, Goes, KeepsOlds, Outlasts-moved, same_grant}
+use Rattle.progress.proofs.losses.Olds.{AreOld, GoesLater, KeepsOlds, Outlasts-moved, same_grant}
 use Rattle.progress.proofs.invariants.Placed.{NoRequest, NoRequests, same_members}
-use Rattle.progress.proofs.invariants.Sure.{Course, IsSure, IsSure-run, Serves, Serving, stays_coherent}
+use Rattle.progress.proofs.invariants.Sure.{Course, IsSure, IsSure-run, LiveServe, Serving, stays_coherent}
 
 -- ---- clients go on
 
@@ -88,7 +88,7 @@ Outlasts-run laws p steps u r v = kept-by (λ x. Outlasts (voter_at u.voters v) 
     (λ x y ok now moved h. Outlasts-then (voter_at u.voters v) (voter_at x.voters v) (voter_at y.voters v) h (Outlasts-moved x y moved v))
     p.deal steps u (stays_coherent p u r) (Outlasts-self (voter_at u.voters v))
 
-pub Goes-run : (laws : Laws) (p : Course) (steps : List Step) (u : WorldState) → AreOld p u → IsSure p u → Goes p u (run_of p.deal steps u)
+pub Goes-run : (laws : Laws) (p : Course) (steps : List Step) (u : WorldState) → AreOld p u → IsSure p u → GoesLater p u (run_of p.deal steps u)
 Goes-run laws p steps u few r = record {
   few = few;
   outlasts = Outlasts-run laws p steps u r;
@@ -130,7 +130,7 @@ left_grants laws p steps u r left v within up =
     let limit = gives.limit in
     omega arith
 
-pub left_before : (laws : Laws) (p : Course) (steps : List Step) (u : WorldState) → IsSure p u → Serving p u (run_of p.deal steps u) → Serves p u
+pub left_before : (laws : Laws) (p : Course) (steps : List Step) (u : WorldState) → IsSure p u → Serving p u (run_of p.deal steps u) → LiveServe p u
 left_before laws p steps u r left = record { grants = left_grants laws p steps u r left.grants; out = λ d dead. (left.out d dead).0 }
 
 -- what is so up to the end of two lists of steps is so of both
@@ -181,7 +181,7 @@ same_between x y z a b end asks =
 pub record RunsOn (p : Course) (w : WorldState) (d : ℕ) (x : WorldState) : Type 0 where
   pub reached : IsSure p x
   pub same : SameAsk (client_at w.clients d) (client_at x.clients d)
-  pub left : Serves p x
+  pub left : LiveServe p x
 
 -- ---- what is sent meanwhile
 

@@ -27,18 +27,18 @@ use Rattle.world.proofs.Claims.{Bounds}
 use Rattle.world.proofs.EveryRun.{coherent_by, run_from}
 use Rattle.world.proofs.Mixes.{same_clients, same_voters}
 use Rattle.world.proofs.Places.{client_at-set, voter_at-set}
-use Rattle.world.proofs.Reached.{Given}
+use Rattle.world.proofs.Reached.{RunPremises}
 use Rattle.world.proofs.Restarts.{Mix, MixBut, Mix-back, Mix-restarted, Mix-saved, Mix-with, SavedOk, begin_ok, happens_ok, live_ok, nothing_more, silent_parts, within_or}
 use Rattle.progress.specs.AfterLosses.{AskedSince, IsHeard, IsReachedAfterLosses}
 use Rattle.progress.specs.LiveRounds.{AreGone, AreLiveRounds, HasGrantsThere, Live, SparesLive}
 use Rattle.progress.specs.Moves.{Move, moved, moves_of, of_moves}
 use Rattle.progress.specs.Rules.{Laws}
 use Rattle.world.specs.WayIn.{Asks}
-use Rattle.progress.proofs.invariants.Always.{HasSeen, Heeds, Seen-voter}
+use Rattle.progress.proofs.invariants.Always.{VoterHasSeen, Heeds, Seen-voter}
 use Rattle.progress.proofs.overtaking.Behind.{IsLater-moved, is_current_of}
 use Rattle.progress.proofs.invariants.Fitting.{current_stamp}
 use Rattle.progress.proofs.losses.Forgetting.{Endures, Endures-client_lost, Endures-moved, Endures-same, Endures-start, Endures-voter_lost, beyond, outstanding_by}
-use Rattle.progress.proofs.run.Makers.{By, Says, coherent_world, made_by}
+use Rattle.progress.proofs.run.Makers.{MadeBy, OnlySays, coherent_world, made_by}
 use Rattle.progress.proofs.run.Moves.{Came, ClientMoved, Moved, StaysCoherent, VoterMoved, client_here, client_others, kept-by, voter_here, voter_others}
 use Rattle.progress.proofs.invariants.Placed.{Seen-client}
 use Rattle.progress.proofs.shade.Shaded.{Rests, Rests-run, Runs, nobody, under_self}
@@ -50,7 +50,7 @@ use Rattle.progress.proofs.invariants.Sure.{Course, IsSure-first}
 abbrev EachEndures : Saved → Type 0
 EachEndures s = (cs : List ClientState) (vs : List VoterState) → AreMixed s cs vs → Endures (with_nodes s.live cs vs)
 
-mix_coherent : (b : Bounds) → Given b → (s : Saved) → SavedOk b s → (cs : List ClientState) (vs : List VoterState) → AreMixed s cs vs → IsCoherent (with_nodes s.live cs vs)
+mix_coherent : (b : Bounds) → RunPremises b → (s : Saved) → SavedOk b s → (cs : List ClientState) (vs : List VoterState) → AreMixed s cs vs → IsCoherent (with_nodes s.live cs vs)
 mix_coherent b given s ok cs vs mixed = coherent_world b given (with_nodes s.live cs vs) (mixed.many_clients ∙ ok.sizes.0) (mixed.many_voters ∙ ok.sizes.1)
     (ok.mixes (client_at cs) (voter_at vs) mixed.each_client mixed.each_voter)
 
@@ -61,14 +61,14 @@ came_in w cs vs c d requester.Leaves who came = tt
 came_in w cs vs c d requester.GivesUp who came = tt
 
 -- what is known of a saved world
-record Before (s : Saved) : Type 0 where
+record BeforeStep (s : Saved) : Type 0 where
   all : EachEndures s
   before : (cs : List ClientState) (vs : List VoterState) → AreMixed s cs vs → IsCoherent (with_nodes s.live cs vs)
   clients : length s.clients ≡ length s.live.clients
   voters : length s.voters ≡ length s.live.voters
 
 -- a client as it is after its step, and the others mixed
-client_mix : (laws : Laws) (s : Saved) (u : WorldState) (c : ℕ) → Before s → c < length s.live.clients → ((k : ClientMoved s.live u) × (k.who ≡ c))
+client_mix : (laws : Laws) (s : Saved) (u : WorldState) (c : ℕ) → BeforeStep s → c < length s.live.clients → ((k : ClientMoved s.live u) × (k.who ≡ c))
     → (cs : List ClientState) (vs : List VoterState) → length cs ≡ length s.live.clients → length vs ≡ length s.live.voters → client_at cs c ≡ client_at u.clients c
     → MixBut c (client_at s.live.clients) (client_at s.clients) (client_at cs) → Mix (voter_at s.live.voters) (voter_at s.voters) (voter_at vs)
     → IsCoherent (with_nodes u cs vs) → Endures (with_nodes u cs vs)
@@ -103,7 +103,7 @@ client_mix laws s u c t within moved cs vs many_cs many_vs here others mix now =
     } in
     Endures-moved laws (with_nodes w Z vs) (with_nodes u cs vs) (t.before Z vs mixed) now (inl made) (t.all Z vs mixed)
 
-voter_mix : (laws : Laws) (s : Saved) (u : WorldState) (v : ℕ) → Before s → v < length s.live.voters → ((k : VoterMoved s.live u) × (k.message.voter ≡ v))
+voter_mix : (laws : Laws) (s : Saved) (u : WorldState) (v : ℕ) → BeforeStep s → v < length s.live.voters → ((k : VoterMoved s.live u) × (k.message.voter ≡ v))
     → (cs : List ClientState) (vs : List VoterState) → length cs ≡ length s.live.clients → length vs ≡ length s.live.voters → voter_at vs v ≡ voter_at u.voters v
     → Mix (client_at s.live.clients) (client_at s.clients) (client_at cs) → MixBut v (voter_at s.live.voters) (voter_at s.voters) (voter_at vs)
     → IsCoherent (with_nodes u cs vs) → Endures (with_nodes u cs vs)
@@ -142,7 +142,7 @@ voter_mix laws s u v t within moved cs vs many_cs many_vs here mix others now =
     Endures-moved laws (with_nodes w cs Z) (with_nodes u cs vs) (t.before cs Z mixed) now (inr (inl made)) (t.all cs Z mixed)
 
 -- a client or voter that is as it was is reminded
-client_said : (laws : Laws) (s : Saved) (u : WorldState) (c : ℕ) → Before s → c < length s.live.clients → Says s.live u (map kinds.ToVoter (requester.remind (client_at s.live.clients c)))
+client_said : (laws : Laws) (s : Saved) (u : WorldState) (c : ℕ) → BeforeStep s → c < length s.live.clients → OnlySays s.live u (map kinds.ToVoter (requester.remind (client_at s.live.clients c)))
     → (cs : List ClientState) (vs : List VoterState) → AreMixed s cs vs → client_at cs c ≡ client_at s.live.clients c → IsCoherent (with_nodes u cs vs) → Endures (with_nodes u cs vs)
 client_said laws s u c t within said cs vs mixed here now =
     let w = s.live in
@@ -158,7 +158,7 @@ client_said laws s u c t within said cs vs mixed here now =
       visible = said.visible;
     }))) (t.all cs vs mixed)
 
-voter_said : (laws : Laws) (s : Saved) (u : WorldState) (v : ℕ) → Before s → v < length s.live.voters → Says s.live u (map kinds.ToClient (voter.remind (voter_at s.live.voters v)))
+voter_said : (laws : Laws) (s : Saved) (u : WorldState) (v : ℕ) → BeforeStep s → v < length s.live.voters → OnlySays s.live u (map kinds.ToClient (voter.remind (voter_at s.live.voters v)))
     → (cs : List ClientState) (vs : List VoterState) → AreMixed s cs vs → voter_at vs v ≡ voter_at s.live.voters v → IsCoherent (with_nodes u cs vs) → Endures (with_nodes u cs vs)
 voter_said laws s u v t within said cs vs mixed here now =
     let w = s.live in
@@ -187,15 +187,15 @@ silent_sent w o adds silent =
     adds.sent ∙ sym (nothing_more w.sent adds.more (omega arith))
 
 -- what is known of the saved world after a step
-record After (b : Bounds) (s : Saved) (who : Node) (o : Outcome) (silent : Bool) : Type 0 where
-  given : Given b
+record AfterStep (b : Bounds) (s : Saved) (who : Node) (o : Outcome) (silent : Bool) : Type 0 where
+  given : RunPremises b
   adds : Adds s.live o
   is : is_silent o.sent o.seen ≡ silent
   ok : SavedOk b (save_unless silent who (record s { live = o.state }))
 
-taken_client : (laws : Laws) (b : Bounds) (s : Saved) (o : Outcome) (c : ℕ) → Before s → c < length s.live.clients
-    → ((k : ClientMoved s.live o.state) × (k.who ≡ c)) ⊎ Says s.live o.state (map kinds.ToVoter (requester.remind (client_at s.live.clients c)))
-    → (silent : Bool) → After b s (OneClient c) o silent → EachEndures (save_unless silent (OneClient c) (record s { live = o.state }))
+taken_client : (laws : Laws) (b : Bounds) (s : Saved) (o : Outcome) (c : ℕ) → BeforeStep s → c < length s.live.clients
+    → ((k : ClientMoved s.live o.state) × (k.who ≡ c)) ⊎ OnlySays s.live o.state (map kinds.ToVoter (requester.remind (client_at s.live.clients c)))
+    → (silent : Bool) → AfterStep b s (OneClient c) o silent → EachEndures (save_unless silent (OneClient c) (record s { live = o.state }))
 taken_client laws b s o c t within (inl moved) false a cs vs mixed =
     let u = o.state in
     let k = moved.0 in
@@ -251,9 +251,9 @@ taken_client laws b s o c t within (inr said) true a cs vs mixed =
       each_voter = subst (λ (l : List VoterState). Mix (voter_at l) (voter_at s.voters) (voter_at vs)) said.voters mixed.each_voter;
     }))
 
-taken_voter : (laws : Laws) (b : Bounds) (s : Saved) (o : Outcome) (v : ℕ) → Before s → v < length s.live.voters
-    → ((k : VoterMoved s.live o.state) × (k.message.voter ≡ v)) ⊎ Says s.live o.state (map kinds.ToClient (voter.remind (voter_at s.live.voters v)))
-    → (silent : Bool) → After b s (OneVoter v) o silent → EachEndures (save_unless silent (OneVoter v) (record s { live = o.state }))
+taken_voter : (laws : Laws) (b : Bounds) (s : Saved) (o : Outcome) (v : ℕ) → BeforeStep s → v < length s.live.voters
+    → ((k : VoterMoved s.live o.state) × (k.message.voter ≡ v)) ⊎ OnlySays s.live o.state (map kinds.ToClient (voter.remind (voter_at s.live.voters v)))
+    → (silent : Bool) → AfterStep b s (OneVoter v) o silent → EachEndures (save_unless silent (OneVoter v) (record s { live = o.state }))
 taken_voter laws b s o v t within (inl moved) false a cs vs mixed =
     let u = o.state in
     let k = moved.0 in
@@ -310,7 +310,7 @@ taken_voter laws b s o v t within (inr said) true a cs vs mixed =
     }))
 
 -- nobody made it
-nobody_said : (b : Bounds) → Given b → (s : Saved) (u : WorldState) → Before s → Says s.live u [] → SavedOk b (record s { live = u }) → EachEndures (record s { live = u })
+nobody_said : (b : Bounds) → RunPremises b → (s : Saved) (u : WorldState) → BeforeStep s → OnlySays s.live u [] → SavedOk b (record s { live = u }) → EachEndures (record s { live = u })
 nobody_said b given s u t said ok cs vs mixed =
     Endures-same (with_nodes s.live cs vs) (with_nodes u cs vs) (mix_coherent b given (record s { live = u }) ok cs vs mixed) refl refl (said.sent ∙ append-nil s.live.sent) (t.all cs vs (record {
       many_clients = mixed.many_clients ∙ ap length said.clients;
@@ -319,23 +319,23 @@ nobody_said b given s u t said ok cs vs mixed =
       each_voter = subst (λ (l : List VoterState). Mix (voter_at l) (voter_at s.voters) (voter_at vs)) said.voters mixed.each_voter;
     }))
 
-taken_nobody : (b : Bounds) (s : Saved) (o : Outcome) → Before s → Says s.live o.state [] → (silent : Bool) → After b s Nobody o silent → EachEndures (save_unless silent Nobody (record s { live = o.state }))
+taken_nobody : (b : Bounds) (s : Saved) (o : Outcome) → BeforeStep s → OnlySays s.live o.state [] → (silent : Bool) → AfterStep b s Nobody o silent → EachEndures (save_unless silent Nobody (record s { live = o.state }))
 taken_nobody b s o t said true a = nobody_said b a.given s o.state t said a.ok
 taken_nobody b s o t said false a = nobody_said b a.given s o.state t said a.ok
 
-taken : (laws : Laws) (b : Bounds) (s : Saved) (o : Outcome) (who : Node) → Before s → By who s.live o.state → (silent : Bool) → After b s who o silent
+taken : (laws : Laws) (b : Bounds) (s : Saved) (o : Outcome) (who : Node) → BeforeStep s → MadeBy who s.live o.state → (silent : Bool) → AfterStep b s who o silent
     → EachEndures (save_unless silent who (record s { live = o.state }))
 taken laws b s o (OneClient c) t by silent a = taken_client laws b s o c t by.0 by.1 silent a
 taken laws b s o (OneVoter v) t by silent a = taken_voter laws b s o v t by.0 by.1 silent a
 taken laws b s o Nobody t by silent a = taken_nobody b s o t by silent a
 
-before_of : (b : Bounds) → Given b → (s : Saved) → SavedOk b s → EachEndures s → Before s
+before_of : (b : Bounds) → RunPremises b → (s : Saved) → SavedOk b s → EachEndures s → BeforeStep s
 before_of b given s ok all = record { all = all; before = mix_coherent b given s ok; clients = ok.sizes.2 ∙ sym ok.sizes.0; voters = ok.sizes.3 ∙ sym ok.sizes.1 }
 
 live_mixed : (s : Saved) → AreMixed s s.live.clients s.live.voters
 live_mixed s = record { many_clients = refl; many_voters = refl; each_client = λ n. inl refl; each_voter = λ n. inl refl }
 
-goes_on : (laws : Laws) (b : Bounds) → Given b → (deal : Dealing) (s : Saved) → SavedOk b s → EachEndures s → (st : Step) (r : Result Outcome WorldFault) → step deal s.live st ≡ r
+goes_on : (laws : Laws) (b : Bounds) → RunPremises b → (deal : Dealing) (s : Saved) → SavedOk b s → EachEndures s → (st : Step) (r : Result Outcome WorldFault) → step deal s.live st ≡ r
     → SavedOk b (save_and_send s (maker s.live st) r) → EachEndures (save_and_send s (maker s.live st) r)
 goes_on laws b given deal s ok all st (Err fault) is now = all
 goes_on laws b given deal s ok all st (Ok o) is now =
@@ -367,7 +367,7 @@ saves_on (OneVoter v) s all = elim (within_or s.voters v) [
   | inr past ↦ subst (λ (l : List VoterState). EachEndures (record s { voters = l })) (sym (set_past s.voters v (voter_at s.live.voters v) past)) all
 ]
 
-comes_back : (b : Bounds) → Given b → (s : Saved) → EachEndures s → (c : ℕ) (t : Bool) → nat_lt c (length s.live.clients) ≡ t → SavedOk b (if_there t (come_back s c (client_at s.clients c)) s)
+comes_back : (b : Bounds) → RunPremises b → (s : Saved) → EachEndures s → (c : ℕ) (t : Bool) → nat_lt c (length s.live.clients) ≡ t → SavedOk b (if_there t (come_back s c (client_at s.clients c)) s)
     → EachEndures (if_there t (come_back s c (client_at s.clients c)) s)
 comes_back b given s all c false test now cs vs mixed = all cs vs mixed
 comes_back b given s all c true test now cs vs mixed =
@@ -382,7 +382,7 @@ comes_back b given s all c true test now cs vs mixed =
       each_voter = mixed.each_voter;
     }))
 
-restarts_on : (b : Bounds) → Given b → (who : Node) (s : Saved) → EachEndures s → SavedOk b (restart who s) → EachEndures (restart who s)
+restarts_on : (b : Bounds) → RunPremises b → (who : Node) (s : Saved) → EachEndures s → SavedOk b (restart who s) → EachEndures (restart who s)
 restarts_on b given Nobody s all now = all
 restarts_on b given (OneClient c) s all now = comes_back b given s all c _ refl now
 restarts_on b given (OneVoter v) s all now = elim (within_or s.live.voters v) [
@@ -403,7 +403,7 @@ mix_with_saved L K X Z c here rest others q = elim (cases_eq q c) [
   | inr other ↦ elim (others q other) [ inl e ↦ inl (rest q other ∙ e) | inr e ↦ inr (rest q other ∙ e) ]
 ]
 
-forgets_client : (b : Bounds) → Given b → (s : Saved) → SavedOk b s → EachEndures s → (c : ℕ) → c < length s.clients → SavedOk b (forget (OneClient c) s) → EachEndures (forget (OneClient c) s)
+forgets_client : (b : Bounds) → RunPremises b → (s : Saved) → SavedOk b s → EachEndures s → (c : ℕ) → c < length s.clients → SavedOk b (forget (OneClient c) s) → EachEndures (forget (OneClient c) s)
 forgets_client b given s ok all c within now cs vs mixed =
     let w = s.live in
     let L = client_at w.clients in
@@ -434,7 +434,7 @@ forgets_client b given s ok all c within now cs vs mixed =
           }))
     ]
 
-forgets_voter : (b : Bounds) → Given b → (s : Saved) → SavedOk b s → EachEndures s → (v : ℕ) → v < length s.voters → SavedOk b (forget (OneVoter v) s) → EachEndures (forget (OneVoter v) s)
+forgets_voter : (b : Bounds) → RunPremises b → (s : Saved) → SavedOk b s → EachEndures s → (v : ℕ) → v < length s.voters → SavedOk b (forget (OneVoter v) s) → EachEndures (forget (OneVoter v) s)
 forgets_voter b given s ok all v within now cs vs mixed =
     let w = s.live in
     let M = voter_at w.voters in
@@ -465,7 +465,7 @@ forgets_voter b given s ok all v within now cs vs mixed =
           }))
     ]
 
-forgets_on : (b : Bounds) → Given b → (who : Node) (s : Saved) → SavedOk b s → EachEndures s → SavedOk b (forget who s) → EachEndures (forget who s)
+forgets_on : (b : Bounds) → RunPremises b → (who : Node) (s : Saved) → SavedOk b s → EachEndures s → SavedOk b (forget who s) → EachEndures (forget who s)
 forgets_on b given Nobody s ok all now = all
 forgets_on b given (OneClient c) s ok all now = elim (within_or s.clients c) [
   | inl within ↦ forgets_client b given s ok all c within now
@@ -478,13 +478,13 @@ forgets_on b given (OneVoter v) s ok all now = elim (within_or s.voters v) [
 
 -- ---- all that may happen
 
-happens_on : (laws : Laws) (b : Bounds) → Given b → (deal : Dealing) (s : Saved) → SavedOk b s → EachEndures s → (h : Happening) → SavedOk b (happens deal s h) → EachEndures (happens deal s h)
+happens_on : (laws : Laws) (b : Bounds) → RunPremises b → (deal : Dealing) (s : Saved) → SavedOk b s → EachEndures s → (h : Happening) → SavedOk b (happens deal s h) → EachEndures (happens deal s h)
 happens_on laws b given deal s ok all (Goes st) now = goes_on laws b given deal s ok all st (step deal s.live st) refl now
 happens_on laws b given deal s ok all (Saves who) now = saves_on who s all
 happens_on laws b given deal s ok all (Forgets who) now = forgets_on b given who s ok all now
 happens_on laws b given deal s ok all (Restarts who) now = restarts_on b given who s all now
 
-all_on : (laws : Laws) (b : Bounds) → Given b → (deal : Dealing) → DealsFrom b.quorums deal → (hs : List Happening) (s : Saved) → SavedOk b s → EachEndures s
+all_on : (laws : Laws) (b : Bounds) → RunPremises b → (deal : Dealing) → DealsFrom b.quorums deal → (hs : List Happening) (s : Saved) → SavedOk b s → EachEndures s
     → SavedOk b (all_happen deal hs s) × EachEndures (all_happen deal hs s)
 all_on laws b given deal deals [] s ok all = (ok, all)
 all_on laws b given deal deals (h ∷ hs) s ok all =
@@ -492,7 +492,7 @@ all_on laws b given deal deals (h ∷ hs) s ok all =
     all_on laws b given deal deals hs (happens deal s h) now (happens_on laws b given deal s ok all h now)
 
 -- in a new world all are saved as they are
-same_nodes : (laws : Laws) (b : Bounds) → Given b → EachEndures (begin b.voters b.clients b.limit)
+same_nodes : (laws : Laws) (b : Bounds) → RunPremises b → EachEndures (begin b.voters b.clients b.limit)
 same_nodes laws b given cs vs mixed =
     let s = begin b.voters b.clients b.limit in
     let w = s.live in
@@ -502,7 +502,7 @@ same_nodes laws b given cs vs mixed =
 -- ---- worlds after losses
 
 -- all of this holds of the world
-pub record Lives (deal : Dealing) (w : WorldState) : Type 0 where
+pub record WorldLives (deal : Dealing) (w : WorldState) : Type 0 where
   pub rests : Rests deal w
   pub endures : Endures w
 
@@ -510,10 +510,10 @@ pub stays_by : (deal : Dealing) (w : WorldState) → Rests deal w → StaysCoher
 stays_by deal w r = λ steps. coherent_by r.bounds r.given (run_of deal steps w) (run_from r.bounds r.given deal r.deals steps w r.ok)
 
 -- of the live world, when all has happened
-lives_first : Laws → ClientLaws → VoterLaws → (deal : Dealing) (w : WorldState) → (r : IsReachedAfterLosses deal w) → Lives deal (all_happen deal r.happenings (begin r.voters r.clients r.limit)).live
+lives_first : Laws → ClientLaws → VoterLaws → (deal : Dealing) (w : WorldState) → (r : IsReachedAfterLosses deal w) → WorldLives deal (all_happen deal r.happenings (begin r.voters r.clients r.limit)).live
 lives_first laws clients voters deal w r =
     let b : Bounds = record { voters = r.voters; clients = r.clients; limit = r.limit; quorums = r.quorums } in
-    let given : Given b = record { client = clients; voter = voters; limits = r.limits; meet = r.meet } in
+    let given : RunPremises b = record { client = clients; voter = voters; limits = r.limits; meet = r.meet } in
     let s = all_happen deal r.happenings (begin r.voters r.clients r.limit) in
     let both = all_on laws b given deal r.deals r.happenings (begin r.voters r.clients r.limit) (begin_ok b given) (same_nodes laws b given) in
     let ok = both.0 in
@@ -522,11 +522,11 @@ lives_first laws clients voters deal w r =
       endures = both.1 s.live.clients s.live.voters (live_mixed s);
     }
 
-pub lives_after : Laws → ClientLaws → VoterLaws → (deal : Dealing) (w : WorldState) → IsReachedAfterLosses deal w → Lives deal w
+pub lives_after : Laws → ClientLaws → VoterLaws → (deal : Dealing) (w : WorldState) → IsReachedAfterLosses deal w → WorldLives deal w
 lives_after laws clients voters deal w r =
     let first = (all_happen deal r.happenings (begin r.voters r.clients r.limit)).live in
     let a = lives_first laws clients voters deal w r in
-    subst (Lives deal) (sym r.state) (record {
+    subst (WorldLives deal) (sym r.state) (record {
       rests = Rests-run deal r.steps first a.rests;
       endures = kept-by Endures (Endures-moved laws) deal r.steps first (stays_by deal first a.rests) a.endures;
     })
@@ -569,10 +569,10 @@ after_losses_heeds laws clients voters deal w c r heard = record {
 
 -- the client has not asked since, or its request is heard
 abbrev IsHeardOr : ℕ → ℕ → WorldState → Type 0
-IsHeardOr c t x = ((client_at x.clients c).stamp ≡ t) ⊎ ((v : ℕ) → HasSeen c (client_at x.clients c) (voter_at x.voters v))
+IsHeardOr c t x = ((client_at x.clients c).stamp ≡ t) ⊎ ((v : ℕ) → VoterHasSeen c (client_at x.clients c) (voter_at x.voters v))
 
 first_heard : (laws : Laws) (c t : ℕ) (u x : WorldState) → IsCoherent u → IsCoherent x → Moved u x → (client_at u.clients c).stamp ≡ t → (client_at x.clients c).stamp ≢ t
-    → (v : ℕ) → HasSeen c (client_at x.clients c) (voter_at x.voters v)
+    → (v : ℕ) → VoterHasSeen c (client_at x.clients c) (voter_at x.voters v)
 first_heard laws c t u x ok now moved same differs v s entry is = elim moved [
   | inl k ↦
       let before = subst (λ (vs : List VoterState). IsEntry (voter_at vs v) c s) k.voters entry in
@@ -592,8 +592,8 @@ heard_moved laws c t u x ok now moved (inl same) = elim (cases_eq (client_at x.c
 heard_moved laws c t u x ok now moved (inr seen) = elim moved [
   | inl k ↦ inr (Seen-client laws u x c ok now k seen)
   | inr (inl k) ↦ inr (Seen-voter laws.voter u x c k seen)
-  | inr (inr k) ↦ inr (λ v. subst (λ (cs : List ClientState). HasSeen c (client_at cs c) (voter_at x.voters v)) (sym k.clients)
-      (subst (λ (vs : List VoterState). HasSeen c (client_at u.clients c) (voter_at vs v)) (sym k.voters) (seen v)))
+  | inr (inr k) ↦ inr (λ v. subst (λ (cs : List ClientState). VoterHasSeen c (client_at cs c) (voter_at x.voters v)) (sym k.clients)
+      (subst (λ (vs : List VoterState). VoterHasSeen c (client_at u.clients c) (voter_at vs v)) (sym k.voters) (seen v)))
 ]
 
 pub heard_anew : Laws → ClientLaws → VoterLaws → (deal : Dealing) (w : WorldState) (c : ℕ) → (r : IsReachedAfterLosses deal w) → AskedSince deal w r c → Asks w c → IsHeard w c

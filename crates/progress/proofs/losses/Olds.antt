@@ -72,12 +72,12 @@ stale_by : (p : Course) (x : WorldState) (v : ℕ) (g : Grant) → g.grant < p.o
 stale_by p x v g less free = grind (arith, nat_tests)
 
 -- what was so of the world x is so of a later one
-pub record Goes (p : Course) (x z : WorldState) : Type 0 where
+pub record GoesLater (p : Course) (x z : WorldState) : Type 0 where
   pub few : AreOld p x
   pub outlasts : (v : ℕ) → Outlasts (voter_at x.voters v) (voter_at z.voters v)
   pub last : (d v : ℕ) → last_of (client_at x.clients d) v ≤ last_of (client_at z.clients d) v
 
-stale_before : (p : Course) (x z : WorldState) (v : ℕ) → Goes p x z → stale_at p z v ≡ true → stale_at p x v ≡ true
+stale_before : (p : Course) (x z : WorldState) (v : ℕ) → GoesLater p x z → stale_at p z v ≡ true → stale_at p x v ≡ true
 stale_before p x z v go is =
     let s = stale_some p z v (voter_at z.voters v).held is in
     let g = s.grant in
@@ -93,7 +93,7 @@ one_before true false h = omega arith
 one_before false false h = omega arith
 one_before false true h = absurd (false≢true (h refl))
 
-pub olds_fall : (p : Course) (n : ℕ) (x z : WorldState) → Goes p x z → olds_of p n z ≤ olds_of p n x
+pub olds_fall : (p : Course) (n : ℕ) (x z : WorldState) → GoesLater p x z → olds_of p n z ≤ olds_of p n x
 unfolding olds_of
 olds_fall p n x z go = sum_below-le n (λ v. one_if (stale_at p z v)) (λ v. one_if (stale_at p x v)) (λ v _. one_before (stale_at p x v) (stale_at p z v) (stale_before p x z v go))
 
@@ -141,7 +141,7 @@ voter_below x v g held = elim (cases_lt v (length x.voters)) [
 ]
 
 -- while there are as many, none is given back
-pub keeps_olds : (p : Course) (n : ℕ) (x z : WorldState) → Goes p x z → length x.voters ≡ n → olds_of p n x ≤ olds_of p n z → KeepsOlds p x z
+pub keeps_olds : (p : Course) (n : ℕ) (x z : WorldState) → GoesLater p x z → length x.voters ≡ n → olds_of p n x ≤ olds_of p n z → KeepsOlds p x z
 unfolding olds_of
 keeps_olds p n x z go count same v g held less free =
     let within = voter_below x v g held in

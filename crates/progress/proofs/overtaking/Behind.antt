@@ -110,8 +110,8 @@ abbrev pub the_request : WorldState → ℕ → Request
 the_request w c = record { stamp = stamp_of w c; client = c }
 
 -- the voter is asked by the request
-abbrev pub IsAsked : WorldState → ℕ → ℕ → Type 0
-IsAsked w c v = is_member (client_at w.clients c) v ≡ true
+abbrev pub IsAskedBy : WorldState → ℕ → ℕ → Type 0
+IsAskedBy w c v = is_member (client_at w.clients c) v ≡ true
 
 -- how many grants the voter had given
 abbrev pub given_at : WorldState → ℕ → ℕ
@@ -120,17 +120,17 @@ given_at w v = (voter_at w.voters v).granted
 -- The voter v since the world w: the request is known, and a vote that was granted since then goes to it
 -- or to one that precedes it.
 pub record OneVoter (w : WorldState) (c v : ℕ) (y : VoterState) : Type 0 where
-  pub known : IsAsked w c v → IsEntry y c (stamp_of w c)
+  pub known : IsAskedBy w c v → IsEntry y c (stamp_of w c)
   pub given : given_at w v ≤ y.granted
-  pub order : (g : Grant) → IsAsked w c v → y.held ≡ Some g → given_at w v < g.grant → (g.client ≡ c) ⊎ (precedes (request_of g) (the_request w c) ≡ true)
+  pub order : (g : Grant) → IsAskedBy w c v → y.held ≡ Some g → given_at w v < g.grant → (g.client ≡ c) ⊎ (precedes (request_of g) (the_request w c) ≡ true)
   pub old : (g : Grant) → y.held ≡ Some g → g.grant ≤ given_at w v → g.stamp ≤ stamp_of w g.client
 
-abbrev pub Voters : WorldState → ℕ → List VoterState → Type 0
-Voters w c vs = (v : ℕ) → OneVoter w c v (voter_at vs v)
+abbrev pub VotersBehind : WorldState → ℕ → List VoterState → Type 0
+VotersBehind w c vs = (v : ℕ) → OneVoter w c v (voter_at vs v)
 
 -- who holds a vote that was granted since then has a clock that is not behind the request
 abbrev pub HasHeard : WorldState → ℕ → ClientState → Type 0
-HasHeard w c x = (v n : ℕ) → IsAsked w c v → holds_under x v n ≡ true → given_at w v < n → stamp_of w c ≤ x.clock
+HasHeard w c x = (v n : ℕ) → IsAskedBy w c v → holds_under x v n ≡ true → given_at w v < n → stamp_of w c ≤ x.clock
 
 -- the clients since then: the request has its quorum
 pub record Clients (w : WorldState) (c : ℕ) (cs : List ClientState) : Type 0 where
@@ -140,53 +140,53 @@ pub record Clients (w : WorldState) (c : ℕ) (cs : List ClientState) : Type 0 w
 
 -- a LOCKED of a grant that was given since then carries a stamp that is not behind the request
 abbrev Carries : WorldState → ℕ → ℕ → ℕ → ClientBody → Type 0
-Carries w c v seen (to_client.Locked s g) = IsAsked w c v → given_at w v < g → stamp_of w c ≤ seen
+Carries w c v seen (to_client.Locked s g) = IsAskedBy w c v → given_at w v < g → stamp_of w c ≤ seen
 Carries w c v seen (to_client.Fail s) = Unit {0}
 Carries w c v seen (to_client.Inquire g) = Unit {0}
 
-abbrev pub IsLate : WorldState → ℕ → Message → Type 0
-IsLate w c (kinds.ToVoter m) = Unit {0}
-IsLate w c (kinds.ToClient m) = Carries w c m.voter m.seen m.body
+abbrev pub CarriesLate : WorldState → ℕ → Message → Type 0
+CarriesLate w c (kinds.ToVoter m) = Unit {0}
+CarriesLate w c (kinds.ToClient m) = Carries w c m.voter m.seen m.body
 
 pub record Behind (w : WorldState) (c : ℕ) (u : WorldState) : Type 0 where
-  pub voters : Voters w c u.voters
+  pub voters : VotersBehind w c u.voters
   pub clients : Clients w c u.clients
-  pub late : AllByRecursion (IsLate w c) u.sent
+  pub late : AllByRecursion (CarriesLate w c) u.sent
 
 -- ---- messages
 
-carries : (w : WorldState) (c v seen : ℕ) (body : ClientBody) → (IsAsked w c v → stamp_of w c ≤ seen) → Carries w c v seen body
+carries : (w : WorldState) (c v seen : ℕ) (body : ClientBody) → (IsAskedBy w c v → stamp_of w c ≤ seen) → Carries w c v seen body
 carries w c v seen (to_client.Locked s g) high = λ asked new. high asked
 carries w c v seen (to_client.Fail s) high = tt
 carries w c v seen (to_client.Inquire g) high = tt
 
-replies_late : (w : WorldState) (c v seen : ℕ) → (IsAsked w c v → stamp_of w c ≤ seen) → (rs : List ToClient) → AllCarry v seen rs → AllByRecursion (IsLate w c) (map kinds.ToClient rs)
+replies_late : (w : WorldState) (c v seen : ℕ) → (IsAskedBy w c v → stamp_of w c ≤ seen) → (rs : List ToClient) → AllCarry v seen rs → AllByRecursion (CarriesLate w c) (map kinds.ToClient rs)
 replies_late w c v seen high [] carry = tt
 replies_late w c v seen high (r ∷ rs) carry = (
-  carries w c r.voter r.seen r.body (λ asked. subst (λ n. stamp_of w c ≤ n) (sym carry.0.1) (high (subst (λ n. IsAsked w c n) carry.0.0 asked))),
+  carries w c r.voter r.seen r.body (λ asked. subst (λ n. stamp_of w c ≤ n) (sym carry.0.1) (high (subst (λ n. IsAskedBy w c n) carry.0.0 asked))),
   replies_late w c v seen high rs carry.1,
 )
 
 -- ---- a client moves
 
-locked_late : (w : WorldState) (c v s n sender seen clock : ℕ) (body : ClientBody) → Carries w c sender seen body → Locks sender body v s n → seen ≤ clock → IsAsked w c v
+locked_late : (w : WorldState) (c v s n sender seen clock : ℕ) (body : ClientBody) → Carries w c sender seen body → Locks sender body v s n → seen ≤ clock → IsAskedBy w c v
     → given_at w v < n → stamp_of w c ≤ clock
 locked_late w c v s n sender seen clock (to_client.Locked t g) carry locks high asked new =
     let at = locks.0 in
-    let asked_again = carry (subst (λ q. IsAsked w c q) locks.0 asked) (subst (λ q. given_at w q < g) locks.0 (subst (λ q. given_at w v < q) locks.2 new)) in
+    let asked_again = carry (subst (λ q. IsAskedBy w c q) locks.0 asked) (subst (λ q. given_at w q < g) locks.0 (subst (λ q. given_at w v < q) locks.2 new)) in
     omega arith
 locked_late w c v s n sender seen clock (to_client.Fail t) carry locks high asked new = absurd locks
 locked_late w c v s n sender seen clock (to_client.Inquire g) carry locks high asked new = absurd locks
 
-cause_late : (w u : WorldState) (c e v s n : ℕ) (y : ClientState) (cause : requester.Cause) → AllByRecursion (IsLate w c) u.sent → Came u e cause → Hears cause y
-    → IsLocked cause v s n → IsAsked w c v → given_at w v < n → stamp_of w c ≤ y.clock
+cause_late : (w u : WorldState) (c e v s n : ℕ) (y : ClientState) (cause : requester.Cause) → AllByRecursion (CarriesLate w c) u.sent → Came u e cause → Hears cause y
+    → IsLocked cause v s n → IsAskedBy w c v → given_at w v < n → stamp_of w c ≤ y.clock
 cause_late w u c e v s n y (requester.Asks q) late came heard locked asked new = absurd locked
 cause_late w u c e v s n y (requester.Takes m) late came heard locked asked new =
-    locked_late w c v s n m.voter m.seen y.clock m.body (AllByRecursion-get (IsLate w c) u.sent came.1 (kinds.ToClient m) late came.2) locked heard asked new
+    locked_late w c v s n m.voter m.seen y.clock m.body (AllByRecursion-get (CarriesLate w c) u.sent came.1 (kinds.ToClient m) late came.2) locked heard asked new
 cause_late w u c e v s n y requester.Leaves late came heard locked asked new = absurd locked
 cause_late w u c e v s n y requester.GivesUp late came heard locked asked new = absurd locked
 
-heard_by : (laws : ClientLaws) (w u x : WorldState) (c : ℕ) → IsCoherent u → IsCoherent x → AllByRecursion (IsLate w c) u.sent → Clients w c u.clients → (k : ClientMoved u x)
+heard_by : (laws : ClientLaws) (w u x : WorldState) (c : ℕ) → IsCoherent u → IsCoherent x → AllByRecursion (CarriesLate w c) u.sent → Clients w c u.clients → (k : ClientMoved u x)
     → HasHeard w c k.outcome.state
 heard_by laws w u x c ok now late was k v n asked holds new =
     let time = laws.clock (client_at u.clients k.who) k.cause k.outcome (ok.clients k.who) k.step in
@@ -210,7 +210,7 @@ quorum_kept laws u x c ok now busy k =
     (subst (λ (y : ClientState). is_idle (client_at u.clients k.who).phase ≡ false → members y ≡ members (client_at u.clients k.who)) (sym k.here)
     (λ runs. quorum_by laws (client_at u.clients k.who) k.outcome.state k.cause k.outcome runs k.step (meets laws u x ok now k).quorum)) (λ q _. refl) c busy
 
-Clients-client : (laws : ClientLaws) (w u x : WorldState) (c : ℕ) → IsCoherent u → IsCoherent x → AllByRecursion (IsLate w c) u.sent → is_idle (client_at u.clients c).phase ≡ false
+Clients-client : (laws : ClientLaws) (w u x : WorldState) (c : ℕ) → IsCoherent u → IsCoherent x → AllByRecursion (CarriesLate w c) u.sent → is_idle (client_at u.clients c).phase ≡ false
     → Clients w c u.clients → ClientMoved u x → Clients w c x.clients
 Clients-client laws w u x c ok now late busy was k = record {
   quorum = quorum_kept laws u x c ok now busy k ∙ was.quorum;
@@ -220,9 +220,9 @@ Clients-client laws w u x c ok now late busy was k = record {
 
 Behind-client : (laws : ClientLaws) (w u x : WorldState) (c : ℕ) → IsCoherent u → IsCoherent x → is_idle (client_at u.clients c).phase ≡ false → ClientMoved u x → Behind w c u → Behind w c x
 Behind-client laws w u x c ok now busy k h = record {
-  voters = subst (λ (vs : List VoterState). Voters w c vs) (sym k.voters) h.voters;
+  voters = subst (λ (vs : List VoterState). VotersBehind w c vs) (sym k.voters) h.voters;
   clients = Clients-client laws w u x c ok now h.late busy h.clients k;
-  late = subst (λ ms. AllByRecursion (IsLate w c) ms) (sym k.sent) (AllByRecursion-append (IsLate w c) u.sent _ h.late (all_sent (IsLate w c) kinds.ToVoter (λ m. tt) k.outcome.out));
+  late = subst (λ ms. AllByRecursion (CarriesLate w c) ms) (sym k.sent) (AllByRecursion-append (CarriesLate w c) u.sent _ h.late (all_sent (CarriesLate w c) kinds.ToVoter (λ m. tt) k.outcome.out));
 }
 
 -- ---- a voter moves
@@ -264,7 +264,7 @@ OneVoter-moved : (laws : VoterLaws) (w u x : WorldState) (c : ℕ) → IsCoheren
 OneVoter-moved laws w u x c ok runs k h =
     let y = voter_at u.voters k.message.voter in
     let asked = asked_by u x ok k c in
-    let known : IsAsked w c k.message.voter → IsEntry k.outcome.state c (stamp_of w c) = λ is.
+    let known : IsAskedBy w c k.message.voter → IsEntry k.outcome.state c (stamp_of w c) = λ is.
     elim (laws.stays y k.message k.outcome c (stamp_of w c) (ok.voters k.message.voter) k.step (h.known is)) [
       | inl stays ↦ stays
       | inr finishes ↦ absurd (not_finished (client_at u.clients c) y k.message.voter k.message.client c k.message.body asked runs.runs
@@ -284,7 +284,7 @@ OneVoter-moved laws w u x c ok runs k h =
       ];
     }
 
-Voters-moved : (laws : VoterLaws) (w u x : WorldState) (c : ℕ) → IsCoherent u → StillRuns w u c → VoterMoved u x → Voters w c u.voters → Voters w c x.voters
+Voters-moved : (laws : VoterLaws) (w u x : WorldState) (c : ℕ) → IsCoherent u → StillRuns w u c → VoterMoved u x → VotersBehind w c u.voters → VotersBehind w c x.voters
 Voters-moved laws w u x c ok runs k h = each_voter (OneVoter w c) u x k (OneVoter-moved laws w u x c ok runs k (h k.message.voter)) h
 
 pub is_current_of : (x : ClientState) (s : ℕ) → is_idle x.phase ≡ false → s ≡ x.stamp → is_current x s ≡ true
@@ -299,33 +299,33 @@ Behind-voter laws w u x c ok heeded runs k h =
     let y = voter_at u.voters k.message.voter in
     let voters = Voters-moved laws w u x c ok runs k h.voters in
     let carry = laws.carries y k.message k.outcome k.step in
-    let high : IsAsked w c k.message.voter → stamp_of w c ≤ seen_after y.seen k.message.body = λ is.
+    let high : IsAskedBy w c k.message.voter → stamp_of w c ≤ seen_after y.seen k.message.body = λ is.
     subst (λ n. stamp_of w c ≤ n) (ap (λ (z : VoterState). z.seen) k.here ∙ carry.seen) (heeded.seen k.message.voter (stamp_of w c) ((voters k.message.voter).known is)
     (subst (λ (cs : List ClientState). is_current (client_at cs c) (stamp_of w c) ≡ true) (sym k.clients) (runs_now w u c runs))) in
     record {
       voters = voters;
       clients = subst (λ (cs : List ClientState). Clients w c cs) (sym k.clients) h.clients;
-      late = subst (λ ms. AllByRecursion (IsLate w c) ms) (sym k.sent) (AllByRecursion-append (IsLate w c) u.sent _ h.late
+      late = subst (λ ms. AllByRecursion (CarriesLate w c) ms) (sym k.sent) (AllByRecursion-append (CarriesLate w c) u.sent _ h.late
           (replies_late w c k.message.voter (seen_after y.seen k.message.body) high k.outcome.replies
           (subst (λ i. AllCarry i (seen_after y.seen k.message.body) k.outcome.replies) (is_named u x ok k) carry.carried)));
     }
 
 -- ---- messages alone
 
-reminder_late : (laws : VoterLaws) (w u : WorldState) (c : ℕ) → IsCoherent u → Heeds c u → StillRuns w u c → Voters w c u.voters → (more : List Message) → IsReminder u more → AllByRecursion (IsLate w c) more
+reminder_late : (laws : VoterLaws) (w u : WorldState) (c : ℕ) → IsCoherent u → Heeds c u → StillRuns w u c → VotersBehind w c u.voters → (more : List Message) → IsReminder u more → AllByRecursion (CarriesLate w c) more
 reminder_late laws w u c ok heeded runs voters more said = elim said [
-  | inl out ↦ subst (λ ms. AllByRecursion (IsLate w c) ms) (sym out.1) (all_sent (IsLate w c) kinds.ToVoter (λ m. tt) out.0)
+  | inl out ↦ subst (λ ms. AllByRecursion (CarriesLate w c) ms) (sym out.1) (all_sent (CarriesLate w c) kinds.ToVoter (λ m. tt) out.0)
   | inr v ↦
       let y = voter_at u.voters v.0 in
-      subst (λ ms. AllByRecursion (IsLate w c) ms) (sym v.2) (replies_late w c v.0 y.seen (λ is. heeded.seen v.0 (stamp_of w c) ((voters v.0).known is) (runs_now w u c runs)) (voter.remind y)
+      subst (λ ms. AllByRecursion (CarriesLate w c) ms) (sym v.2) (replies_late w c v.0 y.seen (λ is. heeded.seen v.0 (stamp_of w c) ((voters v.0).known is) (runs_now w u c runs)) (voter.remind y)
       (subst (λ i. AllCarry i y.seen (voter.remind y)) (ok.numbered.voters v.0 v.1) (laws.remembers y)))
 ]
 
 Behind-sent : (laws : VoterLaws) (w u x : WorldState) (c : ℕ) → IsCoherent u → Heeds c u → StillRuns w u c → OnlySent u x → Behind w c u → Behind w c x
 Behind-sent laws w u x c ok heeded runs k h = record {
-  voters = subst (λ (vs : List VoterState). Voters w c vs) (sym k.voters) h.voters;
+  voters = subst (λ (vs : List VoterState). VotersBehind w c vs) (sym k.voters) h.voters;
   clients = subst (λ (cs : List ClientState). Clients w c cs) (sym k.clients) h.clients;
-  late = subst (λ ms. AllByRecursion (IsLate w c) ms) (sym k.sent) (AllByRecursion-append (IsLate w c) u.sent k.more h.late (reminder_late laws w u c ok heeded runs h.voters k.more k.reminder));
+  late = subst (λ ms. AllByRecursion (CarriesLate w c) ms) (sym k.sent) (AllByRecursion-append (CarriesLate w c) u.sent k.more h.late (reminder_late laws w u c ok heeded runs h.voters k.more k.reminder));
 }
 
 pub Behind-moved : (laws : Laws) (w u x : WorldState) (c : ℕ) → IsCoherent u → IsCoherent x → Heeds c u → Heeds c x → StillRuns w u c → Moved u x → Behind w c u → Behind w c x
@@ -337,7 +337,7 @@ Behind-moved laws w u x c ok now before after runs moved h = elim moved [
 
 -- ---- the first world
 
-first_late : (w : WorldState) (c : ℕ) (m : Message) → WasGiven w.voters m → IsLate w c m
+first_late : (w : WorldState) (c : ℕ) (m : Message) → WasGiven w.voters m → CarriesLate w c m
 first_late w c (kinds.ToVoter m) given = tt
 first_late w c (kinds.ToClient m) given = first_carries w c m.voter m.seen m.body given
   where
@@ -359,5 +359,5 @@ Behind-first w c ok heeded known = record {
     heard = λ e v n asked holds new. (let few = (ok.voters v).numbered (record { client = e; stamp = stamp_of w e; grant = n }) (ok.held e v n holds) in absurd (omega arith));
     later = λ e. omega arith;
   };
-  late = AllByRecursion-weaker (WasGiven w.voters) (IsLate w c) (first_late w c) w.sent heeded.given;
+  late = AllByRecursion-weaker (WasGiven w.voters) (CarriesLate w c) (first_late w c) w.sent heeded.given;
 }

@@ -28,7 +28,7 @@ use Rattle.world_state.specs.Steps.{Dealing, WorldState, client_at, events, step
 use Rattle.progress.specs.Overtaking.{IsKnownEverywhere, StillRuns}
 use Rattle.world.specs.Visible.{entries_of}
 use Rattle.progress.proofs.invariants.Always.{Heeds, heeds}
-use Rattle.progress.proofs.invariants.Kept.{IsKept}
+use Rattle.progress.proofs.invariants.Kept.{WorldIsKept}
 use Rattle.progress.proofs.overtaking.Behind.{Behind, Behind-first, Behind-moved, IsLater-moved, IsLater-self, IsLater-then, ask-Ok, meets, stamp_of, the_request}
 use Rattle.progress.specs.Rules.{ClientLaws, Laws}
 use Rattle.progress.proofs.run.Moves.{ClientMoved, Moved, Moved-step, StaysCoherent, kept-by}
@@ -274,7 +274,7 @@ overtakes_twice laws deal w c d steps more r heeded known other end visible =
     let same : more ≡ e.more = append_cancel_left w.visible more e.more (sym visible ∙ e.visible) in
     subst (λ es. entries_of d es ≤ 2) (sym same) e.counted.few
 
-pub nobody_overtakes : Laws → (deal : Dealing) (w : WorldState) (c d : ℕ) (steps : List Step) (more : List Event) → IsKept deal w → IsKnownEverywhere w c → d ≢ c
+pub nobody_overtakes : Laws → (deal : Dealing) (w : WorldState) (c d : ℕ) (steps : List Step) (more : List Event) → WorldIsKept deal w → IsKnownEverywhere w c → d ≢ c
     → StillRuns w (run_of deal steps w) c
     → (run_of deal steps w).visible ≡ w.visible ++ more → entries_of d more ≤ 2
 nobody_overtakes laws deal w c d steps more r known other end visible =

@@ -24,7 +24,7 @@ use Rattle.progress.proofs.run.Along.{Along, along-first, along-kept, along-last
 use Rattle.progress.proofs.overtaking.Behind.{meets, stamp_of}
 use Rattle.progress.proofs.overtaking.Counting.{enters_by}
 use Rattle.progress.proofs.invariants.Fitting.{take-Ok}
-use Rattle.progress.proofs.patience.Hearing.{HasHeard, RunsBeside, Ticks-moved, Trails, heard_kept, hears, hears_by_vote}
+use Rattle.progress.proofs.patience.Hearing.{ClientHeard, RunsBeside, Ticks-moved, Trails, heard_kept, hears, hears_by_vote}
 use Rattle.progress.proofs.block.Known.{known_after, runs_down, within_by}
 use Rattle.progress.proofs.run.Moves.{ClientMoved, Makes, Moved, Moved-by, MovedBy, each_client}
 use Rattle.progress.proofs.invariants.Outstanding.{step-GivesUp, step-Leaves}
@@ -58,8 +58,8 @@ stamp_or_asks x y moved d = elim moved [
 -- ---- who stops to ask has heard of the request
 
 stops_own : (laws : Laws) (p : Course) (w : WorldState) (c : ℕ) (t : Step) (x y : WorldState) → Trails p w c x → Trails p w c y → (k : ClientMoved x y) → k.who ≢ c → stamp_of w k.who < stamp_of x k.who
-    → is_asking (client_at x.clients k.who).phase ≡ true → is_asking (client_at y.clients k.who).phase ≡ false → (t ≡ GiveUp k.who → HasHeard w c k.who x) → MovedBy t x y
-    → (cause : requester.Cause) → Makes t k.who cause → requester.step (client_at x.clients k.who) cause ≡ Ok k.outcome → KeepsQuorum (client_at x.clients k.who) cause k.outcome.state → HasHeard w c k.who y
+    → is_asking (client_at x.clients k.who).phase ≡ true → is_asking (client_at y.clients k.who).phase ≡ false → (t ≡ GiveUp k.who → ClientHeard w c k.who x) → MovedBy t x y
+    → (cause : requester.Cause) → Makes t k.who cause → requester.step (client_at x.clients k.who) cause ≡ Ok k.outcome → KeepsQuorum (client_at x.clients k.who) cause k.outcome.state → ClientHeard w c k.who y
 stops_own laws p w c t x y before after k other newer asks not gave moved (requester.Asks q) makes step keeps =
     absurd (false≢true (sym (is_asking-busy (client_at x.clients k.who).phase asks) ∙ step-Asks (client_at x.clients k.who) q k.outcome step))
 stops_own laws p w c t x y before after k other newer asks not gave moved (requester.Takes m) makes step keeps =
@@ -76,12 +76,12 @@ stops_own laws p w c t x y before after k other newer asks not gave moved reques
 stops_own laws p w c t x y before after k other newer asks not gave moved requester.GivesUp makes step keeps = heard_kept laws p w c k.who t x y before.reached moved (gave makes)
 
 stops_heard : (laws : Laws) (p : Course) (w : WorldState) (c d : ℕ) → d ≢ c → (t : Step) (x y : WorldState) → Trails p w c x → Trails p w c y → MovedBy t x y → stamp_of w d < stamp_of x d
-    → is_asking (client_at x.clients d).phase ≡ true → is_asking (client_at y.clients d).phase ≡ false → (t ≡ GiveUp d → HasHeard w c d x) → HasHeard w c d y
+    → is_asking (client_at x.clients d).phase ≡ true → is_asking (client_at y.clients d).phase ≡ false → (t ≡ GiveUp d → ClientHeard w c d x) → ClientHeard w c d y
 stops_heard laws p w c d other t x y before after moved = elim moved [
   | inl both ↦
       let k = both.0 in
       elim (cases_eq d k.who) [
-        | inl same ↦ subst (λ i. stamp_of w i < stamp_of x i → is_asking (client_at x.clients i).phase ≡ true → is_asking (client_at y.clients i).phase ≡ false → (t ≡ GiveUp i → HasHeard w c i x) → HasHeard w c i y) (sym same)
+        | inl same ↦ subst (λ i. stamp_of w i < stamp_of x i → is_asking (client_at x.clients i).phase ≡ true → is_asking (client_at y.clients i).phase ≡ false → (t ≡ GiveUp i → ClientHeard w c i x) → ClientHeard w c i y) (sym same)
             (λ newer asks not gave. stops_own laws p w c t x y before after k (λ is. other (same ∙ is)) newer asks not gave (inl both) k.cause both.1 k.step
             (meets laws.client x y (before.reached []).coherent (after.reached []).coherent k).quorum)
         | inr unlike ↦ λ newer asks not gave. absurd (false≢true (sym not ∙ ap (λ (z : ClientState). is_asking z.phase) (k.others d unlike) ∙ asks))
@@ -98,10 +98,10 @@ abbrev Room : WorldState → ℕ → ℕ → ℕ → WorldState → Type 0
 Room w c d k x = ((k ≡ 3) × (stamp_of x d ≡ stamp_of w d))
     ⊎ ((k ≡ 2) × (stamp_of w d ≤ stamp_of x d) × (asks_up_to (stamp_of w c) x d ≡ false))
     ⊎ ((k ≡ 1) × (stamp_of w d < stamp_of x d) × (asks_up_to (stamp_of w c) x d ≡ true))
-    ⊎ ((k ≡ 0) × (asks_up_to (stamp_of w c) x d ≡ false) × HasHeard w c d x)
+    ⊎ ((k ≡ 0) × (asks_up_to (stamp_of w c) x d ≡ false) × ClientHeard w c d x)
 
-abbrev After : WorldState → ℕ → ℕ → ℕ → WorldState → WorldState → Type 0
-After w c d k x y = (j : ℕ) × Room w c d j y × (turn (asks_up_to (stamp_of w c) x d) (asks_up_to (stamp_of w c) y d) + j ≤ k)
+abbrev RoomAfter : WorldState → ℕ → ℕ → ℕ → WorldState → WorldState → Type 0
+RoomAfter w c d k x y = (j : ℕ) × Room w c d j y × (turn (asks_up_to (stamp_of w c) x d) (asks_up_to (stamp_of w c) y d) + j ≤ k)
 
 turn_of : (a b p q : Bool) → a ≡ p → b ≡ q → turn a b ≡ turn p q
 turn_of a b p q e f i = turn (e i) (f i)
@@ -113,11 +113,11 @@ turn_most false true = omega arith
 turn_most false false = omega arith
 
 -- with a new stamp at most two turns are left, this one counted
-new_room : (w : WorldState) (c d : ℕ) (p : Course) (x y : WorldState) → Trails p w c y → stamp_of w d < stamp_of y d → is_asking (client_at y.clients d).phase ≡ true → After w c d 2 x y
+new_room : (w : WorldState) (c d : ℕ) (p : Course) (x y : WorldState) → Trails p w c y → stamp_of w d < stamp_of y d → is_asking (client_at y.clients d).phase ≡ true → RoomAfter w c d 2 x y
 new_room w c d p x y after newer asks =
     let s = stamp_of w c in
     let most = turn_most (asks_up_to s x d) (asks_up_to s y d) in
-    elim (asks_up_to s y d) as (λ b. asks_up_to s y d ≡ b → After w c d 2 x y) [
+    elim (asks_up_to s y d) as (λ b. asks_up_to s y d ≡ b → RoomAfter w c d 2 x y) [
       | true ↦ λ up. (1, inr (inr (inl (refl, newer, up))), omega arith)
       | false ↦ λ not.
           let above = above_bound s y d not asks in
@@ -125,12 +125,12 @@ new_room w c d p x y after newer asks =
           (0, inr (inr (inr (refl, not, omega arith))), omega arith)
     ] refl
 
-more_room : (w : WorldState) (c d k n : ℕ) (x y : WorldState) → k ≤ n → After w c d k x y → After w c d n x y
+more_room : (w : WorldState) (c d k n : ℕ) (x y : WorldState) → k ≤ n → RoomAfter w c d k x y → RoomAfter w c d n x y
 more_room w c d k n x y most h = (h.0, h.1, (let few = h.2 in omega arith))
 
 -- a step by which the client gives up hastily h times
 room_step : (laws : Laws) (p : Course) (w : WorldState) (c d h : ℕ) → d ≢ c → (t : Step) (x y : WorldState) → Trails p w c x → Trails p w c y → MovedBy t x y
-    → (t ≡ GiveUp d → is_asking (client_at x.clients d).phase ≡ true → stamp_of w d < stamp_of x d → HasHeard w c d x ⊎ (1 ≤ h)) → (k : ℕ) → Room w c d k x → After w c d (k + 2 * h) x y
+    → (t ≡ GiveUp d → is_asking (client_at x.clients d).phase ≡ true → stamp_of w d < stamp_of x d → ClientHeard w c d x ⊎ (1 ≤ h)) → (k : ℕ) → Room w c d k x → RoomAfter w c d (k + 2 * h) x y
 room_step laws p w c d h other t x y before after moved gave k room =
     let s = stamp_of w c in
     let t0 = stamp_of w d in
@@ -142,7 +142,7 @@ room_step laws p w c d h other t x y before after moved gave k room =
     -- who asks under the stamp that it had asked before
     let back : stamp_of y d ≡ stamp_of x d → up_y ≡ true → up_x ≡ true = λ same up.
     up_to_is s x d (lasts.asks same (up_to_asks s y d up)) (let few = up_to_stamp s y d up in omega arith) in
-    let fresh : t0 ≤ stamp_of x d → (stamp_of y d ≡ stamp_of x d) ⊎ After w c d 2 x y = λ old. elim (cases_lt (stamp_of x d) (stamp_of y d)) [
+    let fresh : t0 ≤ stamp_of x d → (stamp_of y d ≡ stamp_of x d) ⊎ RoomAfter w c d 2 x y = λ old. elim (cases_lt (stamp_of x d) (stamp_of y d)) [
       | inr few ↦ inl (omega arith)
       | inl more ↦ elim (stamp_or_asks x y (Moved-by t x y moved) d) [
         | inl same ↦ inl same
@@ -155,7 +155,7 @@ room_step laws p w c d h other t x y before after moved gave k room =
           let old = three.1 in
           elim (fresh (omega arith)) [
             | inr new ↦ more_room w c d 2 (k + 2 * h) x y (omega arith) new
-            | inl same ↦ elim up_y as (λ b. up_y ≡ b → After w c d (k + 2 * h) x y) [
+            | inl same ↦ elim up_y as (λ b. up_y ≡ b → RoomAfter w c d (k + 2 * h) x y) [
               | true ↦ λ up. (let none = turn_of up_x up_y true true (back same up) up in (3, inl (refl, same ∙ old), omega arith))
               | false ↦ λ not. (2, inr (inl (refl, omega arith, not)), omega arith)
             ] refl
@@ -165,7 +165,7 @@ room_step laws p w c d h other t x y before after moved gave k room =
           let old = two.1 in
           elim (fresh old) [
             | inr new ↦ more_room w c d 2 (k + 2 * h) x y (omega arith) new
-            | inl same ↦ elim up_y as (λ b. up_y ≡ b → After w c d (k + 2 * h) x y) [
+            | inl same ↦ elim up_y as (λ b. up_y ≡ b → RoomAfter w c d (k + 2 * h) x y) [
               | true ↦ λ up. absurd (false≢true (sym two.2 ∙ back same up))
               | false ↦ λ not. (let none = turn_of up_x up_y false false two.2 not in (2, inr (inl (refl, omega arith, not)), omega arith))
             ] refl
@@ -173,13 +173,13 @@ room_step laws p w c d h other t x y before after moved gave k room =
       | inr (inr (inl one)) ↦
           let is = one.0 in
           let newer = one.1 in
-          elim up_y as (λ b. up_y ≡ b → After w c d (k + 2 * h) x y) [
+          elim up_y as (λ b. up_y ≡ b → RoomAfter w c d (k + 2 * h) x y) [
             | true ↦ λ up. (let none = turn_of up_x up_y true true one.2 up in (1, inr (inr (inl (refl, omega arith, up))), omega arith))
             | false ↦ λ not. elim (cases_lt 0 h) [
               | inl some ↦ (2, inr (inl (refl, omega arith, not)), omega arith)
               | inr none ↦
                   let asks_x = up_to_asks s x d one.2 in
-                  let high : HasHeard w c d y = elim (is_asking (client_at y.clients d).phase) as (λ b. is_asking (client_at y.clients d).phase ≡ b → HasHeard w c d y) [
+                  let high : ClientHeard w c d y = elim (is_asking (client_at y.clients d).phase) as (λ b. is_asking (client_at y.clients d).phase ≡ b → ClientHeard w c d y) [
                     | true ↦ λ asks. (let above = above_bound s y d not asks in let behind = ((after.reached []).coherent.clients d).clock in omega arith)
                     | false ↦ λ quiet. stops_heard laws p w c d other t x y before after moved newer asks_x quiet (λ gives. elim (gave gives asks_x newer) [
                       | inl heard ↦ heard
@@ -266,7 +266,7 @@ record Since (a x : WorldState) (d : ℕ) : Type 0 where
 
 -- if the client asked in the world u already, it has heard of the request
 abbrev HeardBy : WorldState → ℕ → ℕ → WorldState → WorldState → Type 0
-HeardBy w c d u a = stamp_of w d < stamp_of a d → is_asking (client_at a.clients d).phase ≡ true → stamp_of a d ≡ stamp_of u d → HasHeard w c d a
+HeardBy w c d u a = stamp_of w d < stamp_of a d → is_asking (client_at a.clients d).phase ≡ true → stamp_of a d ≡ stamp_of u d → ClientHeard w c d a
 
 in_round : (laws : Laws) (p : Course) (w : WorldState) (c d : ℕ) → d ≢ c → (u a : WorldState) → stamp_of u d ≤ stamp_of a d → HeardBy w c d u a → (steps : List Step) (x : WorldState)
     → Along (Trails p w c) MovedBy p.deal steps x → Since a x d → (k : ℕ) → Room w c d k x
@@ -277,7 +277,7 @@ in_round laws p w c d other u a before heard (t ∷ steps) x all since k room =
     let y = next deal x t in
     let here = all.0 in
     let after = along-first (Trails p w c) MovedBy deal steps y all.2 in
-    let gave : t ≡ GiveUp d → is_asking (client_at x.clients d).phase ≡ true → stamp_of w d < stamp_of x d → HasHeard w c d x ⊎ (1 ≤ own_hasty d u x t) = λ is asks newer.
+    let gave : t ≡ GiveUp d → is_asking (client_at x.clients d).phase ≡ true → stamp_of w d < stamp_of x d → ClientHeard w c d x ⊎ (1 ≤ own_hasty d u x t) = λ is asks newer.
     elim (cases_lt (stamp_of u d) (stamp_of x d)) [
       | inl later ↦ inr (is_hasty d u x t is asks later)
       | inr few ↦
@@ -327,12 +327,12 @@ heard_next laws p w c d v x round least known all fair newer asks same =
     let q = common.voter in
     let asked : is_member (client_at w.clients c) q ≡ true = ap (λ l. has l q) (sym here.behind.clients.quorum) ∙ common.second in
     let entry = known (omega arith) asks_x (omega arith) q common.first in
-    elim (p.live.voter q) as (λ b. p.live.voter q ≡ b → HasHeard w c d z) [
+    elim (p.live.voter q) as (λ b. p.live.voter q ≡ b → ClientHeard w c d z) [
       | true ↦ λ up.
           let both = along-and (Trails p w c) (RunsOn p x d) MovedBy deal round x all runs in
           hears laws p w c x d q x z up asks_x (omega arith) common.first asked entry
           (reminded_at (RunsBeside p w c x d) MovedBy p.live deal round x (RemindClient d) both (fair.clients d (within_by x d busy) (live_by p x d here.left busy)))
-      | false ↦ λ down. along-kept (Trails p w c) MovedBy deal (HasHeard w c d) (λ s a e before after moved h. heard_kept laws p w c d s a e before.reached moved h) round x all
+      | false ↦ λ down. along-kept (Trails p w c) MovedBy deal (ClientHeard w c d) (λ s a e before after moved h. heard_kept laws p w c d s a e before.reached moved h) round x all
           (hears_by_vote p w c d q x here (omega arith) asked (runs_down p x d round x runs asks_x fair q common.first down))
     ] refl
 

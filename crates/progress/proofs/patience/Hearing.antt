@@ -34,7 +34,7 @@ use Rattle.progress.proofs.block.Known.{asks_for, entry_kept, request_to}
 use Rattle.progress.proofs.run.Moves.{Moved, Moved-by, MovedBy, MovedBy-step, each_client}
 use Rattle.progress.proofs.invariants.Placed.{Heeds-moved}
 use Rattle.progress.proofs.losses.Lasting.{RunsOn, left_before, serving_both}
-use Rattle.progress.proofs.invariants.Sure.{Course, IsSure, IsSure-after, Serves, Serving, live_by, stays_coherent}
+use Rattle.progress.proofs.invariants.Sure.{Course, IsSure, IsSure-after, LiveServe, Serving, live_by, stays_coherent}
 
 -- ---- worlds in which the request of the client c still runs
 
@@ -42,7 +42,7 @@ use Rattle.progress.proofs.invariants.Sure.{Course, IsSure, IsSure-after, Serves
 -- grant left.
 pub record Trails (p : Course) (w : WorldState) (c : ℕ) (x : WorldState) : Type 0 where
   pub reached : IsSure p x
-  pub left : Serves p x
+  pub left : LiveServe p x
   pub heeds : Heeds c x
   pub still : StillRuns w x c
   pub behind : Behind w c x
@@ -104,15 +104,15 @@ Ticks-moved laws x y ok moved d = elim moved [
 -- ---- what a client has heard
 
 -- the client's clock is not behind the request of c
-abbrev pub HasHeard : WorldState → ℕ → ℕ → WorldState → Type 0
-HasHeard w c d x = stamp_of w c ≤ (client_at x.clients d).clock
+abbrev pub ClientHeard : WorldState → ℕ → ℕ → WorldState → Type 0
+ClientHeard w c d x = stamp_of w c ≤ (client_at x.clients d).clock
 
-pub heard_kept : (laws : Laws) (p : Course) (w : WorldState) (c d : ℕ) → (s : Step) (x y : WorldState) → IsSure p x → MovedBy s x y → HasHeard w c d x → HasHeard w c d y
+pub heard_kept : (laws : Laws) (p : Course) (w : WorldState) (c d : ℕ) → (s : Step) (x y : WorldState) → IsSure p x → MovedBy s x y → ClientHeard w c d x → ClientHeard w c d y
 heard_kept laws p w c d s x y reached moved h = (let rises = (Ticks-moved laws.client x y (reached []).coherent (Moved-by s x y moved) d).clock in omega arith)
 
 -- who has the vote of a voter that the request asked, for a newer request than in the world w, has heard of it
 pub hears_by_vote : (p : Course) (w : WorldState) (c d v : ℕ) (x : WorldState) → Trails p w c x → stamp_of w d < stamp_of x d → is_member (client_at w.clients c) v ≡ true
-    → holds (client_at x.clients d) v ≡ true → HasHeard w c d x
+    → holds (client_at x.clients d) v ≡ true → ClientHeard w c d x
 hears_by_vote p w c d v x here newer asked has =
     let y = client_at x.clients d in
     let holds_n = held_under y v has in
@@ -149,23 +149,23 @@ RunsBeside p w c b d x = Trails p w c x × RunsOn p b d x
 -- request of c in a fair round.
 pub hears : (laws : Laws) (p : Course) (w : WorldState) (c : ℕ) (b : WorldState) (d v : ℕ) (x z : WorldState) → p.live.voter v ≡ true → is_asking (client_at b.clients d).phase ≡ true → stamp_of w d < stamp_of b d
     → is_member (client_at b.clients d) v ≡ true → is_member (client_at w.clients c) v ≡ true → IsEntry (voter_at x.voters v) d (stamp_of b d)
-    → Reminded (RunsBeside p w c b d) MovedBy p.live p.deal x z (RemindClient d) → HasHeard w c d z
+    → Reminded (RunsBeside p w c b d) MovedBy p.live p.deal x z (RemindClient d) → ClientHeard w c d z
 hears laws p w c b d v x z up asking newer member asked entry r =
     let deal = p.deal in
     let P = RunsBeside p w c b d in
-    let keep : (s : Step) (a e : WorldState) → P a → P e → MovedBy s a e → HasHeard w c d a → HasHeard w c d e = λ s a e before after moved h. heard_kept laws p w c d s a e before.0.reached moved h in
+    let keep : (s : Step) (a e : WorldState) → P a → P e → MovedBy s a e → ClientHeard w c d a → ClientHeard w c d e = λ s a e before after moved h. heard_kept laws p w c d s a e before.0.reached moved h in
     let stays : (k : ℕ) (n : Message) (s : Step) (a e : WorldState) → P a → P e → MovedBy s a e → slice_get a.sent k ≡ Some n → slice_get e.sent k ≡ Some n =
     λ k n s a e _ _ moved is. message_stays k n a e (Moved-by s a e moved) is in
     let keep_entry : (s : Step) (a e : WorldState) → P a → P e → MovedBy s a e → IsEntry (voter_at a.voters v) d (stamp_of b d) → IsEntry (voter_at e.voters v) d (stamp_of b d) =
     λ s a e before after moved h. entry_kept laws p b d v asking s a e before.1 after.1 moved h in
-    let vote : (u : WorldState) → P u → holds (client_at u.clients d) v ≡ true → HasHeard w c d u = λ u h has.
+    let vote : (u : WorldState) → P u → holds (client_at u.clients d) v ≡ true → ClientHeard w c d u = λ u h has.
     (let same = h.1.same.stamp in hears_by_vote p w c d v u h.0 (omega arith) asked has) in
     let spot = r.spot in
     let x1 = spot.before in
     let entry1 = spot_before P MovedBy deal (λ q. IsEntry (voter_at q.voters v) d (stamp_of b d)) keep_entry x z (RemindClient d) spot entry in
     let u1 = next deal x1 (RemindClient d) in
-    elim (holds (client_at x1.clients d) v) as (λ t. holds (client_at x1.clients d) v ≡ t → HasHeard w c d z) [
-      | true ↦ λ has. spot_through P MovedBy deal (HasHeard w c d) keep x z (RemindClient d) spot (vote x1 spot.here has)
+    elim (holds (client_at x1.clients d) v) as (λ t. holds (client_at x1.clients d) v ≡ t → ClientHeard w c d z) [
+      | true ↦ λ has. spot_through P MovedBy deal (ClientHeard w c d) keep x z (RemindClient d) spot (vote x1 spot.here has)
       | false ↦ λ free.
           let sends = asks_for laws p b x1 d v spot.here.1 asking member free in
           let msg = request_to b d v in
@@ -205,7 +205,7 @@ hears laws p w c b d v x z up asking newer member asked entry r =
           let seen = here2.0.heeds.seen v (stamp_of w c) known current in
           let more = more_seen y.seen (stamp_of b d) (stamp_of w c) seen in
           let carried = one.3 in
-          spot_end P MovedBy deal (HasHeard w c d) keep y2 z (Deliver says_it.place) comes
+          spot_end P MovedBy deal (ClientHeard w c d) keep y2 z (Deliver says_it.place) comes
           (subst (λ i. stamp_of w c ≤ (client_at (next deal x3 (Deliver says_it.place)).clients i).clock) one.2 (omega arith))
     ] refl
   where

@@ -129,13 +129,13 @@ entries_turn who x cause o Entered step keeps sees =
     omega arith
 
 -- what is seen of a step
-pub record Shows (s : Step) (x y : WorldState) : Type 0 where
+pub record ShowsStep (s : Step) (x y : WorldState) : Type 0 where
   pub more : List Event
   pub visible : y.visible ≡ x.visible ++ more
   pub stops : (d : ℕ) → asks_at x d ≡ true → asks_at y d ≡ false → 1 ≤ entries_of d more + own_give_up d s
   pub enters : (d : ℕ) → entries_of d more ≤ turn (asks_at x d) (asks_at y d)
 
-shows : (laws : Laws) (s : Step) (x y : WorldState) → IsCoherent x → IsCoherent y → MovedBy s x y → Shows s x y
+shows : (laws : Laws) (s : Step) (x y : WorldState) → IsCoherent x → IsCoherent y → MovedBy s x y → ShowsStep s x y
 shows laws s x y ok now moved = elim moved [
   | inl client ↦
       let k = client.0 in
@@ -179,13 +179,13 @@ one_turn false false n stops = omega arith
 -- ---- over a run
 
 -- what is seen of these steps, and how often clients turn in them
-pub record Counts (deal : Dealing) (steps : List Step) (x : WorldState) : Type 0 where
+pub record TurnCounts (deal : Dealing) (steps : List Step) (x : WorldState) : Type 0 where
   pub more : List Event
   pub visible : (run_of deal steps x).visible ≡ x.visible ++ more
   pub most : (d : ℕ) → turns deal d steps x + one_if (asks_at x d) ≤ 2 * (entries_of d more + own_give_ups d steps) + one_if (asks_at (run_of deal steps x) d)
   pub enters : (d : ℕ) → entries_of d more ≤ turns deal d steps x
 
-counts : (laws : Laws) (p : Course) (steps : List Step) (x : WorldState) → IsSure p x → Counts p.deal steps x
+counts : (laws : Laws) (p : Course) (steps : List Step) (x : WorldState) → IsSure p x → TurnCounts p.deal steps x
 counts laws p [] x r = record { more = []; visible = sym (append-nil x.visible); most = λ d. omega arith; enters = λ d. omega arith }
 counts laws p (s ∷ steps) x r =
     let deal = p.deal in

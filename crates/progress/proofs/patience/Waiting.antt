@@ -35,7 +35,7 @@ use Rattle.progress.proofs.losses.Olds.{AreOld, keeps_olds, no_olds, olds_fall, 
 use Rattle.progress.proofs.rounds.Parts.{late-more, late-split, live-split, split_rounds, steps-append}
 use Rattle.progress.proofs.invariants.Placed.{Heeds-moved}
 use Rattle.progress.proofs.losses.Lasting.{Goes-run, Lasts-moved, Lasts-run, RunsOn, SameAsk, left_before, same_between, serving_both}
-use Rattle.progress.proofs.invariants.Sure.{Course, IsSure, IsSure-after, IsSure-reached, IsSure-run, Serves, Serving, course_of, live_by, stays_coherent}
+use Rattle.progress.proofs.invariants.Sure.{Course, IsSure, IsSure-after, IsSure-reached, IsSure-run, LiveServe, Serving, course_of, live_by, stays_coherent}
 use Rattle.progress.proofs.block.Tame.{asks_up_to, turns_up_to, turns_up_to-append}
 use Rattle.progress.proofs.patience.Turns.{all_give_ups, asks_at, entries_most, gives_up_never, idle_not_asking, no_turn, none_turned, one_if, own_give_ups, own_give_ups-append, shown, stamp_stays, sum_has, turn, turn_same, turns, turns-append, turns_most}
 
@@ -253,7 +253,7 @@ out_turns laws p d steps x r serving dead =
     still_turns laws p d steps x r out.1 (λ asks. absurd (false≢true (sym (idle_not_asking (client_at x.clients d).phase out.0) ∙ asks)))
 
 -- a client that asks is live
-pub some_live : (p : Course) (x : WorldState) (c : ℕ) → Asks x c → Serves p x → 1 ≤ live_below p.live (length x.clients)
+pub some_live : (p : Course) (x : WorldState) (c : ℕ) → Asks x c → LiveServe p x → 1 ≤ live_below p.live (length x.clients)
 some_live p x c asks serves =
     let one : ◌≡◌ {A = ℕ} (if p.live.client c then 1 else 0) 1 = ap (λ b. if b then 1 else 0) (live_by p x c serves (is_asking-busy (client_at x.clients c).phase asks.asks)) in
     let some = sum_has (length x.clients) c (λ d. if p.live.client d then 1 else 0) asks.client in

@@ -157,17 +157,17 @@ more_sent deal x s = elim (step deal x s) as (λ r. step deal x s ≡ r → (mor
 ] (refl {a = step deal x s})
 
 -- the messages that were sent so far begin with these
-abbrev pub Begins : List Message → WorldState → Type 0
-Begins sent x = (more : List Message) × (x.sent ≡ sent ++ more)
+abbrev pub SentBegins : List Message → WorldState → Type 0
+SentBegins sent x = (more : List Message) × (x.sent ≡ sent ++ more)
 
-begins_step : (deal : Dealing) (sent : List Message) (x : WorldState) (s : Step) → Begins sent x → Begins sent (next deal x s)
+begins_step : (deal : Dealing) (sent : List Message) (x : WorldState) (s : Step) → SentBegins sent x → SentBegins sent (next deal x s)
 begins_step deal sent x s h = (let m = more_sent deal x s in (h.0 ++ m.0, m.1 ∙ ap (λ l. l ++ m.0) h.1 ∙ append_assoc sent h.0 m.0))
 
-begins_run : (deal : Dealing) (sent : List Message) (steps : List Step) (x : WorldState) → Begins sent x → Begins sent (run_of deal steps x)
+begins_run : (deal : Dealing) (sent : List Message) (steps : List Step) (x : WorldState) → SentBegins sent x → SentBegins sent (run_of deal steps x)
 begins_run deal sent [] x h = h
 begins_run deal sent (s ∷ steps) x h = begins_run deal sent steps (next deal x s) (begins_step deal sent x s h)
 
-allows_arrival : (live : Live) (w : WorldState) (deal : Dealing) (x : WorldState) (sent : List Message) (i : ℕ) → Begins sent x → is_between live (slice_get sent i) ≡ true → Allows (all_dead live w) deal x (Goes (Deliver i))
+allows_arrival : (live : Live) (w : WorldState) (deal : Dealing) (x : WorldState) (sent : List Message) (i : ℕ) → SentBegins sent x → is_between live (slice_get sent i) ≡ true → Allows (all_dead live w) deal x (Goes (Deliver i))
 allows_arrival live w deal x sent i h between = allows_step live w deal x (Deliver i)
     (λ c dead. to_live live (slice_get x.sent i) c (subst (λ l. is_between live (slice_get l i) ≡ true) (sym h.1) (between_later live sent h.0 i between)) dead)
 
@@ -175,7 +175,7 @@ allows_arrival live w deal x sent i h between = allows_step live w deal x (Deliv
 join_steps : (P : WorldState → Move → Type 0) (deal : Dealing) (a b : List Step) (x : WorldState) → EachMove P deal x (map Goes a) → EachMove P deal (run_of deal a x) (map Goes b) → EachMove P deal x (map Goes (a ++ b))
 join_steps P deal a b x h g = subst (EachMove P deal x) (sym (map-append Goes a b)) (each_join P deal (map Goes a) (map Goes b) x h (subst (λ (u : WorldState). EachMove P deal u (map Goes b)) (sym (moved_steps deal a x)) g))
 
-allows_arrivals : (live : Live) (w : WorldState) (deal : Dealing) (sent : List Message) (low n : ℕ) (x : WorldState) → Begins sent x → EachMove (Allows (all_dead live w) deal) deal x (map Goes (arrivals live sent low n))
+allows_arrivals : (live : Live) (w : WorldState) (deal : Dealing) (sent : List Message) (low n : ℕ) (x : WorldState) → SentBegins sent x → EachMove (Allows (all_dead live w) deal) deal x (map Goes (arrivals live sent low n))
 unfolding arrivals
 allows_arrivals live w deal sent low zero x h = tt
 allows_arrivals live w deal sent low (suc n) x h =
@@ -186,12 +186,12 @@ allows_arrivals live w deal sent low (suc n) x h =
       | false ↦ λ is. allows_arrivals live w deal sent (low + 1) n x h
     ] refl
 
-allows_answer : (live : Live) (w : WorldState) (deal : Dealing) (sent : List Message) (k : ℕ) (x : WorldState) (b : Bool) → is_between live (slice_get sent k) ≡ b → Begins sent x → EachMove (Allows (all_dead live w) deal) deal x (map Goes (answer_if b live deal x k))
+allows_answer : (live : Live) (w : WorldState) (deal : Dealing) (sent : List Message) (k : ℕ) (x : WorldState) (b : Bool) → is_between live (slice_get sent k) ≡ b → SentBegins sent x → EachMove (Allows (all_dead live w) deal) deal x (map Goes (answer_if b live deal x k))
 unfolding answer answer_if
 allows_answer live w deal sent k x true is h = (allows_arrival live w deal x sent k h is, allows_arrivals live w deal _ (length x.sent) _ (next deal x (Deliver k)) ([], sym (append-nil _)))
 allows_answer live w deal sent k x false is h = tt
 
-allows_answers : (live : Live) (w : WorldState) (deal : Dealing) (sent : List Message) (low n : ℕ) (x : WorldState) → Begins sent x → EachMove (Allows (all_dead live w) deal) deal x (map Goes (answer_all live deal sent x low n))
+allows_answers : (live : Live) (w : WorldState) (deal : Dealing) (sent : List Message) (low n : ℕ) (x : WorldState) → SentBegins sent x → EachMove (Allows (all_dead live w) deal) deal x (map Goes (answer_all live deal sent x low n))
 unfolding answer_all
 allows_answers live w deal sent low zero x h = tt
 allows_answers live w deal sent low (suc n) x h =
@@ -265,19 +265,19 @@ allows_frees live w deal x v (Some g) is = elim (live.client g.client) as (λ b.
   | false ↦ λ gone. (allows_free live w deal x v (λ h held. subst (λ (i : Grant). live.client i.client ≡ false) (same_Some g h (sym is ∙ held)) gone), tt)
 ] refl
 
-begins_by : (sent : List Message) (x : WorldState) (v : ℕ) (r : Option voter.Outcome) → Begins sent x → Begins sent (after x (after_voter x v r))
+begins_by : (sent : List Message) (x : WorldState) (v : ℕ) (r : Option voter.Outcome) → SentBegins sent x → SentBegins sent (after x (after_voter x v r))
 begins_by sent x v (Some o) h = (h.0 ++ map kinds.ToClient o.replies, ap (λ l. l ++ map kinds.ToClient o.replies) h.1 ∙ append_assoc sent h.0 (map kinds.ToClient o.replies))
 begins_by sent x v None h = h
 
-begins_free : (sent : List Message) (x : WorldState) (v : ℕ) (held : Option Grant) → Begins sent x → Begins sent (let_go x v held)
+begins_free : (sent : List Message) (x : WorldState) (v : ℕ) (held : Option Grant) → SentBegins sent x → SentBegins sent (let_go x v held)
 begins_free sent x v None h = h
 begins_free sent x v (Some g) h = begins_by sent x v _ h
 
-pub begins_move : (deal : Dealing) (sent : List Message) (x : WorldState) (m : Move) → Begins sent x → Begins sent (move deal x m)
+pub begins_move : (deal : Dealing) (sent : List Message) (x : WorldState) (m : Move) → SentBegins sent x → SentBegins sent (move deal x m)
 begins_move deal sent x (Goes t) h = begins_step deal sent x t h
 begins_move deal sent x (LetsGo v) h = begins_free sent x v (voter_at x.voters v).held h
 
-begins_moves : (deal : Dealing) (sent : List Message) (moves : List Move) (x : WorldState) → Begins sent x → Begins sent (moved deal moves x)
+begins_moves : (deal : Dealing) (sent : List Message) (moves : List Move) (x : WorldState) → SentBegins sent x → SentBegins sent (moved deal moves x)
 begins_moves deal sent [] x h = h
 begins_moves deal sent (m ∷ moves) x h = begins_moves deal sent moves (move deal x m) (begins_move deal sent x m h)
 

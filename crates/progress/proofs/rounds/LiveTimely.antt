@@ -228,7 +228,7 @@ patient_moves live first p a b u (LetsGo v ∷ moves) x s h allow none same =
 -- ---- all rounds
 
 -- what holds of k rounds that begin in w; two rounds before, u was the world, and v one round before
-record Kept (live : Live) (p : Course) (old : ℕ) (u v w : WorldState) (k left : ℕ) : Type 0 where
+record RoundsKeep (live : Live) (p : Course) (old : ℕ) (u v w : WorldState) (k left : ℕ) : Type 0 where
   are_live : AreLiveRounds of_moves live p.deal w (made live p.deal w k)
   count : length (made live p.deal w k) ≡ k
   in_time : late_among p.deal old w (made live p.deal w k) ≡ 0
@@ -238,7 +238,7 @@ record Kept (live : Live) (p : Course) (old : ℕ) (u v w : WorldState) (k left 
   grants : HasGrantsThere live left (moved p.deal (moves_of (made live p.deal w k)) w)
 
 kept : (laws : Laws) (live : Live) (first : WorldState) (p : Course) → p.live ≡ live → (a b : List Event) (k left old : ℕ) → 1 ≤ left → (u v w s : WorldState) → Shades (all_dead live first) p a b w s → old ≤ length w.sent
-    → SameStamps live u w → SameStamps live v w → HasGrantsThere live (k * (2 * length w.clients + 3) + left) w → Kept live p old u v w k left
+    → SameStamps live u w → SameStamps live v w → HasGrantsThere live (k * (2 * length w.clients + 3) + left) w → RoundsKeep live p old u v w k left
 unfolding made asking_live
 kept laws live first p own a b zero left old some u v w s h most one two has = record {
   are_live = tt;

@@ -187,19 +187,19 @@ no_hits v [] = refl
 no_hits v (m ∷ rs) = (let rest = no_hits v rs in omega arith)
 
 -- what the step sends hits the voter at most n times
-record Sends (n v : ℕ) (x y : WorldState) : Type 0 where
+record SendsAtMost (n v : ℕ) (x y : WorldState) : Type 0 where
   more : List Message
   sent : y.sent ≡ x.sent ++ more
   few : hits_in v more ≤ n
 
-voter_sends : (x : WorldState) (m : ToVoter) (v : ℕ) (r : Option voter.Outcome) → Sends 0 v x (after x (after_voter x m.voter r))
+voter_sends : (x : WorldState) (m : ToVoter) (v : ℕ) (r : Option voter.Outcome) → SendsAtMost 0 v x (after x (after_voter x m.voter r))
 voter_sends x m v (Some o) = record { more = map kinds.ToClient o.replies; sent = refl; few = (let none = no_hits v o.replies in omega arith) }
 voter_sends x m v None = record { more = []; sent = sym (append-nil x.sent); few = omega arith }
 
-sends_voter : (deal : Dealing) (x : WorldState) (k v : ℕ) (m : ToVoter) → slice_get x.sent k ≡ Some (kinds.ToVoter m) → Sends 0 v x (next deal x (Deliver k))
+sends_voter : (deal : Dealing) (x : WorldState) (k v : ℕ) (m : ToVoter) → slice_get x.sent k ≡ Some (kinds.ToVoter m) → SendsAtMost 0 v x (next deal x (Deliver k))
 unfolding step
 sends_voter deal x k v m is =
-    subst (Sends 0 v x) (sym (ap (λ o. after x (come x k o)) is)) (voter_sends x m v (voter.step (voter_at x.voters m.voter) m))
+    subst (SendsAtMost 0 v x) (sym (ap (λ o. after x (come x k o)) is)) (voter_sends x m v (voter.step (voter_at x.voters m.voter) m))
 
 locked_hits : (w v : ℕ) (x : ClientState) (current fresh : Bool) (s g : ℕ) → hits_in w (map kinds.ToVoter (requester.take_locked_by current fresh x v s g).out) ≤ one_at w v
 locked_hits w v x false fresh s g = omega arith
@@ -227,7 +227,7 @@ body_hits w v x (to_client.Fail s) plain = absurd plain
 body_hits w v x (to_client.Inquire g) plain = inquire_hits w v x _ _
 
 sends_client : (p : Course) (x : WorldState) (k v : ℕ) (m : ToClient) → IsSure p x → slice_get x.sent k ≡ Some (kinds.ToClient m) → IsPlainBody m.body
-    → Sends (one_at v m.voter) v x (next p.deal x (Deliver k))
+    → SendsAtMost (one_at v m.voter) v x (next p.deal x (Deliver k))
 unfolding requester.take
 sends_client p x k v m r is plain =
     let takes = client_takes p.deal x k m (r []).coherent is in
@@ -238,7 +238,7 @@ sends_client p x k v m r is plain =
     }
 
 -- the messages that were sent arrive
-replies_give : (laws : Laws) (p : Course) (live : Live) (n v : ℕ) (x y : WorldState) → IsSure p y → Sends n v x y → Spent n v y (run_of p.deal (arrivals live y.sent (length x.sent) (length y.sent - length x.sent)) y)
+replies_give : (laws : Laws) (p : Course) (live : Live) (n v : ℕ) (x y : WorldState) → IsSure p y → SendsAtMost n v x y → Spent n v y (run_of p.deal (arrivals live y.sent (length x.sent) (length y.sent - length x.sent)) y)
 replies_give laws p live n v x y r s =
     let count : length s.more ≡ length y.sent - length x.sent = (let long = ap length s.sent in let both = length-append x.sent s.more in omega arith) in
     let are : Are y.sent (length x.sent) s.more = subst (λ l. Are l (length x.sent) s.more) (sym s.sent) (are_new x.sent s.more) in

@@ -26,7 +26,7 @@ use Rattle.world.specs.Runs.{after, run_of}
 use Rattle.world_state.specs.Steps.{Dealing, WorldState, after_voter, client_at, client_did, come, if_client, if_voter, say, step, voter_at, voter_did}
 use Rattle.progress.specs.LostVotes.{ComesBack, GoesOn, HasLostVote, HasReturnedVote, reminder_and_one, reminder_and_two}
 use Rattle.world.specs.Coherence.{Names}
-use Rattle.progress.proofs.invariants.Kept.{IsKept}
+use Rattle.progress.proofs.invariants.Kept.{WorldIsKept}
 use Rattle.progress.specs.Rules.{Laws}
 use Rattle.progress.proofs.run.Moves.{voter_here}
 
@@ -85,7 +85,7 @@ after-release : (laws : Laws) (deal : Dealing) (w : WorldState) (v : ℕ) (g : G
 unfolding reminded
 after-release laws deal w v g o takes = after-deliver_voter deal (answered w v g) (length (reminded w v).sent) (answer w v g) o (get_next (reminded w v).sent (kinds.ToVoter (answer w v g)) []) takes
 
-pub comes_back : Laws → (deal : Dealing) (w : WorldState) (v : ℕ) (g : Grant) → IsKept deal w → HasLostVote w v g → ComesBack deal w v g
+pub comes_back : Laws → (deal : Dealing) (w : WorldState) (v : ℕ) (g : Grant) → WorldIsKept deal w → HasLostVote w v g → ComesBack deal w v g
 unfolding reminded
 comes_back laws deal w v g r lost =
     let ok = (r []).coherent in
@@ -156,7 +156,7 @@ not_held x v n held g c sound is few names = false_from_ne_true (holds x v) (λ 
     let fresh = (sound.held v has).fresh in
     (let x : ⊥ = omega arith in x))
 
-pub goes_on : Laws → (deal : Dealing) (w : WorldState) (v : ℕ) (g : Grant) → IsKept deal w → HasReturnedVote w v g → GoesOn deal w v g
+pub goes_on : Laws → (deal : Dealing) (w : WorldState) (v : ℕ) (g : Grant) → WorldIsKept deal w → HasReturnedVote w v g → GoesOn deal w v g
 unfolding spoken
 goes_on laws deal w v g r back =
     let c = g.client in

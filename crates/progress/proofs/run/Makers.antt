@@ -27,7 +27,7 @@ use Rattle.world_state.specs.Steps.{Dealing, Outcome, WorldState, after_client, 
 use Rattle.world.proofs.Claims.{Bounds, WorldOk}
 use Rattle.world.proofs.EveryRun.{coherent_by}
 use Rattle.world.proofs.Exclusion.{Walked, one_inside}
-use Rattle.world.proofs.Reached.{Given, RunOk}
+use Rattle.world.proofs.Reached.{RunPremises, RunOk}
 use Rattle.progress.proofs.run.Moves.{Came, ClientMoved, VoterMoved, client_made, voter_made}
 
 -- ---- a world that is so is coherent
@@ -51,7 +51,7 @@ unfolding client_at
 outside_beyond u d beyond = ap (λ (x : ClientState). is_inside x.phase) (get_or_past u.clients d (requester.start 0 1) beyond)
 
 -- somebody may have entered: then it is inside
-shows_inside : (b : Bounds) → Given b → (w : WorldState) → WorldOk b (client_at w.clients) (voter_at w.voters) w.sent → (es : List Event) × Walked es (client_at w.clients)
+shows_inside : (b : Bounds) → RunPremises b → (w : WorldState) → WorldOk b (client_at w.clients) (voter_at w.voters) w.sent → (es : List Event) × Walked es (client_at w.clients)
 shows_inside b given w ok = elim (inside_below w (length w.clients)) [
   | inl none ↦ ([], record { list = tt; inside = λ c. elim (cases_below c (length w.clients)) [ inl less ↦ none c less | inr beyond ↦ outside_beyond w c beyond ] })
   | inr one ↦
@@ -94,7 +94,7 @@ coherent_unseen w es ok = record {
   common = ok.common;
 }
 
-pub coherent_world : (b : Bounds) → Given b → (w : WorldState) → length w.clients ≡ b.clients → length w.voters ≡ b.voters → WorldOk b (client_at w.clients) (voter_at w.voters) w.sent → IsCoherent w
+pub coherent_world : (b : Bounds) → RunPremises b → (w : WorldState) → length w.clients ≡ b.clients → length w.voters ≡ b.voters → WorldOk b (client_at w.clients) (voter_at w.voters) w.sent → IsCoherent w
 coherent_world b given w clients voters ok =
     let seen = shows_inside b given w ok in
     let run : RunOk b (record w { visible = seen.0 }) = record { clients = clients; voters = voters; world = ok; walked = seen.1 } in
@@ -103,20 +103,20 @@ coherent_world b given w clients voters ok =
 -- ---- who makes a step
 
 -- only these messages were sent
-pub record Says (w u : WorldState) (more : List Message) : Type 0 where
+pub record OnlySays (w u : WorldState) (more : List Message) : Type 0 where
   pub clients : u.clients ≡ w.clients
   pub voters : u.voters ≡ w.voters
   pub sent : u.sent ≡ w.sent ++ more
   pub visible : u.visible ≡ w.visible
 
 -- this client or voter took a step, or was reminded
-abbrev pub By : Node → WorldState → WorldState → Type 0
-By (OneClient c) w u = (c < length w.clients) × (((k : ClientMoved w u) × (k.who ≡ c)) ⊎ Says w u (map kinds.ToVoter (requester.remind (client_at w.clients c))))
-By (OneVoter v) w u = (v < length w.voters) × (((k : VoterMoved w u) × (k.message.voter ≡ v)) ⊎ Says w u (map kinds.ToClient (voter.remind (voter_at w.voters v))))
-By Nobody w u = Says w u []
+abbrev pub MadeBy : Node → WorldState → WorldState → Type 0
+MadeBy (OneClient c) w u = (c < length w.clients) × (((k : ClientMoved w u) × (k.who ≡ c)) ⊎ OnlySays w u (map kinds.ToVoter (requester.remind (client_at w.clients c))))
+MadeBy (OneVoter v) w u = (v < length w.voters) × (((k : VoterMoved w u) × (k.message.voter ≡ v)) ⊎ OnlySays w u (map kinds.ToClient (voter.remind (voter_at w.voters v))))
+MadeBy Nobody w u = OnlySays w u []
 
 abbrev ByIf : Node → WorldState → Result Outcome WorldFault → Type 0
-ByIf who w (Ok o) = By who w o.state
+ByIf who w (Ok o) = MadeBy who w o.state
 ByIf who w (Err fault) = Unit {0}
 
 by_client : (w : WorldState) (c : ℕ) (cause : requester.Cause) → c < length w.clients → Came w c cause → (r : Result requester.Outcome ClientFault) → requester.step (client_at w.clients c) cause ≡ r
@@ -165,5 +165,5 @@ by_maker deal w ok (RemindVoter v) = by_voter_one w (nat_lt v (length w.voters))
     (λ t. (ltb-true _ _ t, inr (record { clients = refl; voters = refl; sent = refl; visible = refl })))
 by_maker deal w ok Exchange = by_exchange w _ w.side
 
-pub made_by : (deal : Dealing) (w : WorldState) → IsNumbered w → (s : Step) (o : Outcome) → step deal w s ≡ Ok o → By (maker w s) w o.state
+pub made_by : (deal : Dealing) (w : WorldState) → IsNumbered w → (s : Step) (o : Outcome) → step deal w s ≡ Ok o → MadeBy (maker w s) w o.state
 made_by deal w ok s o is = subst (λ r. ByIf (maker w s) w r) is (by_maker deal w ok s)

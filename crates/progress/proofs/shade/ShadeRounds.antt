@@ -67,13 +67,13 @@ contains_image k deal w moves t there =
     (Contains-append_right begin rest (shifted (length (extra k)) t) (contains_here (shifted (length (extra k)) t) (shifted (length (extra k)) t) _ refl))
 
 -- a message between live ones that is sent on this step
-record Sent (k : Shading) (y t u z : WorldState) (j : ℕ) : Type 0 where
+record SentLive (k : Shading) (y t u z : WorldState) (j : ℕ) : Type 0 where
   number : ℕ
   is : length (extra k) + number ≡ j
   least : length y.sent ≤ number
   between : is_between k.live (slice_get u.sent number) ≡ true
 
-sent_in : (k : Shading) (p : Course) (a b : List Event) (y t u z : WorldState) → Shades k p a b y t → Shades k p a b u z → (j : ℕ) → length t.sent ≤ j → is_between k.live (slice_get z.sent j) ≡ true → Sent k y t u z j
+sent_in : (k : Shading) (p : Course) (a b : List Event) (y t u z : WorldState) → Shades k p a b y t → Shades k p a b u z → (j : ℕ) → length t.sent ≤ j → is_between k.live (slice_get z.sent j) ≡ true → SentLive k y t u z j
 sent_in k p a b y t u z h g j least between =
     let n = length (extra k) in
     let many : length t.sent ≡ n + length y.sent = ap length h.shade.sent ∙ length-append (extra k) y.sent in

@@ -36,13 +36,13 @@ use Rattle.world.proofs.Claims.{Bounds}
 use Rattle.world.proofs.EveryRun.{coherent_by, run_from, run_ok}
 use Rattle.world.proofs.Places.{client_here, client_others}
 use Rattle.world.proofs.Plans.{run_then}
-use Rattle.world.proofs.Reached.{Given, RunOk}
+use Rattle.world.proofs.Reached.{RunPremises, RunOk}
 use Rattle.progress.specs.LiveRounds.{AreGone, AreLiveRounds, HasGrantsThere, IsDead, IsOut, LetsGoOfDead, Live, SparesIn, SparesLive, live_below}
 use Rattle.progress.specs.Moves.{EachMove, Goes, IsNotBy, LetsGo, Move, hasty_among, late_among, move, moved, moves_of, of_moves, of_steps, steps_among}
 use Rattle.progress.specs.Patience.{hasty_in}
 use Rattle.progress.specs.Rounds.{DoesNotGiveUp, IsStill, give_ups_in, late_in, steps_of}
 use Rattle.progress.specs.Rules.{Laws}
-use Rattle.progress.proofs.invariants.Always.{HasSeen, Heeds, WasGiven}
+use Rattle.progress.proofs.invariants.Always.{VoterHasSeen, Heeds, WasGiven}
 use Rattle.progress.proofs.block.Blocks.{live_is_block}
 use Rattle.progress.proofs.losses.Olds.{AreOld, no_olds, olds_of}
 use Rattle.progress.proofs.invariants.Outstanding.{IsNotedAt}
@@ -58,7 +58,7 @@ use Rattle.progress.proofs.patience.Waiting.{moves_by, somebody_by}
 -- what a world rests on, beside what is sure: its quorums meet
 pub record Rests (deal : Dealing) (w : WorldState) : Type 0 where
   pub bounds : Bounds
-  pub given : Given bounds
+  pub given : RunPremises bounds
   pub deals : DealsFrom bounds.quorums deal
   pub ok : RunOk bounds w
 
@@ -137,7 +137,7 @@ pub ends : (ℕ → Bool) → WorldState → ℕ → List Step
 ends dead w zero = []
 ends dead w (suc n) = ends dead w n ++ (if dead n then quit_of (client_at w.clients n).phase n else [])
 
-pub record Ended (dead : ℕ → Bool) (n : ℕ) (w x : WorldState) : Type 0 where
+pub record DeadEnded (dead : ℕ → Bool) (n : ℕ) (w x : WorldState) : Type 0 where
   pub voters : x.voters ≡ w.voters
   pub clients : length x.clients ≡ length w.clients
   pub same : (c : ℕ) → (dead c ≡ false) ⊎ (n ≤ c) → client_at x.clients c ≡ client_at w.clients c
@@ -151,7 +151,7 @@ pub record Ended (dead : ℕ → Bool) (n : ℕ) (w x : WorldState) : Type 0 whe
   pub sent : x.sent ≡ w.sent ++ more
 
 -- the next client is not dead
-ended_on : (dead : ℕ → Bool) (n : ℕ) (w x : WorldState) → Ended dead n w x → dead n ≡ false → Ended dead (suc n) w x
+ended_on : (dead : ℕ → Bool) (n : ℕ) (w x : WorldState) → DeadEnded dead n w x → dead n ≡ false → DeadEnded dead (suc n) w x
 ended_on dead n w x h lives = record {
   voters = h.voters;
   clients = h.clients;
@@ -169,7 +169,7 @@ ended_on dead n w x h lives = record {
   sent = h.sent;
 }
 
-ended_one : (dead : ℕ → Bool) (n : ℕ) (w x y : WorldState) → Ended dead n w x → Quits n x y → dead n ≡ true → Ended dead (suc n) w y
+ended_one : (dead : ℕ → Bool) (n : ℕ) (w x y : WorldState) → DeadEnded dead n w x → Quits n x y → dead n ≡ true → DeadEnded dead (suc n) w y
 ended_one dead n w x y h q gone = record {
   voters = q.voters ∙ h.voters;
   clients = q.clients ∙ h.clients;
@@ -199,7 +199,7 @@ ended_one dead n w x y h q gone = record {
   sent = q.sent ∙ ap (λ l. l ++ q.more) h.sent ∙ append_assoc w.sent h.more q.more;
 }
 
-pub ended : (deal : Dealing) (dead : ℕ → Bool) (w : WorldState) (n : ℕ) → n ≤ length w.clients → Ended dead n w (run_of deal (ends dead w n) w)
+pub ended : (deal : Dealing) (dead : ℕ → Bool) (w : WorldState) (n : ℕ) → n ≤ length w.clients → DeadEnded dead n w (run_of deal (ends dead w n) w)
 unfolding ends
 ended deal dead w zero within = record {
   voters = refl;
@@ -218,9 +218,9 @@ ended deal dead w (suc n) within =
     let x = run_of deal (ends dead w n) w in
     let h = ended deal dead w n (omega arith) in
     let count = h.clients in
-    subst (Ended dead (suc n) w) (sym (run_then deal (ends dead w n) (if dead n then quit_of (client_at w.clients n).phase n else []) w)) (by x h (omega arith) (dead n) refl)
+    subst (DeadEnded dead (suc n) w) (sym (run_then deal (ends dead w n) (if dead n then quit_of (client_at w.clients n).phase n else []) w)) (by x h (omega arith) (dead n) refl)
   where
-    by : (x : WorldState) → Ended dead n w x → n < length x.clients → (b : Bool) → dead n ≡ b → Ended dead (suc n) w (run_of deal (if b then quit_of (client_at w.clients n).phase n else []) x)
+    by : (x : WorldState) → DeadEnded dead n w x → n < length x.clients → (b : Bool) → dead n ≡ b → DeadEnded dead (suc n) w (run_of deal (if b then quit_of (client_at w.clients n).phase n else []) x)
     by x h less true is = ended_one dead n w x _ h (quits deal x n less (client_at w.clients n).phase (ap (λ (z : ClientState). z.phase) (h.same n (inr (omega arith))))) is
     by x h less false is = ended_on dead n w x h is
 
@@ -255,7 +255,7 @@ pub under_self : (w : WorldState) → Under nobody [] w w
 under_self w = record { voters = refl; clients = refl; same = λ c _. refl; sent = refl; draws = refl; draws2 = refl; side = refl }
 
 -- what the shade has of the world that was sure, in `steps` of the dead
-pub record Begun (k : Shading) (p : Course) (w s : WorldState) : Type 0 where
+pub record ShadeBegun (k : Shading) (p : Course) (w s : WorldState) : Type 0 where
   pub shades : Shades k p w.visible s.visible w s
   pub few : AreOld p k.first → AreOld p s
   pub heeds : (c : ℕ) → k.dead c ≡ false → Heeds c k.first → Heeds c s
@@ -263,7 +263,7 @@ pub record Begun (k : Shading) (p : Course) (w s : WorldState) : Type 0 where
   pub rests : Rests p.deal s
 
 pub begins : (laws : Laws) (k : Shading) (p : Course) (was : ℕ → Bool) (w : WorldState) → Under was k.others w k.first → ((c : ℕ) → k.dead c ≡ false → was c ≡ false) → Rests p.deal k.first → IsSure p k.first → AreIdle k
-    → Begun k p w (begun p.deal k)
+    → ShadeBegun k p w (begun p.deal k)
 unfolding begun client_at extra
 begins laws k p was real under still rests sure idle =
     let deal = p.deal in
@@ -337,7 +337,7 @@ begins laws k p was real under still rests sure idle =
       };
       few = λ old v. subst (λ (vs : List VoterState). p.old v ≤ suc (voter_at vs v).granted) (sym e.voters) (old v);
       heeds = λ c lives h. record {
-        seen = λ v. subst (λ (z : ClientState). HasSeen c z (voter_at x.voters v)) (sym (e.same c (inl lives))) (subst (λ (vs : List VoterState). HasSeen c (client_at w.clients c) (voter_at vs v)) (sym e.voters) (h.seen v));
+        seen = λ v. subst (λ (z : ClientState). VoterHasSeen c z (voter_at x.voters v)) (sym (e.same c (inl lives))) (subst (λ (vs : List VoterState). VoterHasSeen c (client_at w.clients c) (voter_at vs v)) (sym e.voters) (h.seen v));
         given = AllByRecursion-append (WasGiven x.voters) (releases k) w.sent (each_release (WasGiven x.voters) k (λ c v t down client voter some most. tt))
             (subst (λ (vs : List VoterState). AllByRecursion (WasGiven vs) w.sent) (sym e.voters) h.given);
       };
@@ -548,7 +548,7 @@ rests_reached clients voters dealt w r =
     let d = dealt w r in
     let deal = dealing_of w.plans in
     let b : Bounds = record { voters = w.plans.first.system.voters; clients = r.clients; limit = r.limit; quorums = d.0 } in
-    let given : Given b = record { client = clients; voter = voters; limits = r.limits; meet = d.1 } in
+    let given : RunPremises b = record { client = clients; voter = voters; limits = r.limits; meet = d.1 } in
     subst (Rests deal) (sym r.state) (record { bounds = b; given = given; deals = d.2; ok = run_ok b given deal d.2 r.steps })
 
 unfoldable pub reached_runs : Laws → ClientLaws → VoterLaws → AllDeal → (live : Live) (w : Planned) (rounds : List (List Move)) → IsReached w → AreLiveRounds of_moves live (dealing_of w.plans) w.state rounds

@@ -5,18 +5,18 @@ use Rattle.std.specs.FinMap as fin
 use Rattle.std.specs.FinMap.{get}
 use Rattle.message.specs.Requests.{precedes}
 use Rattle.voter.specs.Waiting.{IsQueue, waiting_of}
-use Rattle.voter.proofs.Queues.{IsNew, IsNew-from_get, waiting_of-placed, IsQueue-placed, length-IsQueue, insert-placed, placed}
+use Rattle.voter.proofs.Queues.{IsNewClient, IsNew-from_get, waiting_of-placed, IsQueue-placed, length-IsQueue, insert-placed, placed}
 use Rattle.voter.proofs.queue.Queue.add.Goals as goal
 
 pub insert-requires : goal.insert-requires
 insert-requires c =
     let old = c.self.inside.requests.items in
     let r = c.args.request in
-    let new : IsNew r old = IsNew-from_get r old (ap (λ m. get m r.client) c.self.view_is ∙ c.requires.first) in
+    let new : IsNewClient r old = IsNew-from_get r old (ap (λ m. get m r.client) c.self.view_is ∙ c.requires.first) in
     let room : length old < 64 = length-IsQueue r old c.requires.client new c.self.invariant in
     (lit< tt, (rw (← c.as_slice.ensures.value) c.place_of-place.ensures.bound, room))
 
-is_new : (c : goal.After-insert) → IsNew c.args.request c.self.inside.requests.items
+is_new : (c : goal.After-insert) → IsNewClient c.args.request c.self.inside.requests.items
 is_new c = IsNew-from_get c.args.request _ (ap (λ m. get m c.args.request.client) c.self.view_is ∙ c.requires.first)
 
 is_placed : (c : goal.After-insert) → c.insert.new.self.items ≡ placed c.args.request c.self.inside.requests.items
