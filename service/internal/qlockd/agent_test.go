@@ -671,7 +671,13 @@ func TestSocket(t *testing.T) {
 	if _, err := Listen(path, ""); !errors.Is(err, ErrInUse) {
 		t.Error(err)
 	}
-	left.(*net.UnixListener).SetUnlinkOnClose(false)
+	if err := os.Remove(path + ".lock"); err != nil { // somebody cleans up
+		t.Fatal(err)
+	}
+	if _, err := Listen(path, ""); !errors.Is(err, ErrInUse) {
+		t.Error(err)
+	}
+	left.(*socket).SetUnlinkOnClose(false)
 	_ = left.Close()
 	again, err := Listen(path, groupOf(t))
 	if err != nil || mode() != 0o660 {
@@ -681,6 +687,14 @@ func TestSocket(t *testing.T) {
 	if _, err := Listen(path, "there-is-none"); !errors.Is(err, config.ErrConfig) {
 		t.Error(err)
 	}
+	other, err := lockOf(path) // an agent that starts just now
+	if err != nil {
+		t.Fatal(err)
+	}
+	if _, err := Listen(path, ""); !errors.Is(err, ErrInUse) {
+		t.Error(err)
+	}
+	_ = other.Close()
 	if err := os.WriteFile(path, nil, 0o600); err != nil {
 		t.Fatal(err)
 	}
