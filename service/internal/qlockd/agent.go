@@ -70,17 +70,6 @@ type session struct {
 // ttl returns the TTL of the cluster.
 func (s *session) ttl() time.Duration { return s.cluster.TTL.Duration }
 
-// isCutOff returns whether the voters that are heard contain no quorum.
-func (s *session) isCutOff() bool {
-	heard := ^uint64(0)
-	for _, name := range s.Silent() {
-		if number := s.cluster.Number(name); number >= 0 {
-			heard &^= 1 << number
-		}
-	}
-	return !s.cluster.HasQuorums(heard)
-}
-
 // New returns an agent that has no session yet.
 func New(c Config) *Agent {
 	a := &Agent{config: c, closing: make(chan struct{}), changed: make(chan struct{}), places: map[string]*place{},

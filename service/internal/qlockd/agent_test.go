@@ -61,6 +61,11 @@ func (l *lines) text() string {
 	return string(text)
 }
 
+// grown has two voters more. Each of its quorums has two of the old ones, and one of the new ones.
+const grown = `voters = ["a", "b", "c", "d", "e"]
+quorums = [["a", "b", "d"], ["a", "c", "e"], ["b", "c", "d"], ["b", "c", "e"]]
+`
+
 // start starts a cluster, and an agent.
 func start(t *testing.T, ttl time.Duration) *host {
 	t.Helper()
@@ -593,6 +598,22 @@ func TestWithoutVoters(t *testing.T) {
 	status, body := h.call("GET", "/v1/status")
 	if status != http.StatusOK || !strings.Contains(body, `"cluster":"test","ttl_ms":20000,"session":`) {
 		t.Error(status, body)
+	}
+}
+
+// Whether a quorum is heard goes by the plan that is in use, not by the one with which the session began.
+func TestCutOffAfterAnExchange(t *testing.T) {
+	h := start(t, ttl)
+	h.until("there", func() bool { status, _ := h.call("GET", "/healthz"); return status == http.StatusOK })
+	h.world.Exchange(grown)
+	h.until("given", func() bool { return h.world.Install() == nil })
+	h.until("retired", func() bool { return h.world.Retire() == nil })
+	h.until("healthy", func() bool { status, _ := h.call("GET", "/healthz"); return status == http.StatusOK })
+	h.world.Kill(3)
+	h.world.Kill(4)
+	h.until("cut off", func() bool { status, _ := h.call("GET", "/healthz"); return status == http.StatusGatewayTimeout })
+	if got := h.refused("x?wait=300ms"); got != "504 unreachable" {
+		t.Error(got)
 	}
 }
 

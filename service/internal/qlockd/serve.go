@@ -168,7 +168,7 @@ func (a *Agent) status() Status {
 func (a *Agent) health(w http.ResponseWriter, _ *http.Request) {
 	if s, why, _ := a.current(); s == nil {
 		a.refuse(w, fmt.Errorf("%w: %v", errNoSession, why))
-	} else if s.isCutOff() {
+	} else if s.IsCutOff() {
 		a.refuse(w, fmt.Errorf("%w that reaches a quorum: these voters are silent: %s", errNoSession, strings.Join(s.Silent(), ", ")))
 	} else {
 		answer(w, a.status())
@@ -283,7 +283,7 @@ func (a *Agent) explain(connection context.Context, s *session, of asked, err er
 	if names := s.Silent(); len(names) > 0 {
 		silent = "; these voters are silent: " + strings.Join(names, ", ")
 	}
-	if s.isCutOff() {
+	if s.IsCutOff() {
 		return fmt.Errorf("%s: %w that reaches a quorum%s", of.name, errNoSession, silent)
 	}
 	return fmt.Errorf("%s: %w, for %v%s", of.name, errTimeout, of.wait, silent)
