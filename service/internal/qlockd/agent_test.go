@@ -372,6 +372,41 @@ func TestTooManyConnections(t *testing.T) {
 	_ = s.connection.Close()
 }
 
+// Who reaches the address of /metrics can't use up the agent's files.
+func TestTooManyWhoLook(t *testing.T) {
+	h := start(t, ttl)
+	free, err := net.Listen("tcp", "127.0.0.1:0")
+	if err != nil {
+		t.Fatal(err)
+	}
+	address := free.Addr().String()
+	_ = free.Close()
+	ctx, cancel := context.WithCancel(context.Background())
+	defer cancel()
+	if err := h.agent.Show(ctx, address); err != nil {
+		t.Fatal(err)
+	}
+	var idle []net.Conn
+	for n := 0; n < mostShown+4; n++ {
+		connection, err := net.Dial("tcp", address)
+		if err != nil {
+			t.Fatal(err)
+		}
+		idle = append(idle, connection)
+	}
+	h.until("too many", func() bool { return h.agent.counts.all()["connections"] > 0 })
+	for _, connection := range idle {
+		_ = connection.Close()
+	}
+	h.until("room again", func() bool {
+		reply, err := http.Get("http://" + address + "/healthz")
+		if err != nil {
+			return false
+		}
+		return reply.Body.Close() == nil
+	})
+}
+
 // Who waits and dies waits no more.
 func TestDeadWaiterIsForgotten(t *testing.T) {
 	h := start(t, ttl)
