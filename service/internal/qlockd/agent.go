@@ -63,7 +63,8 @@ type Agent struct {
 	why     error    // why there is none
 	changed chan struct{}
 	places  map[string]*place
-	last    uint64 // of the places so far
+	holders map[string]*place // by the names of locks: who has it, or had it last
+	last    uint64            // of the places so far
 }
 
 // session is a session of the lock service, and its cluster as it began.
@@ -78,7 +79,7 @@ func (s *session) ttl() time.Duration { return s.cluster.TTL.Duration }
 
 // New returns an agent that has no session yet.
 func New(c Config) *Agent {
-	a := &Agent{config: c, closing: make(chan struct{}), changed: make(chan struct{}), places: map[string]*place{},
+	a := &Agent{config: c, closing: make(chan struct{}), changed: make(chan struct{}), places: map[string]*place{}, holders: map[string]*place{},
 		why: errors.New("it has just started, and waits for voters")}
 	a.registry = a.newRegistry()
 	return a
@@ -87,7 +88,7 @@ func New(c Config) *Agent {
 // Serve answers what comes to a socket until the context ends. Then it tells who has a lock, and waits for them for a TTL.
 func (a *Agent) Serve(ctx context.Context, listener net.Listener) error {
 	server := a.server(a.handler())
-	server.ConnContext = withPeer
+	server.ConnContext = withCaller
 	failed := make(chan error, 1)
 	go func() { failed <- a.serve(server, bounded{listener, a.config.Connections, &a.connections, a}) }()
 	sessions, stop := context.WithCancel(context.Background())
@@ -257,23 +258,26 @@ func (a *Agent) session(ctx context.Context) (*session, error) {
 	}
 }
 
-// take takes a lock. If the session ends meanwhile it asks anew in the next one.
-func (a *Agent) take(ctx context.Context, asked asked) (*locks.Held, *session, error) {
+// take takes a lock for a place. If the session ends meanwhile it asks anew in the next one.
+func (a *Agent) take(ctx context.Context, p *place, asked asked) (*session, error) {
 	if !wire.IsName([]byte(asked.name)) {
-		return nil, nil, fmt.Errorf("%w: %q", locks.ErrName, asked.name)
+		return nil, fmt.Errorf("%w: %q", locks.ErrName, asked.name)
 	}
 	for {
 		s, err := a.session(ctx)
 		if err != nil {
-			return nil, nil, err
+			return nil, err
 		}
 		take := s.LockFor
 		if asked.tries {
 			take = s.TryLockFor
 		}
 		held, err := take(ctx, asked.name, asked.whom)
-		if err == nil || s.Err() == nil || ctx.Err() != nil {
-			return held, s, err
+		if err == nil {
+			err = a.hold(ctx, p, held, s, asked.tries)
+		}
+		if again := s.Err() != nil || errors.Is(err, locks.ErrLapsed); err == nil || !again || ctx.Err() != nil {
+			return s, err
 		}
 	}
 }
