@@ -592,7 +592,11 @@ func TestUsersThatAreLookedUp(t *testing.T) {
 		if status, body := h.call("GET", "/v1/status"); status != http.StatusOK {
 			t.Error(status, body)
 		}
-		fails <- one.err
+		select {
+		case fails <- one.err:
+		case <-time.After(20 * time.Second):
+			t.Fatal("nobody looks the user up")
+		}
 		if status := s.status(); status != http.StatusOK {
 			t.Fatal(status, s.line())
 		}
