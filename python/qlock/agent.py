@@ -90,7 +90,9 @@ class _Connection:
     def __init__(self, path: str, call: str, limit: Optional[float]) -> None:
         self._rest = b""
         self._limit = None if limit is None else time.monotonic() + limit
-        self.socket = sockets.socket(sockets.AF_UNIX, sockets.SOCK_STREAM)
+        with _forks:
+            self.socket = sockets.socket(sockets.AF_UNIX, sockets.SOCK_STREAM)
+            _connections.add(self)
         try:
             self._set_timeout()
             self.socket.connect(path)
@@ -111,11 +113,11 @@ class _Connection:
     def line(self, most: Optional[float] = None) -> Optional[bytes]:
         """Returns the next line without its end, b"" at the end of the connection, and None if none came in time."""
         while b"\n" not in self._rest:
-            if most is None:
-                self._set_timeout()
-            else:
-                self.socket.settimeout(most)
             try:
+                if most is None:
+                    self._set_timeout()
+                else:
+                    self.socket.settimeout(most)
                 more = self.socket.recv(1 << 16)
             except sockets.timeout:
                 return None
@@ -152,7 +154,13 @@ class _Connection:
         return json.loads(self._text())
 
     def close(self) -> None:
+        """Ends the connection, also if another process has it, too."""
+        try:
+            self.socket.shutdown(sockets.SHUT_RDWR)
+        except OSError:
+            pass  # it has ended
         self.socket.close()
+        _connections.discard(self)
 
 
 class Client:
@@ -228,6 +236,7 @@ class Held:
         self._on_lost = on_lost
         self._is_over = False
         self._is_unlocked = False
+        self._ended = threading.Event()  # the reader knows that the lock is over
         connection.lines_for_ever()
         _all_held.add(self)
         self._reader = threading.Thread(target=self._read, name=f"lock {name}", daemon=True)
@@ -242,6 +251,7 @@ class Held:
         self.why = self._end()
         was_given_back = self._is_over
         self.lost.set()
+        self._ended.set()
         if not was_given_back and self._on_lost:
             self._on_lost(self)
 
@@ -249,9 +259,10 @@ class Held:
         """Waits until the lock is over, and returns why, "" if it was given back."""
         while True:
             left = self._until - _uptime()
-            if left <= 0:
+            # what came while this process stood still is read before it counts as silence
+            line = self._connection.line(min(max(left, 0.001), _LOOK))
+            if line is None and left <= 0:
                 return "silence"
-            line = self._connection.line(min(left, _LOOK))
             if line is None:
                 continue
             try:
@@ -259,8 +270,8 @@ class Held:
             except ValueError:
                 return "connection"
             if said.get("unlocked"):
-                self._is_unlocked = True
-                return ""
+                self._is_unlocked = self._is_over
+                return "" if self._is_over else "unlocked"  # another process gave it back
             if said.get("lost"):
                 return str(said.get("why", "lost"))
             self._until = said.get("until_ms", self._until * 1000) / 1000
@@ -275,8 +286,8 @@ class Held:
             self._connection.socket.shutdown(sockets.SHUT_WR)
         except OSError:
             pass  # the connection has ended
-        if threading.current_thread() is not self._reader:
-            self._reader.join(max(self._until - _uptime(), 0.0) + 2 * _LOOK)
+        while not self._ended.wait(2 * _LOOK) and self._until > _uptime():
+            pass
         self.lost.set()
         self._connection.close()
         _all_held.discard(self)
@@ -288,7 +299,6 @@ class Held:
         self.lost = threading.Event()
         self.lost.set()
         self._is_over, self.why = True, "fork"
-        self._connection.close()
 
     def __enter__(self) -> "Held":
         return self
@@ -304,13 +314,24 @@ class Held:
 
 
 _all_held: "weakref.WeakSet[Held]" = weakref.WeakSet()
+_connections: "weakref.WeakSet[_Connection]" = weakref.WeakSet()
+# Held by who makes a connection, and who forks: each connection that a child has is known.
+_forks = threading.RLock()
 
 
 def _leave_all() -> None:
+    """Lets a forked child have nothing of its parent, who keeps it: a connection is closed here, and not shut down."""
+    for connection in list(_connections):
+        try:
+            connection.socket.close()
+        except OSError:
+            pass  # somebody closed its file
+    _connections.clear()
     for held in list(_all_held):
         held._leave()
     _all_held.clear()
+    _forks.release()
 
 
-# A child has the connections of its parent, too: a lock would last until both are gone.
-os.register_at_fork(after_in_child=_leave_all)
+# A child has the connections of its parent, too: a lock would last until both are gone, also one that is only waited for.
+os.register_at_fork(before=_forks.acquire, after_in_parent=_forks.release, after_in_child=_leave_all)

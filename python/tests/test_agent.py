@@ -13,11 +13,25 @@ import unittest
 import unittest.mock
 from pathlib import Path
 
-from qlock.agent import AgentFault, BadName, Client, Full, HeldElsewhere, Lost, NotInTime, Unreachable
+from qlock.agent import AgentFault, BadName, Client, Full, HeldElsewhere, Lost, NotInTime, Unreachable, _connections
 
 PROGRAMS = Path(os.environ.get("QLOCK_PROGRAMS") or Path(__file__).resolve().parents[2] / "service" / "out" / "bin")
 NATS = shutil.which("nats-server", path=os.environ.get("PATH", "") + ":/usr/sbin")
 NAMES = ("qlock-voter", "qlockctl", "qlockd")
+
+PACKAGES = os.path.dirname(os.path.dirname(os.path.abspath(sys.modules["qlock"].__file__)))
+
+FORKS_AS_IT_WAITS = """
+import os, sys, threading, time
+from qlock.agent import Client
+
+threading.Thread(target=Client(sys.argv[1]).lock, args=("x",), daemon=True).start()
+sys.stdin.readline()
+child = os.fork()
+if child:
+    print(child, flush=True)
+time.sleep(60)
+"""
 
 
 def uptime():
@@ -182,6 +196,60 @@ class WithMadeUpAgent(unittest.TestCase):
         os.close(reading)
         os.close(writing)
 
+    def test_forked_child_keeps_no_call_that_waits(self):
+        got = self.agent.next("")
+        with subprocess.Popen([sys.executable, "-c", FORKS_AS_IT_WAITS, self.agent.path], stdin=subprocess.PIPE,
+                              stdout=subprocess.PIPE, env={**os.environ, "PYTHONPATH": PACKAGES}) as parent:
+            self.assertTrue(eventually(lambda: len(got) == 2))
+            parent.stdin.write(b"fork\n")
+            parent.stdin.flush()
+            self.addCleanup(os.kill, int(parent.stdout.readline()), signal.SIGKILL)
+            parent.kill()
+        got[1].settimeout(20)
+        self.assertEqual(got[1].recv(1), b"")
+
+    def test_call_that_fails_ends_its_connection_for_all(self):
+        got = self.agent.next("")
+        with unittest.mock.patch("qlock.agent._REPLY", 0.3):
+            waits = threading.Thread(target=lambda: self.assertRaises(Unreachable, self.client.lock, "x", wait=0.5))
+            waits.start()
+            self.assertTrue(eventually(lambda: len(got) == 2))
+            (connection,) = _connections
+            copy = connection.socket.dup()  # as a child has it that Python knows nothing of
+            self.addCleanup(copy.close)
+            waits.join()
+        got[1].settimeout(20)
+        self.assertEqual(got[1].recv(1), b"")
+
+    def test_given_back_by_another_process(self):
+        heard = []
+        held, got = self.take(first(), on_lost=heard.append)
+        got[1].sendall(b'{"unlocked":true}\n')
+        self.assertTrue(held.lost.wait(20))
+        self.assertTrue(eventually(lambda: heard == [held]))
+        with self.assertRaises(Lost), held:
+            pass
+        self.assertEqual(held.why, "unlocked")
+
+    def test_what_came_meanwhile_is_no_silence(self):
+        held, got = self.take(first())
+        late, ended = ({"left_ms": 0, "until_ms": int((uptime() + left) * 1000)} for left in (-1.0, 60.0))
+        got[1].sendall("".join(json.dumps(line) + "\n" for line in (late, ended)).encode())
+        self.assertTrue(eventually(lambda: held._until > uptime() + 30 or held.lost.is_set()))
+        self.assertFalse(held.lost.wait(0.3))
+        threading.Timer(0.1, lambda: got[1].sendall(b'{"unlocked":true}\n')).start()
+        held.unlock()
+
+    def test_unlock_does_not_wait_for_on_lost(self):
+        stop, ended = threading.Event(), []
+        held, got = self.take(first(), on_lost=lambda _: ended.append(stop.wait(20)))
+        got[1].sendall(b'{"lost":true,"why":"session"}\n')
+        self.assertTrue(held.lost.wait(20))
+        with self.assertRaises(Lost):
+            held.unlock()
+        self.assertEqual(ended, [])
+        stop.set()
+
     def test_socket_of_the_environment(self):
         with unittest.mock.patch.dict(os.environ, QLOCK_AGENT=self.agent.path):
             self.agent.next(head(200, {"locks": [{"lock": "x"}]}))
@@ -250,8 +318,7 @@ class WithAgent(unittest.TestCase):
             "import sys, time; from qlock.agent import Client; "
             "held = Client(sys.argv[1]).lock('y'); print('held', flush=True); time.sleep(60)"
         )
-        path = os.path.dirname(os.path.dirname(os.path.abspath(sys.modules["qlock"].__file__)))
-        words, given = [sys.executable, "-c", text, self.socket], {**os.environ, "PYTHONPATH": path}
+        words, given = [sys.executable, "-c", text, self.socket], {**os.environ, "PYTHONPATH": PACKAGES}
         with subprocess.Popen(words, stdout=subprocess.PIPE, env=given) as other:
             self.assertEqual(other.stdout.readline(), b"held\n")
             with self.assertRaises(HeldElsewhere):

@@ -96,6 +96,7 @@ type Held struct {
 	once       sync.Once     // of lost
 	ended      chan struct{} // closed when the agent says nothing more
 	unlocked   bool          // the agent said that it was given back in time; known once ended is closed
+	silent     atomic.Bool   // Lost closed since the agent said nothing
 	over       atomic.Bool   // Unlock was called
 }
 
@@ -148,7 +149,7 @@ func (c *Client) take(ctx context.Context, name string, query url.Values) (*Held
 	<-done
 	if err == nil && limit.Err() == nil {
 		go held.read()
-		go held.watch()
+		go held.watch(catchUp)
 		return held, nil
 	}
 	_ = connection.Close()
@@ -253,7 +254,7 @@ func (h *Held) read() {
 		case err != nil || said.Lost:
 			return
 		case said.Unlocked:
-			h.unlocked = true
+			h.unlocked = h.over.Load() // or else another process gave it back
 			return
 		case said.Until > 0:
 			h.until.Store(said.Until)
@@ -261,19 +262,29 @@ func (h *Held) read() {
 	}
 }
 
+// How long watch and Unlock wait between two looks, and watch for what the agent said while this process stood still.
+const (
+	pause   = 50 * time.Millisecond
+	catchUp = 10 * time.Millisecond
+)
+
 // watch closes Lost once the lock may have ended, though the agent says nothing.
-func (h *Held) watch() {
-	ticker := time.NewTicker(50 * time.Millisecond)
+func (h *Held) watch(catchUp time.Duration) {
+	ticker := time.NewTicker(pause)
 	defer ticker.Stop()
 	for {
 		select {
 		case <-h.lost:
 			return
 		case <-ticker.C:
-			if h.left() <= 0 {
-				h.lapse()
-				return
-			}
+		}
+		if h.left() > 0 {
+			continue
+		}
+		if time.Sleep(catchUp); h.left() <= 0 {
+			h.silent.Store(true)
+			h.lapse()
+			return
 		}
 	}
 }
@@ -319,17 +330,25 @@ func (h *Held) Unlock() error {
 	if err := h.connection.CloseWrite(); err != nil {
 		return fmt.Errorf("%w: %v", ErrLost, err)
 	}
-	for h.left() > 0 {
+	return h.await(pause)
+}
+
+// await waits until the agent says that the lock was given back. It looks at the clock after a pause only: what the agent said
+// while this process stood still is read first.
+func (h *Held) await(pause time.Duration) error {
+	for {
 		select {
 		case <-h.ended:
-			if h.unlocked {
+			if h.unlocked && !h.silent.Load() {
 				return nil
 			}
 			return ErrLost
-		case <-time.After(50 * time.Millisecond):
+		case <-time.After(pause):
+			if h.left() <= 0 {
+				return ErrLost
+			}
 		}
 	}
-	return ErrLost
 }
 
 // Context returns a context for work that needs the lock: it ends when the lock may be lost, is given back, or the parent

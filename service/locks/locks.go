@@ -348,6 +348,14 @@ func (c *Client) Silent() (names []string) {
 	return names
 }
 
+// IsCutOff returns whether the voters that are not silent contain no quorum, by the plans that are in use now. It is true once
+// the client is closed.
+func (c *Client) IsCutOff() bool {
+	hasQuorum := false
+	_ = c.call(func() error { hasQuorum = c.hasQuorum(^c.silent(time.Now())); return nil })
+	return !hasQuorum
+}
+
 // Stats returns what the client did so far.
 func (c *Client) Stats() (s Stats) {
 	if c.call(func() error { s = c.stats; return nil }) != nil {

@@ -3,9 +3,11 @@ package main
 import (
 	"context"
 	"encoding/hex"
+	"encoding/json"
 	"errors"
 	"io"
 	"net"
+	"net/http"
 	"path/filepath"
 	"strings"
 	"testing"
@@ -54,6 +56,28 @@ func runs(t *testing.T, words ...string) int {
 	return end.code
 }
 
+// deletes gives a lock back once another process has it.
+func deletes(socket, lock string) {
+	client := &http.Client{Transport: &http.Transport{DisableKeepAlives: true,
+		DialContext: func(ctx context.Context, _, _ string) (net.Conn, error) {
+			return (&net.Dialer{}).DialContext(ctx, "unix", socket)
+		}}}
+	call := func(method, query string, into interface{}) {
+		request, _ := http.NewRequest(method, "http://q/v1/locks/"+lock+query, nil)
+		if reply, err := client.Do(request); err == nil {
+			_ = json.NewDecoder(reply.Body).Decode(into)
+			_ = reply.Body.Close()
+		}
+	}
+	var list struct{ Locks []struct{ ID string } }
+	for end := time.Now().Add(30 * time.Second); time.Now().Before(end); time.Sleep(5 * time.Millisecond) {
+		if call("GET", "", &list); len(list.Locks) == 1 && list.Locks[0].ID != "" {
+			call("DELETE", "?id="+list.Locks[0].ID, &struct{}{})
+			return
+		}
+	}
+}
+
 // By an agent each exit status is the same as without one.
 func TestRunByAgent(t *testing.T) {
 	socket, port := agentIn(t, 2*time.Second)
@@ -75,6 +99,7 @@ func TestRunByAgent(t *testing.T) {
 		{exitNoLock, []string{"--wait", "300ms", "held", "true"}},
 		{exitSettings, []string{"a b", "true"}},
 		{exitSettings, []string{"--grace", "1s", "x", "true"}},
+		{exitSettings, []string{"--no-note", "x", "true"}},
 		{7, []string{"--grace", "100ms", "x", "sh", "-c", "exit 7"}},
 	} {
 		if got := runs(t, append([]string{"run", "--agent", socket}, one.words...)...); got != one.want {
@@ -82,6 +107,10 @@ func TestRunByAgent(t *testing.T) {
 		}
 	}
 	if got := runs(t, "run", "--agent", socket+".none", "x", "true"); got != exitSettings {
+		t.Error(got)
+	}
+	go deletes(socket, "x")
+	if got := runs(t, "run", "--agent", socket, "x", "sleep", "60"); got != exitLost {
 		t.Error(got)
 	}
 	time.AfterFunc(300*time.Millisecond, func() { port.Cut(true) })

@@ -29,7 +29,11 @@ const (
 	exitNone     = 127 // there is no such program
 )
 
-var errLost = errors.New("the lock may be somebody else's, and the program was ended")
+var (
+	errLost  = errors.New("the lock may be somebody else's, and the program was ended")
+	errShown = errors.New("--no-note: the agent of the host shows the process and its user to who asks who has a lock; " +
+		"with --agent none the lock is taken without it")
+)
 
 func runCommand(ctx context.Context, s *settings) *cobra.Command {
 	var grace time.Duration
@@ -47,7 +51,10 @@ func runCommand(ctx context.Context, s *settings) *cobra.Command {
 		RunE: func(command *cobra.Command, args []string) error {
 			of.lock = args[0]
 			if socket := agentOf(command.Flags(), socket, agent.Socket); socket != "" {
-				if note == "" && !noNote {
+				if noNote {
+					return status{exitSettings, errShown}
+				}
+				if note == "" {
 					note = filepath.Base(args[1])
 				}
 				return runByAgent(ctx, agent.New(socket).WithNote(note), of, grace, args[1:])
@@ -73,7 +80,7 @@ func runCommand(ctx context.Context, s *settings) *cobra.Command {
 		"how long after SIGTERM SIGKILL is sent; a tenth of the TTL, and at most 1s, if it is 0")
 	command.Flags().StringVar(&note, "note", "",
 		"what is shown of this command to who asks who has the lock; the program's name if it is empty")
-	command.Flags().BoolVar(&noNote, "no-note", false, "show nothing of this command to who asks who has the lock")
+	command.Flags().BoolVar(&noNote, "no-note", false, "show nothing of this command to who asks who has the lock; not by an agent")
 	command.Flags().SetInterspersed(false)
 	return command
 }

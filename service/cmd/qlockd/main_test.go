@@ -106,14 +106,15 @@ func TestStart(t *testing.T) {
 	}
 }
 
-// The unit starts no agent again that no restart helps, and waits until it listens.
+// The unit starts no agent again that no restart helps, waits until it listens, and keeps the socket's folder.
 func TestUnit(t *testing.T) {
 	unit, err := os.ReadFile("../../systemd/qlockd.service")
 	if err != nil {
 		t.Fatal(err)
 	}
 	for _, line := range []string{fmt.Sprintf("RestartPreventExitStatus=%d", exitHopeless), "Type=notify",
-		"RuntimeDirectory=" + filepath.Base(filepath.Dir(config.AgentSocket)), "ExecStart=/usr/bin/qlockd start -c " + config.AgentFile} {
+		"RuntimeDirectory=" + filepath.Base(filepath.Dir(config.AgentSocket)), "RuntimeDirectoryPreserve=yes",
+		"ExecStart=/usr/bin/qlockd start -c " + config.AgentFile} {
 		if !strings.Contains(string(unit), "\n"+line+"\n") {
 			t.Errorf("there is no %s", line)
 		}

@@ -22,12 +22,18 @@ import (
 )
 
 // How long the agent tries to open a session before it says that it has none, waits until it tries again, at first and at
-// most, and waits for votes to be given back as it ends.
+// most, and waits for votes to be given back as it ends, or for a request.
 const (
 	trial     = 10 * time.Second
 	pause     = 500 * time.Millisecond
 	mostPause = 10 * time.Second
 	brief     = 5 * time.Second
+)
+
+// How many connections there may be at once to the address of /metrics and /healthz, and how long a reply may take there.
+const (
+	mostShown = 16
+	longShown = 10 * time.Second
 )
 
 // errNoSession is returned while no quorum of voters gave the agent a number.
@@ -57,7 +63,8 @@ type Agent struct {
 	why     error    // why there is none
 	changed chan struct{}
 	places  map[string]*place
-	last    uint64 // of the places so far
+	holders map[string]*place // by the names of locks: who has it, or had it last
+	last    uint64            // of the places so far
 }
 
 // session is a session of the lock service, and its cluster as it began.
@@ -70,20 +77,9 @@ type session struct {
 // ttl returns the TTL of the cluster.
 func (s *session) ttl() time.Duration { return s.cluster.TTL.Duration }
 
-// isCutOff returns whether the voters that are heard contain no quorum.
-func (s *session) isCutOff() bool {
-	heard := ^uint64(0)
-	for _, name := range s.Silent() {
-		if number := s.cluster.Number(name); number >= 0 {
-			heard &^= 1 << number
-		}
-	}
-	return !s.cluster.HasQuorums(heard)
-}
-
 // New returns an agent that has no session yet.
 func New(c Config) *Agent {
-	a := &Agent{config: c, closing: make(chan struct{}), changed: make(chan struct{}), places: map[string]*place{},
+	a := &Agent{config: c, closing: make(chan struct{}), changed: make(chan struct{}), places: map[string]*place{}, holders: map[string]*place{},
 		why: errors.New("it has just started, and waits for voters")}
 	a.registry = a.newRegistry()
 	return a
@@ -92,9 +88,9 @@ func New(c Config) *Agent {
 // Serve answers what comes to a socket until the context ends. Then it tells who has a lock, and waits for them for a TTL.
 func (a *Agent) Serve(ctx context.Context, listener net.Listener) error {
 	server := a.server(a.handler())
-	server.ConnContext, server.ConnState = withPeer, a.count
+	server.ConnContext = withCaller
 	failed := make(chan error, 1)
-	go func() { failed <- server.Serve(bounded{listener, a}) }()
+	go func() { failed <- a.serve(server, bounded{listener, a.config.Connections, &a.connections, a}) }()
 	sessions, stop := context.WithCancel(context.Background())
 	ended := make(chan struct{})
 	go func() { a.haveSessions(sessions); close(ended) }()
@@ -119,41 +115,47 @@ func (a *Agent) Show(ctx context.Context, address string) error {
 	mux := http.NewServeMux()
 	a.show(mux)
 	server := a.server(mux)
-	go func() { _ = server.Serve(listener) }()
+	server.ReadTimeout, server.WriteTimeout = brief, longShown // who does not read keeps none
+	go func() { _ = a.serve(server, bounded{listener, mostShown, new(atomic.Int64), a}) }()
 	go func() { <-ctx.Done(); _ = server.Close() }()
 	return nil
 }
 
 func (a *Agent) server(handler http.Handler) *http.Server {
-	return &http.Server{Handler: handler, ReadHeaderTimeout: brief, MaxHeaderBytes: 1 << 14, ErrorLog: log.New(io.Discard, "", 0)}
+	return &http.Server{Handler: handler, ReadHeaderTimeout: brief, IdleTimeout: brief, MaxHeaderBytes: 1 << 14,
+		ErrorLog: log.New(io.Discard, "", 0)}
+}
+
+// serve answers what comes to a listener, and counts the connections that end.
+func (a *Agent) serve(server *http.Server, listener bounded) error {
+	server.ConnState = func(_ net.Conn, state http.ConnState) {
+		if state == http.StateClosed {
+			listener.now.Add(-1)
+		}
+	}
+	return server.Serve(listener)
 }
 
 // bounded ends connections that are too many as soon as they come: who has a lock keeps it.
 type bounded struct {
 	net.Listener
+	most  int64 // any number if 0
+	now   *atomic.Int64
 	agent *Agent
 }
 
 func (b bounded) Accept() (net.Conn, error) {
 	for {
 		connection, err := b.Listener.Accept()
-		most := b.agent.config.Connections
 		if err != nil {
 			return nil, err
 		}
-		if now := b.agent.connections.Add(1); most == 0 || now <= most {
+		if now := b.now.Add(1); b.most == 0 || now <= b.most {
 			return connection, nil
 		}
-		b.agent.connections.Add(-1)
+		b.now.Add(-1)
 		b.agent.counts.add("connections")
 		_ = connection.Close()
-	}
-}
-
-// count counts the connections that end.
-func (a *Agent) count(_ net.Conn, state http.ConnState) {
-	if state == http.StateClosed {
-		a.connections.Add(-1)
 	}
 }
 
@@ -256,23 +258,26 @@ func (a *Agent) session(ctx context.Context) (*session, error) {
 	}
 }
 
-// take takes a lock. If the session ends meanwhile it asks anew in the next one.
-func (a *Agent) take(ctx context.Context, asked asked) (*locks.Held, *session, error) {
+// take takes a lock for a place. If the session ends meanwhile it asks anew in the next one.
+func (a *Agent) take(ctx context.Context, p *place, asked asked) (*session, error) {
 	if !wire.IsName([]byte(asked.name)) {
-		return nil, nil, fmt.Errorf("%w: %q", locks.ErrName, asked.name)
+		return nil, fmt.Errorf("%w: %q", locks.ErrName, asked.name)
 	}
 	for {
 		s, err := a.session(ctx)
 		if err != nil {
-			return nil, nil, err
+			return nil, err
 		}
 		take := s.LockFor
 		if asked.tries {
 			take = s.TryLockFor
 		}
 		held, err := take(ctx, asked.name, asked.whom)
-		if err == nil || s.Err() == nil || ctx.Err() != nil {
-			return held, s, err
+		if err == nil {
+			err = a.hold(ctx, p, held, s, asked.tries)
+		}
+		if again := s.Err() != nil || errors.Is(err, locks.ErrLapsed); err == nil || !again || ctx.Err() != nil {
+			return s, err
 		}
 	}
 }

@@ -15,6 +15,8 @@ import (
 	"path/filepath"
 	"strconv"
 	"strings"
+	"sync"
+	"sync/atomic"
 	"testing"
 	"time"
 
@@ -61,8 +63,19 @@ func (l *lines) text() string {
 	return string(text)
 }
 
+// grown has two voters more. Each of its quorums has two of the old ones, and one of the new ones.
+const grown = `voters = ["a", "b", "c", "d", "e"]
+quorums = [["a", "b", "d"], ["a", "c", "e"], ["b", "c", "d"], ["b", "c", "e"]]
+`
+
 // start starts a cluster, and an agent.
 func start(t *testing.T, ttl time.Duration) *host {
+	t.Helper()
+	return startBy(t, ttl, func(l net.Listener) net.Listener { return l })
+}
+
+// startBy starts a cluster, and an agent that listens by what it is given.
+func startBy(t *testing.T, ttl time.Duration, by func(net.Listener) net.Listener) *host {
 	t.Helper()
 	w := worlds.New(t, worlds.Majority, ttl)
 	text, err := w.Cluster.Text()
@@ -73,11 +86,16 @@ func start(t *testing.T, ttl time.Duration) *host {
 	if err := os.WriteFile(file, text, 0o600); err != nil {
 		t.Fatal(err)
 	}
-	return startIn(t, w, file)
+	return startInBy(t, w, file, by)
 }
 
 // startIn starts an agent of a cluster.
 func startIn(t *testing.T, w *worlds.World, file string) *host {
+	t.Helper()
+	return startInBy(t, w, file, func(l net.Listener) net.Listener { return l })
+}
+
+func startInBy(t *testing.T, w *worlds.World, file string, by func(net.Listener) net.Listener) *host {
 	t.Helper()
 	folder := t.TempDir()
 	h := &host{t: t, world: w, file: file, port: w.Bus.Port(), socket: filepath.Join(folder, "q.sock"),
@@ -92,7 +110,7 @@ func startIn(t *testing.T, w *worlds.World, file string) *host {
 	}
 	ctx, cancel := context.WithCancel(context.Background())
 	h.stop = cancel
-	go func() { h.ended <- h.agent.Serve(ctx, listener) }()
+	go func() { h.ended <- h.agent.Serve(ctx, by(listener)) }()
 	t.Cleanup(func() {
 		cancel()
 		if err := <-h.ended; err != nil {
@@ -181,7 +199,7 @@ func (h *host) refused(path string) string {
 // call calls the agent once, and returns status and body.
 func (h *host) call(method, path string) (int, string) {
 	h.t.Helper()
-	client := &http.Client{Transport: &http.Transport{DisableKeepAlives: true,
+	client := &http.Client{Timeout: time.Minute, Transport: &http.Transport{DisableKeepAlives: true,
 		DialContext: func(ctx context.Context, _, _ string) (net.Conn, error) {
 			return (&net.Dialer{}).DialContext(ctx, "unix", h.socket)
 		}}}
@@ -285,6 +303,29 @@ func TestConnectionWithMoreOnIt(t *testing.T) {
 	h.until("given back", func() bool { return len(h.listed("/v1/locks/x")) == 0 })
 }
 
+// Who sends a byte behind the request, and dies or shuts its half down, does not wait any more, and has no lock any more.
+func TestByteBehindTheRequest(t *testing.T) {
+	h := start(t, ttl)
+	send := func(s *stream) *net.UnixConn {
+		t.Helper()
+		time.Sleep(100 * time.Millisecond) // it comes for itself
+		if _, err := s.connection.Write([]byte("G")); err != nil {
+			t.Fatal(err)
+		}
+		time.Sleep(100 * time.Millisecond)
+		return s.connection.(*net.UnixConn)
+	}
+	s, _ := h.take("x")
+	w := h.post("x")
+	h.until("waiting", func() bool { return len(h.listed("/v1/locks/x")) == 2 })
+	_ = send(w).Close()
+	h.until("forgotten", func() bool { return len(h.listed("/v1/locks/x")) == 1 })
+	_ = send(s).CloseWrite()
+	if line := s.last(); line["unlocked"] != true {
+		t.Error(line)
+	}
+}
+
 // Each line says until when the lock lasts, and a later one says a later time.
 func TestLinesAtIntervals(t *testing.T) {
 	h := start(t, 4*time.Second)
@@ -367,6 +408,41 @@ func TestTooManyConnections(t *testing.T) {
 	_ = s.connection.Close()
 }
 
+// Who reaches the address of /metrics can't use up the agent's files.
+func TestTooManyWhoLook(t *testing.T) {
+	h := start(t, ttl)
+	free, err := net.Listen("tcp", "127.0.0.1:0")
+	if err != nil {
+		t.Fatal(err)
+	}
+	address := free.Addr().String()
+	_ = free.Close()
+	ctx, cancel := context.WithCancel(context.Background())
+	defer cancel()
+	if err := h.agent.Show(ctx, address); err != nil {
+		t.Fatal(err)
+	}
+	var idle []net.Conn
+	for n := 0; n < mostShown+4; n++ {
+		connection, err := net.Dial("tcp", address)
+		if err != nil {
+			t.Fatal(err)
+		}
+		idle = append(idle, connection)
+	}
+	h.until("too many", func() bool { return h.agent.counts.all()["connections"] > 0 })
+	for _, connection := range idle {
+		_ = connection.Close()
+	}
+	h.until("room again", func() bool {
+		reply, err := http.Get("http://" + address + "/healthz")
+		if err != nil {
+			return false
+		}
+		return reply.Body.Close() == nil
+	})
+}
+
 // Who waits and dies waits no more.
 func TestDeadWaiterIsForgotten(t *testing.T) {
 	h := start(t, ttl)
@@ -433,7 +509,8 @@ func groupOf(t *testing.T) string {
 	return group.Name
 }
 
-// A DELETE with its id gives a lock back, for its user and for root, and its holder hears of it.
+// A DELETE with its id gives a lock back, for its user and for root. Its holder hears that it is lost, also one that gives it
+// back a moment later.
 func TestDelete(t *testing.T) {
 	h := start(t, ttl)
 	s, first := h.take("x")
@@ -441,8 +518,12 @@ func TestDelete(t *testing.T) {
 	if status, body := h.call("DELETE", path); status != http.StatusOK || !strings.Contains(body, `"unlocked":true`) {
 		t.Error(status, body)
 	}
-	if line := s.last(); line["unlocked"] != true {
+	_ = s.connection.(*net.UnixConn).CloseWrite()
+	if line := s.last(); line["lost"] != true || line["why"] != "unlocked" {
 		t.Error(line)
+	}
+	if text := h.log.text(); strings.Count(text, "event=lost") != 1 || !strings.Contains(text, "why=unlocked") {
+		t.Error(text)
 	}
 	h.until("given back", func() bool { return len(h.listed("/v1/locks/x")) == 0 })
 	if status, body := h.call("DELETE", path); status != http.StatusNotFound {
@@ -483,6 +564,59 @@ func TestListNamesTheProcess(t *testing.T) {
 	}
 }
 
+// looksUp lets a function look up users during a test, as if for the first time.
+func looksUp(t *testing.T, f func(uid string) (*user.User, error)) {
+	forget := func() { names.Range(func(uid, _ interface{}) bool { names.Delete(uid); return true }) }
+	before := lookUp
+	lookUp = f
+	forget()
+	t.Cleanup(func() { lookUp = before; forget() })
+}
+
+// Users that take long to be looked up hold nobody else up. A name that was not to be had is looked up again, and a user that
+// has none is shown by its number.
+func TestUsersThatAreLookedUp(t *testing.T) {
+	fails := make(chan error)
+	looksUp(t, func(uid string) (*user.User, error) {
+		if err := <-fails; err != nil {
+			return nil, err
+		}
+		return &user.User{Uid: uid, Username: "jobs"}, nil
+	})
+	h := start(t, ttl)
+	for _, one := range []struct {
+		err  error
+		want string
+	}{{errors.New("nobody replies"), ""}, {nil, "jobs"}} {
+		s := h.post("x?wait=50s")
+		if status, body := h.call("GET", "/v1/status"); status != http.StatusOK {
+			t.Error(status, body)
+		}
+		select {
+		case fails <- one.err:
+		case <-time.After(20 * time.Second):
+			t.Fatal("nobody looks the user up")
+		}
+		if status := s.status(); status != http.StatusOK {
+			t.Fatal(status, s.line())
+		}
+		if got := h.agent.list("x"); len(got) != 1 || got[0].User != one.want {
+			t.Errorf("%+v", got)
+		}
+		_ = s.connection.Close()
+		h.until("given back", func() bool { return len(h.listed("/v1/locks/x")) == 0 })
+	}
+	go func() { fails <- user.UnknownUserIdError(4711) }()
+	for n := 0; n < 2; n++ { // that it has none is kept
+		if name := nameOf(4711); name != "" {
+			t.Error(name)
+		}
+	}
+	if got := (peer{UID: 4711}).login(); got != "4711" {
+		t.Error(got)
+	}
+}
+
 // Others see the process that has the lock, and its note, not those of the agent.
 func TestWhoNamesTheProcess(t *testing.T) {
 	h := start(t, ttl)
@@ -503,7 +637,7 @@ func TestWhoNamesTheProcess(t *testing.T) {
 			is, err = other.Who(context.Background(), "x")
 			return err == nil && is.Note == want
 		})
-		if is.Pid != os.Getpid() || is.Login != nameOf(os.Getuid()) || is.Asked {
+		if is.Pid != os.Getpid() || is.Login != (peer{UID: os.Getuid(), User: nameOf(os.Getuid())}).login() || is.Asked {
 			t.Errorf("%s: %+v", path, is)
 		}
 		_ = s.connection.Close()
@@ -543,19 +677,85 @@ func TestCutOff(t *testing.T) {
 	_ = again.connection.Close()
 }
 
+// evict ends the agent's session, and returns it.
+func (h *host) evict() *session {
+	h.t.Helper()
+	s, _, _ := h.agent.current()
+	console := h.world.Console()
+	ctx, cancel := context.WithTimeout(context.Background(), 20*time.Second)
+	defer cancel()
+	if _, err := console.Ask(ctx, fmt.Sprintf("evict %d", s.Number()), console.All()...); err != nil {
+		h.t.Fatal(err)
+	}
+	return s
+}
+
+// deaf is a connection whose other end reads no more than the first thing that is written: the next write waits.
+type deaf struct {
+	*net.UnixConn
+	writes atomic.Int64
+	ended  chan struct{}
+	once   sync.Once
+}
+
+func (d *deaf) Write(text []byte) (int, error) {
+	if d.writes.Add(1) > 1 {
+		<-d.ended
+	}
+	return d.UnixConn.Write(text)
+}
+
+func (d *deaf) Close() error {
+	d.once.Do(func() { close(d.ended) })
+	return d.UnixConn.Close()
+}
+
+// deafListener lets the first connection that comes be deaf.
+type deafListener struct {
+	net.Listener
+	first *deaf
+}
+
+func (l *deafListener) Accept() (net.Conn, error) {
+	connection, err := l.Listener.Accept()
+	if err != nil || l.first != nil {
+		return connection, err
+	}
+	l.first = &deaf{UnixConn: connection.(*net.UnixConn), ended: make(chan struct{})}
+	return l.first, nil
+}
+
+// A lock whose client reads nothing is lost as any other: the list, the numbers and the log say so, and what is left of its
+// votes is given back a TTL later, also while its client stands still.
+func TestClientThatDoesNotRead(t *testing.T) {
+	listener := &deafListener{}
+	h := startBy(t, 2*time.Second, func(l net.Listener) net.Listener { listener.Listener = l; return listener })
+	s, _ := h.take("x")
+	h.until("stuck", func() bool { return listener.first.writes.Load() > 1 })
+	h.port.Cut(true)
+	h.until("lost", func() bool { return fmt.Sprint(h.listed("/v1/locks/x")) == "[x lost]" })
+	if _, body := h.call("GET", "/metrics"); !strings.Contains(body, "\nqlock_agent_lost_total 1\n") {
+		t.Error("nobody counts it")
+	}
+	h.port.Cut(false)
+	h.until("given back", func() bool { return strings.Contains(h.log.text(), "event=unlocked lock=x") })
+	again, _ := h.take("x?wait=30s")
+	if text := h.log.text(); strings.Count(text, "event=lost lock=x") != 1 {
+		t.Error(text)
+	}
+	_ = again.connection.Close()
+	_ = s.connection.Close()
+	_ = listener.first.Close() // its write fails
+	h.until("forgotten", func() bool { return len(h.listed("/v1/locks/x")) == 0 })
+}
+
 // If the session is over, holders are told, who waits goes on waiting, and the agent opens another session.
 func TestAnotherSession(t *testing.T) {
 	h := start(t, ttl)
 	s, _ := h.take("x")
 	w := h.post("x?wait=50s")
 	h.until("waiting", func() bool { return len(h.listed("/v1/locks/x")) == 2 })
-	before, _, _ := h.agent.current()
-	console := h.world.Console()
-	ctx, cancel := context.WithTimeout(context.Background(), 20*time.Second)
-	defer cancel()
-	if _, err := console.Ask(ctx, fmt.Sprintf("evict %d", before.Number()), console.All()...); err != nil {
-		t.Fatal(err)
-	}
+	before := h.evict()
 	if line := s.last(); line["lost"] != true || line["why"] != "session" && line["why"] != "lease" {
 		t.Error(line)
 	}
@@ -566,6 +766,34 @@ func TestAnotherSession(t *testing.T) {
 	after, _, _ := h.agent.current()
 	if after == nil || after == before {
 		t.Error("there is no other session")
+	}
+	_ = w.connection.Close()
+}
+
+// Who waits is not let in by the next session while a process of this host may still work that had the lock in the last one.
+func TestOneOfTwoSessions(t *testing.T) {
+	h := start(t, ttl)
+	s, _ := h.take("x")
+	w := h.post("x?wait=50s")
+	h.until("waiting", func() bool { return len(h.listed("/v1/locks/x")) == 2 })
+	h.evict()
+	if line := s.last(); line["lost"] != true {
+		t.Error(line)
+	}
+	y, _ := h.take("y?wait=50s") // there is another session
+	_ = y.connection.Close()
+	if got := h.refused("x?try=1"); got != "409 held" {
+		t.Error(got)
+	}
+	if got := h.refused("x?wait=300ms"); got != "408 timeout" {
+		t.Error(got)
+	}
+	if got := fmt.Sprint(h.listed("/v1/locks/x")); got != "[x lost x waiting]" {
+		t.Error(got)
+	}
+	_ = s.connection.Close()
+	if status := w.status(); status != http.StatusOK {
+		t.Fatal(status, w.line())
 	}
 	_ = w.connection.Close()
 }
@@ -593,6 +821,22 @@ func TestWithoutVoters(t *testing.T) {
 	status, body := h.call("GET", "/v1/status")
 	if status != http.StatusOK || !strings.Contains(body, `"cluster":"test","ttl_ms":20000,"session":`) {
 		t.Error(status, body)
+	}
+}
+
+// Whether a quorum is heard goes by the plan that is in use, not by the one with which the session began.
+func TestCutOffAfterAnExchange(t *testing.T) {
+	h := start(t, ttl)
+	h.until("there", func() bool { status, _ := h.call("GET", "/healthz"); return status == http.StatusOK })
+	h.world.Exchange(grown)
+	h.until("given", func() bool { return h.world.Install() == nil })
+	h.until("retired", func() bool { return h.world.Retire() == nil })
+	h.until("healthy", func() bool { status, _ := h.call("GET", "/healthz"); return status == http.StatusOK })
+	h.world.Kill(3)
+	h.world.Kill(4)
+	h.until("cut off", func() bool { status, _ := h.call("GET", "/healthz"); return status == http.StatusGatewayTimeout })
+	if got := h.refused("x?wait=300ms"); got != "504 unreachable" {
+		t.Error(got)
 	}
 }
 
@@ -671,7 +915,13 @@ func TestSocket(t *testing.T) {
 	if _, err := Listen(path, ""); !errors.Is(err, ErrInUse) {
 		t.Error(err)
 	}
-	left.(*net.UnixListener).SetUnlinkOnClose(false)
+	if err := os.Remove(path + ".lock"); err != nil { // somebody cleans up
+		t.Fatal(err)
+	}
+	if _, err := Listen(path, ""); !errors.Is(err, ErrInUse) {
+		t.Error(err)
+	}
+	left.(*socket).SetUnlinkOnClose(false)
 	_ = left.Close()
 	again, err := Listen(path, groupOf(t))
 	if err != nil || mode() != 0o660 {
@@ -681,6 +931,14 @@ func TestSocket(t *testing.T) {
 	if _, err := Listen(path, "there-is-none"); !errors.Is(err, config.ErrConfig) {
 		t.Error(err)
 	}
+	other, err := lockOf(path) // an agent that starts just now
+	if err != nil {
+		t.Fatal(err)
+	}
+	if _, err := Listen(path, ""); !errors.Is(err, ErrInUse) {
+		t.Error(err)
+	}
+	_ = other.Close()
 	if err := os.WriteFile(path, nil, 0o600); err != nil {
 		t.Fatal(err)
 	}

@@ -35,7 +35,7 @@ func (c *counts) all() map[string]uint64 {
 }
 
 var (
-	descLocks    = desc("locks", "Locks that clients have (held, lost once they were told to stop) or wait for.", "state")
+	descLocks    = desc("locks", "Locks that clients have (held, lost once they have to stop) or wait for.", "state")
 	descConns    = desc("connections", "Connections of clients.")
 	descSession  = desc("session", "1 if there is a session, 0 if there is none.")
 	descSessions = desc("sessions_total", "Sessions that were opened.")

@@ -2,12 +2,15 @@ package qlockd
 
 import (
 	"context"
+	"errors"
 	"net"
 	"os"
 	"os/user"
 	"strconv"
 	"strings"
 	"sync"
+	"syscall"
+	"time"
 
 	"golang.org/x/sys/unix"
 )
@@ -23,34 +26,54 @@ type peer struct {
 // nobody is the user of a connection of which the kernel says nothing.
 const nobody = -1
 
-type peerKey struct{}
-
-// withPeer puts the process at the other end into the context of a connection.
-func withPeer(ctx context.Context, connection net.Conn) context.Context {
-	return context.WithValue(ctx, peerKey{}, peerOf(connection))
+// login returns the user's name, or else its number.
+func (p peer) login() string {
+	if p.User == "" {
+		return strconv.Itoa(p.UID)
+	}
+	return p.User
 }
 
-// peerIn returns the process that withPeer put into a context.
+// caller is who made a connection. That is looked up with the first call that asks for it, as it may take time.
+type caller struct {
+	connection net.Conn
+	once       sync.Once
+	peer       peer
+}
+
+type callerKey struct{}
+
+// withCaller puts who made a connection into its context.
+func withCaller(ctx context.Context, connection net.Conn) context.Context {
+	return context.WithValue(ctx, callerKey{}, &caller{connection: connection})
+}
+
+// peerIn returns the process at the other end of the connection of a context.
 func peerIn(ctx context.Context) peer {
-	if p, is := ctx.Value(peerKey{}).(peer); is {
-		return p
+	c, is := ctx.Value(callerKey{}).(*caller)
+	if !is {
+		return peer{UID: nobody}
 	}
-	return peer{UID: nobody}
+	c.once.Do(func() { c.peer = peerOf(c.connection) })
+	return c.peer
+}
+
+// control calls a function with the file of a connection, if it has one.
+func control(connection net.Conn, f func(file int)) {
+	socket, is := connection.(syscall.Conn)
+	if !is {
+		return
+	}
+	if raw, err := socket.SyscallConn(); err == nil {
+		_ = raw.Control(func(file uintptr) { f(int(file)) })
+	}
 }
 
 // peerOf returns the process at the other end of a connection.
 func peerOf(connection net.Conn) peer {
 	p := peer{UID: nobody}
-	socket, is := connection.(*net.UnixConn)
-	if !is {
-		return p
-	}
-	raw, err := socket.SyscallConn()
-	if err != nil {
-		return p
-	}
-	_ = raw.Control(func(file uintptr) {
-		if said, err := unix.GetsockoptUcred(int(file), unix.SOL_SOCKET, unix.SO_PEERCRED); err == nil {
+	control(connection, func(file int) {
+		if said, err := unix.GetsockoptUcred(file, unix.SOL_SOCKET, unix.SO_PEERCRED); err == nil {
 			p.Pid, p.UID = int(said.Pid), int(said.Uid)
 		}
 	})
@@ -61,17 +84,61 @@ func peerOf(connection net.Conn) peer {
 	return p
 }
 
+// look is how often the kernel is asked whether a connection has ended.
+const look = time.Second
+
+// attend returns a context that ends with the connection of another one, or half of it. That context does so at once, but
+// not any more once a byte came behind the request: package http looks no further. So the kernel is asked, too.
+func attend(parent context.Context) (context.Context, context.CancelFunc) {
+	ctx, cancel := context.WithCancel(parent)
+	c, is := parent.Value(callerKey{}).(*caller)
+	if !is {
+		return ctx, cancel
+	}
+	go func() {
+		ticker := time.NewTicker(look)
+		defer ticker.Stop()
+		for {
+			select {
+			case <-ctx.Done():
+				return
+			case <-ticker.C:
+				if hasEnded(c.connection) {
+					cancel()
+				}
+			}
+		}
+	}()
+	return ctx, cancel
+}
+
+// hasEnded returns whether the other end shut a connection down, or half of it.
+func hasEnded(connection net.Conn) (ended bool) {
+	control(connection, func(file int) {
+		asked := []unix.PollFd{{Fd: int32(file), Events: unix.POLLRDHUP}}
+		if _, err := unix.Poll(asked, 0); err == nil {
+			ended = asked[0].Revents&(unix.POLLRDHUP|unix.POLLHUP|unix.POLLERR) != 0
+		}
+	})
+	return ended
+}
+
+// lookUp returns a user by its number.
+var lookUp = user.LookupId
+
 // names are the names of users that were looked up.
 var names sync.Map
 
-// nameOf returns the name of a user, "" if there is none.
+// nameOf returns the name of a user, "" if there is none. A name that was not to be had just now is looked up again.
 func nameOf(uid int) string {
 	if name, found := names.Load(uid); found {
 		return name.(string)
 	}
-	name := ""
-	if found, err := user.LookupId(strconv.Itoa(uid)); err == nil {
+	name, nobody := "", user.UnknownUserIdError(0)
+	if found, err := lookUp(strconv.Itoa(uid)); err == nil {
 		name = found.Username
+	} else if !errors.As(err, &nobody) {
+		return ""
 	}
 	names.Store(uid, name)
 	return name

@@ -1,9 +1,11 @@
 package qlockd
 
 import (
+	"context"
 	"crypto/rand"
 	"encoding/hex"
 	"errors"
+	"fmt"
 	"sort"
 	"sync"
 	"sync/atomic"
@@ -19,7 +21,7 @@ type state string
 const (
 	waiting state = "waiting"
 	holding state = "held"
-	losing  state = "lost" // it was told that the lock may be somebody else's, and may still work
+	losing  state = "lost" // it has to stop, as the lock may be somebody else's, and may still work
 )
 
 // place is a request for a lock, and the lock once it is held.
@@ -32,6 +34,8 @@ type place struct {
 	state   state         // of the list
 	held    *locks.Held   // nil while it waits
 	session *session      // of held
+	why     string        // why the client has to stop, "" as long as it need not
+	lost    chan struct{} // closed once it has to
 	freed   atomic.Bool   // somebody gives the lock back
 	ended   chan struct{} // closed once that is done
 	once    sync.Once
@@ -52,39 +56,122 @@ func (a *Agent) enter(name string, from peer) *place {
 	a.handlers.Add(1)
 	a.last++
 	p := &place{id: hex.EncodeToString(bits), number: a.last, name: name, peer: from, since: time.Now(), state: waiting,
-		ended: make(chan struct{})}
+		lost: make(chan struct{}), ended: make(chan struct{})}
 	a.places[p.id] = p
 	return p
 }
 
 // leave forgets a request, after its lock was given back.
 func (a *Agent) leave(p *place) {
-	a.unlock(p)
+	a.unlock(p, "")
 	a.mutex.Lock()
 	delete(a.places, p.id)
+	if a.holders[p.name] == p {
+		delete(a.holders, p.name)
+	}
 	a.mutex.Unlock()
 	a.handlers.Done()
 }
 
-// hold notes that a request got its lock.
-func (a *Agent) hold(p *place, held *locks.Held, s *session) {
-	a.mutex.Lock()
-	p.held, p.session, p.state, p.since = held, s, holding, time.Now()
-	a.mutex.Unlock()
-	a.note(event.Debug, "held", p)
+// hold notes that a request got its lock. Who had it in an earlier session may still work, until its own place ended: the
+// request waits for that, unless it only tries.
+func (a *Agent) hold(ctx context.Context, p *place, held *locks.Held, s *session, tries bool) error {
+	for {
+		before := a.begin(p, held, s)
+		if before == nil {
+			a.note(event.Debug, "held", p)
+			go a.watch(p)
+			return nil
+		}
+		if err := before.end(ctx, held, tries); err != nil {
+			_ = held.Unlock()
+			return err
+		}
+	}
 }
 
-// lose notes that a client was told that its lock may be somebody else's.
+// begin notes that a place has its lock. It notes nothing, and returns another place, if that one has the lock of another
+// session of the agent.
+func (a *Agent) begin(p *place, held *locks.Held, s *session) *place {
+	a.mutex.Lock()
+	defer a.mutex.Unlock()
+	if other := a.holders[p.name]; other != nil && other.session != s && !isClosed(other.ended) {
+		return other
+	}
+	p.held, p.session, p.state, p.since = held, s, holding, time.Now()
+	a.holders[p.name] = p
+	return nil
+}
+
+// end waits until the lock of a place was given back. It fails with ErrHeld if the request only tries, and with ErrLapsed if it
+// loses what it was given itself.
+func (p *place) end(ctx context.Context, held *locks.Held, tries bool) error {
+	if tries {
+		return fmt.Errorf("%s: %w", p.name, locks.ErrHeld)
+	}
+	select {
+	case <-p.ended:
+		return nil
+	case <-held.Lost():
+		return locks.ErrLapsed
+	case <-ctx.Done():
+		return ctx.Err()
+	}
+}
+
+// watch notes that a client has to stop, and gives its lock back a TTL later at the latest. Who reads nothing holds its stream
+// up, but not this.
+func (a *Agent) watch(p *place) {
+	select {
+	case <-p.held.Lost(): // an unlock closes it, too
+	case <-a.closing:
+	case <-p.ended:
+	}
+	why := a.whyLost(p)
+	if why == "" {
+		return
+	}
+	a.lose(p, why)
+	select {
+	case <-p.ended:
+	case <-time.After(p.session.ttl()):
+		a.unlock(p, "")
+	}
+}
+
+// whyLost returns why a client has to stop that did not give its lock back, "" if it did.
+func (a *Agent) whyLost(p *place) string {
+	switch {
+	case p.freed.Load():
+		return ""
+	case p.session.Err() != nil:
+		return sessionEnded
+	case isClosed(p.held.Lost()):
+		return leaseEnded
+	case isClosed(a.closing):
+		return agentEnds
+	}
+	return ""
+}
+
+// lose notes, once, that a client has to stop: its lock may be somebody else's.
 func (a *Agent) lose(p *place, why string) {
 	a.mutex.Lock()
-	p.state, p.since = losing, time.Now()
+	isFirst := p.why == ""
+	if isFirst {
+		p.state, p.since, p.why = losing, time.Now(), why
+		close(p.lost)
+	}
 	a.mutex.Unlock()
-	a.lost.Add(1)
-	a.note(event.Warning, "lost", p, "why", why)
+	if isFirst {
+		a.lost.Add(1)
+		a.note(event.Warning, "lost", p, "why", why)
+	}
 }
 
-// unlock gives a lock back, once, and returns whether it may have been lost before.
-func (a *Agent) unlock(p *place) (isLost bool) {
+// unlock gives a lock back, once, and returns whether it may have been lost before. Unless it is "", why is what its client
+// hears that did not ask for it.
+func (a *Agent) unlock(p *place, why string) (isLost bool) {
 	a.mutex.Lock()
 	held := p.held
 	a.mutex.Unlock()
@@ -92,8 +179,13 @@ func (a *Agent) unlock(p *place) (isLost bool) {
 		return false
 	}
 	p.once.Do(func() {
+		if why != "" {
+			a.lose(p, why)
+		}
 		p.freed.Store(true)
-		p.isLost = held.Unlock() != nil
+		if p.isLost = held.Unlock() != nil; p.isLost {
+			a.lose(p, leaseEnded)
+		}
 		a.note(event.Debug, "unlocked", p)
 		close(p.ended)
 	})
@@ -161,7 +253,7 @@ var (
 	errOther   = errors.New("the lock is another user's")
 )
 
-// giveBack gives back the lock with an id, for its user or root.
+// giveBack gives back the lock with an id, for its user or root. Whoever has it may still work, and hears that it is lost.
 func (a *Agent) giveBack(name, id string, from peer) error {
 	a.mutex.Lock()
 	p := a.places[id]
@@ -173,7 +265,7 @@ func (a *Agent) giveBack(name, id string, from peer) error {
 	if from.UID == nobody || from.UID != p.peer.UID && from.UID != 0 {
 		return errOther
 	}
-	if a.unlock(p) {
+	if a.unlock(p, givenBack) {
 		return locks.ErrLapsed
 	}
 	return nil

@@ -168,7 +168,7 @@ func (a *Agent) status() Status {
 func (a *Agent) health(w http.ResponseWriter, _ *http.Request) {
 	if s, why, _ := a.current(); s == nil {
 		a.refuse(w, fmt.Errorf("%w: %v", errNoSession, why))
-	} else if s.isCutOff() {
+	} else if s.IsCutOff() {
 		a.refuse(w, fmt.Errorf("%w that reaches a quorum: these voters are silent: %s", errNoSession, strings.Join(s.Silent(), ", ")))
 	} else {
 		answer(w, a.status())
@@ -213,8 +213,8 @@ func readAsked(r *http.Request, name string) (asked, error) {
 }
 
 // within returns the context of a request for a lock: it ends with the connection, the time to wait, or the agent.
-func (a *Agent) within(r *http.Request, of asked) (context.Context, context.CancelFunc) {
-	ctx, cancel := context.WithCancel(r.Context())
+func (a *Agent) within(connection context.Context, of asked) (context.Context, context.CancelFunc) {
+	ctx, cancel := context.WithCancel(connection)
 	var late <-chan time.Time // never, if nobody says for how long to wait
 	timer := time.NewTimer(of.wait)
 	if of.wait > 0 {
@@ -249,24 +249,25 @@ func (a *Agent) lock(w http.ResponseWriter, r *http.Request, name string) {
 		a.refuse(w, errClosing)
 		return
 	}
-	of.whom.Pid, of.whom.Login = p.peer.Pid, p.peer.User
+	defer a.leave(p)
+	of.whom.Pid, of.whom.Login = p.peer.Pid, p.peer.login()
 	if of.whom.Note == "" {
 		of.whom.Note = p.peer.Command
 	}
-	defer a.leave(p)
-	ctx, cancel := a.within(r, of)
-	held, s, err := a.take(ctx, of)
+	connection, ignore := attend(r.Context())
+	defer ignore()
+	ctx, cancel := a.within(connection, of)
+	s, err := a.take(ctx, p, of)
 	if err != nil && ctx.Err() != nil {
-		err = a.explain(r.Context(), s, of, err)
+		err = a.explain(connection, s, of, err)
 	}
 	cancel()
 	if err != nil {
 		a.refuse(w, err)
 		return
 	}
-	a.hold(p, held, s)
 	a.counts.add("none")
-	a.stream(w, r.Context(), p)
+	a.stream(w, connection, p)
 }
 
 // explain says why the time of a request ended before it got its lock.
@@ -283,7 +284,7 @@ func (a *Agent) explain(connection context.Context, s *session, of asked, err er
 	if names := s.Silent(); len(names) > 0 {
 		silent = "; these voters are silent: " + strings.Join(names, ", ")
 	}
-	if s.isCutOff() {
+	if s.IsCutOff() {
 		return fmt.Errorf("%s: %w that reaches a quorum%s", of.name, errNoSession, silent)
 	}
 	return fmt.Errorf("%s: %w, for %v%s", of.name, errTimeout, of.wait, silent)
@@ -330,8 +331,9 @@ type last struct {
 
 // Why a lock may be somebody else's.
 const (
-	leaseEnded   = "lease"   // voters were not heard for 0.8 TTL, or let the lock go
-	sessionEnded = "session" // the session is over
+	leaseEnded   = "lease"    // voters were not heard for 0.8 TTL, or let the lock go
+	sessionEnded = "session"  // the session is over
+	givenBack    = "unlocked" // another process gave it back
 	agentEnds    = "closing"
 )
 
@@ -355,51 +357,27 @@ func (a *Agent) stream(w http.ResponseWriter, ctx context.Context, p *place) {
 		select {
 		case <-ticker.C:
 			line = leftOf(p.held)
-		case <-p.held.Lost(): // an unlock closes it, too
-			says = false
-		case <-a.closing:
+		case <-p.lost:
 			says = false
 		case <-ctx.Done():
 			says = false
 		}
 	}
-	why := a.whyLost(ctx, p)
-	if why != "" {
-		a.lose(p, why)
-		if say(last{Lost: true, Why: why}) {
-			a.await(ctx, p)
-		}
-	}
-	if isLost := a.unlock(p); why == "" && isLost {
-		a.lose(p, leaseEnded)
-		say(last{Lost: true, Why: leaseEnded})
-	} else if why == "" {
+	if isClosed(p.lost) && say(last{Lost: true, Why: p.why}) {
+		a.await(ctx, p)
+	} else if a.unlock(p, ""); isClosed(p.lost) {
+		say(last{Lost: true, Why: p.why})
+	} else {
 		say(last{Unlocked: true})
 	}
 }
 
-// whyLost returns why a client has to stop that did not give its lock back, "" if it did.
-func (a *Agent) whyLost(ctx context.Context, p *place) string {
-	switch {
-	case p.freed.Load() || ctx.Err() != nil:
-		return ""
-	case p.session.Err() != nil:
-		return sessionEnded
-	case isClosed(p.held.Lost()):
-		return leaseEnded
-	case isClosed(a.closing):
-		return agentEnds
-	}
-	return ""
-}
-
-// await waits until a client that has to stop ends its connection, for a TTL at most. What is left of the votes keeps
-// others out until then.
+// await waits until a client that has to stop ends its connection, or a TTL is over. What is left of the votes keeps others
+// out until then.
 func (a *Agent) await(ctx context.Context, p *place) {
 	select {
 	case <-ctx.Done():
 	case <-p.ended:
-	case <-time.After(p.session.ttl()):
 	}
 }
 

@@ -15,8 +15,20 @@ import (
 // ErrInUse is returned if another agent has the socket.
 var ErrInUse = errors.New("another agent has the socket")
 
+// socket is where an agent listens. Its lock keeps other agents away, also while they start.
+type socket struct {
+	*net.UnixListener
+	lock *os.File
+}
+
+// Close removes the socket, and lets others have it.
+func (s *socket) Close() error {
+	defer s.lock.Close()
+	return s.UnixListener.Close()
+}
+
 // Listen makes the socket. Its own user and root may connect, and who is in the group, if one is named. It takes the place
-// of a socket that nobody listens to any more.
+// of a socket that nobody listens to any more. A file beside it, which stays, has the lock.
 func Listen(path, group string) (net.Listener, error) {
 	number := -1
 	if group != "" {
@@ -28,16 +40,46 @@ func Listen(path, group string) (net.Listener, error) {
 			return nil, fmt.Errorf("%w: group: %v", config.ErrConfig, err)
 		}
 	}
+	lock, err := lockOf(path)
+	if err != nil {
+		return nil, err
+	}
+	listener, err := listen(path, number)
+	if err != nil {
+		_ = lock.Close()
+		return nil, err
+	}
+	return &socket{listener, lock}, nil
+}
+
+// lockOf takes the lock of a socket.
+func lockOf(path string) (*os.File, error) {
+	lock, err := os.OpenFile(path+".lock", os.O_RDWR|os.O_CREATE, 0o600)
+	if err != nil {
+		return nil, err
+	}
+	if err = syscall.Flock(int(lock.Fd()), syscall.LOCK_EX|syscall.LOCK_NB); errors.Is(err, syscall.EWOULDBLOCK) {
+		err = fmt.Errorf("%w: %s", ErrInUse, path)
+	}
+	if err != nil {
+		_ = lock.Close()
+		return nil, err
+	}
+	return lock, nil
+}
+
+// listen makes a socket for a group, or for none if its number is below 0.
+func listen(path string, group int) (*net.UnixListener, error) {
 	if err := removeStale(path); err != nil {
 		return nil, err
 	}
 	mask := syscall.Umask(0o177) // until it has its group
-	listener, err := net.Listen("unix", path)
+	listener, err := net.ListenUnix("unix", &net.UnixAddr{Name: path, Net: "unix"})
 	syscall.Umask(mask)
-	if err != nil || number < 0 {
+	if err != nil || group < 0 {
 		return listener, err
 	}
-	if err = os.Chown(path, -1, number); err == nil {
+	if err = os.Chown(path, -1, group); err == nil {
 		err = os.Chmod(path, 0o660)
 	}
 	if err != nil {
