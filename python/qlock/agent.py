@@ -172,14 +172,16 @@ class Client:
         self.socket = socket or os.environ.get("QLOCK_AGENT", "") or SOCKET
         self.note = note
 
-    def lock(self, name: str, wait: Optional[float] = None, on_lost: Optional[Callable[["Held"], None]] = None) -> "Held":
+    def lock(self, name: str, wait: Optional[float] = None, on_lost: Optional[Callable[["Held"], None]] = None,
+             turn: bool = False) -> "Held":
         """Waits for a lock, for at most `wait` seconds, and without limit if it is None. `on_lost` is called, in a thread of
-        its own, when the lock may be somebody else's."""
-        return self._take(name, wait, {}, on_lost)
+        its own, when the lock may be somebody else's. With `turn` the lock has its turn (`Held.turn`): for that all voters of
+        its quorum have to reply."""
+        return self._take(name, wait, {"turn": "1"} if turn else {}, on_lost)
 
-    def try_lock(self, name: str, on_lost: Optional[Callable[["Held"], None]] = None) -> "Held":
+    def try_lock(self, name: str, on_lost: Optional[Callable[["Held"], None]] = None, turn: bool = False) -> "Held":
         """Takes a lock that nobody has. Raises `HeldElsewhere` if somebody else has it, or asked before."""
-        return self._take(name, 10.0, {"try": "1"}, on_lost)
+        return self._take(name, 10.0, {"try": "1", "turn": "1"} if turn else {"try": "1"}, on_lost)
 
     def _take(self, name: str, wait: Optional[float], query: Dict[str, str], on_lost: Optional[Callable[["Held"], None]]) -> "Held":
         limit = None
@@ -226,6 +228,8 @@ class Held:
         self.id: str = first["id"]
         self.token = bytes.fromhex(first["pass"])
         """the pass: what is shown to the guard, with each write"""
+        self.turn: Optional[int] = int(first["turn"]) if "turn" in first else None
+        """one number that grows from holder to holder, for a place that compares one number and keeps no guard, if it was asked for"""
         self.ttl: float = first["ttl_ms"] / 1000
         self.lost = threading.Event()
         """set when the lock may be somebody else's, and by `unlock`"""

@@ -112,6 +112,12 @@ class WithMadeUpAgent(unittest.TestCase):
         self.assertTrue(held.lost.is_set())
         self.assertEqual((held.left(), got[1].recv(1)), (0.0, b""))
 
+    def test_turn_that_is_asked_for(self):
+        held, got = self.take({**first(), "turn": "4611686018427387904"}, turn=True)
+        self.assertEqual((got[0], held.turn), ("POST /v1/locks/orders?turn=1 HTTP/1.0", 1 << 62))
+        held, got = self.take(first())
+        self.assertEqual((got[0], held.turn), ("POST /v1/locks/orders? HTTP/1.0", None))
+
     def test_names_are_quoted(self):
         got = self.agent.next(head(400, {"fault": "name", "why": "x"}))
         with self.assertRaises(BadName):

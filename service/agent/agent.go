@@ -68,7 +68,10 @@ func (f *Fault) Is(target error) bool {
 }
 
 // Client takes locks. Many goroutines may call it at once. It has no connection but those of its locks.
-type Client struct{ socket, note string }
+type Client struct {
+	socket, note string
+	turn         bool
+}
 
 // New returns a client of the agent at a socket. Without one it is that of QLOCK_AGENT, or else Socket.
 func New(socket string) *Client {
@@ -83,13 +86,18 @@ func New(socket string) *Client {
 
 // WithNote returns a client whose locks have a note: what others see of who has them, besides process and user. Without one it
 // is the name of the process.
-func (c *Client) WithNote(note string) *Client { return &Client{c.socket, note} }
+func (c *Client) WithNote(note string) *Client { return &Client{c.socket, note, c.turn} }
+
+// WithTurn returns a client whose locks have a turn (Held.Turn). All voters of a lock's quorum have to reply for that, so it takes
+// longer, and fails more often.
+func (c *Client) WithTurn() *Client { return &Client{c.socket, c.note, true} }
 
 // Held is a lock that is held. It belongs to whoever called Lock.
 type Held struct {
 	connection *net.UnixConn
 	lines      *bufio.Reader
 	token      []byte
+	turn       uint64
 	ttl        time.Duration
 	until      atomic.Int64 // when it ends if the agent says nothing more, in milliseconds of boot.Uptime
 	lost       chan struct{}
@@ -118,6 +126,9 @@ func (c *Client) take(ctx context.Context, name string, query url.Values) (*Held
 	limit, cancel := context.WithCancel(ctx)
 	if c.note != "" {
 		query.Set("note", c.note)
+	}
+	if c.turn {
+		query.Set("turn", "1")
 	}
 	if end, has := ctx.Deadline(); has {
 		wait := time.Until(end)
@@ -210,6 +221,7 @@ func send(connection net.Conn, method, path string, query url.Values) (*http.Res
 type line struct {
 	Held     bool   `json:"held"`
 	Pass     string `json:"pass"`
+	Turn     uint64 `json:"turn,string"`
 	TTL      int64  `json:"ttl_ms"`
 	Until    int64  `json:"until_ms"`
 	Lost     bool   `json:"lost"`
@@ -227,7 +239,7 @@ func ask(connection *net.UnixConn, name string, query url.Values) (*Held, error)
 	if err != nil || !said.Held {
 		return nil, fmt.Errorf("%w: %v", ErrUnreachable, err)
 	}
-	h.ttl = time.Duration(said.TTL) * time.Millisecond
+	h.ttl, h.turn = time.Duration(said.TTL)*time.Millisecond, said.Turn
 	h.until.Store(said.Until)
 	if h.token, err = hex.DecodeString(said.Pass); err != nil {
 		return nil, fmt.Errorf("%w: the pass: %v", ErrUnreachable, err)
@@ -297,6 +309,10 @@ func (h *Held) left() time.Duration {
 
 // Token returns the pass: what is shown to the guard, with each write.
 func (h *Held) Token() []byte { return append([]byte(nil), h.token...) }
+
+// Turn returns one number that grows from holder to holder, for a place that compares one number and keeps no guard. It is 0 unless
+// the lock was taken with WithTurn.
+func (h *Held) Turn() uint64 { return h.turn }
 
 // TTL returns the TTL of the cluster.
 func (h *Held) TTL() time.Duration { return h.ttl }

@@ -91,7 +91,8 @@ func TestRunByAgent(t *testing.T) {
 	}{
 		{0, []string{"--wait", "30s", "x", "true"}},
 		{7, []string{"x", "sh", "-c", "exit 7"}},
-		{0, []string{"x", "sh", "-c", "[ ${#QLOCK_PASS} = 1024 ]"}},
+		{0, []string{"x", "sh", "-c", "[ ${#QLOCK_PASS} = 1024 ] && [ -z \"$QLOCK_TURN\" ]"}},
+		{0, []string{"--turn", "x", "sh", "-c", "[ \"$QLOCK_TURN\" -gt 0 ]"}},
 		{137, []string{"x", "sh", "-c", "kill -9 $$"}},
 		{exitNone, []string{"x", "/there/is/none"}},
 		{exitNoStart, []string{"x", "/dev/null"}},

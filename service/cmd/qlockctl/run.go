@@ -42,7 +42,7 @@ func runCommand(ctx context.Context, s *settings) *cobra.Command {
 	var noNote bool
 	command := &cobra.Command{Use: "run LOCK PROGRAM [ARGUMENT..]", Args: cobra.MinimumNArgs(2), Short: "Run a program that needs a lock",
 		Long: "Takes a lock, runs a program, and gives the lock back. The program finds its pass in QLOCK_PASS, in hexadecimal: " +
-			"what it shows to the guard. If the lock may be lost, the program and all processes of its group get SIGTERM, and " +
+			"what it shows to the guard. With --turn it finds the lock's turn in QLOCK_TURN: a number that grows from holder to holder. If the lock may be lost, the program and all processes of its group get SIGTERM, and " +
 			"then SIGKILL. If this command itself is killed, the program is killed, too, but not what it started. It can't read " +
 			"from a terminal.\n\nThe exit status is that of the program, 75 if the lock was not to be had in time, 76 if the " +
 			"lock may have been lost, 78 if the settings or the lock's name can't be used, 126 if the program can't be " +
@@ -57,7 +57,11 @@ func runCommand(ctx context.Context, s *settings) *cobra.Command {
 				if note == "" {
 					note = filepath.Base(args[1])
 				}
-				return runByAgent(ctx, agent.New(socket).WithNote(note), of, grace, args[1:])
+				client := agent.New(socket).WithNote(note)
+				if of.turns {
+					client = client.WithTurn()
+				}
+				return runByAgent(ctx, client, of, grace, args[1:])
 			}
 			cluster, err := config.ReadCluster(s.cluster)
 			if err != nil {
@@ -74,6 +78,7 @@ func runCommand(ctx context.Context, s *settings) *cobra.Command {
 		}}
 	command.Flags().DurationVar(&of.wait, "wait", time.Minute, "how long to wait for the lock")
 	command.Flags().BoolVar(&of.tries, "try", false, "do not wait for somebody else who has the lock")
+	command.Flags().BoolVar(&of.turns, "turn", false, "also get the lock's turn: one number that grows from holder to holder, in QLOCK_TURN")
 	command.Flags().StringVar(&socket, "agent", "",
 		"the socket of the host's agent, or \"none\"; "+agent.Socket+" if it is there, and no cluster or user is named")
 	command.Flags().DurationVar(&grace, "grace", 0,
@@ -138,6 +143,7 @@ type taking struct {
 	lock  string
 	wait  time.Duration
 	tries bool
+	turns bool
 }
 
 // run runs a program under a lock.
@@ -167,7 +173,14 @@ func run(ctx context.Context, settings locks.Config, of taking, grace time.Durat
 	} else if err != nil {
 		return withoutLock(limit, fmt.Errorf("%s: %w", of.lock, err))
 	}
-	return runWith(ctx, held, of, grace, words)
+	turn := uint64(0)
+	if of.turns {
+		if turn, err = held.Turn(limit); err != nil {
+			_ = held.Unlock()
+			return status{exitNoLock, err}
+		}
+	}
+	return runWith(ctx, held, of, turn, grace, words)
 }
 
 // runByAgent runs a program under a lock of the host's agent.
@@ -191,7 +204,7 @@ func runByAgent(ctx context.Context, client *agent.Client, of taking, grace time
 		_ = held.Unlock()
 		return status{exitSettings, err}
 	}
-	return runWith(ctx, held, of, grace, words)
+	return runWith(ctx, held, of, held.Turn(), grace, words)
 }
 
 // owned is a lock that is held, by a session of this process or by that of the host's agent.
@@ -202,10 +215,14 @@ type owned interface {
 }
 
 // runWith runs a program under a lock that is held, and gives the lock back.
-func runWith(ctx context.Context, held owned, of taking, grace time.Duration, words []string) error {
+func runWith(ctx context.Context, held owned, of taking, turn uint64, grace time.Duration, words []string) error {
 	work, done := held.Context(ctx)
 	defer done()
-	code, err := runProgram(work, grace, words, "QLOCK_PASS="+hex.EncodeToString(held.Token()))
+	environment := []string{"QLOCK_PASS=" + hex.EncodeToString(held.Token())}
+	if of.turns {
+		environment = append(environment, fmt.Sprint("QLOCK_TURN=", turn))
+	}
+	code, err := runProgram(work, grace, words, environment...)
 	lost := held.Unlock() != nil // the context may not say so yet
 	switch {
 	case lost:
@@ -242,11 +259,11 @@ func withoutLock(limit context.Context, err error) error {
 // runProgram runs a program until it ends, or the context does. It returns the program's exit status. The program has a
 // process group of its own, so that all of it gets the signals. If the context ends, all of the group ends. The program is
 // killed when this process is.
-func runProgram(ctx context.Context, grace time.Duration, words []string, environment string) (int, error) {
+func runProgram(ctx context.Context, grace time.Duration, words []string, environment ...string) (int, error) {
 	runtime.LockOSThread() // the program is killed when the thread ends that started it
 	defer runtime.UnlockOSThread()
 	program := exec.Command(words[0], words[1:]...)
-	program.Env = append(os.Environ(), environment)
+	program.Env = append(os.Environ(), environment...)
 	program.SysProcAttr = &syscall.SysProcAttr{Setpgid: true, Pdeathsig: syscall.SIGKILL}
 	program.Stdin, program.Stdout, program.Stderr = os.Stdin, os.Stdout, os.Stderr
 	if err := program.Start(); err != nil {

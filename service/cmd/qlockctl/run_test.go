@@ -150,7 +150,7 @@ func TestStatusOfRun(t *testing.T) {
 			time.AfterFunc(cut, func() { port.Cut(true) })
 			time.AfterFunc(cut+2*time.Second, func() { port.Cut(false) }) // so that the session can be closed
 		}
-		err := run(context.Background(), locks.Config{Cluster: path, Transport: port}, taking{"x", 10 * time.Second, false}, time.Second, []string{"sh", "-c", text})
+		err := run(context.Background(), locks.Config{Cluster: path, Transport: port}, taking{lock: "x", wait: 10 * time.Second}, time.Second, []string{"sh", "-c", text})
 		var got status
 		if !errors.As(err, &got) || got.code != want {
 			t.Errorf("%s: %v", text, err)
@@ -172,7 +172,7 @@ func TestRunThatTries(t *testing.T) {
 	}
 	tries := func() int {
 		began := time.Now()
-		err := run(context.Background(), locks.Config{Cluster: path, Transport: w.Bus.Port()}, taking{"x", time.Minute, true}, time.Second,
+		err := run(context.Background(), locks.Config{Cluster: path, Transport: w.Bus.Port()}, taking{lock: "x", wait: time.Minute, tries: true}, time.Second,
 			[]string{"sh", "-c", "exit 7"})
 		var got status
 		if !errors.As(err, &got) || time.Since(began) > 20*time.Second {

@@ -27,7 +27,7 @@ func TestWhoRuns(t *testing.T) {
 	ended := make(chan error, 1)
 	running, stop := context.WithCancel(ctx)
 	go func() {
-		ended <- run(running, locks.Config{Cluster: path, Transport: w.Bus.Port(), Note: "sleep"}, taking{"x", 10 * time.Second, false},
+		ended <- run(running, locks.Config{Cluster: path, Transport: w.Bus.Port(), Note: "sleep"}, taking{lock: "x", wait: 10 * time.Second},
 			100*time.Millisecond, []string{"sleep", "60"})
 	}()
 	var holder locks.Holder

@@ -16,8 +16,8 @@ const prefix = "QLOCK_"
 
 // others are the variables of this project that are no settings of a voter's or an agent's file.
 var others = []string{"TIMEOUT", // of qlockctl
-	"AGENT", // the socket of a host's agent, for who asks it
-	"PASS",  // which a program finds that `qlockctl run` runs
+	"AGENT",        // the socket of a host's agent, for who asks it
+	"PASS", "TURN", // which a program finds that `qlockctl run` runs
 	"BUILD", "LIBRARY", "PLAN_LIBRARY", "WHEEL_LIBRARIES", "PROGRAMS", "PGHOST"}
 
 // links are the ends of variables that Kubernetes makes of the names of services.

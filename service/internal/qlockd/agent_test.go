@@ -265,6 +265,31 @@ func TestFirstLine(t *testing.T) {
 	}
 }
 
+// The turn of a lock grows from holder to holder. Nobody has it who did not ask for it.
+func TestTurns(t *testing.T) {
+	h := start(t, ttl)
+	last := uint64(0)
+	for i := 0; i < 3; i++ {
+		s, line := h.take("orders?turn=1&wait=30s")
+		text, _ := line["turn"].(string)
+		turn, err := strconv.ParseUint(text, 10, 64)
+		if err != nil || turn <= last {
+			t.Errorf("%v after %d: %v", line["turn"], last, err)
+		}
+		last = turn
+		_ = s.connection.Close()
+		h.until("given back", func() bool { return len(h.listed("/v1/locks/orders")) == 0 })
+	}
+	s, line := h.take("orders?turn=0")
+	defer s.connection.Close()
+	if line["turn"] != nil {
+		t.Error(line)
+	}
+	if got := h.refused("x?turn=yes"); got != "400 request" {
+		t.Error(got)
+	}
+}
+
 // A lock lasts as long as its connection, whole or half of it. Who closes half of it hears that the lock was given back.
 func TestLockLastsAsItsConnection(t *testing.T) {
 	h := start(t, ttl)

@@ -33,6 +33,7 @@ type place struct {
 	since   time.Time     // in this state
 	state   state         // of the list
 	held    *locks.Held   // nil while it waits
+	turn    uint64        // of held, 0 if nobody asked for it
 	session *session      // of held
 	why     string        // why the client has to stop, "" as long as it need not
 	lost    chan struct{} // closed once it has to

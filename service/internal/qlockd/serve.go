@@ -180,6 +180,7 @@ type asked struct {
 	name  string
 	tries bool
 	wait  time.Duration // 0 for as long as the connection lasts
+	turns bool          // it wants the lock's turn, too
 	whom  locks.For     // what others see of who has the lock
 }
 
@@ -199,6 +200,10 @@ func readAsked(r *http.Request, name string) (asked, error) {
 		case "try":
 			if of.tries = value == "1"; !of.tries && value != "0" {
 				return of, fmt.Errorf("%w: try is %q, and has to be 0 or 1", errRequest, value)
+			}
+		case "turn":
+			if of.turns = value == "1"; !of.turns && value != "0" {
+				return of, fmt.Errorf("%w: turn is %q, and has to be 0 or 1", errRequest, value)
 			}
 		case "note":
 			of.whom.Note = value
@@ -258,6 +263,9 @@ func (a *Agent) lock(w http.ResponseWriter, r *http.Request, name string) {
 	defer ignore()
 	ctx, cancel := a.within(connection, of)
 	s, err := a.take(ctx, p, of)
+	if err == nil && of.turns {
+		p.turn, err = p.held.Turn(ctx)
+	}
 	if err != nil && ctx.Err() != nil {
 		err = a.explain(connection, s, of, err)
 	}
@@ -318,6 +326,7 @@ type first struct {
 	Lock string `json:"lock"`
 	ID   string `json:"id"`
 	Pass string `json:"pass"`
+	Turn uint64 `json:"turn,string,omitempty"` // a text: not all readers of JSON have whole numbers of 64 bits
 	TTL  int64  `json:"ttl_ms"`
 	left
 }
@@ -352,7 +361,7 @@ func (a *Agent) stream(w http.ResponseWriter, ctx context.Context, p *place) {
 	}
 	ticker := time.NewTicker(p.session.ttl() / 4)
 	defer ticker.Stop()
-	line := interface{}(first{true, p.name, p.id, hex.EncodeToString(p.held.Token()), p.session.ttl().Milliseconds(), leftOf(p.held)})
+	line := interface{}(first{true, p.name, p.id, hex.EncodeToString(p.held.Token()), p.turn, p.session.ttl().Milliseconds(), leftOf(p.held)})
 	for says := true; says && say(line); {
 		select {
 		case <-ticker.C:
