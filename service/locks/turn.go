@@ -14,6 +14,7 @@ import (
 type turning struct {
 	turn    uint64
 	awaited map[int]time.Time // when a voter was asked last, of those that did not reply
+	callers int               // how many calls wait
 	over    chan struct{}
 	why     error
 }
@@ -28,8 +29,9 @@ type turning struct {
 func (h *Held) Turn(ctx context.Context) (uint64, error) {
 	var t *turning
 	err := h.client.call(func() error {
-		t = h.client.wantTurn(h)
-		return nil
+		var why error
+		t, why = h.client.wantTurn(h)
+		return why
 	})
 	if err != nil {
 		return 0, err
@@ -40,7 +42,14 @@ func (h *Held) Turn(ctx context.Context) (uint64, error) {
 	case <-h.client.ended:
 		return 0, h.client.why
 	case <-ctx.Done():
-		return 0, fmt.Errorf("%s: %w", h.lock.name, because{ErrNoQuorum, ctx.Err()})
+		_ = h.client.call(func() error { // if it fails nothing is asked any more
+			h.client.leaveTurn(h, t)
+			return nil
+		})
+		if t.isOver() {
+			return t.turn, t.why
+		}
+		return 0, h.client.explained(fmt.Errorf("%s: %w", h.lock.name, because{ErrNoQuorum, ctx.Err()}))
 	}
 }
 
@@ -56,19 +65,42 @@ func (h *Held) grants() map[int]uint64 {
 }
 
 // wantTurn returns the call that waits for a lock's turn. There is one for all calls, also for those that come later.
-func (c *Client) wantTurn(h *Held) *turning {
-	if h.turning != nil && h.turning.why == nil && (h.turning.isOver() || c.turns[h]) {
-		return h.turning
+func (c *Client) wantTurn(h *Held) (*turning, error) {
+	if why := h.hasNoTurn(); why != nil {
+		return nil, why
 	}
-	h.turning = &turning{awaited: map[int]time.Time{}, over: make(chan struct{})}
-	for voter, grant := range h.grants() {
-		h.turning.awaited[voter] = time.Time{}
-		if grant > h.turning.turn {
-			h.turning.turn = grant
+	if h.turning == nil {
+		h.turning = &turning{awaited: map[int]time.Time{}, over: make(chan struct{})}
+		for voter, grant := range h.grants() {
+			h.turning.awaited[voter] = time.Time{}
+			if grant > h.turning.turn {
+				h.turning.turn = grant
+			}
 		}
 	}
-	c.turns[h] = true
-	return h.turning
+	if !h.turning.isOver() {
+		h.turning.callers++
+		c.turns[h] = true
+	}
+	return h.turning, nil
+}
+
+// hasNoTurn returns why there is no turn of a lock any more, nil if there is.
+func (h *Held) hasNoTurn() error {
+	switch {
+	case h.lock.held != h:
+		return fmt.Errorf("%s: %w", h.lock.name, ErrNotHeld)
+	case h.over.Load():
+		return fmt.Errorf("%s: %w", h.lock.name, ErrLapsed)
+	}
+	return nil
+}
+
+// leaveTurn ends one call that waits. For the last one the voters are asked no more; what they said stays.
+func (c *Client) leaveTurn(h *Held, t *turning) {
+	if t.callers--; t.callers == 0 {
+		delete(c.turns, h)
+	}
 }
 
 // isOver returns whether all voters replied, or it failed.
@@ -92,19 +124,12 @@ func (t *turning) end(why error) {
 // sendTurns asks the voters again that did not reply, and ends the calls that are over.
 func (c *Client) sendTurns(now time.Time) {
 	for h := range c.turns {
-		t := h.turning
-		switch {
-		case h.lock.held != h:
-			t.end(fmt.Errorf("%s: %w", h.lock.name, ErrNotHeld))
-		case h.over.Load():
-			t.end(fmt.Errorf("%s: %w", h.lock.name, ErrLapsed))
-		case len(t.awaited) == 0:
-			t.end(nil)
-		default:
-			c.askForTurn(h, now)
+		if why := h.hasNoTurn(); why != nil || len(h.turning.awaited) == 0 {
+			h.turning.end(why)
+			delete(c.turns, h)
 			continue
 		}
-		delete(c.turns, h)
+		c.askForTurn(h, now)
 	}
 }
 

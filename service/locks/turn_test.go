@@ -26,6 +26,9 @@ func turnOf(t *testing.T, c *Client, name string) uint64 {
 	if err := held.Unlock(); err != nil {
 		t.Error(err)
 	}
+	if late, err := held.Turn(within(t, 20*time.Second)); late != 0 || !errors.Is(err, ErrNotHeld) {
+		t.Errorf("%d, %v of a lock that was given back", late, err)
+	}
 	return turn
 }
 
@@ -75,6 +78,12 @@ func TestNoTurn(t *testing.T) {
 	if turn, err := held.Turn(ctx); turn != 0 || !errors.Is(err, ErrNoQuorum) || !errors.Is(err, context.DeadlineExceeded) {
 		t.Errorf("%d, %v", turn, err)
 	}
+	_ = c.call(func() error {
+		if len(c.turns) > 0 {
+			t.Error("voters are asked though nobody waits any more")
+		}
+		return nil
+	})
 	_ = held.Unlock()
 	if turn, err := held.Turn(within(t, 5*time.Second)); turn != 0 || !errors.Is(err, ErrNotHeld) {
 		t.Errorf("%d, %v", turn, err)

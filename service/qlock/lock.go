@@ -111,8 +111,9 @@ type LockShown struct {
 }
 
 func shownOf(s *C.struct_qlock_lock_shown) LockShown {
-	return LockShown{IsTaken: s.changed == 1 || s.changed == 2, IsPutOff: s.changed == 3, MustSave: s.changed == 2, Stamp: uint64(s.stamp), Finished: uint64(s.finished),
-		Held: Grant{uint64(s.holder), uint64(s.held), uint64(s.grant)}}
+	held := Grant{uint64(s.holder), uint64(s.held), uint64(s.grant)}
+	return LockShown{IsTaken: s.changed == 1 || s.changed == 2, IsPutOff: s.changed == 3, MustSave: s.changed == 2,
+		Stamp: uint64(s.stamp), Finished: uint64(s.finished), Held: held}
 }
 
 // TakeFrom takes the line of a message from a session, if the row of its number says that it may say this, and if it is not put off: in the

@@ -8,8 +8,8 @@ import (
 	"calvundek.example/service/qlock"
 )
 
-// What sessions say of themselves, and what they want to know of locks. No vote depends on it, but for turns (turn.go). It is in memory alone: a session says its
-// note again to a voter that started.
+// What sessions say of themselves, and what they want to know of locks. No vote depends on it, but for turns (turn.go). It is in memory
+// alone: a session says its note again to a voter that started.
 
 // What one question costs at most.
 const (
@@ -68,7 +68,7 @@ func (d *Daemon) ask(l *letter, speaker qlock.Standing, line []byte, now time.Ti
 	case ask.Kind == wire.SaysAbout:
 		d.noteAbout(l.Number, ask)
 	case ask.Kind == wire.WantsTurn:
-		d.turn(l, ask, now)
+		d.skipFor(l, ask, now)
 	}
 	if l.Epoch == 0 && l.once("plans") {
 		d.announce(l.Name) // who only looks sends no heartbeats

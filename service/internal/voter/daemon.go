@@ -75,8 +75,9 @@ type Daemon struct {
 	newPeers        map[int]Peer // they changed since the last save
 	newOwn          bool         // what the state has of its own starts changed
 	letters         []posted     // words to other voters that leave after the save
-	turns           []turning    // turns that are told after the save
-	blocks          qlock.Bucket // how far the ceiling may be raised for turns
+	skips           []skip       // turns that are told after the save
+	skippable       qlock.Bucket // how many more numbers may be skipped for turns
+	reach           uint64       // up to which number they may be now
 	voters          <-chan transport.Message
 	floor, ceiling  uint64            // its grants are above the floor, and up to the ceiling
 	quietUntil      time.Time         // only those inside get a vote, and this is when it may end; zero once it has ended
@@ -169,7 +170,7 @@ func (d *Daemon) begin() (err error) {
 // load reads the sessions and the votes. All leases begin anew.
 func (d *Daemon) load(now time.Time) error {
 	d.table.begin(now)
-	d.blocks = *qlock.NewBucket(turnRate, mostBlocks, 0)
+	d.skippable = *qlock.NewBucket(skipRate, mostSkip, 0)
 	type saved struct {
 		name  string
 		state []byte

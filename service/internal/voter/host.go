@@ -189,7 +189,7 @@ func (d *Daemon) IsLively(within time.Duration) bool {
 // makes up for the loss.
 func (d *Daemon) commit(now time.Time) error {
 	must := len(d.dirty)+len(d.table.changed)+len(d.newPeers) > 0 || d.newPlans || d.newOwn
-	leaves := len(d.out)+len(d.replies)+len(d.letters)+len(d.turns) > 0
+	leaves := len(d.out)+len(d.replies)+len(d.letters)+len(d.skips) > 0
 	switch {
 	case !must && len(d.table.later)+len(d.silent)+len(d.gone) == 0:
 		d.savedAll = now
@@ -199,7 +199,7 @@ func (d *Daemon) commit(now time.Time) error {
 		}
 	}
 	if leaves {
-		d.tellTurns()
+		d.tellSkips()
 		d.deliver()
 	}
 	return nil

@@ -37,12 +37,14 @@ import (
 //
 // What is kept and who is refused, and when a voter asks, serves and raises its ceiling, are calls of the proved library
 // (qlock.Peer, qlock.Start). That no two processes of a voter give the same grant is a law of the crate starts, of voters that
-// lose no state: if some other voter keeps the ceilings of both, and said to both which ceiling it knew before they served. In Go are the words, whom they are from, the time, the plans' quorums, and the quiet time.
+// lose no state: if some other voter keeps the ceilings of both, and said to both which ceiling it knew before they served. In Go are the
+// words, whom they are from, the time, the plans' quorums, and the quiet time.
 
 // The errors of a start.
 var (
 	ErrPlace = errors.New("another voter has this place: one whose state was lost needs `qlock-voter init --lost`")
-	ErrOlder = errors.New("the state is an older copy, or another process has a copy of it: put the newest one back, or make the voter again by `qlock-voter init --lost`")
+	ErrOlder = errors.New("the state is an older copy, or another process has a copy of it: " +
+		"put the newest one back, or make the voter again by `qlock-voter init --lost`")
 )
 
 const (

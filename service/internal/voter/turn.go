@@ -11,30 +11,35 @@ import (
 // greatest of its grants, which is the turn. So what a voter of both gives later has a greater number, and a later turn is greater: the law
 // turns_grow of the crate passes. It is of moments at which a voter has saved that it skipped, and that the grant has its vote.
 
-// How far the ceiling may be raised for turns, in blocks of 2^24 numbers: voters number their grants each by itself, and one that started
-// more often is ahead of others.
+// How many numbers may be skipped for turns: voters number their grants each by itself, and one that started more often is ahead of
+// others. So there are enough at once, and 2^63 last for ever.
 const (
-	turnBlock  = 1 << 24
-	turnRate   = 1       // blocks a second
-	mostBlocks = 1 << 20 // at once
+	skipRate = 1 << 24 // a second
+	mostSkip = 1 << 44 // at once
 )
 
-// turning is a turn that is told once it is saved, if the grant has the vote then.
-type turning struct {
+// skip is a turn that is told once it is saved, if the grant has the vote then.
+type skip struct {
 	vote    *vote
 	session string
 	ask     wire.Ask
 }
 
-// turn has a vote skip numbers, for who has it. It says so after the next save. If it would have to skip beyond the ceiling it asks the
-// other voters for a higher one, and says nothing: the client asks again.
-func (d *Daemon) turn(l *letter, ask wire.Ask, now time.Time) {
+// skipFor has a vote skip numbers, for who has it. It says so after the next save. As long as it may not skip as many, or would have to go
+// beyond the ceiling, for which it asks the other voters, it says nothing: the client asks again.
+func (d *Daemon) skipFor(l *letter, ask wire.Ask, now time.Time) {
 	v := d.votes[ask.Lock]
-	if !d.join.done || v == nil || !v.isHolder(l.Number) || v.held.Stamp != ask.Number || v.held.Number != ask.Grant || d.table.isEarlier(l.Number, ask.Number) {
-		return // it hears otherwise that it does not have this vote
+	if !d.join.done || v == nil || !v.isHolder(l.Number) || v.held.Stamp != ask.Number || v.held.Number != ask.Grant ||
+		d.table.isEarlier(l.Number, ask.Number) {
+		return // it hears otherwise that it does not have this vote, or has to find out
+	}
+	if !d.mayReach(ask.Top, now) {
+		return
 	}
 	if ask.Top > d.ceiling {
-		d.raiseFor(ask.Top, now)
+		if d.join.start.Shows().Asked <= d.ceiling { // else it was asked for one already
+			d.needsCeiling(ask.Top, now)
+		}
 		return
 	}
 	if ask.Top > v.limit {
@@ -51,26 +56,34 @@ func (d *Daemon) turn(l *letter, ask wire.Ask, now time.Time) {
 	d.dirty[v] = struct{}{}
 	delete(d.silent, v)
 	v.isRaised = false
-	d.turns = append(d.turns, turning{v, l.Name, ask})
+	d.skips = append(d.skips, skip{v, l.Name, ask})
 }
 
-// raiseFor asks for a ceiling above a number, if there are enough tokens.
-func (d *Daemon) raiseFor(number uint64, now time.Time) {
-	if d.join.start.Shows().Asked > d.ceiling || number > qlock.MaxStamp {
-		return // it was asked for one already
+// mayReach returns whether numbers may be skipped up to this one: those that some lock here has used, and as many more as there were tokens
+// for. What is too far away comes nearer each time.
+func (d *Daemon) mayReach(number uint64, now time.Time) bool {
+	d.reach = greatest(d.reach, greatest(d.floor, d.m.most))
+	if number <= d.reach {
+		return true
 	}
-	if d.blocks.Spend(now.Sub(d.table.began), (number-d.ceiling)/turnBlock+1) == nil {
-		d.needsCeiling(number, now)
+	if number > qlock.MaxStamp {
+		return false // no grant has such a number
 	}
+	since := now.Sub(d.table.began)
+	further := smallest(number-d.reach, d.skippable.Left(since))
+	if d.skippable.Spend(since, further) == nil {
+		d.reach += further
+	}
+	return number <= d.reach
 }
 
-// tellTurns puts the turns that are saved with what leaves.
-func (d *Daemon) tellTurns() {
-	for _, t := range d.turns {
-		if t.vote.held.Number == t.ask.Grant {
-			told := wire.Told{Kind: wire.Turned, Lock: t.ask.Lock, Stamp: t.ask.Number, Top: t.ask.Top}
-			d.put(t.session, told.Append(d.out[t.session]))
+// tellSkips puts the turns that are saved with what leaves.
+func (d *Daemon) tellSkips() {
+	for _, s := range d.skips {
+		if s.vote.held.Number == s.ask.Grant {
+			told := wire.Told{Kind: wire.Turned, Lock: s.ask.Lock, Stamp: s.ask.Number, Top: s.ask.Top}
+			d.put(s.session, told.Append(d.out[s.session]))
 		}
 	}
-	d.turns = d.turns[:0]
+	d.skips = d.skips[:0]
 }

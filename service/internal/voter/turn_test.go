@@ -5,6 +5,8 @@ import (
 	"strings"
 	"testing"
 	"time"
+
+	"calvundek.example/service/qlock"
 )
 
 // turned returns what a voter replies, after a save, to a session that asks for a turn.
@@ -14,12 +16,12 @@ func (d *Daemon) turned(t *testing.T, number int, lines string) string {
 	if reply := d.repliesTo("jobs", number, lines); strings.Contains(reply, "turned") {
 		t.Fatalf("%q: %q leaves before the save", lines, reply)
 	}
-	if len(d.dirty)+len(d.silent) > 0 || len(d.turns) > 0 {
+	if len(d.dirty)+len(d.silent) > 0 || len(d.skips) > 0 {
 		if err := d.save(time.Now()); err != nil {
 			t.Fatal(err)
 		}
 	}
-	d.tellTurns()
+	d.tellSkips()
 	reply := string(d.out[session])
 	delete(d.out, session)
 	return reply
@@ -74,23 +76,52 @@ func TestTurnsAreOfTheHolder(t *testing.T) {
 	}
 }
 
-// For a turn beyond its ceiling a voter asks the others for a higher one first. How far that goes is bounded.
+// For a turn beyond its ceiling a voter asks the others for a higher one first.
 func TestTurnsRaiseTheCeiling(t *testing.T) {
 	d := sessions(t, 1)
 	d.repliesTo("jobs", 1, "orders request 1 0 5\n")
-	grant, top := d.votes["orders"].held.Number, d.ceiling+3*turnBlock
+	grant, top := d.votes["orders"].held.Number, d.ceiling+3*skipRate
 	ask := fmt.Sprintf(". turn orders 5 %d %d\n", grant, top)
-	if reply := d.turned(t, 1, ask); reply != "" || d.join.start.Shows().Asked <= top {
-		t.Fatalf("%q, asked for %d, which is not above %d", reply, d.join.start.Shows().Asked, top)
+	if reply := d.turned(t, 1, ask); reply != "" || d.asked() <= top {
+		t.Fatalf("%q, asked for %d, which is not above %d", reply, d.asked(), top)
 	}
 	d.start(time.Now()) // there is no other voter
 	if reply, want := d.turned(t, 1, ask), fmt.Sprintf(". turned orders 5 %d\n", top); reply != want || d.ceiling <= top {
 		t.Errorf("%q under the ceiling %d", reply, d.ceiling)
 	}
 	before := d.ceiling
-	for _, top := range []uint64{before + (mostBlocks+1)*turnBlock, 1 << 62, 1<<63 + 1} {
-		if reply := d.turned(t, 1, fmt.Sprintf(". turn orders 5 %d %d\n", grant, top)); reply != "" || d.join.start.Shows().Asked > before {
-			t.Errorf("%d: %q, asked for %d", top, reply, d.join.start.Shows().Asked)
+	for _, top := range []uint64{before + mostSkip, 1 << 62, 1<<63 + 1} {
+		if reply := d.turned(t, 1, fmt.Sprintf(". turn orders 5 %d %d\n", grant, top)); reply != "" || d.asked() > before {
+			t.Errorf("%d: %q, asked for %d", top, reply, d.asked())
+		}
+	}
+}
+
+// Who asks for greater turns again and again has no more numbers skipped than there were tokens for, also where none is beyond the ceiling.
+func TestTurnsAreBounded(t *testing.T) {
+	d := sessions(t, 1)
+	d.skippable = *qlock.NewBucket(0, 2*(5<<24), 0) // 5 * 2^24 numbers, and never more
+	d.repliesTo("jobs", 1, "orders request 1 0 5\n")
+	grant, told := d.votes["orders"].held.Number, 0
+	for i := 0; i < 40; i++ {
+		if reply := d.turned(t, 1, fmt.Sprintf(". turn orders 5 %d %d\n", grant, d.ceiling)); reply != "" {
+			told++
+		}
+		d.start(time.Now())
+	}
+	if skipped := d.m.most - grant; told == 0 || skipped > 5<<24 {
+		t.Errorf("%d turns, by which %d numbers were skipped", told, skipped)
+	}
+}
+
+// What is further than there are tokens for comes nearer each time, and there it is told.
+func TestTurnsComeNearer(t *testing.T) {
+	d := sessions(t, 1)
+	d.skippable = *qlock.NewBucket(100, 1000, 0)
+	far := greatest(d.floor, d.m.most) + 2000
+	for seconds := 0; seconds <= 15; seconds += 5 {
+		if may := d.mayReach(far, d.table.began.Add(time.Duration(seconds)*time.Second)); may != (seconds == 15) {
+			t.Errorf("after %d seconds: %v", seconds, may)
 		}
 	}
 }

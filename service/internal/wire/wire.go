@@ -7,7 +7,7 @@
 //
 // Behind these there may be level=LEVEL of clients and voters (package level), and then words KEY=VALUE. Who does not know a key
 // ignores it, and so it is with words of control. There is one space between two words, and no number has a leading zero. The
-// names CLUSTER, COTERIE, SESSION, IDENTITY and NAME are 1 to 64 of A-Z a-z 0-9 _ -
+// names CLUSTER, COTERIE, IDENTITY and NAME are 1 to 64 of A-Z a-z 0-9 _ - and SESSION is 1 to 32 of them.
 //
 // The header, the lines of a message, and lines of control that have numbers only or the name of a lock ("gone", "full", "held") are
 // read and written by proved calls of libqlock (package qlock): each is read if and only if it is there, and what is written is read
@@ -35,8 +35,11 @@
 //	              the numbers that wait, one bit for each. It ends behind WAITING if nobody has it, and behind
 //	              USER if he has no note
 //	list ID PLACE PREFIX   has ID .. for some locks, and listed ID PLACE NEXT; 0 begins, and is the end
+//	turn LOCK STAMP GRANT TOP  turned LOCK STAMP TOP: the voter skipped the numbers of the lock's grants up to TOP, and saved
+//	              that. None if the request of this stamp does not have the vote by the grant of this number
 //
-// A TEXT is 1 to 128 printable bytes of ASCII. These words decide nothing (asks.go). Who has no number may ask "who" and "list", too.
+// A TEXT is 1 to 128 printable bytes of ASCII. None of the last six words decides who has a vote (asks.go); "turn" decides how the next
+// grants are numbered. Who has no number may ask "who" and "list", too.
 //
 // A voter also sends "gone LOCK STAMP" when it let a request go, "full LOCK STAMP" if it has no
 // room for the lock of a REQUEST, or for another one of its user, "taken N EPOCH" to a session that is over, and "unknown N EPOCH"
