@@ -38,7 +38,7 @@
 //	turn LOCK STAMP GRANT TOP  turned LOCK STAMP TOP: the voter skipped the numbers of the lock's grants up to TOP, and saved
 //	              that. None if the request of this stamp does not have the vote by the grant of this number
 //
-// A TEXT is 1 to 128 printable bytes of ASCII. None of the last six words decides who has a vote (asks.go); "turn" decides how the next
+// A TEXT is 1 to 128 printable bytes of ASCII. None of the last five words decides who has a vote (asks.go); "turn" decides how the next
 // grants are numbered. Who has no number may ask "who" and "list", too.
 //
 // A voter also sends "gone LOCK STAMP" when it let a request go, "full LOCK STAMP" if it has no
