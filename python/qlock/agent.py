@@ -252,7 +252,10 @@ class Held:
 
     def _read(self) -> None:
         """Reads what the agent says, until the lock is over."""
-        self.why = self._end()
+        try:
+            self.why = self._end()
+        except Exception:  # what the agent said is none of its lines: nobody may go on with the lock
+            self.why = "connection"
         was_given_back = self._is_over
         self.lost.set()
         self._ended.set()

@@ -13,6 +13,7 @@ import (
 // turning is a call of Held.Turn that waits for the voters of the lock's quorum.
 type turning struct {
 	turn    uint64
+	grants  map[int]uint64    // the number of each voter's grant
 	awaited map[int]time.Time // when a voter was asked last, of those that did not reply
 	callers int               // how many calls wait
 	over    chan struct{}
@@ -20,12 +21,14 @@ type turning struct {
 }
 
 // Turn returns the lock's turn: one number, for a place that can compare one number and keeps no guard, as a version or an ETag. Of two
-// holders of a lock that ask for it the later one gets the greater turn: that is proved of voters that lose no state. The same lock
-// always gets the same turn. A place that refuses what shows a smaller turn than it saw before refuses who came late, as a guard does; both
-// have to compare and write in one step.
+// holders of a lock that ask for it the later one gets the greater turn: that is proved of grants by voters that lose no state, and of
+// plans of which any two quorums meet (two exchanges may lead to one that does not meet the first). The same lock always gets the same
+// turn. A place that refuses what shows a smaller turn than it saw before refuses who came late, as a guard does; both have to compare and
+// write in one step.
 //
-// It takes one trip to the voters of the quorum, and a save at each. It fails with ErrLapsed if the lock may have been lost, with ErrNotHeld
-// if it was given back, and with ErrNoQuorum if some voter did not reply until the context ended. Voters of older programs never reply.
+// It takes one trip to the voters of the quorum, and a save at each. It fails with ErrLapsed if the lock may have been lost, with
+// ErrNotHeld if it was given back, and with ErrNoQuorum if some voter did not reply until the context ended. Voters of older programs never
+// reply.
 func (h *Held) Turn(ctx context.Context) (uint64, error) {
 	var t *turning
 	err := h.client.call(func() error {
@@ -70,8 +73,8 @@ func (c *Client) wantTurn(h *Held) (*turning, error) {
 		return nil, why
 	}
 	if h.turning == nil {
-		h.turning = &turning{awaited: map[int]time.Time{}, over: make(chan struct{})}
-		for voter, grant := range h.grants() {
+		h.turning = &turning{grants: h.grants(), awaited: map[int]time.Time{}, over: make(chan struct{})}
+		for voter, grant := range h.turning.grants {
 			h.turning.awaited[voter] = time.Time{}
 			if grant > h.turning.turn {
 				h.turning.turn = grant
@@ -135,13 +138,12 @@ func (c *Client) sendTurns(now time.Time) {
 
 // askForTurn asks the voters that did not reply, those for which this turn of the loop has room.
 func (c *Client) askForTurn(h *Held, now time.Time) {
-	grants := h.grants()
 	for voter, asked := range h.turning.awaited {
 		if now.Sub(asked) < repeatAsk || voter >= len(c.peers) || !c.hasRoom(voter) {
 			continue
 		}
 		h.turning.awaited[voter] = now
-		ask := wire.Ask{Kind: wire.WantsTurn, Lock: h.lock.name, Number: h.stamp, Grant: grants[voter], Top: h.turning.turn}
+		ask := wire.Ask{Kind: wire.WantsTurn, Lock: h.lock.name, Number: h.stamp, Grant: h.turning.grants[voter], Top: h.turning.turn}
 		c.out[voter] = ask.Append(c.out[voter])
 	}
 }

@@ -80,6 +80,7 @@ func deletes(socket, lock string) {
 
 // By an agent each exit status is the same as without one.
 func TestRunByAgent(t *testing.T) {
+	t.Setenv("QLOCK_TURN", "7") // of another lock
 	socket, port := agentIn(t, 2*time.Second)
 	held, err := agent.New(socket).Lock(context.Background(), "held")
 	if err != nil {

@@ -263,7 +263,7 @@ func runProgram(ctx context.Context, grace time.Duration, words []string, enviro
 	runtime.LockOSThread() // the program is killed when the thread ends that started it
 	defer runtime.UnlockOSThread()
 	program := exec.Command(words[0], words[1:]...)
-	program.Env = append(os.Environ(), environment...)
+	program.Env = append(without("QLOCK_TURN", os.Environ()), environment...) // what a run around this one has is of another lock
 	program.SysProcAttr = &syscall.SysProcAttr{Setpgid: true, Pdeathsig: syscall.SIGKILL}
 	program.Stdin, program.Stdout, program.Stderr = os.Stdin, os.Stdout, os.Stderr
 	if err := program.Start(); err != nil {
@@ -286,6 +286,17 @@ func runProgram(ctx context.Context, grace time.Duration, words []string, enviro
 		_ = syscall.Kill(group, syscall.SIGKILL)
 		return exitCode(<-ended)
 	}
+}
+
+// without returns the variables of an environment but one.
+func without(name string, environment []string) []string {
+	var others []string
+	for _, variable := range environment {
+		if !strings.HasPrefix(variable, name+"=") {
+			others = append(others, variable)
+		}
+	}
+	return others
 }
 
 // endGroup waits until the processes of a group have ended whose program has. It kills those that are left at the limit.

@@ -273,6 +273,9 @@ func (a *Agent) take(ctx context.Context, p *place, asked asked) (*session, erro
 			take = s.TryLockFor
 		}
 		held, err := take(ctx, asked.name, asked.whom)
+		if err == nil && asked.turns {
+			p.turn, err = turnOf(ctx, held)
+		}
 		if err == nil {
 			err = a.hold(ctx, p, held, s, asked.tries)
 		}
@@ -280,6 +283,18 @@ func (a *Agent) take(ctx context.Context, p *place, asked asked) (*session, erro
 			return s, err
 		}
 	}
+}
+
+// turnOf returns a lock's turn. If there is none it gives the lock back.
+func turnOf(ctx context.Context, held *locks.Held) (uint64, error) {
+	turn, err := held.Turn(ctx)
+	if err != nil {
+		_ = held.Unlock()
+	}
+	if errors.Is(err, locks.ErrNoQuorum) {
+		err = errNoTurn
+	}
+	return turn, err
 }
 
 // sleep waits, at most until the context ends.

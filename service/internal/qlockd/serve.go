@@ -48,6 +48,7 @@ var faults = []struct {
 	{errClosing, http.StatusServiceUnavailable, "closing"},
 	{errGone, http.StatusRequestTimeout, "gone"},
 	{errNoSession, http.StatusGatewayTimeout, "unreachable"},
+	{errNoTurn, http.StatusGatewayTimeout, "unreachable"},
 	{locks.ErrFull, http.StatusInsufficientStorage, "full"},
 }
 
@@ -57,6 +58,7 @@ var (
 	errTimeout = errors.New("the lock was not to be had in time")
 	errClosing = errors.New("the agent ends")
 	errGone    = errors.New("the connection ended before the lock was to be had")
+	errNoTurn  = errors.New("some voter that has to tell the lock's turn did not")
 )
 
 // faultOf returns what is said of an error.
@@ -263,9 +265,6 @@ func (a *Agent) lock(w http.ResponseWriter, r *http.Request, name string) {
 	defer ignore()
 	ctx, cancel := a.within(connection, of)
 	s, err := a.take(ctx, p, of)
-	if err == nil && of.turns {
-		p.turn, err = p.held.Turn(ctx)
-	}
 	if err != nil && ctx.Err() != nil {
 		err = a.explain(connection, s, of, err)
 	}
@@ -294,6 +293,9 @@ func (a *Agent) explain(connection context.Context, s *session, of asked, err er
 	}
 	if s.IsCutOff() {
 		return fmt.Errorf("%s: %w that reaches a quorum%s", of.name, errNoSession, silent)
+	}
+	if errors.Is(err, errNoTurn) {
+		return fmt.Errorf("%s: %w, for %v%s", of.name, errNoTurn, of.wait, silent)
 	}
 	return fmt.Errorf("%s: %w, for %v%s", of.name, errTimeout, of.wait, silent)
 }

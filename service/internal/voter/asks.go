@@ -8,8 +8,8 @@ import (
 	"calvundek.example/service/qlock"
 )
 
-// What sessions say of themselves, and what they want to know of locks. No vote depends on it, but for turns (turn.go). It is in memory
-// alone: a session says its note again to a voter that started.
+// What sessions say of themselves, and what they want to know of locks. No vote depends on it, but for turns (turn.go). Notes are in memory
+// alone: a session says its own again to a voter that started.
 
 // What one question costs at most.
 const (

@@ -23,7 +23,7 @@ type metrics struct {
 	locks, busy, held, userLocks, sessions, numbers, plan, left                      prometheus.Gauge
 
 	lasting, waiting oldest // of the grants that last, and of the requests that wait
-	most             uint64 // the highest number of a grant that was noted
+	most             uint64 // the highest number of a grant that was given, or skipped for a turn
 }
 
 // highest notes the number of a grant, and returns the highest one that was noted.

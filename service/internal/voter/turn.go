@@ -59,10 +59,13 @@ func (d *Daemon) skipFor(l *letter, ask wire.Ask, now time.Time) {
 	d.skips = append(d.skips, skip{v, l.Name, ask})
 }
 
-// mayReach returns whether numbers may be skipped up to this one: those that some lock here has used, and as many more as there were tokens
-// for. What is too far away comes nearer each time.
+// mayReach returns whether numbers may be skipped up to this one: those that some lock here has used, or another voter may have, and as
+// many more as there were tokens for. What is too far away comes nearer each time.
 func (d *Daemon) mayReach(number uint64, now time.Time) bool {
 	d.reach = greatest(d.reach, greatest(d.floor, d.m.most))
+	for _, peer := range d.peers {
+		d.reach = greatest(d.reach, peer.Ceiling)
+	}
 	if number <= d.reach {
 		return true
 	}

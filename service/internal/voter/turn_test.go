@@ -114,7 +114,7 @@ func TestTurnsAreBounded(t *testing.T) {
 	}
 }
 
-// What is further than there are tokens for comes nearer each time, and there it is told.
+// What is further than there are tokens for comes nearer each time, and is reached in the end. To where another voter may be it is no way.
 func TestTurnsComeNearer(t *testing.T) {
 	d := sessions(t, 1)
 	d.skippable = *qlock.NewBucket(100, 1000, 0)
@@ -123,5 +123,9 @@ func TestTurnsComeNearer(t *testing.T) {
 		if may := d.mayReach(far, d.table.began.Add(time.Duration(seconds)*time.Second)); may != (seconds == 15) {
 			t.Errorf("after %d seconds: %v", seconds, may)
 		}
+	}
+	d.peers[1].Ceiling = 1 << 50
+	if !d.mayReach(1<<50, d.table.began) || d.mayReach(1<<50+2000, d.table.began) {
+		t.Error("it does not follow another voter, or is far ahead of it")
 	}
 }
