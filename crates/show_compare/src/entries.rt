@@ -18,9 +18,11 @@ pub struct Candidate {
 
 /// A candidate and its figures.
 #[derive(Drop)]
-pub(crate) struct Entry<'a> {
-    pub(crate) candidate: &'a Candidate,
-    pub(crate) compared: Comparison,
+pub struct Entry<'a> {
+    /// The candidate.
+    pub candidate: &'a Candidate,
+    /// Its figures.
+    pub compared: Comparison,
 }
 
 /// Returns the figures of a coterie.
@@ -31,8 +33,8 @@ fn figures_of(alloc: Global, named: &Named) -> Result<Comparison, AllocError>
     Ok(compared)
 }
 
-/// Returns the candidates with their figures.
-pub(crate) fn entries_of<'a>(
+/// Returns the candidates with their figures. Fails only if it runs out of memory.
+pub fn entries_of<'a>(
     alloc: Global,
     candidates: &'a [Candidate],
 ) -> Result<Vec<Entry<'a>>, AllocError>

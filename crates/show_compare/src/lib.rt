@@ -25,5 +25,5 @@ mod groups;
 mod legend;
 mod page;
 
-pub use entries::Candidate;
+pub use entries::{Candidate, Entry, entries_of};
 pub use page::compare_page;

@@ -12,8 +12,14 @@
 //! - [`resilience_json`] says how many voters may fail, and which groups of them.
 //! - [`compare_json`] has the figures of coteries side by side.
 //!
-//! They are proved safe; what they say is only tested. The figures come from functions that pin them: of
-//! `show_figures`, `show_failures`, `failures`, `certificate` and `even`.
+//! # What is proved
+//!
+//! The page of [`compare_json`] is the one of the definition in `specs/Compared.antt`, letter by letter: the
+//! names of these coteries and their figures, as `show_figures` has them. How values become JSON is defined in
+//! `specs/Values.antt`.
+//!
+//! The other pages are proved safe; what they say is only tested. The figures come from functions that pin
+//! them: of `show_figures`, `show_failures`, `failures`, `certificate` and `even`.
 //!
 //! Depends on these, on `show_compare` for what to compare, and on `serde` and `serde_json` for JSON.
 //!
@@ -27,6 +33,7 @@ mod compared;
 mod dealt;
 mod parts;
 mod resilience;
+mod values;
 mod weights;
 
 pub use compared::compare_json;
