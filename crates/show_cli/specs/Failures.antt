@@ -1,5 +1,6 @@
 -- Pages of coteries: what is left when voters fail, what may fail, and bridges; and their faults.
-use Rattle.std.specs.Prelude.{◌≡◌, ℕ, ◌+◌, ◌-◌, List, [], ◌∷◌, None, Some, Result, Ok, Err, zero, suc}
+use Rattle.std.specs.Prelude.{◌≡◌, ℕ, ◌+◌, ◌-◌, List, [], ◌∷◌, length, map, slice_index_or, string_bytes, None, Some, Result, Ok, Err, zero, suc}
+use Rattle.std.specs.List.{range_with_len}
 use Rattle.coterie_file.specs.Named.{NamedSystem}
 use Rattle.plan_inputs.specs.Inputs.{WeighedSystem}
 use Rattle.show_failures.specs.Names.{first_unknown, voters_named}
@@ -8,6 +9,11 @@ use Rattle.commands.specs.Commands.{◌>>=◌, Refuses, coterie_part, weighed_in
 use Rattle.commands.specs.Parts.{split}
 use Rattle.commands.specs.declared.fault.Fault.{Fault}
 use Rattle.commands.specs.declared.fault.Fault.TheVariants.{UnknownVoter}
+use Rattle.show_command_line.specs.declared.command.Form.{Form}
+use Rattle.show_command_line.specs.declared.command.Form.TheVariants.{Json, Words}
+use Rattle.show_compare.specs.Compare.{IsComparePage}
+use Rattle.show_compare.specs.declared.entries.Candidate.{Candidate}
+use Rattle.show_json.specs.Compared.{IsCompareJson}
 
 -- what an input of two parts describes: two coteries
 unfoldable pub pair_in : List ℕ → Result (NamedSystem × NamedSystem) Fault
@@ -77,7 +83,23 @@ coteries_in (suc n) number input = do
 abbrev pub files_in : ℕ → List ℕ → Result (List NamedSystem) Fault
 files_in files input = coteries_in (files - 1) 1 input
 
--- the input is as many coteries as there are files
-pub record HasCoteries (files : ℕ) (input : List ℕ) : Type 0 where
-  pub coteries : List NamedSystem
-  pub parts : files_in files input ≡ Ok coteries
+-- the name of the file at this place, or no name if there is none
+abbrev pub file_name : List (List ℕ) → ℕ → List ℕ
+file_name files place = slice_index_or files place []
+
+-- the names of so many coteries: those of the files, in order
+abbrev pub file_names : ℕ → List (List ℕ) → List (List ℕ)
+file_names n files = map (file_name files) (range_with_len 0 n)
+
+-- what the page of these coteries is: tables in words, or their figures as JSON
+abbrev pub IsComparedAs : Form → List Candidate → List ℕ → Type 0
+IsComparedAs Words candidates page = IsComparePage candidates page
+IsComparedAs Json candidates page = IsCompareJson candidates page
+
+-- The input is as many coteries as there are files. The page has their figures, and they are called as the
+-- files.
+pub record IsCompared (form : Form) (files : List (List ℕ)) (input page : List ℕ) : Type 0 where
+  pub candidates : List Candidate
+  pub parts : files_in (length files) input ≡ Ok (map (λ c. c.named) candidates)
+  pub names : map (λ c. string_bytes c.name) candidates ≡ file_names (length candidates) files
+  pub shows : IsComparedAs form candidates page

@@ -12,7 +12,7 @@ use Rattle.whole_io.specs.Devices.{AppendsBeginning}
 use Rattle.whole_io.specs.declared.fault.DeviceFault.TheVariants.{ReadFault, TooLong, WriteFault}
 use Rattle.show_refusals.specs.Pages.{IsFaultPage}
 use Rattle.commands.specs.Parts.{split}
-use Rattle.show_cli.specs.Failures.{HasCoterie, HasCoteries, HasPair, HasParts, HasWeights, IsWithoutOf, RefusesParts, RefusesWithout, files_in, pair_in}
+use Rattle.show_cli.specs.Failures.{HasCoterie, HasPair, HasParts, HasWeights, IsCompared, IsWithoutOf, RefusesParts, RefusesWithout, files_in, pair_in}
 use Rattle.show_cli.specs.Found.{IsFoundPage}
 use Rattle.show_cli.specs.Shapes.{RefusesShape}
 use Rattle.show_cli.specs.Stories.{IsStory, RefusesStory}
@@ -32,7 +32,8 @@ abbrev pub IsStoryPicture : List ℕ → List ℕ → Type 0
 IsStoryPicture input page = IsStory input × IsEnded page
 
 -- The page is one of the command for the input. Of a page of words only the parts of the input are
--- determined, except for `without`, `waiting`, `explain`, `fault`, and the text of `near`.
+-- determined, except for `without`, `waiting`, `explain`, `fault`, the text of `near`, and `compare`: its
+-- tables and its JSON.
 abbrev pub IsPage : ShowCommand → List ℕ → List ℕ → Type 0
 IsPage (show.Plan form) input page = HasWeights input
 IsPage show.Check input page = HasWeights input
@@ -40,7 +41,7 @@ IsPage show.Report input page = HasWeights input
 IsPage (show.Deal dealing) input page = HasWeights input
 IsPage (show.Near page_of) input page = IsFoundPage page_of input page
 IsPage (show.Coterie shape capacities) input page = text_at shape (option_map (λ list. list.items) capacities) ≡ Ok page
-IsPage (show.Compare files form) input page = HasCoteries (length files.items) input
+IsPage (show.Compare files form) input page = IsCompared form (map string_bytes files.items) input page
 IsPage (show.Without words) input page = IsWithoutOf (map string_bytes words.items) input page
 IsPage (show.Resilience form) input page = HasParts (split 2 input) input
 IsPage show.Bridge input page = HasPair input

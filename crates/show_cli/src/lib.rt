@@ -13,6 +13,8 @@
 //! - the input has the parts that the command needs: a coterie with a plan or other weights of it, one
 //!   coterie or two, or a story whose coteries go together;
 //! - of `without`, `waiting` and `coterie` the whole page is determined;
+//! - a page of `compare` has the figures of the coteries in the input, which are called as the files: in
+//!   words in tables, and as JSON alone;
 //! - `near --text` writes the text of weights of the coterie, with a cycle of at most the wanted length;
 //!   it is a plan's if and only if the weights are a plan;
 //! - of `explain` the code is, but not what the text says; the page of all faults and the list of their
