@@ -178,6 +178,13 @@ class WithMadeUpAgent(unittest.TestCase):
         self.assertGreater(time.monotonic() - began, 1.2)
         self.assertEqual(held.why, "silence")
 
+    def test_lost_as_the_agent_says_what_is_none_of_its_lines(self):
+        for line in (b"5\n", b'{"until_ms":"soon"}\n'):
+            held, got = self.take(first())
+            got[1].sendall(line)
+            self.assertTrue(held.lost.wait(20))
+            self.assertEqual(held.why, "connection")
+
     def test_fault_of_the_work_goes_before_the_loss(self):
         held, got = self.take(first())
         got[1].close()

@@ -2,6 +2,7 @@
 package bus
 
 import (
+	"bytes"
 	"math/rand"
 	"strings"
 	"sync"
@@ -16,6 +17,7 @@ type Bus struct {
 
 	mutex             sync.Mutex
 	lost, twice, late int // of 100 messages
+	losing            string
 	boxes             map[string]chan transport.Message
 	also              map[string][]chan transport.Message // of ports that listen beside another one
 	random            *rand.Rand
@@ -32,6 +34,13 @@ func (b *Bus) Noise(lost, twice, late int) {
 	b.mutex.Lock()
 	defer b.mutex.Unlock()
 	b.lost, b.twice, b.late = lost, twice, late
+}
+
+// Lose loses all messages that have a text from now on, none for "".
+func (b *Bus) Lose(text string) {
+	b.mutex.Lock()
+	defer b.mutex.Unlock()
+	b.losing = text
 }
 
 // Port is the end of a bus that one process has. It is a transport.Transport and a transport.Link.
@@ -105,7 +114,7 @@ func (b *Bus) Boxes() int {
 func (p *Port) Send(mailbox string, message []byte) error {
 	p.bus.mutex.Lock()
 	defer p.bus.mutex.Unlock()
-	if p.cut || p.bus.occurs(p.bus.lost) {
+	if p.cut || p.bus.losing != "" && bytes.Contains(message, []byte(p.bus.losing)) || p.bus.occurs(p.bus.lost) {
 		return nil
 	}
 	message = append([]byte(nil), message...)
