@@ -171,15 +171,15 @@ func TestLongMessagesOfASession(t *testing.T) {
 	w := worlds.New(t, worlds.Majority, 2*time.Second)
 	c, _ := start(t, w)
 	s := newStranger(t, w, "busy")
-	s.Number, s.Epoch, s.Reserved, s.Seq = 63, 1, 1000, 1
+	s.Number, s.Epoch, s.Reserved, s.Seq = (c.Number()+1)%qlock.MaxClients, 1, 1000, 1 // the client's own is by chance
 	for voter := range w.Owns {
-		s.send(voter, ". claim 63 1\n")
+		s.send(voter, fmt.Sprintf(". claim %d 1\n", s.Number))
 	}
-	if !s.hears(". claimed 63 1 ", 5*time.Second) {
+	if !s.hears(fmt.Sprintf(". claimed %d 1 ", s.Number), 5*time.Second) {
 		t.Fatal("there is no session")
 	}
 	for voter := range w.Owns {
-		line := fmt.Sprintf("taken request 63 %d 1\n", voter)
+		line := fmt.Sprintf("taken request %d %d 1\n", s.Number, voter)
 		for i := 0; i < 4; i++ {
 			s.send(voter, strings.Repeat(line, wire.MostBytes/len(line)))
 		}
