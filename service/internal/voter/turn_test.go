@@ -64,7 +64,7 @@ func TestTurnsAreOfTheHolder(t *testing.T) {
 		}
 	}
 	for _, words := range []string{fmt.Sprintf("orders 5 %d %d", grant+1, grant+1), "stock 5 1 1"} {
-		if reply := d.turned(t, 1, ". turn "+words+"\n"); reply != "" || len(d.votes) != 1 {
+		if reply := d.turned(t, 1, ". turn "+words+"\n"); reply != "" || len(d.votes) != 1 || d.votes["orders"].highest != grant {
 			t.Errorf("%s: %q", words, reply)
 		}
 	}
