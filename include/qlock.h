@@ -54,6 +54,9 @@ uint32_t qlock_version(void);
 #define QLOCK_BUCKET_BYTES 40 /* a token bucket */
 #define QLOCK_PEER_BYTES 56  /* what a voter keeps of the voter of a place */
 #define QLOCK_START_BYTES 80 /* the start of a voter */
+#define QLOCK_LEASE_BYTES 40 /* what a session knows of a voter */
+#define QLOCK_VOTE_BYTES 72  /* what a session has of a voter for a lock */
+#define QLOCK_STAMPS_BYTES 24 /* under which stamps a session may ask a voter */
 
 /* How many bytes the pass has that a client shows to a guard. */
 #define QLOCK_PASS_BYTES 512
@@ -84,7 +87,7 @@ uint32_t qlock_version(void);
 enum {
     QLOCK_DONE = 0,
     QLOCK_BAD_ARGUMENT = 1, /* a number or the length of a pass is out of range, the mask of a quorum is 0, or there are none */
-    QLOCK_BAD_STATE = 2,    /* the bytes are no saved voter, client, guard, row, lease clock, token bucket, peer or start, or not as many as it has */
+    QLOCK_BAD_STATE = 2,    /* the bytes are no saved voter, client, guard, row, lease clock, token bucket, peer, start, lease, vote or stamps, or not as many as it has */
     QLOCK_BAD_MESSAGE = 3,  /* the line is no message to this voter or client, or the bytes begin with no header, or with no line, or are no line of control */
     QLOCK_NO_ROOM = 4,      /* `out` is too short for the lines */
     QLOCK_BUSY = 5,         /* C1: the client is asking already, or is inside */
@@ -690,6 +693,107 @@ int32_t qlock_bucket_left(const uint8_t *bucket, size_t n, uint64_t now, uint64_
    QLOCK_BAD_STATE     the bytes are no token bucket
    QLOCK_TOKENS_SPENT  there are fewer tokens now */
 int32_t qlock_bucket_spend(uint8_t *bucket, size_t n, uint64_t now, uint64_t tokens);
+
+/* ---- What a session keeps of its votes: up to when they count. `n` is always QLOCK_LEASE_BYTES of a lease, and QLOCK_VOTE_BYTES of a
+   vote.
+
+   A voter lets the vote of a session go that is silent for a TTL. So a session uses a vote only while it counts: up to `span` after a
+   heartbeat left that the voter acknowledged. It keeps a lease of each voter, and for each lock a vote of each voter. A lock is held by
+   its quorum's votes, up to the least of their ends (qlock_vote_until).
+
+   Each message of a voter says its incarnation: its run, which is how often it lost its state; its start, which is how often its process
+   started in this run; and its lapses, which is how often it let a vote of this session go. An acknowledgement counts for the votes that
+   were taken from the same incarnation. So no late word revives a vote that the voter let go, and each vote is renewed by a LOCKED of the
+   voter's next incarnation, or ends.
+
+   Whoever works only up to the end, and stops within `stop` after it, works alone, if b * (span + stop) <= a * TTL, where the clock of a
+   voter is at most b/a times as fast as that of a session. This asks of a host:
+   - Times are those of one clock of the session that never falls, and goes on while the machine sleeps: nanoseconds, say.
+   - The time of a heartbeat is read before it leaves, and the time of a call after its message came.
+   - Of each message, qlock_lease_hears comes first, and before that qlock_vote_keeps of each vote of that voter. Of a message that is not
+     of the latest incarnation no line of a lock is taken, and no acknowledgement.
+   - Of a LOCKED, qlock_vote_takes gets the stamp and the number of the grant in the line, and `renews` if the client was inside as it came.
+   - An acknowledgement is the reply to a heartbeat, or to the claim of the session's number.
+   And of voters: under one incarnation they say one count of lapses to a session, that of when a line is said, not of when it leaves.
+   - A vote lives as long as its session has the lock. One that is made anew begins above all stamps that the session used. */
+
+/* Makes the lease of a voter of which nothing was heard.
+
+   QLOCK_BAD_STATE  `n` is not QLOCK_LEASE_BYTES */
+int32_t qlock_lease_new(uint8_t *lease, size_t n);
+
+/* Hears the incarnation that a message of the voter says. A later one has acknowledged nothing yet. Writes 1 to `*latest` if it is the
+   latest one, and 0 if it is an earlier one.
+
+   QLOCK_BAD_STATE  the bytes are no lease */
+int32_t qlock_lease_hears(uint8_t *lease, size_t n, uint64_t run, uint64_t start, uint64_t lapses, uint32_t *latest);
+
+/* Takes an acknowledgement of this incarnation, of a heartbeat that left at `beat`. One of another incarnation than the latest changes
+   nothing.
+
+   QLOCK_BAD_STATE  the bytes are no lease */
+int32_t qlock_lease_renews(uint8_t *lease, size_t n, uint64_t run, uint64_t start, uint64_t lapses, uint64_t beat);
+
+/* Makes the vote of a lock that the session did not ask for yet. Its requests have stamps above `used`.
+
+   QLOCK_BAD_STATE  `n` is not QLOCK_VOTE_BYTES */
+int32_t qlock_vote_new(uint64_t used, uint8_t *vote, size_t n);
+
+/* Asks with a request of this stamp. Writes 1 to `*yes` if it is above those of all requests before, and 0 if not: then nothing changes.
+
+   QLOCK_BAD_STATE  the bytes are no vote */
+int32_t qlock_vote_asks(uint8_t *vote, size_t n, uint64_t request, uint32_t *yes);
+
+/* Keeps what counts for the vote by the voter's lease.
+
+   QLOCK_BAD_STATE  the bytes are no vote, or no lease */
+int32_t qlock_vote_keeps(uint8_t *vote, size_t n, const uint8_t *lease, size_t m);
+
+/* Takes a LOCKED of this incarnation, for the request of this stamp, whose grant has this number. `renews` is 1 if it may answer a session
+   that said that it is inside: then it only renews a vote that counts still. Writes 1 to `*yes` if the session has the vote by it, and 0
+   if not. A number that was given back, or a lower one, gives no vote.
+
+   QLOCK_BAD_STATE  the bytes are no vote, or no lease */
+int32_t qlock_vote_takes(uint8_t *vote, size_t n, const uint8_t *lease, size_t m, uint64_t run, uint64_t start, uint64_t lapses,
+                         uint64_t request, uint64_t number, uint32_t renews, uint64_t span, uint64_t now, uint32_t *yes);
+
+/* Gives the vote back, whose grant has this number.
+
+   QLOCK_BAD_STATE  the bytes are no vote */
+int32_t qlock_vote_gives_back(uint8_t *vote, size_t n, uint64_t number);
+
+/* Ends the request of this stamp. One before the newest was over already.
+
+   QLOCK_BAD_STATE  the bytes are no vote */
+int32_t qlock_vote_ends(uint8_t *vote, size_t n, uint64_t request);
+
+/* Writes up to when the vote counts, where a heartbeat counts for `span` after it left: at that time it does not count any more. 0 if it
+   does not count at all.
+
+   QLOCK_BAD_STATE  the bytes are no vote, or no lease */
+int32_t qlock_vote_until(const uint8_t *vote, size_t n, const uint8_t *lease, size_t m, uint64_t span, uint64_t *end);
+
+/* ---- Under which stamps a session may ask. `n` is always QLOCK_STAMPS_BYTES.
+
+   A voter tells a session the base of its stamps, and up to which stamp it reserved them (qlock_row_shows). A session asks a quorum only
+   under a stamp that is its own at each voter of it. Then no stamp is used by two sessions, whatever is lost, late or repeated, and
+   whenever voters crash. Where a voter lost its state, the session makes the stamps anew. */
+
+/* Makes what a session keeps of its stamps at a voter that told nothing.
+
+   QLOCK_BAD_STATE  `n` is not QLOCK_STAMPS_BYTES */
+int32_t qlock_stamps_new(uint8_t *stamps, size_t n);
+
+/* Takes what the voter tells, for the session under its epoch: late, in any order, or again.
+
+   QLOCK_BAD_STATE  the bytes are no stamps */
+int32_t qlock_stamps_hear(uint8_t *stamps, size_t n, uint64_t base, uint64_t reserved);
+
+/* Writes 1 to `*yes` if the session may ask the voter under this stamp, and 0 if not: the voter told that the session has its number, the
+   stamp is above each base that it told, and at most the greatest stamp that it told as reserved.
+
+   QLOCK_BAD_STATE  the bytes are no stamps */
+int32_t qlock_stamps_have(const uint8_t *stamps, size_t n, uint64_t stamp, uint32_t *yes);
 
 /* ---- The start of a voter among the other voters: so that no two processes of one voter give the same grant.
 

@@ -276,15 +276,17 @@ class WithAgent(unittest.TestCase):
         folder = tempfile.TemporaryDirectory()
         cls.addClassCleanup(folder.cleanup)
         cls.room = Path(folder.name)
-        with socket.socket() as free:
-            free.bind(("127.0.0.1", 0))
-            port = free.getsockname()[1]
-        cls.start([NATS, "-a", "127.0.0.1", "-p", str(port)])
+        # the server takes a free port itself, and writes its address into a file
+        cls.start([NATS, "-a", "127.0.0.1", "-p", "-1", "--ports_file_dir", cls.room])
+        if not eventually(lambda: any(path.stat().st_size for path in cls.room.glob("*.ports"))):
+            raise AssertionError("NATS does not start")
+        (ports,) = cls.room.glob("*.ports")
+        (server,) = json.loads(ports.read_text())["nats"]
         (cls.room / "coterie.toml").write_text('voters = ["a"]\nquorums = [["a"]]\n')
         cluster, data = cls.room / "cluster.toml", cls.room / "a"
         subprocess.run(
             [PROGRAMS / "qlockctl", "init", "-c", cluster, "--id", "test", "--coterie", cls.room / "coterie.toml", "--servers",
-             f"nats://127.0.0.1:{port}", "--ttl", "4s"], check=True, stdout=subprocess.DEVNULL)
+             server, "--ttl", "4s"], check=True, stdout=subprocess.DEVNULL)
         (cls.room / "a.toml").write_text(f'cluster = "{cluster}"\nvoter = "a"\ndata = "{data}"\n')
         subprocess.run([PROGRAMS / "qlock-voter", "init", "-c", cls.room / "a.toml"], check=True, stdout=subprocess.DEVNULL)
         cls.voter = cls.start([PROGRAMS / "qlock-voter", "start", "-c", cls.room / "a.toml"])

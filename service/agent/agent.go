@@ -67,6 +67,13 @@ func (f *Fault) Is(target error) bool {
 	return target == ErrRefused
 }
 
+// absent is ErrAbsent, and what the system says. errors.Is finds both.
+type absent struct{ why error }
+
+func (a absent) Error() string        { return fmt.Sprintf("%v: %v", ErrAbsent, a.why) }
+func (a absent) Is(target error) bool { return target == ErrAbsent }
+func (a absent) Unwrap() error        { return a.why }
+
 // Client takes locks. Many goroutines may call it at once. It has no connection but those of its locks.
 type Client struct {
 	socket, note string
@@ -188,7 +195,7 @@ func late(parent context.Context, wait time.Duration) (context.Context, context.
 func (c *Client) connect(ctx context.Context) (*net.UnixConn, error) {
 	connection, err := (&net.Dialer{}).DialContext(ctx, "unix", c.socket)
 	if err != nil {
-		return nil, fmt.Errorf("%w: %v", ErrAbsent, err)
+		return nil, absent{err}
 	}
 	return connection.(*net.UnixConn), nil
 }

@@ -3,6 +3,7 @@
 import contextlib
 import json
 import os
+import random
 import re
 import select
 import shutil
@@ -15,7 +16,7 @@ import threading
 import time
 import urllib.error
 import urllib.request
-from collections.abc import Callable, Iterable
+from collections.abc import Callable, Iterable, Iterator
 from pathlib import Path
 from typing import Any
 
@@ -25,6 +26,11 @@ NATS = shutil.which("nats-server") or "/usr/sbin/nats-server"
 NAMES = ["hub", "rim1", "rim2", "rim3", "rim4"]
 WHEEL = SERVICE / "wheel-4.toml"
 GROWN = SERVICE / "wheel-4-grown.toml"
+
+# Ports come from below those that the system gives to connections. A connection could take one of those before the program
+# binds it that the port is for. Each process has blocks of ports of its own: while it runs, it listens at the first port of
+# each. internal/local/ports.go does the same.
+FIRST_PORT, END_PORT, BLOCK = 15000, 31000, 100
 
 # what is to be ended once a case is over, the newest first
 ENDINGS: list[Callable[[], object]] = []
@@ -37,11 +43,47 @@ def end_all() -> None:
             ENDINGS.pop()()
 
 
+def ports_end() -> int:
+    """Where the ports end that may be taken."""
+    with contextlib.suppress(OSError, ValueError):
+        first = int(Path("/proc/sys/net/ipv4/ip_local_port_range").read_text().split()[0])
+        if FIRST_PORT + BLOCK <= first < END_PORT:
+            return first
+    return END_PORT
+
+
+def bound(port: int) -> socket.socket | None:
+    """A socket that listens at a port of the loopback, None if the port is not free."""
+    s = socket.socket()
+    try:
+        s.bind(("127.0.0.1", port))
+        s.listen()
+    except OSError:
+        s.close()
+        return None
+    return s
+
+
+def own_ports() -> Iterator[int]:
+    """The ports of blocks that no other process has, each port once."""
+    firsts, held = list(range(FIRST_PORT, ports_end() - BLOCK + 1, BLOCK)), []
+    begin = random.randrange(len(firsts))
+    for first in firsts[begin:] + firsts[:begin]:
+        if s := bound(first):
+            held.append(s)
+            yield from range(first + 1, first + BLOCK)
+
+
+PORTS = own_ports()
+
+
 def free_port() -> int:
-    """A port of the loopback that nobody uses."""
-    with socket.socket() as s:
-        s.bind(("127.0.0.1", 0))
-        return s.getsockname()[1]
+    """A port of the loopback that nobody uses, never the same one twice."""
+    for port in PORTS:
+        if s := bound(port):
+            s.close()
+            return port
+    raise RuntimeError("there are no free ports")
 
 
 def start(words: Iterable[object], log: Path | None = None, **more: Any) -> subprocess.Popen[bytes]:
@@ -200,13 +242,25 @@ class Cluster:
         self.start(voter)
 
     def wait(self) -> None:
-        """Waits until all voters reply, and the others answered their starts."""
-        self.ctl("status", "--timeout", "25s")
-        if not until(lambda: all(reply.get("serves") for reply in self.status().values()), 25):
-            raise RuntimeError("some voter does not serve")
+        """Waits until all voters reply, and the others answered their starts. Else it says how each process is."""
+        try:
+            self.ctl("status", "--timeout", "25s")
+            if not until(lambda: all(reply.get("serves") for reply in self.status().values()), 25):
+                raise RuntimeError("some voter does not serve")
+        except Exception as why:
+            raise RuntimeError(f"{why}\n{self.processes()}") from why
+
+    def processes(self) -> str:
+        """Which processes run or have ended, with the last lines of their logs."""
+        texts = []
+        for name, process in {"nats": self.server, **self.voters}.items():
+            lines = self.log_of(name).read_text(errors="replace").splitlines()[-5:]
+            state = f"ended with status {process.returncode}" if ended(process) else "runs"
+            texts.append("\n    ".join([f"{name} {state}", *lines]))
+        return "\n".join(texts)
 
     def log_of(self, voter: str) -> Path:
-        """What a voter wrote."""
+        """What a voter wrote, or the server of NATS."""
         return self.room / f"{voter}.log"
 
     def last(self, voter: str) -> str:

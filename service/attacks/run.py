@@ -7,6 +7,7 @@
 
 With all cases, status 0 says that the service stands wherever it has to. The cases in `known-to-succeed` are attacks
 that succeed: they are run and said, and change no status. A case that needs something that is not here has status 77.
+A case whose trial failed is tried again once, alone, after all others. A case that is broken is not.
 
 It needs service/out/bin (service/build cmd/qlock-voter cmd/qlockctl attacks/session), nats-server, openssl, and strace
 for one case.
@@ -29,7 +30,7 @@ import cluster
 
 HERE = Path(__file__).resolve().parent
 WORDS = {0: "stands", 1: "BROKEN", 2: "the trial failed", 77: "left out"}
-LEFT_OUT = 77
+TRIAL_FAILED, LEFT_OUT = 2, 77
 
 
 def known() -> list[str]:
@@ -79,17 +80,31 @@ def note(status: int, is_known: bool) -> str:
     return ", as is known" if status == 1 else ", though it is in known-to-succeed"
 
 
+def show(case: tuple[str, int, str, float], how: str = "") -> bool:
+    """Prints how a case ended. Returns whether that is wrong."""
+    name, status, text, took = case
+    is_known = name in known()
+    print(f"attack {name}: {WORDS.get(status, status)}{note(status, is_known)}{how} ({took:.0f} s)", flush=True)
+    is_wrong = status not in (0, LEFT_OUT) and not (is_known and status == 1)
+    if is_wrong:
+        print(text, flush=True)
+    return is_wrong
+
+
 def run_all(lanes: int) -> int:
-    """Runs all cases, and returns the status of all."""
-    succeed, wrong = known(), 0
+    """Runs all cases, and returns the status of all. A case whose trial failed says nothing of the service: it is tried
+    again once, alone."""
+    wrong, again = 0, []
     with ThreadPoolExecutor(lanes) as pool:
-        for name, status, text, took in pool.map(run_apart, cases.CASES):
-            is_known = name in succeed
-            print(f"attack {name}: {WORDS.get(status, status)}{note(status, is_known)} ({took:.0f} s)", flush=True)
-            if status not in (0, LEFT_OUT) and not (is_known and status == 1):
-                wrong += 1
-                print(text, flush=True)
-    print(f"{len(cases.CASES)} attacks, {wrong} wrong; known to succeed: {', '.join(succeed) or 'none'}")
+        for case in pool.map(run_apart, cases.CASES):
+            if case[1] == TRIAL_FAILED:
+                again.append(case[0])
+                show(case, ", to be tried again")
+            else:
+                wrong += show(case)
+    for name in again:
+        wrong += show(run_apart(name), ", tried again")
+    print(f"{len(cases.CASES)} attacks, {wrong} wrong; known to succeed: {', '.join(known()) or 'none'}")
     return 1 if wrong else 0
 
 

@@ -1,7 +1,8 @@
 #!/bin/sh
-# Measures the service beside etcd: three servers of it and its concurrency.Mutex, in turn on one disk.
+# Measures the service beside etcd: three servers of it and its concurrency.Mutex, in turn on one disk. Then runs of a program under a
+# lock: by qlockctl, by it and an agent, and by etcdctl, which take turns.
 #
-#     apt-get install etcd-server golang-etcd-server-dev        besides what service/build needs
+#     apt-get install etcd-server etcd-client golang-etcd-server-dev        besides what service/build needs
 #     service/bench/bench.sh FOLDER [SECONDS [ROUNDS]]          the folder is on the disk to measure; it is made, and removed
 set -eu
 here=$(CDPATH= cd -- "$(dirname -- "$(readlink -f -- "$0")")" && pwd)
@@ -11,7 +12,8 @@ mkdir "$1"
 folder=$(readlink -f -- "$1")
 seconds=${2:-10}
 rounds=${3:-1}
-"$service/build" cmd/qlock-voter cmd/qlockctl bench bench/etcd
+"$service/build" cmd/qlock-voter cmd/qlockctl cmd/qlockd bench bench/etcd
+etcd_servers=http://127.0.0.1:23790,http://127.0.0.1:23791,http://127.0.0.1:23792
 etcds=
 trap '[ -z "$etcds" ] || kill $etcds 2> /dev/null || true; rm -rf "$folder"' EXIT
 
@@ -31,7 +33,8 @@ start_etcd() {
 for round in $(seq "$rounds"); do
     "$bin/bench" --bin "$bin" --coterie "$service/wheel-4.toml" --folder "$folder/qlock-$round" --for "${seconds}s"
     start_etcd "$round"
-    "$bin/etcd" --servers http://127.0.0.1:23790,http://127.0.0.1:23791,http://127.0.0.1:23792 --for "${seconds}s"
+    "$bin/etcd" --servers "$etcd_servers" --for "${seconds}s"
+    "$bin/bench" --bin "$bin" --coterie "$service/wheel-4.toml" --folder "$folder/runs-$round" --runs 50 --etcd "$etcd_servers"
     # shellcheck disable=SC2086
     kill $etcds
     # shellcheck disable=SC2086

@@ -48,29 +48,48 @@ func main() {
 	length := flag.Duration("for", 10*time.Second, "how long each load takes")
 	idle := flag.Int("idle", 0, "measure a voter with so many locks that nobody wants, and nothing else")
 	used := flag.Int("soak", 0, "use so many locks once, show what voters keep, and nothing else; QLOCK_MAX_LOCKS is what they may keep")
+	runs := flag.Int("runs", 0, "measure so many runs of a program under a lock, and nothing else")
+	etcd := flag.String("etcd", "", "the servers of etcd, with commas, for --runs")
+	var many crowd
+	flag.IntVar(&many.sessions, "crowd", 0, "measure so many sessions, and nothing else")
+	flag.IntVar(&many.names, "names", 1, "how many locks these use")
+	flag.DurationVar(&many.has, "has", 5*time.Millisecond, "for how long one of these has a lock")
+	flag.DurationVar(&many.idle, "wants", 0, "how long it is, about, until it wants the next one")
+	flag.IntVar(&o.Shards, "shards", 1, "how many shards the cluster has")
 	flag.StringVar(&o.Folder, "folder", "", "a new folder for the cluster, on a disk that syncs")
 	flag.StringVar(&o.Bin, "bin", "", "the folder of qlock-voter and qlockctl")
 	flag.StringVar(&o.Coterie, "coterie", "", "the file of the coterie")
 	flag.Parse()
-	o.TTL = 10 * time.Second
-	if err := run(o, *length, *idle, *used); err != nil {
+	o.TTL, many.length = 10*time.Second, *length
+	what := func(cluster *local.Cluster) error { return measureAll(cluster, *length) }
+	switch {
+	case *idle > 0:
+		what = func(cluster *local.Cluster) error { return measureIdle(cluster, *idle) }
+	case *used > 0:
+		what = func(cluster *local.Cluster) error { return soak(cluster, *used) }
+	case *runs > 0:
+		what = func(cluster *local.Cluster) error { return measureRuns(cluster, o.Bin, *runs, *etcd) }
+	case many.sessions > 0:
+		what = many.measure
+	}
+	if err := run(o, what); err != nil {
 		fmt.Fprintln(os.Stderr, "bench:", err)
 		os.Exit(1)
 	}
 }
 
-func run(o local.Options, length time.Duration, idle, used int) error {
+// run starts a cluster, and measures it.
+func run(o local.Options, measure func(*local.Cluster) error) error {
 	cluster, err := local.Start(o)
 	if err != nil {
 		return err
 	}
 	defer cluster.End()
-	if idle > 0 {
-		return measureIdle(cluster, idle)
-	}
-	if used > 0 {
-		return soak(cluster, used)
-	}
+	return measure(cluster)
+}
+
+// measureAll prints the figures of all loads.
+func measureAll(cluster *local.Cluster, length time.Duration) error {
 	for _, load := range loads {
 		if err := measureLoad(cluster, load.name, load.clients, load.locks, load.each, length); err != nil {
 			return fmt.Errorf("%s: %w", load.name, err)

@@ -41,6 +41,14 @@ func turns(c *Client, most time.Duration, holds func() bool) bool {
 	return true
 }
 
+// age lets the newest heartbeat that a voter acknowledged have left a TTL ago.
+func age(c *Client, voter int) {
+	p := &c.peers[voter]
+	p.lease = qlock.NewLease()
+	p.lease.Hears(p.said)
+	p.lease.Renews(p.said, uptime()-c.cluster.TTL.Duration)
+}
+
 // A client that stood still takes the last vote after another one is in doubt. It hands nothing out, and asks anew.
 func TestDoubtfulVoteIsNotHandedOut(t *testing.T) {
 	w := worlds.New(t, worlds.Majority, 20*time.Second)
@@ -55,15 +63,15 @@ func TestDoubtfulVoteIsNotHandedOut(t *testing.T) {
 	if !turns(c, 5*time.Second, func() bool { return c.votes(l) != 0 }) || bits.OnesCount64(c.votes(l)) != 1 {
 		t.Fatalf("votes of %b", c.votes(l))
 	}
-	p := &c.peers[bits.TrailingZeros64(c.votes(l))]
-	before := p.known
-	p.known -= c.cluster.TTL.Duration
+	voter := bits.TrailingZeros64(c.votes(l))
+	before := c.peers[voter].lease
+	age(c, voter)
 	stamp := l.shown.Stamp
 	turns(c, 300*time.Millisecond, func() bool { return len(call.got) > 0 })
 	if len(call.got) > 0 || l.held != nil {
 		t.Fatal("a lock is handed out by a vote that may be somebody else's")
 	}
-	p.known = before
+	c.peers[voter].lease = before
 	c.round(time.Now())
 	c.flush()
 	if !turns(c, 5*time.Second, func() bool { return len(call.got) > 0 }) || l.shown.Stamp <= stamp {
@@ -100,7 +108,7 @@ func TestUnlockSaysThatItIsLost(t *testing.T) {
 	held := take(t, c, "x")
 	err := c.call(func() error {
 		for v := range c.peers {
-			c.peers[v].known -= c.cluster.TTL.Duration
+			age(c, v)
 		}
 		return c.unlock(held)
 	})

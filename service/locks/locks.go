@@ -1,5 +1,5 @@
-// Package locks is the client of the lock service. A Client is one session: the voters lease it a number of 0 to 63. It
-// keeps nothing on disk.
+// Package locks is the client of the lock service. A Client is one session: the voters lease it a number of 0 to 63. In a cluster with
+// shards it has a session for each shard whose locks it uses. It keeps nothing on disk.
 //
 //	client, err := locks.Open(ctx, locks.Config{Cluster: "/etc/qlock/cluster.toml"})
 //	held, err := client.Lock(ctx, "orders")
@@ -21,6 +21,7 @@ import (
 	"time"
 
 	"calvundek.example/service/internal/config"
+	"calvundek.example/service/internal/votes"
 	"calvundek.example/service/internal/wire"
 	"calvundek.example/service/qlock"
 	"calvundek.example/service/transport"
@@ -36,11 +37,12 @@ var (
 	ErrNotHeld  = errors.New("locks: the lock was given back before")
 	ErrLapsed   = errors.New("locks: the lock may have been somebody else's before it was given back")
 	ErrNoQuorum = errors.New("locks: no quorum of voters replied")
-	ErrNumbers  = errors.New("locks: all client numbers are in use")
 	ErrHeld     = errors.New("locks: somebody else has the lock")
 	ErrFull     = errors.New("locks: no quorum of voters has room for another lock, or for one of this user: max_locks, max_locks_user")
 	ErrLooks    = errors.New("locks: the client only looks: it has no number, and takes no locks")
 	ErrRetired  = errors.New("locks: the plan of the cluster's file is retired; take the newest file")
+	ErrNumbers  = errors.New("locks: all client numbers are in use (wait longer, share one by an agent on each host, or make a cluster with " +
+		"more shards: init --shards)")
 )
 
 // because is an error, and why it came about. errors.Is finds both.
@@ -91,6 +93,7 @@ type Stats struct {
 
 // Client has locks. Many goroutines may call it at once.
 type Client struct {
+	shards  *shards // of a cluster with several shards: this client only looks then, and these have its sessions
 	cluster *config.Cluster
 	config  Config
 	carrier transport.Transport
@@ -106,12 +109,15 @@ type Client struct {
 	session
 	plans
 	watch  *watch
-	last   time.Time // when the loop last went round
-	missed uint64    // the voters that were silent then
-	back   uint64    // how often the connection had come back by then
-	locks  map[string]*lock
-	busy   map[*lock]struct{} // locks that ask, are inside, or are wanted
-	ticket int
+	known  votes.Leases // what it knows of its leases
+	last   time.Time    // when the loop last went round
+	missed uint64       // the voters that were silent then
+	back   uint64       // how often the connection had come back by then
+
+	followed time.Time // when voters were asked last which plans there are
+	locks    map[string]*lock
+	busy     map[*lock]struct{} // locks that ask, are inside, or are wanted
+	ticket   int
 	asker
 	turns   map[*Held]bool          // the locks whose turn is asked for
 	ownNote string                  // what the session says of itself, "" for nothing
@@ -130,8 +136,9 @@ type Held struct {
 	stamp  uint64
 	token  []byte
 	lost   chan struct{}
-	over   atomic.Bool // lost is closed
-	seen   bool        // the loop knows that it may be lost
+	until  atomic.Int64 // up to when its votes count, by uptime
+	over   atomic.Bool  // lost is closed
+	seen   bool         // the loop knows that it may be lost
 
 	turning *turning // the last call of Turn
 
@@ -158,34 +165,48 @@ func Open(ctx context.Context, c Config) (*Client, error) {
 }
 
 func open(ctx context.Context, cluster *config.Cluster, c Config) (*Client, error) {
+	if cluster.HasShards() {
+		return openShards(ctx, cluster, c)
+	}
 	client, err := newClient(cluster, c)
 	if err != nil {
 		return nil, err
 	}
-	if client.messages, err = client.carrier.Listen(client.boxes()); err == nil {
-		err = client.begin(ctx)
+	return client.connect(ctx)
+}
+
+// connect opens the session of a client.
+func (c *Client) connect(ctx context.Context) (*Client, error) {
+	var err error
+	if c.messages, err = c.carrier.Listen(c.boxes()); err == nil {
+		err = c.begin(ctx)
 	}
 	if err != nil {
-		err = client.explained(err)
-		client.close()
+		err = c.explained(err)
+		c.close()
 		return nil, err
 	}
-	client.firstTicket()
-	go client.watch.run(client.ended)
-	go client.run()
-	return client, nil
+	c.firstTicket()
+	go c.watch.run(c.ended)
+	go c.run()
+	return c, nil
 }
 
 func newClient(cluster *config.Cluster, c Config) (*Client, error) {
+	nonce, err := config.Nonce()
+	if err != nil {
+		return nil, err
+	}
+	return newNamed(cluster, c, cluster.SessionName(0, nonce))
+}
+
+// newNamed returns a client whose session has this name.
+func newNamed(cluster *config.Cluster, c Config, name string) (*Client, error) {
 	if c.Heartbeat == 0 {
 		c.Heartbeat = shorter(cluster.TTL.Duration/4, 500*time.Millisecond)
 	}
 	if c.FailOver == 0 {
 		c.FailOver = 4 * c.Heartbeat
-	}
-	name, err := config.Nonce()
-	if err != nil {
-		return nil, err
 	}
 	access := config.Access{User: c.User, Secret: c.Secret, Seed: c.Seed, Creds: c.Creds, Cert: c.Cert, Key: c.Key}
 	user, err := access.Speaker()
@@ -196,7 +217,7 @@ func newClient(cluster *config.Cluster, c Config) (*Client, error) {
 		waits: newWaits(), config: c, carrier: c.Transport, close: func() {},
 		calls: make(chan func()), ended: make(chan struct{}), stopped: make(chan struct{}), locks: map[string]*lock{}, busy: map[*lock]struct{}{},
 		asker: asker{questions: map[uint64]*question{}}, turns: map[*Held]bool{}}
-	client.session = newSession(cluster, name)
+	client.session, client.known = newSession(cluster, name), leasesOf(client)
 	if !c.NoNote {
 		client.ownNote = ownNote(c.Note)
 	}
@@ -240,6 +261,9 @@ func (c *Client) TryLock(ctx context.Context, name string) (*Held, error) {
 func (c *Client) lock(ctx context.Context, name string, w *waiter) (*Held, error) {
 	if !wire.IsName([]byte(name)) {
 		return nil, fmt.Errorf("%w: %q", ErrName, name)
+	}
+	if c.shards != nil {
+		return c.lockInShard(ctx, name, w)
 	}
 	if isNested(ctx, c, name) {
 		return nil, fmt.Errorf("%w: %q", ErrNested, name)
@@ -333,8 +357,13 @@ func (c *Client) note(event, format string, words ...interface{}) {
 	}
 }
 
-// Number returns the number of the client's session. Operators see it.
-func (c *Client) Number() int { return c.header.Number }
+// Number returns the number of the client's session. Operators see it. In a cluster with shards a client has several, and this returns -1.
+func (c *Client) Number() int {
+	if c.shards != nil {
+		return -1
+	}
+	return c.header.Number
+}
 
 // Silent returns the names of the voters of which nothing came for the fail-over time, none once
 // the client is closed.
@@ -351,6 +380,9 @@ func (c *Client) Silent() (names []string) {
 // IsCutOff returns whether the voters that are not silent contain no quorum, by the plans that are in use now. It is true once
 // the client is closed.
 func (c *Client) IsCutOff() bool {
+	if c.shards != nil {
+		return c.areCutOff()
+	}
 	hasQuorum := false
 	_ = c.call(func() error { hasQuorum = c.hasQuorum(^c.silent(time.Now())); return nil })
 	return !hasQuorum
@@ -362,12 +394,22 @@ func (c *Client) Stats() (s Stats) {
 		<-c.stopped
 		s = c.stats
 	}
+	if c.shards != nil {
+		s = s.with(c.statsOfAll())
+	}
 	return s
 }
 
 // Close refuses calls of Lock, also those that wait, waits until all locks are given back and each voter that is there says so, and ends the
 // session. If the context ends first, the TTL frees what is left.
 func (c *Client) Close(ctx context.Context) error {
+	if c.shards != nil {
+		if err := c.closeAll(ctx); err != nil {
+			_ = c.call(func() error { c.end(ErrClosed); return nil })
+			<-c.stopped
+			return err
+		}
+	}
 	if err := c.call(func() error { c.drain(); return nil }); err != nil {
 		return err
 	}
@@ -399,7 +441,11 @@ func (c *Client) call(f func() error) error {
 
 // run is the loop.
 func (c *Client) run() {
-	ticker := time.NewTicker(25 * time.Millisecond)
+	pause := 25 * time.Millisecond
+	if c.looks && c.cluster.HasShards() {
+		pause = repeatAsk / 2
+	}
+	ticker := time.NewTicker(pause)
 	defer close(c.stopped)
 	defer c.close()
 	defer ticker.Stop()
@@ -416,6 +462,7 @@ func (c *Client) run() {
 			f()
 		case now := <-ticker.C:
 			c.round(now)
+			c.giveNumberBack(now)
 			if c.draining {
 				c.finish() // a voter may have become silent since the last one closed the session
 			}

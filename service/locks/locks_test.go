@@ -587,6 +587,11 @@ func TestNumbersInUse(t *testing.T) {
 	if !strings.Contains(fmt.Sprint(err), "64 sessions are open, one of them was silent for ") {
 		t.Errorf("it does not say how many there are: %v", err)
 	}
+	for _, way := range []string{"wait longer", "an agent on each host", "init --shards"} {
+		if !strings.Contains(fmt.Sprint(err), way) {
+			t.Errorf("it does not say %q: %v", way, err)
+		}
+	}
 	if h := who(t, looker(t, w), "x"); !h.IsNobody() {
 		t.Errorf("without a number: %+v", h)
 	}

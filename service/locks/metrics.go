@@ -69,6 +69,9 @@ func (c collector) Collect(out chan<- prometheus.Metric) {
 
 // silentVoters returns which voters are silent, by their names, and none once the client is closed.
 func (c *Client) silentVoters() map[string]bool {
+	if c.shards != nil {
+		return c.silentInAll()
+	}
 	voters := map[string]bool{}
 	_ = c.call(func() error {
 		silent := c.silent(time.Now())

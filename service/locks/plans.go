@@ -57,6 +57,11 @@ func newPlans(c *config.Cluster) plans {
 		read: make(chan func(), 1)}
 }
 
+// copied returns the same plans for another session.
+func (p *plans) copied() plans {
+	return plans{plan: p.plan, generation: p.generation, older: p.older, next: p.next, read: make(chan func(), 1)}
+}
+
 // hasQuorum returns whether a set of voters contains a quorum of each plan that is in use.
 func (p *plans) hasQuorum(voters uint64) bool {
 	return p.plan.HasQuorum(voters) && (p.older == nil || p.older.HasQuorum(voters))
@@ -145,7 +150,9 @@ func (c *Client) noteGeneration(voter int, newest uint64, mark string, oldest ui
 			c.adopt(retired)
 		}
 	case retired && !c.hasQuorum(^c.retirers()):
-		c.end(ErrRetired)
+		if c.shards == nil || !c.readAgain() {
+			c.end(ErrRetired)
+		}
 	case newest == c.generation+1 && c.next == nil && !c.isReading && time.Since(p.asked) > c.config.Heartbeat:
 		p.asked, p.awaited = time.Now(), true
 		c.tell(voter, qlock.ClientSays{Kind: qlock.AskPlan})
@@ -201,7 +208,7 @@ func (c *Client) wasRead(voter int, number uint64, next *qlock.Plan, err error) 
 	}
 	if c.next == nil && number == c.generation+1 {
 		c.next = &known{next, c.cluster.Mark(config.Mark(number, next.Coterie))}
-		c.meetAll(len(next.Names))
+		c.meet(len(next.Names))
 	}
 }
 

@@ -7,6 +7,7 @@ import (
 	"time"
 
 	"calvundek.example/service/internal/remind"
+	"calvundek.example/service/internal/votes"
 	"calvundek.example/service/internal/wire"
 	"calvundek.example/service/qlock"
 	"calvundek.example/service/transport"
@@ -27,7 +28,8 @@ type lock struct {
 	shown qlock.Shown
 	plan  uint64 // the number of the plan by which it asked last
 
-	unrenewed uint64 // the voters that started again since it has their votes, and did not say again that it has them
+	kept  votes.Kept    // up to when its votes count
+	until time.Duration // the first end of those of its quorum, when that was last looked at, by uptime
 
 	holder Holder // who has it, as a voter said to this request
 
@@ -56,7 +58,7 @@ func (c *Client) find(name string) (*lock, error) {
 	if err != nil {
 		return nil, err
 	}
-	l := &lock{Client: client, name: name}
+	l := &lock{Client: client, name: name, kept: votes.New(c.used)}
 	c.locks[name] = l
 	return l, nil
 }
@@ -86,6 +88,8 @@ func (c *Client) enqueue(name string, w *waiter) error {
 		return fmt.Errorf("%s: %w", name, ErrHeld)
 	}
 	l.queue = append(l.queue, w)
+	c.wasUsed = true
+	c.wake(time.Now())
 	c.pump(l)
 	return nil
 }
@@ -129,6 +133,7 @@ func (c *Client) unlock(h *Held) error {
 	c.stats.Passes++
 	c.leave(h.lock)
 	c.pump(h.lock)
+	c.giveNumberBack(time.Now()) // who wants the lock again at once comes behind those that wait for a number
 	return err
 }
 
@@ -150,10 +155,12 @@ func (c *Client) pump(l *lock) {
 	case l.shown.Phase == qlock.Asking && len(l.queue) == 0:
 		c.stats.GivenUp++
 		c.giveUp(l)
-	case l.shown.Phase == qlock.Inside && l.held == nil && (len(l.queue) == 0 || c.mayBeLost(l, c.doubtful())):
-		c.leave(l) // the next round asks anew for who waits, after its heartbeat
-	case l.shown.Phase == qlock.Inside && l.held == nil:
+	case l.shown.Phase == qlock.Inside && l.held == nil && len(l.queue) == 0:
+		c.leave(l)
+	case l.shown.Phase == qlock.Inside && l.held == nil && c.counts(l):
 		c.hand(l)
+	case l.shown.Phase == qlock.Inside && l.held == nil && c.isDoubtful(l):
+		c.leave(l) // the next round asks anew for who waits, after its heartbeat
 	}
 	if l.shown.Phase != qlock.Idle || len(l.queue) > 0 {
 		c.busy[l] = struct{}{}
@@ -177,6 +184,7 @@ func (c *Client) hand(l *lock) {
 	l.queue = l.queue[1:]
 	l.held = &Held{client: c, lock: l, quorum: l.shown.Quorum, stamp: l.shown.Stamp, token: pass, lost: make(chan struct{}),
 		note: w.note, noteDue: map[int]due{}}
+	l.held.until.Store(int64(l.until))
 	c.watch.begin(l.held)
 	c.waits.Observe(time.Since(w.since).Seconds())
 	c.sayAboutToAll(l.held)
@@ -219,6 +227,7 @@ func (c *Client) ask(l *lock) {
 		c.ticket++
 		c.stats.Requests++
 		l.asked, l.plan, l.holder = now, c.generation, Holder{}
+		l.kept.Asks(quorum, stamp)
 		c.send(l, lines, now)
 		c.use(stamp, now)
 	}
@@ -281,6 +290,7 @@ func (c *Client) nextQuorum(avoided, full uint64) uint64 {
 
 func (c *Client) leave(l *lock) {
 	if lines, err := l.Leave(c.room[:0]); err == nil {
+		l.kept.Ends(l.shown.Stamp)
 		c.room = lines
 		c.send(l, lines, time.Now())
 	}
@@ -288,6 +298,7 @@ func (c *Client) leave(l *lock) {
 
 func (c *Client) giveUp(l *lock) {
 	if lines, err := l.GiveUp(c.room[:0]); err == nil {
+		l.kept.Ends(l.shown.Stamp)
 		c.room = lines
 		c.send(l, lines, time.Now())
 	}
@@ -327,7 +338,6 @@ func (c *Client) look(l *lock, now time.Time) {
 	}
 	if shown.Phase != l.shown.Phase {
 		l.timer.Of(0, now)
-		l.unrenewed = 0
 	}
 	l.shown = shown
 	switch shown.Phase {
@@ -353,17 +363,18 @@ func (c *Client) drop(l *lock, why error) {
 }
 
 // take takes a line of a voter.
-func (c *Client) take(name, line []byte) {
+func (c *Client) take(voter int, name, line []byte) {
 	l, err := c.find(string(name))
 	if err != nil {
 		c.stats.Refused++
 		return
 	}
-	switch said := wire.ReadLine(line); {
-	case said.Stamp != l.shown.Stamp || said.From < 0:
-	case string(said.Word) == "locked":
-		l.unrenewed &^= 1 << said.From
-	case string(said.Word) == "fail" && l.shown.Phase == qlock.Asking:
+	said, wasInside := wire.ReadLine(line), l.shown.Phase == qlock.Inside
+	asksBack, before := string(said.Word) == "inquire", uint64(0)
+	if asksBack {
+		before = l.grantOf(voter)
+	}
+	if said.Stamp == l.shown.Stamp && string(said.Word) == "fail" && l.shown.Phase == qlock.Asking {
 		defer c.refuseTries(l) // once the line is taken
 	}
 	lines, _, err := l.Take(line, c.room[:0])
@@ -372,6 +383,15 @@ func (c *Client) take(name, line []byte) {
 		return
 	}
 	c.room = lines
+	switch {
+	case asksBack && before > 0 && l.grantOf(voter) == 0:
+		l.kept.GivesBack(voter, before)
+	case string(said.Word) == "locked":
+		granted := qlock.Granted{Incarnation: c.peers[voter].said, Stamp: said.Stamp, Grant: said.Grant, Renews: wasInside}
+		if l.kept.Takes(voter, granted, c.leases(), uptime()); l.held != nil {
+			c.counts(l)
+		}
+	}
 	c.send(l, lines, time.Now())
 	c.pump(l)
 }
@@ -440,39 +460,65 @@ func (c *Client) spoil(l *lock) {
 
 // lapse ends the requests that have a vote of a voter which may have let it go.
 func (c *Client) lapse() {
-	doubtful := c.doubtful()
-	if doubtful == 0 {
-		return
-	}
 	for l := range c.busy {
-		if l.shown.Phase != qlock.Idle && c.mayBeLost(l, doubtful) && (l.held == nil || !l.held.seen) {
+		if l.shown.Phase != qlock.Idle && c.isDoubtful(l) && (l.held == nil || !l.held.seen) {
 			c.spoil(l)
 		}
 	}
 }
 
-// mayBeLost returns whether a client has the vote of a voter which may have let it go.
-func (c *Client) mayBeLost(l *lock, doubtful uint64) bool {
-	return doubtful != 0 && c.votes(l)&doubtful != 0
+// leases has the leases of the voters.
+func (c *Client) leases() votes.Leases { return c.known }
+
+// leasesOf has the leases of the voters of a client.
+func leasesOf(c *Client) votes.Leases {
+	return votes.Leases{
+		Of:    func(voter int) *qlock.Lease { return &c.peers[voter].lease },
+		Since: func(voter int) time.Duration { return c.peers[voter].since },
+		Span:  leaseOf(c.cluster.TTL.Duration),
+	}
+}
+
+// counts returns whether all votes of a lock's quorum count now. A holder has it up to the first end of them.
+func (c *Client) counts(l *lock) bool {
+	l.until = l.kept.End(l.shown.Quorum, c.leases())
+	if l.held != nil {
+		l.held.until.Store(int64(l.until))
+	}
+	return uptime() < l.until
+}
+
+// isDoubtful returns whether a lock has the vote of a voter which may have let it go.
+func (c *Client) isDoubtful(l *lock) bool {
+	return l.kept.IsDoubtful(c.leases(), uptime())
 }
 
 // votes returns the voters whose votes a client has.
 func (c *Client) votes(l *lock) (mask uint64) {
 	for rest := l.shown.Quorum; rest != 0; rest &= rest - 1 {
-		voter := bits.TrailingZeros64(rest)
-		if grant, err := l.Grant(uint8(voter)); err == nil && grant > 0 {
+		if voter := bits.TrailingZeros64(rest); l.grantOf(voter) > 0 {
 			mask |= 1 << voter
 		}
 	}
 	return mask
 }
 
+// grantOf returns the number of the grant by which a client has the vote of a voter, 0 if it does not have it.
+func (l *lock) grantOf(voter int) uint64 {
+	grant, err := l.Grant(uint8(voter))
+	if err != nil {
+		return 0
+	}
+	return grant
+}
+
 // round does what time asks for: heartbeats, reminders, and other quorums in place of those with a silent voter.
 func (c *Client) round(now time.Time) {
 	if c.looks {
+		c.followPlans(now)
 		return
 	}
-	if c.hasGap(now) || now.Sub(c.beat) >= c.config.Heartbeat {
+	if c.hasGap(now) || now.Sub(c.beat) >= c.pause() {
 		c.heartbeat(now)
 	} else {
 		c.lapse()

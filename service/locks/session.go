@@ -53,23 +53,24 @@ type peer struct {
 	identity string
 	run      uint64                   // how often the voter was made again
 	start    uint64                   // how often it started
-	unsure   bool                     // it started again, and some vote of it was not renewed yet
 	quiet    time.Time                // until then it takes only requests of who is inside
 	mark     string                   // of the newest plan that it has, once it said so
 	oldest   uint64                   // the number of the oldest plan that it said is not retired
 	asked    time.Time                // when it was asked for its plan
 	awaited  bool                     // it was asked, and did not send it yet
 	heard    time.Time                // when a message came
-	known    time.Duration            // when the newest heartbeat left that it acknowledged, by uptime
-	sent     map[uint64]time.Duration // when heartbeats left that it did not acknowledge
+	lease    qlock.Lease              // up to when its votes count
+	said     qlock.Incarnation        // the latest one that it said
+	since    time.Duration            // when it said that first, by uptime
+	answers  bool                     // it acknowledged a heartbeat, or the claim, since then
+	sent     map[uint64]time.Duration // when heartbeats left that it did not acknowledge, by uptime
 	accepts  bool                     // it accepted this session's claim of its number
+	stamps   qlock.Stamps             // under which stamps this session may ask it
 	base     uint64                   // all stamps of this session are above it there
-	reserved uint64                   // what it acknowledged as reserved
 	claimed  uint64                   // with which heartbeat the number was claimed there again
 	taken    bool                     // it said that this session is over
 	level    uint64                   // of the cluster, as it knows it
-	lapses   uint64                   // how often it let a grant of this session go since it was silent
-	stale    bool                     // the message that is taken is from before the last time
+	stale    bool                     // the message that is taken is of an earlier incarnation
 	requests uint64                   // how many of this session it said that it has
 	drained  bool                     // it has no request of this session any more
 	closed   bool                     // it ended this session
@@ -94,14 +95,22 @@ type session struct {
 	epochs  [qlock.MaxClients]uint64
 	states  [qlock.MaxClients]int // the worst that a voter said of a number: 0 taken, 2 silent for the TTL, 1 free
 	asked   int
-	claimed uint64 // the epoch that is claimed, 0 while a number is chosen
+	claimed uint64        // the epoch that is claimed, 0 while a number is chosen
+	left    time.Duration // when the claim left, by uptime
 	refused bool
 	crowd   wire.Told // how many sessions there are, as a voter said
-	replied uint64    // the voters that replied to what is asked now
+	isFree  bool      // a voter said that a number is free
+
+	wanted  time.Time // when a voter said last that others wait for a number
+	wasUsed bool      // a lock was asked for
+
+	givesBack bool      // it is drained since it wants nothing any more
+	unused    time.Time // since when nothing is asked or held, at most a round ago
+	replied   uint64    // the voters that replied to what is asked now
 }
 
 func newSession(cluster *config.Cluster, name string) session {
-	s := session{asked: -1, drained: make(chan struct{}), header: wire.Header{Cluster: cluster.ID, Kind: wire.FromClient, Name: name,
+	s := session{asked: -1, unused: time.Now(), drained: make(chan struct{}), header: wire.Header{Cluster: cluster.ID, Kind: wire.FromClient, Name: name,
 		Level: level.Newest}}
 	s.meet(len(cluster.Names()))
 	return s
@@ -110,16 +119,7 @@ func newSession(cluster *config.Cluster, name string) session {
 // meet lets a session have at least so many voters. New ones were heard just now.
 func (s *session) meet(voters int) {
 	for len(s.peers) < voters {
-		s.peers = append(s.peers, peer{sent: map[uint64]time.Duration{}, heard: time.Now(), known: uptime()})
-	}
-}
-
-// meetAll lets a session have the voters of a further plan.
-func (c *Client) meetAll(voters int) {
-	before := len(c.peers)
-	c.meet(voters)
-	for v := before; v < len(c.peers); v++ {
-		c.acknowledge(v, c.peers[v].known)
+		s.peers = append(s.peers, peer{sent: map[uint64]time.Duration{}, heard: time.Now(), stamps: qlock.NewStamps(), lease: qlock.NewLease(), since: uptime()})
 	}
 }
 
@@ -130,13 +130,12 @@ func (c *Client) begin(ctx context.Context) error {
 		if err := c.choose(ctx); err != nil {
 			return err
 		}
-		up := uptime()
 		err := c.claim(ctx)
 		if err == nil {
-			err = c.reserveFirst(ctx, up)
+			err = c.reserveFirst(ctx)
 		}
 		if err == nil {
-			c.opening = false
+			c.opening, c.unused = false, time.Now() // it wanted a number until now
 			c.note("session", "number=%d epoch=%d", c.header.Number, c.header.Epoch)
 			return nil
 		}
@@ -150,14 +149,15 @@ func (c *Client) begin(ctx context.Context) error {
 	}
 }
 
-// reserveFirst reserves the first stamps of a number that a quorum gave to this session, by a claim
-// that left after this time. Where voters know of other stamps, what came with the claim is not
-// enough.
-func (c *Client) reserveFirst(ctx context.Context, left time.Duration) error {
+// reserveFirst reserves the first stamps of a number that a quorum gave to this session. Where voters know of other stamps, what came
+// with the claim is not enough.
+func (c *Client) reserveFirst(ctx context.Context) error {
 	now := time.Now()
 	for v := range c.peers {
 		c.peers[v].heard = now
-		c.acknowledge(v, left)
+	}
+	if c.used < c.crowd.Highest && c.crowd.Highest < qlock.MaxStamp/2 {
+		c.used = c.crowd.Highest // where numbers go round, who got one later asks behind those that wait for a lock already
 	}
 	c.header.Number, c.header.Epoch, c.header.Reserved = c.asked, c.claimed, c.used+firstBlock
 	first := c.used + 1
@@ -180,6 +180,7 @@ func (c *Client) abandon() {
 	for v := range c.peers {
 		c.peers[v].sent = map[uint64]time.Duration{}
 		c.peers[v].forget()
+		c.peers[v].forgetLease()
 		c.out[v] = c.out[v][:0]
 		c.tell(v, qlock.ClientSays{Kind: qlock.Drop, Number: c.asked, First: c.claimed})
 	}
@@ -203,12 +204,29 @@ func (c *Client) choose(ctx context.Context) error {
 		if c.config.DontWait {
 			return c.crowded(nil)
 		}
-		select {
-		case <-time.After(c.cluster.TTL.Duration / 10):
-		case <-ctx.Done():
-			return c.crowded(ctx.Err())
+		if err := c.awaitsFree(ctx); err != nil {
+			return c.crowded(err)
 		}
 	}
+}
+
+// awaitsFree waits until a voter says that a number is free, and at most for a tenth of the TTL.
+func (c *Client) awaitsFree(ctx context.Context) error {
+	timer := time.NewTimer(c.cluster.TTL.Duration / 10)
+	defer timer.Stop()
+	for c.isFree = false; !c.isFree && c.why == nil; {
+		select {
+		case m := <-c.messages:
+			c.message(m)
+		case f := <-c.read:
+			f()
+		case <-timer.C:
+			return nil
+		case <-ctx.Done():
+			return ctx.Err()
+		}
+	}
+	return nil
 }
 
 // pick chooses a number that is free, or else one whose session is silent, and returns whether there is one. A number whose epochs are
@@ -228,9 +246,10 @@ func (c *Client) pick() bool {
 // claim claims the number that was chosen, under a new epoch.
 func (c *Client) claim(ctx context.Context) error {
 	c.claimed = c.epochs[c.asked] + 1
-	c.replied, c.refused, c.used, c.block = 0, false, 0, firstBlock
+	c.replied, c.refused, c.used, c.block, c.left = 0, false, 0, firstBlock, uptime()
 	for v := range c.peers {
 		c.peers[v].forget()
+		c.peers[v].forgetLease()
 	}
 	short, cancel := context.WithTimeout(ctx, brief)
 	defer cancel()
@@ -295,8 +314,13 @@ func (c *Client) rounds(ctx context.Context, say func(), done func() bool) error
 
 // forget forgets what a voter said of a number.
 func (p *peer) forget() {
-	p.accepts, p.taken, p.base, p.reserved, p.claimed, p.lapses = false, false, 0, 0, 0, 0
+	p.accepts, p.taken, p.stamps, p.base, p.claimed = false, false, qlock.NewStamps(), 0, 0
 	p.noted, p.notes = false, 0
+}
+
+// forgetLease forgets what a voter said to the session before, for another one.
+func (p *peer) forgetLease() {
+	p.lease, p.said, p.since, p.answers = qlock.NewLease(), qlock.Incarnation{}, uptime(), false
 }
 
 // use notes that a stamp is used. It reserves more before the block is spent.
@@ -329,8 +353,8 @@ func (c *Client) noteStamps(voter int, base, reserved uint64) {
 		return
 	}
 	before := *p
-	p.accepts, p.base, p.reserved = true, greatest(p.base, base), greatest(p.reserved, reserved)
-	if p.accepts == before.accepts && p.base == before.base && p.reserved == before.reserved {
+	p.accepts, p.taken, p.base = true, false, greatest(p.base, base)
+	if p.stamps.Hear(base, reserved); p.accepts == before.accepts && p.stamps == before.stamps {
 		return
 	}
 	for l := range c.busy {
@@ -356,10 +380,11 @@ func greatest(a, b uint64) uint64 {
 	return b
 }
 
-// owners returns the voters that said that a stamp is this session's.
+// owners returns the voters that said that a stamp is this session's, and that acknowledged something: their votes count at once. Who waits
+// for that holds up others by the votes that it has.
 func (c *Client) owners(stamp uint64) (mask uint64) {
 	for v := range c.peers {
-		if p := &c.peers[v]; p.accepts && p.base < stamp && stamp <= p.reserved {
+		if p := &c.peers[v]; p.answers && p.stamps.Have(stamp) {
 			mask |= 1 << v
 		}
 	}
@@ -445,22 +470,14 @@ func (c *Client) disclaimOf(l *lock, voters uint64, now time.Time) {
 // uptime is a clock that also goes on while the machine sleeps.
 func uptime() time.Duration { return boot.Uptime() }
 
-// doubtful returns the voters that may have let votes go: none of their replies is of a heartbeat that left in the last
-// 0.8 TTL. They may do so a TTL after it arrived.
-func (c *Client) doubtful() (mask uint64) {
-	up := uptime()
-	for v := range c.peers {
-		if up-c.peers[v].known > leaseOf(c.cluster.TTL.Duration) {
-			mask |= 1 << v
-		}
-	}
-	return mask
-}
-
-// silent returns the voters of which nothing came for the fail-over time.
+// silent returns the voters of which nothing came for the fail-over time, or, of a session that rests, since the heartbeat before it.
 func (c *Client) silent(now time.Time) (mask uint64) {
+	most := c.config.FailOver
+	if c.rests() {
+		most += c.pause()
+	}
 	for v := range c.peers {
-		if now.Sub(c.peers[v].heard) > c.config.FailOver {
+		if now.Sub(c.peers[v].heard) > most {
 			mask |= 1 << v
 		}
 	}
@@ -488,7 +505,7 @@ func (c *Client) message(m transport.Message) {
 	if !c.accepts(h.Coterie) {
 		c.stats.Refused++
 		if c.recognise(h) {
-			c.noteLapses(h)
+			c.noteIncarnation(h)
 			c.findPlans(h.Number, lines)
 		}
 		return
@@ -498,7 +515,7 @@ func (c *Client) message(m transport.Message) {
 		return
 	}
 	c.peers[h.Number].heard, c.peers[h.Number].level = time.Now(), h.Level
-	c.noteLapses(h)
+	c.noteIncarnation(h)
 	for c.why == nil {
 		lock, line, rest, found := wire.Next(lines)
 		if !found {
@@ -511,7 +528,7 @@ func (c *Client) message(m transport.Message) {
 		if string(lock) == "." {
 			c.control(h.Number, line)
 		} else if wire.ReadLine(line).From == h.Number && c.header.Epoch > 0 && !c.peers[h.Number].stale {
-			c.take(lock, line)
+			c.take(h.Number, lock, line)
 		} else {
 			c.stats.Refused++
 		}
@@ -539,42 +556,24 @@ func (c *Client) recognise(h wire.Header) bool {
 		p.forget()
 		c.spoilAll(1 << h.Number)
 	default:
-		if h.Lapses < p.lapses {
-			p.lapses = h.Lapses // an older copy of its state; each vote of it is asked for anew
-		}
 		c.restarted(h.Number)
 	}
 	return true
 }
 
-// isUnsure returns whether a request is inside by the vote of a voter that started again, and did not say since that it is.
-func (c *Client) isUnsure(voter int) bool {
-	p := &c.peers[voter]
-	if p.unsure {
-		p.unsure = false
-		for l := range c.busy { // one that is lost is not renewed
-			p.unsure = p.unsure || l.unrenewed>>voter&1 == 1 && (l.held == nil || !l.held.over.Load())
-		}
-	}
-	return p.unsure
-}
-
-// restarted tells a voter that started again which requests are over, and renews those that are inside by its vote. Until it says that they are,
-// its replies to heartbeats count for nothing. Others that have its vote are
-// given up: it may be somebody else's.
+// restarted tells a voter that started again which requests are over, and lets it say again that it has those that are inside by its
+// vote: until then its replies to heartbeats say nothing of them. Others that have its vote are given up: it may be somebody else's.
 func (c *Client) restarted(voter int) {
 	now := time.Now()
 	for _, l := range c.locks {
 		if l.shown.Phase == qlock.Idle {
-			c.disclaimOf(l, 1<<voter, now) // that a request is over was perhaps not saved, and what is not renewed costs all locks by this voter
+			c.disclaimOf(l, 1<<voter, now) // that a request is over was perhaps not saved
 		}
 	}
 	for l := range c.busy {
 		switch {
 		case l.shown.Phase == qlock.Idle || c.votes(l)>>voter&1 == 0:
 		case l.shown.Phase == qlock.Inside:
-			l.unrenewed |= 1 << voter
-			c.peers[voter].unsure = true
 			c.remind(l, now)
 		default:
 			c.askAgain(l)
@@ -582,27 +581,54 @@ func (c *Client) restarted(voter int) {
 	}
 }
 
-// noteLapses notes how often a voter let a grant of this session go since it was silent. It may be
-// that of any request: all that have its vote from before are over. What it said before counts no
-// more, so no late word of it revives a vote.
-func (c *Client) noteLapses(h wire.Header) {
+// noteIncarnation notes which incarnation of a voter a message is of. A later one acknowledged no heartbeat yet, so one leaves at once if
+// votes are wanted. If only its lapses grew, the voter let a vote of this session go, which may be that of any request: all that have
+// its vote from before are over.
+func (c *Client) noteIncarnation(h wire.Header) {
 	p := &c.peers[h.Number]
-	p.stale = h.Lapses < p.lapses
-	if h.Lapses <= p.lapses {
+	before, said := p.said, qlock.Incarnation{Run: h.Run, Start: h.Start, Lapses: h.Lapses}
+	if p.stale = false; said == before {
 		return
 	}
-	p.lapses = h.Lapses
 	for l := range c.busy {
-		if l.shown.Phase != qlock.Idle && c.votes(l)>>h.Number&1 == 1 {
+		l.kept.Of(h.Number).Keeps(&p.lease)
+	}
+	if p.stale = !p.lease.Hears(said); p.stale {
+		return
+	}
+	p.said, p.since, p.answers = said, uptime(), false
+	if said.Run == before.Run && said.Start == before.Start {
+		c.spoilVotes(h.Number)
+	}
+	if len(c.busy) > 0 {
+		c.heartbeat(time.Now())
+	}
+}
+
+// spoilVotes ends all requests that have the vote of a voter.
+func (c *Client) spoilVotes(voter int) {
+	for l := range c.busy {
+		if l.shown.Phase != qlock.Idle && c.votes(l)>>voter&1 == 1 {
 			c.spoil(l)
 		}
 	}
 }
 
-// acknowledge notes that a voter acknowledged a heartbeat that left at this time.
+// acknowledge notes that a voter acknowledged a heartbeat, or a claim, that left at this time. So votes count for longer.
 func (c *Client) acknowledge(voter int, left time.Duration) {
-	c.peers[voter].known = left
-	c.watch.acknowledge(voter, left)
+	p := &c.peers[voter]
+	isFirst := !p.answers
+	p.lease.Renews(p.said, left)
+	p.answers = true
+	for l := range c.busy {
+		switch {
+		case isFirst && l.shown.Phase == qlock.Idle:
+			c.pump(l) // this voter may be asked now
+		case l.shown.Phase == qlock.Idle || l.shown.Quorum>>voter&1 == 0:
+		case c.counts(l) && l.shown.Phase == qlock.Inside && l.held == nil:
+			c.pump(l) // it waited for this
+		}
+	}
 }
 
 // spoilAll ends all requests to these voters.
@@ -716,6 +742,9 @@ func (c *Client) noteClaim(voter int, granted bool, base, reserved uint64) {
 		return
 	}
 	c.replied |= 1 << voter
+	if p := &c.peers[voter]; p.claimed == 0 && !p.stale {
+		c.acknowledge(voter, c.left) // of a claim that was said again it is not known when that left: the next heartbeat is acknowledged
+	}
 	if c.header.Epoch == 0 && base <= qlock.MaxStamp {
 		c.used = greatest(c.used, base) // what any session of the number used at this quorum
 	}
@@ -734,7 +763,7 @@ func (c *Client) claimAgain(voter int) {
 // voter heard, and how many requests of this session it has.
 func (c *Client) opened(voter int, base, reserved, seq, requests uint64) {
 	p := &c.peers[voter]
-	if left, ok := p.sent[seq]; ok && left > p.known && !c.isUnsure(voter) {
+	if left, ok := p.sent[seq]; ok {
 		c.acknowledge(voter, left)
 	}
 	p.requests = requests
@@ -749,21 +778,22 @@ func (c *Client) opened(voter int, base, reserved, seq, requests uint64) {
 
 // over notes that this session is over at a voter. What it has of that voter is lost, unless it is
 // being closed. The session ends once the other voters contain no quorum: one voter alone ends no
-// session.
+// session. Nor does it end one that is opened: where two sessions claimed a number at once, a voter may
+// have it as that of the other one, until that takes its claim back.
 func (c *Client) over(voter int) {
 	p := &c.peers[voter]
-	switch {
-	case c.opening:
-		c.refused = true
-	case c.draining && p.drained:
+	if c.draining && p.drained {
 		p.closed = true
 		c.finish()
-	default:
-		p.accepts, p.taken = false, true
-		c.spoilAll(1 << voter)
-		if !c.hasQuorum(^c.takers()) {
-			c.end(ErrLost)
-		}
+		return
+	}
+	p.accepts, p.taken, p.stamps = false, true, qlock.NewStamps()
+	c.spoilAll(1 << voter)
+	switch others := ^c.takers(); {
+	case c.opening: // it waits for no silent voter, as it may take another number
+		c.refused = c.refused || !c.hasQuorum(others&^c.silent(time.Now()))
+	case !c.hasQuorum(others):
+		c.end(ErrLost)
 	}
 }
 

@@ -21,10 +21,9 @@ type turning struct {
 }
 
 // Turn returns the lock's turn: one number, for a place that can compare one number and keeps no guard, as a version or an ETag. Of two
-// holders of a lock that ask for it the later one gets the greater turn: that is proved of grants by voters that lose no state, and of
-// plans of which any two quorums meet (two exchanges may lead to one that does not meet the first). The same lock always gets the same
-// turn. A place that refuses what shows a smaller turn than it saw before refuses who came late, as a guard does; both have to compare and
-// write in one step.
+// holders of a lock that ask for it the later one gets the greater turn: that is proved of grants by voters that lose no state, also over
+// exchanges, of voters that settle each plan (qlockctl retire). The same lock always gets the same turn. A place that refuses what shows a
+// smaller turn than it saw before refuses who came late, as a guard does; both have to compare and write in one step.
 //
 // It takes one trip to the voters of the quorum, and a save at each. It fails with ErrLapsed if the lock may have been lost, with
 // ErrNotHeld if it was given back, and with ErrNoQuorum if some voter did not reply until the context ended. Voters of older programs never

@@ -64,6 +64,39 @@ func TestTurnsGrowOverRestarts(t *testing.T) {
 	}
 }
 
+// Two of a, b and c with two of d, e and f, and then two of d, e and f alone.
+const (
+	sixVoters = "voters = [\"a\", \"b\", \"c\", \"d\", \"e\", \"f\"]\n"
+	twoOfEach = sixVoters + `quorums = [
+	["a", "b", "d", "e"], ["a", "b", "d", "f"], ["a", "b", "e", "f"],
+	["a", "c", "d", "e"], ["a", "c", "d", "f"], ["a", "c", "e", "f"],
+	["b", "c", "d", "e"], ["b", "c", "d", "f"], ["b", "c", "e", "f"]]
+`
+	twoOfTheLast = sixVoters + "quorums = [[\"d\", \"e\"], [\"d\", \"f\"], [\"e\", \"f\"]]\n"
+)
+
+// Turns grow over two exchanges whose first plan has no voter in common with the third, though its voters gave far greater numbers.
+func TestTurnsGrowOverPlansApart(t *testing.T) {
+	w := worlds.New(t, worlds.Majority, time.Second)
+	c := startWith(t, w, Config{})
+	for i := 0; i < 9; i++ {
+		w.Stop(i % 3)
+		w.Start(i % 3)
+		w.Ready()
+	}
+	last := turnOf(t, c, "orders")
+	for i, coterie := range []string{twoOfEach, twoOfTheLast} {
+		w.Exchange(coterie)
+		w.Ready()
+		soon(t, "the voters do not take the plan", func() bool { return w.Install() == nil })
+		soon(t, "the client stays with the old plan", func() bool { number, _ := planOf(c); return number == uint64(i+1) })
+		soon(t, "the plan is not retired", func() bool { return w.Retire() == nil })
+	}
+	if turn := turnOf(t, c, "orders"); turn <= last { // none of the second plan has led the last voters up
+		t.Fatalf("%d after %d", turn, last)
+	}
+}
+
 // There is no turn of a lock that was given back, and none if a voter of the quorum does not reply.
 func TestNoTurn(t *testing.T) {
 	w := worlds.New(t, "voters = [\"a\", \"b\"]\nquorums = [[\"a\", \"b\"]]\n", 5*time.Second)

@@ -3,18 +3,14 @@ package locks
 import (
 	"sync"
 	"time"
-
-	"calvundek.example/service/qlock"
 )
 
 // watch closes Lost in time, whatever holds the client's loop up: it has a goroutine of its own,
-// which touches no socket. The loop tells it what is held, and which heartbeats voters
-// acknowledged.
+// which touches no socket. The loop tells it what is held, and a lock up to when.
 type watch struct {
 	lease time.Duration // for how long an acknowledged heartbeat counts
 
 	mutex sync.Mutex
-	known [qlock.MaxVoters]time.Duration
 	held  map[*Held]struct{}
 }
 
@@ -27,13 +23,6 @@ func leaseOf(ttl time.Duration) time.Duration { return ttl * 8 / 10 }
 
 func newWatch(ttl time.Duration) *watch {
 	return &watch{lease: leaseOf(ttl), held: map[*Held]struct{}{}}
-}
-
-// acknowledge notes when the newest heartbeat left that a voter acknowledged.
-func (w *watch) acknowledge(voter int, left time.Duration) {
-	w.mutex.Lock()
-	defer w.mutex.Unlock()
-	w.known[voter] = left
 }
 
 // begin notes that a lock is held, and end that it is not any more.
@@ -53,30 +42,19 @@ func (w *watch) end(h *Held) {
 func (w *watch) left(h *Held, up time.Duration) time.Duration {
 	w.mutex.Lock()
 	defer w.mutex.Unlock()
-	least := w.lease
-	for voter, left := range w.known {
-		if ends := left + w.lease - up; h.quorum>>voter&1 == 1 && ends < least {
-			least = ends
-		}
-	}
-	if _, isHeld := w.held[h]; !isHeld || h.over.Load() || least < 0 {
+	left := shorter(time.Duration(h.until.Load())-up, w.lease)
+	if _, isHeld := w.held[h]; !isHeld || h.over.Load() || left < 0 {
 		return 0
 	}
-	return least
+	return left
 }
 
 // look ends what may be lost at a time.
 func (w *watch) look(up time.Duration) {
 	w.mutex.Lock()
 	defer w.mutex.Unlock()
-	var doubtful uint64
-	for voter, left := range w.known {
-		if up-left > w.lease {
-			doubtful |= 1 << voter
-		}
-	}
 	for h := range w.held {
-		if h.quorum&doubtful != 0 {
+		if time.Duration(h.until.Load()) <= up {
 			h.lapse()
 		}
 	}

@@ -10,6 +10,7 @@ import (
 
 	"calvundek.example/service/internal/wire"
 	"calvundek.example/service/internal/worlds"
+	"calvundek.example/service/qlock"
 )
 
 // Lost closes in time also while the client's loop stands still, as one does that writes to a
@@ -47,9 +48,14 @@ func TestLostClosesWithoutTheLoop(t *testing.T) {
 
 // lapsed lets a client take lines of a voter that let grants of it go so often.
 func lapsed(c *Client, voter int, lapses uint64, lines string) {
+	started(c, voter, c.peers[voter].start, lapses, lines)
+}
+
+// started lets a client take lines of a voter that started so often.
+func started(c *Client, voter int, start, lapses uint64, lines string) {
 	p := c.peers[voter]
 	h := wire.Header{Cluster: c.cluster.ID, Coterie: c.plan.mark, Kind: wire.FromVoter, Number: voter,
-		Name: p.identity, Run: p.run, Start: p.start, Lapses: lapses}
+		Name: p.identity, Run: p.run, Start: start, Lapses: lapses}
 	hear(c, h, lines)
 }
 
@@ -77,11 +83,11 @@ func TestAcknowledgementRevivesNothing(t *testing.T) {
 		t.Fatal(err)
 	}
 	asked := c.locks["x"].shown
-	known := c.peers[voter].known
+	lease := c.peers[voter].lease
 	c.peers[voter].sent[seq+1] = uptime()
 	line := fmt.Sprintf("x locked %d %d %d %d %d\n", voter, c.header.Number, asked.Stamp, grant+1, stamp)
 	lapsed(c, voter, 0, line+fmt.Sprintf(". opened %d %d 0 4096 %d 1\n", c.header.Number, c.header.Epoch, seq+1))
-	if c.votes(c.locks["x"])>>voter&1 == 1 || c.peers[voter].known != known {
+	if c.votes(c.locks["x"])>>voter&1 == 1 || c.peers[voter].lease != lease {
 		t.Error("a word from before revives a vote")
 	}
 	if c.votes(c.locks["x"]) != 0 {
@@ -106,24 +112,182 @@ func TestLapsesOfAnotherPlan(t *testing.T) {
 	}
 }
 
-// A voter that started again acknowledges nothing until it said of each lock that it is still held. One that is lost is none of
-// them: nobody renews it.
-func TestLostLockHoldsNothingUp(t *testing.T) {
+// A voter that started again may have given its vote to somebody else. What it acknowledges says nothing of a vote from before, until it
+// says again that this session has it.
+func TestVoteOfTheStartBefore(t *testing.T) {
 	c, h := held(t)
 	voter := bits.TrailingZeros64(h.quorum)
-	acknowledged := func() bool {
+	start, until := c.peers[voter].start, h.lock.kept.Until(voter, c.leases())
+	acknowledged := func() string {
 		c.header.Seq++
 		c.peers[voter].sent[c.header.Seq] = uptime()
-		known := c.peers[voter].known
-		lapsed(c, voter, 0, fmt.Sprintf(". opened %d %d 0 4096 %d 1\n", c.header.Number, c.header.Epoch, c.header.Seq))
-		return c.peers[voter].known != known
+		return fmt.Sprintf(". opened %d %d 0 4096 %d 1\n", c.header.Number, c.header.Epoch, c.header.Seq)
 	}
-	c.peers[voter].start++
-	if c.restarted(voter); acknowledged() {
-		t.Error("a lock that was not renewed counts as held")
+	if started(c, voter, start+1, 0, acknowledged()); h.lock.kept.Until(voter, c.leases()) != until {
+		t.Error("a voter that started again renews a vote that it may have given to somebody else")
 	}
-	if h.lapse(); !acknowledged() {
-		t.Error("a lock that is lost keeps the others from being acknowledged")
+	if h.over.Load() {
+		t.Error("a lock is lost before its votes end")
+	}
+	grant := h.lock.grantOf(voter)
+	line := locked(c, h.lock, voter, grant+1)
+	if started(c, voter, start+1, 0, line+acknowledged()); h.lock.kept.Until(voter, c.leases()) <= until {
+		t.Error("a vote that the voter gave again is not renewed")
+	}
+}
+
+// A LOCKED counts by the number of the grant in it, also if the client has the vote by another one: a number that was given back may be
+// that of a grant which is over.
+func TestNumberInTheLineCounts(t *testing.T) {
+	c, l, call := asks(t)
+	voter := bits.TrailingZeros64(l.shown.Quorum)
+	other := bits.TrailingZeros64(l.shown.Quorum &^ (1 << voter))
+	lapsed(c, voter, 0, locked(c, l, voter, 1))
+	givesBack(c, l, voter, other, 1)
+	lapsed(c, voter, 0, locked(c, l, voter, 2))
+	if lapsed(c, other, 0, locked(c, l, other, 1)); len(call.got) == 0 {
+		t.Fatal("the lock is not held")
+	}
+	start, until := c.peers[voter].start, l.kept.Until(voter, c.leases())
+	again := func(grant uint64) time.Duration {
+		c.header.Seq++
+		c.peers[voter].sent[c.header.Seq] = uptime()
+		started(c, voter, start+1, 0, locked(c, l, voter, grant)+
+			fmt.Sprintf(". opened %d %d 0 4096 %d 1\n", c.header.Number, c.header.Epoch, c.header.Seq))
+		return l.kept.Until(voter, c.leases())
+	}
+	if again(1) > until {
+		t.Error("a vote is renewed by a number that was given back")
+	}
+	if again(3) <= until {
+		t.Error("a vote is not renewed by a later number")
+	}
+}
+
+// A claim that is said again acknowledges nothing: its reply may be to the first one, which is as old as the session.
+func TestLaterClaimAcknowledgesNothing(t *testing.T) {
+	c, h := held(t)
+	voter := bits.TrailingZeros64(h.quorum)
+	c.peers[voter].forgetLease()
+	line := fmt.Sprintf(". claimed %d %d 0 4096\n", c.header.Number, c.header.Epoch)
+	lapsed(c, voter, 0, fmt.Sprintf(". unknown %d %d\n", c.header.Number, c.header.Epoch))
+	lease := c.peers[voter].lease
+	if lapsed(c, voter, 0, line); c.peers[voter].lease != lease {
+		t.Error("a claim that was said again acknowledges a heartbeat")
+	}
+}
+
+// A vote that does not count any more is not renewed: the voter may have given it to somebody since.
+func TestLostVoteIsNotRenewed(t *testing.T) {
+	c, h := held(t)
+	voter := bits.TrailingZeros64(h.quorum)
+	start, grant := c.peers[voter].start, h.lock.grantOf(voter)
+	age(c, voter)
+	c.header.Seq++
+	c.peers[voter].sent[c.header.Seq] = uptime()
+	line := locked(c, h.lock, voter, grant+1)
+	started(c, voter, start+1, 0, line+fmt.Sprintf(". opened %d %d 0 4096 %d 1\n", c.header.Number, c.header.Epoch, c.header.Seq))
+	if until := h.lock.kept.Until(voter, c.leases()); until > uptime() {
+		t.Errorf("a vote that was lost counts for %v", until-uptime())
+	}
+}
+
+// asks returns a client that asks for the lock x, of which no voter hears, and the call that waits for it.
+func asks(t *testing.T) (*Client, *lock, *waiter) {
+	t.Helper()
+	c := still(t, worlds.New(t, worlds.Majority, 20*time.Second))
+	turns(c, 200*time.Millisecond, func() bool { return false }) // the replies to what was said before
+	call := &waiter{got: make(chan *Held, 1), since: time.Now()}
+	if err := c.enqueue("x", call); err != nil {
+		t.Fatal(err)
+	}
+	return c, c.locks["x"], call
+}
+
+// locked returns the line by which a voter gives its vote to a lock's request.
+func locked(c *Client, l *lock, voter int, grant uint64) string {
+	return fmt.Sprintf("x locked %d %d %d %d 0\n", voter, c.header.Number, l.shown.Stamp, grant)
+}
+
+// givesBack lets a client give the vote of a voter back that it has by this grant: another voter says that it may have to wait.
+func givesBack(c *Client, l *lock, voter, other int, grant uint64) {
+	lapsed(c, other, 0, fmt.Sprintf("x fail %d %d %d 0\n", other, c.header.Number, l.shown.Stamp))
+	lapsed(c, voter, 0, fmt.Sprintf("x inquire %d %d %d 0\n", voter, c.header.Number, grant))
+}
+
+// A lock is handed out once all its votes count. A voter that just started acknowledged nothing yet: a heartbeat leaves at once, and its
+// reply does.
+func TestVoteWaitsForItsLease(t *testing.T) {
+	c, l, call := asks(t)
+	last := 63 - bits.LeadingZeros64(l.shown.Quorum)
+	for v := range c.peers {
+		if v != last && l.shown.Quorum>>v&1 == 1 {
+			lapsed(c, v, 0, locked(c, l, v, 1))
+		}
+	}
+	start, seq := c.peers[last].start+1, c.header.Seq
+	started(c, last, start, 0, locked(c, l, last, 1))
+	if l.shown.Phase != qlock.Inside || len(call.got) > 0 {
+		t.Fatalf("phase %v, handed out: %d", l.shown.Phase, len(call.got))
+	}
+	if c.header.Seq == seq {
+		t.Error("no heartbeat leaves")
+	}
+	started(c, last, start, 0, fmt.Sprintf(". opened %d %d 0 4096 %d 1\n", c.header.Number, c.header.Epoch, c.header.Seq))
+	if len(call.got) == 0 {
+		t.Error("a lock whose votes count is not handed out")
+	}
+}
+
+// A voter that accepts a claim heard the session.
+func TestClaimIsAcknowledged(t *testing.T) {
+	c := still(t, worlds.New(t, worlds.Majority, 20*time.Second))
+	c.peers[0].forgetLease()
+	if isLeased(c, 0) {
+		t.Fatal("a voter acknowledged nothing")
+	}
+	if c.noteClaim(0, true, 0, 4096); !isLeased(c, 0) {
+		t.Error("a claim that is accepted is not acknowledged")
+	}
+}
+
+// A voter that acknowledged nothing yet is asked only if nobody else would do: its vote would not count, and hold others up.
+func TestAsksWhoAcknowledged(t *testing.T) {
+	c := still(t, worlds.New(t, worlds.Majority, 20*time.Second))
+	turns(c, 200*time.Millisecond, func() bool { return false })
+	voter := bits.TrailingZeros64(c.nextQuorum(0, 0))
+	c.peers[voter].forgetLease()
+	if c.owners(c.used+1)>>voter&1 == 1 {
+		t.Error("it may be asked")
+	}
+	call := &waiter{got: make(chan *Held, 1), since: time.Now()}
+	if err := c.enqueue("x", call); err != nil {
+		t.Fatal(err)
+	}
+	if quorum := c.locks["x"].shown.Quorum; quorum == 0 || quorum>>voter&1 == 1 {
+		t.Errorf("the voters %b are asked, and not %d", quorum, voter)
+	}
+}
+
+// A vote counts neither for a request that is over, nor once it is given back.
+func TestVotesEndWithTheirRequest(t *testing.T) {
+	c, l, _ := asks(t)
+	until := func(v int) time.Duration { return l.kept.Until(v, c.leases()) }
+	voter := bits.TrailingZeros64(l.shown.Quorum)
+	if lapsed(c, voter, 0, locked(c, l, voter, 1)); until(voter) == 0 {
+		t.Fatal("a vote does not count")
+	}
+	if c.giveUp(l); until(voter) != 0 {
+		t.Error("a vote counts for a request that is over")
+	}
+	c.pump(l)
+	voter = bits.TrailingZeros64(l.shown.Quorum)
+	if lapsed(c, voter, 0, locked(c, l, voter, 2)); until(voter) == 0 {
+		t.Fatal("the next vote does not count")
+	}
+	givesBack(c, l, voter, bits.TrailingZeros64(l.shown.Quorum&^(1<<voter)), 2)
+	if c.votes(l) != 0 || until(voter) != 0 {
+		t.Errorf("votes of %b, up to %v", c.votes(l), until(voter))
 	}
 }
 

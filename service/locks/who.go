@@ -25,7 +25,8 @@ type Holder struct {
 	Since   time.Time // since when it has these votes, about; later if a voter started meanwhile
 	Waiting int       // how many other sessions wait for the lock
 	Asked   bool      // the voters that replied do not say that it has the votes of a quorum: it asks for the lock, or has it by others
-	Number  int       // of its session, as operators see it
+	Number  int       // of its session
+	Session string    // that number as operators see it, and as evict takes it: with the shard in front where there are several
 
 	stamp uint64 // of its request, above 0
 }
@@ -44,7 +45,7 @@ func (h Holder) String() string {
 			words = append(words, fmt.Sprintf(format, value))
 		}
 	}
-	add("client %v", h.Number, true)
+	add("client %v", h.Session, true)
 	add("user=%v", h.User, h.User != "")
 	add("host=%v", h.Host, h.Host != "")
 	add("pid=%v", h.Pid, h.Pid != 0)
@@ -258,9 +259,11 @@ func (c *Client) hearTold(voter int, told wire.Told) {
 	case told.Kind == wire.Turned:
 		c.hearTurned(voter, told)
 	case told.Kind == wire.Sessions:
-		if told.Open >= c.crowd.Open {
-			c.crowd = told
-		}
+		c.hearCrowd(told)
+	case told.Kind == wire.Free:
+		c.isFree = true
+	case told.Kind == wire.Wanted:
+		c.wanted = time.Now()
 	case told.Kind == wire.HasVote && told.ID == 0:
 		if l := c.locks[told.Lock]; l != nil && l.shown.Phase == qlock.Asking && told.IsHeld {
 			l.holder = c.holderBy(map[int]wire.Told{voter: told}, time.Now())
@@ -274,6 +277,19 @@ func (c *Client) hearTold(voter int, told wire.Told) {
 	}
 }
 
+// hearCrowd takes what a voter says of the sessions that there are. Of the highest stamps the least one counts: no voter alone leads a
+// session far up.
+func (c *Client) hearCrowd(told wire.Told) {
+	ahead, highest := greatest(c.crowd.Ahead, told.Ahead), told.Highest
+	if c.crowd.Kind == wire.Sessions && c.crowd.Highest < highest {
+		highest = c.crowd.Highest
+	}
+	if told.Open >= c.crowd.Open {
+		c.crowd = told
+	}
+	c.crowd.Ahead, c.crowd.Highest = ahead, highest
+}
+
 // crowded returns why no number is to be had, and what voters said of the sessions that have them.
 func (c *Client) crowded(why error) error {
 	milliseconds := func(n uint64) time.Duration {
@@ -281,6 +297,9 @@ func (c *Client) crowded(why error) error {
 	}
 	text := fmt.Sprintf("%d sessions are open, one of them was silent for %v, and a request has waited for %v", c.crowd.Open,
 		milliseconds(c.crowd.Silent), milliseconds(c.crowd.Waits))
+	if c.crowd.Ahead > 0 {
+		text += fmt.Sprintf("; %d wait for a number before this one", c.crowd.Ahead)
+	}
 	switch {
 	case c.crowd.Kind == wire.NotTold && why == nil:
 		return ErrNumbers
@@ -318,9 +337,9 @@ func (c *Client) holderBy(said map[int]wire.Told, now time.Time) Holder {
 		number int
 		stamp  uint64
 	}
-	votes, waiting := map[request]uint64{}, uint64(0)
+	votes, waiting, shard := map[request]uint64{}, uint64(0), 0
 	for voter, told := range said {
-		waiting |= told.Waiting
+		waiting, shard = waiting|told.Waiting, c.cluster.ShardOfLock(told.Lock)
 		if told.IsHeld {
 			votes[request{told.Number, told.Stamp}] |= 1 << voter
 		}
@@ -335,7 +354,7 @@ func (c *Client) holderBy(said map[int]wire.Told, now time.Time) Holder {
 	if votes[best] == 0 {
 		return Holder{}
 	}
-	h := Holder{Number: best.number, stamp: best.stamp, Asked: !c.hasAnyQuorum(votes[best]),
+	h := Holder{Number: best.number, Session: c.cluster.NumberOf(shard*qlock.MaxClients + best.number), stamp: best.stamp, Asked: !c.hasAnyQuorum(votes[best]),
 		Waiting: bits.OnesCount64(waiting &^ (1 << best.number))}
 	for voter := range c.peers {
 		if told := said[voter]; votes[best]>>voter&1 == 1 {

@@ -56,10 +56,22 @@ func hear(c *Client, h wire.Header, lines string) {
 }
 
 // says lets the client take lines of a voter.
-func (c *table) says(voter int, lines string) {
+func (c *table) says(voter int, lines string) { c.message(c.word(voter, lines)) }
+
+// word returns a message of a voter.
+func (c *table) word(voter int, lines string) transport.Message {
 	h := wire.Header{Cluster: c.cluster.ID, Coterie: c.plan.mark, Kind: wire.FromVoter, Number: voter,
 		Name: fmt.Sprint("identity-", voter)}
-	hear(c.Client, h, lines)
+	return came(c.Client, voter, append(h.Append(nil), lines...))
+}
+
+// hearsThen lets words come to the client, in this order.
+func (c *table) hearsThen(words ...transport.Message) {
+	messages := make(chan transport.Message, len(words))
+	for _, word := range words {
+		messages <- word
+	}
+	c.messages = messages
 }
 
 // sent returns the lines of locks that the client sends, by voter.
@@ -85,6 +97,9 @@ func TestOnlyOwnStampsAreAsked(t *testing.T) {
 	random, requests, raised := rand.New(rand.NewSource(1)), 0, 0
 	for run := 0; run < 60; run++ {
 		c := alone(t)
+		for v := range c.peers {
+			c.acknowledge(v, uptime())
+		}
 		bases, reserved := [3]uint64{}, [3]uint64{}
 		for n := 0; n < 40; n++ {
 			voter := random.Intn(3)
@@ -143,6 +158,65 @@ func TestOneVoterGivesNoNumber(t *testing.T) {
 	c.messages, c.asked = messages, 3
 	if err := c.Client.claim(ctx); err == nil || c.replied != 1 {
 		t.Errorf("replies of %b, %v", c.replied, err)
+	}
+}
+
+// A session to which a quorum gave a number keeps it, though another voter has it as that of a session that claimed it at the same time. It
+// takes another number if those that are left contain no quorum, or are silent.
+func TestOneVoterEndsNoOpening(t *testing.T) {
+	const taken, opened = ". taken 3 5\n", ". opened 3 5 0 1064 1 0\n"
+	opens := func(lines ...string) (*table, error) {
+		c := alone(t)
+		c.opening, c.crowd.Highest = true, 1000
+		var words []transport.Message
+		for i, line := range lines {
+			words = append(words, c.word(2-i, line))
+		}
+		c.hearsThen(words...)
+		return c, c.reserveFirst(within(t, 5*time.Second))
+	}
+	c, err := opens(taken, opened, opened)
+	if err != nil || c.takers() != 1<<2 {
+		t.Errorf("one voter has it as another one's: %v, taken by %b", err, c.takers())
+	}
+	if c.says(2, ". claimed 3 5 0 64\n"); c.takers() != 0 {
+		t.Errorf("the voter has it as this one's by now, and it is taken by %b", c.takers())
+	}
+	if _, err := opens(taken, taken, opened); !errors.Is(err, errTaken) {
+		t.Errorf("two voters have it as another one's: %v", err)
+	}
+	c = alone(t)
+	c.opening, c.peers[1].heard = true, time.Now().Add(-time.Hour)
+	if c.says(2, taken); !c.refused {
+		t.Error("it waits for a silent voter")
+	}
+}
+
+// Who waited for a number for long has time to use it, though others wait. Who does not use it gives it back.
+func TestTimeToUseANumber(t *testing.T) {
+	c := alone(t)
+	c.cluster.Shards, c.header.Number, c.header.Epoch = 2, 0, 0
+	var states strings.Builder
+	for number := 0; number < qlock.MaxClients; number++ {
+		isFree := 0
+		if number == 3 {
+			isFree = 1
+		}
+		fmt.Fprintf(&states, ". number %d 4 %d\n", number, isFree)
+	}
+	claimed := ". claimed 3 5 0 64\n"
+	c.hearsThen(c.word(0, states.String()), c.word(1, states.String()), c.word(0, claimed), c.word(1, claimed))
+	c.unused = time.Now().Add(-time.Hour) // when it began to wait
+	if err := c.begin(within(t, 5*time.Second)); err != nil {
+		t.Fatal(err)
+	}
+	c.says(0, string(wire.Told{Kind: wire.Wanted}.Append(nil)))
+	if c.giveNumberBack(time.Now()); c.draining {
+		t.Error("the number is given back at once")
+	}
+	c.wanted = time.Now().Add(takesUse)
+	if c.giveNumberBack(c.wanted.Add(time.Second)); !c.draining {
+		t.Error("a number that is not used is not given back")
 	}
 }
 
@@ -206,7 +280,7 @@ func held(t *testing.T) (*Client, *Held) {
 func TestHeartbeatHidesNoLoss(t *testing.T) {
 	c, h := held(t)
 	for v := range c.peers {
-		c.peers[v].known -= c.cluster.TTL.Duration
+		age(c, v)
 	}
 	c.beat = c.beat.Add(-c.cluster.TTL.Duration) // so a heartbeat is due
 	c.round(time.Now())
@@ -215,24 +289,29 @@ func TestHeartbeatHidesNoLoss(t *testing.T) {
 	}
 }
 
+// isLeased returns whether a vote counts now that is taken from a voter.
+func isLeased(c *Client, voter int) bool {
+	p, vote := &c.peers[voter], qlock.NewVote(0)
+	vote.Asks(1)
+	vote.Takes(&p.lease, qlock.Granted{Incarnation: p.said, Stamp: 1, Grant: 1}, c.leases().Span, uptime())
+	return vote.Until(&p.lease, c.leases().Span) > uptime()
+}
+
 // A reply says that a voter heard the heartbeat, not that it heard anything when the reply came.
 func TestReplyCountsFromItsHeartbeat(t *testing.T) {
 	c := alone(t)
 	ttl, up := c.cluster.TTL.Duration, uptime()
 	for v := range c.peers {
-		c.peers[v].known = up - 2*ttl
 		c.peers[v].sent[7] = up - 9*ttl/10
-		c.says(v, ". opened 3 5 0 4096 7 0\n")
-	}
-	if c.doubtful() != 0b111 {
-		t.Errorf("a late reply renews the leases of %b", ^c.doubtful()&0b111)
+		if c.says(v, ". opened 3 5 0 4096 7 0\n"); isLeased(c.Client, v) {
+			t.Errorf("a late reply renews the lease of %d", v)
+		}
 	}
 	for v := range c.peers {
 		c.peers[v].sent[8] = up - ttl/2
-		c.says(v, ". opened 3 5 0 4096 8 0\n")
-	}
-	if c.doubtful() != 0 {
-		t.Errorf("a reply does not renew the leases of %b", c.doubtful())
+		if c.says(v, ". opened 3 5 0 4096 8 0\n"); !isLeased(c.Client, v) {
+			t.Errorf("a reply does not renew the lease of %d", v)
+		}
 	}
 }
 

@@ -195,3 +195,25 @@ func (p *Plan) IsBridged(other *Plan) bool {
 	seconds, m := masks(other.distinct)
 	return C.bridge(firsts, n, seconds, m) == 1
 }
+
+// Apart returns a quorum of this plan and one of the other that have no common voter, if there are two such.
+func (p *Plan) Apart(other *Plan) (first, second uint64, found bool) {
+	for _, first := range p.distinct {
+		for _, second := range other.distinct {
+			if first&second == 0 {
+				return first, second, true
+			}
+		}
+	}
+	return 0, 0, false
+}
+
+// NamesOf returns the names of a set of voters, in the order of their numbers.
+func (p *Plan) NamesOf(voters uint64) (names []string) {
+	for number, name := range p.Names {
+		if voters>>number&1 == 1 {
+			names = append(names, name)
+		}
+	}
+	return names
+}

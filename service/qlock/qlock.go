@@ -23,6 +23,9 @@ const (
 	BucketBytes = C.QLOCK_BUCKET_BYTES
 	PeerBytes   = C.QLOCK_PEER_BYTES
 	StartBytes  = C.QLOCK_START_BYTES
+	LeaseBytes  = C.QLOCK_LEASE_BYTES
+	VoteBytes   = C.QLOCK_VOTE_BYTES
+	StampsBytes = C.QLOCK_STAMPS_BYTES
 	PassBytes   = C.QLOCK_PASS_BYTES
 	MaxVoters   = C.QLOCK_MAX_VOTERS
 	MaxClients  = C.QLOCK_MAX_CLIENTS

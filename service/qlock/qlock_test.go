@@ -4,6 +4,7 @@ import (
 	"bytes"
 	"errors"
 	"os"
+	"strings"
 	"testing"
 )
 
@@ -94,6 +95,13 @@ func TestPlan(t *testing.T) {
 	}
 	if !plan.IsBridged(all) || !all.IsBridged(plan) || plan.IsBridged(one) || (&Plan{}).IsBridged(plan) || (&Plan{}).HasQuorum(7) {
 		t.Error("any two of three meet all three, and not the first alone")
+	}
+	if first, second, found := plan.Apart(one); !found || first != 0b110 || second != 0b001 ||
+		strings.Join(plan.NamesOf(first), " ") != "b c" {
+		t.Error("b and c do not meet a:", first, second, found)
+	}
+	if _, _, found := plan.Apart(all); found {
+		t.Error("two quorums are apart, though all meet")
 	}
 	if _, _, unit, err := plan.Slack(); err != nil || unit == 0 {
 		t.Error(unit, err)

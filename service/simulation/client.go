@@ -6,6 +6,7 @@ import (
 	"time"
 
 	"calvundek.example/service/internal/level"
+	"calvundek.example/service/internal/votes"
 	"calvundek.example/service/internal/wire"
 	"calvundek.example/service/qlock"
 	"calvundek.example/service/transport"
@@ -15,7 +16,7 @@ import (
 //
 // They follow the rules of package locks (session.go, request.go, watch.go), whose client has goroutines and reads the
 // machine's clock, and so can't be stepped. Shared with it are the proved client of package qlock, the messages (wire), the
-// plans, and the timer of reminders (remind). What is here is the simulation's own: it is kept in the order of package locks,
+// plans, what is kept of votes (votes), and the timer of reminders (remind). What is here is the simulation's own: it is kept in the order of package locks,
 // under the same names, so that both can be laid side by side. There are no plans that are exchanged, and no calls that only
 // try.
 
@@ -49,18 +50,19 @@ type peer struct {
 	identity string
 	run      uint64
 	start    uint64
-	unsure   bool                     // it started again, and some vote of it was not renewed yet
 	quiet    time.Duration            // until then it takes only requests of who is inside
 	heard    time.Duration            // when a message came
-	known    time.Duration            // when the newest heartbeat left that it acknowledged
+	lease    qlock.Lease              // up to when its votes count
+	said     qlock.Incarnation        // the latest one that it said
+	since    time.Duration            // when it said that first
+	answers  bool                     // it acknowledged a heartbeat, or the claim, since then
 	sent     map[uint64]time.Duration // when heartbeats left that it did not acknowledge
 	accepts  bool                     // it accepted this session's claim of its number
+	stamps   qlock.Stamps             // under which stamps this session may ask it
 	base     uint64                   // all stamps of this session are above it there
-	reserved uint64                   // what it acknowledged as reserved
 	claimed  uint64                   // with which heartbeat the number was claimed there again
 	taken    bool                     // it said that this session is over
-	lapses   uint64                   // how often it let a grant of this session go since it was silent
-	stale    bool                     // the message that is taken is from before the last time
+	stale    bool                     // the message that is taken is of an earlier incarnation
 	requests uint64                   // how many of this session it said that it has
 	drained  bool                     // it has no request of this session any more
 	closed   bool                     // it ended this session
@@ -87,6 +89,7 @@ type client struct {
 	states   [qlock.MaxClients]int // the worst that a voter said of a number: 0 taken, 2 silent for the TTL, 1 free
 	asked    int
 	claimed  uint64
+	left     time.Duration // when the claim left
 	refused  bool
 	saysAt   time.Duration // when what is asked is asked again
 	pause    time.Duration
@@ -131,7 +134,7 @@ func (c *client) open() {
 	c.peers = make([]peer, len(c.cluster.Names()))
 	now := c.shows()
 	for v := range c.peers {
-		c.peers[v] = peer{sent: map[uint64]time.Duration{}, heard: now, known: now}
+		c.peers[v] = peer{sent: map[uint64]time.Duration{}, heard: now, stamps: qlock.NewStamps(), lease: qlock.NewLease()}
 	}
 	c.asked, c.claimed, c.draining, c.idle, c.beat = -1, 0, false, 0, 0
 	c.epochs = [qlock.MaxClients]uint64{}
@@ -319,8 +322,9 @@ func (c *client) claim() {
 	c.replied, c.refused, c.used, c.block = 0, false, 0, firstBlock
 	for v := range c.peers {
 		c.peers[v].forget()
+		c.peers[v].forgetLease(c.shows())
 	}
-	c.ends, c.beat = c.shows()+brief, c.shows() // when the claim leaves
+	c.ends, c.beat, c.left = c.shows()+brief, c.shows(), c.shows()
 	c.begins()
 }
 
@@ -329,7 +333,6 @@ func (c *client) reserveFirst() {
 	now := c.shows()
 	for v := range c.peers {
 		c.peers[v].heard = now
-		c.peers[v].known = c.beat
 	}
 	c.stage, c.refused = reserving, false
 	c.header.Number, c.header.Epoch, c.header.Reserved = c.asked, c.claimed, c.used+firstBlock
@@ -348,6 +351,7 @@ func (c *client) abandon() {
 	for v := range c.peers {
 		c.peers[v].sent = map[uint64]time.Duration{}
 		c.peers[v].forget()
+		c.peers[v].forgetLease(c.shows())
 		c.out[v] = c.out[v][:0]
 		c.tell(v, qlock.ClientSays{Kind: qlock.Drop, Number: c.asked, First: c.claimed})
 	}
@@ -375,7 +379,12 @@ func (c *client) tell(v int, says qlock.ClientSays) {
 
 // forget forgets what a voter said of a number.
 func (p *peer) forget() {
-	p.accepts, p.taken, p.base, p.reserved, p.claimed, p.lapses = false, false, 0, 0, 0, 0
+	p.accepts, p.taken, p.stamps, p.base, p.claimed = false, false, qlock.NewStamps(), 0, 0
+}
+
+// forgetLease forgets what a voter said to the session before, for another one.
+func (p *peer) forgetLease(now time.Duration) {
+	p.lease, p.said, p.since, p.answers = qlock.NewLease(), qlock.Incarnation{}, now, false
 }
 
 // use notes that a stamp is used. It reserves more before the block is spent.
@@ -405,8 +414,8 @@ func (c *client) noteStamps(v int, base, reserved uint64) {
 		return
 	}
 	before := *p
-	p.accepts, p.base, p.reserved = true, greatest(p.base, base), greatest(p.reserved, reserved)
-	if p.accepts == before.accepts && p.base == before.base && p.reserved == before.reserved {
+	p.accepts, p.taken, p.base = true, false, greatest(p.base, base)
+	if p.stamps.Hear(base, reserved); p.accepts == before.accepts && p.stamps == before.stamps {
 		return
 	}
 	for _, l := range c.locks {
@@ -434,7 +443,7 @@ func greatest(a, b uint64) uint64 {
 // owners returns the voters that said that a stamp is this session's.
 func (c *client) owners(stamp uint64) (mask uint64) {
 	for v := range c.peers {
-		if p := &c.peers[v]; p.accepts && p.base < stamp && stamp <= p.reserved {
+		if p := &c.peers[v]; p.answers && p.stamps.Have(stamp) {
 			mask |= 1 << v
 		}
 	}
@@ -523,17 +532,6 @@ func (l *lock) disclaim(voters uint64) {
 	}
 }
 
-// doubtful returns the voters that may have let votes go.
-func (c *client) doubtful() (mask uint64) {
-	now := c.shows()
-	for v := range c.peers {
-		if now-c.peers[v].known > leaseOf(c.ttl) {
-			mask |= 1 << v
-		}
-	}
-	return mask
-}
-
 // avoided returns the voters that are asked only if nobody else would do: they are silent, or quiet.
 func (c *client) avoided() (mask uint64) {
 	now := c.shows()
@@ -553,7 +551,7 @@ func (c *client) message(m transport.Message) {
 		return
 	}
 	c.peers[h.Number].heard = c.shows()
-	c.noteLapses(h)
+	c.noteIncarnation(h)
 	for c.stage != isEnded {
 		lock, line, rest, found := wire.Next(lines)
 		if !found {
@@ -563,7 +561,7 @@ func (c *client) message(m transport.Message) {
 		if string(lock) == "." {
 			c.control(h.Number, line)
 		} else if wire.ReadLine(line).From == h.Number && c.header.Epoch > 0 && !c.peers[h.Number].stale {
-			c.take(string(lock), line)
+			c.take(h.Number, string(lock), line)
 		}
 	}
 	c.hears()
@@ -587,27 +585,12 @@ func (c *client) recognise(h wire.Header) bool {
 		p.forget()
 		c.spoilAll(1 << h.Number)
 	default:
-		if h.Lapses < p.lapses {
-			p.lapses = h.Lapses
-		}
 		c.restarted(h.Number)
 	}
 	return true
 }
 
-// isUnsure returns whether a request is inside by the vote of a voter that started again, and did not say since that it is.
-func (c *client) isUnsure(v int) bool {
-	p := &c.peers[v]
-	if p.unsure {
-		p.unsure = false
-		for _, l := range c.locks {
-			p.unsure = p.unsure || l.unrenewed>>v&1 == 1 && (l.held == nil || !l.held.isLost)
-		}
-	}
-	return p.unsure
-}
-
-// restarted renews at a voter that started again the requests that are inside by its vote. Others that have its vote are given
+// restarted lets a voter that started again say again that it has the requests that are inside by its vote. Others that have it are given
 // up.
 func (c *client) restarted(v int) {
 	for _, l := range c.locks {
@@ -616,8 +599,6 @@ func (c *client) restarted(v int) {
 			l.disclaim(1 << v)
 		case l.votes()>>v&1 == 0:
 		case l.shown.Phase == qlock.Inside:
-			l.unrenewed |= 1 << v
-			c.peers[v].unsure = true
 			l.remind()
 		default:
 			l.askAgain()
@@ -625,18 +606,50 @@ func (c *client) restarted(v int) {
 	}
 }
 
-// noteLapses notes how often a voter let a grant of this session go since it was silent.
-func (c *client) noteLapses(h wire.Header) {
+// noteIncarnation notes which incarnation of a voter a message is of. One of which only the lapses grew let a vote of this session go.
+func (c *client) noteIncarnation(h wire.Header) {
 	p := &c.peers[h.Number]
-	p.stale = h.Lapses < p.lapses
-	if h.Lapses <= p.lapses {
+	before, said := p.said, qlock.Incarnation{Run: h.Run, Start: h.Start, Lapses: h.Lapses}
+	if p.stale = false; said == before {
 		return
 	}
-	p.lapses = h.Lapses
 	for _, l := range c.locks {
-		if l.shown.Phase != qlock.Idle && l.votes()>>h.Number&1 == 1 {
-			l.spoil()
+		l.kept.Of(h.Number).Keeps(&p.lease)
+	}
+	if p.stale = !p.lease.Hears(said); p.stale {
+		return
+	}
+	if p.said, p.since, p.answers = said, c.shows(), false; said.Run == before.Run && said.Start == before.Start {
+		for _, l := range c.locks {
+			if l.shown.Phase != qlock.Idle && l.votes()>>h.Number&1 == 1 {
+				l.spoil()
+			}
 		}
+	}
+	if c.isBusy() {
+		c.heartbeat()
+	}
+}
+
+// acknowledge notes that a voter acknowledged a heartbeat, or a claim, that left at this time.
+func (c *client) acknowledge(v int, left time.Duration) {
+	p := &c.peers[v]
+	isFirst := !p.answers
+	p.lease.Renews(p.said, left)
+	p.answers = true
+	for _, l := range c.locks {
+		if isFirst && l.shown.Phase == qlock.Idle || l.shown.Phase == qlock.Inside && l.held == nil {
+			l.pump() // it may have waited for this
+		}
+	}
+}
+
+// leases has the leases of the voters.
+func (c *client) leases() votes.Leases {
+	return votes.Leases{
+		Of:    func(v int) *qlock.Lease { return &c.peers[v].lease },
+		Since: func(v int) time.Duration { return c.peers[v].since },
+		Span:  leaseOf(c.ttl),
 	}
 }
 
@@ -728,6 +741,9 @@ func (c *client) noteClaim(v int, granted bool, base, reserved uint64) {
 		return
 	}
 	c.replied |= 1 << v
+	if p := &c.peers[v]; p.claimed == 0 && !p.stale {
+		c.acknowledge(v, c.left)
+	}
 	if c.header.Epoch == 0 && base <= qlock.MaxStamp {
 		c.used = greatest(c.used, base)
 	}
@@ -745,10 +761,11 @@ func (c *client) claimAgain(v int) {
 // opened takes the reply to a heartbeat.
 func (c *client) opened(v int, base, reserved, seq, requests uint64) {
 	p := &c.peers[v]
-	if left, ok := p.sent[seq]; ok && left > p.known && !c.isUnsure(v) {
-		if p.known = left; c.Wrong.LeaseFromReply {
-			p.known = c.shows()
+	if left, ok := p.sent[seq]; ok {
+		if c.Wrong.LeaseFromReply {
+			left = c.shows()
 		}
+		c.acknowledge(v, left)
 	}
 	p.requests = requests
 	if c.draining && requests == 0 && c.idle > 0 && seq >= c.idle {
@@ -760,30 +777,45 @@ func (c *client) opened(v int, base, reserved, seq, requests uint64) {
 	c.noteStamps(v, base, reserved)
 }
 
-// isOverAt notes that this session is over at a voter. It ends once the other voters contain no quorum.
+// isOverAt notes that this session is over at a voter. It ends once the other voters contain no quorum. One that is opened takes another
+// number then, and waits for no silent voter.
 func (c *client) isOverAt(v int) {
 	p := &c.peers[v]
-	switch {
-	case c.stage == reserving:
-		c.refused = true
-	case c.draining && p.drained:
+	if c.draining && p.drained {
 		p.closed = true
 		c.finish()
-	default:
-		p.accepts, p.taken = false, true
-		c.spoilAll(1 << v)
-		var takers uint64
-		for v := range c.peers {
-			if c.peers[v].taken {
-				takers |= 1 << v
-			}
-		}
-		if !c.hasQuorum(^takers) {
-			c.log("client %d lost its session", c.id)
-			c.isOver()
-			c.opensAgain(c.upTo(c.ttl))
+		return
+	}
+	p.accepts, p.taken, p.stamps = false, true, qlock.NewStamps()
+	c.spoilAll(1 << v)
+	switch others := ^c.takers(); {
+	case c.stage == reserving:
+		c.refused = c.refused || !c.hasQuorum(others&^c.silent())
+	case !c.hasQuorum(others):
+		c.log("client %d lost its session", c.id)
+		c.isOver()
+		c.opensAgain(c.upTo(c.ttl))
+	}
+}
+
+// takers returns the voters that said that this session is over.
+func (c *client) takers() (mask uint64) {
+	for v := range c.peers {
+		if c.peers[v].taken {
+			mask |= 1 << v
 		}
 	}
+	return mask
+}
+
+// silent returns the voters of which nothing came for a while.
+func (c *client) silent() (mask uint64) {
+	for v := range c.peers {
+		if c.shows()-c.peers[v].heard > c.over {
+			mask |= 1 << v
+		}
+	}
+	return mask
 }
 
 // drain begins to close the session.
@@ -799,18 +831,15 @@ func (c *client) drain() {
 
 // finish ends a drain once all voters that are there have closed the session, and they contain a quorum.
 func (c *client) finish() {
-	var closed, open, silent uint64
+	var closed, open uint64
 	for v := range c.peers {
 		if p := &c.peers[v]; p.closed {
 			closed |= 1 << v
 		} else if p.accepts {
 			open |= 1 << v
 		}
-		if c.shows()-c.peers[v].heard > c.over {
-			silent |= 1 << v
-		}
 	}
-	if c.draining && open&^silent == 0 && c.hasQuorum(closed) {
+	if c.draining && open&^c.silent() == 0 && c.hasQuorum(closed) {
 		c.log("client %d closed its session", c.id)
 		c.Incidents["sessions closed"]++
 		c.isOver()

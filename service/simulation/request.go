@@ -7,6 +7,7 @@ import (
 	"time"
 
 	"calvundek.example/service/internal/remind"
+	"calvundek.example/service/internal/votes"
 	"calvundek.example/service/internal/wire"
 	"calvundek.example/service/qlock"
 )
@@ -20,15 +21,15 @@ func request(voter, client int) []byte {
 type lock struct {
 	*qlock.Client // nil until the session first asks
 	*witness
-	client    *client
-	wants     bool    // the program waits for it
-	since     instant // when it began to
-	served    bool    // it got it since the faults stopped
-	held      *held   // the program has it
-	timer     remind.Timer
-	asked     time.Duration
-	shown     qlock.Shown
-	unrenewed uint64 // the voters that started again since it has their votes, and did not say again that it has them
+	client *client
+	wants  bool    // the program waits for it
+	since  instant // when it began to
+	served bool    // it got it since the faults stopped
+	held   *held   // the program has it
+	timer  remind.Timer
+	asked  time.Duration
+	shown  qlock.Shown
+	kept   votes.Kept // up to when its votes count
 }
 
 // held is a lock that a program has.
@@ -60,13 +61,7 @@ func (h *held) works(t instant) bool {
 
 // leaseEnds returns until when the lock lasts if no voter is heard any more, by the client's clock.
 func (h *held) leaseEnds() time.Duration {
-	ends := time.Duration(1<<63 - 1)
-	for v := range h.client.peers {
-		if at := h.client.peers[v].known + leaseOf(h.ttl); h.quorum>>v&1 == 1 && at < ends {
-			ends = at
-		}
-	}
-	return ends
+	return h.kept.End(h.quorum, h.client.leases())
 }
 
 // think lets the program want the lock after a while.
@@ -188,7 +183,7 @@ func (l *lock) isOver() {
 		h.witness.leaves(h)
 		l.client.in(l.client.upTo(3*l.client.ttl), func() { h.witness.shows(h) }) // what it sent before may be late
 	}
-	l.Client, l.held, l.wants, l.shown, l.unrenewed, l.timer = nil, nil, false, qlock.Shown{}, 0, remind.Timer{}
+	l.Client, l.held, l.wants, l.shown, l.kept, l.timer = nil, nil, false, qlock.Shown{}, votes.Kept{}, remind.Timer{}
 }
 
 // isBusy returns whether the lock is asked for, held or wanted.
@@ -203,10 +198,12 @@ func (l *lock) pump() {
 		l.ask()
 	case l.shown.Phase == qlock.Asking && !l.wants:
 		l.giveUp()
-	case l.shown.Phase == qlock.Inside && l.held == nil && (!l.wants || l.mayBeLost(c.doubtful())):
-		l.leave() // the next round asks anew, after its heartbeat
-	case l.shown.Phase == qlock.Inside && l.held == nil:
+	case l.shown.Phase == qlock.Inside && l.held == nil && !l.wants:
+		l.leave()
+	case l.shown.Phase == qlock.Inside && l.held == nil && c.shows() < l.kept.End(l.shown.Quorum, c.leases()):
 		l.hand()
+	case l.shown.Phase == qlock.Inside && l.held == nil && l.isDoubtful():
+		l.leave() // the next round asks anew, after its heartbeat
 	}
 	if c.draining && !c.isBusy() && c.idle == 0 {
 		c.heartbeat()
@@ -246,6 +243,7 @@ func (l *lock) ask() {
 			l.violated("client", "client %d begins no lock: %v", c.id, err)
 			return
 		}
+		l.kept = votes.New(c.used)
 	}
 	before := *l.Client
 	quorum := c.nextQuorum(c.avoided())
@@ -264,6 +262,7 @@ func (l *lock) ask() {
 	default:
 		c.ticket++
 		l.asked = c.shows()
+		l.kept.Asks(quorum, stamp)
 		l.send(lines)
 		c.use(stamp)
 	}
@@ -305,6 +304,7 @@ func (c *client) nextQuorum(avoided uint64) uint64 {
 
 func (l *lock) leave() {
 	if lines, err := l.Leave(l.client.room[:0]); err == nil {
+		l.kept.Ends(l.shown.Stamp)
 		l.client.room = lines
 		l.send(lines)
 	}
@@ -312,6 +312,7 @@ func (l *lock) leave() {
 
 func (l *lock) giveUp() {
 	if lines, err := l.GiveUp(l.client.room[:0]); err == nil {
+		l.kept.Ends(l.shown.Stamp)
 		l.client.room = lines
 		l.send(lines)
 	}
@@ -350,7 +351,6 @@ func (l *lock) looks() {
 	now := dateOf(l.client.shows())
 	if shown.Phase != l.shown.Phase {
 		l.timer.Of(0, now)
-		l.unrenewed = 0
 	}
 	l.shown = shown
 	switch shown.Phase {
@@ -376,19 +376,28 @@ func (c *client) find(name string) *lock {
 }
 
 // take takes a line of a voter.
-func (c *client) take(name string, line []byte) {
+func (c *client) take(v int, name string, line []byte) {
 	l := c.find(name)
 	if l == nil {
 		return
 	}
-	if said := wire.ReadLine(line); said.Stamp == l.shown.Stamp && said.From >= 0 && string(said.Word) == "locked" {
-		l.unrenewed &^= 1 << said.From
+	said, wasInside := wire.ReadLine(line), l.shown.Phase == qlock.Inside
+	asksBack, before := string(said.Word) == "inquire", uint64(0)
+	if asksBack {
+		before = l.grantOf(v)
 	}
 	lines, _, err := l.Take(line, c.room[:0])
 	if err != nil {
 		return
 	}
 	c.room = lines
+	switch {
+	case asksBack && before > 0 && l.grantOf(v) == 0:
+		l.kept.GivesBack(v, before)
+	case string(said.Word) == "locked":
+		granted := qlock.Granted{Incarnation: c.peers[v].said, Stamp: said.Stamp, Grant: said.Grant, Renews: wasInside}
+		l.kept.Takes(v, granted, c.leases(), c.shows())
+	}
 	l.send(lines)
 	l.pump()
 }
@@ -415,12 +424,8 @@ func (l *lock) spoil() {
 
 // lapse ends the requests that have a vote of a voter which may have let it go.
 func (c *client) lapse() {
-	doubtful := c.doubtful()
-	if doubtful == 0 {
-		return
-	}
 	for _, l := range c.locks {
-		if l.shown.Phase != qlock.Idle && l.mayBeLost(doubtful) && (l.held == nil || !l.held.isLost) {
+		if l.shown.Phase != qlock.Idle && l.isDoubtful() && (l.held == nil || !l.held.isLost) {
 			l.spoil()
 		}
 	}
@@ -428,26 +433,35 @@ func (c *client) lapse() {
 
 // look closes Lost of what may be lost, as the goroutine does that looks after leases.
 func (c *client) look() {
-	doubtful := c.doubtful()
 	for _, l := range c.locks {
-		if l.held != nil && l.held.quorum&doubtful != 0 {
+		if l.held != nil && l.held.leaseEnds() <= c.shows() {
 			l.held.lose()
 		}
 	}
 }
 
-// mayBeLost returns whether a client has the vote of a voter which may have let it go.
-func (l *lock) mayBeLost(doubtful uint64) bool { return doubtful != 0 && l.votes()&doubtful != 0 }
+// isDoubtful returns whether a client has the vote of a voter which may have let it go.
+func (l *lock) isDoubtful() bool {
+	return l.kept.IsDoubtful(l.client.leases(), l.client.shows())
+}
 
 // votes returns the voters whose votes a client has.
 func (l *lock) votes() (mask uint64) {
 	for rest := l.shown.Quorum; rest != 0; rest &= rest - 1 {
-		voter := bits.TrailingZeros64(rest)
-		if grant, err := l.Grant(uint8(voter)); err == nil && grant > 0 {
+		if voter := bits.TrailingZeros64(rest); l.grantOf(voter) > 0 {
 			mask |= 1 << voter
 		}
 	}
 	return mask
+}
+
+// grantOf returns the number of the grant by which a client has the vote of a voter, 0 if it does not have it.
+func (l *lock) grantOf(voter int) uint64 {
+	grant, err := l.Grant(uint8(voter))
+	if err != nil {
+		return 0
+	}
+	return grant
 }
 
 // waitsFor returns whether a request waits for one of these voters, and others would do.

@@ -34,6 +34,7 @@ type NATS struct {
 	returns    atomic.Uint64
 	dialed     atomic.Pointer[error] // why the last server was not to be had, which the library does not keep
 	closed     chan struct{}
+	refusals   *refusals
 
 	certificate func() (*tls.Certificate, error) // reads this process's certificate, nil if it has none
 
@@ -52,7 +53,7 @@ type mailbox struct {
 // connection is there. A server that stands still is left after three seconds. Where all processes have one order, their
 // messages take one server.
 func Connect(cluster *config.Cluster, access config.Access, name string) (*NATS, error) {
-	n := &NATS{closed: make(chan struct{})}
+	n := &NATS{closed: make(chan struct{}), refusals: newRefusals(os.Stderr)}
 	if err := hidden(cluster, access); err != nil {
 		return nil, err
 	}
@@ -63,8 +64,11 @@ func Connect(cluster *config.Cluster, access config.Access, name string) (*NATS,
 		nats.ReconnectBufSize(-1), // what can't leave is lost, and not sent late
 		nats.PingInterval(time.Second), nats.MaxPingsOutstanding(2),
 		nats.FlusherTimeout(time.Second), // else a server that reads nothing holds whoever sends, and no ping leaves
-		nats.ReconnectHandler(func(*nats.Conn) { n.returns.Add(1) }),
-		nats.ErrorHandler(newRefusals(os.Stderr).handle),
+		nats.ReconnectHandler(func(*nats.Conn) {
+			n.returns.Add(1)
+			n.refusals.beginAnew()
+		}),
+		nats.ErrorHandler(n.refusals.handle),
 	}
 	more, err := n.identity(cluster, access)
 	if err != nil {
@@ -155,6 +159,8 @@ func user(access config.Access) (nats.Option, error) {
 			_, err = tried.SignatureCB(nil)
 		}
 		return option, named(access.Creds, err)
+	case access.User != "" && access.Secret == "":
+		return nil, fmt.Errorf("%w: user %q has no secret, seed or creds", config.ErrConfig, access.User)
 	case access.User != "":
 		text, err := os.ReadFile(access.Secret)
 		return nats.UserInfo(access.User, strings.TrimSpace(string(text))), err
@@ -274,9 +280,41 @@ func (n *NATS) Why() error {
 	return why
 }
 
-// Explain returns an error, with why there is no connection if there is none.
+// ErrRefused is returned if a server lets no connection of a user in, or lets it listen to no mailbox of its own: it is a wrong user, or
+// has a wrong password, or may not do what it tries.
+var ErrRefused = errors.New("the server of NATS refuses the user")
+
+// Refusal returns ErrRefused, and what the server said, if the one that was tried last refuses the user. It returns nil if none did so far.
+func (n *NATS) Refusal() error {
+	why := n.refusals.ofMailbox()
+	if why == nil && !n.Connected() {
+		why = ofUser(n.connection.LastError())
+	}
+	if why == nil {
+		return nil
+	}
+	return fmt.Errorf("%w: %v", ErrRefused, why)
+}
+
+// ofUser returns an error if it says that the server does not let the user in, and else nil.
+func ofUser(err error) error {
+	for _, refused := range []error{nats.ErrAuthorization, nats.ErrAuthExpired, nats.ErrAuthRevoked, nats.ErrAccountAuthExpired} {
+		if errors.Is(err, refused) {
+			return err
+		}
+	}
+	return nil
+}
+
+// Explain returns an error, with why there is no connection if there is none, or why the server refuses the user.
 func (n *NATS) Explain(err error) error {
-	if err == nil || n.Connected() {
+	if err == nil {
+		return nil
+	}
+	if refusal := n.Refusal(); refusal != nil {
+		return fmt.Errorf("%w: %v", err, refusal)
+	}
+	if n.Connected() {
 		return err
 	}
 	return fmt.Errorf("%w: no server of NATS is there: %v", err, n.Why())

@@ -221,6 +221,43 @@ func TestReturns(t *testing.T) {
 	}
 }
 
+// Who is let in by no server, or to no mailbox of its own, can know so. It is forgotten once the connection comes back.
+func TestRefusal(t *testing.T) {
+	path := filepath.Join(t.TempDir(), "nats.conf")
+	may := func(subject string) {
+		text := fmt.Sprintf("authorization { users: [ { user: shop, password: right, permissions: { subscribe: [ %q ] } } ] }", subject)
+		if err := os.WriteFile(path, []byte(text), 0o600); err != nil {
+			t.Fatal(err)
+		}
+	}
+	may("own.>")
+	s := beginWith(t, "-c", path)
+	link, stranger := connect(t, s.address, user(t, "right")), connect(t, s.address, user(t, "wrong"))
+	until(t, "there is a connection", link.Connected)
+	if _, err := link.Listen("own.a"); err != nil || link.Refusal() != nil || link.Explain(os.ErrClosed) != os.ErrClosed {
+		t.Error(err, link.Refusal())
+	}
+	refused := func(link *transport.NATS, word string) func() bool {
+		return func() bool {
+			why := link.Refusal()
+			return errors.Is(why, transport.ErrRefused) && strings.Contains(strings.ToLower(why.Error()), word)
+		}
+	}
+	until(t, "a wrong password is refused", refused(stranger, "authorization violation"))
+	if _, err := link.Listen("other.a"); err != nil {
+		t.Fatal(err)
+	}
+	until(t, "a mailbox is refused", refused(link, "other.a"))
+	if err := link.Explain(os.ErrClosed); !errors.Is(err, os.ErrClosed) || !strings.Contains(err.Error(), "refuses the user") {
+		t.Error(err)
+	}
+	s.kill()
+	may(">")
+	until(t, "the connection is lost", func() bool { return !link.Connected() })
+	s.start(t)
+	until(t, "nothing is refused any more", func() bool { return link.Connected() && link.Refusal() == nil })
+}
+
 // An attempt that the server refuses is no return.
 func TestRefusedAttempts(t *testing.T) {
 	s := begin(t)

@@ -3,6 +3,7 @@ package transport
 import (
 	"fmt"
 	"io"
+	"strings"
 	"sync"
 
 	"github.com/nats-io/nats.go"
@@ -16,6 +17,7 @@ type refusals struct {
 	to    io.Writer
 	mutex sync.Mutex
 	said  map[string]bool
+	deaf  error // the first refusal of a mailbox since the connection came, nil if there was none
 }
 
 func newRefusals(to io.Writer) *refusals { return &refusals{to: to, said: map[string]bool{}} }
@@ -28,8 +30,30 @@ func (r *refusals) handle(_ *nats.Conn, subscription *nats.Subscription, why err
 	}
 	r.mutex.Lock()
 	defer r.mutex.Unlock()
+	if r.deaf == nil && isOfMailbox(text) {
+		r.deaf = why
+	}
 	if !r.said[text] && len(r.said) < mostRefusals {
 		r.said[text] = true
 		fmt.Fprintln(r.to, text)
 	}
+}
+
+// isOfMailbox returns whether the words of a server refuse a mailbox.
+func isOfMailbox(text string) bool {
+	return strings.Contains(strings.ToLower(text), "permissions violation for subscription")
+}
+
+// beginAnew forgets what was refused of mailboxes: the connection came back, and all are asked for again.
+func (r *refusals) beginAnew() {
+	r.mutex.Lock()
+	defer r.mutex.Unlock()
+	r.deaf = nil
+}
+
+// ofMailbox returns why a mailbox was refused, nil if none was.
+func (r *refusals) ofMailbox() error {
+	r.mutex.Lock()
+	defer r.mutex.Unlock()
+	return r.deaf
 }

@@ -114,6 +114,7 @@ func command() *cobra.Command {
 		"how many of 100 packets are lost on the way to each process and from it; needs --partitions")
 	flags.BoolVar(&o.SmallDisk, "full-disk", false, "also fill a voter's disk; needs root")
 	flags.StringVar(&o.exchange, "exchange", "", "the file of a coterie for which the plan is exchanged meanwhile, and back")
+	flags.IntVar(&o.Shards, "shards", 1, "how many shards the cluster has; operators end no sessions if it has several")
 	flags.BoolVar(&o.everything, "everything", false,
 		"--partitions, --full-disk, --loss 2 if it is not given, and the plan of --exchange and back, again and again")
 	flags.StringToIntVar(&o.weights, "weight", nil, "how often a kind of incident is drawn, as \"voters killed=9\", in place of its own weight")

@@ -1,12 +1,13 @@
 -- What the calls of lines of control return and write. Each is said for the one line that the bytes are, or for the one thing that
 -- the numbers say.
 use Rattle.std.specs.Prelude.{ℕ, ℤ, ◌≡◌, ◌≢◌, ◌<◌, ◌≤◌, ◌++◌, List, [], ◌∷◌, drop, length, Option, Some, None, if◌then◌else◌, ◌==◌}
-use Rattle.envelope.specs.Control.{ClientWordFits, IsUnknown, SaysFits, client_line, control_line, says_line}
-use Rattle.envelope.specs.declared.control.ClientWord.{ClientWord}
-use Rattle.envelope.specs.declared.control.ClientWord.TheVariants as client
-use Rattle.envelope.specs.declared.control.VoterSays.{VoterSays}
-use Rattle.envelope.specs.declared.control.VoterSays.TheVariants as says
-use Rattle.envelope.specs.declared.control.VoterWord.TheVariants as voter
+use Rattle.line_words.specs.Lines.{control_line}
+use Rattle.session_lines.specs.Control.{ClientWordFits, IsUnknown, SaysFits, client_line, says_line}
+use Rattle.session_lines.specs.declared.control.ClientWord.{ClientWord}
+use Rattle.session_lines.specs.declared.control.ClientWord.TheVariants as client
+use Rattle.session_lines.specs.declared.control.VoterSays.{VoterSays}
+use Rattle.session_lines.specs.declared.control.VoterSays.TheVariants as says
+use Rattle.session_lines.specs.declared.control.VoterWord.TheVariants as voter
 use Rattle.blocks.specs.Numbers.{done, refused}
 use Rattle.blocks.specs.declared.refusal.Refusal.TheVariants.{BadArgument, BadMessage, NoRoom}
 

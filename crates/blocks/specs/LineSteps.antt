@@ -1,10 +1,10 @@
 -- What the calls of lines with the name of a lock return and write. Each is said for the one line that the bytes are, or that they
 -- begin with.
 use Rattle.std.specs.Prelude.{ℕ, ℤ, ◌≡◌, ◌≢◌, ◌+◌, ◌==◌, List, [], ◌∷◌, length, Option, Some, None, if◌then◌else◌}
-use Rattle.envelope.specs.Control.{control_line}
 use Rattle.envelope.specs.LockLines.{IsFirstLine, IsLockName, LockSaysFits, lock_at, lock_says_line}
 use Rattle.envelope.specs.declared.locks.LockSays.{LockSays}
 use Rattle.envelope.specs.declared.locks.LockSays.TheVariants.{Gone, Full, Held}
+use Rattle.line_words.specs.Lines.{control_line}
 use Rattle.blocks.specs.ControlSteps.{WritesLine}
 use Rattle.blocks.specs.Numbers.{done, refused}
 use Rattle.blocks.specs.declared.refusal.Refusal.TheVariants.{BadArgument, BadMessage}

@@ -1,12 +1,13 @@
 //! Lines of control as words, and what their calls do.
 ghost use Rattle.std.specs.Prelude.{◌≡◌, OnErr, length};
-ghost use Rattle.envelope.specs.Control.{ClientWordFits, SaysFits, client_line, control_line, says_line};
+ghost use Rattle.line_words.specs.Lines.{control_line};
+ghost use Rattle.session_lines.specs.Control.{ClientWordFits, SaysFits, client_line, says_line};
 ghost use Rattle.blocks.specs.ControlSteps.{ClientWordIsRead, VoterSaysIsRead, WritesLine, client_of, says_of, words_of_client, words_of_voter};
 ghost use Rattle.blocks.specs.Numbers.{returned};
-ghost use Rattle.envelope.specs.declared.control.VoterSays.{VoterSays};
+ghost use Rattle.session_lines.specs.declared.control.VoterSays.{VoterSays};
 
 use crate::refusal::Refusal;
-use envelope::{
+use session_lines::{
     ClientWord, Opened, VoterSays, VoterWord, client_word_line, is_unknown, read_client_word,
     read_voter_says, voter_says_line,
 };

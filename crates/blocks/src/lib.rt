@@ -20,7 +20,7 @@
 //!   (`specs/StartSteps.antt`).
 //! - [`Refusal`]: why a call was refused, and the number that C sees ([`number_of`]).
 //!
-//! Depends on `envelope`, `session_rows`, `sessions`, `lease_clock`, `token_bucket`, `starts`, `fence`, `requester`, `voter`,
+//! Depends on `envelope`, `session_lines`, `line_words`, `session_rows`, `sessions`, `lease_clock`, `token_bucket`, `starts`, `fence`, `requester`, `voter`,
 //! `words` and `numbers`.
 #![tactic(auto)]
 

@@ -1,6 +1,6 @@
 //! Lines with the name of a lock as words, and what their calls do.
 ghost use Rattle.std.specs.Prelude.{◌≡◌, OnErr, length};
-ghost use Rattle.envelope.specs.Control.{control_line};
+ghost use Rattle.line_words.specs.Lines.{control_line};
 ghost use Rattle.envelope.specs.LockLines.{IsLockName, lock_says_line};
 ghost use Rattle.blocks.specs.ControlSteps.{WritesLine};
 ghost use Rattle.blocks.specs.LineSteps.{LineIsCut, LockNameIsTold, LockSaysIsRead, lock_says_of, words_of_lock};

@@ -8,7 +8,8 @@ use Rattle.texts.specs.Cuts.{cut_at}
 use Rattle.texts.specs.Fields.{HasNoSpace, IsBorder}
 use Rattle.texts.proofs.CutLemmas.{cut_at-append}
 use Rattle.texts.proofs.Numbers.{HasNoSpace-decimal}
-use Rattle.envelope.specs.Headers.{AreIgnored, IsIgnored, IsOther, key_of, level_words, spaced}
+use Rattle.envelope.specs.Headers.{AreIgnored, IsIgnored, IsOther, key_of, level_words}
+use Rattle.line_words.specs.Lines.{spaced}
 
 pub IsBorder-spaced : (words : List (List ℕ)) → IsBorder (spaced words [])
 IsBorder-spaced [] = tt

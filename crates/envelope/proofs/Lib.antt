@@ -1,4 +1,3 @@
-pub mod ControlLemmas
 pub mod HeadLemmas
 pub mod LevelLemmas
 pub mod LineLemmas
@@ -6,4 +5,3 @@ pub mod LockLemmas
 pub mod NameLemmas
 pub mod PlaceLemmas
 pub mod SenderLemmas
-pub mod TestLemmas

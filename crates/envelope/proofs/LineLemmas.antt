@@ -5,16 +5,14 @@ use Rattle.std.specs.List.{AllByRecursion}
 use Rattle.std.specs.Fmt.{decimal}
 use Rattle.std.proofs.lemmas.Bool.{cases_eq, ne_eqb}
 use Rattle.std.proofs.lemmas.Fmt.{length-decimal-le}
-use Rattle.texts.proofs.CutLemmas.{Lacks, Lacks-append, Lacks-decimal}
-use Rattle.envelope.specs.Headers.{HasLine, Head, NumbersFit, head_then, level_words, sender_words, spaced}
+use Rattle.texts.proofs.CutLemmas.{Lacks, Lacks-append}
+use Rattle.envelope.specs.Headers.{HasLine, Head, NumbersFit, head_then, level_words, sender_words}
 use Rattle.envelope.specs.Names.{IsName}
 use Rattle.envelope.specs.declared.header.Sender.{Sender}
 use Rattle.envelope.specs.declared.header.Sender.TheVariants.{Client, Voter, Operator}
 use Rattle.envelope.proofs.NameLemmas.{name_lacks_newline}
-
-pub spaced_then : (words : List (List ℕ)) (rest : List ℕ) → spaced words rest ≡ spaced words [] ++ rest
-spaced_then [] rest = refl
-spaced_then (w ∷ ws) rest = rw (append_assoc (32 ∷ w) (spaced ws []) rest) (ap (λ (t : List ℕ). (32 ∷ w) ++ t) (spaced_then ws rest))
+use Rattle.line_words.specs.Lines.{spaced}
+use Rattle.line_words.proofs.SpacedLemmas.{Lacks-spaced, number_lacks, spaced_then}
 
 chain : (q a b s l n : List ℕ) → ((((([] ++ q) ++ a) ++ b) ++ s) ++ l) ++ n ≡ q ++ (a ++ (b ++ (s ++ (l ++ n))))
 chain q a b s l n = simp append_assoc refl
@@ -38,13 +36,6 @@ head_then_rest h rest =
   where
     pieces : (q a b s l n : List ℕ) → q ++ (a ++ (b ++ (s ++ (l ++ n)))) ≡ (q ++ (a ++ (b ++ (s ++ l)))) ++ n
     pieces q a b s l n = simp append_assoc refl
-
-pub Lacks-spaced : (words : List (List ℕ)) (rest : List ℕ) → AllByRecursion (Lacks 10) words → Lacks 10 rest → Lacks 10 (spaced words rest)
-Lacks-spaced [] rest all h = h
-Lacks-spaced (w ∷ ws) rest all h = Lacks-append 10 (32 ∷ w) (spaced ws rest) (refl, all.0) (Lacks-spaced ws rest all.1 h)
-
-pub number_lacks : (n : ℕ) → n < 2 ^ 64 → Lacks 10 (decimal n)
-number_lacks n small = Lacks-decimal 10 n (omega arith) small
 
 sender_lacks : (s : Sender) (name : List ℕ) → NumbersFit s → IsName name → AllByRecursion (Lacks 10) (sender_words s name)
 sender_lacks (Client n a b d) name h named =

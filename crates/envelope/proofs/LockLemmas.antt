@@ -9,12 +9,12 @@ use Rattle.std.proofs.lemmas.Option.{same_Some}
 use Rattle.texts.specs.Cuts.{cut_at}
 use Rattle.texts.specs.Fields.{HasNoSpace, fields}
 use Rattle.texts.proofs.CutLemmas.{Lacks, Lacks-append, cut_at-Some, cut_at-append}
-use Rattle.envelope.specs.Control.{control_line}
 use Rattle.envelope.specs.Headers.{part}
 use Rattle.envelope.specs.LockLines.{AreLinePlaces, HasNoNewline, IsFirstLine, IsLineName, IsLockName, LockSaysFits, is_lock_byte, lock_at, lock_numbers, lock_says_line, lock_word, named_line}
 use Rattle.envelope.specs.declared.locks.LockSays.{LockSays}
 use Rattle.envelope.specs.declared.locks.LockSays.TheVariants.{Gone, Full, Held}
-use Rattle.envelope.proofs.LineLemmas.{Lacks-spaced, number_lacks}
+use Rattle.line_words.specs.Lines.{control_line}
+use Rattle.line_words.proofs.SpacedLemmas.{Lacks-spaced, cut_of, number_lacks}
 
 both : (p q : Bool) → (p && q) ≡ true → (p ≡ true) × (q ≡ true)
 both true q h = (refl, h)
@@ -114,14 +114,14 @@ says_numbers_lack (Full stamp) h = Lacks-spaced (decimal stamp ∷ []) [] (numbe
 says_numbers_lack (Held stamp milliseconds) h =
     Lacks-spaced (decimal stamp ∷ decimal milliseconds ∷ []) [] (number_lacks stamp h.0, (number_lacks milliseconds h.1, tt)) tt
 
-pub lock_says_lacks : (lock : List ℕ) (s : LockSays) → IsLockName lock → LockSaysFits s → Lacks 10 (lock_says_line lock s)
+lock_says_lacks : (lock : List ℕ) (s : LockSays) → IsLockName lock → LockSaysFits s → Lacks 10 (lock_says_line lock s)
 lock_says_lacks lock s named fits =
     Lacks-append 10 (lock_word s) ((32 ∷ lock) ++ fields (lock_numbers s)) (says_word_lacks s)
     (Lacks-append 10 (32 ∷ lock) (fields (lock_numbers s)) (refl, lock_name_lacks_newline lock named) (says_numbers_lack s fits))
 
-pub says_cut_off : (lock : List ℕ) (s : LockSays) (rest : List ℕ) → cut_at 10 (control_line (lock_says_line lock s) ++ rest) ≡ Some (codes ". " ++ lock_says_line lock s, rest)
+pub says_cut_off : (lock : List ℕ) (s : LockSays) (rest : List ℕ) → IsLockName lock → LockSaysFits s
     → IsFirstLine (control_line (lock_says_line lock s) ++ rest) (codes ".") (lock_says_line lock s) rest
-says_cut_off lock s rest cut = record { named = inr refl; first_line = cut }
+says_cut_off lock s rest named fits = record { named = inr refl; first_line = cut_of (lock_says_line lock s) rest (lock_says_lacks lock s named fits) }
 
 -- ---- places
 

@@ -4,10 +4,11 @@ use Rattle.std.specs.Prelude.{codes}
 use Rattle.std.specs.Fmt.{decimal}
 use Rattle.std.proofs.lemmas.List.{take_at, drop_at}
 use Rattle.texts.proofs.CutLemmas.{cut_at-Some}
-use Rattle.envelope.specs.Headers.{ArePlaces, Head, IsMessage, head_then, level_words, name_at, part, sender_words, spaced, words_before_name}
+use Rattle.envelope.specs.Headers.{ArePlaces, Head, IsMessage, head_then, level_words, name_at, part, sender_words, words_before_name}
 use Rattle.envelope.specs.declared.header.Sender.{Sender}
 use Rattle.envelope.specs.declared.header.Sender.TheVariants.{Client, Voter, Operator}
-use Rattle.envelope.proofs.LineLemmas.{spaced_then}
+use Rattle.line_words.specs.Lines.{spaced}
+use Rattle.line_words.proofs.SpacedLemmas.{spaced_then}
 
 -- what is behind a front is at its end
 part_behind : (text front name back : List ℕ) (n : ℕ) → text ≡ front ++ (name ++ back) → length front ≡ n → part n (length name) text ≡ name

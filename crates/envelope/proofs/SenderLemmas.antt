@@ -3,9 +3,10 @@ use Rattle.std.proofs.Common.{◌≡◌, ◌≢◌, ℕ, List, [], ◌∷◌, �
 use Rattle.std.specs.Prelude.{codes}
 use Rattle.std.specs.Fmt.{decimal}
 use Rattle.texts.specs.Fields.{HasNoSpace, IsBorder}
-use Rattle.envelope.specs.Headers.{sender_words, spaced}
+use Rattle.envelope.specs.Headers.{sender_words}
 use Rattle.envelope.specs.declared.header.Sender.{Sender}
 use Rattle.envelope.specs.declared.header.Sender.TheVariants.{Client, Voter, Operator}
+use Rattle.line_words.specs.Lines.{spaced}
 
 abbrev pub kind_of : Sender → List ℕ
 kind_of (Client number epoch reserved seq) = codes "c"

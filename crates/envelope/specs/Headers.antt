@@ -7,6 +7,7 @@ use Rattle.texts.specs.Fields.{HasNoSpace}
 use Rattle.envelope.specs.Names.{IsName}
 use Rattle.envelope.specs.declared.header.Sender.{Sender}
 use Rattle.envelope.specs.declared.header.Sender.TheVariants.{Client, Voter, Operator}
+use Rattle.line_words.specs.Lines.{spaced}
 
 -- who sends a message
 pub record Head : Type 0 where
@@ -19,11 +20,6 @@ pub record Head : Type 0 where
   pub name : List ℕ
   -- the cluster's level, 0 if there is none
   pub level : ℕ
-
--- these words, each with a space in front (32 is a space), and then a text
-abbrev pub spaced : List (List ℕ) → List ℕ → List ℕ
-spaced [] rest = rest
-spaced (word ∷ words) rest = (32 ∷ word) ++ spaced words rest
 
 -- the words of a sender with this name
 abbrev pub sender_words : Sender → List ℕ → List (List ℕ)

@@ -1,4 +1,3 @@
-pub mod Control
 pub mod Headers
 pub mod Heads
 pub mod LockLines

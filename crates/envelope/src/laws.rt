@@ -1,12 +1,9 @@
-//! Laws: what is proved about headers and their lines.
-ghost use Rattle.std.specs.Prelude.{◌≡◌, ◌≤◌, ◌++◌, [], codes, ℕ, List, Some, length};
-ghost use Rattle.texts.specs.Cuts.{cut_at};
-ghost use Rattle.envelope.specs.Control.{ClientWordFits, SaysFits, client_line, control_line, says_line};
-ghost use Rattle.envelope.specs.declared.control.ClientWord.{ClientWord};
-ghost use Rattle.envelope.specs.declared.control.VoterSays.{VoterSays};
+//! Laws: what is proved about headers, and about lines with the name of a lock.
+ghost use Rattle.std.specs.Prelude.{◌≡◌, ◌≤◌, ◌++◌, [], codes, ℕ, List, length};
 ghost use Rattle.envelope.specs.declared.locks.LockSays.{LockSays};
 ghost use Rattle.envelope.specs.LockLines.{AreLinePlaces, HasNoNewline, IsFirstLine, IsLineName, IsLockName, LockSaysFits, lock_at, lock_says_line, named_line};
 ghost use Rattle.envelope.specs.Headers.{ArePlaces, Head, HasLine, IsMessage, head_line, part};
+ghost use Rattle.line_words.specs.Lines.{control_line};
 
 use crate::lock_lines::first_line;
 use crate::reading::read_header;
@@ -34,17 +31,6 @@ pub fn a_message_has_one_header(message: &[u8])
 /// are its end.
 pub fn names_have_places()
     ensures { (text : List ℕ) (h : Head) (ignored lines : List ℕ) → IsMessage text h ignored lines → ArePlaces text h lines }
-{}
-
-/// A text that begins with a line of control is cut at its first newline into a dot, a space and the words
-/// of the line, and what is behind it. So what is written in front of any lines is read back.
-pub fn control_lines_are_cut()
-    ensures clients { (w : ClientWord) (rest : List ℕ) → ClientWordFits w
-        → cut_at 10 (control_line (client_line w) ++ rest) ≡ Some (codes ". " ++ client_line w, rest) }
-    ensures voters { (s : VoterSays) (rest : List ℕ) → SaysFits s
-        → cut_at 10 (control_line (says_line s) ++ rest) ≡ Some (codes ". " ++ says_line s, rest) }
-    ensures locks { (lock : List ℕ) (s : LockSays) (rest : List ℕ) → IsLockName lock → LockSaysFits s
-        → cut_at 10 (control_line (lock_says_line lock s) ++ rest) ≡ Some (codes ". " ++ lock_says_line lock s, rest) }
 {}
 
 /// A line with a lock's name, or with the dot of control, is the first line of any text that begins with it. So

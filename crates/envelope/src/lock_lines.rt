@@ -3,14 +3,13 @@ ghost use Rattle.std.specs.Prelude.{◌≡◌, ◌<◌, ◌≤◌, ◌+◌, ◌^
 ghost use Rattle.std.specs.Fmt.{decimal};
 ghost use Rattle.arrayvec.specs.ArrayVec.{array_vec_len};
 ghost use Rattle.texts.specs.Fields.{IsBorder, fields};
-ghost use Rattle.envelope.specs.Control.{control_line};
 ghost use Rattle.envelope.specs.LockLines.{IsFirstLine, IsLineName, IsLockName, LockSaysFits, lock_numbers, lock_says_line, lock_word};
 ghost use Rattle.envelope.specs.declared.locks.LockSays.{LockSays};
+ghost use Rattle.line_words.specs.Lines.{control_line};
 
 use crate::locks::{LockSays, is_lock_name};
-use crate::words::{is, word};
-use crate::writing::{LINE_ROOM, Room, push, push_number, push_word};
 use arrayvec::ArrayVec;
+use line_words::{LINE_ROOM, Room, is, push, push_number, push_word, word};
 use texts::{cut, cut_at, field};
 
 /// Reads a space and the name of a lock from the front.

@@ -1,13 +1,15 @@
 //! Reading a header.
 ghost use Rattle.std.specs.Prelude.{◌≡◌, ◌<◌, ◌≤◌, ◌^◌, ◌++◌, ◌∷◌, [], ℕ, List, IfSome, IsTrue, ◌↔◌, MatchOption, codes, length};
 ghost use Rattle.texts.specs.Fields.{HasNoSpace, IsBorder};
-ghost use Rattle.envelope.specs.Headers.{AreIgnored, Head, HasLine, IsIgnored, IsMessage, NumbersFit, head_then, level_words, sender_words, spaced};
+ghost use Rattle.envelope.specs.Headers.{AreIgnored, Head, HasLine, IsIgnored, IsMessage, NumbersFit, head_then, level_words, sender_words};
 ghost use Rattle.envelope.specs.Heads.{head_of};
 ghost use Rattle.envelope.specs.Names.{IsName};
 ghost use Rattle.envelope.specs.declared.header.Sender.{Sender};
+ghost use Rattle.line_words.specs.Lines.{spaced};
 
 use crate::header::{Header, Sender};
-use crate::words::{is, name, numbers, word};
+use crate::words::{name, numbers};
+use line_words::{is, word};
 use texts::{cut, cut_at, number};
 
 /// The most bytes of a header's line, without its newline.

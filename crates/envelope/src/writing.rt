@@ -1,49 +1,16 @@
 //! Writing a header's line.
-ghost use Rattle.std.specs.Prelude.{◌≡◌, ◌≤◌, ◌+◌, ◌++◌, ◌∷◌, [], length};
+ghost use Rattle.std.specs.Prelude.{◌≡◌, ◌≤◌, ◌+◌, ◌++◌, ◌∷◌, []};
 ghost use Rattle.std.specs.Fmt.{decimal};
 ghost use Rattle.arrayvec.specs.ArrayVec.{array_vec_len};
-ghost use Rattle.envelope.specs.Headers.{HasLine, head_line, level_words, sender_words, spaced};
+ghost use Rattle.envelope.specs.Headers.{HasLine, head_line, level_words, sender_words};
 ghost use Rattle.envelope.specs.Heads.{head_of};
 ghost use Rattle.envelope.specs.Names.{IsName};
+ghost use Rattle.line_words.specs.Lines.{spaced};
 
 use crate::header::{Header, Sender};
 use arrayvec::ArrayVec;
 use itoa::Buffer;
-
-/// The room that is enough for the line of any header, and for any line of control.
-pub const LINE_ROOM: usize = 320;
-
-/// A line in a room of its own.
-pub type Room = ArrayVec<u8, LINE_ROOM>;
-
-/// Appends bytes.
-pub fn push(text: &mut Room, bytes: &[u8])
-    requires { array_vec_len text.old + length bytes.now ≤ 320 }
-    ensures bytes { text.new.items ≡ text.old.items ++ bytes.now }
-    ensures len { array_vec_len text.new ≡ array_vec_len text.old + length bytes.now }
-{
-    let _ = text.try_extend_from_slice(bytes);
-}
-
-/// Appends a space and a word.
-pub fn push_word(text: &mut Room, word: &[u8])
-    requires { array_vec_len text.old + 1 + length word.now ≤ 320 }
-    ensures bytes { text.new.items ≡ text.old.items ++ (32 ∷ word.now) }
-    ensures len { array_vec_len text.new ≡ array_vec_len text.old + 1 + length word.now }
-{
-    push(text, b" ");
-    push(text, word);
-}
-
-/// Appends a space and a number in decimal, at most 21 bytes.
-pub fn push_number(text: &mut Room, number: u64)
-    requires { array_vec_len text.old + 21 ≤ 320 }
-    ensures bytes { text.new.items ≡ text.old.items ++ (32 ∷ decimal number) }
-    ensures len { array_vec_len text.new ≤ array_vec_len text.old + 21 }
-{
-    let mut buffer = Buffer::new();
-    push_word(text, buffer.format(number).as_bytes());
-}
+use line_words::{LINE_ROOM, Room, push, push_number, push_word};
 
 /// Appends the words of a client or a voter: at most 149 bytes.
 fn push_numbers(text: &mut Room, id: u8, first: u64, second: u64, name: &[u8], third: u64)

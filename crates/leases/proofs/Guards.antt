@@ -15,7 +15,7 @@ use Rattle.world.proofs.Exclusion.{list_all-holds, under_grant}
 use Rattle.world.proofs.Reached.{RunPremises}
 use Rattle.world.specs.Incidents.{Incident, all_befall, befalls}
 use Rattle.fence.specs.Passes.{Admits, is_not_older}
-use Rattle.leases.specs.Shows.{HasSeenOnly, IsCurrent, IsShown, Show, Story, WasIn, pass_in, story_of, world_at}
+use Rattle.leases.specs.Shows.{HasSeenOnly, IsCurrent, IsShown, ClientShow, Story, WasIn, pass_in, story_of, world_at}
 use Rattle.leases.specs.WorldVoters.{AreVoters}
 use Rattle.passes.specs.Grants.{AreApart, AreOfOne, Gave, Giving, HaveLimits, IsCoterie, IsPass, Pass, ShareQuorum, Voters}
 use Rattle.passes.specs.Guarded.{Entry, HaveOnePassEach, ShowTheSame}
@@ -77,7 +77,7 @@ same_later cs vs voters clients limit quorums deal is js c limits meets deals be
     ap (λ (s : Saved). pass_of s c) e
     ∙ one_pass cs vs voters clients limit quorums deal is begins.0 c limits meets deals in_is (subst (λ (s : Saved). IsIn s c) e in_js) (same ∙ ap (λ (s : Saved). stamp_of s c) e)
 
-pub same_pass : ClientLaws → VoterLaws → (voters clients limit : ℕ) (quorums : List (List ℕ)) (deal : Dealing) (incidents : List Incident) (w x : Show)
+pub same_pass : ClientLaws → VoterLaws → (voters clients limit : ℕ) (quorums : List (List ℕ)) (deal : Dealing) (incidents : List Incident) (w x : ClientShow)
     → AreLimits voters clients limit → DoMeet voters quorums → DealsFrom quorums deal
     → WasIn (story_of deal voters clients limit incidents) w → WasIn (story_of deal voters clients limit incidents) x → IsSameRequest (world_at (story_of deal voters clients limit incidents) w.moment) w.client (world_at (story_of deal voters clients limit incidents) x.moment) x.client
     → pass_in (story_of deal voters clients limit incidents) w ≡ pass_in (story_of deal voters clients limit incidents) x

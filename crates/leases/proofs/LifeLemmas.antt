@@ -17,7 +17,7 @@ use Rattle.voter.specs.declared.state.VoterState.{VoterState}
 use Rattle.voter.specs.Saved.{least_voter}
 use Rattle.voter.specs.Steps as voter
 use Rattle.voter_node.specs.Nodes as nodes
-use Rattle.passes.specs.Grants.{IsGiven, IsLocked}
+use Rattle.passes.specs.Grants.{IsGiven, IsLockedFor}
 use Rattle.voter_node.specs.Lives.{Fate, Meets, IsReborn, HasLimit, IsSkipped, be_reborn, be_skipped, becomes, have_limit, node_after, says, sends}
 use Rattle.world.proofs.Claims.{put}
 use Rattle.world.specs.Restarts.{Saved}
@@ -116,17 +116,17 @@ given_behind v r ms c t g is = elim (cases_eq r.voter v) [
   | inr other ↦ subst (λ (l : List ToClient). IsGiven l c t g) (sym (told_other v r ms other)) is
 ]
 
-given_first : (x : Message) (ms : List Message) (m : ToClient) (t g : ℕ) → x ≡ kinds.ToClient m → IsLocked m.body t g → IsGiven (said_by m.voter (x ∷ ms)) m.client t g
+given_first : (x : Message) (ms : List Message) (m : ToClient) (t g : ℕ) → x ≡ kinds.ToClient m → IsLockedFor m.body t g → IsGiven (said_by m.voter (x ∷ ms)) m.client t g
 given_first x ms m t g is locked = subst (λ (y : Message). IsGiven (said_by m.voter (y ∷ ms)) m.client t g) (sym is)
     (subst (λ (l : List ToClient). IsGiven l m.client t g) (sym (told_own m.voter m ms refl)) (inl (refl, locked)))
 
-pub said_there : (ms : List Message) (k : ℕ) (m : ToClient) (t g : ℕ) → slice_get ms k ≡ Some (kinds.ToClient m) → IsLocked m.body t g → IsGiven (said_by m.voter ms) m.client t g
+pub said_there : (ms : List Message) (k : ℕ) (m : ToClient) (t g : ℕ) → slice_get ms k ≡ Some (kinds.ToClient m) → IsLockedFor m.body t g → IsGiven (said_by m.voter ms) m.client t g
 said_there [] k m t g at locked = absurd (none-some (kinds.ToClient m) at)
 said_there (x ∷ ms) zero m t g at locked = given_first x ms m t g (same_Some x (kinds.ToClient m) at) locked
 said_there (kinds.ToVoter r ∷ ms) (suc k) m t g at locked = said_there ms k m t g at locked
 said_there (kinds.ToClient r ∷ ms) (suc k) m t g at locked = given_behind m.voter r ms m.client t g (said_there ms k m t g at locked)
 
-pub locked_is : (body : ClientBody) (t g : ℕ) → IsLocked body t g → body ≡ to_client.Locked t g
+pub locked_is : (body : ClientBody) (t g : ℕ) → IsLockedFor body t g → body ≡ to_client.Locked t g
 locked_is (to_client.Locked s h) t g is = λ i. to_client.Locked (is.0 i) (is.1 i)
 locked_is (to_client.Fail s) t g is = absurd is
 locked_is (to_client.Inquire h) t g is = absurd is
@@ -138,7 +138,7 @@ given_or (r ∷ rs) ts c t g (inl is) = inl (inl is)
 given_or (r ∷ rs) ts c t g (inr is) = elim (given_or rs ts c t g is) [ inl first ↦ inl (inr first) | inr second ↦ inr second ]
 
 -- what is said of each LOCKED holds of what was given
-pub given_by : (P : ToClient → Type 0) (rs : List ToClient) → AllByRecursion P rs → (c t g : ℕ) → IsGiven rs c t g → (r : ToClient) × P r × (r.client ≡ c) × IsLocked r.body t g
+pub given_by : (P : ToClient → Type 0) (rs : List ToClient) → AllByRecursion P rs → (c t g : ℕ) → IsGiven rs c t g → (r : ToClient) × P r × (r.client ≡ c) × IsLockedFor r.body t g
 given_by P [] all c t g is = absurd is
 given_by P (r ∷ rs) all c t g (inl is) = (r, all.0, is.0, is.1)
 given_by P (r ∷ rs) all c t g (inr is) = given_by P rs all.1 c t g is

@@ -30,7 +30,7 @@ use Rattle.world_state.specs.Steps.{Dealing, after_voter, client_at, come, if_cl
 use Rattle.world.specs.Incidents.{Incident, Happens, Hears, IsReborn, StartsAnew, HasLimit, IsRaised, IsSkipped, all_befall, befalls, hear, is_message, is_request_within}
 use Rattle.leases.specs.Comeback.{AreLawful, IsEviction}
 use Rattle.leases.specs.Orderly.{AreOrderly}
-use Rattle.leases.specs.NodeRuns.{ArePlaces, EvictsNone, HasVoter, IsInRange, MayCome, MayRun, Places, WasSent, arrival_by, eviction_of, incidents_from, incidents_of, unless_refused, with_voter}
+use Rattle.leases.specs.NodeRuns.{AreSentAt, EvictsNone, HasVoter, UnsentIsInRange, MayComeToNode, MayRun, Places, WasSent, arrival_by, eviction_of, incidents_from, incidents_of, unless_refused, with_voter}
 use Rattle.leases.proofs.Guards.{befall-append}
 use Rattle.leases.proofs.LifeLemmas.{mid, set_own}
 use Rattle.world.proofs.Places.{voter_here}
@@ -218,7 +218,7 @@ comes_to deal s y n m k within own_message at p is z =
     (delivered deal s n.live z n.outbox m p k (subst (λ v. v < length s.live.voters) (sym own_message) within) at is)
 
 arrives : VoterLaws → (sure : Type 0) (deal : Dealing) (s : Saved) (y : VoterState) (n : nodes.Node) (waiting : List Incident) (m : ToVoter) (place : Option ℕ) → Underway sure deal s y n waiting
-    → (m.voter ≡ y.id) × (m.client < length s.live.clients) × IsInRange (client_at s.live.clients m.client) place m
+    → (m.voter ≡ y.id) × (m.client < length s.live.clients) × UnsentIsInRange (client_at s.live.clients m.client) place m
     → ((k : ℕ) → place ≡ Some k → slice_get s.live.sent k ≡ Some (kinds.ToVoter m)) → (sure → (k : ℕ) × (place ≡ Some k))
     → (p : voter.Outcome) → voter.step n.live m ≡ Some p → IncidentsLead sure deal s y n (arrival_by place m ∷ []) p
 arrives laws sure deal s y n waiting m None under may at was p is =
@@ -306,7 +306,7 @@ least_clients y n clients c stamp e = elim e [
   | inr waits ↦ absurd (none-some stamp (sym (fin.get-empty nat_cmp c) ∙ waits))
 ]
 
-places_more : (places : Places) (sent : List Message) (more : List Message) → ArePlaces places sent → ArePlaces places (sent ++ more)
+places_more : (places : Places) (sent : List Message) (more : List Message) → AreSentAt places sent → AreSentAt places (sent ++ more)
 places_more places sent more are m k is = get_more sent more k (kinds.ToVoter m) (are m k is)
 
 no_sends : (n : nodes.Node) (b : Bool) (o : Option voter.Outcome) → nodes.sends_of (nodes.if_room b (nodes.after_voter n o)) ≡ []
@@ -337,7 +337,7 @@ ended sure deal s v y z first more is js there lawful ends =
     }
 
 leads_on : VoterLaws → (sure : Type 0) (deal : Dealing) (places : Places) (y : VoterState) (es : List nodes.Event) (s : Saved) (n : nodes.Node) (waiting : List Incident)
-    → Underway sure deal s y n waiting → ArePlaces places s.live.sent → AllByRecursion (MayCome s.live.clients places y) es → (sure → AllByRecursion (WasSent places) es)
+    → Underway sure deal s y n waiting → AreSentAt places s.live.sent → AllByRecursion (MayComeToNode s.live.clients places y) es → (sure → AllByRecursion (WasSent places) es)
     → RunEnds sure deal s y.id (incidents_from places n waiting es) (nodes.run n es).saved (nodes.gives n es)
 unfolding nodes.node_step
 leads_on laws sure deal places y [] s n waiting under are may was =

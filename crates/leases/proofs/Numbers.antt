@@ -418,7 +418,7 @@ latest_after false y z rs (inl stays) few was g is = was g (sym stays.held ∙ i
 latest_after false y z rs (inr new) few was g is = latest_new y z rs new.1 few g is
 
 -- what it says names the current grant alone
-named_number : (z : VoterState) (g : Grant) → z.held ≡ Some g → (c : ℕ) (body : ClientBody) → ReportsVote z.held c body → (t n : ℕ) → grants.IsLocked body t n → n ≤ g.grant
+named_number : (z : VoterState) (g : Grant) → z.held ≡ Some g → (c : ℕ) (body : ClientBody) → ReportsVote z.held c body → (t n : ℕ) → grants.IsLockedFor body t n → n ≤ g.grant
 named_number z g is c body vote t n locked =
     let named = subst (λ (x : ClientBody). ReportsVote z.held c x) (locked_is body t n locked) vote in
     let same : g.grant ≡ n = ap (λ (k : Grant). k.grant) (same_Some g (grant_of c t n) (sym is ∙ named)) in

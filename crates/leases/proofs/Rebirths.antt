@@ -40,7 +40,7 @@ use Rattle.world.proofs.Places.{client_at-set, voter_at-set, voter_here}
 use Rattle.world.proofs.Reached.{RunPremises}
 use Rattle.world.proofs.Restarts.{ClientReturns, Mix, SavedOk, begin_ok, client_less, client_tried, happens_ok, if_one, if_voter_one, live_ok, voter_tried}
 use Rattle.world.specs.Incidents.{Incident, Happens, Hears, IsReborn, StartsAnew, HasLimit, IsRaised, IsSkipped, all_befall, anew, be_raised, be_reborn, be_skipped, befalls, have_limit, hear, is_above, is_ahead, is_limit, is_message, is_request_within, reborn, start_anew}
-use Rattle.leases.specs.Orderly.{AreDone, AreOrderly, CountsNoMore, EndsOld, IsOver, IsPast}
+use Rattle.leases.specs.Orderly.{AreDone, AreOrderly, CountsNoMore, EndsOld, IsOver, IsStale}
 use Rattle.world.proofs.Raises.{no_inquiry, raised_by_step}
 use Rattle.leases.proofs.LifeLemmas.{put_at}
 
@@ -49,14 +49,14 @@ put_back Y v y z is = λ i q. put_at (λ a. a ≡ Y q) (put Y v y) v z q (λ sam
 
 -- ---- one world
 
-past_report : (x : ClientState) (held : _) (z : VoterState) (v c : ℕ) (body : ClientBody) → ReportOk x held v c body → IsPast x v body → ReportOk x z.held v c body
+past_report : (x : ClientState) (held : _) (z : VoterState) (v c : ℕ) (body : ClientBody) → ReportOk x held v c body → IsStale x v body → ReportOk x z.held v c body
 past_report x held z v c (to_client.Locked s g) ok past = (ok.0, λ live. absurd (past live))
 past_report x held z v c (to_client.Fail s) ok past = tt
 past_report x held z v c (to_client.Inquire g) ok past = tt
 
 abbrev CountsPast : (ℕ → ClientState) → ℕ → Message → Type 0
 CountsPast X v (kinds.ToVoter m) = Unit {0}
-CountsPast X v (kinds.ToClient m) = m.voter ≡ v → IsPast (X m.client) v m.body
+CountsPast X v (kinds.ToClient m) = m.voter ≡ v → IsStale (X m.client) v m.body
 
 -- a free voter has no grant that a RELINQUISH could end
 ask_free : (x : ClientState) (y z : VoterState) (v c : ℕ) (body : VoterBody) → z.held ≡ None → y.granted ≤ z.granted → AskOk x y v c body → AskOk x z v c body
@@ -70,7 +70,7 @@ past_message X Y v z free few (kinds.ToVoter m) ok past = put_at (λ (y : VoterS
     (λ same. ask_free (X m.client) (Y m.voter) z m.voter m.client m.body free (subst (λ n. (Y n).granted ≤ z.granted) (sym same) few) ok)
     (λ other. ok)
 past_message X Y v z free few (kinds.ToClient m) ok past = put_at (λ (y : VoterState). ReportOk (X m.client) y.held m.voter m.client m.body) Y v z m.voter
-    (λ same. past_report (X m.client) (Y m.voter).held z m.voter m.client m.body ok (subst (λ (k : ℕ). IsPast (X m.client) k m.body) (sym same) (past same)))
+    (λ same. past_report (X m.client) (Y m.voter).held z m.voter m.client m.body ok (subst (λ (k : ℕ). IsStale (X m.client) k m.body) (sym same) (past same)))
     (λ other. ok)
 
 past_messages : (X : ℕ → ClientState) (Y : ℕ → VoterState) (v : ℕ) (z : VoterState) → z.held ≡ None → (Y v).granted ≤ z.granted → (ms : List Message) → AllByRecursion (MessageOk X Y) ms
@@ -106,8 +106,8 @@ reborn_world b X Y sent v z ok here id free few none past = record {
 one_past : (L K : ℕ → ClientState) (v : ℕ) (X : ℕ → ClientState) → Mix L K X → (m : Message) → CountsPast L v m → CountsPast K v m → CountsPast X v m
 one_past L K v X mix (kinds.ToVoter m) live saved = tt
 one_past L K v X mix (kinds.ToClient m) live saved = λ same. elim (mix m.client) [
-  | inl e ↦ subst (λ (x : ClientState). IsPast x v m.body) (sym e) (live same)
-  | inr e ↦ subst (λ (x : ClientState). IsPast x v m.body) (sym e) (saved same)
+  | inl e ↦ subst (λ (x : ClientState). IsStale x v m.body) (sym e) (live same)
+  | inr e ↦ subst (λ (x : ClientState). IsStale x v m.body) (sym e) (saved same)
 ]
 
 all_past : (L K : ℕ → ClientState) (v : ℕ) (X : ℕ → ClientState) → Mix L K X → (ms : List Message) → AllByRecursion (CountsPast L v) ms → AllByRecursion (CountsPast K v) ms → AllByRecursion (CountsPast X v) ms
@@ -124,7 +124,7 @@ all_counts clients v (m ∷ ms) is = (counts_of clients v m is.0, all_counts cli
 
 -- ---- a vote that nobody has
 
-free_report : (x : ClientState) (held : _) (v c : ℕ) (body : ClientBody) → held ≡ None → ReportOk x held v c body → IsPast x v body
+free_report : (x : ClientState) (held : _) (v c : ℕ) (body : ClientBody) → held ≡ None → ReportOk x held v c body → IsStale x v body
 free_report x held v c (to_client.Locked s g) free ok = λ live. none-some (record { client = c; stamp = s; grant = g }) (sym free ∙ ok.1 live)
 free_report x held v c (to_client.Fail s) free ok = tt
 free_report x held v c (to_client.Inquire g) free ok = tt
@@ -132,7 +132,7 @@ free_report x held v c (to_client.Inquire g) free ok = tt
 free_message : (clients : List ClientState) (Y : ℕ → VoterState) (v : ℕ) → (Y v).held ≡ None → (m : Message) → MessageOk (client_at clients) Y m → CountsNoMore clients v m
 free_message clients Y v free (kinds.ToVoter m) ok = tt
 free_message clients Y v free (kinds.ToClient m) ok = λ same.
-    subst (λ (k : ℕ). IsPast (client_at clients m.client) k m.body) same
+    subst (λ (k : ℕ). IsStale (client_at clients m.client) k m.body) same
     (free_report (client_at clients m.client) (Y m.voter).held m.voter m.client m.body (ap (λ (k : ℕ). (Y k).held) same ∙ free) ok)
 
 free_done : (b : Bounds) (clients : List ClientState) (Y : ℕ → VoterState) (sent : List Message) (v : ℕ) → WorldOk b (client_at clients) Y sent → (Y v).held ≡ None → AreDone clients v sent

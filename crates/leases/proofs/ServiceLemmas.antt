@@ -21,7 +21,7 @@ use Rattle.world.specs.Incidents.{Incident, Happens, Hears, IsReborn, StartsAnew
 use Rattle.world.proofs.IncidentLemmas.{counted, may_count}
 use Rattle.leases.specs.NodeRuns.{HasVoter, Places, WasSent, given_out, incidents_of, saved_after, with_voter}
 use Rattle.leases.specs.Orderly.{AreOrderly}
-use Rattle.leases.specs.Services.{AlongEpisodes, Befalls, IsLawfulEpisode, IsOrderlyEpisode, IsServed, LeavesVoters, MayRunIn, MayFollow, Runs, Episode, all_serve, incidents_in, incidents_served, save_after, saved_voter, serve}
+use Rattle.leases.specs.Services.{AlongEpisodes, Befalls, IsLawfulEpisode, IsOrderlyEpisode, IsAllSaved, LeavesVoters, MayRunIn, MayFollow, Runs, Episode, all_serve, incidents_in, incidents_served, save_after, saved_voter, serve}
 use Rattle.world.proofs.Places.{voter_here, voter_others}
 use Rattle.world.proofs.Restarts.{within_or}
 use Rattle.leases.proofs.Guards.{befall-append}
@@ -37,7 +37,7 @@ voter_new n limit v within = get_or-map-range_with_len (λ w. voter.start w limi
 no_entry : (v limit c stamp : ℕ) → IsEntry (voter.start v limit) c stamp → ⊥
 no_entry v limit c stamp e = elim e [ inl held ↦ none-some held.0 held.1 | inr waits ↦ none-some stamp (sym (fin.get-empty nat_cmp c) ∙ waits) ]
 
-pub begin_served : (voters clients limit : ℕ) → IsServed (begin voters clients limit)
+pub begin_served : (voters clients limit : ℕ) → IsAllSaved (begin voters clients limit)
 begin_served voters clients limit v there =
     let len = length-map-range_with_len (λ w. voter.start w limit) 0 voters in
     let within : v < voters = omega arith in
@@ -54,7 +54,7 @@ begin_served voters clients limit v there =
 -- ---- one episode
 
 -- what leaves the voters leaves the service in order
-pub left_served : (deal : Dealing) (s : Saved) (i : Incident) → IsServed s → LeavesVoters deal s i → IsServed (serve deal s (Befalls i))
+pub left_served : (deal : Dealing) (s : Saved) (i : Incident) → IsAllSaved s → LeavesVoters deal s i → IsAllSaved (serve deal s (Befalls i))
 left_served deal s i served leaves v there =
     let t = serve deal s (Befalls i) in
     let has = served v (subst (λ (l : List VoterState). v < length l) leaves.saved there) in
@@ -85,7 +85,7 @@ has_saved : (s : Saved) (v : ℕ) (y : VoterState) → HasVoter s v y → HasVot
 has_saved s v y has = subst (λ (z : VoterState). HasVoter s v z) (sym has.saved) has
 
 -- a voter of the service has another state, live and saved
-run_served : (s : Saved) (v : ℕ) (y : VoterState) (more : List ToClient) → IsServed s → (v < length s.voters → HasVoter (with_voter s v y more) v y) → IsServed (with_voter s v y more)
+run_served : (s : Saved) (v : ℕ) (y : VoterState) (more : List ToClient) → IsAllSaved s → (v < length s.voters → HasVoter (with_voter s v y more) v y) → IsAllSaved (with_voter s v y more)
 run_served s v y more served has w there = elim (cases_eq w v) [
   | inl same ↦
       let within : v < length s.voters = (let e = length-set s.voters v y in omega arith) in
@@ -93,42 +93,42 @@ run_served s v y more served has w there = elim (cases_eq w v) [
   | inr other ↦ others_have s v w y more (served w (let e = length-set s.voters v y in omega arith)) other
 ]
 
-pub reborn_served : (s : Saved) (v above : ℕ) (t : Bool) → IsServed s → IsServed (be_reborn t s v above)
+pub reborn_served : (s : Saved) (v above : ℕ) (t : Bool) → IsAllSaved s → IsAllSaved (be_reborn t s v above)
 reborn_served s v above false served = served
 reborn_served s v above true served =
     let z = reborn (voter_at s.live.voters v) above in
-    subst (λ (u : Saved). IsServed u) (as_mid s v z z (slice_set s.live.voters v z) (slice_set s.voters v z) refl refl) (run_served s v z [] served (λ there.
+    subst (λ (u : Saved). IsAllSaved u) (as_mid s v z z (slice_set s.live.voters v z) (slice_set s.voters v z) refl refl) (run_served s v z [] served (λ there.
     let has = served v there in
     put_has s v z [] has.lives there (ap (λ (y : VoterState). y.id) has.live ∙ has.id) (λ c stamp e. absurd (no_entry z.id z.limit c stamp e))))
 
-save_served : (s : Saved) (v : ℕ) → IsServed s → s ≡ save (OneVoter v) s
+save_served : (s : Saved) (v : ℕ) → IsAllSaved s → s ≡ save (OneVoter v) s
 save_served s v served = elim (within_or s.voters v) [
   | inl there ↦ let e = set_own s.voters v (voter_at s.live.voters v) (sym (served v there).live) in λ i. record s { voters = sym e i }
   | inr past ↦ let e = set_past s.voters v (voter_at s.live.voters v) past in λ i. record s { voters = sym e i }
 ]
 
 -- a live voter with other counts is saved
-recount_served : (s : Saved) (v granted limit : ℕ) → v < length s.live.voters → IsServed s
-    → IsServed (save (OneVoter v) (record s { live = record s.live { voters = slice_set s.live.voters v (counted (voter_at s.live.voters v) granted limit) } }))
+recount_served : (s : Saved) (v granted limit : ℕ) → v < length s.live.voters → IsAllSaved s
+    → IsAllSaved (save (OneVoter v) (record s { live = record s.live { voters = slice_set s.live.voters v (counted (voter_at s.live.voters v) granted limit) } }))
 recount_served s v granted limit within served =
     let z = counted (voter_at s.live.voters v) granted limit in
     let saved = ap (λ (y : VoterState). slice_set s.voters v y) (sym (voter_here s.live.voters v z within)) in
     let live : List VoterState = slice_set s.live.voters v z in
-    subst (λ (u : Saved). IsServed u) (as_mid s v z z live (slice_set s.voters v (voter_at live v)) refl saved) (run_served s v z [] served (λ there.
+    subst (λ (u : Saved). IsAllSaved u) (as_mid s v z z live (slice_set s.voters v (voter_at live v)) refl saved) (run_served s v z [] served (λ there.
     let has = served v there in
     put_has s v z [] has.lives there (ap (λ (y : VoterState). y.id) has.live ∙ has.id)
     (λ c stamp e. has.clients c stamp (subst (λ (y : VoterState). IsEntry y c stamp) has.live e))))
 
-pub limited_served : (s : Saved) (v limit : ℕ) (t : Bool) → (nat_lt v (length s.live.voters) && is_limit s v limit) ≡ t → IsServed s → IsServed (save (OneVoter v) (have_limit t s v limit))
-limited_served s v limit false is served = subst (λ (u : Saved). IsServed u) (save_served s v served) served
+pub limited_served : (s : Saved) (v limit : ℕ) (t : Bool) → (nat_lt v (length s.live.voters) && is_limit s v limit) ≡ t → IsAllSaved s → IsAllSaved (save (OneVoter v) (have_limit t s v limit))
+limited_served s v limit false is served = subst (λ (u : Saved). IsAllSaved u) (save_served s v served) served
 limited_served s v limit true is served =
     recount_served s v (voter_at s.live.voters v).granted limit (ltb-true _ _ (and_parts (nat_lt v (length s.live.voters)) (is_limit s v limit) is).0) served
 
-pub skipped_served : (s : Saved) (v above : ℕ) (t : Bool) → (nat_lt v (length s.live.voters) && is_above (voter_at s.live.voters v) above) ≡ t → IsServed s → IsServed (save (OneVoter v) (be_skipped t s v above))
-skipped_served s v above false is served = subst (λ (u : Saved). IsServed u) (save_served s v served) served
+pub skipped_served : (s : Saved) (v above : ℕ) (t : Bool) → (nat_lt v (length s.live.voters) && is_above (voter_at s.live.voters v) above) ≡ t → IsAllSaved s → IsAllSaved (save (OneVoter v) (be_skipped t s v above))
+skipped_served s v above false is served = subst (λ (u : Saved). IsAllSaved u) (save_served s v served) served
 skipped_served s v above true is served = recount_served s v above (voter_at s.live.voters v).limit (may_count s v above is).within served
 
-run_ends : VoterLaws → (sure : Type 0) (deal : Dealing) (s : Saved) (v : ℕ) (places : Places) (events : List nodes.Event) → IsServed s → MayRunIn s v places events
+run_ends : VoterLaws → (sure : Type 0) (deal : Dealing) (s : Saved) (v : ℕ) (places : Places) (events : List nodes.Event) → IsAllSaved s → MayRunIn s v places events
     → (sure → AllByRecursion (WasSent places) events)
     → RunEnds sure deal s v (incidents_of places (saved_voter s v) events) (saved_after (saved_voter s v) events) (given_out (saved_voter s v) events)
 run_ends laws sure deal s v places events served may was =
@@ -143,16 +143,16 @@ run_ends laws sure deal s v places events served may was =
 
 -- ---- all episodes
 
-episode_led : VoterLaws → (deal : Dealing) (s : Saved) (t : Episode) → IsServed s → MayFollow deal s t → all_befall deal (incidents_in s t) s ≡ serve deal s t
+episode_led : VoterLaws → (deal : Dealing) (s : Saved) (t : Episode) → IsAllSaved s → MayFollow deal s t → all_befall deal (incidents_in s t) s ≡ serve deal s t
 episode_led laws deal s (Befalls i) served may = refl
 episode_led laws deal s (Runs v places events) served may = (run_ends laws ⊥ deal s v places events served may (λ no. absurd no)).led
 
-episode_served : VoterLaws → (deal : Dealing) (s : Saved) (t : Episode) → IsServed s → MayFollow deal s t → IsServed (serve deal s t)
+episode_served : VoterLaws → (deal : Dealing) (s : Saved) (t : Episode) → IsAllSaved s → MayFollow deal s t → IsAllSaved (serve deal s t)
 episode_served laws deal s (Befalls i) served may = may
 episode_served laws deal s (Runs v places events) served may =
     run_served s v (saved_after (saved_voter s v) events) (given_out (saved_voter s v) events) served (λ _. (run_ends laws ⊥ deal s v places events served may (λ no. absurd no)).has)
 
-pub episodes_led : VoterLaws → (deal : Dealing) (ts : List Episode) (s : Saved) → IsServed s → AlongEpisodes deal (MayFollow deal) s ts → all_befall deal (incidents_served deal s ts) s ≡ all_serve deal s ts
+pub episodes_led : VoterLaws → (deal : Dealing) (ts : List Episode) (s : Saved) → IsAllSaved s → AlongEpisodes deal (MayFollow deal) s ts → all_befall deal (incidents_served deal s ts) s ≡ all_serve deal s ts
 episodes_led laws deal [] s served may = refl
 episodes_led laws deal (t ∷ ts) s served may =
     let rest = incidents_served deal (serve deal s t) ts in
@@ -169,11 +169,11 @@ save_may deal s (IsReborn v above) = (tt, tt)
 save_may deal s (StartsAnew c clock) = (tt, tt)
 save_may deal s (IsRaised c clock) = (tt, tt)
 
-episode_lawful : VoterLaws → (deal : Dealing) (s : Saved) (t : Episode) → IsServed s → MayFollow deal s t → IsLawfulEpisode s t → AreLawful deal s (incidents_in s t)
+episode_lawful : VoterLaws → (deal : Dealing) (s : Saved) (t : Episode) → IsAllSaved s → MayFollow deal s t → IsLawfulEpisode s t → AreLawful deal s (incidents_in s t)
 episode_lawful laws deal s (Befalls i) served may lawful = (lawful, (save_may deal (befalls deal s i) i).0)
 episode_lawful laws deal s (Runs v places events) served may lawful = (run_ends laws (Unit {0}) deal s v places events served may (λ _. lawful)).lawful tt
 
-pub episodes_lawful : VoterLaws → (deal : Dealing) (ts : List Episode) (s : Saved) → IsServed s → AlongEpisodes deal (MayFollow deal) s ts → AlongEpisodes deal IsLawfulEpisode s ts → AreLawful deal s (incidents_served deal s ts)
+pub episodes_lawful : VoterLaws → (deal : Dealing) (ts : List Episode) (s : Saved) → IsAllSaved s → AlongEpisodes deal (MayFollow deal) s ts → AlongEpisodes deal IsLawfulEpisode s ts → AreLawful deal s (incidents_served deal s ts)
 episodes_lawful laws deal [] s served may lawful = tt
 episodes_lawful laws deal (t ∷ ts) s served may lawful =
     lawful-append deal (incidents_in s t) (incidents_served deal (serve deal s t) ts) s (episode_lawful laws deal s t served may.0 lawful.0)
@@ -188,7 +188,7 @@ episode_orderly : (deal : Dealing) (s : Saved) (t : Episode) → IsOrderlyEpisod
 episode_orderly deal s (Befalls i) orderly = (orderly, (save_may deal (befalls deal s i) i).1)
 episode_orderly deal s (Runs v places events) orderly = node_orderly deal s places (saved_voter s v) events orderly.0 orderly.1
 
-pub episodes_orderly : VoterLaws → (deal : Dealing) (ts : List Episode) (s : Saved) → IsServed s → AlongEpisodes deal (MayFollow deal) s ts → AlongEpisodes deal IsOrderlyEpisode s ts → AreOrderly deal s (incidents_served deal s ts)
+pub episodes_orderly : VoterLaws → (deal : Dealing) (ts : List Episode) (s : Saved) → IsAllSaved s → AlongEpisodes deal (MayFollow deal) s ts → AlongEpisodes deal IsOrderlyEpisode s ts → AreOrderly deal s (incidents_served deal s ts)
 episodes_orderly laws deal [] s served may orderly = tt
 episodes_orderly laws deal (t ∷ ts) s served may orderly =
     orderly-append deal (incidents_in s t) (incidents_served deal (serve deal s t) ts) s (episode_orderly deal s t orderly.0)

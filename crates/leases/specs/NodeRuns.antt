@@ -39,30 +39,30 @@ abbrev pub Places : Type 0
 Places = ToVoter → Option ℕ
 
 -- if nobody sent the message, the stamp of a REQUEST is from 1 to the client's limit
-abbrev pub IsInRange : ClientState → Option ℕ → ToVoter → Type 0
-IsInRange x None m = is_request_within x.limit m.body ≡ true
-IsInRange x (Some k) m = Unit {0}
+abbrev pub UnsentIsInRange : ClientState → Option ℕ → ToVoter → Type 0
+UnsentIsInRange x None m = is_request_within x.limit m.body ≡ true
+UnsentIsInRange x (Some k) m = Unit {0}
 
 -- An event may come to this voter beside these clients: a message is for this voter and names one of the
 -- clients. If nobody sent it, its stamp is in range.
-abbrev pub MayCome : List ClientState → Places → VoterState → nodes.Event → Type 0
-MayCome clients places y (nodes.Takes m) =
-    (m.voter ≡ y.id) × (m.client < length clients) × IsInRange (client_at clients m.client) (places m) m
-MayCome clients places y (nodes.Evicts grant) = Unit {0}
-MayCome clients places y nodes.Reminds = Unit {0}
-MayCome clients places y nodes.IsSaved = Unit {0}
-MayCome clients places y nodes.Restarts = Unit {0}
-MayCome clients places y nodes.Forgets = Unit {0}
+abbrev pub MayComeToNode : List ClientState → Places → VoterState → nodes.Event → Type 0
+MayComeToNode clients places y (nodes.Takes m) =
+    (m.voter ≡ y.id) × (m.client < length clients) × UnsentIsInRange (client_at clients m.client) (places m) m
+MayComeToNode clients places y (nodes.Evicts grant) = Unit {0}
+MayComeToNode clients places y nodes.Reminds = Unit {0}
+MayComeToNode clients places y nodes.IsSaved = Unit {0}
+MayComeToNode clients places y nodes.Restarts = Unit {0}
+MayComeToNode clients places y nodes.Forgets = Unit {0}
 
 -- the messages are at these places
-abbrev pub ArePlaces : Places → List Message → Type 0
-ArePlaces places sent = (m : ToVoter) (k : ℕ) → places m ≡ Some k → slice_get sent k ≡ Some (kinds.ToVoter m)
+abbrev pub AreSentAt : Places → List Message → Type 0
+AreSentAt places sent = (m : ToVoter) (k : ℕ) → places m ≡ Some k → slice_get sent k ≡ Some (kinds.ToVoter m)
 
 -- a node of this voter may run in this world, with these events
 pub record MayRun (s : Saved) (places : Places) (y : VoterState) (events : List nodes.Event) : Type 0 where
   pub voter : HasVoter s y.id y
-  pub places_are : ArePlaces places s.live.sent
-  pub events_may : AllByRecursion (MayCome s.live.clients places y) events
+  pub places_are : AreSentAt places s.live.sent
+  pub events_may : AllByRecursion (MayComeToNode s.live.clients places y) events
 
 -- a message arrives, or is heard though nobody sent it
 abbrev pub arrival_by : Option ℕ → ToVoter → Incident

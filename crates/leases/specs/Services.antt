@@ -7,7 +7,7 @@ use Rattle.world.specs.Restarts.{Saved, OneVoter, Saves}
 use Rattle.world_state.specs.Steps.{Dealing, voter_at}
 use Rattle.leases.specs.Comeback.{IsLawful}
 use Rattle.world.specs.Incidents.{Incident, Happens, HasLimit, IsSkipped, all_befall}
-use Rattle.leases.specs.NodeRuns.{ArePlaces, EvictsNone, HasVoter, MayCome, Places, WasSent, given_out, incidents_of, saved_after, with_voter}
+use Rattle.leases.specs.NodeRuns.{AreSentAt, EvictsNone, HasVoter, MayComeToNode, Places, WasSent, given_out, incidents_of, saved_after, with_voter}
 use Rattle.leases.specs.Orderly.{IsOrderly}
 
 -- what happens in a service, in the order in which saves end
@@ -56,8 +56,8 @@ AlongEpisodes deal P s (t ∷ ts) = P s t × AlongEpisodes deal P (serve deal s 
 
 -- Each voter of the service has one state, live and saved, and each client of which it has a request is
 -- there: between two episodes a voter's node has nothing that is not saved.
-abbrev pub IsServed : Saved → Type 0
-IsServed s = (v : ℕ) → v < length s.voters → HasVoter s v (saved_voter s v)
+abbrev pub IsAllSaved : Saved → Type 0
+IsAllSaved s = (v : ℕ) → v < length s.voters → HasVoter s v (saved_voter s v)
 
 -- the incident leaves the voters as they are, live and saved, and the number of clients
 pub record LeavesVoters (deal : Dealing) (s : Saved) (i : Incident) : Type 0 where
@@ -68,12 +68,12 @@ pub record LeavesVoters (deal : Dealing) (s : Saved) (i : Incident) : Type 0 whe
 -- a node of this voter of the service may run with these events
 pub record MayRunIn (s : Saved) (v : ℕ) (places : Places) (events : List nodes.Event) : Type 0 where
   pub there : v < length s.voters
-  pub places_are : ArePlaces places s.live.sent
-  pub events_may : AllByRecursion (MayCome s.live.clients places (saved_voter s v)) events
+  pub places_are : AreSentAt places s.live.sent
+  pub events_may : AllByRecursion (MayComeToNode s.live.clients places (saved_voter s v)) events
 
 -- the episode may come now
 abbrev pub MayFollow : Dealing → Saved → Episode → Type 0
-MayFollow deal s (Befalls i) = IsServed (serve deal s (Befalls i))
+MayFollow deal s (Befalls i) = IsAllSaved (serve deal s (Befalls i))
 MayFollow deal s (Runs v places events) = MayRunIn s v places events
 
 -- no message to a voter is made up but evictions, and no client starts anew

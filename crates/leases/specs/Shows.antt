@@ -9,7 +9,7 @@ use Rattle.world.specs.Incidents.{Incident, all_befall}
 
 -- A client that shows the pass that it had at a moment: after this number of the incidents. It may show
 -- it at any time, and again.
-pub record Show : Type 0 where
+pub record ClientShow : Type 0 where
   pub client : ℕ
   pub moment : ℕ
 
@@ -28,25 +28,25 @@ abbrev pub world_at : Story → ℕ → Saved
 world_at story moment = all_befall story.deal (take moment story.incidents) story.first
 
 -- the pass that is shown
-abbrev pub pass_in : Story → Show → List ℕ
+abbrev pub pass_in : Story → ClientShow → List ℕ
 pass_in story w = pass_of (world_at story w.moment) w.client
 
 -- the client was inside at that moment
-abbrev pub WasIn : Story → Show → Type 0
+abbrev pub WasIn : Story → ClientShow → Type 0
 WasIn story w = IsIn (world_at story w.moment) w.client
 
 -- whose request it is, and the grants
-abbrev pub shown : Story → Show → Pass
+abbrev pub shown : Story → ClientShow → Pass
 shown story w = record { client = w.client; stamp = stamp_of (world_at story w.moment) w.client; grants = pass_in story w }
 
 -- some client that was inside at some moment has this pass
 abbrev pub IsShown : Story → Pass → Type 0
-IsShown story p = (w : Show) × WasIn story w × (shown story w ≡ p)
+IsShown story p = (w : ClientShow) × WasIn story w × (shown story w ≡ p)
 
 -- each number that a guard saw is 0, or some client held that grant at some moment of the story
 abbrev pub HasSeenOnly : Story → List ℕ → Type 0
 HasSeenOnly story seen = (v : ℕ) → v < max_voters
-    → (slice_index seen v ≡ 0) ⊎ ((w : Show) × (slice_index seen v ≡ slice_index (pass_in story w) v))
+    → (slice_index seen v ≡ 0) ⊎ ((w : ClientShow) × (slice_index seen v ≡ slice_index (pass_in story w) v))
 
 -- each grant that is shown has the number of its voter's current one
 abbrev pub IsCurrent : Saved → List ℕ → Type 0

@@ -2,14 +2,14 @@
 ghost use Rattle.std.specs.Prelude.{◌≡◌, ◌⊎◌, ℕ, List, None, Some};
 ghost use Rattle.std.specs.List.{AllByRecursion};
 ghost use Rattle.leases.specs.Comeback.{AllIdle, AreLawful, unseen};
-ghost use Rattle.leases.specs.Drained.{AsksNoMore, IsOut};
+ghost use Rattle.leases.specs.Drained.{AsksNoMore, IsFinishedUpTo};
 ghost use Rattle.world.specs.Incidents.{Incident, all_befall};
 ghost use Rattle.leases.specs.Orderly.{AreOrderly, IsOver};
 ghost use Rattle.fence.specs.Passes.{Admits};
 ghost use Rattle.leases.specs.Shows.{HasSeenOnly, IsCurrent, IsShown, story_of};
 ghost use Rattle.leases.specs.WorldVoters.{AreVoters};
 ghost use Rattle.passes.specs.Grants.{AreApart, Pass, Voters};
-ghost use Rattle.passes.specs.Guarded.{AreAdmitted, AreEntered, AreInOrder, DoNotInterleave, Entry, RequestsHaveOneTurn, TurnsTellRequests};
+ghost use Rattle.passes.specs.Guarded.{AreAdmitted, AreEntered, PassesFollow, DoNotInterleave, Entry, RequestsHaveOneTurn, TurnsTellRequests};
 ghost use Rattle.world.specs.Restarts.{Happening, IsIn, IsSameRequest, all_happen, begin, pass_of, stamp_of};
 ghost use Rattle.world.specs.Runs.{AreLimits};
 ghost use Rattle.world_state.specs.Steps.{Dealing, voter_at};
@@ -59,7 +59,7 @@ pub fn admitted_passes_are_in_order()
         (seen : List ℕ) (passes : List Pass)
         → AreLimits voters clients limit → DoMeet voters quorums → DealsFrom quorums deal
         → AllByRecursion (IsShown (story_of deal voters clients limit incidents)) passes
-        → AreAdmitted seen passes → AreInOrder passes }
+        → AreAdmitted seen passes → PassesFollow passes }
 {
     worlds_have_voters();
     passes::admitted_passes_are_in_order();
@@ -188,7 +188,7 @@ pub fn exclusion_comes_back()
 /// state.
 pub fn finished_requests_stay_out()
     ensures { (v : VoterState) (m : ToVoter) (o : Outcome) (client stamp : ℕ) → step v m ≡ Some o
-        → IsOut v client stamp → AsksNoMore client stamp m.client m.body → IsOut o.state client stamp }
+        → IsFinishedUpTo v client stamp → AsksNoMore client stamp m.client m.body → IsFinishedUpTo o.state client stamp }
 {
     parts_keep_their_rules();
 }

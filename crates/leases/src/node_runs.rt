@@ -5,7 +5,7 @@ ghost use Rattle.leases.specs.Comeback.{AreLawful};
 ghost use Rattle.world.specs.Incidents.{Incident, HasLimit, IsReborn, IsSkipped, all_befall};
 ghost use Rattle.leases.specs.NodeRuns.{EvictsNone, HasVoter, MayRun, Places, WasSent, given_out, incidents_of, saved_after, with_voter};
 ghost use Rattle.leases.specs.Orderly.{AreOrderly};
-ghost use Rattle.leases.specs.Services.{AlongEpisodes, Befalls, Episode, IsLawfulEpisode, IsOrderlyEpisode, IsServed, LeavesVoters, MayFollow, all_serve, incidents_served, serve};
+ghost use Rattle.leases.specs.Services.{AlongEpisodes, Befalls, Episode, IsLawfulEpisode, IsOrderlyEpisode, IsAllSaved, LeavesVoters, MayFollow, all_serve, incidents_served, serve};
 ghost use Rattle.voter.specs.declared.state.VoterState.{VoterState};
 ghost use Rattle.voter_node.specs.Nodes.{Event};
 ghost use Rattle.world.specs.Restarts.{Saved, begin};
@@ -51,19 +51,19 @@ pub fn nodes_run_as_incidents()
 /// Voters may have blocks of grants. A voter's next block is an episode: another limit, and its save.
 pub fn services_run_as_incidents()
     // A new service is one,
-    ensures first { (voters clients limit : ℕ) → IsServed (begin voters clients limit) }
+    ensures first { (voters clients limit : ℕ) → IsAllSaved (begin voters clients limit) }
     // and it stays one by what leaves the voters as they are, and if a voter gets another limit, skips
     // numbers, or is reborn.
-    ensures stays { (deal : Dealing) (s : Saved) (i : Incident) → IsServed s → LeavesVoters deal s i
-        → IsServed (serve deal s (Befalls i)) }
-    ensures limited { (deal : Dealing) (s : Saved) (v limit : ℕ) → IsServed s → IsServed (serve deal s (Befalls (HasLimit v limit))) }
-    ensures skipped { (deal : Dealing) (s : Saved) (v above : ℕ) → IsServed s → IsServed (serve deal s (Befalls (IsSkipped v above))) }
-    ensures reborn { (deal : Dealing) (s : Saved) (v above : ℕ) → IsServed s → IsServed (serve deal s (Befalls (IsReborn v above))) }
-    ensures led { (deal : Dealing) (s : Saved) (episodes : List Episode) → IsServed s → AlongEpisodes deal (MayFollow deal) s episodes
+    ensures stays { (deal : Dealing) (s : Saved) (i : Incident) → IsAllSaved s → LeavesVoters deal s i
+        → IsAllSaved (serve deal s (Befalls i)) }
+    ensures limited { (deal : Dealing) (s : Saved) (v limit : ℕ) → IsAllSaved s → IsAllSaved (serve deal s (Befalls (HasLimit v limit))) }
+    ensures skipped { (deal : Dealing) (s : Saved) (v above : ℕ) → IsAllSaved s → IsAllSaved (serve deal s (Befalls (IsSkipped v above))) }
+    ensures reborn { (deal : Dealing) (s : Saved) (v above : ℕ) → IsAllSaved s → IsAllSaved (serve deal s (Befalls (IsReborn v above))) }
+    ensures led { (deal : Dealing) (s : Saved) (episodes : List Episode) → IsAllSaved s → AlongEpisodes deal (MayFollow deal) s episodes
         → all_befall deal (incidents_served deal s episodes) s ≡ all_serve deal s episodes }
-    ensures lawful { (deal : Dealing) (s : Saved) (episodes : List Episode) → IsServed s → AlongEpisodes deal (MayFollow deal) s episodes
+    ensures lawful { (deal : Dealing) (s : Saved) (episodes : List Episode) → IsAllSaved s → AlongEpisodes deal (MayFollow deal) s episodes
         → AlongEpisodes deal IsLawfulEpisode s episodes → AreLawful deal s (incidents_served deal s episodes) }
-    ensures orderly { (deal : Dealing) (s : Saved) (episodes : List Episode) → IsServed s → AlongEpisodes deal (MayFollow deal) s episodes
+    ensures orderly { (deal : Dealing) (s : Saved) (episodes : List Episode) → IsAllSaved s → AlongEpisodes deal (MayFollow deal) s episodes
         → AlongEpisodes deal IsOrderlyEpisode s episodes → AreOrderly deal s (incidents_served deal s episodes) }
 {
     parts_keep_their_rules();

@@ -7,9 +7,9 @@ use Rattle.lock_node.specs.Thrift.{HostTurn, LeaveOut, events_in, host_sent, lif
 use Rattle.message.specs.declared.message.ClientBody.{ClientBody}
 use Rattle.message.specs.declared.message.ClientBody.TheVariants as to_client
 use Rattle.message.specs.declared.message.ToClient.{ToClient}
-use Rattle.passes.specs.Grants.{Gave, Giving, IsGiven, IsLocked, IsPass}
-use Rattle.passes.specs.Requests.{AllMayDo, Deed, Does, Forgets, IsRun, MayCome, MayDo, Process, Raises, Restarts, Run, Saves, Show, StartsAnew, WasInside, does, process_of, shown}
-use Rattle.passes.specs.Served.{IsNew, Told, Voting, voters_of}
+use Rattle.passes.specs.Grants.{Gave, Giving, IsGiven, IsLockedFor, IsPass}
+use Rattle.passes.specs.Requests.{AllMayDo, ProcessDeed, Does, Forgets, IsRun, MayComeToProcess, MayDo, Process, Raises, Restarts, Run, Saves, Show, StartsAnew, WasInside, does, process_of, shown}
+use Rattle.passes.specs.Served.{IsNewVoting, Told, Voting, voters_of}
 use Rattle.passes.specs.Sessions.{AreServed, Rows, TookFrom}
 use Rattle.requester.specs.Steps as client
 use Rattle.session_rows.specs.Runs as rows
@@ -31,8 +31,8 @@ LettersReach = (n : LockNode) (turns : List HostTurn) (l : Letter) (stamp grant 
 
 -- ---- what was told was given
 
-locked : (body : ClientBody) (stamp grant : ℕ) → body ≡ to_client.Locked stamp grant → IsLocked body stamp grant
-locked body stamp grant is = subst (λ (b : ClientBody). IsLocked b stamp grant) (sym is) (refl, refl)
+locked : (body : ClientBody) (stamp grant : ℕ) → body ≡ to_client.Locked stamp grant → IsLockedFor body stamp grant
+locked body stamp grant is = subst (λ (b : ClientBody). IsLockedFor b stamp grant) (sym is) (refl, refl)
 
 given_by : (ms : List ToClient) (m : ToClient) (client stamp grant : ℕ) → IsOneOf m ms → m.client ≡ client → m.body ≡ to_client.Locked stamp grant → IsGiven ms client stamp grant
 given_by [] m client stamp grant is of body = absurd is
@@ -41,7 +41,7 @@ given_by (r ∷ rs) m client stamp grant is of body = elim is [
   | inr there ↦ inr (given_by rs m client stamp grant there of body)
 ]
 
-pub told_given : GivenOut → (voting : ℕ → Voting) (lock : ℕ) (limit : ℕ → ℕ) → ((v : ℕ) → IsNew lock v (limit v) (voting v))
+pub told_given : GivenOut → (voting : ℕ → Voting) (lock : ℕ) (limit : ℕ → ℕ) → ((v : ℕ) → IsNewVoting lock v (limit v) (voting v))
     → (session v client stamp grant : ℕ) → Told voting lock session v client stamp grant → Gave (voters_of voting lock limit) v client stamp grant
 told_given out voting lock limit new session v client stamp grant told =
     let n = (voting v).first in
@@ -54,11 +54,11 @@ told_given out voting lock limit new session v client stamp grant told =
 -- ---- a run may take more, if more was given
 
 may_come : (quorums : List (List ℕ)) (gave more : Giving) (p : Process) (cause : client.Cause) → ((v client stamp grant : ℕ) → gave v client stamp grant → more v client stamp grant)
-    → MayCome quorums gave p.live cause → MayCome quorums more p.live cause
+    → MayComeToProcess quorums gave p.live cause → MayComeToProcess quorums more p.live cause
 may_come quorums gave more p cause all may =
     record { accepts = may.accepts; among = may.among; given = λ v stamp grant is. all v p.live.id stamp grant (may.given v stamp grant is) }
 
-may_do : (quorums : List (List ℕ)) (gave more : Giving) (p : Process) (d : Deed) → ((v client stamp grant : ℕ) → gave v client stamp grant → more v client stamp grant)
+may_do : (quorums : List (List ℕ)) (gave more : Giving) (p : Process) (d : ProcessDeed) → ((v client stamp grant : ℕ) → gave v client stamp grant → more v client stamp grant)
     → MayDo quorums gave p d → MayDo quorums more p d
 may_do quorums gave more p (Does cause) all may = may_come quorums gave more p cause all may
 may_do quorums gave more p Saves all may = tt
@@ -67,7 +67,7 @@ may_do quorums gave more p Restarts all may = tt
 may_do quorums gave more p (StartsAnew clock) all may = tt
 may_do quorums gave more p (Raises clock) all may = tt
 
-all_may : (quorums : List (List ℕ)) (gave more : Giving) (p : Process) (ds : List Deed) → ((v client stamp grant : ℕ) → gave v client stamp grant → more v client stamp grant)
+all_may : (quorums : List (List ℕ)) (gave more : Giving) (p : Process) (ds : List ProcessDeed) → ((v client stamp grant : ℕ) → gave v client stamp grant → more v client stamp grant)
     → AllMayDo quorums gave p ds → AllMayDo quorums more p ds
 all_may quorums gave more p [] all may = tt
 all_may quorums gave more p (d ∷ ds) all may = (may_do quorums gave more p d all may.0, all_may quorums gave more (does p d) ds all may.1)

@@ -19,7 +19,7 @@ use Rattle.voter.proofs.Soundness.{IsSound-counted}
 use Rattle.voter_node.specs.Nodes as nodes
 use Rattle.voter_node.specs.Lives.{Fate, node_after, said, says}
 use Rattle.world.specs.Rules.{VoterLaws}
-use Rattle.passes.specs.Grants.{IsGiven, IsLocked}
+use Rattle.passes.specs.Grants.{IsGiven, IsLockedFor}
 use Rattle.passes.specs.Turns.{HasSkipped}
 use Rattle.passes.proofs.Lives.{LifeKeeps, lasts, reborn_is_sound, same_number, says-join}
 
@@ -58,7 +58,7 @@ named_in : (P : ℕ → Type 0) (rs : List ToClient) (c s g : ℕ) → AllName P
 named_in P [] c s g all is = absurd is
 named_in P (r ∷ rs) c s g all (inl is) = here r.body all.0 is.1
   where
-    here : (body : ClientBody) → NumberIs P body → IsLocked body s g → P g
+    here : (body : ClientBody) → NumberIs P body → IsLockedFor body s g → P g
     here (to_client.Locked t h) one locks = subst P locks.1 one
     here (to_client.Fail t) one locks = absurd locks
     here (to_client.Inquire t) one locks = absurd locks

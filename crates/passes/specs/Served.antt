@@ -16,7 +16,7 @@ pub record Voting : Type 0 where
 
 -- The process begins, its vote for this lock is new, and its host leaves saves out only where it may: the voter's number, its
 -- first limit.
-pub record IsNew (lock v limit : ℕ) (voting : Voting) : Type 0 where
+pub record IsNewVoting (lock v limit : ℕ) (voting : Voting) : Type 0 where
   pub begins : Begins voting.first
   pub may : LeaveOut voting.first voting.turns
   pub vote : voting.first.locks lock ≡ node_of (start v limit)

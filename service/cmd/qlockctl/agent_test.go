@@ -8,6 +8,7 @@ import (
 	"io"
 	"net"
 	"net/http"
+	"os"
 	"path/filepath"
 	"strings"
 	"testing"
@@ -56,8 +57,8 @@ func runs(t *testing.T, words ...string) int {
 	return end.code
 }
 
-// deletes gives a lock back once another process has it.
-func deletes(socket, lock string) {
+// deletes gives a lock back that another process has, again and again until it is stopped.
+func deletes(socket, lock string) (stop func()) {
 	client := &http.Client{Transport: &http.Transport{DisableKeepAlives: true,
 		DialContext: func(ctx context.Context, _, _ string) (net.Conn, error) {
 			return (&net.Dialer{}).DialContext(ctx, "unix", socket)
@@ -69,13 +70,22 @@ func deletes(socket, lock string) {
 			_ = reply.Body.Close()
 		}
 	}
-	var list struct{ Locks []struct{ ID string } }
-	for end := time.Now().Add(30 * time.Second); time.Now().Before(end); time.Sleep(5 * time.Millisecond) {
-		if call("GET", "", &list); len(list.Locks) == 1 && list.Locks[0].ID != "" {
-			call("DELETE", "?id="+list.Locks[0].ID, &struct{}{})
-			return
+	done, stopped := make(chan struct{}), make(chan struct{})
+	go func() {
+		defer close(stopped)
+		for {
+			var list struct{ Locks []struct{ ID string } }
+			if call("GET", "", &list); len(list.Locks) == 1 && list.Locks[0].ID != "" {
+				call("DELETE", "?id="+list.Locks[0].ID, &struct{}{})
+			}
+			select {
+			case <-done:
+				return
+			case <-time.After(5 * time.Millisecond):
+			}
 		}
-	}
+	}()
+	return func() { close(done); <-stopped }
 }
 
 // By an agent each exit status is the same as without one.
@@ -108,13 +118,11 @@ func TestRunByAgent(t *testing.T) {
 			t.Errorf("%q: %d", one.words, got)
 		}
 	}
-	if got := runs(t, "run", "--agent", socket+".none", "x", "true"); got != exitSettings {
-		t.Error(got)
-	}
-	go deletes(socket, "x")
+	stop := deletes(socket, "x") // that of the run before may still be there
 	if got := runs(t, "run", "--agent", socket, "x", "sleep", "60"); got != exitLost {
 		t.Error(got)
 	}
+	stop()
 	time.AfterFunc(300*time.Millisecond, func() { port.Cut(true) })
 	if got := runs(t, "run", "--agent", socket, "x", "sleep", "60"); got != exitLost {
 		t.Error(got)
@@ -125,6 +133,37 @@ func TestRunByAgent(t *testing.T) {
 	port.Cut(false)
 	if err := held.Unlock(); !errors.Is(err, agent.ErrLost) {
 		t.Error(err)
+	}
+}
+
+// Another try may help where no agent listens, and the message names its socket. It does not help where the path
+// is none of a socket, or the user may not connect.
+func TestAgentIsDown(t *testing.T) {
+	folder := t.TempDir()
+	left, locked := filepath.Join(folder, "left.sock"), filepath.Join(folder, "locked.sock")
+	for _, path := range []string{left, locked} {
+		listener, err := net.ListenUnix("unix", &net.UnixAddr{Name: path, Net: "unix"})
+		if err != nil {
+			t.Fatal(err)
+		}
+		listener.SetUnlinkOnClose(false)
+		_ = listener.Close()
+	}
+	if err := os.Chmod(locked, 0); err != nil {
+		t.Fatal(err)
+	}
+	wants := map[string]int{filepath.Join(folder, "none.sock"): exitNoLock, left: exitNoLock,
+		filepath.Join(folder, strings.Repeat("long", 40)): exitSettings}
+	if os.Getuid() != 0 { // who may do all may connect there, too
+		wants[locked] = exitSettings
+	}
+	for path, want := range wants {
+		err := runByAgent(context.Background(), agent.New(path), taking{lock: "x", wait: time.Second}, 0, []string{"true"})
+		var end status
+		if !errors.As(err, &end) || end.code != want || !errors.Is(err, agent.ErrAbsent) || !strings.Contains(err.Error(), path) ||
+			strings.Contains(err.Error(), "try again") != (want == exitNoLock) {
+			t.Errorf("%s: %v, %d", path, err, end.code)
+		}
 	}
 }
 

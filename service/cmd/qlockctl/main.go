@@ -135,3 +135,37 @@ func (s *settings) client() locks.Config {
 	return locks.Config{Cluster: s.cluster, User: s.access.User, Secret: s.access.Secret,
 		Seed: s.access.Seed, Creds: s.access.Creds, Cert: s.access.Cert, Key: s.access.Key}
 }
+
+// connected connects, and returns the configuration of a client by this connection, which is to be closed.
+func (s *settings) connected(cluster *config.Cluster) (locks.Config, *transport.NATS, error) {
+	client := s.client()
+	if _, err := s.access.Speaker(); err != nil {
+		return client, nil, err
+	}
+	link, err := transport.Connect(cluster, s.access, "qlock client")
+	client.Transport = link
+	return client, link, err
+}
+
+// unlessRefused calls a function that connects by a transport. If the server of NATS refuses the user, it ends the function's context,
+// and returns why.
+func unlessRefused(ctx context.Context, by transport.Transport, connect func(ctx context.Context) error) error {
+	link, isNATS := by.(*transport.NATS)
+	if !isNATS {
+		return connect(ctx)
+	}
+	ctx, cancel := context.WithCancel(ctx)
+	defer cancel()
+	go func() {
+		for ctx.Err() == nil && link.Refusal() == nil {
+			time.Sleep(10 * time.Millisecond)
+		}
+		cancel()
+	}()
+	err := connect(ctx)
+	if refusal := link.Refusal(); err != nil && refusal != nil {
+		return fmt.Errorf("%w; run, who and list need a user that takes locks (qlockctl users --user NAME), and operators have qlockctl report",
+			refusal)
+	}
+	return err
+}

@@ -26,6 +26,7 @@ var (
 	errSilent  = errors.New("some voters did not reply")
 	errRefused = errors.New("some voters did not do it")
 	errFree    = errors.New("nobody has the votes of a quorum")
+	errNobody  = errors.New("nobody has this client number; qlockctl report shows the numbers")
 )
 
 func initCommand(s *settings) *cobra.Command {
@@ -38,6 +39,7 @@ func initCommand(s *settings) *cobra.Command {
 	flags.StringVar(&coterie, "coterie", "", "the file of the coterie")
 	flags.StringSliceVar(&c.Servers, "servers", []string{"nats://127.0.0.1:4222"}, "the servers of NATS")
 	flags.StringVar(&c.CA, "ca", "", "the file of the authority that signs the servers' certificates")
+	flags.IntVar(&c.Shards, "shards", 1, "how many shards locks have, a power of two: each has 64 numbers for client processes")
 	flags.DurationVar(&c.TTL.Duration, "ttl", 10*time.Second, "for how long a silent client keeps what others want")
 	for _, name := range []string{"id", "coterie"} {
 		if err := command.MarkFlagRequired(name); err != nil {
@@ -142,8 +144,9 @@ func verdict(replies []operator.Reply, isEnough func(voters uint64) bool) error 
 	return err
 }
 
-// simple makes a command that asks all voters the same, and prints a line for each.
-func simple(ctx context.Context, s *settings, command *cobra.Command, words func(args []string) (string, error), line func(r operator.Reply) (string, error)) *cobra.Command {
+// simple makes a command that asks all voters the same, prints a line for each, and ends as a function judges.
+func simple(ctx context.Context, s *settings, command *cobra.Command, words func(args []string) (string, error), line func(r operator.Reply) (string, error),
+	judge func(replies []operator.Reply, isEnough func(voters uint64) bool) error) *cobra.Command {
 	command.RunE = func(_ *cobra.Command, args []string) error {
 		text, err := words(args)
 		if err != nil {
@@ -162,7 +165,7 @@ func simple(ctx context.Context, s *settings, command *cobra.Command, words func
 			if err != nil {
 				return err
 			}
-			return verdict(replies, cluster.HasQuorums)
+			return judge(replies, cluster.HasQuorums)
 		})
 	}
 	return command
@@ -186,7 +189,7 @@ func printLines(replies []operator.Reply, line func(r operator.Reply) (string, e
 
 func statusCommand(ctx context.Context, s *settings) *cobra.Command {
 	command := &cobra.Command{Use: "status", Args: cobra.NoArgs, Short: "Show each voter"}
-	return simple(ctx, s, command, func([]string) (string, error) { return "status", nil }, shown)
+	return simple(ctx, s, command, func([]string) (string, error) { return "status", nil }, shown, verdict)
 }
 
 // shown returns the line of a reply to `status`. It says whether the voter gives no votes yet.
@@ -216,18 +219,55 @@ func evictCommand(ctx context.Context, s *settings) *cobra.Command {
 		Long: "Ends a client's session, and lets all go that it has. The client may still believe that it has its locks: only guards " +
 			"refuse what it writes then. `qlockctl report` shows the numbers of clients."}
 	return simple(ctx, s, command, func(args []string) (string, error) {
-		if number, err := strconv.Atoi(args[0]); err != nil || number < 0 || number >= qlock.MaxClients {
-			return "", fmt.Errorf("%q is no client number, 0 to %d", args[0], qlock.MaxClients-1)
+		if !isClient(args[0]) {
+			return "", fmt.Errorf("%q is no client number, 0 to %d, or with its shard in front, as 7/5", args[0], qlock.MaxClients-1)
 		}
 		return "evict " + args[0], nil
-	}, letGo)
+	}, letGo, evicted)
+}
+
+// evicted returns errNobody if the voters of a quorum say that no session had the number, and no voter had one. Else it returns the
+// verdict on the replies.
+func evicted(replies []operator.Reply, isEnough func(voters uint64) bool) error {
+	without := uint64(0)
+	for _, r := range replies {
+		var gone voter.LetGo
+		if r.Err != nil {
+			continue
+		}
+		if json.Unmarshal(r.Body, &gone) != nil || !gone.Nobody || gone.LetGo > 0 {
+			return verdict(replies, isEnough)
+		}
+		without |= 1 << r.Voter
+	}
+	if isEnough(without) {
+		return errNobody
+	}
+	return verdict(replies, isEnough)
+}
+
+// isClient returns whether a word may be the number of a client, or the number of a shard, a slash, and the number of a client there.
+func isClient(word string) bool {
+	isBelow := func(word string, end int) bool {
+		number, err := strconv.Atoi(word)
+		return err == nil && number >= 0 && number < end
+	}
+	shard, number, isOfShard := strings.Cut(word, "/")
+	if !isOfShard {
+		return isBelow(word, qlock.MaxClients)
+	}
+	return isBelow(shard, config.MostShards) && isBelow(number, qlock.MaxClients)
 }
 
 // letGo returns the line of a reply to `evict` and `unlock`.
 func letGo(r operator.Reply) (string, error) {
 	var gone voter.LetGo
 	err := json.Unmarshal(r.Body, &gone)
-	return fmt.Sprintf("let_go=%d", gone.LetGo), err
+	text := fmt.Sprintf("let_go=%d", gone.LetGo)
+	if gone.Nobody {
+		text += " nobody=true"
+	}
+	return text, err
 }
 
 func unlockCommand(ctx context.Context, s *settings) *cobra.Command {
@@ -390,11 +430,15 @@ func (r report) print() {
 	for _, v := range r.Votes {
 		var waiting []string
 		for _, w := range v.Waiting {
-			waiting = append(waiting, fmt.Sprintf("%d (%.1f s)", w.Client, w.Waits))
+			waiting = append(waiting, fmt.Sprintf("%s (%.1f s)", w.Session, w.Waits))
 		}
 		if v.Note != "" {
 			waiting = append(waiting, fmt.Sprintf("note=%q", v.Note))
 		}
-		fmt.Printf("%-20s %-12s %6d  %7.1f  %s\n", v.Lock, v.Voter, v.Client, v.Held, strings.Join(waiting, ", "))
+		client := v.Session
+		if client == "" {
+			client = "-"
+		}
+		fmt.Printf("%-20s %-12s %6s  %7.1f  %s\n", v.Lock, v.Voter, client, v.Held, strings.Join(waiting, ", "))
 	}
 }

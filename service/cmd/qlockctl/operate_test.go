@@ -4,6 +4,7 @@ import (
 	"context"
 	"errors"
 	"fmt"
+	"math/bits"
 	"strings"
 	"testing"
 	"time"
@@ -51,6 +52,44 @@ func TestVerdict(t *testing.T) {
 	if err := verdict([]operator.Reply{good(0), silent, silent}, c.HasQuorums); errors.As(err, &got) && got.code == exitPartly &&
 		err == error(got) || err == nil {
 		t.Error(err)
+	}
+}
+
+// That nobody has a number is said if the voters of a quorum say so, and none says that somebody has it.
+func TestEvicted(t *testing.T) {
+	nobody, somebody, some := `{"let_go":0,"nobody":true}`, `{"let_go":0}`, `{"let_go":1,"nobody":true}`
+	for _, one := range []struct {
+		bodies string
+		want   error
+		code   int
+	}{
+		{nobody + " " + nobody + " " + nobody, errNobody, 1},
+		{nobody + " " + nobody + " -", errNobody, 1},
+		{nobody + " - -", errSilent, 1},
+		{"- - -", errSilent, 1},
+		{nobody + " " + nobody + " " + somebody, nil, 0},
+		{nobody + " " + some + " " + nobody, nil, 0},
+		{somebody + " " + nobody + " -", errSilent, exitPartly},
+	} {
+		var replies []operator.Reply
+		for voter, body := range strings.Fields(one.bodies) {
+			r := operator.Reply{Voter: voter, Name: string(rune('a' + voter)), Body: []byte(body)}
+			if body == "-" {
+				r.Body, r.Err = nil, operator.ErrSilent
+			}
+			replies = append(replies, r)
+		}
+		err := evicted(replies, func(voters uint64) bool { return bits.OnesCount64(voters) > 1 })
+		end := status{code: 1}
+		if errors.As(err, &end); err == nil {
+			end.code = 0
+		}
+		if !errors.Is(err, one.want) || end.code != one.code {
+			t.Errorf("%s: %v, %d", one.bodies, err, end.code)
+		}
+	}
+	if line, err := letGo(operator.Reply{Body: []byte(nobody)}); line != "let_go=0 nobody=true" || err != nil {
+		t.Error(line, err)
 	}
 }
 

@@ -16,15 +16,16 @@ import (
 	"calvundek.example/service/agent"
 	"calvundek.example/service/internal/config"
 	"calvundek.example/service/locks"
+	"calvundek.example/service/transport"
 	"github.com/spf13/cobra"
 	"github.com/spf13/pflag"
 )
 
 // Exit statuses of `run` besides that of the program.
 const (
-	exitNoLock   = 75  // the lock was not to be had in time
+	exitNoLock   = 75  // the lock was not to be had in time, or no agent is there
 	exitLost     = 76  // the lock may have been lost while the program ran
-	exitSettings = 78  // a file of the settings can't be used, or the lock has a bad name
+	exitSettings = 78  // a file of the settings can't be used, the server refuses the user, or the lock has a bad name
 	exitNoStart  = 126 // the program can't be started
 	exitNone     = 127 // there is no such program
 )
@@ -44,8 +45,8 @@ func runCommand(ctx context.Context, s *settings) *cobra.Command {
 		Long: "Takes a lock, runs a program, and gives the lock back. The program finds its pass in QLOCK_PASS, in hexadecimal: " +
 			"what it shows to the guard. With --turn it finds the lock's turn in QLOCK_TURN: a number that grows from holder to holder. If the lock may be lost, the program and all processes of its group get SIGTERM, and " +
 			"then SIGKILL. If this command itself is killed, the program is killed, too, but not what it started. It can't read " +
-			"from a terminal.\n\nThe exit status is that of the program, 75 if the lock was not to be had in time, 76 if the " +
-			"lock may have been lost, 78 if the settings or the lock's name can't be used, 126 if the program can't be " +
+			"from a terminal.\n\nThe exit status is that of the program, 75 if the lock was not to be had in time or no agent is there, 76 if the " +
+			"lock may have been lost, 78 if the settings or the lock's name can't be used or the server refuses the user, 126 if the program can't be " +
 			"started, or 127 if there is none.\n\nWithout the name of a cluster's file or of a user, it takes the lock by the agent of " +
 			"the host, qlockd, if that is there.",
 		RunE: func(command *cobra.Command, args []string) error {
@@ -70,7 +71,11 @@ func runCommand(ctx context.Context, s *settings) *cobra.Command {
 			if grace, err = graceWithin(cluster.TTL.Duration, grace); err != nil {
 				return status{exitSettings, err}
 			}
-			settings := s.client()
+			settings, link, err := s.connected(cluster)
+			if err != nil {
+				return status{exitSettings, err}
+			}
+			defer link.Close()
 			if settings.Note, settings.NoNote = note, noNote; note == "" {
 				settings.Note = filepath.Base(args[1])
 			}
@@ -150,7 +155,11 @@ type taking struct {
 func run(ctx context.Context, settings locks.Config, of taking, grace time.Duration, words []string) (err error) {
 	limit, cancel := context.WithTimeout(ctx, of.wait)
 	defer cancel()
-	client, err := locks.Open(limit, settings)
+	var client *locks.Client
+	err = unlessRefused(limit, settings.Transport, func(ctx context.Context) (err error) {
+		client, err = locks.Open(ctx, settings)
+		return err
+	})
 	if err != nil {
 		return withoutLock(limit, err)
 	}
@@ -166,7 +175,9 @@ func run(ctx context.Context, settings locks.Config, of taking, grace time.Durat
 		take = client.TryLock
 	}
 	held, err := take(limit, of.lock)
-	if errors.Is(err, context.DeadlineExceeded) {
+	if errors.Is(err, locks.ErrNumbers) {
+		return status{exitNoLock, fmt.Errorf("%s: %w", of.lock, err)}
+	} else if errors.Is(err, context.DeadlineExceeded) {
 		return status{exitNoLock, notToBeHad(client, of)}
 	} else if errors.Is(err, locks.ErrFull) || errors.Is(err, locks.ErrHeld) {
 		return status{exitNoLock, err}
@@ -192,6 +203,9 @@ func runByAgent(ctx context.Context, client *agent.Client, of taking, grace time
 		take = client.TryLock
 	}
 	held, err := take(limit, of.lock)
+	if isDown(err) {
+		return status{exitNoLock, fmt.Errorf("%s: %w; start qlockd, or try again later", of.lock, err)}
+	}
 	for _, hopeless := range []error{agent.ErrName, agent.ErrAbsent, agent.ErrRefused} {
 		if errors.Is(err, hopeless) {
 			return status{exitSettings, fmt.Errorf("%s: %w", of.lock, err)}
@@ -205,6 +219,12 @@ func runByAgent(ctx context.Context, client *agent.Client, of taking, grace time
 		return status{exitSettings, err}
 	}
 	return runWith(ctx, held, of, held.Turn(), grace, words)
+}
+
+// isDown returns whether no agent listens at the socket, so that another try may help later.
+func isDown(err error) bool {
+	return errors.Is(err, agent.ErrAbsent) && (errors.Is(err, os.ErrNotExist) || errors.Is(err, syscall.ECONNREFUSED) ||
+		errors.Is(err, syscall.EAGAIN))
 }
 
 // owned is a lock that is held, by a session of this process or by that of the host's agent.
@@ -250,7 +270,7 @@ func notToBeHad(client *locks.Client, of taking) error {
 // withoutLock returns the status of a command that has no lock: 75 if its time or its session is over, and 78 if another
 // try would not help.
 func withoutLock(limit context.Context, err error) error {
-	if limit.Err() == nil && !errors.Is(err, locks.ErrLost) {
+	if limit.Err() == nil && !errors.Is(err, locks.ErrLost) || errors.Is(err, transport.ErrRefused) {
 		return status{exitSettings, err}
 	}
 	return status{exitNoLock, err}

@@ -1,6 +1,7 @@
 package main
 
 import (
+	"context"
 	"errors"
 	"fmt"
 	"os"
@@ -62,6 +63,46 @@ func TestUsers(t *testing.T) {
 	}
 	if _, err := nats.Connect(address); err == nil {
 		t.Error("nobody is connected, too")
+	}
+}
+
+// A user that the server refuses, or that may take no locks, is told so at once, in a line that says what to do.
+func TestRefusedUser(t *testing.T) {
+	folder, other := t.TempDir(), t.TempDir()
+	cluster := worlds.NewCluster(t, worlds.Majority, time.Second)
+	text, err := block(cluster, list, folder)
+	if err != nil {
+		t.Fatal(err)
+	}
+	if _, err := block(cluster, list, other); err != nil { // other seeds of the same users
+		t.Fatal(err)
+	}
+	cluster.Servers = []string{serve(t, text)}
+	file := fileOf(t, &worlds.World{Cluster: cluster})
+	for _, one := range []struct {
+		user, seed, words, says string
+		code                    int
+	}{
+		{"jobs", other + "/jobs.nk", "run --wait 60s x true", "authorization violation", exitSettings},
+		{"wrong", folder + "/jobs.nk", "run --wait 60s x true", `"qlock.test.c.wrong.`, exitSettings},
+		{"alice", folder + "/alice.nk", "run --wait 60s x true", "qlockctl users --user NAME", exitSettings},
+		{"alice", folder + "/alice.nk", "who --timeout 60s x", "qlockctl report", 1},
+		{"bob", folder + "/bob.nk", "list --timeout 60s", "qlockctl report", 1},
+	} {
+		began := time.Now()
+		command := command(context.Background())
+		name, more, _ := strings.Cut(one.words, " ")
+		command.SetArgs(append([]string{name, "-c", file, "--user", one.user, "--seed", one.seed}, strings.Fields(more)...))
+		err := command.Execute()
+		end := status{code: 1}
+		_ = errors.As(err, &end)
+		if err == nil || end.code != one.code || !strings.Contains(err.Error(), "the server of NATS refuses the user") ||
+			!strings.Contains(strings.ToLower(err.Error()), strings.ToLower(one.says)) || strings.Contains(err.Error(), "\n") {
+			t.Errorf("%s %s: %v, %d", one.user, one.words, err, end.code)
+		}
+		if took := time.Since(began); took > 30*time.Second {
+			t.Errorf("%s %s: after %v", one.user, one.words, took)
+		}
 	}
 }
 

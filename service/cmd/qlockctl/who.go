@@ -8,6 +8,7 @@ import (
 	"os"
 	"time"
 
+	"calvundek.example/service/internal/config"
 	"calvundek.example/service/internal/wire"
 	"calvundek.example/service/locks"
 	"github.com/spf13/cobra"
@@ -68,14 +69,23 @@ func listLocks(ctx context.Context, client *locks.Client, prefix string, inJSON 
 
 // look lets a function use a client that has no number.
 func (s *settings) look(ctx context.Context, use func(ctx context.Context, client *locks.Client) error) error {
-	client, err := locks.Look(s.client())
+	cluster, err := config.ReadCluster(s.cluster)
+	if err != nil {
+		return err
+	}
+	settings, link, err := s.connected(cluster)
+	if err != nil {
+		return err
+	}
+	defer link.Close()
+	client, err := locks.Look(settings)
 	if err != nil {
 		return err
 	}
 	ctx, cancel := context.WithTimeout(ctx, s.timeout)
 	defer cancel()
 	defer func() { _ = client.Close(ctx) }()
-	return use(ctx, client)
+	return unlessRefused(ctx, link, func(ctx context.Context) error { return use(ctx, client) })
 }
 
 // holderView is a holder, as --json prints it.
@@ -84,6 +94,7 @@ type holderView struct {
 	Held    bool       `json:"held"` // somebody has it, or with asked may have it
 	Asked   bool       `json:"asked,omitempty"`
 	Client  *int       `json:"client,omitempty"`
+	Session string     `json:"session,omitempty"` // the client as evict takes it
 	User    string     `json:"user,omitempty"`
 	Host    string     `json:"host,omitempty"`
 	Pid     int        `json:"pid,omitempty"`
@@ -98,7 +109,7 @@ func viewOf(lock string, h locks.Holder) holderView {
 		Waiting: h.Waiting}
 	if v.Held {
 		since := h.Since.UTC().Truncate(time.Millisecond)
-		v.Client, v.Since = &h.Number, &since
+		v.Client, v.Session, v.Since = &h.Number, h.Session, &since
 	}
 	return v
 }

@@ -4,7 +4,6 @@ import (
 	"context"
 	"errors"
 	"fmt"
-	"net"
 	"net/http"
 	"os"
 	"path/filepath"
@@ -14,6 +13,7 @@ import (
 
 	"calvundek.example/service/agent"
 	"calvundek.example/service/internal/config"
+	"calvundek.example/service/internal/local"
 	"calvundek.example/service/internal/worlds"
 )
 
@@ -75,12 +75,11 @@ func TestStart(t *testing.T) {
 	path, socket := files(t, "")
 	other := socket + "2"
 	t.Setenv("QLOCK_SOCKET", other)
-	free, err := net.Listen("tcp", "127.0.0.1:0")
+	ports, err := local.FreePorts(1)
 	if err != nil {
 		t.Fatal(err)
 	}
-	address := free.Addr().String()
-	_ = free.Close()
+	address := fmt.Sprint("127.0.0.1:", ports[0])
 	t.Setenv("QLOCK_LISTEN", address)
 	ctx, cancel := context.WithCancel(context.Background())
 	ended := make(chan error, 1)

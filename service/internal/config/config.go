@@ -12,6 +12,7 @@ import (
 	"io"
 	"os"
 	"strconv"
+	"strings"
 	"time"
 
 	"calvundek.example/service/internal/event"
@@ -55,6 +56,7 @@ type Cluster struct {
 	CA      string   `toml:"ca,omitempty"` // the file of the authority that signs the servers' certificates
 	Coterie string   `toml:"coterie"`
 	Plan    string   `toml:"plan"`
+	Shards  int      `toml:"shards,omitzero"` // each has 64 numbers for sessions; 1 if 0
 
 	Generation uint64 `toml:"generation,omitzero"` // how often the plan was exchanged
 	OldCoterie string `toml:"old_coterie,omitempty"`
@@ -125,6 +127,8 @@ func (c *Cluster) Check() (err error) {
 		return fmt.Errorf("%w: there are no servers", ErrConfig)
 	case c.TTL.Duration < shortestTTL:
 		return fmt.Errorf("%w: ttl is %v, and has to be %v or longer", ErrConfig, c.TTL, shortestTTL)
+	case c.checkShards() != "":
+		return fmt.Errorf("%w: %s", ErrConfig, c.checkShards())
 	}
 	if c.Planned, err = qlock.ReadPlan(c.Coterie, c.Plan); err != nil {
 		return fmt.Errorf("%w: %v", ErrConfig, err)
@@ -149,10 +153,14 @@ func CheckExchange(old, now *qlock.Plan) error {
 			return fmt.Errorf("%w: %d is %q and %q", ErrPlaces, i, old.Names[i], now.Names[i])
 		}
 	}
-	if !old.IsBridged(now) {
-		return ErrBridge
+	if old.IsBridged(now) {
+		return nil
 	}
-	return nil
+	if first, second, found := old.Apart(now); found {
+		return fmt.Errorf("%w: %s of the old one, and %s of the new one", ErrBridge, strings.Join(old.NamesOf(first), " "),
+			strings.Join(now.NamesOf(second), " "))
+	}
+	return ErrBridge
 }
 
 // Names returns the names of all voters by their numbers, also of those that only one of two plans has.
@@ -191,11 +199,14 @@ func (c *Cluster) Marks() []string {
 	return []string{c.Mark(Mark(c.Generation, c.Coterie)), c.Mark(Mark(c.Generation-1, c.OldCoterie))}
 }
 
-// Mark returns what messages say of the plan with this mark, "" for none: it has the TTL, too. Who
+// Mark returns what messages say of the plan with this mark, "" for none: it has the TTL and the number of shards, too. Who
 // has another one drops the message.
 func (c *Cluster) Mark(plan string) string {
-	if plan == "" {
+	switch {
+	case plan == "":
 		return ""
+	case c.HasShards():
+		return Hash(fmt.Sprintf("%v %d %s", c.TTL, c.Shards, plan))
 	}
 	return Hash(c.TTL.String() + " " + plan)
 }

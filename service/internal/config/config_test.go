@@ -95,3 +95,23 @@ func TestHashAndNonce(t *testing.T) {
 		t.Error(a, b, err)
 	}
 }
+
+// Two quorums that do not meet are named.
+func TestNoBridge(t *testing.T) {
+	find := func(coterie string) *qlock.Plan {
+		t.Helper()
+		plan, err := qlock.FindPlan(coterie)
+		if err != nil {
+			t.Fatal(err)
+		}
+		return plan
+	}
+	old, now := find(coterie), find("voters = [\"a\", \"b\", \"c\", \"d\"]\nquorums = [[\"c\", \"d\"]]\n")
+	err := CheckExchange(old, now)
+	if !errors.Is(err, ErrBridge) || !strings.HasSuffix(err.Error(), ": a b of the old one, and c d of the new one") {
+		t.Error(err)
+	}
+	if err := CheckExchange(old, old); err != nil {
+		t.Error(err)
+	}
+}

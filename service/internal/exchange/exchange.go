@@ -4,7 +4,6 @@ package exchange
 import (
 	"context"
 	"encoding/base64"
-	"encoding/json"
 	"errors"
 	"fmt"
 	"strings"
@@ -104,20 +103,36 @@ func Install(ctx context.Context, c *config.Cluster, console *operator.Console, 
 // it lags behind nobody.
 func inform(ctx context.Context, c *config.Cluster, console *operator.Console, patience time.Duration,
 	voters []int) error {
-	replies, err := ask(ctx, console, patience, "knows", voters...)
+	texts, _, err := known(ctx, console, patience, voters)
 	if err != nil {
 		return err
 	}
-	known, _, err := voter.Merge(replies)
-	if err != nil {
-		return err
+	return informOf(ctx, c, console, patience, texts, voters)
+}
+
+// informOf lets voters know these texts.
+func informOf(ctx context.Context, c *config.Cluster, console *operator.Console, patience time.Duration, texts []string, voters []int) error {
+	for _, text := range texts {
+		if _, err := ask(ctx, console, patience, fmt.Sprintf("inform %d %s %s", c.Generation, mark(c), text), voters...); err != nil {
+			return err
+		}
 	}
-	text, err := json.Marshal(known)
-	if err != nil {
-		return err
+	return nil
+}
+
+// known asks voters for all that they know, and returns it together, as texts, and what each replied.
+func known(ctx context.Context, console *operator.Console, patience time.Duration, voters []int) (texts []string, replies []operator.Reply, err error) {
+	short, cancel := context.WithTimeout(ctx, patience)
+	defer cancel()
+	if replies, err = voter.AskKnown(short, console, voters...); err != nil {
+		return nil, nil, err
 	}
-	_, err = ask(ctx, console, patience, fmt.Sprintf("inform %d %s %s", c.Generation, mark(c), text), voters...)
-	return err
+	all, _, err := voter.Merge(replies)
+	if err != nil {
+		return nil, nil, err
+	}
+	texts, err = all.Texts()
+	return texts, replies, err
 }
 
 // ask asks voters, and waits for so long.
@@ -179,26 +194,42 @@ func Settle(ctx context.Context, c *config.Cluster, console *operator.Console,
 // settle reads what voters know, and lets them know all of it.
 func settle(ctx context.Context, c *config.Cluster, console *operator.Console, patience time.Duration,
 	voters []int) ([]operator.Reply, error) {
-	replies, err := ask(ctx, console, patience, "knows", voters...)
+	texts, replies, err := known(ctx, console, patience, voters)
 	if err != nil {
 		return nil, err
 	}
-	known, heard, err := voter.Merge(replies)
-	if err != nil {
-		return nil, err
-	}
-	if !c.HasQuorums(heard) {
+	if !c.HasQuorums(done(replies)) {
 		return replies, fewer(replies)
 	}
-	text, err := json.Marshal(known)
-	if err != nil {
+	last := len(texts) - 1
+	if err := informOf(ctx, c, console, patience, texts[:last], voters); err != nil {
 		return nil, err
 	}
+	text := texts[last]
 	replies, err = ask(ctx, console, patience, fmt.Sprintf("settle %d %s %s", c.Generation, mark(c), text), voters...)
+	for begun := time.Now(); err == nil && len(below(replies)) > 0 && time.Since(begun) < patience; {
+		time.Sleep(nextCeiling)
+		var later []operator.Reply
+		later, err = ask(ctx, console, patience, fmt.Sprintf("settle %d %s %s", c.Generation, mark(c), text), below(replies)...)
+		replies = merged(replies, later)
+	}
 	if err == nil && !c.Planned.HasQuorum(done(replies)) {
 		err = fewer(replies)
 	}
 	return replies, err
+}
+
+// nextCeiling is how long a voter has, at first, to get the next ceiling from others.
+const nextCeiling = 50 * time.Millisecond
+
+// below returns the voters that ask others for a higher ceiling first.
+func below(replies []operator.Reply) (voters []int) {
+	for _, r := range replies {
+		if errors.Is(r.Err, operator.ErrRefused) && strings.HasSuffix(r.Err.Error(), voter.ErrBelow.Error()) {
+			voters = append(voters, r.Voter)
+		}
+	}
+	return voters
 }
 
 // merged returns replies, with later ones in the place of those of the same voters.

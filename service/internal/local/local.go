@@ -8,7 +8,6 @@ import (
 	"encoding/json"
 	"errors"
 	"fmt"
-	"net"
 	"os"
 	"os/exec"
 	"path/filepath"
@@ -125,6 +124,7 @@ type Options struct {
 	TTL                  time.Duration
 	Islands              bool // voters and clients have network namespaces of their own, which needs root
 	SmallDisk            bool // the first voter has a disk that is soon full, which needs root
+	Shards               int  // of the cluster, 0 for 1
 	Loss                 int  // how many of 100 packets are lost on each island, in each direction
 }
 
@@ -154,7 +154,10 @@ func (c *Cluster) start(o Options) error {
 	if err != nil {
 		return err
 	}
-	err = c.command("qlockctl", "init", "-c", c.File, "--id", "local", "--coterie", o.Coterie, "--servers", strings.Join(urls, ","), "--ttl", o.TTL.String())
+	if o.Shards == 0 {
+		o.Shards = 1
+	}
+	err = c.command("qlockctl", "init", "--shards", fmt.Sprint(o.Shards), "-c", c.File, "--id", "local", "--coterie", o.Coterie, "--servers", strings.Join(urls, ","), "--ttl", o.TTL.String())
 	if err != nil {
 		return err
 	}
@@ -389,17 +392,4 @@ func (c *Cluster) End() {
 	for i := len(c.cleanUp) - 1; i >= 0; i-- {
 		c.cleanUp[i]()
 	}
-}
-
-// FreePorts returns ports that nobody uses.
-func FreePorts(n int) (ports []int, err error) {
-	for i := 0; i < n; i++ {
-		l, err := net.Listen("tcp", "127.0.0.1:0")
-		if err != nil {
-			return nil, err
-		}
-		defer l.Close()
-		ports = append(ports, l.Addr().(*net.TCPAddr).Port)
-	}
-	return ports, nil
 }

@@ -1,6 +1,7 @@
 package local
 
 import (
+	"net"
 	"os"
 	"path/filepath"
 	"testing"
@@ -34,4 +35,30 @@ func TestFailedStart(t *testing.T) {
 	}
 	p.Signal(os.Interrupt)
 	p.Kill()
+}
+
+// Ports are below those of connections, another process can't have their block, and none comes twice.
+func TestFreePorts(t *testing.T) {
+	seen := map[int]bool{}
+	for len(seen) < 2*blockSize {
+		ports, err := FreePorts(7)
+		if err != nil {
+			t.Fatal(err)
+		}
+		for _, port := range ports {
+			if seen[port] || port < firstPort || port >= portsEnd() {
+				t.Fatal("a port that is not to be had:", port)
+			}
+			seen[port] = true
+		}
+	}
+	if len(own.held) < 3 {
+		t.Errorf("%d blocks for %d ports", len(own.held), len(seen))
+	}
+	for _, block := range own.held {
+		if l, err := net.Listen("tcp", block.Addr().String()); err == nil {
+			l.Close()
+			t.Error("another process can take the block at", block.Addr())
+		}
+	}
 }

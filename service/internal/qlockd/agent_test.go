@@ -26,6 +26,7 @@ import (
 	"calvundek.example/service/internal/bus"
 	"calvundek.example/service/internal/config"
 	"calvundek.example/service/internal/event"
+	"calvundek.example/service/internal/local"
 	"calvundek.example/service/internal/worlds"
 	"calvundek.example/service/locks"
 )
@@ -436,12 +437,11 @@ func TestTooManyConnections(t *testing.T) {
 // Who reaches the address of /metrics can't use up the agent's files.
 func TestTooManyWhoLook(t *testing.T) {
 	h := start(t, ttl)
-	free, err := net.Listen("tcp", "127.0.0.1:0")
+	ports, err := local.FreePorts(1)
 	if err != nil {
 		t.Fatal(err)
 	}
-	address := free.Addr().String()
-	_ = free.Close()
+	address := fmt.Sprint("127.0.0.1:", ports[0])
 	ctx, cancel := context.WithCancel(context.Background())
 	defer cancel()
 	if err := h.agent.Show(ctx, address); err != nil {

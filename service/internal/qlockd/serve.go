@@ -160,8 +160,10 @@ func (a *Agent) status() Status {
 		status.Why = fmt.Sprint(why)
 		return status
 	}
-	number := s.Number()
-	status.Cluster, status.TTL, status.Session = s.cluster.ID, s.ttl().Milliseconds(), &number
+	if number := s.Number(); number >= 0 {
+		status.Session = &number
+	}
+	status.Cluster, status.TTL = s.cluster.ID, s.ttl().Milliseconds()
 	status.Since, status.Silent = time.Since(s.since).Milliseconds(), append(status.Silent, s.Silent()...)
 	return status
 }

@@ -25,24 +25,24 @@ type sessionNote struct {
 }
 
 // noteOf returns what the session says of itself that a number has now.
-func (d *Daemon) noteOf(number int) string {
-	n := d.notes[number]
-	if n.session == "" || n.session != d.table.names[number] || n.epoch != d.table.rows[number].Epoch {
+func (s *shard) noteOf(number int) string {
+	n := s.notes[number]
+	if n.session == "" || n.session != s.names[number] || n.epoch != s.rows[number].Epoch {
 		return ""
 	}
 	return n.text
 }
 
 // noteOfAsk returns what a client says of its request for a vote, or else of its session. It is of no earlier session of the number.
-func (d *Daemon) noteOfAsk(v *vote, client int) string {
+func (v *vote) noteOfAsk(client int) string {
 	one, isAsked := v.asks[client]
 	switch {
-	case !isAsked || d.table.isEarlier(client, one.stamp):
+	case !isAsked || v.shard.isEarlier(client, one.stamp):
 		return ""
 	case one.note != "":
 		return one.note
 	}
-	return d.noteOf(client)
+	return v.shard.noteOf(client)
 }
 
 // ask takes a line of control that the proved calls do not know. It returns whether its first word is known, and the line is right.
@@ -63,10 +63,10 @@ func (d *Daemon) ask(l *letter, speaker qlock.Standing, line []byte, now time.Ti
 	case speaker != qlock.SessionKnown:
 		return true, true // it says it again once it has its number here
 	case ask.Kind == wire.SaysNote:
-		d.notes[l.Number] = sessionNote{l.Name, l.Epoch, ask.Text}
+		l.shard.notes[l.Number] = sessionNote{l.Name, l.Epoch, ask.Text}
 		d.put(l.Name, wire.Told{Kind: wire.Noted}.Append(d.out[l.Name]))
 	case ask.Kind == wire.SaysAbout:
-		d.noteAbout(l.Number, ask)
+		d.noteAbout(l, ask)
 	case ask.Kind == wire.WantsTurn:
 		d.skipFor(l, ask, now)
 	}
@@ -77,14 +77,14 @@ func (d *Daemon) ask(l *letter, speaker qlock.Standing, line []byte, now time.Ti
 }
 
 // noteAbout notes what a client says of a request that has a vote or waits for it.
-func (d *Daemon) noteAbout(client int, ask wire.Ask) {
+func (d *Daemon) noteAbout(l *letter, ask wire.Ask) {
 	v := d.votes[ask.Lock]
-	if v == nil {
+	if v == nil || v.shard != l.shard {
 		return
 	}
-	if one, isAsked := v.asks[client]; isAsked && one.stamp == ask.Number && !d.table.isEarlier(client, one.stamp) {
+	if one, isAsked := v.asks[l.Number]; isAsked && one.stamp == ask.Number && !v.shard.isEarlier(l.Number, one.stamp) {
 		one.note = ask.Text
-		v.asks[client] = one
+		v.asks[l.Number] = one
 	}
 }
 
@@ -99,7 +99,7 @@ func (d *Daemon) holderOf(id uint64, lock string, v *vote, now time.Time) wire.T
 			told.Waiting |= 1 << client
 		}
 	}
-	if v.held.Number == 0 {
+	if v.held.Number == 0 || !d.isQuiet() && v.isOver() { // who is gone gives way to whoever asks
 		return told
 	}
 	client := int(v.held.Client)
@@ -110,7 +110,7 @@ func (d *Daemon) holderOf(id uint64, lock string, v *vote, now time.Time) wire.T
 	if told.User = v.asks[client].user; told.User == "" {
 		told.User = wire.NoUser
 	}
-	told.Note = d.noteOfAsk(v, client)
+	told.Note = v.noteOfAsk(client)
 	return told
 }
 
@@ -121,22 +121,26 @@ func (d *Daemon) tellHolder(v *vote, l *letter, client int, word string, now tim
 	}
 }
 
-// tellSessions tells how many sessions there are, for how long one of them was silent at most, and for how long a request has waited.
-func (d *Daemon) tellSessions(name string, now time.Time) {
-	told := wire.Told{Kind: wire.Sessions}
-	for number, row := range d.table.rows {
+// tellSessions tells how many sessions there are, for how long one of them was silent at most, and for how long a request has waited, and
+// how many wait for a number before this session.
+func (d *Daemon) tellSessions(l *letter, ahead int, now time.Time) {
+	told := wire.Told{Kind: wire.Sessions, Ahead: uint64(ahead)}
+	if l.shard.waiting.isShort(now, d.leases.ttl) {
+		told.Highest = l.shard.highest()
+	}
+	for number, row := range l.shard.rows {
 		if !row.Open {
 			continue
 		}
 		told.Open++
-		if silent := d.table.silent(number).Milliseconds(); silent > 0 {
+		if silent := l.shard.silent(number).Milliseconds(); silent > 0 {
 			told.Silent = greatest(told.Silent, uint64(silent))
 		}
 	}
 	if waits := now.Sub(d.waitsSince).Milliseconds(); !d.waitsSince.IsZero() && waits > 0 {
 		told.Waits = uint64(waits)
 	}
-	d.put(name, told.Append(d.out[name]))
+	d.put(l.Name, told.Append(d.out[l.Name]))
 }
 
 // list tells a page of the votes that somebody has or waits for, from a place on downwards. A vote that is taken out is replaced by the

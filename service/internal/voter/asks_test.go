@@ -68,20 +68,20 @@ func TestWhoseNoteItIs(t *testing.T) {
 	says(". note zero\n")
 	d.repliesTo("jobs", 1, ". note one\norders request 1 0 5\n")
 	d.lookerHears(". note evil\n") // the header of who has no number has number 0
-	if d.noteOf(1) != "one" || d.noteOf(0) != "zero" {
-		t.Errorf("%q, %q", d.noteOf(1), d.noteOf(0))
+	if d.shard(0).noteOf(1) != "one" || d.shard(0).noteOf(0) != "zero" {
+		t.Errorf("%q, %q", d.shard(0).noteOf(1), d.shard(0).noteOf(0))
 	}
 	refused := testutil.ToFloat64(d.m.refused)
 	reply := d.repliesTo("jobs", 1, ". note "+strings.Repeat("x", wire.MostNote+1)+"\nstock request 1 0 6\n")
-	if d.noteOf(1) != "one" || reply != "" || testutil.ToFloat64(d.m.refused) != refused+1 {
-		t.Errorf("%q: %q", reply, d.noteOf(1))
+	if d.shard(0).noteOf(1) != "one" || reply != "" || testutil.ToFloat64(d.m.refused) != refused+1 {
+		t.Errorf("%q: %q", reply, d.shard(0).noteOf(1))
 	}
-	d.table.end(1, d.table.names[1], 1)
+	d.shard(0).end(1, d.shard(0).names[1], 1)
 	h := wire.Header{Cluster: "test", Coterie: d.mark, Kind: wire.FromClient, Number: 1, Epoch: 2, Reserved: 2000, Name: "later"}
 	d.sort(transport.Message{Mailbox: wire.VoterBox("test", 0, "jobs"), Data: append(h.Append(nil), ". claim 1 2 100\n. open 0\n"...)})
 	d.takeAll()
-	if d.table.rows[1].Epoch != 2 || d.noteOf(1) != "" {
-		t.Errorf("%+v has the note %q", d.table.rows[1], d.noteOf(1))
+	if d.shard(0).rows[1].Epoch != 2 || d.shard(0).noteOf(1) != "" {
+		t.Errorf("%+v has the note %q", d.shard(0).rows[1], d.shard(0).noteOf(1))
 	}
 	if reply := d.lookerHears(". who 1 orders\n"); strings.Contains(reply, "one") {
 		t.Errorf("%q", reply)
@@ -96,11 +96,11 @@ func TestNoteAfterAStart(t *testing.T) {
 		t.Fatal(err)
 	}
 	again := reopened(t, d)
-	if again.noteOf(1) != "" {
-		t.Errorf("%q", again.noteOf(1))
+	if again.shard(0).noteOf(1) != "" {
+		t.Errorf("%q", again.shard(0).noteOf(1))
 	}
-	if again.repliesTo("jobs", 1, ". open 0\n. note one\n"); again.noteOf(1) != "one" {
-		t.Errorf("%q", again.noteOf(1))
+	if again.repliesTo("jobs", 1, ". open 0\n. note one\n"); again.shard(0).noteOf(1) != "one" {
+		t.Errorf("%q", again.shard(0).noteOf(1))
 	}
 }
 
@@ -138,7 +138,7 @@ func TestWhoTriesHearsWho(t *testing.T) {
 // Pages have all locks that somebody has, though votes come and go between them, and each costs so much at most.
 func TestPages(t *testing.T) {
 	d := sessions(t, 1)
-	d.table.rows[1].Reserved = 0
+	d.shard(0).rows[1].Reserved = 0
 	many := 3*mostScanned + 17
 	for i := 0; i < many; i++ {
 		name := fmt.Sprintf("a-%d", i)
@@ -210,9 +210,29 @@ func TestCrowd(t *testing.T) {
 	one := d.votes["orders"].asks[2]
 	one.since = time.Now().Add(-time.Minute)
 	d.votes["orders"].asks[2] = one
-	d.table.heard[1] -= time.Hour
+	d.shard(0).heard[1] -= time.Hour
 	d.measure(time.Now())
 	if told := hears(); told.Open != 3 || told.Silent < 3500_000 || told.Waits < 60_000 || told.Waits > 70_000 {
 		t.Errorf("%+v", told)
+	}
+}
+
+// Who does not want to wait gets the vote of a session that is silent for a TTL, as who waits does. It is shown as nobody's.
+func TestWhoTriesGetsTheVoteOfTheDead(t *testing.T) {
+	d := sessions(t, 1, 2)
+	d.repliesTo("jobs", 1, "orders request 1 0 5\n")
+	if reply := d.repliesTo("jobs", 2, "orders request 2 0 9 try\n"); !strings.Contains(reply, ". held orders 9 ") {
+		t.Errorf("the holder lives: %q", reply)
+	}
+	d.repliesTo("jobs", 2, "orders release 2 0 9\n")
+	passes(&d.shard(0).table, time.Now().Add(2*d.leases.ttl))
+	if reply := d.lookerHears(". who 7 orders\n"); reply != ". has 7 orders 0\n" {
+		t.Errorf("the dead one is shown: %q", reply)
+	}
+	if reply := d.repliesTo("jobs", 2, "orders request 2 0 10 try\n"); !strings.Contains(reply, "orders locked ") {
+		t.Errorf("the holder is gone: %q", reply)
+	}
+	if lapses := d.shard(0).rows[1].Lapses; lapses != 1 {
+		t.Errorf("%d lapses are told to it", lapses)
 	}
 }

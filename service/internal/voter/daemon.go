@@ -41,11 +41,11 @@ type Daemon struct {
 	votes      map[string]*vote
 	busy       busyVotes
 	users      map[string]*usage // of the users that have some vote or wait for one
-	table      table
-	requests   [qlock.MaxClients]int         // requests of a session that have a vote here, or wait for one
-	asksBy     [qlock.MaxClients]uint64      // the oldest plan of which a session has a request, as it said; 0 before
-	notes      [qlock.MaxClients]sessionNote // what sessions say of themselves
-	waitsSince time.Time                     // since when the request waits that waited longest at the last round, zero if none did
+	leases     leases
+	shards     map[int]*shard // that were used in this run, or have a row
+	inTurn     []*shard       // the same ones
+	nextShard  int            // whose sessions are counted next
+	waitsSince time.Time      // since when the request waits that waited longest at the last round, zero if none did
 
 	plans         Generations
 	inUse         plansInUse
@@ -57,6 +57,7 @@ type Daemon struct {
 	silent   map[*vote]struct{} // changed since the last save, and nothing does
 	savedAll time.Time          // when nothing was left to save
 	out      map[string][]byte  // lines that leave after the save, by session
+	sealed   []sealed           // those that leave before, with the lapses of when they were said
 	outBytes int
 	order    []string          // of what leaves
 	replies  map[string]answer // what operators get after the save, by mailbox
@@ -66,16 +67,16 @@ type Daemon struct {
 	isSpent         bool // it was logged that no grant is left for a lock that is not known
 	join            joining
 	peers           [places]Peer
-	loaded          [places]Peer             // as they were at the start
-	told            [places]toldOf           // what was said to others that started
-	resting         []resting                // the votes that nobody has, the oldest first
-	levels          [qlock.MaxClients]uint64 // the newest level that a session knows, 0 until it was heard
-	gone            map[string]struct{}      // locks that are forgotten, whose rows are still there
+	loaded          [places]Peer        // as they were at the start
+	told            [places]toldOf      // what was said to others that started
+	resting         []resting           // the votes that nobody has, the oldest first
+	gone            map[string]struct{} // locks that are forgotten, whose rows are still there
 	restsFor        time.Duration
 	newPeers        map[int]Peer // they changed since the last save
 	newOwn          bool         // what the state has of its own starts changed
 	letters         []posted     // words to other voters that leave after the save
 	skips           []skip       // turns that are told after the save
+	skipsWaiting    []skipWaiting
 	skippable       qlock.Bucket // how many more numbers may be skipped for turns
 	reach           uint64       // up to which number they may be now
 	voters          <-chan transport.Message
@@ -125,8 +126,8 @@ func OpenIn(around Surroundings, own *config.Voter, cluster *config.Cluster, car
 	d := &Daemon{cluster: cluster, own: own, store: state, carrier: carrier, log: log, m: newMetrics(), around: around,
 		votes: map[string]*vote{}, users: map[string]*usage{},
 		dirty: map[*vote]struct{}{}, silent: map[*vote]struct{}{},
-		table: table{ttl: cluster.TTL.Duration, changed: map[int]Session{}, later: map[int]Session{}},
-		out:   map[string][]byte{}, replies: map[string]answer{}, started: now, away: now,
+		leases: leases{ttl: cluster.TTL.Duration},
+		out:    map[string][]byte{}, replies: map[string]answer{}, started: now, away: now,
 		done: map[string][]byte{}, newPeers: map[int]Peer{}, gone: map[string]struct{}{}, restsFor: shortestRest}
 	if d.restsFor < 2*cluster.TTL.Duration {
 		d.restsFor = 2 * cluster.TTL.Duration
@@ -169,7 +170,7 @@ func (d *Daemon) begin() (err error) {
 
 // load reads the sessions and the votes. All leases begin anew.
 func (d *Daemon) load(now time.Time) error {
-	d.table.begin(now)
+	d.leases.begin(now)
 	d.skippable = *qlock.NewBucket(skipRate, mostSkip, 0)
 	type saved struct {
 		name  string
@@ -179,12 +180,13 @@ func (d *Daemon) load(now time.Time) error {
 	err := d.store.load(func(name string, state []byte) error {
 		votes = append(votes, saved{name, state})
 		return nil
-	}, func(number int, row Session, isOld bool) error {
+	}, func(key int, row Session, isOld bool) error {
+		s, number := d.shardOfKey(key)
 		if _, err := row.proved(); err != nil {
 			return fmt.Errorf("session of number %d: %w", number, err)
 		}
-		if d.table.set(number, row); isOld {
-			d.table.later[number] = row
+		if s.set(number, row); isOld {
+			d.leases.later[key] = row
 		}
 		return nil
 	}, func(place int, p Peer) { d.peers[place], d.loaded[place] = p, p })
@@ -220,9 +222,12 @@ func (d *Daemon) line(l *letter, speaker qlock.Standing, lock, line []byte, now 
 	}
 	isRequest := string(said.Word) == "request"
 	v := d.votes[string(lock)]
+	if v == nil && d.shardOfLock(string(lock)) != l.shard || v != nil && v.shard != l.shard {
+		return false // its session is of another shard
+	}
 	isClosed := d.isQuiet() || v != nil && v.isAwaited // then the call puts it off, unless he is inside
 	if isRequest && (word == inside || !isClosed) && d.isAtBound(v, userOf(l.Name)) {
-		if d.table.takes(said.From, l.Name, l.Epoch, said.Stamp) {
+		if l.shard.takes(said.From, l.Name, l.Epoch, said.Stamp) {
 			d.fullForUser(l, lock, said)
 		} else {
 			d.m.refused.Inc()
@@ -237,11 +242,14 @@ func (d *Daemon) line(l *letter, speaker qlock.Standing, lock, line []byte, now 
 		d.m.refused.Inc()
 		return true
 	}
+	if isRequest && word == try && !isClosed {
+		d.expireFor(v, said.From, now) // who waits for nobody waits for nobody who is gone
+	}
 	before := v.held
-	from := d.table.speaker(l.Number, l.Name, l.Epoch)
+	from := l.shard.speaker(l.Number, l.Name, l.Epoch)
 	from.Inside = word == inside
 	shown, lines, err := d.call(v, func(out []byte) ([]byte, qlock.LockShown, error) {
-		return v.TakeFrom(&d.table.proved, d.sinceOf(v), d.isQuiet(), from, line, out)
+		return v.TakeFrom(&v.shard.proved, d.sinceOf(v), d.isQuiet(), from, line, out)
 	})
 	switch {
 	case err != nil:
@@ -403,8 +411,8 @@ func (d *Daemon) send(v *vote, lines []byte) {
 	}
 	for len(lines) > 0 {
 		end := bytes.IndexByte(lines, '\n') + 1
-		if to := wire.ReadLine(lines[:end]).To; to >= 0 && to < qlock.MaxClients && d.table.names[to] != "" {
-			name := d.table.names[to]
+		if to := wire.ReadLine(lines[:end]).To; to >= 0 && to < qlock.MaxClients && v.shard.names[to] != "" {
+			name := v.shard.names[to]
 			out := append(append(d.out[name], v.name...), ' ')
 			d.out[name] = append(out, lines[:end]...)
 			d.outBytes += len(v.name) + 1 + end
@@ -457,18 +465,19 @@ func (d *Daemon) control(l *letter, speaker qlock.Standing, line []byte, now tim
 	}
 	switch said.Kind {
 	case qlock.Hello:
-		return l.once("hello") && d.hello(l.Name)
+		return l.once("hello") && d.hello(l, now)
 	case qlock.AskPlan:
 		return l.once("plan") && d.tellPlan(l.Name)
 	case qlock.Open:
-		return d.open(l, speaker, said.First)
+		return d.open(l, speaker, said.First, now)
 	case qlock.Close:
-		return d.shut(l, speaker)
+		return d.shut(l, speaker, now)
 	case qlock.ClaimNone, qlock.ClaimStamps:
-		d.claim(l.Name, said, now)
+		d.claim(l, said, now)
 		return true
 	case qlock.Drop:
-		d.table.drop(said.Number, l.Name, said.First)
+		l.shard.drop(said.Number, l.Name, said.First)
+		d.tellFree(l.shard, now)
 		return true
 	case qlock.Greet:
 		if level.Newest >= level.Greets && d.store.own.level() >= level.Greets {
@@ -483,53 +492,63 @@ func (d *Daemon) control(l *letter, speaker qlock.Standing, line []byte, now tim
 	return isRight
 }
 
-// hello says which numbers are free.
-func (d *Daemon) hello(name string) bool {
-	for number, row := range d.table.rows {
-		d.say(name, qlock.VoterSays{Kind: qlock.NumberIs, Number: number, First: row.Epoch, Second: uint64(d.table.state(number))})
+// hello says which numbers are free, and which of these may be had now: who came first goes first.
+func (d *Daemon) hello(l *letter, now time.Time) bool {
+	var states [qlock.MaxClients]int
+	for number := range states {
+		states[number] = l.shard.state(number)
 	}
-	d.tellSessions(name, d.now())
-	d.announce(name)
+	ahead := l.shard.waiting.ask(l.Name, states[:], now, d.leases.ttl)
+	for number, row := range l.shard.rows {
+		d.say(l.Name, qlock.VoterSays{Kind: qlock.NumberIs, Number: number, First: row.Epoch, Second: uint64(states[number])})
+	}
+	d.tellIdle(l.shard, now)
+	d.tellSessions(l, ahead, now)
+	d.announce(l.Name)
 	return true
 }
 
 // open takes a heartbeat, which says the oldest plan of which the session has a request.
-func (d *Daemon) open(l *letter, speaker qlock.Standing, oldest uint64) bool {
+func (d *Daemon) open(l *letter, speaker qlock.Standing, oldest uint64, now time.Time) bool {
 	if l.Epoch == 0 {
 		return false
 	}
 	if speaker == qlock.SessionKnown {
-		row := d.table.rows[l.Number]
-		d.asksBy[l.Number] = oldest
+		row := l.shard.rows[l.Number]
+		l.shard.asksBy[l.Number] = oldest
 		d.say(l.Name, qlock.VoterSays{Kind: qlock.Opened, Number: l.Number, First: l.Epoch, Second: row.Base, Third: row.Reserved,
-			Fourth: l.Seq, Fifth: uint64(d.requests[l.Number])})
+			Fourth: l.Seq, Fifth: uint64(l.shard.requests[l.Number])})
+	}
+	if speaker == qlock.SessionKnown {
+		d.tellWanted(l, now)
 	}
 	d.announce(l.Name)
 	return true
 }
 
 // shut ends a session that says that it is over.
-func (d *Daemon) shut(l *letter, speaker qlock.Standing) bool {
+func (d *Daemon) shut(l *letter, speaker qlock.Standing, now time.Time) bool {
 	if speaker == qlock.SessionKnown {
-		d.table.end(l.Number, l.Name, l.Epoch)
+		l.shard.end(l.Number, l.Name, l.Epoch)
 		d.log.Write(event.Debug, "session-ended", "client", l.Number, "epoch", l.Epoch)
 		d.say(l.Name, qlock.VoterSays{Kind: qlock.Closed, Number: l.Number, First: l.Epoch})
+		d.tellFree(l.shard, now)
 	}
 	return l.Epoch > 0
 }
 
 // claim takes a claim of a number, with its first stamps, or with none.
-func (d *Daemon) claim(name string, said qlock.ClientSays, now time.Time) {
-	number, epoch := said.Number, said.First
-	before := d.table.rows[number]
-	if !d.table.claim(number, name, epoch, said.Second, now) {
+func (d *Daemon) claim(l *letter, said qlock.ClientSays, now time.Time) {
+	name, number, epoch := l.Name, said.Number, said.First
+	before := l.shard.rows[number]
+	if !l.shard.claim(number, name, epoch, said.Second, now) {
 		d.say(name, qlock.VoterSays{Kind: qlock.Denied, Number: number, First: epoch})
 		return
 	}
-	row := d.table.rows[number]
+	row := l.shard.rows[number]
 	if before.Hash != row.Hash || before.Epoch != epoch {
-		d.asksBy[number] = 0
-		d.recount(number)
+		l.shard.asksBy[number] = 0
+		d.recount(l.shard, number)
 		d.log.Write(event.Debug, "session-claimed", "client", number, "epoch", epoch)
 	}
 	d.say(name, qlock.VoterSays{Kind: qlock.Claimed, Number: number, First: epoch, Second: row.Base, Third: row.Reserved})
@@ -557,22 +576,46 @@ func (d *Daemon) roundOf(v *vote, now time.Time) {
 	case !v.isAwaited && !d.isQuiet():
 		v.since = nil
 	}
-	for v.held.Number > 0 && (v.isWanted() || d.isInTheWay(v)) && d.isOver(v.held) {
-		held := v.held
-		if !d.letGo(v, now) {
+	for v.held.Number > 0 && (v.isWanted() || d.isInTheWay(v)) && v.isOver() {
+		if !d.expire(v, now) {
 			break
 		}
-		if row := d.table.rows[held.Client]; row.Open && held.Stamp > row.Base {
-			d.table.lapse(int(held.Client))
-		}
-		d.m.expired.Inc()
-		d.log.Write(event.Warning, "lease-expired", "lock", v.name, "client", held.Client, "stamp", held.Stamp, "grant", held.Number)
 	}
 	if v.timer.IsDue(now) {
-		if lines, err := v.RemindHolder(&d.table.proved, nil); err == nil && len(lines) > 0 {
+		if lines, err := v.RemindHolder(&v.shard.proved, nil); err == nil && len(lines) > 0 {
 			d.m.reminders.Inc()
 			d.send(v, lines)
 		}
+	}
+}
+
+// expire lets the current grant of a vote go whose session is over, and returns whether it did.
+func (d *Daemon) expire(v *vote, now time.Time) bool {
+	held := v.held
+	d.seal(v.shard, int(held.Client))
+	if !d.letGo(v, now) {
+		return false
+	}
+	if row := v.shard.rows[held.Client]; row.Open && held.Stamp > row.Base {
+		v.shard.lapse(int(held.Client))
+	}
+	d.m.expired.Inc()
+	d.log.Write(event.Warning, "lease-expired", "lock", v.name, "client", held.Client, "stamp", held.Stamp, "grant", held.Number)
+	return true
+}
+
+// seal lets what waits for a number's session leave with the count of its lapses until now, before that grows: a line says how often
+// grants of the session were let go when it was said.
+func (d *Daemon) seal(s *shard, number int) {
+	if name := s.names[number]; name != "" && len(d.out[name]) > 0 {
+		d.sealed = append(d.sealed, sealed{name, d.out[name], s.lapses(name)})
+		delete(d.out, name)
+	}
+}
+
+// expireFor lets the grants of others go whose sessions are over, for a client that tries to get the vote.
+func (d *Daemon) expireFor(v *vote, client int, now time.Time) {
+	for v.held.Number > 0 && !v.isHolder(client) && v.isOver() && d.expire(v, now) {
 	}
 }
 
@@ -588,12 +631,13 @@ func (d *Daemon) endQuiet(now time.Time) {
 		if !v.isOld {
 			return
 		}
+		d.seal(v.shard, int(held.Client))
 		isOver, err := d.letGoBy(v, now, func(out []byte) ([]byte, qlock.LockShown, error) {
-			return v.EndQuiet(&d.table.proved, v.since, uint8(held.Client), out)
+			return v.EndQuiet(&v.shard.proved, v.since, uint8(held.Client), out)
 		})
 		if isLeft = isLeft || err != nil; isOver {
-			if row := d.table.rows[held.Client]; row.Open && held.Stamp > row.Base {
-				d.table.lapse(int(held.Client)) // what tells its client so may be lost
+			if row := v.shard.rows[held.Client]; row.Open && held.Stamp > row.Base {
+				v.shard.lapse(int(held.Client)) // what tells its client so may be lost
 			}
 			d.log.Write(event.Warning, "not-renewed", "lock", v.name, "client", held.Client, "stamp", held.Stamp, "grant", held.Number)
 		}
@@ -603,14 +647,14 @@ func (d *Daemon) endQuiet(now time.Time) {
 	}
 }
 
-// isOver returns whether a grant may be let go: its session is dead, or its number has a later one.
-func (d *Daemon) isOver(held qlock.Grant) bool { return d.table.isOver(int(held.Client), held.Stamp) }
+// isOver returns whether the grant of a vote may be let go: its session is dead, or its number has a later one.
+func (v *vote) isOver() bool { return v.shard.isOver(int(v.held.Client), v.held.Stamp) }
 
 // letGo lets the current grant of a vote go, and tells its client. It returns false if that did not succeed.
 func (d *Daemon) letGo(v *vote, now time.Time) bool {
 	held := v.held
 	isOver, _ := d.letGoBy(v, now, func(out []byte) ([]byte, qlock.LockShown, error) {
-		return v.LetGo(&d.table.proved, held.Number, uint8(held.Client), out)
+		return v.LetGo(&v.shard.proved, held.Number, uint8(held.Client), out)
 	})
 	return isOver
 }
@@ -633,7 +677,7 @@ func (d *Daemon) letGoBy(v *vote, now time.Time, call func(out []byte) ([]byte, 
 func (d *Daemon) isGone(v *vote, held qlock.Grant, now time.Time) {
 	v.letGo = now
 	d.mustSave(v)
-	if row := d.table.rows[held.Client]; row.Open && held.Stamp > row.Base {
-		d.sayOf(d.table.names[held.Client], qlock.LockSays{Kind: qlock.LockGone, Lock: []byte(v.name), Stamp: held.Stamp})
+	if row := v.shard.rows[held.Client]; row.Open && held.Stamp > row.Base {
+		d.sayOf(v.shard.names[held.Client], qlock.LockSays{Kind: qlock.LockGone, Lock: []byte(v.name), Stamp: held.Stamp})
 	}
 }

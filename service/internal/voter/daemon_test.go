@@ -43,7 +43,7 @@ func TestStatusOutsideOfTheLoop(t *testing.T) {
 	now, carrier := time.Unix(1000, 0), &slow{sent: make(chan []byte)}
 	d := &Daemon{cluster: &config.Cluster{ID: "test"}, own: &config.Voter{}, carrier: carrier, m: newMetrics(),
 		store: &store{meta: Meta{Cluster: "test", Identity: "copy"}}, mark: "mark",
-		replies: map[string]answer{}, done: map[string][]byte{}, table: *newTable(now)}
+		replies: map[string]answer{}, done: map[string][]byte{}, leases: leasesAt(now)}
 	for i := 0; i < 3*mostShown; i++ {
 		d.busy.add(&vote{name: fmt.Sprintf("orders-%05d", i)})
 	}
@@ -76,9 +76,9 @@ func (p *post) Listen(string) (<-chan transport.Message, error) { return nil, ni
 
 // says lets the session that has a number say a line about a lock.
 func says(d *Daemon, v *vote, client int, line string, now time.Time) {
-	from := qlock.Speaker{Session: d.table.hashes[client], Epoch: d.table.rows[client].Epoch}
+	from := qlock.Speaker{Session: d.shard(0).hashes[client], Epoch: d.shard(0).rows[client].Epoch}
 	shown, lines, err := d.call(v, func(out []byte) ([]byte, qlock.LockShown, error) {
-		return v.TakeFrom(&d.table.proved, d.sinceOf(v), d.isQuiet(), from, []byte(line), out)
+		return v.TakeFrom(&d.shard(0).proved, d.sinceOf(v), d.isQuiet(), from, []byte(line), out)
 	})
 	if err == nil && shown.IsTaken {
 		d.note(v, client, shown, lines, now)
@@ -90,16 +90,16 @@ func TestSpentLock(t *testing.T) {
 	var log bytes.Buffer
 	now := time.Unix(1000, 0)
 	d := &Daemon{own: &config.Voter{}, store: &store{}, ceiling: 1, join: joining{done: true}, m: newMetrics(), log: event.To(&log), votes: map[string]*vote{},
-		dirty: map[*vote]struct{}{}, silent: map[*vote]struct{}{}, users: map[string]*usage{}, out: map[string][]byte{}, table: table{ttl: time.Second, changed: map[int]Session{}, later: map[int]Session{}}}
+		dirty: map[*vote]struct{}{}, silent: map[*vote]struct{}{}, users: map[string]*usage{}, out: map[string][]byte{}, leases: newLeases(), cluster: &config.Cluster{}}
 	voter, err := qlock.NewVoter(0, 1)
 	if err != nil {
 		t.Fatal(err)
 	}
 	v := d.add("orders", voter)
 	for client := 0; client < 2; client++ {
-		d.table.set(client, of("jobs.s", 1, 0, 10))
+		d.shard(0).set(client, of("jobs.s", 1, 0, 10))
 		says(d, v, client, fmt.Sprintf("request %d 0 1", client), now)
-		d.table.set(client, Session{Reserved: 10})
+		d.shard(0).set(client, Session{Reserved: 10})
 	}
 	for i := 0; i < 100; i++ {
 		d.round(now)
@@ -126,9 +126,9 @@ func TestSpentCeilingIsLoggedOnce(t *testing.T) {
 // Each line of a vote leaves: LOCKED, FAIL to whom waits behind another one, and INQUIRE.
 func TestEachLineLeaves(t *testing.T) {
 	now := time.Unix(1000, 0)
-	d := &Daemon{own: &config.Voter{}, store: &store{}, ceiling: 10, m: newMetrics(), votes: map[string]*vote{},
+	d := &Daemon{cluster: &config.Cluster{}, own: &config.Voter{}, store: &store{}, ceiling: 10, m: newMetrics(), votes: map[string]*vote{},
 		users: map[string]*usage{}, dirty: map[*vote]struct{}{}, silent: map[*vote]struct{}{}, out: map[string][]byte{},
-		table: *newTable(now)}
+		leases: leasesAt(now)}
 	voter, err := qlock.NewVoter(0, 10)
 	if err != nil {
 		t.Fatal(err)
@@ -144,8 +144,8 @@ func TestEachLineLeaves(t *testing.T) {
 		{3, 103, "jobs.session-1", "orders inquire 0 1 1 107\n"},
 	} {
 		name := fmt.Sprint("jobs.session-", one.client)
-		d.table.set(one.client, of(name, 1, 100, 200))
-		d.table.names[one.client] = name
+		d.shard(0).set(one.client, of(name, 1, 100, 200))
+		d.shard(0).names[one.client] = name
 		says(d, v, one.client, fmt.Sprintf("request %d 0 %d", one.client, one.stamp), now)
 		if got := string(d.out[one.hears]); got != one.line {
 			t.Errorf("%s hears %q, not %q", one.hears, got, one.line)

@@ -24,6 +24,7 @@ var (
 	ErrLag      = errors.New("clients still have requests of the old plan")
 	ErrKeepers  = errors.New("too few voters of both plans keep this one's ceiling yet")
 	ErrNothing  = errors.New("the words say nothing of what other voters know")
+	ErrBelow    = errors.New("the voter asks others for a higher ceiling first: call again")
 	ErrAnother  = errors.New("the voter has another plan of this number: another exchange was begun")
 )
 
@@ -218,7 +219,7 @@ func (d *Daemon) hears(h wire.Header) {
 	if d.oldMark == "" {
 		return
 	}
-	if len(d.marks) > 16*qlock.MaxClients { // most are of sessions that are gone
+	if len(d.marks) > 16*d.cluster.Numbers() { // most are of sessions that are gone
 		d.marks = map[string]string{}
 	}
 	d.marks[h.Name] = h.Coterie
@@ -318,14 +319,16 @@ func (d *Daemon) isReady(number uint64, mark string) (silent []int, err error) {
 	if d.plans.Old != nil && d.join.done && !d.inUse.haveQuorums(d.join.start.Shows().Kept|d.bit()) {
 		return nil, ErrKeepers
 	}
-	var lag []int
-	for client, row := range d.table.rows {
-		switch {
-		case d.plans.Old == nil || !row.Open || d.asksBy[client] >= number:
-		case d.table.isDead(client):
-			silent = append(silent, client)
-		default:
-			lag = append(lag, client)
+	var lag []string
+	for _, s := range d.inTurn {
+		for client, row := range s.rows {
+			switch {
+			case d.plans.Old == nil || !row.Open || s.asksBy[client] >= number:
+			case s.isDead(client):
+				silent = append(silent, s.key(client))
+			default:
+				lag = append(lag, d.cluster.NumberOf(s.key(client)))
+			}
 		}
 	}
 	if len(lag) > 0 {
@@ -340,9 +343,10 @@ func (d *Daemon) retire(number uint64, mark string) error {
 	if err != nil || d.plans.Old == nil {
 		return err
 	}
-	for _, client := range silent {
-		d.table.expel(client)
-		d.recount(client)
+	for _, key := range silent {
+		s, client := d.shardOfKey(key)
+		s.expel(client)
+		d.recount(s, client)
 	}
 	if err := d.setPlans(d.plans.retire()); err != nil {
 		return err
@@ -352,7 +356,8 @@ func (d *Daemon) retire(number uint64, mark string) error {
 }
 
 // settle takes what a quorum of the old plan knew of sessions and of other voters, after it refused that plan: whoever
-// asks voters of the new plan alone hears of each stamp, start and ceiling. Who takes the next plan already was settled.
+// asks voters of the new plan alone hears of each stamp, start and ceiling, and no grant of it has a number that the old plan may
+// have used. Who takes the next plan already was settled.
 func (d *Daemon) settle(number uint64, mark, text string, now time.Time) error {
 	switch {
 	case d.plans.Old != nil && number+1 == d.plans.Number && mark == d.plans.oldMark():
@@ -362,16 +367,45 @@ func (d *Daemon) settle(number uint64, mark, text string, now time.Time) error {
 	case mark != d.plans.mark():
 		return ErrAnother
 	}
-	if err := d.learn(text, now); err != nil {
+	known, err := d.learn(text, now)
+	if err != nil {
 		return err
 	}
 	if !d.plans.Settled {
+		if err := d.goAbove(known.Peers, now); err != nil {
+			return err
+		}
 		g := d.plans
 		g.Settled = true
 		if err := d.setPlans(g); err != nil {
 			return err
 		}
 		d.log.Write(event.Info, "settled", "generation", number)
+	}
+	return nil
+}
+
+// goAbove raises the floor to the highest ceiling of these voters, above all that they gave by an older plan. So turns also grow
+// where a later plan does not meet the older one: each quorum of that later plan has a voter which did so before it took that plan. It
+// returns ErrBelow while this voter has no ceiling above that.
+func (d *Daemon) goAbove(others map[int]Peer, now time.Time) error {
+	most := d.floor
+	for place, peer := range others {
+		if place != d.store.meta.Voter {
+			most = greatest(most, peer.Ceiling)
+		}
+	}
+	switch {
+	case !d.join.done:
+		return ErrBelow
+	case most >= d.ceiling:
+		if d.join.start.Shows().Asked <= most { // else it was asked for one already
+			d.needsCeiling(most, now)
+		}
+		return ErrBelow
+	case most > d.floor:
+		d.floor = most
+		d.raiseAll()
 	}
 	return nil
 }
@@ -384,17 +418,17 @@ func (d *Daemon) inform(number uint64, mark, text string, now time.Time) error {
 	case mark != d.plans.mark():
 		return ErrAnother
 	}
-	return d.learn(text, now)
+	_, err := d.learn(text, now)
+	return err
 }
 
 // learn takes what other voters know.
-func (d *Daemon) learn(text string, now time.Time) error {
-	var known Knows
+func (d *Daemon) learn(text string, now time.Time) (known Knows, err error) {
 	if err := json.Unmarshal([]byte(text), &known); err != nil {
-		return err
+		return known, err
 	} else if known.Sessions == nil {
-		return ErrNothing
+		return known, ErrNothing
 	}
 	d.learnAll(known, now)
-	return nil
+	return known, nil
 }

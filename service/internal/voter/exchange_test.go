@@ -127,7 +127,7 @@ func TestNewer(t *testing.T) {
 // What a voter learns of sessions raises what is reserved, and ends no session but for a newer one.
 func TestLearn(t *testing.T) {
 	now := time.Unix(1000, 0)
-	table := newTable(now)
+	table := tableAt(now)
 	table.claim(3, "a", 5, 0, now)
 	admits(table, 3, "a", 5, 100, now)
 	for _, one := range []struct {
@@ -153,7 +153,7 @@ func TestLearn(t *testing.T) {
 func TestRetire(t *testing.T) {
 	now := time.Unix(1000, 0)
 	d := &Daemon{cluster: &config.Cluster{}, plans: Generations{Now: texts(t, two), Settled: true},
-		table: *newTable(now), newPeers: map[int]Peer{}, store: &store{}, log: event.To(io.Discard)}
+		leases: leasesAt(now), newPeers: map[int]Peer{}, store: &store{}, log: event.To(io.Discard)}
 	if err := d.markPlans(); err != nil {
 		t.Fatal(err)
 	}
@@ -175,11 +175,11 @@ func TestRetire(t *testing.T) {
 	if err := obey("exchange", "1", encode([]byte(next.Coterie)), encode([]byte(next.Plan))); err != nil || !d.newPlans {
 		t.Fatal(err)
 	}
-	d.table.claim(3, "a", 1, 0, now)
-	d.table.claim(4, "b", 1, 0, now)
+	d.shard(0).claim(3, "a", 1, 0, now)
+	d.shard(0).claim(4, "b", 1, 0, now)
 	now = now.Add(2 * time.Second)
-	passes(&d.table, now)
-	d.table.admit(4, "b", 1, now)
+	passes(&d.shard(0).table, now)
+	d.shard(0).admit(4, "b", 1, now)
 	mark := d.plans.mark()
 	for _, word := range []string{"ready", "retire"} {
 		if err := obey(word, "1", first); err == nil || err.Error() != ErrAnother.Error() {
@@ -189,15 +189,15 @@ func TestRetire(t *testing.T) {
 	if err := obey("retire", "1", mark); err == nil || err.Error() != fmt.Sprintf("%v: [4]", ErrLag) {
 		t.Error("client 4 may have a request of the old plan:", err)
 	}
-	d.asksBy[4] = 1
-	if err := obey("ready", "1", mark); err != nil || d.oldMark == "" || !d.table.rows[3].Open {
+	d.shard(0).asksBy[4] = 1
+	if err := obey("ready", "1", mark); err != nil || d.oldMark == "" || !d.shard(0).rows[3].Open {
 		t.Error("a question changes something:", err)
 	}
-	if err := obey("retire", "1", mark); err != nil || d.oldMark != "" || d.table.rows[3].Open ||
-		!d.table.rows[4].Open {
+	if err := obey("retire", "1", mark); err != nil || d.oldMark != "" || d.shard(0).rows[3].Open ||
+		!d.shard(0).rows[4].Open {
 		t.Error("client 3 is silent:", err)
 	}
-	if d.table.admit(3, "a", 1, now) != qlock.SessionOver {
+	if d.shard(0).admit(3, "a", 1, now) != qlock.SessionOver {
 		t.Error("a session that was ended goes on")
 	}
 	rows, err := json.Marshal(Knows{Sessions: map[int]Session{7: {Hash: hashed("c"), Epoch: 2, Reserved: 50}},
@@ -205,12 +205,19 @@ func TestRetire(t *testing.T) {
 	if err != nil {
 		t.Fatal(err)
 	}
+	if err := obey("settle", "1", mark, string(rows)); err == nil || err.Error() != ErrBelow.Error() || d.plans.Settled {
+		t.Error("settled before it serves:", err)
+	}
+	if d.join.done, d.ceiling = true, 900; obey("settle", "1", mark, string(rows)) == nil || d.plans.Settled {
+		t.Error("settled with a ceiling that another voter may have reached")
+	}
+	d.ceiling = 1000
 	if err := obey("settle", "1", first, string(rows)); err == nil || d.plans.Settled {
 		t.Error("settled by the mark of another plan:", err)
 	}
 	if err := obey("settle", "1", mark, string(rows)); err != nil || !d.plans.Settled ||
-		d.table.rows[7].Reserved != 50 || d.peers[2].Ceiling != 900 {
-		t.Errorf("%v, %+v, %+v", err, d.table.rows[7], d.peers[2])
+		d.shard(0).rows[7].Reserved != 50 || d.peers[2].Ceiling != 900 || d.floor != 900 {
+		t.Errorf("%v, %+v, %+v, %d", err, d.shard(0).rows[7], d.peers[2], d.floor)
 	}
 	for _, words := range [][]string{{"retire", "2", mark}, {"retire", "1"}, {"settle", "0", mark, "{}"}, {"exchange",
 		"x"}, {"exchange", "2", "!", "!"}, {"other", "1"}} {

@@ -54,7 +54,7 @@ func (d *Daemon) makeRoom(now time.Time) bool {
 		switch d.resting = d.resting[1:]; {
 		case v.asks != nil:
 			v.isResting = false
-		case now.Sub(v.letGo) < d.table.ttl || d.mustBeSaved(v):
+		case now.Sub(v.letGo) < d.leases.ttl || d.mustBeSaved(v):
 			d.resting = append(d.resting, first)
 		default:
 			v.isResting = false

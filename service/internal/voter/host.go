@@ -138,9 +138,9 @@ func (d *Daemon) Take(from From, m transport.Message) {
 // ask others at once.
 func (d *Daemon) End() error {
 	d.savedAll = time.Time{}
-	for number, row := range d.table.rows {
-		if row.Open {
-			if name := d.table.names[number]; name != "" { // it was heard in this run
+	for _, s := range d.inTurn {
+		for number, row := range s.rows {
+			if name := s.names[number]; row.Open && name != "" { // it was heard in this run
 				d.say(name, qlock.VoterSays{Kind: qlock.Leaving})
 			}
 		}
@@ -188,10 +188,10 @@ func (d *Daemon) IsLively(within time.Duration) bool {
 // waits for the next save, at most ten seconds: steps that send nothing, and rows of which a TTL
 // makes up for the loss.
 func (d *Daemon) commit(now time.Time) error {
-	must := len(d.dirty)+len(d.table.changed)+len(d.newPeers) > 0 || d.newPlans || d.newOwn
-	leaves := len(d.out)+len(d.replies)+len(d.letters)+len(d.skips) > 0
+	must := len(d.dirty)+len(d.leases.changed)+len(d.newPeers) > 0 || d.newPlans || d.newOwn
+	leaves := len(d.out)+len(d.sealed)+len(d.replies)+len(d.letters)+len(d.skips) > 0
 	switch {
-	case !must && len(d.table.later)+len(d.silent)+len(d.gone) == 0:
+	case !must && len(d.leases.later)+len(d.silent)+len(d.gone) == 0:
 		d.savedAll = now
 	case must && leaves || now.Sub(d.savedAll) > longest:
 		if err := d.save(now); err != nil {
@@ -211,7 +211,7 @@ func (d *Daemon) save(now time.Time) error {
 	for v := range d.silent {
 		d.dirty[v] = struct{}{}
 	}
-	c := changes{votes: d.dirty, gone: d.gone, sessions: d.table.unsaved(), peers: d.newPeers}
+	c := changes{votes: d.dirty, gone: d.gone, sessions: d.leases.unsaved(), peers: d.newPeers}
 	if d.newPlans {
 		c.plans = &d.plans
 	}
@@ -223,7 +223,7 @@ func (d *Daemon) save(now time.Time) error {
 	}
 	d.m.commit.Observe(d.now().Sub(began).Seconds())
 	d.m.batch.Observe(float64(len(d.dirty)))
-	d.table.saved()
+	d.leases.saved()
 	d.dirty, d.silent, d.newPeers = map[*vote]struct{}{}, map[*vote]struct{}{}, map[int]Peer{}
 	d.gone, d.newPlans, d.newOwn, d.savedAll = map[string]struct{}{}, false, false, now
 	return nil
@@ -234,16 +234,21 @@ func (d *Daemon) deliver() {
 	header := d.header()
 	d.outBytes = 0
 	d.deliverLetters()
+	for _, s := range d.sealed {
+		d.deliverTo(header, s.session, s.lines, s.lapses)
+	}
+	d.sealed = d.sealed[:0]
 	d.order = d.order[:0]
 	for session := range d.out {
 		d.order = append(d.order, session)
 	}
 	sort.Strings(d.order)
 	for _, session := range d.order {
-		lines := d.out[session]
-		box := wire.SessionBox(header.Cluster, session, header.Number)
-		header.Coterie, header.Lapses = d.speaks(session), d.table.lapses(session)
-		header.Split(lines, func(message []byte) { d.post(box, message) })
+		var lapses uint64
+		if s := d.shardOfSession(session); s != nil {
+			lapses = s.lapses(session)
+		}
+		d.deliverTo(header, session, d.out[session], lapses)
 		delete(d.out, session)
 	}
 	d.order = d.order[:0]
@@ -261,6 +266,20 @@ func (d *Daemon) deliver() {
 		}
 		delete(d.replies, box)
 	}
+}
+
+// sealed are lines for a session that were said before its lapses grew.
+type sealed struct {
+	session string
+	lines   []byte
+	lapses  uint64
+}
+
+// deliverTo sends lines to a session, with this count of its lapses.
+func (d *Daemon) deliverTo(header wire.Header, session string, lines []byte, lapses uint64) {
+	header.Coterie, header.Lapses = d.speaks(session), lapses
+	box := wire.SessionBox(header.Cluster, session, header.Number)
+	header.Split(lines, func(message []byte) { d.post(box, message) })
 }
 
 // post sends one message. What can't be sent is lost: a reminder repeats it.

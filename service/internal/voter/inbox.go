@@ -28,6 +28,7 @@ const (
 // letter is a message of a client that waits, or of which some lines are taken.
 type letter struct {
 	wire.Header
+	shard    *shard // of the session
 	lines    []byte
 	size     int
 	begun    bool
@@ -47,7 +48,7 @@ func (l *letter) once(word string) bool {
 	return true
 }
 
-// inbox has the messages of clients that wait: those of each number's session apart, and behind
+// inbox has the messages of clients that wait: those of each number's sessions apart, and behind
 // them those of anybody else. Whoever sends much waits for himself alone, and delays no other one's
 // heartbeats.
 type inbox struct {
@@ -101,7 +102,7 @@ func (d *Daemon) receive() {
 
 // sendMarker sends a marker to this voter itself, if it is time for one.
 func (d *Daemon) sendMarker(now time.Time) {
-	if number := d.table.clock.Send(now.Sub(d.table.began)); number > 0 {
+	if number := d.leases.clock.Send(now.Sub(d.leases.began)); number > 0 {
 		h := d.header()
 		d.post(wire.VoterBox(h.Cluster, h.Number, strconv.Itoa(h.Number)), append(h.Append(nil), d.markerLine(number)...))
 	}
@@ -120,9 +121,13 @@ func (d *Daemon) isMarker(lines string) bool {
 	if _, err := fmt.Sscanf(lines, ". marker %d ", &number); err != nil || lines != d.markerLine(number) {
 		return false
 	}
-	d.table.returns(number, d.now())
-	_, left := d.table.clock.Shows()
-	d.marked.Store(int64(d.table.began.Add(left).Sub(d.started)))
+	d.leases.clock.Returns(number)
+	now := d.now()
+	for _, s := range d.inTurn {
+		s.returned(now)
+	}
+	_, left := d.leases.clock.Shows()
+	d.marked.Store(int64(d.leases.began.Add(left).Sub(d.started)))
 	return true
 }
 
@@ -146,12 +151,16 @@ func (d *Daemon) sort(m transport.Message) {
 	if !d.join.done {
 		return // nothing is taken before the others answered
 	}
-	queue := strangers
-	if h.Epoch > 0 && d.table.judge(h.Number, h.Name, h.Epoch) == qlock.SessionKnown {
-		queue = h.Number
-		d.table.hear(h.Number, d.now()) // it may wait for its turn
+	shard, queue := d.shardOfSession(h.Name), strangers
+	if shard == nil {
+		d.m.foreign.Inc()
+		return
 	}
-	if !d.inbox.put(queue, &letter{Header: h, lines: lines, size: len(m.Data)}) {
+	if h.Epoch > 0 && shard.judge(h.Number, h.Name, h.Epoch) == qlock.SessionKnown {
+		queue = h.Number
+		shard.hear(h.Number, d.now()) // it may wait for its turn
+	}
+	if !d.inbox.put(queue, &letter{Header: h, shard: shard, lines: lines, size: len(m.Data)}) {
 		d.noRoom.Add(1)
 	}
 }
@@ -207,13 +216,14 @@ func (d *Daemon) greet(l *letter, now time.Time) (speaker qlock.Standing, ok boo
 	if l.Epoch == 0 {
 		return qlock.SessionUnknown, true
 	}
-	speaker = d.table.admit(l.Number, l.Name, l.Epoch, now)
+	speaker = l.shard.admit(l.Number, l.Name, l.Epoch, now)
 	first := !l.begun
 	l.begun = true
 	switch {
 	case speaker == qlock.SessionKnown:
-		d.levels[l.Number] = l.Level
-		d.table.reserve(l.Number, l.Name, l.Epoch, l.Reserved, now)
+		l.shard.levels[l.Number] = l.Level
+		l.shard.waiting.leave(l.Name)
+		l.shard.reserve(l.Number, l.Name, l.Epoch, l.Reserved, now)
 	case speaker == qlock.SessionUnknown && first:
 		d.say(l.Name, qlock.VoterSays{Kind: qlock.Unknown, Number: l.Number, First: l.Epoch})
 	case speaker == qlock.SessionOver && first:

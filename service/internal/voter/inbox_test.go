@@ -18,10 +18,10 @@ import (
 func reader() *Daemon {
 	now := time.Unix(1000, 0)
 	d := &Daemon{cluster: &config.Cluster{ID: "test"}, store: &store{meta: Meta{Cluster: "test"}}, mark: "mark",
-		m:     newMetrics(),
-		table: table{ttl: time.Second, changed: map[int]Session{}, later: map[int]Session{}}, out: map[string][]byte{},
+		m:      newMetrics(),
+		leases: newLeases(), out: map[string][]byte{},
 		join: joining{done: true}, ceiling: 1 << 20, log: event.To(io.Discard)}
-	d.table.begin(now)
+	d.leases.begin(now)
 	return d
 }
 
@@ -36,7 +36,7 @@ func message(number int, epoch uint64, name, lines string) transport.Message {
 func TestEachSenderHasItsTurn(t *testing.T) {
 	d := reader()
 	for number := 1; number < 4; number++ {
-		d.table.claim(number, fmt.Sprint("jobs.s", number), 1, 0, time.Now())
+		d.shard(0).claim(number, fmt.Sprint("jobs.s", number), 1, 0, time.Now())
 	}
 	for i := 0; i < 100; i++ {
 		d.sort(message(1, 1, "s1", strings.Repeat("x release 1 0 0\n", 50)))
@@ -62,7 +62,7 @@ func TestRoomOfASender(t *testing.T) {
 	for i := 0; i < 100; i++ {
 		d.sort(message(0, 0, "stranger", long))
 	}
-	d.table.claim(2, "jobs.s2", 1, 0, time.Now())
+	d.shard(0).claim(2, "jobs.s2", 1, 0, time.Now())
 	d.sort(message(2, 1, "s2", ". open 0\n"))
 	if d.noRoom.Load() < 90 || d.inbox.sizes[strangers] > mostWaiting || len(d.inbox.queues[2]) != 1 {
 		t.Errorf("%d are dropped, %d bytes wait", d.noRoom.Load(), d.inbox.sizes[strangers])

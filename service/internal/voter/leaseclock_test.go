@@ -14,8 +14,10 @@ type tide struct {
 
 func newTide(t *testing.T, ttl time.Duration) *tide {
 	now := time.Unix(1000, 0)
-	one := &tide{t, now, &table{ttl: ttl, changed: map[int]Session{}, later: map[int]Session{}}}
-	one.begin(now)
+	l := leases{ttl: ttl}
+	l.begin(now)
+	rows := newTable(&l, 0)
+	one := &tide{t, now, &rows}
 	one.claim(3, "a", 1, 0, now)
 	return one
 }
@@ -25,7 +27,8 @@ func newTide(t *testing.T, ttl time.Duration) *tide {
 func (c *tide) turn(takes time.Duration, comesBack bool) {
 	number := c.clock.Send(c.now.Sub(c.began))
 	if c.now = c.now.Add(takes); number > 0 && comesBack {
-		c.returns(number, c.now)
+		c.clock.Returns(number)
+		c.returned(c.now)
 	}
 }
 

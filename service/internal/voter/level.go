@@ -51,10 +51,12 @@ func (d *Daemon) mayLevel(wanted uint64) error {
 	case wanted > level.Newest:
 		return fmt.Errorf("this program knows levels up to %d: install a newer one first", level.Newest)
 	}
-	var older []int
-	for number, row := range d.table.rows {
-		if row.Open && !d.table.isDead(number) && d.levels[number] < wanted {
-			older = append(older, number)
+	var older []string
+	for _, s := range d.inTurn {
+		for number, row := range s.rows {
+			if row.Open && !s.isDead(number) && s.levels[number] < wanted {
+				older = append(older, d.cluster.NumberOf(s.key(number)))
+			}
 		}
 	}
 	if len(older) > 0 {

@@ -34,17 +34,17 @@ func BenchmarkLine(b *testing.B) {
 	}{{"call", wire.Next}, {"Go", cutInGo}} {
 		b.Run(way.name, func(b *testing.B) {
 			now := time.Unix(1000, 0)
-			d := &Daemon{own: &config.Voter{MaxLocks: 10}, store: &store{}, ceiling: qlock.MaxStamp, m: newMetrics(), votes: map[string]*vote{},
+			d := &Daemon{cluster: &config.Cluster{}, own: &config.Voter{MaxLocks: 10}, store: &store{}, ceiling: qlock.MaxStamp, m: newMetrics(), votes: map[string]*vote{},
 				users: map[string]*usage{}, dirty: map[*vote]struct{}{}, silent: map[*vote]struct{}{}, out: map[string][]byte{},
-				table: *newTable(now)}
+				leases: leasesAt(now)}
 			voter, err := qlock.NewVoter(0, qlock.MaxStamp)
 			if err != nil {
 				b.Fatal(err)
 			}
 			d.add("an-ordinary-lock", voter)
 			name := "jobs.session-1"
-			d.table.set(1, of(name, 1, 0, qlock.MaxStamp))
-			d.table.names[1] = name
+			d.shard(0).set(1, of(name, 1, 0, qlock.MaxStamp))
+			d.shard(0).names[1] = name
 			l := &letter{Header: wire.Header{Kind: wire.FromClient, Number: 1, Epoch: 1, Name: name}}
 			room := make([]byte, 0, 128)
 			for i := 0; i < b.N; i++ {

@@ -5,6 +5,7 @@ import (
 	"encoding/json"
 	"errors"
 	"fmt"
+	"sort"
 	"strings"
 	"time"
 
@@ -42,7 +43,9 @@ func InitLost(ctx context.Context, own *config.Voter, cluster *config.Cluster, c
 		}
 	}
 	for {
-		replies, err := askOthers(ctx, console, others)
+		short, cancel := context.WithTimeout(ctx, 2*time.Second)
+		replies, err := AskKnown(short, console, others...)
+		cancel()
 		if err != nil {
 			return Meta{}, err
 		}
@@ -69,11 +72,62 @@ func MakeAgain(around Surroundings, own *config.Voter, cluster *config.Cluster, 
 	return create(around, own, cluster, known, known.Peers[place].Run+1)
 }
 
-// askOthers asks other voters what they know.
-func askOthers(ctx context.Context, console *operator.Console, others []int) ([]operator.Reply, error) {
-	ctx, cancel := context.WithTimeout(ctx, 2*time.Second)
-	defer cancel()
-	return console.Ask(ctx, "knows", others...)
+// AskKnown asks voters for all that they know. One that did not tell all of it did not reply.
+func AskKnown(ctx context.Context, console *operator.Console, voters ...int) ([]operator.Reply, error) {
+	replies, err := console.Ask(ctx, "knows", voters...)
+	for i := range replies {
+		if err == nil && replies[i].Err == nil {
+			replies[i], err = askRest(ctx, console, replies[i])
+		}
+	}
+	return replies, err
+}
+
+// askRest returns the reply of a voter with the sessions for which it had no room.
+func askRest(ctx context.Context, console *operator.Console, first operator.Reply) (operator.Reply, error) {
+	var all Knows
+	if json.Unmarshal(first.Body, &all) != nil || all.Next == 0 || all.Sessions == nil {
+		return first, nil
+	}
+	for all.Next > 0 {
+		replies, err := console.Ask(ctx, fmt.Sprint("knows ", all.Next), first.Voter)
+		if err != nil || len(replies) != 1 {
+			return first, err
+		}
+		var more Knows
+		if replies[0].Err != nil || json.Unmarshal(replies[0].Body, &more) != nil || more.Next > 0 && more.Next <= all.Next {
+			first.Err = operator.ErrSilent
+			return first, nil
+		}
+		for key, row := range more.Sessions {
+			all.Sessions[key] = row
+		}
+		all.Next = more.Next
+	}
+	body, err := json.Marshal(all)
+	first.Body = body
+	return first, err
+}
+
+// Texts returns what is known as texts of which each has room in a message.
+func (k Knows) Texts() (texts []string, err error) {
+	var keys []int
+	for key := range k.Sessions {
+		keys = append(keys, key)
+	}
+	sort.Ints(keys)
+	for begin := 0; begin == 0 || begin < len(keys); begin += mostRows {
+		part := Knows{Peers: k.Peers, Level: k.Level, Sessions: map[int]Session{}}
+		for i := begin; i < len(keys) && i < begin+mostRows; i++ {
+			part.Sessions[keys[i]] = k.Sessions[keys[i]]
+		}
+		text, err := json.Marshal(part)
+		if err != nil {
+			return nil, err
+		}
+		texts = append(texts, string(text))
+	}
+	return texts, nil
 }
 
 // create makes a state with a new identity.
@@ -112,9 +166,9 @@ func Merge(replies []operator.Reply) (all Knows, heard uint64, err error) {
 				all.Peers[place] = laterPeer(all.Peers[place], p)
 			}
 		}
-		for number, row := range one.Sessions {
-			if row.Lapses = 0; number >= 0 && number < qlock.MaxClients && row.Epoch > 0 { // those are another voter's
-				all.Sessions[number] = newer(all.Sessions[number], row)
+		for key, row := range one.Sessions {
+			if row.Lapses = 0; key >= 0 && key < config.MostShards*qlock.MaxClients && row.Epoch > 0 { // those are another voter's
+				all.Sessions[key] = newer(all.Sessions[key], row)
 			}
 		}
 	}

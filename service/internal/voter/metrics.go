@@ -165,7 +165,7 @@ func (m *metrics) histogram(name, help string, buckets []float64) prometheus.His
 
 // measure sets the numbers that are looked at from time to time.
 func (d *Daemon) measure(now time.Time) {
-	lasting, waiting, held, open, free := now, now, 0, 0, 0
+	lasting, waiting, held, open, free := now, now, 0, 0, qlock.MaxClients
 	for _, v := range d.busy.all {
 		if v.held.Number > 0 {
 			held++
@@ -177,13 +177,13 @@ func (d *Daemon) measure(now time.Time) {
 			}
 		}
 	}
-	for number, row := range d.table.rows {
-		if row.Open {
-			open++
-		}
-		if d.table.state(number) != 0 {
-			free++
-		}
+	if len(d.inTurn) > 0 { // one shard each time: a row costs a call
+		d.nextShard = (d.nextShard + 1) % len(d.inTurn)
+		d.inTurn[d.nextShard].census()
+	}
+	for _, s := range d.inTurn {
+		open += s.open
+		free = least(free, s.free)
 	}
 	ofUser := 0
 	for _, u := range d.users {
@@ -203,6 +203,26 @@ func (d *Daemon) measure(now time.Time) {
 	d.m.numbers.Set(float64(free))
 	d.m.plan.Set(float64(d.plans.Number))
 	d.m.locks.Set(float64(len(d.votes)))
+}
+
+// census counts the sessions of a shard, and the numbers that may be claimed.
+func (s *shard) census() {
+	s.open, s.free = 0, 0
+	for number, row := range s.rows {
+		if row.Open {
+			s.open++
+		}
+		if s.state(number) != 0 {
+			s.free++
+		}
+	}
+}
+
+func least(a, b int) int {
+	if a < b {
+		return a
+	}
+	return b
 }
 
 func earlier(a, b time.Time) time.Time {

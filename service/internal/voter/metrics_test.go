@@ -43,9 +43,9 @@ func TestNumbersOfAVoter(t *testing.T) {
 		t.Fatal(err)
 	}
 	v := d.add("orders", voter)
-	d.table.set(1, of(".s", 1, 0, 10)) // of no user
+	d.shard(0).set(1, of(".s", 1, 0, 10)) // of no user
 	says(d, v, 1, "request 1 0 5", time.Now().Add(-time.Hour))
-	d.table.set(1, Session{})
+	d.shard(0).set(1, Session{})
 	d.measure(time.Now())
 	for i := 0; i < 3; i++ {
 		_ = port.Send("qlock.test.v.0.-", []byte("x"))

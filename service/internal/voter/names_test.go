@@ -4,6 +4,7 @@ import (
 	"bytes"
 	"calvundek.example/service/qlock"
 	"encoding/json"
+	"fmt"
 	"io"
 	"os"
 	"strings"
@@ -56,10 +57,41 @@ func TestNameOfASessionIsSecret(t *testing.T) {
 	}
 	_, by, _ := strings.Cut(hash, ".")
 	for _, one := range []*Daemon{d, reopened(t, d)} {
-		if one.table.judge(1, wire.SessionName("jobs", by), 1) != qlock.SessionOver || one.table.judge(1, "jobs."+name, 1) != qlock.SessionKnown ||
-			one.table.judge(1, "web."+name, 1) != qlock.SessionOver {
+		if one.shard(0).judge(1, wire.SessionName("jobs", by), 1) != qlock.SessionOver || one.shard(0).judge(1, "jobs."+name, 1) != qlock.SessionKnown ||
+			one.shard(0).judge(1, "web."+name, 1) != qlock.SessionOver {
 			t.Error("another one is taken for the session")
 		}
+	}
+}
+
+// A line says how often grants of its session were let go when it was said, also if it leaves later: so no acknowledgement counts for a
+// vote that was let go after it was told.
+func TestLinesSayTheLapsesOfThen(t *testing.T) {
+	d, _ := alone(t, 10)
+	d.repliesTo("jobs", 1, ". claim 1 1 100\n")
+	said := d.repliesTo("jobs", 1, "orders request 1 0 5\n")
+	if !strings.Contains(said, "orders locked 0 1 5 ") {
+		t.Fatalf("it is told %q", said)
+	}
+	d.out["jobs.session-1"] = []byte(said) // it did not leave yet
+	carrier := d.carrier.(*post)
+	carrier.sent = nil
+	later := time.Now().Add(time.Minute)
+	passes(&d.shard(0).table, later)
+	if !d.expire(d.votes["orders"], later) {
+		t.Fatal("the grant is not let go")
+	}
+	d.deliver()
+	var told []string
+	for _, message := range carrier.sent {
+		h, lines, err := wire.Read(message)
+		if err != nil {
+			t.Fatal(err)
+		}
+		told = append(told, fmt.Sprintf("%d: %s", h.Lapses, lines))
+	}
+	if len(told) != 2 || !strings.HasPrefix(told[0], "0: orders locked 0 1 5 ") || !strings.Contains(told[1], "1: . gone orders 5\n") {
+		t.Errorf("the messages are %q", told)
 	}
 }
 
@@ -68,15 +100,15 @@ func TestWhoWasNotHeardSinceTheStart(t *testing.T) {
 	first, _ := alone(t, 10)
 	first.repliesTo("jobs", 1, ". claim 1 1 100\n")
 	first.repliesTo("jobs", 1, "orders request 1 0 5\n")
-	first.table.lapse(1)
+	first.shard(0).lapse(1)
 	if err := first.save(time.Now()); err != nil {
 		t.Fatal(err)
 	}
 	d := reopened(t, first)
 	d.repliesTo("web", 2, ". claim 2 1 100\n")
 	d.repliesTo("web", 2, "orders request 2 0 3\n")
-	if len(d.out) != 0 || d.table.lapses("jobs.session-1") != 1 {
-		t.Errorf("%d sessions are written to, and the lapses are %d", len(d.out), d.table.lapses("jobs.session-1"))
+	if len(d.out) != 0 || d.shard(0).lapses("jobs.session-1") != 1 {
+		t.Errorf("%d sessions are written to, and the lapses are %d", len(d.out), d.shard(0).lapses("jobs.session-1"))
 	}
 	if reply := d.repliesTo("jobs", 1, ". open 0\n"); !strings.Contains(reply, ". opened 1 1 ") {
 		t.Errorf("the session: %q", reply)
@@ -97,8 +129,8 @@ func TestRowsWithNames(t *testing.T) {
 		t.Fatal(err)
 	}
 	d := reopened(t, first)
-	if d.table.judge(1, "jobs.session-1", 1) != qlock.SessionKnown {
-		t.Errorf("the session is not known: %+v", d.table.rows[1])
+	if d.shard(0).judge(1, "jobs.session-1", 1) != qlock.SessionKnown {
+		t.Errorf("the session is not known: %+v", d.shard(0).rows[1])
 	}
 	if err := d.save(time.Now()); err != nil {
 		t.Fatal(err)
@@ -114,14 +146,14 @@ func TestRowsWithNames(t *testing.T) {
 		t.Fatal(err)
 	}
 	again := reopened(t, d)
-	if len(again.table.later) != 0 || again.table.judge(1, "jobs.session-1", 1) != qlock.SessionKnown {
-		t.Errorf("after a save: %+v", again.table.later)
+	if len(again.leases.later) != 0 || again.shard(0).judge(1, "jobs.session-1", 1) != qlock.SessionKnown {
+		t.Errorf("after a save: %+v", again.leases.later)
 	}
 	var theirs Knows
 	if err := json.Unmarshal([]byte(`{"sessions":{"1":`+string(row)+`}}`), &theirs); err != nil {
 		t.Fatal(err)
 	}
-	if again.learnAll(theirs, time.Now()); again.table.judge(1, "jobs.session-1", 1) != qlock.SessionKnown {
-		t.Errorf("a word of another voter ends the session: %+v", again.table.rows[1])
+	if again.learnAll(theirs, time.Now()); again.shard(0).judge(1, "jobs.session-1", 1) != qlock.SessionKnown {
+		t.Errorf("a word of another voter ends the session: %+v", again.shard(0).rows[1])
 	}
 }

@@ -3,13 +3,14 @@ package voter
 import (
 	"encoding/json"
 	"fmt"
+	"math"
 	"sort"
+	"strconv"
 	"strings"
 	"time"
 
 	"calvundek.example/service/internal/event"
 	"calvundek.example/service/internal/wire"
-	"calvundek.example/service/qlock"
 	"calvundek.example/service/transport"
 )
 
@@ -43,6 +44,8 @@ type Status struct {
 
 // SessionView is what an operator sees of an open session. Its name is a secret, so its user and a hash of it are shown.
 type SessionView struct {
+	Session  string  `json:"session"` // its number as evict takes it, with the shard in front where there are several
+	Shard    int     `json:"shard"`
 	Number   int     `json:"number"`
 	Epoch    uint64  `json:"epoch"`
 	Reserved uint64  `json:"reserved"`
@@ -55,7 +58,8 @@ type SessionView struct {
 // VoteView is what an operator sees of a vote.
 type VoteView struct {
 	Lock    string       `json:"lock"`
-	Client  int          `json:"client"` // who has it, -1 for nobody
+	Client  int          `json:"client"`            // who has it, -1 for nobody
+	Session string       `json:"session,omitempty"` // the same as evict takes it
 	Stamp   uint64       `json:"stamp,omitempty"`
 	Grant   uint64       `json:"grant,omitempty"`
 	Held    float64      `json:"held_seconds,omitempty"`
@@ -65,14 +69,16 @@ type VoteView struct {
 
 // WaiterView is what an operator sees of a request that waits.
 type WaiterView struct {
-	Client int     `json:"client"`
-	Stamp  uint64  `json:"stamp"`
-	Waits  float64 `json:"waits_seconds"`
+	Client  int     `json:"client"`
+	Session string  `json:"session"`
+	Stamp   uint64  `json:"stamp"`
+	Waits   float64 `json:"waits_seconds"`
 }
 
 // LetGo is the reply to `evict` and `unlock`: how many grants were let go.
 type LetGo struct {
-	LetGo int `json:"let_go"`
+	LetGo  int  `json:"let_go"`
+	Nobody bool `json:"nobody,omitempty"` // no session had the number that was to be evicted
 }
 
 // Refused is the reply to what an operator may not do, or what is not known.
@@ -155,7 +161,11 @@ func (d *Daemon) obey(words []string, by string, now time.Time) interface{} {
 	case len(words) == 1 && words[0] == "status":
 		return d.status(now)
 	case len(words) == 1 && words[0] == "knows":
-		return d.knows()
+		return d.knows(0)
+	case len(words) == 2 && words[0] == "knows":
+		if from, err := strconv.Atoi(words[1]); err == nil && d.cluster.IsKey(from) {
+			return d.knows(from)
+		}
 	case len(words) == 2 && (words[0] == "level" || words[0] == "would-level"):
 		return d.raiseLevel(words[1], words[0] == "level")
 	case !d.join.done:
@@ -166,9 +176,10 @@ func (d *Daemon) obey(words []string, by string, now time.Time) interface{} {
 		}
 		return VoteView{Lock: words[1], Client: -1}
 	case len(words) == 2 && words[0] == "evict":
-		if number := wire.Number([]byte(words[1])); number >= 0 && number < qlock.MaxClients {
-			return d.evict(number, by, now)
+		if key, ok := d.cluster.KeyOf(words[1]); ok {
+			return d.evict(key, by, now)
 		}
+		return Refused{"client numbers are " + d.cluster.NumberOf(0) + " to " + d.cluster.NumberOf(d.cluster.Numbers()-1)}
 	case len(words) == 3 && words[0] == "unlock":
 		var grant uint64
 		if _, err := fmt.Sscan(words[2], &grant); err == nil && grant > 0 {
@@ -182,39 +193,38 @@ func (d *Daemon) obey(words []string, by string, now time.Time) interface{} {
 }
 
 // evict ends a client's session, and lets all go that it has. What it waits for is let go once it gets it.
-func (d *Daemon) evict(number int, by string, now time.Time) LetGo {
-	d.table.expel(number)
-	gone := 0
+func (d *Daemon) evict(key int, by string, now time.Time) LetGo {
+	s, number := d.shardOfKey(key)
+	gone := LetGo{Nobody: !s.rows[number].Open}
+	s.expel(number)
 	d.busy.each(func(v *vote) {
-		if v.isHolder(number) && d.letGo(v, now) {
-			gone++
+		if v.shard == s && v.isHolder(number) && d.letGo(v, now) {
+			gone.LetGo++
 		}
 	})
-	d.recount(number)
-	d.log.Write(event.Warning, "evicted", "client", number, "grants", gone, "by", by)
-	return LetGo{gone}
+	d.recount(s, number)
+	d.log.Write(event.Warning, "evicted", "client", d.cluster.NumberOf(key), "grants", gone.LetGo, "by", by)
+	return gone
 }
 
 // unlock lets one grant of a lock go.
 func (d *Daemon) unlock(lock string, grant uint64, by string, now time.Time) LetGo {
 	v := d.votes[lock]
 	if v == nil || v.held.Number != grant || !d.letGo(v, now) {
-		return LetGo{0}
+		return LetGo{}
 	}
 	d.log.Write(event.Warning, "unlocked", "lock", lock, "grant", grant, "by", by)
-	return LetGo{1}
+	return LetGo{LetGo: 1}
 }
 
 func (d *Daemon) status(now time.Time) Status {
 	s := Status{Meta: d.store.meta, Locks: len(d.votes), Busy: len(d.busy.all), Granted: d.granted, Saves: d.store.saves,
 		Start: d.store.own.Start, Ceiling: d.ceiling, Level: d.store.own.level(), Serves: d.join.done, Quiet: d.quietLeft(now).Seconds(), Runs: now.Sub(d.started).Seconds(),
 		Planned: Planned{d.plans.Number, d.plans.oldest(), d.plans.Settled}, Sessions: []SessionView{}, Votes: []VoteView{}}
-	for number, row := range d.table.rows {
-		if row.Open {
-			s.Sessions = append(s.Sessions, SessionView{number, row.Epoch, row.Reserved, row.Hash,
-				d.table.silent(number).Seconds(), d.requests[number], d.noteOf(number)})
-		}
+	for _, one := range d.inTurn {
+		s.Sessions = append(s.Sessions, one.views(d.cluster.NumberOf)...)
 	}
+	sort.SliceStable(s.Sessions, func(i, j int) bool { return s.Sessions[i].Shard < s.Sessions[j].Shard })
 	shown := append([]*vote(nil), d.busy.all...)
 	sort.Slice(shown, func(i, j int) bool { return shown[i].name < shown[j].name })
 	if len(shown) > mostShown {
@@ -227,16 +237,28 @@ func (d *Daemon) status(now time.Time) Status {
 	return s
 }
 
+// views returns what an operator sees of the sessions of a shard. One that was heard after the last marker was silent for no time.
+func (s *shard) views(called func(key int) string) (views []SessionView) {
+	for number, row := range s.rows {
+		if row.Open {
+			views = append(views, SessionView{called(s.key(number)), s.table.number, number, row.Epoch, row.Reserved, row.Hash,
+				math.Max(0, s.silent(number).Seconds()), s.requests[number], s.noteOf(number)})
+		}
+	}
+	return views
+}
+
 // view returns what an operator sees of a vote.
 func (d *Daemon) view(v *vote, now time.Time) VoteView {
 	shown := VoteView{Lock: v.name, Client: -1}
 	if v.held.Number > 0 {
 		shown.Client, shown.Stamp, shown.Grant = int(v.held.Client), v.held.Stamp, v.held.Number
-		shown.Held, shown.Note = now.Sub(v.granted).Seconds(), d.noteOfAsk(v, shown.Client)
+		shown.Session = d.cluster.NumberOf(v.shard.key(shown.Client))
+		shown.Held, shown.Note = now.Sub(v.granted).Seconds(), v.noteOfAsk(shown.Client)
 	}
 	for client, one := range v.asks {
 		if !v.isHolder(client) {
-			shown.Waiting = append(shown.Waiting, WaiterView{client, one.stamp, now.Sub(one.since).Seconds()})
+			shown.Waiting = append(shown.Waiting, WaiterView{client, d.cluster.NumberOf(v.shard.key(client)), one.stamp, now.Sub(one.since).Seconds()})
 		}
 	}
 	sort.Slice(shown.Waiting, func(i, j int) bool { return shown.Waiting[i].Stamp < shown.Waiting[j].Stamp })

@@ -42,6 +42,9 @@ func TestRepeatedEvict(t *testing.T) {
 	if heard, err = port.Listen(wire.ReplyBoxes("test", "alice.op2")); err != nil {
 		t.Fatal(err)
 	}
+	if got := ask("evict 5"); got != `{"let_go":0,"nobody":true}` {
+		t.Errorf("nobody has the number: %s", got)
+	}
 	if got := ask("lock orders"); !strings.Contains(got, `"client":0`) || !strings.Contains(got, `"stamp":101`) {
 		t.Errorf("the next session lost its vote: %s", got)
 	}

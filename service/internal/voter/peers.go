@@ -5,6 +5,7 @@ import (
 	"encoding/json"
 	"errors"
 	"fmt"
+	"sort"
 	"strconv"
 	"strings"
 	"time"
@@ -175,7 +176,7 @@ func (d *Daemon) meet(h wire.Header, w word) {
 	}
 	reply := word{Word: "kept", Process: w.Process, Start: h.Start, Ceiling: w.Ceiling, Known: &known}
 	if w.Word == "start" {
-		shown, all := known, d.knows()
+		shown, all := known, d.knows(w.From)
 		if err == nil {
 			shown = d.shown(h, w, known)
 		}
@@ -213,15 +214,21 @@ func (d *Daemon) putPeer(place int, p Peer) {
 	d.newPeers[place] = p
 }
 
-// Knows is what a voter keeps of all places, and of all sessions.
+// Knows is what a voter keeps of all places, and of sessions, by their keys: 64 times the shard, and the number there. One message may have
+// no room for all of them.
 type Knows struct {
 	Peers    map[int]Peer    `json:"peers"`
 	Sessions map[int]Session `json:"sessions"`
 	Level    uint64          `json:"level"`
+	From     int             `json:"from,omitempty"` // sessions from this key on
+	Next     int             `json:"next,omitempty"` // the key from which others are to be asked for, 0 if there is none
 }
 
-// knows returns what this voter keeps, and what it is itself.
-func (d *Daemon) knows() Knows {
+// mostRows is how many sessions one message tells at most.
+const mostRows = 800
+
+// knows returns what this voter keeps, with sessions from a key on, and what it is itself.
+func (d *Daemon) knows(from int) Knows {
 	peers := map[int]Peer{}
 	for place, p := range d.peers {
 		if p.Identity != "" {
@@ -231,7 +238,29 @@ func (d *Daemon) knows() Knows {
 	self := d.self()
 	self.Ceiling = d.store.own.Ceiling
 	peers[d.store.meta.Voter] = self
-	return Knows{peers, d.table.known(), d.store.own.level()}
+	known := Knows{Peers: peers, Sessions: map[int]Session{}, Level: d.store.own.level(), From: from}
+	for _, key := range d.keys(from) {
+		if len(known.Sessions) == mostRows {
+			known.Next = key
+			break
+		}
+		s, number := d.shardOfKey(key)
+		known.Sessions[key] = s.rows[number]
+	}
+	return known
+}
+
+// keys returns the keys of the numbers that a session ever had, from one on, in order.
+func (d *Daemon) keys(from int) (keys []int) {
+	for _, s := range d.inTurn {
+		for number, row := range s.rows {
+			if key := s.key(number); row.Epoch > 0 && key >= from {
+				keys = append(keys, key)
+			}
+		}
+	}
+	sort.Ints(keys)
+	return keys
 }
 
 // laterPeer returns of two that were in a place the later one, with the higher ceiling of both.

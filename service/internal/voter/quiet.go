@@ -66,7 +66,7 @@ func (v *vote) stand() {
 // forgetDead forgets those who said of a lock that they are inside, and whose session is over.
 func (d *Daemon) forgetDead(v *vote) {
 	for client, one := range v.asks {
-		if d.isOver(qlock.Grant{Client: uint64(client), Stamp: one.stamp}) {
+		if v.shard.isOver(client, one.stamp) {
 			_ = v.since.Forget(uint8(client)) // it never fails: there is such a client
 		}
 	}

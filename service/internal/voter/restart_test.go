@@ -8,7 +8,6 @@ import (
 	"calvundek.example/service/internal/bus"
 	"calvundek.example/service/internal/config"
 	"calvundek.example/service/internal/event"
-	"calvundek.example/service/qlock"
 )
 
 // A voter that starts takes no session for dead: it could hear nobody before.
@@ -31,11 +30,10 @@ func TestStartEndsNoLease(t *testing.T) {
 	}
 	defer d.store.disk.Close()
 	now := time.Now()
-	if d.table.isDead(3) || claimAt(&d.table, 3, "another", 2, now) || d.isOver(qlock.Grant{Client: 3, Stamp: 1,
-		Number: 1}) {
+	if d.shard(0).isDead(3) || claimAt(&d.shard(0).table, 3, "another", 2, now) || d.shard(0).isOver(3, 1) {
 		t.Error("a session is dead at once")
 	}
-	if !isDeadAt(&d.table, 3, now.Add(3*time.Second)) {
+	if !isDeadAt(&d.shard(0).table, 3, now.Add(3*time.Second)) {
 		t.Error("it lives for ever")
 	}
 }

@@ -33,14 +33,14 @@ func (d *Daemon) takeAll() {
 // A user that knows the name of another one's session does not speak as it. The reply is the user's own.
 func TestUserOwnsItsSessions(t *testing.T) {
 	d := reader()
-	d.table.claim(2, "jobs.s2", 1, 0, time.Now())
+	d.shard(0).claim(2, "jobs.s2", 1, 0, time.Now())
 	d.sort(from("web", "s2", ". close\n"))
-	if d.takeAll(); !d.table.rows[2].Open || len(d.out) != 1 || d.out["web.s2"] == nil {
-		t.Errorf("%+v, and these are replied to: %d", d.table.rows[2], len(d.out))
+	if d.takeAll(); !d.shard(0).rows[2].Open || len(d.out) != 1 || d.out["web.s2"] == nil {
+		t.Errorf("%+v, and these are replied to: %d", d.shard(0).rows[2], len(d.out))
 	}
 	d.sort(from("jobs", "s2", ". close\n"))
-	if d.takeAll(); d.table.rows[2].Open || d.out["jobs.s2"] == nil {
-		t.Errorf("the user itself: %+v", d.table.rows[2])
+	if d.takeAll(); d.shard(0).rows[2].Open || d.out["jobs.s2"] == nil {
+		t.Errorf("the user itself: %+v", d.shard(0).rows[2])
 	}
 }
 
@@ -90,7 +90,7 @@ func TestWhoMayWrite(t *testing.T) {
 		mayWrite  bool
 		want      string
 	}{
-		{"bob", "status", false, `"sessions":[{"number":2`},
+		{"bob", "status", false, `"sessions":[{"session":"2"`},
 		{"bob", "lock x", false, `"lock":"x"`},
 		{"bob", "evict 2", false, `"error"`},
 		{"bob", "status evict 2", false, `"error"`},
@@ -104,7 +104,7 @@ func TestWhoMayWrite(t *testing.T) {
 	} {
 		d := reader()
 		d.replies, d.done, d.log = map[string]answer{}, map[string][]byte{}, event.To(&log)
-		d.table.claim(2, "jobs.s2", 1, 0, time.Now())
+		d.shard(0).claim(2, "jobs.s2", 1, 0, time.Now())
 		h := wire.Header{Cluster: "test", Coterie: "mark", Kind: wire.FromOperator, Name: "q"}
 		box := wire.ReadBox("test", 0, one.by)
 		d.operate(transport.Message{Mailbox: box, Data: append(h.Append(nil), one.words+"\n"...)}, one.mayWrite, time.Now())
@@ -112,8 +112,8 @@ func TestWhoMayWrite(t *testing.T) {
 		if is != (one.want != "") || is && !strings.Contains(string(reply.text()), one.want) {
 			t.Errorf("%s asks %s: %q", one.by, one.words, reply.text())
 		}
-		if d.table.rows[2].Open == (one.by == "alice" && one.words == "evict 2") {
-			t.Errorf("%s asks %s: %+v", one.by, one.words, d.table.rows[2])
+		if d.shard(0).rows[2].Open == (one.by == "alice" && one.words == "evict 2") {
+			t.Errorf("%s asks %s: %+v", one.by, one.words, d.shard(0).rows[2])
 		}
 	}
 	if said := log.String(); strings.Count(said, "event=evicted") != 1 || !strings.Contains(said, "by=alice") {

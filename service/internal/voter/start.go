@@ -25,7 +25,8 @@ type word struct {
 	Saves   uint64 `json:"saves,omitempty"`   // with which it ended
 	Known   *Peer  `json:"known,omitempty"`   // what was known of it
 	Why     string `json:"why,omitempty"`     // why it is refused
-	Knows   *Knows `json:"knows,omitempty"`   // all that the one who answers knows
+	From    int    `json:"from,omitempty"`    // of start: from which key on it wants to know of sessions
+	Knows   *Knows `json:"knows,omitempty"`   // what the one who answers knows
 }
 
 // own is what a state has of its own starts.
@@ -59,6 +60,7 @@ type joining struct {
 	saves   uint64        // how often the state was saved before this run
 	told    uint64        // the voters that said in the last TTL that they keep the ceiling
 	toldAt  time.Time     // when all were told
+	from    [places]int   // from which key on each of the others is asked for sessions
 	done    bool          // this voter serves
 	refused error
 }
@@ -103,7 +105,7 @@ func (d *Daemon) start(now time.Time) {
 	for voter := 0; voter < places; voter++ {
 		bit := d.others() & (1 << voter)
 		if bit&^shown.Answered != 0 {
-			d.write(voter, word{Word: "start", Process: j.process, Ceiling: d.store.own.Ceiling})
+			d.write(voter, word{Word: "start", Process: j.process, Ceiling: d.store.own.Ceiling, From: j.from[voter]})
 		}
 		if shown.Asked > 0 && bit&^j.told != 0 {
 			d.write(voter, word{Word: "ceiling", Process: j.process, Ceiling: shown.Asked})
@@ -136,14 +138,17 @@ func (d *Daemon) isKept(now time.Time) {
 	d.ceiling, d.isSpent = shown.Ceiling, false
 	d.m.left.Set(float64(d.ceiling) - float64(greatest(d.floor, d.m.most)))
 	if turn == qlock.Raises {
+		d.skipWaiters(now)
 		return
 	}
 	j.done = true
 	d.raiseAll()
-	d.table.hearAll(now)
+	for _, s := range d.inTurn {
+		s.hearAll(now)
+	}
 	for _, v := range d.busy.all {
 		client := int(v.held.Client)
-		d.table.byWord[client] = d.table.byWord[client] || v.held.Number > 0 && !d.table.rows[client].Open
+		v.shard.byWord[client] = v.shard.byWord[client] || v.held.Number > 0 && !v.shard.rows[client].Open
 	}
 	if turn == qlock.ServesQuietly {
 		d.beQuiet(now.Add(d.cluster.TTL.Duration))
@@ -284,7 +289,13 @@ func (d *Daemon) learnOfItself(h wire.Header, w word, now time.Time) {
 		j.refused = fmt.Errorf("%s: %w", file(d.own.Data), err)
 		return
 	}
-	if j.start.Hears(h.Number, w.Known.Ceiling, w.Known.isClean(d.store.meta.Identity, j.saves)) != nil {
+	if w.Knows.Next > w.Knows.From { // it has answered once it told all sessions
+		if d.learnAll(*w.Knows, now); w.Knows.From == j.from[h.Number] && d.cluster.IsKey(w.Knows.Next) {
+			j.from[h.Number], j.next = w.Knows.Next, now
+		}
+		return
+	}
+	if w.Knows.From != j.from[h.Number] || j.start.Hears(h.Number, w.Known.Ceiling, w.Known.isClean(d.store.meta.Identity, j.saves)) != nil {
 		return
 	}
 	d.learnAll(*w.Knows, now)
@@ -292,12 +303,13 @@ func (d *Daemon) learnOfItself(h wire.Header, w word, now time.Time) {
 
 // learnAll takes what another voter knows of sessions and of other voters.
 func (d *Daemon) learnAll(known Knows, now time.Time) {
-	for number, row := range known.Sessions {
-		if number < 0 || number >= qlock.MaxClients {
+	for key, row := range known.Sessions {
+		if !d.cluster.IsKey(key) {
 			continue
 		}
-		if row.Lapses = 0; d.table.learn(number, row, now) {
-			d.recount(number)
+		s, number := d.shardOfKey(key)
+		if row.Lapses = 0; s.learn(number, row, now) {
+			d.recount(s, number)
 		}
 	}
 	for place, p := range known.Peers {

@@ -294,8 +294,8 @@ func TestEndOfTheQuietTime(t *testing.T) {
 			t.Errorf("%s: the vote is held under stamp %d", name, held.Stamp)
 		}
 	}
-	if d.table.rows[1].Lapses != 1 || d.table.rows[2].Lapses != 0 {
-		t.Errorf("lapses: %d and %d", d.table.rows[1].Lapses, d.table.rows[2].Lapses)
+	if d.shard(0).rows[1].Lapses != 1 || d.shard(0).rows[2].Lapses != 0 {
+		t.Errorf("lapses: %d and %d", d.shard(0).rows[1].Lapses, d.shard(0).rows[2].Lapses)
 	}
 	if reply := d.repliesTo("jobs", 3, "free request 3 0 1\n"); !strings.Contains(reply, "free locked ") {
 		t.Errorf("afterwards: %q", reply)
@@ -326,7 +326,7 @@ func TestWhatComesBackWhileQuiet(t *testing.T) {
 	if reply := d.repliesTo("jobs", 2, "orders request 2 0 1 inside\n"); !strings.Contains(reply, "orders locked ") {
 		t.Errorf("who is inside: %q", reply)
 	}
-	if lapses := d.table.rows[1].Lapses; lapses > 0 {
+	if lapses := d.shard(0).rows[1].Lapses; lapses > 0 {
 		t.Errorf("%d lapses of who gave it back", lapses)
 	}
 }
@@ -404,14 +404,14 @@ func TestWhatOthersEnd(t *testing.T) {
 	d.repliesTo("jobs", 1, "orders request 1 0 1\n")
 	d.repliesTo("jobs", 2, "orders request 2 0 2\n")
 	now := time.Now()
-	if err := d.learn(`{"sessions":{"1":{"epoch":2,"used":true,"base":1000,"reserved":1000}}}`, now); err != nil {
+	if _, err := d.learn(`{"sessions":{"1":{"epoch":2,"used":true,"base":1000,"reserved":1000}}}`, now); err != nil {
 		t.Fatal(err)
 	}
 	stays := func(when string) {
 		t.Helper()
 		d.round(now)
-		if v := d.votes["orders"]; v.held.Client != 1 || d.table.state(1) != 0 || claimAt(&d.table, 1, "other", 3, now) {
-			t.Errorf("%s: the vote is held by %+v, and its number is to be had: %d", when, v.held, d.table.state(1))
+		if v := d.votes["orders"]; v.held.Client != 1 || d.shard(0).state(1) != 0 || claimAt(&d.shard(0).table, 1, "other", 3, now) {
+			t.Errorf("%s: the vote is held by %+v, and its number is to be had: %d", when, v.held, d.shard(0).state(1))
 		}
 	}
 	stays("at once")
@@ -421,21 +421,21 @@ func TestWhatOthersEnd(t *testing.T) {
 	d = reopened(t, d)
 	d.repliesTo("jobs", 2, "orders request 2 0 2\n")
 	stays("after a restart")
-	later := time.Now().Add(2 * d.table.ttl)
-	passes(&d.table, later)
-	if d.round(later); d.votes["orders"].held.Client != 2 || d.table.state(1) != 1 || !claimAt(&d.table, 1, "other", 3, later) {
-		t.Errorf("after a TTL: the vote is held by %+v, and its number is free: %d", d.votes["orders"].held, d.table.state(1))
+	later := time.Now().Add(2 * d.leases.ttl)
+	passes(&d.shard(0).table, later)
+	if d.round(later); d.votes["orders"].held.Client != 2 || d.shard(0).state(1) != 1 || !claimAt(&d.shard(0).table, 1, "other", 3, later) {
+		t.Errorf("after a TTL: the vote is held by %+v, and its number is free: %d", d.votes["orders"].held, d.shard(0).state(1))
 	}
 }
 
 // What an operator ended, and a number of which two sessions use one epoch, win over a session that somebody still knows.
 func TestLearnsWhatIsOver(t *testing.T) {
 	now := time.Now()
-	table := newTable(now)
+	table := tableAt(now)
 	one := of("one", 4, 10, 100)
 	one.Used = true
 	table.put(3, one)
-	other := newTable(now)
+	other := tableAt(now)
 	other.put(3, one)
 	other.expel(3)
 	if !table.learn(3, other.rows[3], now) || table.rows[3].Open || table.rows[3].Base < 100 {

@@ -241,7 +241,7 @@ func (s *store) read(rows Rows) (err error) {
 
 // load hands each vote, each session and what is known of each place to a function. A session is old if it would be saved
 // in another form.
-func (s *store) load(vote func(name string, state []byte) error, session func(number int, row Session, isOld bool) error,
+func (s *store) load(vote func(name string, state []byte) error, session func(key int, row Session, isOld bool) error,
 	peer func(place int, p Peer)) error {
 	return s.disk.View(func(rows Rows) error {
 		err := each(rows, voteBucket, func(key, value []byte) error {
@@ -256,14 +256,15 @@ func (s *store) load(vote func(name string, state []byte) error, session func(nu
 		}
 		err = each(rows, sessionBucket, func(key, value []byte) error {
 			var row Session
-			if err := json.Unmarshal(value, &row); err != nil || len(key) != 1 || key[0] >= qlock.MaxClients {
+			number, ok := numberOfRow(key)
+			if err := json.Unmarshal(value, &row); err != nil || !ok {
 				return fmt.Errorf("session %x: %w", key, ErrDamaged)
 			}
 			again, err := json.Marshal(row)
 			if err != nil {
 				return err
 			}
-			return session(int(key[0]), row, !bytes.Equal(again, value))
+			return session(number, row, !bytes.Equal(again, value))
 		})
 		if err != nil {
 			return err
@@ -277,6 +278,27 @@ func (s *store) load(vote func(name string, state []byte) error, session func(nu
 			return nil
 		})
 	})
+}
+
+// rowKey returns under what the row of a session is saved, by its key among those of all shards: one byte in the first shard, three in
+// the others.
+func rowKey(key int) []byte {
+	if key < qlock.MaxClients {
+		return []byte{byte(key)}
+	}
+	shard := key / qlock.MaxClients
+	return []byte{byte(shard >> 8), byte(shard), byte(key % qlock.MaxClients)}
+}
+
+// numberOfRow returns the key of which rowKey returns this.
+func numberOfRow(saved []byte) (key int, ok bool) {
+	switch {
+	case len(saved) == 1:
+		key = int(saved[0])
+	case len(saved) == 3 && saved[2] < qlock.MaxClients:
+		key = (int(saved[0])<<8|int(saved[1]))*qlock.MaxClients + int(saved[2])
+	}
+	return key, bytes.Equal(saved, rowKey(key))
 }
 
 // changes are what one transaction saves. Plans and own that did not change are nil.
@@ -384,7 +406,7 @@ func (b *batch) putSessions(sessions map[int]Session) error {
 		if err != nil {
 			return err
 		}
-		if err := b.put(sessionBucket, []byte{byte(number)}, value); err != nil {
+		if err := b.put(sessionBucket, rowKey(number), value); err != nil {
 			return err
 		}
 	}

@@ -58,26 +58,44 @@ const (
 	stampRate   = 1 << 16 // a second
 )
 
-// table has a row for each client number. A session claims its number, and is never learned from a
+// leases is what the tables of all shards share: the lease clock, and which rows are to be saved.
+type leases struct {
+	ttl     time.Duration
+	began   time.Time       // when this run began: times of the lease clock are since then
+	clock   qlock.Clock     // says who was silent
+	changed map[int]Session // to be saved before anything leaves, by their keys
+	later   map[int]Session // to be saved with the next save: after a crash a TTL makes up for it
+}
+
+// table has a row for each client number of a shard. A session claims its number, and is never learned from a
 // header. Which session has a number, under which epoch, and which stamps are its own, the proved rows
 // of package qlock say: so a voter takes no stamp from two sessions. Two quorums meet, so no two
 // sessions use one stamp. How fast epochs and stamps may grow, its buckets say. Here are clocks, and
 // whose messages were heard.
 type table struct {
-	ttl     time.Duration
-	rows    [qlock.MaxClients]Session
-	proved  qlock.Table                     // the same rows, as the proved calls read them
-	hashes  [qlock.MaxClients]qlock.Session // how the proved rows name the sessions of these
-	names   [qlock.MaxClients]string        // of the sessions of these rows that were heard in this run; nothing can be sent to others
-	heard   [qlock.MaxClients]time.Duration // on the lease clock
-	byWord  [qlock.MaxClients]bool          // another voter ended the session, which may not know so: its votes go by the lease
-	began   time.Time                       // when this run began: times of the lease clock are since then
-	clock   qlock.Clock                     // says who was silent
-	changed map[int]Session                 // to be saved before anything leaves
-	later   map[int]Session                 // to be saved with the next save: after a crash a TTL makes up for it
-	epochs  [qlock.MaxClients]qlock.Bucket  // how far the epochs of a number may grow
-	stamps  qlock.Bucket                    // how far the highest stamp may grow
+	*leases
+	number int // of the shard
+	rows   [qlock.MaxClients]Session
+	proved qlock.Table                     // the same rows, as the proved calls read them
+	hashes [qlock.MaxClients]qlock.Session // how the proved rows name the sessions of these
+	names  [qlock.MaxClients]string        // of the sessions of these rows that were heard in this run; nothing can be sent to others
+	heard  [qlock.MaxClients]time.Duration // on the lease clock
+	byWord [qlock.MaxClients]bool          // another voter ended the session, which may not know so: its votes go by the lease
+	epochs [qlock.MaxClients]qlock.Bucket  // how far the epochs of a number may grow
+	stamps qlock.Bucket                    // how far the highest stamp may grow
 }
+
+// newTable returns the table of a shard that no session has used. What numbers may grow begins with the run.
+func newTable(l *leases, shard int) table {
+	t := table{leases: l, number: shard, stamps: *qlock.NewBucket(stampRate, mostStamps, 0)}
+	for i := range t.epochs {
+		t.epochs[i] = *qlock.NewBucket(epochRate, mostEpochs, 0)
+	}
+	return t
+}
+
+// key returns the key of a row among those of all shards.
+func (t *table) key(number int) int { return t.number*qlock.MaxClients + number }
 
 // periodOf returns how long it is from one marker of a voter to the next. What came to the voter before a marker was sent is
 // heard once the marker is back. So a slow disk delays the end of a lease and does not prevent it, a link that is down ends
@@ -89,16 +107,10 @@ func periodOf(ttl time.Duration) time.Duration {
 	return ttl / 8
 }
 
-// begin begins a run of a voter: all leases begin anew, and so does what numbers may grow.
-func (t *table) begin(now time.Time) {
-	t.began, t.clock = now, *qlock.NewClock(periodOf(t.ttl), 0)
-	for i := range t.heard {
-		t.heard[i] = 0
-	}
-	t.stamps = *qlock.NewBucket(stampRate, mostStamps, 0)
-	for i := range t.epochs {
-		t.epochs[i] = *qlock.NewBucket(epochRate, mostEpochs, 0)
-	}
+// begin begins a run of a voter: all leases begin anew.
+func (l *leases) begin(now time.Time) {
+	l.began, l.clock = now, *qlock.NewClock(periodOf(l.ttl), 0)
+	l.changed, l.later = map[int]Session{}, map[int]Session{}
 }
 
 // hearAll lets all leases begin anew.
@@ -108,25 +120,13 @@ func (t *table) hearAll(now time.Time) {
 	}
 }
 
-// known returns the rows of numbers that a session ever had.
-func (t *table) known() map[int]Session {
-	rows := map[int]Session{}
-	for number, row := range t.rows {
-		if row.Epoch > 0 {
-			rows[number] = row
-		}
-	}
-	return rows
-}
-
 // hear notes that a number's session was heard.
 func (t *table) hear(number int, now time.Time) { t.heard[number] = t.clock.At(now.Sub(t.began)) }
 
-// returns notes that a marker came back. The time that it skips is skipped for those, too, that were heard since the one before:
+// returned is called once a marker came back. The time that it skips is skipped for those, too, that were heard since the one before:
 // they count as heard now, at the latest. Else a session that was heard last when this voter went on, after it had stood still,
 // would live for that much longer than a TTL.
-func (t *table) returns(marker uint64, now time.Time) {
-	t.clock.Returns(marker)
+func (t *table) returned(now time.Time) {
 	latest := t.clock.At(now.Sub(t.began))
 	for number, heard := range t.heard {
 		if heard > latest {
@@ -201,30 +201,30 @@ func (t *table) put(number int, row Session) {
 		t.names[number] = ""
 	}
 	t.set(number, row)
-	t.changed[number] = row
-	delete(t.later, number)
+	t.changed[t.key(number)] = row
+	delete(t.later, t.key(number))
 }
 
 // note changes a row of which nothing that leaves says anything that a crash may not undo.
 func (t *table) note(number int, row Session) {
-	if _, changed := t.changed[number]; changed {
+	if _, changed := t.changed[t.key(number)]; changed {
 		t.put(number, row)
 		return
 	}
 	t.set(number, row)
-	t.later[number] = row
+	t.later[t.key(number)] = row
 }
 
-// unsaved returns the rows that are not saved as they are.
-func (t *table) unsaved() map[int]Session {
-	for number, row := range t.later {
-		t.changed[number] = row
+// unsaved returns the rows that are not saved as they are, by their keys.
+func (l *leases) unsaved() map[int]Session {
+	for key, row := range l.later {
+		l.changed[key] = row
 	}
-	return t.changed
+	return l.changed
 }
 
 // saved notes that all rows are saved.
-func (t *table) saved() { t.changed, t.later = map[int]Session{}, map[int]Session{} }
+func (l *leases) saved() { l.changed, l.later = map[int]Session{}, map[int]Session{} }
 
 // judge judges a message by the session that sent it.
 func (t *table) judge(number int, name string, epoch uint64) qlock.Standing {

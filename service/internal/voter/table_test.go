@@ -9,10 +9,21 @@ import (
 	"calvundek.example/service/qlock"
 )
 
-func newTable(now time.Time) *table {
-	t := &table{ttl: time.Second, changed: map[int]Session{}, later: map[int]Session{}}
-	t.begin(now)
-	return t
+func tableAt(now time.Time) *table {
+	l := leasesAt(now)
+	t := newTable(&l, 0)
+	return &t
+}
+
+// newLeases returns leases that have not begun, and leasesAt those that began at a time.
+func newLeases() leases {
+	return leases{ttl: time.Second, changed: map[int]Session{}, later: map[int]Session{}}
+}
+
+func leasesAt(now time.Time) leases {
+	l := newLeases()
+	l.begin(now)
+	return l
 }
 
 // passes lets a table's lease clock go on to a time.
@@ -41,7 +52,7 @@ func admits(t *table, number int, name string, epoch, reserved uint64, now time.
 
 func TestClaims(t *testing.T) {
 	now := time.Unix(1000, 0)
-	table := newTable(now)
+	table := tableAt(now)
 	later := now.Add(2 * time.Second)
 	row := func() Session { return table.rows[3] } // calls take place in their order
 	for _, one := range []struct {
@@ -99,7 +110,7 @@ func TestClaims(t *testing.T) {
 // no epoch by more than 2^20 at once. Others may follow what one reserved.
 func TestGrowthIsBounded(t *testing.T) {
 	now := time.Unix(1000, 0)
-	table := newTable(now)
+	table := tableAt(now)
 	table.claim(3, "a", 1, 0, now)
 	for i := 0; i < 100000; i++ {
 		now = now.Add(100 * time.Microsecond)
@@ -125,7 +136,7 @@ func TestGrowthIsBounded(t *testing.T) {
 	if table.rows[5].Epoch > mostEpochs {
 		t.Errorf("a number has the epoch %d", table.rows[5].Epoch)
 	}
-	if other := newTable(now); !other.claim(5, "y", table.rows[5].Epoch+1, 0, now.Add(time.Second)) {
+	if other := tableAt(now); !other.claim(5, "y", table.rows[5].Epoch+1, 0, now.Add(time.Second)) {
 		t.Error("a session that saw this epoch gets the number from no other voter")
 	}
 }
@@ -148,7 +159,7 @@ func stampsUsedTwice(meet int) (twice int) {
 	for world := 0; world < 300; world++ {
 		var tables [qlock.MaxVoters]*table
 		for i := 0; i < 3; i++ {
-			tables[i] = newTable(now)
+			tables[i] = tableAt(now)
 		}
 		used := map[uint64]int{}
 		for session := 1; session < 12; session++ {
@@ -194,7 +205,7 @@ func weight(i, meet int) int {
 // A session that has two numbers here, as one of which it did not get it counts, too, hears the greater count of its lapses.
 func TestLapsesOfTwoNumbers(t *testing.T) {
 	now := time.Now()
-	table := newTable(now)
+	table := tableAt(now)
 	for _, number := range []int{3, 9, 12} {
 		if !claimAt(table, number, "jobs.me", 1, now) {
 			t.Fatal("no number")
@@ -209,7 +220,7 @@ func TestLapsesOfTwoNumbers(t *testing.T) {
 // A number whose epochs are spent is nobody's any more: a voter says that it is taken.
 func TestSpentEpochs(t *testing.T) {
 	now := time.Unix(1000, 0)
-	table := newTable(now)
+	table := tableAt(now)
 	for _, epoch := range []uint64{math.MaxUint64 - 1, math.MaxUint64} {
 		table.set(3, Session{Epoch: epoch})
 		if got, want := table.state(3), map[uint64]int{math.MaxUint64 - 1: 1}[epoch]; got != want {

@@ -25,12 +25,30 @@ type skip struct {
 	ask     wire.Ask
 }
 
-// skipFor has a vote skip numbers, for who has it. It says so after the next save. As long as it may not skip as many, or would have to go
-// beyond the ceiling, for which it asks the other voters, it says nothing: the client asks again.
+// mostSkipsWaiting is how many calls wait for the next ceiling. Others ask again.
+const mostSkipsWaiting = 256
+
+// skipWaiting is a call that waits for the next ceiling.
+type skipWaiting struct {
+	letter *letter
+	ask    wire.Ask
+}
+
+// skipWaiters lets those that waited for the ceiling skip numbers now.
+func (d *Daemon) skipWaiters(now time.Time) {
+	waiting := d.skipsWaiting
+	d.skipsWaiting = nil
+	for _, one := range waiting {
+		d.skipFor(one.letter, one.ask, now)
+	}
+}
+
+// skipFor has a vote skip numbers, for who has it. It says so after the next save. Who would have to go beyond the ceiling waits until the
+// other voters keep a higher one. As long as it may not skip as many it says nothing: the client asks again.
 func (d *Daemon) skipFor(l *letter, ask wire.Ask, now time.Time) {
 	v := d.votes[ask.Lock]
 	if !d.join.done || v == nil || !v.isHolder(l.Number) || v.held.Stamp != ask.Number || v.held.Number != ask.Grant ||
-		d.table.isEarlier(l.Number, ask.Number) {
+		v.shard != l.shard || l.shard.isEarlier(l.Number, ask.Number) {
 		return // it hears otherwise that it does not have this vote, or has to find out
 	}
 	if !d.mayReach(ask.Top, now) {
@@ -40,7 +58,12 @@ func (d *Daemon) skipFor(l *letter, ask wire.Ask, now time.Time) {
 		if d.join.start.Shows().Asked <= d.ceiling { // else it was asked for one already
 			d.needsCeiling(ask.Top, now)
 		}
-		return
+		if ask.Top > d.ceiling { // else they keep it already
+			if len(d.skipsWaiting) < mostSkipsWaiting {
+				d.skipsWaiting = append(d.skipsWaiting, skipWaiting{&letter{Header: l.Header, shard: l.shard}, ask})
+			}
+			return
+		}
 	}
 	if ask.Top > v.limit {
 		v.limit = d.ceiling
@@ -72,7 +95,7 @@ func (d *Daemon) mayReach(number uint64, now time.Time) bool {
 	if number > qlock.MaxStamp {
 		return false // no grant has such a number
 	}
-	since := now.Sub(d.table.began)
+	since := now.Sub(d.leases.began)
 	further := smallest(number-d.reach, d.skippable.Left(since))
 	if d.skippable.Spend(since, further) == nil {
 		d.reach += further

@@ -76,18 +76,14 @@ func TestTurnsAreOfTheHolder(t *testing.T) {
 	}
 }
 
-// For a turn beyond its ceiling a voter asks the others for a higher one first.
+// For a turn beyond its ceiling a voter asks the others for a higher one first, and tells the turn once they keep it.
 func TestTurnsRaiseTheCeiling(t *testing.T) {
 	d := sessions(t, 1)
 	d.repliesTo("jobs", 1, "orders request 1 0 5\n")
 	grant, top := d.votes["orders"].held.Number, d.ceiling+3*skipRate
 	ask := fmt.Sprintf(". turn orders 5 %d %d\n", grant, top)
-	if reply := d.turned(t, 1, ask); reply != "" || d.asked() <= top {
-		t.Fatalf("%q, asked for %d, which is not above %d", reply, d.asked(), top)
-	}
-	d.start(time.Now()) // there is no other voter
 	if reply, want := d.turned(t, 1, ask), fmt.Sprintf(". turned orders 5 %d\n", top); reply != want || d.ceiling <= top {
-		t.Errorf("%q under the ceiling %d", reply, d.ceiling)
+		t.Errorf("%q under the ceiling %d", reply, d.ceiling) // there is no other voter
 	}
 	before := d.ceiling
 	for _, top := range []uint64{before + mostSkip, 1 << 62, 1<<63 + 1} {
@@ -120,12 +116,12 @@ func TestTurnsComeNearer(t *testing.T) {
 	d.skippable = *qlock.NewBucket(100, 1000, 0)
 	far := greatest(d.floor, d.m.most) + 2000
 	for seconds := 0; seconds <= 15; seconds += 5 {
-		if may := d.mayReach(far, d.table.began.Add(time.Duration(seconds)*time.Second)); may != (seconds == 15) {
+		if may := d.mayReach(far, d.leases.began.Add(time.Duration(seconds)*time.Second)); may != (seconds == 15) {
 			t.Errorf("after %d seconds: %v", seconds, may)
 		}
 	}
 	d.peers[1].Ceiling = 1 << 50
-	if !d.mayReach(1<<50, d.table.began) || d.mayReach(1<<50+2000, d.table.began) {
+	if !d.mayReach(1<<50, d.leases.began) || d.mayReach(1<<50+2000, d.leases.began) {
 		t.Error("it does not follow another voter, or is far ahead of it")
 	}
 }

@@ -21,12 +21,18 @@ func userOf(session string) string {
 	return user
 }
 
+// nameOf returns the name of a session in the headers of its messages, by its name here.
+func nameOf(session string) string {
+	_, name, _ := strings.Cut(session, ".")
+	return name
+}
+
 // asker returns the user who asks under a stamp of a number, "" if an earlier session of the number did.
-func (d *Daemon) asker(client int, stamp uint64) string {
-	if d.table.isEarlier(client, stamp) {
+func (s *shard) asker(client int, stamp uint64) string {
+	if s.isEarlier(client, stamp) {
 		return ""
 	}
-	return userOf(d.table.rows[client].Hash)
+	return userOf(s.rows[client].Hash)
 }
 
 // countUser counts the requests of a user that have a vote or wait for it, and its votes.
@@ -66,7 +72,7 @@ func (d *Daemon) isAtBound(v *vote, user string) bool {
 func (d *Daemon) isInTheWay(v *vote) bool {
 	client := int(v.held.Client)
 	u := d.users[v.asks[client].user]
-	return !d.table.rows[client].Open || d.table.isEarlier(client, v.held.Stamp) ||
+	return !v.shard.rows[client].Open || v.shard.isEarlier(client, v.held.Stamp) ||
 		u != nil && u.isFull && u.votes >= d.own.LocksOfUser() || d.isFull && len(d.votes) >= d.own.MaxLocks
 }
 

@@ -19,6 +19,7 @@ type ask struct {
 type vote struct {
 	*qlock.Voter
 	name    string
+	shard   *shard
 	held    qlock.Grant
 	granted time.Time      // when it was granted
 	asks    map[int]ask    // by client: who has it, and who waits
@@ -60,7 +61,7 @@ func (d *Daemon) add(name string, voter *qlock.Voter) *vote {
 
 // voteOf returns what is kept of a lock beside its voter.
 func (d *Daemon) voteOf(name string, voter *qlock.Voter) *vote {
-	v := &vote{Voter: voter, name: name, timer: remind.Timer{First: d.own.First.Duration, Most: d.own.Most.Duration}}
+	v := &vote{Voter: voter, name: name, shard: d.shardOfLock(name), timer: remind.Timer{First: d.own.First.Duration, Most: d.own.Most.Duration}}
 	v.limit, v.highest, v.begun = d.ceiling, d.floor, d.floor
 	return v
 }
@@ -101,7 +102,7 @@ func (d *Daemon) noteAsk(v *vote, client int, stamp uint64, now time.Time) {
 		return
 	}
 	if asked {
-		d.count(client, before, -1)
+		v.shard.count(client, before, -1)
 		d.countUser(v, before.user, -1)
 		delete(v.asks, client)
 	}
@@ -109,9 +110,9 @@ func (d *Daemon) noteAsk(v *vote, client int, stamp uint64, now time.Time) {
 		if v.asks == nil {
 			v.asks = map[int]ask{}
 		}
-		one := ask{stamp: stamp, since: now, user: d.asker(client, stamp)}
+		one := ask{stamp: stamp, since: now, user: v.shard.asker(client, stamp)}
 		v.asks[client] = one
-		d.count(client, one, 1)
+		v.shard.count(client, one, 1)
 		d.countUser(v, one.user, 1)
 		v.timer.Sooner(now)
 	}
@@ -126,18 +127,18 @@ func (d *Daemon) noteAsk(v *vote, client int, stamp uint64, now time.Time) {
 
 // count counts the requests of the session that a number has now. Those of its earlier sessions don't count: nobody of
 // this session waits for them.
-func (d *Daemon) count(client int, one ask, by int) {
-	if one.stamp > d.table.rows[client].Base {
-		d.requests[client] += by
+func (s *shard) count(client int, one ask, by int) {
+	if one.stamp > s.rows[client].Base {
+		s.requests[client] += by
 	}
 }
 
 // recount counts anew, once a number has a new session.
-func (d *Daemon) recount(client int) {
-	d.requests[client] = 0
+func (d *Daemon) recount(s *shard, client int) {
+	s.requests[client] = 0
 	for _, v := range d.busy.all {
-		if one, asked := v.asks[client]; asked {
-			d.count(client, one, 1)
+		if one, asked := v.asks[client]; asked && v.shard == s {
+			s.count(client, one, 1)
 		}
 	}
 }

@@ -54,6 +54,8 @@ type Told struct {
 	Open         uint64 // of Sessions: how many are open
 	Silent       uint64 // of Sessions: for how many milliseconds one of them was silent at most
 	Waits        uint64 // of Sessions: for how many milliseconds a request has waited at most
+	Ahead        uint64 // of Sessions: how many sessions wait for a number before this one
+	Highest      uint64 // of Sessions, where some wait: the highest stamp that any session reserved
 }
 
 // ToldKind is what a Told is.
@@ -65,8 +67,10 @@ const (
 	Noted             // noted: the voter has the session's note
 	HasVote           // has ID LOCK WAITING [NUMBER STAMP MS USER [NOTE]]
 	IsListed          // listed ID FROM NEXT
-	Sessions          // sessions OPEN SILENT WAITS, behind the reply to hello
+	Sessions          // sessions OPEN SILENT WAITS [AHEAD HIGHEST], behind the reply to hello
 	Turned            // turned LOCK STAMP TOP
+	Free              // free: a number is, for who waits for one
+	Wanted            // wanted: somebody waits for a number
 )
 
 // IsNote returns whether a text may be a note: 1 to 128 printable bytes of ASCII, with no space at either end.
@@ -140,8 +144,15 @@ func (t Told) Append(out []byte) []byte {
 		out = withNumber(withNumber(withNumber(append(out, ". listed"...), t.ID), t.From), t.Next)
 	case Sessions:
 		out = withNumber(withNumber(withNumber(append(out, ". sessions"...), t.Open), t.Silent), t.Waits)
+		if t.Ahead > 0 || t.Highest > 0 {
+			out = withNumber(withNumber(out, t.Ahead), t.Highest)
+		}
 	case Turned:
 		out = withNumber(withNumber(withText(append(out, ". turned"...), t.Lock), t.Stamp), t.Top)
+	case Free:
+		out = append(out, ". free"...)
+	case Wanted:
+		out = append(out, ". wanted"...)
 	}
 	return append(out, '\n')
 }
@@ -162,9 +173,16 @@ func ReadTold(line []byte) (t Told, ok bool) {
 	case "listed":
 		t = Told{Kind: IsListed, ID: w.number(), From: w.number(), Next: w.number()}
 	case "sessions":
-		t = Told{Kind: Sessions, Open: w.number(), Silent: w.number(), Waits: w.number()}
+		if t = (Told{Kind: Sessions, Open: w.number(), Silent: w.number(), Waits: w.number()}); w.rest != nil {
+			t.Ahead, t.Highest = w.number(), w.number()
+			w.isWrong = w.isWrong || t.Ahead == 0 && t.Highest == 0
+		}
 	case "turned":
 		t = Told{Kind: Turned, Lock: w.lock(), Stamp: w.number(), Top: w.number()}
+	case "free":
+		t = Told{Kind: Free}
+	case "wanted":
+		t = Told{Kind: Wanted}
 	default:
 		return Told{}, false
 	}

@@ -19,7 +19,8 @@
 // session go since it was silent. Lines of control, and the replies:
 //
 //	hello         number N EPOCH STATE for each number: 0 taken, 1 free, 2 its session is silent, and
-//	              sessions OPEN SILENT-MS WAITS-MS: how many, and the longest silence and wait of a request
+//	              sessions OPEN SILENT-MS WAITS-MS [AHEAD HIGHEST]: how many, and the longest silence and wait of a
+//	              request; where some wait for a number, how many do before this one, and the highest reserved stamp
 //	claim N EPOCH STAMPS   claimed N EPOCH BASE RESERVED, or refused N EPOCH; it reserves so many
 //	              stamps above BASE, none without STAMPS
 //	drop N EPOCH  none: a claim had no quorum
@@ -55,7 +56,10 @@
 // Voters speak to one another in mailboxes of their own, a line of JSON behind the header (package
 // voter, peers.go).
 //
-// A voter that ends by a signal says "leaving" to all sessions.
+// A voter that ends by a signal says "leaving" to all sessions. Where all numbers of a shard are in use it shows a free one to who waits
+// longest for it, says "free" to him, and "wanted" to the sessions of the shard: those that want nothing give their numbers back.
+//
+// In a cluster with shards the name of a session begins with the number of its shard, and "-". It is the mark's, too, how many there are.
 //
 // The last word of a mailbox says who speaks, and a broker with users lets nobody else send to it:
 //
@@ -196,6 +200,7 @@ type Line struct {
 	Word     []byte // what it is, as "request"
 	From, To int    // who sent it, and whom it is for; both are -1 if it is no such line
 	Stamp    uint64 // the stamp that comes first, the grant of INQUIRE and RELINQUISH; 0 if there is none
+	Grant    uint64 // the number behind it, of a LOCKED that of its grant; 0 if there is none
 }
 
 // ReadLine reads a line of the automata, with or without its end.
@@ -206,9 +211,11 @@ func ReadLine(line []byte) Line {
 	if !found {
 		return Line{Word: word, From: -1, To: -1}
 	}
-	stamp, _, _ := bytes.Cut(rest, []byte(" "))
+	stamp, rest, _ := bytes.Cut(rest, []byte(" "))
+	grant, _, _ := bytes.Cut(rest, []byte(" "))
 	l := Line{Word: word, From: Number(from), To: Number(to)}
 	l.Stamp, _ = Decimal(stamp)
+	l.Grant, _ = Decimal(grant)
 	return l
 }
 

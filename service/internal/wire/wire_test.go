@@ -117,20 +117,20 @@ func TestNames(t *testing.T) {
 // A line is read with or without its end, and nothing of what is no line.
 func TestLines(t *testing.T) {
 	for text, want := range map[string]Line{
-		"request 5 0 17":             {[]byte("request"), 5, 0, 17},
-		"fail 2 63 17\n":             {[]byte("fail"), 2, 63, 17},
-		"locked 0 5 17 3\n":          {[]byte("locked"), 0, 5, 17},
-		"release 5 0 ":               {[]byte("release"), 5, 0, 0},
-		"release 5 0 1x":             {[]byte("release"), 5, 0, 0},
-		"request 5 0":                {[]byte("request"), -1, -1, 0},
-		"request 5 -1 2":             {[]byte("request"), 5, -1, 2},
-		"request 5 2147483648 2":     {[]byte("request"), 5, -1, 2},
-		"a 1 2 18446744073709551615": {[]byte("a"), 1, 2, 1<<64 - 1},
-		"a 1 2 18446744073709551616": {[]byte("a"), 1, 2, 0},
-		"":                           {[]byte{}, -1, -1, 0},
+		"request 5 0 17":             {[]byte("request"), 5, 0, 17, 0},
+		"fail 2 63 17\n":             {[]byte("fail"), 2, 63, 17, 0},
+		"locked 0 5 17 3\n":          {[]byte("locked"), 0, 5, 17, 3},
+		"release 5 0 ":               {[]byte("release"), 5, 0, 0, 0},
+		"release 5 0 1x":             {[]byte("release"), 5, 0, 0, 0},
+		"request 5 0":                {[]byte("request"), -1, -1, 0, 0},
+		"request 5 -1 2":             {[]byte("request"), 5, -1, 2, 0},
+		"request 5 2147483648 2":     {[]byte("request"), 5, -1, 2, 0},
+		"a 1 2 18446744073709551615": {[]byte("a"), 1, 2, 1<<64 - 1, 0},
+		"a 1 2 18446744073709551616": {[]byte("a"), 1, 2, 0, 0},
+		"":                           {[]byte{}, -1, -1, 0, 0},
 	} {
 		if got := ReadLine([]byte(text)); string(got.Word) != string(want.Word) || got.From != want.From || got.To != want.To ||
-			got.Stamp != want.Stamp {
+			got.Stamp != want.Stamp || got.Grant != want.Grant {
 			t.Errorf("%q: %v", text, got)
 		}
 	}

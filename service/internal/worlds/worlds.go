@@ -41,7 +41,13 @@ type World struct {
 // New makes the states of a cluster's voters, and starts them.
 func New(t *testing.T, coterie string, ttl time.Duration) *World {
 	t.Helper()
-	w := &World{T: t, Bus: bus.New(1), Cluster: NewCluster(t, coterie, ttl), folder: t.TempDir()}
+	return NewOf(t, NewCluster(t, coterie, ttl))
+}
+
+// NewOf makes the states of the voters of a cluster with these settings, and starts them.
+func NewOf(t *testing.T, cluster *config.Cluster) *World {
+	t.Helper()
+	w := &World{T: t, Bus: bus.New(1), Cluster: cluster, folder: t.TempDir()}
 	w.grow()
 	w.Ready()
 	return w

@@ -1,4 +1,3 @@
-use Rattle.envelope.proofs.ControlLemmas.{cut_of_lock}
 use Rattle.envelope.proofs.LockLemmas.{cut_off, says_cut_off}
 use Rattle.envelope.proofs.laws.lines_are_cut_off.Goals as goal
 
@@ -6,4 +5,4 @@ pub returns-clause-lines : goal.returns-clause-lines
 returns-clause-lines c = cut_off
 
 pub returns-clause-says : goal.returns-clause-says
-returns-clause-says c lock s rest named fits = says_cut_off lock s rest (cut_of_lock lock s rest named fits)
+returns-clause-says c = says_cut_off

@@ -1,6 +1,6 @@
 use Rattle.std.proofs.Common.{sym}
 use Rattle.envelope.proofs.LockLemmas.{first_len, has_space, is_first, parts_are}
-use Rattle.envelope.proofs.TestLemmas.{fails, passes}
+use Rattle.line_words.proofs.TestLemmas.{fails, passes}
 use Rattle.envelope.proofs.lock_lines.first_line.Goals as goal
 
 pub returns-in_default-cut_at-clause-read : goal.returns-in_default-cut_at-clause-read

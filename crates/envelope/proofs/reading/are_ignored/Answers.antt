@@ -1,7 +1,7 @@
 use Rattle.std.proofs.Common.{◌++◌, ◌∷◌, ◌∙◌, sym, ap, inl, inr, ℕ, List}
 use Rattle.texts.proofs.FieldLemmas.{some-from_test}
 use Rattle.envelope.proofs.LevelLemmas.{ignored_cases}
-use Rattle.envelope.proofs.TestLemmas.{fails, passes}
+use Rattle.line_words.proofs.TestLemmas.{fails, passes}
 use Rattle.envelope.proofs.reading.are_ignored.Goals as goal
 
 pub returns-in_default : goal.returns-in_default

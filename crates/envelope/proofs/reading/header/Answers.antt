@@ -1,10 +1,11 @@
 use Rattle.std.proofs.Common.{◌∷◌, [], refl, rules}
 use Rattle.std.specs.Prelude.{codes}
-use Rattle.envelope.specs.Headers.{level_words, sender_words, spaced}
+use Rattle.envelope.specs.Headers.{level_words, sender_words}
 use Rattle.envelope.proofs.HeadLemmas.{same_head}
 use Rattle.envelope.proofs.LevelLemmas.{IsBorder-level}
 use Rattle.envelope.proofs.SenderLemmas.{IsBorder-sender}
-use Rattle.envelope.proofs.TestLemmas.{fails}
+use Rattle.line_words.specs.Lines.{spaced}
+use Rattle.line_words.proofs.TestLemmas.{fails}
 use Rattle.envelope.proofs.reading.header.Goals as goal
 
 pub returns-then-not-is-clause-read : goal.returns-then-not-is-clause-read

@@ -2,7 +2,7 @@ use Rattle.std.proofs.Common.{◌≡◌, ◌++◌, ◌∙◌, sym, inl, inr, ari
 use Rattle.std.specs.Prelude.{codes}
 use Rattle.std.specs.Fmt.{decimal}
 use Rattle.envelope.proofs.LevelLemmas.{cut_of_level, level_cases, level_word_plain, none_of_level, not_level}
-use Rattle.envelope.proofs.TestLemmas.{fails, passes}
+use Rattle.line_words.proofs.TestLemmas.{fails, passes}
 use Rattle.envelope.proofs.reading.level.Goals as goal
 
 pub returns-in_default-clause-read : goal.returns-in_default-clause-read

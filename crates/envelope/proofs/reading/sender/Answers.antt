@@ -1,6 +1,6 @@
 use Rattle.std.proofs.Common.{◌∙◌}
 use Rattle.envelope.proofs.SenderLemmas.{behind, kind_of, one_kind, parts}
-use Rattle.envelope.proofs.TestLemmas.{fails}
+use Rattle.line_words.proofs.TestLemmas.{fails}
 use Rattle.envelope.proofs.reading.sender.Goals as goal
 
 pub returns-in_default-clause-read : goal.returns-in_default-clause-read

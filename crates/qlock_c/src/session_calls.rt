@@ -1,0 +1,161 @@
+//! The calls of what a session keeps: leases, votes, and its stamps at voters.
+ghost use Rattle.std.specs.Prelude.{◌≡◌, ◌≢◌};
+ghost use Rattle.vote_leases.specs.Leases.{ended, given_back, renewed};
+ghost use Rattle.session_blocks.specs.SessionSteps.{LeaseBecomes, LeaseHears, LeaseIsMade, StampsAreMade, StampsAreOwn, StampsHear, VoteAsks, VoteBecomes, VoteIsMade, VoteKeeps, VoteShowsEnd, VoteTakes};
+ghost use Rattle.blocks.specs.Numbers.{done};
+ghost use Rattle.blocks.specs.RowSteps.{is_yes};
+
+use blocks::number_of;
+use session_blocks::{leases, stamps, votes};
+use vote_leases::{Incarnation, Locked};
+
+/// Makes the lease of a voter of which nothing was heard, in 40 bytes.
+#[unsafe(no_mangle)]
+pub extern "C" fn qlock_lease_new(lease: &mut [u8]) -> i32
+    // A call that is refused writes nothing.
+    ensures refused { result ≢ done → lease.new ≡ lease.old }
+    ensures made { LeaseIsMade lease.old lease.new result }
+{
+    number_of(leases::new(lease))
+}
+
+/// Hears the incarnation that a message of the voter says. Writes 1 if it is the latest one, and 0 if it is of an earlier one.
+#[unsafe(no_mangle)]
+pub extern "C" fn qlock_lease_hears(
+    lease: &mut [u8],
+    run: u64,
+    start: u64,
+    lapses: u64,
+    latest: &mut u32,
+) -> i32
+    ensures refused { result ≢ done → (lease.new ≡ lease.old) × (latest.new ≡ latest.old) }
+    ensures hears { LeaseHears (record { run = run; start = start; lapses = lapses }) lease.old lease.new latest.new result }
+{
+    number_of(leases::hears(lease, Incarnation { run, start, lapses }, latest))
+}
+
+/// Takes an acknowledgement of a heartbeat that left at this time. One of another incarnation changes nothing.
+#[unsafe(no_mangle)]
+pub extern "C" fn qlock_lease_renews(
+    lease: &mut [u8],
+    run: u64,
+    start: u64,
+    lapses: u64,
+    beat: u64,
+) -> i32
+    ensures refused { result ≢ done → lease.new ≡ lease.old }
+    ensures renews { LeaseBecomes (λ l. renewed l (record { run = run; start = start; lapses = lapses }) beat) lease.old lease.new result }
+{
+    number_of(leases::renews(lease, Incarnation { run, start, lapses }, beat))
+}
+
+/// Makes the vote of a lock that the session did not ask for yet, in 72 bytes. Its requests have stamps above this one.
+#[unsafe(no_mangle)]
+pub extern "C" fn qlock_vote_new(used: u64, vote: &mut [u8]) -> i32
+    ensures refused { result ≢ done → vote.new ≡ vote.old }
+    ensures made { VoteIsMade used vote.old vote.new result }
+{
+    number_of(votes::new(used, vote))
+}
+
+/// Asks with a request of this stamp. Writes 1 if it is above those of all requests before, and 0 if not: then nothing changes.
+#[unsafe(no_mangle)]
+pub extern "C" fn qlock_vote_asks(vote: &mut [u8], request: u64, yes: &mut u32) -> i32
+    ensures refused { result ≢ done → (vote.new ≡ vote.old) × (yes.new ≡ yes.old) }
+    ensures asks { VoteAsks request vote.old vote.new yes.new result }
+{
+    number_of(votes::asks(vote, request, yes))
+}
+
+/// Keeps what counts for the vote by the voter's lease, before a later incarnation is heard.
+#[unsafe(no_mangle)]
+pub extern "C" fn qlock_vote_keeps(vote: &mut [u8], lease: &[u8]) -> i32
+    ensures refused { result ≢ done → vote.new ≡ vote.old }
+    ensures keeps { VoteKeeps lease.now vote.old vote.new result }
+{
+    number_of(votes::keeps(vote, lease))
+}
+
+/// Takes a LOCKED. Writes 1 if the session has the vote by it, and 0 if not.
+#[unsafe(no_mangle)]
+pub extern "C" fn qlock_vote_takes(
+    vote: &mut [u8],
+    lease: &[u8],
+    run: u64,
+    start: u64,
+    lapses: u64,
+    request: u64,
+    number: u64,
+    renews: u32,
+    span: u64,
+    now: u64,
+    yes: &mut u32,
+) -> i32
+    ensures refused { result ≢ done → (vote.new ≡ vote.old) × (yes.new ≡ yes.old) }
+    ensures takes { VoteTakes
+        (record { incarnation = record { run = run; start = start; lapses = lapses }; request = request; number = number; renews = is_yes renews })
+        span now lease.now vote.old vote.new yes.new result }
+{
+    let incarnation = Incarnation { run, start, lapses };
+    let locked = Locked {
+        incarnation,
+        request,
+        number,
+        renews: renews != 0,
+    };
+    number_of(votes::takes(vote, lease, &locked, span, now, yes))
+}
+
+/// Gives the vote back, whose grant has this number. No grant counts with it or a lower one.
+#[unsafe(no_mangle)]
+pub extern "C" fn qlock_vote_gives_back(vote: &mut [u8], number: u64) -> i32
+    ensures refused { result ≢ done → vote.new ≡ vote.old }
+    ensures gives { VoteBecomes (λ v. given_back v number) vote.old vote.new result }
+{
+    number_of(votes::gives_back(vote, number))
+}
+
+/// Ends the request of this stamp. One before the newest was over already.
+#[unsafe(no_mangle)]
+pub extern "C" fn qlock_vote_ends(vote: &mut [u8], request: u64) -> i32
+    ensures refused { result ≢ done → vote.new ≡ vote.old }
+    ensures ends { VoteBecomes (λ v. ended v request) vote.old vote.new result }
+{
+    number_of(votes::ends(vote, request))
+}
+
+/// Writes up to when the vote counts, where a heartbeat counts for `span` after it left, and 0 if it does not count at all.
+#[unsafe(no_mangle)]
+pub extern "C" fn qlock_vote_until(vote: &[u8], lease: &[u8], span: u64, end: &mut u64) -> i32
+    ensures refused { result ≢ done → end.new ≡ end.old }
+    ensures shows { VoteShowsEnd span lease.now vote.now end.new result }
+{
+    number_of(votes::until(vote, lease, span, end))
+}
+
+/// Makes what a session keeps of its stamps at a voter that told nothing, in 24 bytes.
+#[unsafe(no_mangle)]
+pub extern "C" fn qlock_stamps_new(stamps: &mut [u8]) -> i32
+    ensures refused { result ≢ done → stamps.new ≡ stamps.old }
+    ensures made { StampsAreMade stamps.old stamps.new result }
+{
+    number_of(stamps::new(stamps))
+}
+
+/// Takes what the voter tells: the base of the session's stamps, and up to which they are reserved.
+#[unsafe(no_mangle)]
+pub extern "C" fn qlock_stamps_hear(stamps: &mut [u8], base: u64, reserved: u64) -> i32
+    ensures refused { result ≢ done → stamps.new ≡ stamps.old }
+    ensures hear { StampsHear base reserved stamps.old stamps.new result }
+{
+    number_of(stamps::hears(stamps, base, reserved))
+}
+
+/// Writes 1 if the session may ask the voter under this stamp, and 0 if not.
+#[unsafe(no_mangle)]
+pub extern "C" fn qlock_stamps_have(stamps: &[u8], stamp: u64, yes: &mut u32) -> i32
+    ensures refused { result ≢ done → yes.new ≡ yes.old }
+    ensures have { StampsAreOwn stamps.now stamp yes.new result }
+{
+    number_of(stamps::have(stamps, stamp, yes))
+}

@@ -1,0 +1,32 @@
+-- how long the blocks are
+use Rattle.std.proofs.Common.{◌≡◌, ℕ, ◌*◌, List, Option, None, Some, length, ap, refl, ◌∙◌}
+use Rattle.std.specs.Prelude.{suc}
+use Rattle.words.proofs.WordLemmas.{length-bytes_of}
+use Rattle.words.specs.WordBytes.{bytes_of}
+use Rattle.own_stamps.specs.Stamps.{words_of}
+use Rattle.own_stamps.specs.declared.stamps.OwnStamps.{OwnStamps}
+use Rattle.vote_leases.specs.Saved.{lease_words, option_words, taken_words, vote_words}
+use Rattle.vote_leases.specs.declared.lease.VoterLease.{VoterLease}
+use Rattle.vote_leases.specs.declared.vote.Taken.{Taken}
+use Rattle.vote_leases.specs.declared.vote.Vote.{Vote}
+use Rattle.session_blocks.specs.Bytes.{AreStamps, IsLease, IsVote}
+
+length-words : (bytes words : List ℕ) (n : ℕ) → bytes ≡ bytes_of words → length words ≡ n → length bytes ≡ 8 * n
+length-words bytes words n is few = ap (λ (l : List ℕ). length l) is ∙ length-bytes_of words ∙ ap (λ k. 8 * k) few
+
+length-option : (o : Option ℕ) → length (option_words o) ≡ 2
+length-option None = refl
+length-option (Some time) = refl
+
+length-taken : (o : Option Taken) → length (taken_words o) ≡ 6
+length-taken None = refl
+length-taken (Some t) = ap (λ n. suc (suc (suc (suc n)))) (length-option t.beat)
+
+pub length-lease : (bytes : List ℕ) (l : VoterLease) → IsLease bytes l → length bytes ≡ 40
+length-lease bytes l is = length-words bytes (lease_words l) 5 is.bytes_are (ap (λ n. suc (suc (suc n))) (length-option l.beat))
+
+pub length-vote : (bytes : List ℕ) (v : Vote) → IsVote bytes v → length bytes ≡ 72
+length-vote bytes v is = length-words bytes (vote_words v) 9 is.bytes_are (ap (λ n. suc (suc (suc n))) (length-taken v.taken))
+
+pub length-stamps : (bytes : List ℕ) (s : OwnStamps) → AreStamps bytes s → length bytes ≡ 24
+length-stamps bytes s is = length-words bytes (words_of s) 3 is.bytes_are refl

@@ -1,0 +1,103 @@
+-- What the calls of leases, votes and stamps return and write. Each is said for the one lease, the one vote or the ones that the bytes
+-- are.
+use Rattle.std.specs.Prelude.{ℕ, ℤ, ◌≡◌, ◌≢◌, Bool, List, length, Option, None, Some, nat_lt, if◌then◌else◌}
+use Rattle.own_stamps.specs.Stamps.{is_own, told, untold}
+use Rattle.own_stamps.specs.declared.stamps.OwnStamps.{OwnStamps}
+use Rattle.vote_leases.specs.Leases.{asked, begun_lease, begun_vote, heard, is_same, is_taken, kept, taken, until}
+use Rattle.vote_leases.specs.declared.incarnation.Incarnation.{Incarnation}
+use Rattle.vote_leases.specs.declared.lease.VoterLease.{VoterLease}
+use Rattle.vote_leases.specs.declared.vote.Locked.{Locked}
+use Rattle.vote_leases.specs.declared.vote.Vote.{Vote}
+use Rattle.blocks.specs.Numbers.{done, refused}
+use Rattle.blocks.specs.declared.refusal.Refusal.TheVariants.{BadState}
+use Rattle.session_blocks.specs.Bytes.{AreNoStamps, AreStamps, IsLease, IsNoLease, IsNoVote, IsVote}
+
+-- how many bytes a lease, a vote and stamps have
+abbrev pub lease_bytes : ℕ
+lease_bytes = 40
+
+abbrev pub vote_bytes : ℕ
+vote_bytes = 72
+
+abbrev pub stamps_bytes : ℕ
+stamps_bytes = 24
+
+-- a truth as a number
+abbrev pub yes_of : Bool → ℕ
+yes_of is = if is then 1 else 0
+
+-- ---- leases
+
+-- the lease is made of a voter of which nothing was heard
+pub record LeaseIsMade (before after : List ℕ) (result : ℤ) : Type 0 where
+  pub bad_state : length before ≢ lease_bytes → result ≡ refused BadState
+  pub made : length before ≡ lease_bytes → (result ≡ done) × IsLease after begun_lease
+
+-- the lease becomes what the step makes of it
+pub record LeaseBecomes (step : VoterLease → VoterLease) (before after : List ℕ) (result : ℤ) : Type 0 where
+  pub no_lease : IsNoLease before → result ≡ refused BadState
+  pub becomes : (l : VoterLease) → IsLease before l → (result ≡ done) × IsLease after (step l)
+
+-- a message says this incarnation: 1 if that is the latest one then, and 0 if not
+pub record LeaseHears (incarnation : Incarnation) (before after : List ℕ) (latest : ℕ) (result : ℤ) : Type 0 where
+  pub no_lease : IsNoLease before → result ≡ refused BadState
+  pub hears : (l : VoterLease) → IsLease before l
+      → (result ≡ done) × IsLease after (heard l incarnation) × (latest ≡ yes_of (is_same incarnation (heard l incarnation).incarnation))
+
+-- ---- votes
+
+-- the vote is made of a lock that the session did not ask for
+pub record VoteIsMade (used : ℕ) (before after : List ℕ) (result : ℤ) : Type 0 where
+  pub bad_state : length before ≢ vote_bytes → result ≡ refused BadState
+  pub made : length before ≡ vote_bytes → (result ≡ done) × IsVote after (begun_vote used)
+
+-- the vote becomes what the step makes of it
+pub record VoteBecomes (step : Vote → Vote) (before after : List ℕ) (result : ℤ) : Type 0 where
+  pub no_vote : IsNoVote before → result ≡ refused BadState
+  pub becomes : (v : Vote) → IsVote before v → (result ≡ done) × IsVote after (step v)
+
+-- a request asks: 1 if its stamp is above those before, and 0 if not
+pub record VoteAsks (request : ℕ) (before after : List ℕ) (yes : ℕ) (result : ℤ) : Type 0 where
+  pub no_vote : IsNoVote before → result ≡ refused BadState
+  pub asks : (v : Vote) → IsVote before v → (result ≡ done) × IsVote after (asked v request) × (yes ≡ yes_of (nat_lt v.request request))
+
+-- the vote keeps what counts by the voter's lease
+pub record VoteKeeps (lease before after : List ℕ) (result : ℤ) : Type 0 where
+  pub no_vote : IsNoVote before → result ≡ refused BadState
+  pub no_lease : IsNoLease lease → result ≡ refused BadState
+  pub keeps : (v : Vote) (l : VoterLease) → IsVote before v → IsLease lease l → (result ≡ done) × IsVote after (kept v l)
+
+-- a LOCKED comes, where a heartbeat counts for this span: 1 if the session has the vote by it, and 0 if not
+pub record VoteTakes (locked : Locked) (span now : ℕ) (lease before after : List ℕ) (yes : ℕ) (result : ℤ) : Type 0 where
+  pub no_vote : IsNoVote before → result ≡ refused BadState
+  pub no_lease : IsNoLease lease → result ≡ refused BadState
+  pub takes : (v : Vote) (l : VoterLease) → IsVote before v → IsLease lease l
+      → (result ≡ done) × IsVote after (taken v l locked span now) × (yes ≡ yes_of (is_taken v l locked span now))
+
+-- the end of a vote that may count, and 0 if it does not
+abbrev pub end_or_none : Option ℕ → ℕ
+end_or_none None = 0
+end_or_none (Some end) = end
+
+-- up to when the vote counts
+pub record VoteShowsEnd (span : ℕ) (lease vote : List ℕ) (end : ℕ) (result : ℤ) : Type 0 where
+  pub no_vote : IsNoVote vote → result ≡ refused BadState
+  pub no_lease : IsNoLease lease → result ≡ refused BadState
+  pub shows : (v : Vote) (l : VoterLease) → IsVote vote v → IsLease lease l → (result ≡ done) × (end ≡ end_or_none (until v l span))
+
+-- ---- stamps
+
+-- the stamps are made at a voter that told nothing
+pub record StampsAreMade (before after : List ℕ) (result : ℤ) : Type 0 where
+  pub bad_state : length before ≢ stamps_bytes → result ≡ refused BadState
+  pub made : length before ≡ stamps_bytes → (result ≡ done) × AreStamps after untold
+
+-- the voter tells this
+pub record StampsHear (base reserved : ℕ) (before after : List ℕ) (result : ℤ) : Type 0 where
+  pub no_stamps : AreNoStamps before → result ≡ refused BadState
+  pub hear : (s : OwnStamps) → AreStamps before s → (result ≡ done) × AreStamps after (told s base reserved)
+
+-- whether the session may ask under this stamp: 1 if it may, and 0 if not
+pub record StampsAreOwn (bytes : List ℕ) (stamp yes : ℕ) (result : ℤ) : Type 0 where
+  pub no_stamps : AreNoStamps bytes → result ≡ refused BadState
+  pub are : (s : OwnStamps) → AreStamps bytes s → (result ≡ done) × (yes ≡ yes_of (is_own s stamp))

@@ -1,0 +1,4 @@
+pub mod Evidence
+pub mod Stands
+pub mod Steps
+pub mod Told

@@ -1,0 +1,4 @@
+pub mod Example
+pub mod Leases
+pub mod Saved
+pub mod Sessions

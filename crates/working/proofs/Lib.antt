@@ -1,0 +1,9 @@
+pub mod Counted
+pub mod Example
+pub mod Grants
+pub mod Holds
+pub mod Lists
+pub mod Seen
+pub mod Steps
+pub mod Working
+pub mod Worlds

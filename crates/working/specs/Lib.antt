@@ -1,0 +1,4 @@
+pub mod Events
+pub mod Example
+pub mod Sessions
+pub mod Voters

@@ -1,0 +1,339 @@
+package locks
+
+// A client of a cluster with several shards: a session for each shard whose locks it uses.
+//
+// The first call of Lock in a shard opens the session, and takes a number there. It gives the number back once nothing of the shard was
+// wanted for two TTLs, or at once if voters say that others wait for a number. A session that is over ends the locks of its shard alone,
+// and the next call opens another one.
+
+import (
+	"context"
+	"errors"
+	"sync"
+	"time"
+
+	"calvundek.example/service/internal/config"
+	"calvundek.example/service/internal/wire"
+	"calvundek.example/service/transport"
+)
+
+const (
+	keepsNumber = 2               // for how many TTLs a session keeps its number that wants nothing
+	isWanted    = 5 * time.Second // for how long the word counts that others wait for a number
+	takesUse    = 5 * time.Second // within which a new session is used
+)
+
+// shards are the sessions of a client, by shard.
+type shards struct {
+	mutex sync.Mutex
+	all   map[int]*part
+	past  Stats // of the sessions that are over
+	going sync.WaitGroup
+}
+
+// part is a client's session of a shard.
+type part struct {
+	gate   chan struct{} // whoever opens the session is in it
+	name   string        // of the session that is opened: it keeps its place among those that wait for a number
+	client *Client       // nil if there is none
+}
+
+// openShards connects, and waits until a quorum of voters replies.
+func openShards(ctx context.Context, cluster *config.Cluster, c Config) (*Client, error) {
+	client, err := look(cluster, c)
+	if err != nil {
+		return nil, err
+	}
+	client.shards = &shards{all: map[int]*part{}}
+	if _, err := client.Who(ctx, "-"); err != nil {
+		_ = client.Close(ctx)
+		return nil, err
+	}
+	return client, nil
+}
+
+// part returns what there is of a shard.
+func (s *shards) part(shard int) *part {
+	s.mutex.Lock()
+	defer s.mutex.Unlock()
+	if s.all[shard] == nil {
+		s.all[shard] = &part{gate: make(chan struct{}, 1)}
+	}
+	return s.all[shard]
+}
+
+// lockInShard takes a lock by the session of its shard. If that gave its number back meanwhile, or is over, another one is opened.
+func (c *Client) lockInShard(ctx context.Context, name string, w *waiter) (*Held, error) {
+	for {
+		session, err := c.sessionOf(ctx, c.cluster.ShardOfLock(name), w.tries)
+		if err != nil {
+			return nil, err
+		}
+		held, err := session.lock(ctx, name, &waiter{tries: w.tries, note: w.note})
+		isOver := errors.Is(err, ErrClosed) || errors.Is(err, ErrLost)
+		if !isOver || c.Err() != nil || ctx.Err() != nil {
+			return held, err
+		}
+		c.forgetSession(c.cluster.ShardOfLock(name), session)
+	}
+}
+
+// sessionOf returns the session of a shard, and opens one if there is none. It waits for a number, unless the call only tries.
+func (c *Client) sessionOf(ctx context.Context, shard int, tries bool) (*Client, error) {
+	p := c.shards.part(shard)
+	select {
+	case p.gate <- struct{}{}:
+		defer func() { <-p.gate }()
+	case <-ctx.Done():
+		return nil, ctx.Err()
+	case <-c.ended:
+		return nil, c.why
+	}
+	if session := c.current(p); session != nil {
+		return session, nil
+	}
+	if err := c.Err(); err != nil {
+		return nil, err
+	}
+	if p.name == "" {
+		nonce, err := config.Nonce()
+		if err != nil {
+			return nil, err
+		}
+		p.name = c.cluster.SessionName(shard, nonce)
+	}
+	session, err := c.openPart(ctx, p.name, tries)
+	if errors.Is(err, ErrRetired) && c.call(func() error {
+		if !c.readAgain() {
+			return ErrRetired
+		}
+		return nil
+	}) == nil {
+		session, err = c.openPart(ctx, p.name, tries)
+	}
+	if err != nil {
+		return nil, err
+	}
+	if why := c.Err(); why != nil { // it was closed meanwhile
+		brief, cancel := context.WithTimeout(context.Background(), c.config.FailOver)
+		defer cancel()
+		_ = session.Close(brief)
+		return nil, why
+	}
+	c.shards.mutex.Lock()
+	defer c.shards.mutex.Unlock()
+	p.client, p.name = session, ""
+	c.shards.going.Add(1)
+	go c.follow(p, session)
+	return session, nil
+}
+
+// openPart opens a session of this name, with the plans that this client knows.
+func (c *Client) openPart(ctx context.Context, name string, tries bool) (*Client, error) {
+	own := c.config
+	own.Transport, own.DontWait = c.carrier, own.DontWait || tries
+	session, err := newNamed(c.cluster, own, name)
+	if err != nil {
+		return nil, err
+	}
+	if err := c.call(func() error { session.plans = c.plans.copied(); return nil }); err != nil {
+		return nil, err
+	}
+	session.meet(len(session.names()))
+	opened, err := session.connect(ctx)
+	if err != nil {
+		c.leaveBoxes(session) // the next try listens again, under the same name
+	}
+	return opened, err
+}
+
+// leaveBoxes ends the mailboxes of a session that nobody reads any more.
+func (c *Client) leaveBoxes(session *Client) {
+	if leaver, ok := c.carrier.(transport.Leaver); ok {
+		leaver.Leave(session.boxes())
+	}
+}
+
+// Plans are exchanged while a client has no session: then it asks voters now and then which there are, and more often while it follows.
+const (
+	looksForPlans = 10 * time.Second
+	followsPlans  = 500 * time.Millisecond
+)
+
+// followPlans lets voters say which plans there are, if it is time for that. Any question does.
+func (c *Client) followPlans(now time.Time) {
+	pause := looksForPlans
+	if c.next != nil || c.isReading || c.older != nil {
+		pause = followsPlans
+	}
+	if !c.cluster.HasShards() || now.Sub(c.followed) < pause {
+		return
+	}
+	c.followed = now
+	c.newest++
+	q := newQuestion(wire.AskWho, "-")
+	q.ID = c.newest
+	c.questions[q.ID] = q
+}
+
+// readAgain takes the plans of the cluster's file, and returns whether they are newer. The client was away for more than one exchange.
+func (c *Client) readAgain() bool {
+	if c.config.Cluster == "" {
+		return false
+	}
+	cluster, err := config.ReadCluster(c.config.Cluster)
+	if err != nil || cluster.ID != c.cluster.ID || cluster.Mark("x") != c.cluster.Mark("x") || newPlans(cluster).generation <= c.generation {
+		return false
+	}
+	c.plans = newPlans(cluster)
+	c.meet(len(c.names()))
+	return true
+}
+
+// current returns the session of a shard, nil if there is none that goes on.
+func (c *Client) current(p *part) *Client {
+	c.shards.mutex.Lock()
+	defer c.shards.mutex.Unlock()
+	return p.client
+}
+
+// forgetSession lets the next call open another session of a shard than this one.
+func (c *Client) forgetSession(shard int, session *Client) {
+	p := c.shards.part(shard)
+	c.shards.mutex.Lock()
+	defer c.shards.mutex.Unlock()
+	if p.client == session {
+		p.client = nil
+	}
+}
+
+// follow waits until a session is over, and keeps what it counted.
+func (c *Client) follow(p *part, session *Client) {
+	defer c.shards.going.Done()
+	<-session.stopped
+	c.leaveBoxes(session)
+	c.shards.mutex.Lock()
+	defer c.shards.mutex.Unlock()
+	c.shards.past = c.shards.past.with(session.stats)
+	if p.client == session {
+		p.client = nil
+	}
+}
+
+// sessions returns the sessions that go on.
+func (s *shards) sessions() (sessions []*Client) {
+	s.mutex.Lock()
+	defer s.mutex.Unlock()
+	for _, p := range s.all {
+		if p.client != nil {
+			sessions = append(sessions, p.client)
+		}
+	}
+	return sessions
+}
+
+// closeAll closes all sessions, and returns the first error of one.
+func (c *Client) closeAll(ctx context.Context) error {
+	sessions := c.shards.sessions()
+	errs := make(chan error, len(sessions))
+	for _, session := range sessions {
+		session := session
+		go func() { errs <- session.Close(ctx) }()
+	}
+	var first error
+	for range sessions {
+		if err := <-errs; first == nil && !errors.Is(err, ErrClosed) {
+			first = err
+		}
+	}
+	ended := make(chan struct{})
+	go func() { c.shards.going.Wait(); close(ended) }()
+	select {
+	case <-ended: // also those that were giving their numbers back
+	case <-ctx.Done():
+	}
+	return first
+}
+
+// giveNumberBack closes the session of a shard that wants nothing, if others wait for a number, or after a while.
+func (c *Client) giveNumberBack(now time.Time) {
+	switch {
+	case !c.cluster.HasShards() || c.looks || c.why != nil:
+	case c.draining:
+		if c.givesBack && (c.done || now.Sub(c.unused) > (keepsNumber+1)*c.cluster.TTL.Duration) {
+			c.end(ErrClosed)
+		}
+	case len(c.busy) > 0:
+		c.unused = now
+	case now.Sub(c.unused) > keepsNumber*c.cluster.TTL.Duration || now.Sub(c.wanted) < isWanted && (c.wasUsed || now.Sub(c.unused) > takesUse):
+		c.givesBack = true
+		c.drain()
+	}
+}
+
+// rests returns whether a session of a shard wants nothing now. There may be many of these, so each sends few heartbeats.
+func (c *Client) rests() bool {
+	return c.cluster.HasShards() && !c.looks && len(c.busy) == 0 && !c.draining && c.why == nil
+}
+
+// pause returns how long it is from one heartbeat to the next.
+func (c *Client) pause() time.Duration {
+	if c.rests() && c.wasUsed {
+		return c.cluster.TTL.Duration / 4
+	}
+	return c.config.Heartbeat
+}
+
+// wake is called before a session that rested asks for something: its next message has a heartbeat, and voters have the fail-over time to
+// reply.
+func (c *Client) wake(now time.Time) {
+	if !c.rests() || now.Sub(c.beat) < c.config.Heartbeat {
+		return
+	}
+	silent := c.silent(now)
+	c.heartbeat(now)
+	for v := range c.peers {
+		if silent>>v&1 == 0 {
+			c.peers[v].heard = now
+		}
+	}
+}
+
+// with returns two counts together.
+func (s Stats) with(t Stats) Stats {
+	return Stats{s.Passes + t.Passes, s.Requests + t.Requests, s.FailOvers + t.FailOvers, s.GivenUp + t.GivenUp, s.LetGo + t.LetGo,
+		s.Reminders + t.Reminders, s.Reservations + t.Reservations, s.Refused + t.Refused, s.Lost + t.Lost}
+}
+
+// statsOfAll returns what all sessions counted.
+func (c *Client) statsOfAll() Stats {
+	c.shards.mutex.Lock()
+	all := c.shards.past
+	c.shards.mutex.Unlock()
+	for _, session := range c.shards.sessions() {
+		all = all.with(session.Stats())
+	}
+	return all
+}
+
+// silentInAll returns which voters are silent to each session, by their names: none while there is no session.
+func (c *Client) silentInAll() map[string]bool {
+	voters := map[string]bool{}
+	for i, session := range c.shards.sessions() {
+		for name, silent := range session.silentVoters() {
+			voters[name] = silent && (i == 0 || voters[name])
+		}
+	}
+	return voters
+}
+
+// areCutOff returns whether no session reaches a quorum. While there is none it is not known.
+func (c *Client) areCutOff() bool {
+	sessions := c.shards.sessions()
+	for _, session := range sessions {
+		if !session.IsCutOff() {
+			return false
+		}
+	}
+	return len(sessions) > 0 || c.Err() != nil
+}

@@ -1,0 +1,301 @@
+package locks
+
+import (
+	"context"
+	"encoding/json"
+	"errors"
+	"fmt"
+	"os"
+	"path/filepath"
+	"strings"
+	"sync"
+	"testing"
+	"time"
+
+	"calvundek.example/service/internal/voter"
+	"calvundek.example/service/internal/worlds"
+	"calvundek.example/service/qlock"
+)
+
+// newShards starts a cluster of three voters with so many shards.
+func newShards(t *testing.T, shards int, ttl time.Duration) *worlds.World {
+	t.Helper()
+	cluster := worlds.NewCluster(t, worlds.Majority, ttl)
+	if cluster.Shards = shards; cluster.Check() != nil {
+		t.Fatal(cluster.Check())
+	}
+	return worlds.NewOf(t, cluster)
+}
+
+// nameIn returns the name of a lock of a shard.
+func nameIn(w *worlds.World, shard int) string {
+	for i := 0; ; i++ {
+		if name := fmt.Sprint("lock-", i); w.Cluster.ShardOfLock(name) == shard {
+			return name
+		}
+	}
+}
+
+// A client has locks of all shards, one holder each, and gives all back at the end.
+func TestLocksOfAllShards(t *testing.T) {
+	w := newShards(t, 4, 5*time.Second)
+	one, other := startWith(t, w, Config{Note: "one"}), startWith(t, w, Config{})
+	for shard := 0; shard < 4; shard++ {
+		name := nameIn(w, shard)
+		held := take(t, one, name)
+		if _, err := other.TryLock(within(t, 5*time.Second), name); !errors.Is(err, ErrHeld) {
+			t.Errorf("%s is taken twice: %v", name, err)
+		}
+		if h := who(t, other, name); h.IsNobody() || h.Asked {
+			t.Errorf("%s is had by %v", name, h)
+		}
+		if _, err := one.Lock(held.nested(), name); !errors.Is(err, ErrNested) {
+			t.Errorf("%s waits for itself: %v", name, err)
+		}
+		if err := held.Unlock(); err != nil {
+			t.Error(err)
+		}
+		if err := take(t, other, name).Unlock(); err != nil {
+			t.Error(err)
+		}
+	}
+	if stats := one.Stats(); stats.Passes != 4 || one.Number() != -1 {
+		t.Errorf("%+v, number %d", stats, one.Number())
+	}
+	for _, c := range []*Client{one, other} {
+		if err := c.Close(within(t, 10*time.Second)); err != nil {
+			t.Error(err)
+		}
+		if _, err := c.Lock(within(t, time.Second), "late"); !errors.Is(err, ErrClosed) {
+			t.Errorf("a closed client has a lock: %v", err)
+		}
+	}
+}
+
+// nested returns a context of a holder.
+func (h *Held) nested() context.Context {
+	ctx, _ := h.Context(context.Background())
+	return ctx
+}
+
+// More clients than a shard has numbers use locks of different shards at once: 64 of each may.
+func TestMoreThanSixtyFourClients(t *testing.T) {
+	w := newShards(t, 4, 5*time.Second)
+	var group sync.WaitGroup
+	holds := make([]*Held, 2*qlock.MaxClients)
+	for i := range holds {
+		c, i := startWith(t, w, Config{NoNote: true}), i
+		group.Add(1)
+		go func() {
+			defer group.Done()
+			var err error
+			if holds[i], err = c.Lock(within(t, 20*time.Second), fmt.Sprint("job-", i)); err != nil {
+				t.Error(i, err)
+			}
+		}()
+	}
+	group.Wait()
+	for _, h := range holds {
+		if h != nil {
+			if err := h.Unlock(); err != nil {
+				t.Error(err)
+			}
+		}
+	}
+}
+
+// Where all numbers of a shard are taken the others wait, in order, for those that want nothing any more. Each gets the lock.
+func TestMoreClientsThanNumbers(t *testing.T) {
+	w := newShards(t, 2, 20*time.Second)
+	name, count := nameIn(w, 1), &counter{}
+	var group sync.WaitGroup
+	for i := 0; i < qlock.MaxClients+20; i++ {
+		c := startWith(t, w, Config{NoNote: true})
+		group.Add(1)
+		go func() {
+			defer group.Done()
+			for n := 0; n < 2; n++ {
+				held, err := c.Lock(within(t, 35*time.Second), name) // a number is kept for longer than that
+				if err != nil {
+					t.Error(err)
+					return
+				}
+				count.pass()
+				if err := held.Unlock(); err != nil {
+					t.Error(err)
+				}
+			}
+		}()
+	}
+	group.Wait()
+	if count.met || count.total != 2*(qlock.MaxClients+20) {
+		t.Errorf("%d passes, two inside: %v", count.total, count.met)
+	}
+}
+
+// Who gets no number hears how many wait before him.
+func TestNoNumberOfShard(t *testing.T) {
+	w := newShards(t, 2, 5*time.Second)
+	name := nameIn(w, 0)
+	for i := 0; i < qlock.MaxClients; i++ {
+		take(t, startWith(t, w, Config{NoNote: true}), fmt.Sprint(nameOf(w, 0, i)))
+	}
+	late, began := startWith(t, w, Config{NoNote: true}), time.Now()
+	if _, err := late.TryLock(within(t, 20*time.Second), name); !errors.Is(err, ErrNumbers) || time.Since(began) > 15*time.Second {
+		t.Errorf("who only tries waits for a number: %v", err)
+	}
+	waits := make(chan error, 1)
+	go func() {
+		_, err := late.Lock(within(t, 9*time.Second), name)
+		waits <- err
+	}()
+	time.Sleep(2 * time.Second)
+	if _, err := startWith(t, w, Config{NoNote: true}).Lock(within(t, 6*time.Second), name); !errors.Is(err, ErrNumbers) ||
+		!strings.Contains(err.Error(), "wait for a number before this one") {
+		t.Errorf("who waits is told: %v", err)
+	}
+	if err := <-waits; !errors.Is(err, ErrNumbers) {
+		t.Error(err)
+	}
+	if err := take(t, late, nameIn(w, 1)).Unlock(); err != nil {
+		t.Errorf("another shard is full, too: %v", err)
+	}
+}
+
+// nameOf returns one of many names of locks of a shard.
+func nameOf(w *worlds.World, shard, place int) string {
+	for i := 0; ; i++ {
+		name := fmt.Sprint("lock-", i)
+		if w.Cluster.ShardOfLock(name) != shard {
+			continue
+		}
+		if place == 0 {
+			return name
+		}
+		place--
+	}
+}
+
+// A session that an operator ends costs the locks of its shard, and the client goes on. Who waits for a lock there goes on waiting.
+func TestSessionOfShardIsOver(t *testing.T) {
+	w := newShards(t, 2, 2*time.Second)
+	c, other := startWith(t, w, Config{}), startWith(t, w, Config{})
+	first, second := take(t, c, nameIn(w, 0)), take(t, c, nameIn(w, 1))
+	theirs, waits := take(t, other, nameOf(w, 0, 1)), make(chan error, 1)
+	go func() {
+		held, err := c.Lock(within(t, 20*time.Second), nameOf(w, 0, 1))
+		if err == nil {
+			err = held.Unlock()
+		}
+		waits <- err
+	}()
+	soon(t, "nobody waits", func() bool { return who(t, other, nameOf(w, 0, 1)).Waiting == 1 })
+	number := c.shards.all[0].client.header.Number
+	if _, err := w.Console().Ask(within(t, 5*time.Second), fmt.Sprintf("evict 0/%d", number), 0, 1, 2); err != nil {
+		t.Fatal(err)
+	}
+	if !isLost(first) || isNow(second.Lost()) {
+		t.Error("an end of one session ends the locks of another shard, or not its own")
+	}
+	if err := first.Unlock(); !errors.Is(err, ErrLapsed) && !errors.Is(err, ErrLost) {
+		t.Error(err)
+	}
+	if err := take(t, c, nameIn(w, 0)).Unlock(); err != nil {
+		t.Error(err)
+	}
+	if err := theirs.Unlock(); err != nil {
+		t.Error(err)
+	}
+	if err := <-waits; err != nil {
+		t.Errorf("who waited: %v", err)
+	}
+	if err := second.Unlock(); err != nil {
+		t.Error(err)
+	}
+}
+
+// A voter that lost its state, and one that starts from an older copy, learn the sessions of all shards, by more messages than one.
+func TestSessionsOfAllShardsAreLearned(t *testing.T) {
+	w := newShards(t, 32, 5*time.Second)
+	older := w.Copy(1)
+	for shard := 0; shard < 32; shard++ {
+		s := newStranger(t, w, fmt.Sprintf("%d-%d", shard, shard))
+		for number := 0; number < qlock.MaxClients; number += 8 {
+			for voter := 0; voter < 3; voter++ {
+				var lines strings.Builder
+				for i := number; i < number+8; i++ {
+					fmt.Fprintf(&lines, ". claim %d 1 64\n", i)
+				}
+				s.send(voter, lines.String())
+			}
+		}
+	}
+	sessions := func() (counts []int) {
+		replies, err := w.Console().Ask(within(t, 5*time.Second), "status", 0, 1, 2)
+		if err != nil {
+			t.Fatal(err)
+		}
+		for _, r := range replies {
+			var status voter.Status
+			if err := json.Unmarshal(r.Body, &status); err != nil {
+				t.Fatal(err)
+			}
+			counts = append(counts, len(status.Sessions))
+		}
+		return counts
+	}
+	soon(t, "not all numbers are claimed", func() bool { return fmt.Sprint(sessions()) == "[2048 2048 2048]" })
+	w.Stop(2)
+	replies, err := voter.AskKnown(within(t, 5*time.Second), w.Console(), 0, 1)
+	if err != nil {
+		t.Fatal(err)
+	}
+	if known, _, err := voter.Merge(replies); err != nil || len(known.Sessions) != 2048 {
+		t.Errorf("the others know %d sessions, %v", len(known.Sessions), err)
+	}
+	w.Lose(2)
+	w.Start(2)
+	w.Ready()
+	w.Kill(1)
+	w.Put(1, older)
+	w.Start(1)
+	w.Ready()
+	if counts := sessions(); fmt.Sprint(counts) != "[2048 2048 2048]" {
+		t.Error(counts)
+	}
+}
+
+// A client that has no session follows exchanged plans by its questions. One that missed two exchanges reads the cluster's file again.
+func TestShardsFollowPlans(t *testing.T) {
+	w := newShards(t, 2, time.Second)
+	file := filepath.Join(t.TempDir(), "cluster.toml")
+	follower, sleeper := startWith(t, w, Config{}), startWith(t, w, Config{Cluster: file})
+	for i, coterie := range []string{all, worlds.Majority} {
+		w.Exchange(coterie)
+		soon(t, "the voters do not take the plan", func() bool { return w.Install() == nil })
+		soon(t, "the client stays with the old plan", func() bool {
+			_ = who(t, follower, "x")
+			number, _ := planOf(follower)
+			return number == uint64(i+1)
+		})
+		soon(t, "the plan is not retired", func() bool { return w.Retire() == nil })
+	}
+	if err := take(t, follower, "x").Unlock(); err != nil {
+		t.Error(err)
+	}
+	if _, err := sleeper.Lock(within(t, 20*time.Second), "x"); !errors.Is(err, ErrRetired) {
+		t.Errorf("there is no newer file: %v", err)
+	}
+	text, err := w.Cluster.Text()
+	if err != nil {
+		t.Fatal(err)
+	}
+	if err := os.WriteFile(file, text, 0o600); err != nil {
+		t.Fatal(err)
+	}
+	again := startWith(t, w, Config{Cluster: file})
+	_ = again.call(func() error { again.plans = newPlans(worlds.NewCluster(t, worlds.Majority, time.Second)); return nil })
+	if err := take(t, again, "x").Unlock(); err != nil {
+		t.Errorf("a client that missed two exchanges: %v", err)
+	}
+}
