@@ -38,13 +38,14 @@ laid=$(gofmt -l "$here/agent" "$here/qlock" "$here/locks" "$here/guard" "$here/t
 [ -z "$laid" ] || { echo "service: gofmt would change $laid" >&2; exit 1; }
 # shellcheck disable=SC2086
 "$go" vet $packages ./simulation ./simulation/cmd
-tests="$go test -race -count=1 -timeout 600s $packages"
+# Tests that fail are run once more, alone: many wait for times to pass (tests.py).
+tests="$go test -race -count=1 -timeout 1200s"
 if ls /usr/lib/postgresql/*/bin/initdb > /dev/null 2>&1; then
     # shellcheck disable=SC2086
-    "$here/guard/sql/check.sh" $tests
+    "$here/guard/sql/check.sh" python3 "$here/tests.py" "$tests" $packages
 else
     # shellcheck disable=SC2086
-    $tests
+    python3 "$here/tests.py" "$tests" $packages
     echo "service: the guard was not tried in PostgreSQL; apt-get install postgresql"
 fi
 

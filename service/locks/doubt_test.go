@@ -41,12 +41,21 @@ func turns(c *Client, most time.Duration, holds func() bool) bool {
 	return true
 }
 
-// age lets the newest heartbeat that a voter acknowledged have left a TTL ago.
+// age lets the newest heartbeat that a voter acknowledged have left a TTL ago. So do the votes that are taken of it: one whose LOCKED
+// came twice keeps what counted when the second one came.
 func age(c *Client, voter int) {
 	p := &c.peers[voter]
 	p.lease = qlock.NewLease()
 	p.lease.Hears(p.said)
 	p.lease.Renews(p.said, uptime()-c.cluster.TTL.Duration)
+	for l := range c.busy {
+		if grant := l.grantOf(voter); grant > 0 {
+			vote := qlock.NewVote(l.shown.Stamp - 1)
+			vote.Asks(l.shown.Stamp)
+			vote.Takes(&p.lease, qlock.Granted{Incarnation: p.said, Stamp: l.shown.Stamp, Grant: grant}, c.leases().Span, uptime())
+			*l.kept.Of(voter) = vote
+		}
+	}
 }
 
 // A client that stood still takes the last vote after another one is in doubt. It hands nothing out, and asks anew.

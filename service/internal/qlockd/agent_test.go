@@ -168,6 +168,22 @@ func (s *stream) line() map[string]interface{} {
 	return line
 }
 
+// later reads lines until one says that the lock lasts for longer than this one said.
+func (s *stream) later(than map[string]interface{}) map[string]interface{} {
+	s.t.Helper()
+	for end := time.Now().Add(20 * time.Second); time.Now().Before(end); {
+		line := s.line()
+		switch until, isThere := line["until_ms"].(float64); {
+		case !isThere || until < than["until_ms"].(float64):
+			s.t.Fatal(line)
+		case until > than["until_ms"].(float64):
+			return line
+		}
+	}
+	s.t.Fatal("the lock lasts for no longer")
+	return nil
+}
+
 // last skips the lines that only say for how long the lock lasts, and returns the next one.
 func (s *stream) last() map[string]interface{} {
 	s.t.Helper()
@@ -352,19 +368,15 @@ func TestByteBehindTheRequest(t *testing.T) {
 	}
 }
 
-// Each line says until when the lock lasts, and a later one says a later time.
+// Each line says until when the lock lasts, and a later one says no earlier time, and soon a later one.
 func TestLinesAtIntervals(t *testing.T) {
 	h := start(t, 4*time.Second)
 	s, first := h.take("x")
 	defer s.connection.Close()
-	before := first["until_ms"].(float64)
 	for n := 0; n < 3; n++ {
-		line := s.line()
-		until, isThere := line["until_ms"].(float64)
-		if !isThere || until <= before || line["left_ms"].(float64) > 3200 {
-			t.Error(line)
+		if first = s.later(first); first["left_ms"].(float64) > 3200 {
+			t.Error(first)
 		}
-		before = until
 	}
 }
 
@@ -418,9 +430,7 @@ func TestTooManyConnections(t *testing.T) {
 	if _, err := idle[24].Read(make([]byte, 1)); err != io.EOF {
 		t.Error(err)
 	}
-	if line := s.line(); line["until_ms"].(float64) <= first["until_ms"].(float64) {
-		t.Error(line)
-	}
+	s.later(first)
 	for _, connection := range idle {
 		_ = connection.Close()
 	}
