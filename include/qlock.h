@@ -57,6 +57,7 @@ uint32_t qlock_version(void);
 #define QLOCK_LEASE_BYTES 40 /* what a session knows of a voter */
 #define QLOCK_VOTE_BYTES 72  /* what a session has of a voter for a lock */
 #define QLOCK_STAMPS_BYTES 24 /* under which stamps a session may ask a voter */
+#define QLOCK_CLAIM_BYTES 40 /* what a session keeps of its claims of a number */
 
 /* How many bytes the pass has that a client shows to a guard. */
 #define QLOCK_PASS_BYTES 512
@@ -87,7 +88,7 @@ uint32_t qlock_version(void);
 enum {
     QLOCK_DONE = 0,
     QLOCK_BAD_ARGUMENT = 1, /* a number or the length of a pass is out of range, the mask of a quorum is 0, or there are none */
-    QLOCK_BAD_STATE = 2,    /* the bytes are no saved voter, client, guard, row, lease clock, token bucket, peer, start, lease, vote or stamps, or not as many as it has */
+    QLOCK_BAD_STATE = 2,    /* the bytes are no saved voter, client, guard, row, lease clock, token bucket, peer, start, lease, vote, stamps or claim, or not as many as it has */
     QLOCK_BAD_MESSAGE = 3,  /* the line is no message to this voter or client, or the bytes begin with no header, or with no line, or are no line of control */
     QLOCK_NO_ROOM = 4,      /* `out` is too short for the lines */
     QLOCK_BUSY = 5,         /* C1: the client is asking already, or is inside */
@@ -794,6 +795,47 @@ int32_t qlock_stamps_hear(uint8_t *stamps, size_t n, uint64_t base, uint64_t res
 
    QLOCK_BAD_STATE  the bytes are no stamps */
 int32_t qlock_stamps_have(const uint8_t *stamps, size_t n, uint64_t stamp, uint32_t *yes);
+
+/* ---- Claims of a number by a session. `n` is always QLOCK_CLAIM_BYTES.
+
+   A session that wants a number hears of the number's epochs, and claims the next one at all voters (qlock_claim_next). Once each voter
+   of a quorum accepted that (qlock_claim_accepts, qlock_has_quorum), the number is its own under this epoch, and no other session has it
+   under that. All that was asked under the number before was under stamps up to the greatest base that these voters told
+   (qlock_claim_shows). So the session begins above it (qlock_client_anew). A claim that is taken back (qlock_claim_gives_up) is never made
+   again: the word that takes it back may come late. Keep the bytes as long as the session's name is used, in memory alone. */
+
+/* Makes what a session keeps of a number of which nothing was heard.
+
+   QLOCK_BAD_STATE  `n` is not QLOCK_CLAIM_BYTES */
+int32_t qlock_claim_new(uint8_t *claim, size_t n);
+
+/* Hears of an epoch of the number: from a voter, late, in any order, or again.
+
+   QLOCK_BAD_STATE  the bytes are no claim */
+int32_t qlock_claim_sees(uint8_t *claim, size_t n, uint64_t epoch);
+
+/* Claims the number under the next epoch, above all that were heard of or claimed. Writes that to `*epoch`, and 0 if there is none: then
+   nothing changes.
+
+   QLOCK_BAD_STATE  the bytes are no claim */
+int32_t qlock_claim_next(uint8_t *claim, size_t n, uint64_t *epoch);
+
+/* Takes a voter's word that it accepted the claim of an epoch, with the base of the session's stamps there. Writes 1 to `*yes` if that is
+   of the claim that goes on, and `voter` is below 64, and 0 if not: then nothing changes.
+
+   QLOCK_BAD_STATE  the bytes are no claim */
+int32_t qlock_claim_accepts(uint8_t *claim, size_t n, uint8_t voter, uint64_t epoch, uint64_t base, uint32_t *yes);
+
+/* Takes the claim back, if one goes on. Tell the voters so, with its epoch.
+
+   QLOCK_BAD_STATE  the bytes are no claim */
+int32_t qlock_claim_gives_up(uint8_t *claim, size_t n);
+
+/* Writes the newest epoch that was heard of or claimed; the one that is claimed, 0 if none is; the voters that accepted that, bit i for
+   voter i; and the greatest base that these told.
+
+   QLOCK_BAD_STATE  the bytes are no claim */
+int32_t qlock_claim_shows(const uint8_t *claim, size_t n, uint64_t *newest, uint64_t *epoch, uint64_t *accepted, uint64_t *base);
 
 /* ---- The start of a voter among the other voters: so that no two processes of one voter give the same grant.
 

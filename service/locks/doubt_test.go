@@ -142,7 +142,8 @@ func TestAbandonedNumberSpeaksNoMore(t *testing.T) {
 	if err != nil {
 		t.Fatal(err)
 	}
-	c.header.Number, c.header.Epoch, c.asked, c.claimed = 3, 5, 3, 5
+	c.header.Number, c.header.Epoch = 3, 5
+	claiming(c, 3, 5)
 	if _, err := c.find("x"); err != nil {
 		t.Fatal(err)
 	}

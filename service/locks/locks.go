@@ -20,6 +20,7 @@ import (
 	"sync/atomic"
 	"time"
 
+	"calvundek.example/service/internal/claims"
 	"calvundek.example/service/internal/config"
 	"calvundek.example/service/internal/votes"
 	"calvundek.example/service/internal/wire"
@@ -197,11 +198,11 @@ func newClient(cluster *config.Cluster, c Config) (*Client, error) {
 	if err != nil {
 		return nil, err
 	}
-	return newNamed(cluster, c, cluster.SessionName(0, nonce))
+	return newNamed(cluster, c, cluster.SessionName(0, nonce), claims.New())
 }
 
-// newNamed returns a client whose session has this name.
-func newNamed(cluster *config.Cluster, c Config, name string) (*Client, error) {
+// newNamed returns a client whose session has this name, under which these claims were made.
+func newNamed(cluster *config.Cluster, c Config, name string, own *claims.Numbers) (*Client, error) {
 	if c.Heartbeat == 0 {
 		c.Heartbeat = shorter(cluster.TTL.Duration/4, 500*time.Millisecond)
 	}
@@ -217,7 +218,7 @@ func newNamed(cluster *config.Cluster, c Config, name string) (*Client, error) {
 		waits: newWaits(), config: c, carrier: c.Transport, close: func() {},
 		calls: make(chan func()), ended: make(chan struct{}), stopped: make(chan struct{}), locks: map[string]*lock{}, busy: map[*lock]struct{}{},
 		asker: asker{questions: map[uint64]*question{}}, turns: map[*Held]bool{}}
-	client.session, client.known = newSession(cluster, name), leasesOf(client)
+	client.session, client.known = newSession(cluster, name, own), leasesOf(client)
 	if !c.NoNote {
 		client.ownNote = ownNote(c.Note)
 	}

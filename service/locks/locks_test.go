@@ -12,6 +12,7 @@ import (
 
 	"calvundek.example/service/guard"
 	"calvundek.example/service/internal/bus"
+	"calvundek.example/service/internal/claims"
 	"calvundek.example/service/internal/config"
 	"calvundek.example/service/internal/voter"
 	"calvundek.example/service/internal/worlds"
@@ -601,6 +602,13 @@ func TestNumbersInUse(t *testing.T) {
 	}
 }
 
+// claiming lets a client claim a number under this epoch.
+func claiming(c *Client, number int, epoch uint64) {
+	c.asked = number
+	c.claims[number].Sees(epoch - 1)
+	c.claims[number].Next()
+}
+
 // Only a reply to a claim counts for it: a late one to another question, or to another claim, is none.
 func TestWhatIsNoReplyToAClaim(t *testing.T) {
 	w := worlds.New(t, worlds.Majority, time.Second)
@@ -608,14 +616,14 @@ func TestWhatIsNoReplyToAClaim(t *testing.T) {
 	if err != nil {
 		t.Fatal(err)
 	}
-	c.asked, c.claimed = 3, 5
 	for line, want := range map[string]uint64{"number 3 0 1": 0, "claimed 3 4 0 0": 0, "claimed 2 5 0 0": 0,
 		"opened 3 5 0 9 1 0": 0,
 		"taken 3 5":          0, "claimed": 0, "claimed x 5 0 0": 0, "claimed 3 5 70 77": 1 << 1} {
-		c.replied, c.used = 0, 0
+		*c.claims, c.replied = *claims.New(), 0
+		claiming(c, 3, 5)
 		c.control(1, []byte(line))
-		if c.replied != want || c.refused || want > 0 && c.used != 70 {
-			t.Errorf("%s: %b", line, c.replied)
+		if claim := c.claims[3].Shows(); claim.Accepted != want || c.replied != 0 || c.refused || want > 0 && claim.Base != 70 {
+			t.Errorf("%s: %+v", line, claim)
 		}
 	}
 }

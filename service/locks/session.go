@@ -32,6 +32,7 @@ import (
 	"time"
 
 	"calvundek.example/service/internal/boot"
+	"calvundek.example/service/internal/claims"
 	"calvundek.example/service/internal/config"
 	"calvundek.example/service/internal/level"
 	"calvundek.example/service/internal/wire"
@@ -92,10 +93,9 @@ type session struct {
 
 	// while a number is claimed
 	opening bool
-	epochs  [qlock.MaxClients]uint64
+	claims  *claims.Numbers
 	states  [qlock.MaxClients]int // the worst that a voter said of a number: 0 taken, 2 silent for the TTL, 1 free
 	asked   int
-	claimed uint64        // the epoch that is claimed, 0 while a number is chosen
 	left    time.Duration // when the claim left, by uptime
 	refused bool
 	crowd   wire.Told // how many sessions there are, as a voter said
@@ -109,8 +109,8 @@ type session struct {
 	replied   uint64    // the voters that replied to what is asked now
 }
 
-func newSession(cluster *config.Cluster, name string) session {
-	s := session{asked: -1, unused: time.Now(), drained: make(chan struct{}), header: wire.Header{Cluster: cluster.ID, Kind: wire.FromClient, Name: name,
+func newSession(cluster *config.Cluster, name string, own *claims.Numbers) session {
+	s := session{asked: -1, claims: own, unused: time.Now(), drained: make(chan struct{}), header: wire.Header{Cluster: cluster.ID, Kind: wire.FromClient, Name: name,
 		Level: level.Newest}}
 	s.meet(len(cluster.Names()))
 	return s
@@ -156,10 +156,11 @@ func (c *Client) reserveFirst(ctx context.Context) error {
 	for v := range c.peers {
 		c.peers[v].heard = now
 	}
-	if c.used < c.crowd.Highest && c.crowd.Highest < qlock.MaxStamp/2 {
+	claim := c.claims[c.asked].Shows()
+	if c.used = claim.Base; c.used < c.crowd.Highest && c.crowd.Highest < qlock.MaxStamp/2 {
 		c.used = c.crowd.Highest // where numbers go round, who got one later asks behind those that wait for a lock already
 	}
-	c.header.Number, c.header.Epoch, c.header.Reserved = c.asked, c.claimed, c.used+firstBlock
+	c.header.Number, c.header.Epoch, c.header.Reserved = c.asked, claim.Epoch, c.used+firstBlock
 	first := c.used + 1
 	isReserved := func() bool { return c.refused || c.hasQuorum(c.owners(first)) }
 	if isReserved() {
@@ -177,21 +178,22 @@ func (c *Client) reserveFirst(ctx context.Context) error {
 func (c *Client) abandon() {
 	c.locks, c.busy = map[string]*lock{}, map[*lock]struct{}{}
 	c.header.Number, c.header.Epoch, c.header.Reserved = 0, 0, 0
+	epoch := c.claimed()
 	for v := range c.peers {
 		c.peers[v].sent = map[uint64]time.Duration{}
 		c.peers[v].forget()
 		c.peers[v].forgetLease()
 		c.out[v] = c.out[v][:0]
-		c.tell(v, qlock.ClientSays{Kind: qlock.Drop, Number: c.asked, First: c.claimed})
+		c.tell(v, qlock.ClientSays{Kind: qlock.Drop, Number: c.asked, First: epoch})
 	}
-	c.epochs[c.asked] = c.claimed
+	c.claims[c.asked].GivesUp()
 	c.flush()
 }
 
 // choose asks the voters which numbers are free, and chooses one. It waits for one if there is none.
 func (c *Client) choose(ctx context.Context) error {
 	for {
-		c.replied, c.claimed, c.crowd = 0, 0, wire.Told{}
+		c.replied, c.crowd = 0, wire.Told{}
 		for i := range c.states {
 			c.states[i] = 1
 		}
@@ -234,7 +236,7 @@ func (c *Client) awaitsFree(ctx context.Context) error {
 func (c *Client) pick() bool {
 	for _, want := range []int{1, 2} {
 		for i, first := 0, rand.Intn(qlock.MaxClients); i < qlock.MaxClients; i++ {
-			if number := (first + i) % qlock.MaxClients; c.states[number] == want && c.epochs[number] < math.MaxUint64 {
+			if number := (first + i) % qlock.MaxClients; c.states[number] == want && c.claims[number].Shows().Newest < math.MaxUint64 {
 				c.asked = number
 				return true
 			}
@@ -245,24 +247,30 @@ func (c *Client) pick() bool {
 
 // claim claims the number that was chosen, under a new epoch.
 func (c *Client) claim(ctx context.Context) error {
-	c.claimed = c.epochs[c.asked] + 1
-	c.replied, c.refused, c.used, c.block, c.left = 0, false, 0, firstBlock, uptime()
+	epoch := c.claims[c.asked].Next()
+	c.refused, c.block, c.left = false, firstBlock, uptime()
 	for v := range c.peers {
 		c.peers[v].forget()
 		c.peers[v].forgetLease()
 	}
 	short, cancel := context.WithTimeout(ctx, brief)
 	defer cancel()
-	claim := qlock.ClientSays{Kind: qlock.ClaimStamps, Number: c.asked, First: c.claimed, Second: firstBlock}
-	if err := c.rounds(short, func() { c.say(claim) }, func() bool { return c.refused || c.isAnswered() }); err != nil {
+	claim := qlock.ClientSays{Kind: qlock.ClaimStamps, Number: c.asked, First: epoch, Second: firstBlock}
+	if err := c.rounds(short, func() { c.say(claim) }, func() bool { return c.refused || c.isAccepted() }); err != nil {
 		return err
 	}
-	if !c.isAnswered() {
+	if !c.isAccepted() {
 		return errTaken
 	}
 	c.refused = false
 	return nil
 }
+
+// claimed returns the epoch that is claimed, 0 if none is.
+func (c *Client) claimed() uint64 { return c.claims.Claimed(c.asked) }
+
+// isAccepted returns whether a quorum accepted the claim.
+func (c *Client) isAccepted() bool { return c.hasQuorum(c.claims[c.asked].Shows().Accepted) }
 
 // isAnswered returns whether a quorum replied.
 func (c *Client) isAnswered() bool { return c.hasQuorum(c.replied) }
@@ -674,13 +682,13 @@ func (c *Client) hear(voter int, says qlock.VoterSays) {
 	case qlock.Quiet:
 		c.isQuiet(voter, says.First)
 	case qlock.NumberIs:
-		if c.claimed > 0 {
+		if c.claimed() > 0 {
 			return // a late reply, which says nothing of the claim
 		}
 		c.noteNumber(voter, says.Number, says.First, int(says.Second))
 	case qlock.Claimed, qlock.Denied:
-		if claims := c.header.Epoch == 0 && says.Number == c.asked && says.First == c.claimed && c.claimed > 0; claims || mine {
-			c.noteClaim(voter, says.Kind == qlock.Claimed, says.Second, says.Third)
+		if claims := c.header.Epoch == 0 && says.Number == c.asked && says.First == c.claimed() && says.First > 0; claims || mine {
+			c.noteClaim(voter, says.Kind == qlock.Claimed, says.First, says.Second, says.Third)
 		}
 	case qlock.Opened:
 		if mine && !c.peers[voter].stale {
@@ -725,9 +733,7 @@ func (c *Client) avoid() {
 
 // noteNumber notes what a voter says of a number.
 func (c *Client) noteNumber(voter, which int, epoch uint64, state int) {
-	if epoch > c.epochs[which] {
-		c.epochs[which] = epoch
-	}
+	c.claims[which].Sees(epoch)
 	if state == 0 || c.states[which] == 1 {
 		c.states[which] = state
 	}
@@ -736,17 +742,16 @@ func (c *Client) noteNumber(voter, which int, epoch uint64, state int) {
 
 // noteClaim notes a voter's reply to a claim. Once a quorum accepted the session, one that refuses
 // it is only not asked.
-func (c *Client) noteClaim(voter int, granted bool, base, reserved uint64) {
+func (c *Client) noteClaim(voter int, granted bool, epoch, base, reserved uint64) {
 	if !granted {
 		c.refused = c.refused || c.header.Epoch == 0
 		return
 	}
-	c.replied |= 1 << voter
+	if base > qlock.MaxStamp || !c.claims[c.asked].Accepts(uint8(voter), epoch, base) {
+		return // no stamp is above that base
+	}
 	if p := &c.peers[voter]; p.claimed == 0 && !p.stale {
 		c.acknowledge(voter, c.left) // of a claim that was said again it is not known when that left: the next heartbeat is acknowledged
-	}
-	if c.header.Epoch == 0 && base <= qlock.MaxStamp {
-		c.used = greatest(c.used, base) // what any session of the number used at this quorum
 	}
 	c.noteStamps(voter, base, reserved)
 }

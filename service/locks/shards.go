@@ -12,6 +12,7 @@ import (
 	"sync"
 	"time"
 
+	"calvundek.example/service/internal/claims"
 	"calvundek.example/service/internal/config"
 	"calvundek.example/service/internal/wire"
 	"calvundek.example/service/transport"
@@ -33,9 +34,10 @@ type shards struct {
 
 // part is a client's session of a shard.
 type part struct {
-	gate   chan struct{} // whoever opens the session is in it
-	name   string        // of the session that is opened: it keeps its place among those that wait for a number
-	client *Client       // nil if there is none
+	gate   chan struct{}   // whoever opens the session is in it
+	name   string          // of the session that is opened: it keeps its place among those that wait for a number
+	claims *claims.Numbers // those that it made
+	client *Client         // nil if there is none
 }
 
 // openShards connects, and waits until a quorum of voters replies.
@@ -100,16 +102,16 @@ func (c *Client) sessionOf(ctx context.Context, shard int, tries bool) (*Client,
 		if err != nil {
 			return nil, err
 		}
-		p.name = c.cluster.SessionName(shard, nonce)
+		p.name, p.claims = c.cluster.SessionName(shard, nonce), claims.New()
 	}
-	session, err := c.openPart(ctx, p.name, tries)
+	session, err := c.openPart(ctx, p, tries)
 	if errors.Is(err, ErrRetired) && c.call(func() error {
 		if !c.readAgain() {
 			return ErrRetired
 		}
 		return nil
 	}) == nil {
-		session, err = c.openPart(ctx, p.name, tries)
+		session, err = c.openPart(ctx, p, tries)
 	}
 	if err != nil {
 		return nil, err
@@ -122,17 +124,17 @@ func (c *Client) sessionOf(ctx context.Context, shard int, tries bool) (*Client,
 	}
 	c.shards.mutex.Lock()
 	defer c.shards.mutex.Unlock()
-	p.client, p.name = session, ""
+	p.client, p.name, p.claims = session, "", nil
 	c.shards.going.Add(1)
 	go c.follow(p, session)
 	return session, nil
 }
 
-// openPart opens a session of this name, with the plans that this client knows.
-func (c *Client) openPart(ctx context.Context, name string, tries bool) (*Client, error) {
+// openPart opens the session of a shard, with the plans that this client knows.
+func (c *Client) openPart(ctx context.Context, p *part, tries bool) (*Client, error) {
 	own := c.config
 	own.Transport, own.DontWait = c.carrier, own.DontWait || tries
-	session, err := newNamed(c.cluster, own, name)
+	session, err := newNamed(c.cluster, own, p.name, p.claims)
 	if err != nil {
 		return nil, err
 	}

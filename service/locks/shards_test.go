@@ -144,6 +144,9 @@ func TestNoNumberOfShard(t *testing.T) {
 	if _, err := late.TryLock(within(t, 20*time.Second), name); !errors.Is(err, ErrNumbers) || time.Since(began) > 15*time.Second {
 		t.Errorf("who only tries waits for a number: %v", err)
 	}
+	if seen := late.shards.part(0).claims; seen == nil || seen[0].Shows().Newest == 0 {
+		t.Error("a name forgets its claims between two tries")
+	}
 	waits := make(chan error, 1)
 	go func() {
 		_, err := late.Lock(within(t, 9*time.Second), name)

@@ -246,7 +246,7 @@ func TestClaimIsAcknowledged(t *testing.T) {
 	if isLeased(c, 0) {
 		t.Fatal("a voter acknowledged nothing")
 	}
-	if c.noteClaim(0, true, 0, 4096); !isLeased(c, 0) {
+	if c.noteClaim(0, true, c.header.Epoch, 0, 4096); !isLeased(c, 0) {
 		t.Error("a claim that is accepted is not acknowledged")
 	}
 }

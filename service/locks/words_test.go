@@ -11,6 +11,7 @@ import (
 	"time"
 
 	"calvundek.example/service/internal/bus"
+	"calvundek.example/service/internal/claims"
 	"calvundek.example/service/internal/wire"
 	"calvundek.example/service/internal/worlds"
 	"calvundek.example/service/qlock"
@@ -32,7 +33,8 @@ func alone(t *testing.T) *table {
 	if err != nil {
 		t.Fatal(err)
 	}
-	c.header.Number, c.header.Epoch, c.asked, c.claimed, c.header.Reserved = 3, 5, 3, 5, mostBlock
+	c.header.Number, c.header.Epoch, c.header.Reserved = 3, 5, mostBlock
+	claiming(c, 3, 5)
 	one := &table{Client: c}
 	for voter := range c.peers {
 		box, err := b.Port().Listen(wire.VoterBox(cluster.ID, voter, wire.NoUser))
@@ -136,7 +138,8 @@ func TestOnlyOwnStampsAreAsked(t *testing.T) {
 // A claim with the reply of one voter is not done.
 func TestOneVoterGivesNoNumber(t *testing.T) {
 	c := alone(t)
-	c.header.Number, c.header.Epoch, c.claimed = 0, 0, 0
+	c.header.Number, c.header.Epoch = 0, 0
+	c.claims[3].GivesUp()
 	ctx, cancel := context.WithTimeout(context.Background(), 300*time.Millisecond)
 	defer cancel()
 	voter := c.boxes[0]
@@ -155,9 +158,9 @@ func TestOneVoterGivesNoNumber(t *testing.T) {
 	if err != nil {
 		t.Fatal(err)
 	}
-	c.messages, c.asked = messages, 3
-	if err := c.Client.claim(ctx); err == nil || c.replied != 1 {
-		t.Errorf("replies of %b, %v", c.replied, err)
+	c.messages, c.replied = messages, 7 // to hello
+	if err := c.Client.claim(ctx); err == nil || c.claims[3].Shows().Accepted != 1 {
+		t.Errorf("%+v, %v", c.claims[3].Shows(), err)
 	}
 }
 
@@ -349,16 +352,61 @@ func TestLostLockIsNotRenewed(t *testing.T) {
 	}
 }
 
+// A session takes a claim back, and claims under its name again, with another client: under another epoch, whatever voters say. The word
+// that takes the first claim back may come late.
+func TestEpochIsClaimedOnce(t *testing.T) {
+	cluster, b := worlds.NewCluster(t, worlds.Majority, 20*time.Second), bus.New(1)
+	own, ended := claims.New(), within(t, 0)
+	for _, want := range []uint64{5, 6} {
+		c, err := newNamed(cluster, Config{Transport: b.Port()}, "s", own)
+		if err != nil {
+			t.Fatal(err)
+		}
+		c.noteNumber(0, 3, 4, 1)
+		c.asked = 3
+		if err := c.claim(ended); err == nil || c.claimed() != want {
+			t.Errorf("epoch %d, %v", c.claimed(), err)
+		}
+		if c.abandon(); c.claimed() != 0 {
+			t.Error("a claim goes on that was taken back")
+		}
+	}
+}
+
+// The stamps of a session are above each base that the voters told which gave it the number.
+func TestSessionBeginsAboveItsBases(t *testing.T) {
+	c := alone(t)
+	c.header.Number, c.header.Epoch = 0, 0
+	for voter, base := range []uint64{70, 90, 80} {
+		c.noteClaim(voter, true, 5, base, base+firstBlock)
+	}
+	_ = c.reserveFirst(within(t, 0))
+	if c.used != 90 || c.header.Epoch != 5 || c.header.Reserved != 90+firstBlock {
+		t.Errorf("it begins above %d, under epoch %d", c.used, c.header.Epoch)
+	}
+}
+
+// Above a base that is beyond all stamps a session has none.
+func TestBaseBeyondAllStamps(t *testing.T) {
+	c := alone(t)
+	c.header.Number, c.header.Epoch = 0, 0
+	if c.noteClaim(0, true, 5, qlock.MaxStamp+1, qlock.MaxStamp+2); c.claims[3].Shows().Accepted != 0 {
+		t.Error("it is taken as the session's")
+	}
+}
+
 // A number whose epochs are spent is not chosen: there is no claim of it.
 func TestSpentEpochs(t *testing.T) {
-	var c Client
+	c := Client{session: session{claims: claims.New()}}
 	for number := range c.states {
-		c.states[number], c.epochs[number] = 1+number%2, math.MaxUint64
+		c.states[number] = 1 + number%2
+		c.claims[number].Sees(math.MaxUint64)
 	}
 	if c.pick() {
 		t.Errorf("number %d is chosen", c.asked)
 	}
-	c.epochs[5] = math.MaxUint64 - 1
+	c.claims[5] = qlock.NewClaims()
+	c.claims[5].Sees(math.MaxUint64 - 1)
 	if !c.pick() || c.asked != 5 {
 		t.Errorf("number %d is chosen", c.asked)
 	}

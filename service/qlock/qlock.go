@@ -26,6 +26,7 @@ const (
 	LeaseBytes  = C.QLOCK_LEASE_BYTES
 	VoteBytes   = C.QLOCK_VOTE_BYTES
 	StampsBytes = C.QLOCK_STAMPS_BYTES
+	ClaimBytes  = C.QLOCK_CLAIM_BYTES
 	PassBytes   = C.QLOCK_PASS_BYTES
 	MaxVoters   = C.QLOCK_MAX_VOTERS
 	MaxClients  = C.QLOCK_MAX_CLIENTS

@@ -5,6 +5,7 @@ import (
 	"strconv"
 	"time"
 
+	"calvundek.example/service/internal/claims"
 	"calvundek.example/service/internal/level"
 	"calvundek.example/service/internal/votes"
 	"calvundek.example/service/internal/wire"
@@ -16,8 +17,8 @@ import (
 //
 // They follow the rules of package locks (session.go, request.go, watch.go), whose client has goroutines and reads the
 // machine's clock, and so can't be stepped. Shared with it are the proved client of package qlock, the messages (wire), the
-// plans, what is kept of votes (votes), and the timer of reminders (remind). What is here is the simulation's own: it is kept in the order of package locks,
-// under the same names, so that both can be laid side by side. There are no plans that are exchanged, and no calls that only
+// plans, what is kept of claims (claims) and of votes (votes), and the timer of reminders (remind). What is here is the simulation's own: it
+// is kept in the order of package locks, under the same names, so that both can be laid side by side. There are no plans that are exchanged, and no calls that only
 // try.
 
 const (
@@ -85,10 +86,9 @@ type client struct {
 	peers    []peer
 	stage    stage
 	replied  uint64 // the voters that replied to what is asked now
-	epochs   [qlock.MaxClients]uint64
+	claims   *claims.Numbers
 	states   [qlock.MaxClients]int // the worst that a voter said of a number: 0 taken, 2 silent for the TTL, 1 free
 	asked    int
-	claimed  uint64
 	left     time.Duration // when the claim left
 	refused  bool
 	saysAt   time.Duration // when what is asked is asked again
@@ -136,8 +136,8 @@ func (c *client) open() {
 	for v := range c.peers {
 		c.peers[v] = peer{sent: map[uint64]time.Duration{}, heard: now, stamps: qlock.NewStamps(), lease: qlock.NewLease()}
 	}
-	c.asked, c.claimed, c.draining, c.idle, c.beat = -1, 0, false, 0, 0
-	c.epochs = [qlock.MaxClients]uint64{}
+	c.asked, c.draining, c.idle, c.beat = -1, false, 0, 0
+	c.claims = claims.New()
 	c.sessions[c.name] = c
 	c.box = &box{takes: c.takes}
 	c.broker.listen(c.boxes(), c.box)
@@ -240,7 +240,7 @@ func (c *client) opensAgain(d time.Duration) {
 
 // choose asks the voters which numbers are free.
 func (c *client) choose() {
-	c.stage, c.replied, c.claimed = choosing, 0, 0
+	c.stage, c.replied = choosing, 0
 	for i := range c.states {
 		c.states[i] = 1
 	}
@@ -271,7 +271,7 @@ func (c *client) goesOn() {
 	case waiting:
 		c.choose()
 	case claiming:
-		c.say(qlock.ClientSays{Kind: qlock.ClaimStamps, Number: c.asked, First: c.claimed, Second: firstBlock})
+		c.say(qlock.ClientSays{Kind: qlock.ClaimStamps, Number: c.asked, First: c.claims.Claimed(c.asked), Second: firstBlock})
 	case reserving:
 		c.heartbeat()
 	}
@@ -284,7 +284,7 @@ func (c *client) hears() {
 		c.claim()
 	case c.stage == claiming && c.refused:
 		c.abandon()
-	case c.stage == claiming && c.isAnswered():
+	case c.stage == claiming && c.hasQuorum(c.claims[c.asked].Shows().Accepted):
 		c.reserveFirst()
 	case c.stage == reserving && c.refused:
 		c.abandon()
@@ -318,8 +318,8 @@ func (c *client) claim() {
 		c.stage, c.pause, c.saysAt = waiting, 0, c.shows()+c.ttl/10
 		return
 	}
-	c.stage, c.claimed = claiming, c.epochs[c.asked]+1
-	c.replied, c.refused, c.used, c.block = 0, false, 0, firstBlock
+	c.claims[c.asked].Next()
+	c.stage, c.refused, c.block = claiming, false, firstBlock
 	for v := range c.peers {
 		c.peers[v].forget()
 		c.peers[v].forgetLease(c.shows())
@@ -335,7 +335,9 @@ func (c *client) reserveFirst() {
 		c.peers[v].heard = now
 	}
 	c.stage, c.refused = reserving, false
-	c.header.Number, c.header.Epoch, c.header.Reserved = c.asked, c.claimed, c.used+firstBlock
+	claim := c.claims[c.asked].Shows()
+	c.used = claim.Base
+	c.header.Number, c.header.Epoch, c.header.Reserved = c.asked, claim.Epoch, c.used+firstBlock
 	if c.hears(); c.stage == reserving {
 		c.begins()
 	}
@@ -348,14 +350,15 @@ func (c *client) abandon() {
 		l.shown = qlock.Shown{}
 	}
 	c.header.Number, c.header.Epoch, c.header.Reserved = 0, 0, 0
+	epoch := c.claims.Claimed(c.asked)
 	for v := range c.peers {
 		c.peers[v].sent = map[uint64]time.Duration{}
 		c.peers[v].forget()
 		c.peers[v].forgetLease(c.shows())
 		c.out[v] = c.out[v][:0]
-		c.tell(v, qlock.ClientSays{Kind: qlock.Drop, Number: c.asked, First: c.claimed})
+		c.tell(v, qlock.ClientSays{Kind: qlock.Drop, Number: c.asked, First: epoch})
 	}
-	c.epochs[c.asked] = c.claimed
+	c.claims[c.asked].GivesUp()
 	c.flush()
 	c.choose()
 }
@@ -687,8 +690,8 @@ func (c *client) hear(v int, says qlock.VoterSays) {
 			c.noteNumber(v, says.Number, says.First, int(says.Second))
 		}
 	case qlock.Claimed, qlock.Denied:
-		if c.stage == claiming && says.Number == c.asked && says.First == c.claimed || mine {
-			c.noteClaim(v, says.Kind == qlock.Claimed, says.Second, says.Third)
+		if c.stage == claiming && says.Number == c.asked && says.First == c.claims.Claimed(c.asked) || mine {
+			c.noteClaim(v, says.Kind == qlock.Claimed, says.First, says.Second, says.Third)
 		}
 	case qlock.Opened:
 		if mine && !c.peers[v].stale {
@@ -725,9 +728,7 @@ func (c *client) avoid() {
 
 // noteNumber notes what a voter says of a number.
 func (c *client) noteNumber(v, which int, epoch uint64, state int) {
-	if epoch > c.epochs[which] {
-		c.epochs[which] = epoch
-	}
+	c.claims[which].Sees(epoch)
 	if state == 0 || c.states[which] == 1 {
 		c.states[which] = state
 	}
@@ -735,17 +736,16 @@ func (c *client) noteNumber(v, which int, epoch uint64, state int) {
 }
 
 // noteClaim notes a voter's reply to a claim.
-func (c *client) noteClaim(v int, granted bool, base, reserved uint64) {
+func (c *client) noteClaim(v int, granted bool, epoch, base, reserved uint64) {
 	if !granted {
 		c.refused = c.refused || c.header.Epoch == 0
 		return
 	}
-	c.replied |= 1 << v
+	if base > qlock.MaxStamp || !c.claims[c.asked].Accepts(uint8(v), epoch, base) {
+		return // no stamp is above that base
+	}
 	if p := &c.peers[v]; p.claimed == 0 && !p.stale {
 		c.acknowledge(v, c.left)
-	}
-	if c.header.Epoch == 0 && base <= qlock.MaxStamp {
-		c.used = greatest(c.used, base)
 	}
 	c.noteStamps(v, base, reserved)
 }

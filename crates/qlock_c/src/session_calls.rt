@@ -1,12 +1,13 @@
-//! The calls of what a session keeps: leases, votes, and its stamps at voters.
+//! The calls of what a session keeps: leases, votes, its stamps at voters, and its claims of numbers.
 ghost use Rattle.std.specs.Prelude.{◌≡◌, ◌≢◌};
+ghost use Rattle.claims.specs.Claims.{given_up, saw};
 ghost use Rattle.vote_leases.specs.Leases.{ended, given_back, renewed};
-ghost use Rattle.session_blocks.specs.SessionSteps.{LeaseBecomes, LeaseHears, LeaseIsMade, StampsAreMade, StampsAreOwn, StampsHear, VoteAsks, VoteBecomes, VoteIsMade, VoteKeeps, VoteShowsEnd, VoteTakes};
+ghost use Rattle.session_blocks.specs.SessionSteps.{ClaimBecomes, ClaimIsAccepted, ClaimIsMade, ClaimShows, ClaimsNext, LeaseBecomes, LeaseHears, LeaseIsMade, StampsAreMade, StampsAreOwn, StampsHear, VoteAsks, VoteBecomes, VoteIsMade, VoteKeeps, VoteShowsEnd, VoteTakes};
 ghost use Rattle.blocks.specs.Numbers.{done};
 ghost use Rattle.blocks.specs.RowSteps.{is_yes};
 
 use blocks::number_of;
-use session_blocks::{leases, stamps, votes};
+use session_blocks::{leases, own_claims, stamps, votes};
 use vote_leases::{Incarnation, Locked};
 
 /// Makes the lease of a voter of which nothing was heard, in 40 bytes.
@@ -158,4 +159,72 @@ pub extern "C" fn qlock_stamps_have(stamps: &[u8], stamp: u64, yes: &mut u32) ->
     ensures have { StampsAreOwn stamps.now stamp yes.new result }
 {
     number_of(stamps::have(stamps, stamp, yes))
+}
+
+/// Makes what a session keeps of its claims of a number of which nothing was heard, in 40 bytes.
+#[unsafe(no_mangle)]
+pub extern "C" fn qlock_claim_new(claim: &mut [u8]) -> i32
+    ensures refused { result ≢ done → claim.new ≡ claim.old }
+    ensures made { ClaimIsMade claim.old claim.new result }
+{
+    number_of(own_claims::new(claim))
+}
+
+/// Hears of an epoch of the number: from a voter, late, in any order, or again.
+#[unsafe(no_mangle)]
+pub extern "C" fn qlock_claim_sees(claim: &mut [u8], epoch: u64) -> i32
+    ensures refused { result ≢ done → claim.new ≡ claim.old }
+    ensures sees { ClaimBecomes (λ c. saw c epoch) claim.old claim.new result }
+{
+    number_of(own_claims::sees(claim, epoch))
+}
+
+/// Claims the number under the next epoch. Writes that, and 0 if there is none, as the epochs are spent: then nothing changes.
+#[unsafe(no_mangle)]
+pub extern "C" fn qlock_claim_next(claim: &mut [u8], epoch: &mut u64) -> i32
+    ensures refused { result ≢ done → (claim.new ≡ claim.old) × (epoch.new ≡ epoch.old) }
+    ensures claims { ClaimsNext claim.old claim.new epoch.new result }
+{
+    number_of(own_claims::next(claim, epoch))
+}
+
+/// Takes a voter's word that it accepted the claim of an epoch, and the base of the session's stamps there. Writes 1 if that is of
+/// the claim that goes on, and 0 if not: then nothing changes.
+#[unsafe(no_mangle)]
+pub extern "C" fn qlock_claim_accepts(
+    claim: &mut [u8],
+    voter: u8,
+    epoch: u64,
+    base: u64,
+    yes: &mut u32,
+) -> i32
+    ensures refused { result ≢ done → (claim.new ≡ claim.old) × (yes.new ≡ yes.old) }
+    ensures accepts { ClaimIsAccepted voter epoch base claim.old claim.new yes.new result }
+{
+    number_of(own_claims::accepts(claim, voter, epoch, base, yes))
+}
+
+/// Takes the claim back. Its epoch is never claimed again.
+#[unsafe(no_mangle)]
+pub extern "C" fn qlock_claim_gives_up(claim: &mut [u8]) -> i32
+    ensures refused { result ≢ done → claim.new ≡ claim.old }
+    ensures gives_up { ClaimBecomes (λ c. given_up c) claim.old claim.new result }
+{
+    number_of(own_claims::gives_up(claim))
+}
+
+/// Writes the newest epoch that was heard of or claimed, the one that is claimed, 0 if none is, the voters that accepted that, and the
+/// greatest base that these told.
+#[unsafe(no_mangle)]
+pub extern "C" fn qlock_claim_shows(
+    claim: &[u8],
+    newest: &mut u64,
+    epoch: &mut u64,
+    accepted: &mut u64,
+    base: &mut u64,
+) -> i32
+    ensures refused { result ≢ done → (newest.new ≡ newest.old) × (epoch.new ≡ epoch.old) × (accepted.new ≡ accepted.old) × (base.new ≡ base.old) }
+    ensures shows { ClaimShows claim.now newest.new epoch.new accepted.new base.new result }
+{
+    number_of(own_claims::shows(claim, newest, epoch, accepted, base))
 }

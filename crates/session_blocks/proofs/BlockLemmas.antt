@@ -1,15 +1,17 @@
 -- how long the blocks are
-use Rattle.std.proofs.Common.{◌≡◌, ℕ, ◌*◌, List, Option, None, Some, length, ap, refl, ◌∙◌}
+use Rattle.std.proofs.Common.{◌≡◌, ℕ, ◌*◌, List, [], ◌∷◌, ◌++◌, Option, None, Some, length, ap, refl, ◌∙◌}
 use Rattle.std.specs.Prelude.{suc}
 use Rattle.words.proofs.WordLemmas.{length-bytes_of}
 use Rattle.words.specs.WordBytes.{bytes_of}
+use Rattle.claims.specs.Claims as claims
+use Rattle.claims.specs.declared.claim.Claim.{Claim}
 use Rattle.own_stamps.specs.Stamps.{words_of}
 use Rattle.own_stamps.specs.declared.stamps.OwnStamps.{OwnStamps}
 use Rattle.vote_leases.specs.Saved.{lease_words, option_words, taken_words, vote_words}
 use Rattle.vote_leases.specs.declared.lease.VoterLease.{VoterLease}
 use Rattle.vote_leases.specs.declared.vote.Taken.{Taken}
 use Rattle.vote_leases.specs.declared.vote.Vote.{Vote}
-use Rattle.session_blocks.specs.Bytes.{AreStamps, IsLease, IsVote}
+use Rattle.session_blocks.specs.Bytes.{AreStamps, IsClaim, IsLease, IsVote}
 
 length-words : (bytes words : List ℕ) (n : ℕ) → bytes ≡ bytes_of words → length words ≡ n → length bytes ≡ 8 * n
 length-words bytes words n is few = ap (λ (l : List ℕ). length l) is ∙ length-bytes_of words ∙ ap (λ k. 8 * k) few
@@ -30,3 +32,10 @@ length-vote bytes v is = length-words bytes (vote_words v) 9 is.bytes_are (ap (�
 
 pub length-stamps : (bytes : List ℕ) (s : OwnStamps) → AreStamps bytes s → length bytes ≡ 24
 length-stamps bytes s is = length-words bytes (words_of s) 3 is.bytes_are refl
+
+length-epoch : (o : Option ℕ) (accepted base : ℕ) → length (claims.epoch_words o ++ accepted ∷ base ∷ []) ≡ 4
+length-epoch None accepted base = refl
+length-epoch (Some epoch) accepted base = refl
+
+pub length-claim : (bytes : List ℕ) (c : Claim) → IsClaim bytes c → length bytes ≡ 40
+length-claim bytes c is = length-words bytes (claims.words_of c) 5 is.bytes_are (ap (λ n. suc n) (length-epoch c.epoch c.accepted c.base))

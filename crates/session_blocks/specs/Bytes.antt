@@ -1,6 +1,8 @@
--- The leases, the votes and the stamps that C sees: their numbers as bytes.
+-- The leases, the votes, the stamps and the claims that C sees: their numbers as bytes.
 use Rattle.std.specs.Prelude.{ℕ, ◌≡◌, List}
 use Rattle.words.specs.WordBytes.{FitIn64Bits, bytes_of}
+use Rattle.claims.specs.Claims as claims
+use Rattle.claims.specs.declared.claim.Claim.{Claim}
 use Rattle.own_stamps.specs.Stamps.{words_of}
 use Rattle.own_stamps.specs.declared.stamps.OwnStamps.{OwnStamps}
 use Rattle.vote_leases.specs.Saved.{lease_words, vote_words}
@@ -33,3 +35,12 @@ pub record AreStamps (bytes : List ℕ) (stamps : OwnStamps) : Type 0 where
 -- the bytes are those of no stamps
 abbrev pub AreNoStamps : List ℕ → Type 0
 AreNoStamps bytes = (stamps : OwnStamps) → AreStamps bytes stamps → ⊥
+
+-- the bytes are those of this claim: each of its numbers fits in 64 bits
+pub record IsClaim (bytes : List ℕ) (claim : Claim) : Type 0 where
+  pub fit : FitIn64Bits (claims.words_of claim)
+  pub bytes_are : bytes ≡ bytes_of (claims.words_of claim)
+
+-- the bytes are those of no claim
+abbrev pub IsNoClaim : List ℕ → Type 0
+IsNoClaim bytes = (claim : Claim) → IsClaim bytes claim → ⊥

@@ -1,6 +1,9 @@
--- What the calls of leases, votes and stamps return and write. Each is said for the one lease, the one vote or the ones that the bytes
--- are.
+-- What the calls of leases, votes, stamps and claims return and write. Each is said for the one lease, vote or claim, or for the ones,
+-- that the bytes are.
 use Rattle.std.specs.Prelude.{ℕ, ℤ, ◌≡◌, ◌≢◌, Bool, List, length, Option, None, Some, nat_lt, if◌then◌else◌}
+use Rattle.claims.specs.Claims.{accepted_by, claims_next, is_accepted_by, next_epoch}
+use Rattle.claims.specs.Claims as claims
+use Rattle.claims.specs.declared.claim.Claim.{Claim}
 use Rattle.own_stamps.specs.Stamps.{is_own, told, untold}
 use Rattle.own_stamps.specs.declared.stamps.OwnStamps.{OwnStamps}
 use Rattle.vote_leases.specs.Leases.{asked, begun_lease, begun_vote, heard, is_same, is_taken, kept, taken, until}
@@ -10,9 +13,9 @@ use Rattle.vote_leases.specs.declared.vote.Locked.{Locked}
 use Rattle.vote_leases.specs.declared.vote.Vote.{Vote}
 use Rattle.blocks.specs.Numbers.{done, refused}
 use Rattle.blocks.specs.declared.refusal.Refusal.TheVariants.{BadState}
-use Rattle.session_blocks.specs.Bytes.{AreNoStamps, AreStamps, IsLease, IsNoLease, IsNoVote, IsVote}
+use Rattle.session_blocks.specs.Bytes.{AreNoStamps, AreStamps, IsClaim, IsLease, IsNoClaim, IsNoLease, IsNoVote, IsVote}
 
--- how many bytes a lease, a vote and stamps have
+-- how many bytes a lease, a vote, stamps and a claim have
 abbrev pub lease_bytes : ℕ
 lease_bytes = 40
 
@@ -22,9 +25,17 @@ vote_bytes = 72
 abbrev pub stamps_bytes : ℕ
 stamps_bytes = 24
 
+abbrev pub claim_bytes : ℕ
+claim_bytes = 40
+
 -- a truth as a number
 abbrev pub yes_of : Bool → ℕ
 yes_of is = if is then 1 else 0
+
+-- a number that is there or not, and 0 if not
+abbrev pub or_zero : Option ℕ → ℕ
+or_zero None = 0
+or_zero (Some number) = number
 
 -- ---- leases
 
@@ -74,16 +85,11 @@ pub record VoteTakes (locked : Locked) (span now : ℕ) (lease before after : Li
   pub takes : (v : Vote) (l : VoterLease) → IsVote before v → IsLease lease l
       → (result ≡ done) × IsVote after (taken v l locked span now) × (yes ≡ yes_of (is_taken v l locked span now))
 
--- the end of a vote that may count, and 0 if it does not
-abbrev pub end_or_none : Option ℕ → ℕ
-end_or_none None = 0
-end_or_none (Some end) = end
-
--- up to when the vote counts
+-- up to when the vote counts, and 0 if it does not
 pub record VoteShowsEnd (span : ℕ) (lease vote : List ℕ) (end : ℕ) (result : ℤ) : Type 0 where
   pub no_vote : IsNoVote vote → result ≡ refused BadState
   pub no_lease : IsNoLease lease → result ≡ refused BadState
-  pub shows : (v : Vote) (l : VoterLease) → IsVote vote v → IsLease lease l → (result ≡ done) × (end ≡ end_or_none (until v l span))
+  pub shows : (v : Vote) (l : VoterLease) → IsVote vote v → IsLease lease l → (result ≡ done) × (end ≡ or_zero (until v l span))
 
 -- ---- stamps
 
@@ -101,3 +107,32 @@ pub record StampsHear (base reserved : ℕ) (before after : List ℕ) (result : 
 pub record StampsAreOwn (bytes : List ℕ) (stamp yes : ℕ) (result : ℤ) : Type 0 where
   pub no_stamps : AreNoStamps bytes → result ≡ refused BadState
   pub are : (s : OwnStamps) → AreStamps bytes s → (result ≡ done) × (yes ≡ yes_of (is_own s stamp))
+
+-- ---- claims
+
+-- the claim is made of a number of which nothing was heard
+pub record ClaimIsMade (before after : List ℕ) (result : ℤ) : Type 0 where
+  pub bad_state : length before ≢ claim_bytes → result ≡ refused BadState
+  pub made : length before ≡ claim_bytes → (result ≡ done) × IsClaim after claims.begun
+
+-- the claim becomes what the step makes of it
+pub record ClaimBecomes (step : Claim → Claim) (before after : List ℕ) (result : ℤ) : Type 0 where
+  pub no_claim : IsNoClaim before → result ≡ refused BadState
+  pub becomes : (c : Claim) → IsClaim before c → (result ≡ done) × IsClaim after (step c)
+
+-- the number is claimed under the next epoch, which is 0 if there is none
+pub record ClaimsNext (before after : List ℕ) (epoch : ℕ) (result : ℤ) : Type 0 where
+  pub no_claim : IsNoClaim before → result ≡ refused BadState
+  pub claims : (c : Claim) → IsClaim before c → (result ≡ done) × IsClaim after (claims_next c) × (epoch ≡ or_zero (next_epoch c))
+
+-- a voter accepted a claim of this epoch, and told this base: 1 if that is of the claim that goes on, and 0 if not
+pub record ClaimIsAccepted (voter epoch base : ℕ) (before after : List ℕ) (yes : ℕ) (result : ℤ) : Type 0 where
+  pub no_claim : IsNoClaim before → result ≡ refused BadState
+  pub accepted : (c : Claim) → IsClaim before c
+      → (result ≡ done) × IsClaim after (accepted_by c voter epoch base) × (yes ≡ yes_of (is_accepted_by c voter epoch))
+
+-- what is kept, where the epoch is 0 if no claim goes on
+pub record ClaimShows (bytes : List ℕ) (newest epoch accepted base : ℕ) (result : ℤ) : Type 0 where
+  pub no_claim : IsNoClaim bytes → result ≡ refused BadState
+  pub shows : (c : Claim) → IsClaim bytes c
+      → (result ≡ done) × (newest ≡ c.newest) × (epoch ≡ or_zero c.epoch) × (accepted ≡ c.accepted) × (base ≡ c.base)
