@@ -1,13 +1,13 @@
 -- who works has its grant
 use Rattle.std.proofs.Common.{◌≡◌, ℕ, ◌+◌, ◌*◌, ◌≤◌, Bool, true, false, List, [], ◌∷◌, refl, sym, subst, ◌∙◌, Option, Some, None, arith}
-use Rattle.std.specs.Prelude.{◌==◌, ◌||◌, max, nat_le, nat_lt, if◌then◌else◌}
+use Rattle.std.specs.Prelude.{◌==◌, ◌||◌, max, min, nat_le, nat_lt, if◌then◌else◌}
 use Rattle.std.specs.List.{AllByRecursion}
 use Rattle.std.proofs.Math.Nat.{mul-add, mul-le-mul_left}
 use Rattle.std.proofs.lemmas.Bool.{false≢true}
 use Rattle.std.proofs.lemmas.Bool.Decides.{nat_tests}
-use Rattle.lease_clock.specs.Clocks.{Clock, IsSound, is_due, came_back, from_number, is_silent, leaves, returned, sent, time_of}
+use Rattle.lease_clock.specs.Clocks.{Clock, IsSound, at, is_due, came_back, from_number, is_silent, leaves, returned, sent, time_of}
 use Rattle.lease_clock.specs.declared.marker.Marker.{Marker}
-use Rattle.lease_clock.specs.Leases.{Beats, Event, Hears, IsRated, LetsGo, Marked, Marks, Passes, Renews, Restarts, World, after, after_all, beaten, begins, hears, is_among, is_working, lasts, lets_go, newer, passed, renews, restarted, with_clock}
+use Rattle.lease_clock.specs.Leases.{Beats, CountsNow, Event, Hears, IsRated, LetsGo, Marked, Marks, Passes, Renews, Restarts, World, after, after_all, beaten, begins, counted_now, hears, is_among, is_working, lasts, lets_go, newer, passed, renews, restarted, with_clock, with_heard}
 use Rattle.lease_clock.proofs.ClockLemmas.{Goes, at_least, back_early, begun_sound, heard_at, leave_goes, return_goes, silent_since}
 
 -- ---- what holds of all members
@@ -209,6 +209,37 @@ clock_on g w d count goes marked was =
       };
     }
 
+either_min : (P : ℕ → Type 0) (x y m : ℕ) → m ≡ min x y → P x → P y → P m
+either_min P x y m is px py = elim (nat_le x y) as (λ b. nat_le x y ≡ b → P m) [
+  | true ↦ λ e. subst P (let same : x ≡ m = (let below : x ≤ y = grind (arith, nat_tests) in omega arith) in same) px
+  | false ↦ λ e. subst P (let same : y ≡ m = (let above : y ≤ x = grind (arith, nat_tests) in omega arith) in same) py
+] refl
+
+-- the session counts as heard now
+counts_as_now : (g : Given) (w : World) → Was g w → Was g (with_heard w (at w.clock w.voter_time))
+counts_as_now g w was =
+    let h = was.holds in
+    let x = with_heard w (at w.clock w.voter_time) in
+    let more = heard_later g w x was.time refl refl refl h.past in
+    let at_now = heard_at w.clock w.voter_time h.sound in
+    let now = (at_least w.voter_time w.clock.last.left (time_of w.clock w.voter_time) refl).0 in
+    record {
+      time = w.voter_time;
+      holds = record {
+        sound = h.sound;
+        marked = h.marked;
+        past = omega arith;
+        heard = omega arith;
+        beats = h.beats;
+        told = all_more more w.acknowledged h.told;
+        lease = lease_more more w.lease h.lease;
+      };
+    }
+
+counts_on : (g : Given) (w : World) → Was g w → Was g (counted_now w)
+counts_on g w was =
+    either_min (λ n. Was g (with_heard w n)) w.heard (at w.clock w.voter_time) (min w.heard (at w.clock w.voter_time)) refl was (counts_as_now g w was)
+
 restart_on : (g : Given) (w : World) → Was g w → Was g (restarted w)
 restart_on g w was =
     let h = was.holds in
@@ -283,6 +314,7 @@ event_on g w (Renews beat) rated was = if_so g w (renews w beat) (is_among beat 
 event_on g w Marks rated was =
     clock_on g w (leaves w.clock w.voter_time) 0 (leave_goes w.clock w.voter_time (is_due w.clock w.voter_time) was.holds.sound) (marks_in_time w.clock w.voter_time (is_due w.clock w.voter_time) was.holds.marked) was
 event_on g w (Marked number) rated was = clock_on g w (returned w.clock number) _ (return_goes w.clock number was.holds.sound) (comes_in_time w.clock (from_number number w.clock.away) w.voter_time was.holds.marked) was
+event_on g w CountsNow rated was = counts_on g w was
 event_on g w LetsGo rated was = if_so g w (lets_go w) (is_silent w.clock w.heard g.ttl) (λ silent. goes_on g w silent was) was
 event_on g w Restarts rated was = restart_on g w was
 

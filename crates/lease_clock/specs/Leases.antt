@@ -98,6 +98,8 @@ pub data Event : Type 0 where
   Marks : Event
   -- the marker of this number comes back to the voter
   Marked : ℕ → Event
+  -- The session counts as heard now, at the latest: what the lease clock skipped since it was heard is skipped for it, too
+  CountsNow : Event
   -- the voter lets the grant go, if the session is silent for a TTL, and saves that
   LetsGo : Event
   -- the voter crashes, and restarts from what it saved: it takes the session as heard then
@@ -179,6 +181,23 @@ with_clock w clock = record {
   lease = w.lease;
 }
 
+-- the session was heard at this reading
+abbrev pub with_heard : World → ℕ → World
+with_heard w heard = record {
+  voter_time = w.voter_time;
+  client_time = w.client_time;
+  clock = w.clock;
+  heard = heard;
+  is_gone = w.is_gone;
+  beats = w.beats;
+  acknowledged = w.acknowledged;
+  lease = w.lease;
+}
+
+-- the session counts as heard now, at the latest
+abbrev pub counted_now : World → World
+counted_now w = with_heard w (min w.heard (at w.clock w.voter_time))
+
 -- the voter lets the grant go
 abbrev pub lets_go : World → World
 lets_go w = record {
@@ -215,6 +234,7 @@ after ttl w (Hears beat) = if is_among beat w.beats then hears w beat else w
 after ttl w (Renews beat) = if is_among beat w.acknowledged then renews w beat else w
 after ttl w Marks = with_clock w (leaves w.clock w.voter_time)
 after ttl w (Marked number) = with_clock w (returned w.clock number)
+after ttl w CountsNow = counted_now w
 after ttl w LetsGo = if is_silent w.clock w.heard ttl then lets_go w else w
 after ttl w Restarts = restarted w
 

@@ -1,6 +1,6 @@
 -- time, heartbeats and silence keep what holds of a voter and a session
 use Rattle.std.proofs.Common.{◌≡◌, ℕ, ◌+◌, ◌*◌, ◌≤◌, ◌<◌, Bool, true, false, List, ◌∷◌, refl, sym, ap, subst, ◌∙◌, Option, Some, None, arith, inl, inr}
-use Rattle.std.specs.Prelude.{◌==◌, ◌||◌, ◌&&◌, ◌⊎◌, nat_lt, not, if◌then◌else◌}
+use Rattle.std.specs.Prelude.{◌==◌, ◌||◌, ◌&&◌, ◌⊎◌, min, nat_lt, not, if◌then◌else◌}
 use Rattle.std.specs.List.{AllByRecursion}
 use Rattle.std.proofs.lemmas.Bool.{false≢true, eq-eqb, eqb-true}
 use Rattle.std.proofs.lemmas.Bool.Decides.{nat_tests}
@@ -9,7 +9,7 @@ use Rattle.lease_clock.specs.Clocks.{at, is_silent, leaves, returned}
 use Rattle.lease_clock.specs.Leases.{is_among}
 use Rattle.lease_clock.specs.Leases as single
 use Rattle.working.specs.Sessions.{Session, beaten, session_later}
-use Rattle.working.specs.Voters.{Acknowledgement, Grant, Locked, Quiet, Voter, awake, gives_on, heard_from, hears, lapsed, lets_go, lets_other_go, lost, may_let_go, quiet_again, quiet_anew, restarted, said, set, voter_later, with_clock}
+use Rattle.working.specs.Voters.{Acknowledgement, Grant, Locked, Quiet, Voter, awake, counts_now, gives_on, heard_from, hears, lapsed, lets_go, lets_other_go, lost, may_let_go, quiet_again, quiet_anew, restarted, said, set, voter_later, with_clock}
 use Rattle.working.proofs.Lists.{both_all, not_here, weaker}
 use Rattle.working.proofs.Seen.{Given, IsReached, WasTold, all_told, beats_of, goes, heard_with, seen, seen_if, still_told, stops}
 use Rattle.working.proofs.Holds.{AreKept, HasStopped, Holds, IsVoid, current_on, keeps}
@@ -170,6 +170,40 @@ hears_on g voter session beat other v sessions among hs =
             (hears_here g voter session beat v (sessions session) among over (hs session))
         | false ↦ λ apart. hears_there g voter session other beat v (sessions other) apart (hs other)
       ] refl
+    ] refl
+
+-- ---- what the lease clock skipped
+
+-- a voter that is quiet goes on with lapses of which it was heard when that began
+counts_if : (g : Given) (session l : ℕ) (v : Voter) (s : Session) (quiet : Option Quiet) → IsReached g (seen_if session l v s quiet)
+    → IsReached g (record (seen_if session l v s quiet) { heard = heard_with (min (v.heard session) (at v.clock v.time)) (v.lapses session) l quiet })
+counts_if g session l v s None reached =
+    goes g (seen_if session l v s None) (single.counted_now (seen_if session l v s None)) single.CountsNow tt refl reached
+counts_if g session l v s (Some q) reached =
+    elim (nat_lt l (said (v.lapses session) (Some q))) as (λ b. IsReached g (record (seen_if session l v s (Some q)) { heard = if b then q.since else v.heard session })
+    → IsReached g (record (seen_if session l v s (Some q)) { heard = if b then q.since else min (v.heard session) (at v.clock v.time) })) [
+      | true ↦ λ r. r
+      | false ↦ λ r. goes g (seen_if session l v s None) (single.counted_now (seen_if session l v s None)) single.CountsNow tt refl r
+    ] reached
+
+counts_here : (g : Given) (voter session : ℕ) (v : Voter) (s : Session) → Holds g voter session v s → Holds g voter session (counts_now v session) s
+counts_here g voter session v s h = record {
+  reached = λ l most. rw (eq-eqb session session refl) (counts_if g session l v s v.quiet (h.reached l most));
+  stopped = h.stopped;
+  kept = h.kept;
+  leases = h.leases;
+}
+
+counts_there : (g : Given) (voter session other : ℕ) (v : Voter) (s : Session) → (session == other) ≡ false
+    → Holds g voter other v s → Holds g voter other (counts_now v session) s
+counts_there g voter session other v s apart h = record { reached = rw apart h.reached; stopped = h.stopped; kept = h.kept; leases = h.leases }
+
+pub counts_on : (g : Given) (voter session other : ℕ) (v : Voter) (sessions : ℕ → Session) → ((o : ℕ) → Holds g voter o v (sessions o))
+    → Holds g voter other (counts_now v session) (sessions other)
+counts_on g voter session other v sessions hs =
+    elim (session == other) as (λ b. (session == other) ≡ b → Holds g voter other (counts_now v session) (sessions other)) [
+      | true ↦ λ same. subst (λ (o : ℕ). Holds g voter o (counts_now v session) (sessions o)) (eqb-true session other same) (counts_here g voter session v (sessions session) (hs session))
+      | false ↦ λ apart. counts_there g voter session other v (sessions other) apart (hs other)
     ] refl
 
 -- ---- silence

@@ -1,7 +1,7 @@
 -- A voter of one lock. It gives its vote to one request at a time, and lets a grant go once the session that has it is
 -- silent for a TTL by the voter's lease clock (Gray and Cheriton, "Leases: An Efficient Fault-Tolerant Mechanism for
 -- Distributed File Cache Consistency", SOSP 1989). Voters, sessions and requests have numbers.
-use Rattle.std.specs.Prelude.{ℕ, ◌+◌, ◌==◌, Bool, ◌&&◌, ◌||◌, List, [], ◌∷◌, Option, Some, None, if◌then◌else◌, false, true, is_some}
+use Rattle.std.specs.Prelude.{ℕ, ◌+◌, ◌==◌, min, Bool, ◌&&◌, ◌||◌, List, [], ◌∷◌, Option, Some, None, if◌then◌else◌, false, true, is_some}
 use Rattle.lease_clock.specs.Clocks.{Clock, at, begun, is_silent}
 use Rattle.lease_clock.specs.Leases.{is_among}
 
@@ -137,6 +137,10 @@ hears v session beat = record v {
 -- it takes no heartbeat of a session whose number it gave on
 abbrev pub heard_from : Voter → ℕ → ℕ → Voter
 heard_from v session beat = if is_among session v.over then v else hears v session beat
+
+-- A session counts as heard now, at the latest: what the lease clock skipped since it was heard is skipped for it, too.
+abbrev pub counts_now : Voter → ℕ → Voter
+counts_now v session = record v { heard = set v.heard session (min (v.heard session) (at v.clock v.time)) }
 
 -- ---- grants
 

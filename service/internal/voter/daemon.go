@@ -81,7 +81,7 @@ type Daemon struct {
 	reach           uint64       // up to which number they may be now
 	voters          <-chan transport.Message
 	floor, ceiling  uint64            // its grants are above the floor, and up to the ceiling
-	quietUntil      time.Time         // only those inside get a vote, and this is when it may end; zero once it has ended
+	quiet           quiet             // only those inside get a vote
 	nothing         qlock.SinceStart  // of votes of which nothing was said since the start
 	markers         [keyBytes]byte    // the key of this run's markers
 	done            map[string][]byte // replies to what operators let go, by their questions
@@ -622,7 +622,7 @@ func (d *Daemon) expireFor(v *vote, client int, now time.Time) {
 // endQuiet lets the grants of before the start go of which nobody said that he is inside. If one can't be let go, as no grant is left for
 // who waits, this voter stays quiet.
 func (d *Daemon) endQuiet(now time.Time) {
-	if !d.isQuiet() || now.Before(d.quietUntil) {
+	if !d.isQuiet() || !d.leases.clock.IsSilent(d.quiet.since, d.leases.ttl) {
 		return
 	}
 	isLeft := false
@@ -643,7 +643,7 @@ func (d *Daemon) endQuiet(now time.Time) {
 		}
 	})
 	if !isLeft {
-		d.quietUntil = time.Time{}
+		d.quiet = quiet{}
 	}
 }
 

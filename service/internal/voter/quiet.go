@@ -10,16 +10,22 @@ import (
 // then, which grants are from before the start, and which of them go at the end, the proved calls say (TakeFrom, EndQuiet, Stands). Here
 // is when it begins and ends.
 
-// isQuiet returns whether only those inside get a vote. That ends when the grants of before the start are let go, and no
-// moment before: what was granted in between would count as one of those.
-func (d *Daemon) isQuiet() bool { return !d.quietUntil.IsZero() }
+// quiet is the quiet time of a voter. It ends when the grants of before the start are let go, and no moment before: what was granted in
+// between would count as one of those.
+type quiet struct {
+	is    bool
+	since time.Duration // when it began, on the lease clock
+}
+
+// isQuiet returns whether only those inside get a vote.
+func (d *Daemon) isQuiet() bool { return d.quiet.is }
 
 // quietLeft returns for how long only those inside get a vote, at least for a tick while that has not ended.
 func (d *Daemon) quietLeft(now time.Time) time.Duration {
 	if !d.isQuiet() {
 		return 0
 	}
-	if left := d.quietUntil.Sub(now); left > tick {
+	if left := d.quiet.since + d.leases.ttl - d.leases.at(now); left > tick {
 		return left
 	}
 	return tick
@@ -34,9 +40,10 @@ func (d *Daemon) quietFor(now time.Time) time.Duration {
 	return stillQuiet
 }
 
-// beQuiet begins a quiet time: what votes granted so far is from before it.
-func (d *Daemon) beQuiet(until time.Time) {
-	d.quietUntil = until
+// beQuiet begins a quiet time: what votes granted so far is from before it. It is over after a TTL by the lease clock, so that whoever is
+// inside could be heard for as long.
+func (d *Daemon) beQuiet(now time.Time) {
+	d.quiet = quiet{true, d.leases.at(now)}
 	for _, v := range d.busy.all {
 		v.since = qlock.NewSinceStart(greatest(v.begun, v.held.Number))
 		v.stand()

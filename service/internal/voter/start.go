@@ -151,7 +151,7 @@ func (d *Daemon) isKept(now time.Time) {
 		v.shard.byWord[client] = v.shard.byWord[client] || v.held.Number > 0 && !v.shard.rows[client].Open
 	}
 	if turn == qlock.ServesQuietly {
-		d.beQuiet(now.Add(d.cluster.TTL.Duration))
+		d.beQuiet(now)
 	}
 	d.log.Write(event.Info, "serve", "start", d.store.own.Start, "ceiling", d.ceiling, "clean", shown.IsClean,
 		"answered", d.inUse.names(shown.Answered))

@@ -251,13 +251,41 @@ func TestNoReminderWhileQuiet(t *testing.T) {
 	later := time.Now().Add(time.Minute)
 	for _, isOld := range []bool{true, false} {
 		d.out = map[string][]byte{}
-		if d.beQuiet(later.Add(time.Second)); !isOld {
+		if d.beQuiet(time.Now()); !isOld {
 			v.since = nil
 			v.stand()
 		}
 		if d.round(later); len(d.out) > 0 == isOld {
 			t.Errorf("old: %v, %q", isOld, d.out)
 		}
+	}
+}
+
+// quietIsOver lets a quiet time begin that is over after the next turn: markers come back until then.
+func quietIsOver(d *Daemon) {
+	now := time.Now()
+	for d.beQuiet(now); !d.leases.clock.IsSilent(d.quiet.since, d.leases.ttl); now = now.Add(periodOf(d.leases.ttl)) {
+		d.leases.clock.Returns(d.leases.clock.Send(now.Sub(d.leases.began)))
+	}
+}
+
+// A quiet time lasts for a TTL by the lease clock, also if the machine stands still, or nobody can be heard.
+func TestQuietForATTL(t *testing.T) {
+	d, _ := alone(t, 10)
+	now, period := time.Now(), periodOf(d.leases.ttl)
+	d.beQuiet(now)
+	for _, after := range []time.Duration{0, time.Minute, time.Hour} {
+		if d.endQuiet(now.Add(after)); !d.isQuiet() {
+			t.Errorf("it ends after %v, and no marker came back", after)
+		}
+	}
+	begun := now
+	for ; d.isQuiet() && now.Sub(begun) < time.Hour; now = now.Add(period) {
+		d.leases.clock.Returns(d.leases.clock.Send(now.Sub(d.leases.began)))
+		d.endQuiet(now)
+	}
+	if took := now.Sub(begun); took < d.leases.ttl || took > d.leases.ttl+2*period {
+		t.Errorf("it ends after %v", took)
 	}
 }
 
@@ -273,7 +301,7 @@ func TestEndOfTheQuietTime(t *testing.T) {
 		t.Fatal(err)
 	}
 	d := reopened(t, first)
-	d.beQuiet(time.Now().Add(-time.Millisecond))
+	quietIsOver(d)
 	for i, one := range []struct {
 		number      int
 		lines, want string
@@ -318,7 +346,7 @@ func TestWhatComesBackWhileQuiet(t *testing.T) {
 		t.Fatal(err)
 	}
 	d := reopened(t, first)
-	d.beQuiet(time.Now().Add(time.Minute))
+	d.beQuiet(time.Now())
 	reply := d.repliesTo("jobs", 1, fmt.Sprintf("orders relinquish 1 0 %d\norders request 1 0 9\n", grant))
 	if strings.Contains(reply, "locked") || !strings.Contains(reply, ". gone orders 9") || !strings.Contains(reply, ". quiet ") {
 		t.Errorf("who gave it back: %q", reply)
@@ -337,7 +365,7 @@ func TestEndWhileQuiet(t *testing.T) {
 		d := pair(t)
 		d.join.done = true
 		if isQuiet {
-			d.beQuiet(time.Now().Add(time.Minute))
+			d.beQuiet(time.Now())
 		}
 		carrier := d.carrier.(*post)
 		carrier.sent = nil
@@ -365,7 +393,7 @@ func TestEndWhileSomebodyInsideWaits(t *testing.T) {
 		d.repliesTo("jobs", number, fmt.Sprintf(". claim %d 1 100\n", number))
 	}
 	d.repliesTo("jobs", 1, "orders request 1 0 1\n")
-	d.beQuiet(time.Now().Add(-time.Millisecond))
+	quietIsOver(d)
 	d.repliesTo("jobs", 1, "orders request 1 0 1 inside\n")
 	d.repliesTo("jobs", 2, "orders request 2 0 2 inside\n")
 	if d.round(time.Now()); d.isQuiet() || !d.votes["orders"].isAwaited {

@@ -113,6 +113,9 @@ func (l *leases) begin(now time.Time) {
 	l.changed, l.later = map[int]Session{}, map[int]Session{}
 }
 
+// at returns the reading of the lease clock at which a session is heard that is heard now.
+func (l *leases) at(now time.Time) time.Duration { return l.clock.At(now.Sub(l.began)) }
+
 // hearAll lets all leases begin anew.
 func (t *table) hearAll(now time.Time) {
 	for number := range t.rows {
@@ -121,13 +124,13 @@ func (t *table) hearAll(now time.Time) {
 }
 
 // hear notes that a number's session was heard.
-func (t *table) hear(number int, now time.Time) { t.heard[number] = t.clock.At(now.Sub(t.began)) }
+func (t *table) hear(number int, now time.Time) { t.heard[number] = t.at(now) }
 
 // returned is called once a marker came back. The time that it skips is skipped for those, too, that were heard since the one before:
 // they count as heard now, at the latest. Else a session that was heard last when this voter went on, after it had stood still,
 // would live for that much longer than a TTL.
 func (t *table) returned(now time.Time) {
-	latest := t.clock.At(now.Sub(t.began))
+	latest := t.at(now)
 	for number, heard := range t.heard {
 		if heard > latest {
 			t.heard[number] = latest
