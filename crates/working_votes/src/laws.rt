@@ -1,0 +1,27 @@
+//! Laws: who works by the votes of automata.
+ghost use Rattle.std.specs.Prelude.{◌≡◌, ◌≤◌, ◌+◌, ◌*◌, ℕ, List, true};
+ghost use Rattle.std.specs.List.{AllByRecursion};
+ghost use Rattle.voter.specs.declared.state.VoterState.{VoterState};
+ghost use Rattle.working.specs.Events.{IsRated, after_all, begins};
+ghost use Rattle.working.specs.Sessions.{is_working};
+ghost use Rattle.working_votes.specs.Turns.{AreFree, AreTrue, Askers, HasVote, IsTrue, Turn, WasTold, all_after, all_events, events_in, said_in, voter_of};
+
+/// Who works has the vote of each voter of its quorum: the grant of its automaton is to this request. This is so whatever messages are
+/// late, lost, repeated or out of order, and whenever voters crash and restart from the least of what they saved. The bound is that of
+/// `working::who_works_has_its_votes`.
+pub fn who_works_has_the_votes()
+    ensures { (who : Askers) (a b ttl lease stop : ℕ) (periods times sessions : ℕ → ℕ) (voters : ℕ → VoterState) (turns : List Turn) (session request : ℕ) (quorum : List ℕ)
+        → 1 ≤ b → AllByRecursion (IsRated a b) (all_events who voters turns) → b * (lease + stop) ≤ a * ttl
+        → AreFree voters → AreTrue who ttl (lease + stop) (begins periods times sessions) voters turns
+        → is_working lease stop ((after_all ttl (lease + stop) (begins periods times sessions) (all_events who voters turns)).sessions session) request quorum ≡ true
+        → AllByRecursion (HasVote who (all_after voters turns) session request) quorum }
+{}
+
+/// Each LOCKED that an automaton says in a turn left the voter in the law, for the session that asked: so what a session takes in the law
+/// is what the automaton said.
+pub fn what_is_locked_was_told()
+    ensures { (who : Askers) (ttl span : ℕ) (periods times sessions : ℕ → ℕ) (voters : ℕ → VoterState) (turns : List Turn) (turn : Turn)
+        → AreFree voters → AreTrue who ttl span (begins periods times sessions) voters turns
+        → IsTrue who ttl (after_all ttl span (begins periods times sessions) (all_events who voters turns)) (all_after voters turns) turn
+        → AllByRecursion (λ r. WasTold who (after_all ttl span (after_all ttl span (begins periods times sessions) (all_events who voters turns)) (events_in who (all_after voters turns) turn)) (voter_of turn) r.client r.body) (said_in (all_after voters turns) turn) }
+{}

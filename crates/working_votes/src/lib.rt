@@ -1,0 +1,21 @@
+//! The votes of a voter's automaton in the law on who works: laws alone.
+//!
+//! `working` has a voter that gives its vote to one request at a time, and lets it go when its session is silent. Which request gets the
+//! vote, and what is said then, it leaves open. The automaton of `voter` says that: it has a queue, and takes a REQUEST, a RELEASE or
+//! a RELINQUISH in steps. Here each step of the automata of all voters is a few events of that law (`events_in` in
+//! `specs/Turns.antt`).
+//!
+//! # What is proved
+//!
+//! - Whoever works has the vote of each voter of its quorum: the automaton's grant is to its request ([`who_works_has_the_votes`]).
+//! - Each LOCKED that an automaton says is one that left the voter in the law ([`what_is_locked_was_told`]).
+//!
+//! A message that ends a grant has to be true: the session that has the grant ended the request, or gave the vote back, or the voter may
+//! let the grant go. States that were lost, and quiet times, are not in these laws.
+//!
+//! Depends on `working`, `lease_clock`, `voter` and `message`.
+#![tactic(auto)]
+
+mod laws;
+
+pub use laws::{what_is_locked_was_told, who_works_has_the_votes};
