@@ -1,6 +1,6 @@
 -- the votes of all automata, turn by turn
 use Rattle.std.proofs.Common.{◌≡◌, ℕ, ◌+◌, ◌*◌, ◌≤◌, Bool, true, false, List, [], ◌∷◌, ◌++◌, Option, Some, None, refl, sym, ap, subst, ◌∙◌, inl, inr}
-use Rattle.std.specs.Prelude.{◌==◌, ◌&&◌, ◌⊎◌, if◌then◌else◌}
+use Rattle.std.specs.Prelude.{◌==◌, ◌&&◌, if◌then◌else◌}
 use Rattle.std.specs.List.{AllByRecursion}
 use Rattle.std.proofs.lemmas.Bool.{eq-eqb, eqb-true, false≢true}
 use Rattle.std.proofs.lemmas.Option.{none-some, same_Some}
@@ -15,7 +15,7 @@ use Rattle.voter.specs.declared.state.VoterState.{VoterState}
 use Rattle.voter.specs.Leases.{evict, evict_held, release_of}
 use Rattle.voter.specs.Saved.{least_voter}
 use Rattle.voter.specs.Steps.{Outcome, no_reply, remind, step}
-use Rattle.voter.specs.VoterContract.{AllReport, Ends, MeetsContract, ReportsVote}
+use Rattle.voter.specs.VoterContract.{AllReport, Ends, ReportsVote}
 use Rattle.working.specs.Events.{Event, IsOneOf, IsRated, World, after, after_all, begins, with_voter}
 use Rattle.working.specs.Events as law
 use Rattle.working.specs.Sessions.{is_working}
@@ -25,7 +25,7 @@ use Rattle.voter.proofs.Contract.{MeetsContract-step}
 use Rattle.voter.proofs.ReplyLemmas.{AllReport-remind}
 use Rattle.working.proofs.Lists.{set_by}
 use Rattle.working.proofs.Working.{has_its_votes}
-use Rattle.working_votes.specs.Turns.{AreFree, AreTrue, Askers, Crashes, Evicts, Happens, HasVote, IsOther, IsTrue, MayEnd, Meets, Reminds, Turn, WasTold, all_after, all_events, as_grant, as_vote, ended_by, events_by, events_in, given_by, is_held, said_by, said_in, state_by, voter_after, voter_of}
+use Rattle.working_votes.specs.Turns.{AreFree, AreTrue, Askers, Crashes, Evicts, Happens, HasVote, IsOther, IsTrue, MayEnd, Meets, Reminds, Turn, WasTold, all_after, all_events, as_grant, as_vote, events_by, events_in, given_by, is_held, said_by, said_in, state_by, voter_after, voter_of}
 use Rattle.working_votes.proofs.Worlds.{Changes, Next, Serves, and_next, grant_ends, locked_left, restart_changes, restart_serves, said_again, serves_next, stays, vote_given}
 
 -- ---- events by which no vote is given and no grant ends

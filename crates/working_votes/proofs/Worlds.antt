@@ -1,11 +1,11 @@
 -- what an event of one voter changes
-use Rattle.std.proofs.Common.{◌≡◌, ℕ, Bool, true, false, List, [], ◌∷◌, ◌++◌, Option, Some, None, refl, sym, ap, subst, ◌∙◌, inl, inr}
-use Rattle.std.specs.Prelude.{◌==◌, ◌&&◌, ◌||◌, ◌⊎◌, if◌then◌else◌}
+use Rattle.std.proofs.Common.{◌≡◌, ℕ, Bool, true, false, [], ◌∷◌, Option, Some, None, refl, sym, ap, subst, ◌∙◌, inl, inr}
+use Rattle.std.specs.Prelude.{◌==◌, ◌⊎◌, if◌then◌else◌}
 use Rattle.std.proofs.lemmas.Bool.{eq-eqb, false≢true}
 use Rattle.std.proofs.lemmas.Option.{none-some, same_Some}
 use Rattle.lease_clock.specs.Leases.{is_among}
-use Rattle.working.specs.Events.{Event, Gives, IsOneOf, LetsGo, Released, Relinquished, Restarts, Tells, World, after, after_all, serving, with_voter}
-use Rattle.working.specs.Voters.{Grant, Locked, Quiet, Voter, ends, free, gives, grant_of, is_of_number, is_of_request, lapsed, lets_go, may_let_go, quiet_anew, restarted, set, tells, tells_again, unless_quiet}
+use Rattle.working.specs.Events.{Gives, IsOneOf, LetsGo, Released, Relinquished, Restarts, Tells, World, after, after_all, with_voter}
+use Rattle.working.specs.Voters.{Grant, Quiet, Voter, ends, free, gives, grant_of, is_of_number, is_of_request, lapsed, lets_go, may_let_go, quiet_anew, restarted, set, tells_again, unless_quiet}
 
 -- the voter is this one in the second world, all others and the sessions are as in the first
 pub record Changes (w next : World) (voter : ℕ) (v : Voter) : Type 0 where
