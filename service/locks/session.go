@@ -100,6 +100,7 @@ type session struct {
 	refused bool
 	crowd   wire.Told // how many sessions there are, as a voter said
 	isFree  bool      // a voter said that a number is free
+	wants   string    // the lock for which a number is wanted, "" if that is not known
 
 	wanted  time.Time // when a voter said last that others wait for a number
 	wasUsed bool      // a lock was asked for
@@ -197,7 +198,7 @@ func (c *Client) choose(ctx context.Context) error {
 		for i := range c.states {
 			c.states[i] = 1
 		}
-		if err := c.rounds(ctx, func() { c.say(qlock.ClientSays{Kind: qlock.Hello}) }, c.isAnswered); err != nil {
+		if err := c.rounds(ctx, c.askForNumbers, c.isAnswered); err != nil {
 			return err
 		}
 		if c.pick() {
@@ -209,6 +210,16 @@ func (c *Client) choose(ctx context.Context) error {
 		if err := c.awaitsFree(ctx); err != nil {
 			return c.crowded(err)
 		}
+	}
+}
+
+// askForNumbers asks all voters which numbers are free, and says for which lock one is wanted.
+func (c *Client) askForNumbers() {
+	for v := range c.peers {
+		if c.wants != "" {
+			c.out[v] = wire.Ask{Kind: wire.WantsFor, Lock: c.wants}.Append(c.out[v])
+		}
+		c.tell(v, qlock.ClientSays{Kind: qlock.Hello})
 	}
 }
 

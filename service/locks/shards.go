@@ -67,7 +67,7 @@ func (s *shards) part(shard int) *part {
 // lockInShard takes a lock by the session of its shard. If that gave its number back meanwhile, or is over, another one is opened.
 func (c *Client) lockInShard(ctx context.Context, name string, w *waiter) (*Held, error) {
 	for {
-		session, err := c.sessionOf(ctx, c.cluster.ShardOfLock(name), w.tries)
+		session, err := c.sessionFor(ctx, name, w.tries)
 		if err != nil {
 			return nil, err
 		}
@@ -80,8 +80,9 @@ func (c *Client) lockInShard(ctx context.Context, name string, w *waiter) (*Held
 	}
 }
 
-// sessionOf returns the session of a shard, and opens one if there is none. It waits for a number, unless the call only tries.
-func (c *Client) sessionOf(ctx context.Context, shard int, tries bool) (*Client, error) {
+// sessionFor returns the session of a lock's shard, and opens one if there is none. It waits for a number, unless the call only tries.
+func (c *Client) sessionFor(ctx context.Context, lock string, tries bool) (*Client, error) {
+	shard := c.cluster.ShardOfLock(lock)
 	p := c.shards.part(shard)
 	select {
 	case p.gate <- struct{}{}:
@@ -104,14 +105,14 @@ func (c *Client) sessionOf(ctx context.Context, shard int, tries bool) (*Client,
 		}
 		p.name, p.claims = c.cluster.SessionName(shard, nonce), claims.New()
 	}
-	session, err := c.openPart(ctx, p, tries)
+	session, err := c.openPart(ctx, p, lock, tries)
 	if errors.Is(err, ErrRetired) && c.call(func() error {
 		if !c.readAgain() {
 			return ErrRetired
 		}
 		return nil
 	}) == nil {
-		session, err = c.openPart(ctx, p, tries)
+		session, err = c.openPart(ctx, p, lock, tries)
 	}
 	if err != nil {
 		return nil, err
@@ -130,14 +131,15 @@ func (c *Client) sessionOf(ctx context.Context, shard int, tries bool) (*Client,
 	return session, nil
 }
 
-// openPart opens the session of a shard, with the plans that this client knows.
-func (c *Client) openPart(ctx context.Context, p *part, tries bool) (*Client, error) {
+// openPart opens the session of a shard for a lock, with the plans that this client knows.
+func (c *Client) openPart(ctx context.Context, p *part, lock string, tries bool) (*Client, error) {
 	own := c.config
 	own.Transport, own.DontWait = c.carrier, own.DontWait || tries
 	session, err := newNamed(c.cluster, own, p.name, p.claims)
 	if err != nil {
 		return nil, err
 	}
+	session.wants = lock
 	if err := c.call(func() error { session.plans = c.plans.copied(); return nil }); err != nil {
 		return nil, err
 	}

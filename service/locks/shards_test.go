@@ -302,3 +302,58 @@ func TestShardsFollowPlans(t *testing.T) {
 		t.Errorf("a client that missed two exchanges: %v", err)
 	}
 }
+
+// A hot lock has all numbers of its shard, and more sessions wait for it. Who wants another lock of the shard comes late, and gets the next
+// number that is free.
+func TestHotLockStopsNoNeighbour(t *testing.T) {
+	w := newShards(t, 2, 20*time.Second)
+	hot, cold := nameOf(w, 1, 0), nameOf(w, 1, 1)
+	var group sync.WaitGroup
+	passes, began := make(chan int, 1), make(chan struct{})
+	passes <- 0
+	pass := func(c *Client) {
+		defer group.Done()
+		held, err := c.Lock(within(t, 60*time.Second), hot)
+		if err != nil {
+			t.Error(err)
+			return
+		}
+		n := <-passes
+		if passes <- n + 1; n == 0 {
+			<-began
+		}
+		if n < 20 {
+			time.Sleep(100 * time.Millisecond)
+		}
+		if err := held.Unlock(); err != nil {
+			t.Error(err)
+		}
+	}
+	for i := 0; i < qlock.MaxClients+16; i++ {
+		group.Add(1)
+		go pass(startWith(t, w, Config{NoNote: true}))
+	}
+	neighbour, before := startWith(t, w, Config{NoNote: true}), 0
+	soon(t, "not all numbers are taken", func() bool { return who(t, neighbour, hot).Waiting == qlock.MaxClients-1 })
+	time.Sleep(time.Second) // the others wait for a number
+	group.Add(1)
+	go func() {
+		defer group.Done()
+		held, err := neighbour.Lock(within(t, 60*time.Second), cold)
+		if err != nil {
+			t.Error(err)
+			return
+		}
+		before = <-passes
+		passes <- before
+		if err := held.Unlock(); err != nil {
+			t.Error(err)
+		}
+	}()
+	time.Sleep(time.Second) // it waits behind them
+	close(began)
+	group.Wait()
+	if before > 8 {
+		t.Errorf("the neighbour gets its lock after %d passes of the others", before)
+	}
+}

@@ -53,6 +53,11 @@ func (d *Daemon) ask(l *letter, speaker qlock.Standing, line []byte, now time.Ti
 		return true, false
 	case ask.Kind == wire.NoAsk:
 		return false, true
+	case ask.Kind == wire.WantsFor:
+		if d.shardOfLock(ask.Lock) == l.shard {
+			l.lock = ask.Lock
+		}
+		return true, true
 	case ask.Kind == wire.AskWho:
 		d.put(l.Name, d.holderOf(ask.ID, ask.Lock, d.votes[ask.Lock], now).Append(d.out[l.Name]))
 	case ask.Kind == wire.AskNames:

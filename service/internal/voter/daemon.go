@@ -264,6 +264,9 @@ func (d *Daemon) line(l *letter, speaker qlock.Standing, lock, line []byte, now 
 		return true
 	}
 	v.heard = now
+	if isRequest {
+		l.shard.locks[l.Number] = v.name
+	}
 	d.tellHolder(v, l, said.From, word, now)
 	d.note(v, said.From, shown, lines, now)
 	if before.Client == uint64(said.From) && before.Number > 0 && string(said.Word) == "relinquish" && shown.Stamp != before.Stamp {
@@ -494,11 +497,8 @@ func (d *Daemon) control(l *letter, speaker qlock.Standing, line []byte, now tim
 
 // hello says which numbers are free, and which of these may be had now: who came first goes first.
 func (d *Daemon) hello(l *letter, now time.Time) bool {
-	var states [qlock.MaxClients]int
-	for number := range states {
-		states[number] = l.shard.state(number)
-	}
-	ahead := l.shard.waiting.ask(l.Name, states[:], now, d.leases.ttl)
+	states := l.shard.states()
+	ahead := l.shard.waiting.ask(l.Name, l.lock, states, l.shard.shares(states), now, d.leases.ttl)
 	for number, row := range l.shard.rows {
 		d.say(l.Name, qlock.VoterSays{Kind: qlock.NumberIs, Number: number, First: row.Epoch, Second: uint64(states[number])})
 	}
@@ -549,6 +549,7 @@ func (d *Daemon) claim(l *letter, said qlock.ClientSays, now time.Time) {
 	if before.Hash != row.Hash || before.Epoch != epoch {
 		l.shard.asksBy[number] = 0
 		d.recount(l.shard, number)
+		l.shard.locks[number] = l.shard.waiting.lockOf(name)
 		d.log.Write(event.Debug, "session-claimed", "client", number, "epoch", epoch)
 	}
 	d.say(name, qlock.VoterSays{Kind: qlock.Claimed, Number: number, First: epoch, Second: row.Base, Third: row.Reserved})

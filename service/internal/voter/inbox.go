@@ -33,6 +33,7 @@ type letter struct {
 	size     int
 	begun    bool
 	controls int
+	lock     string          // for which it wants a number, "" if it did not say so
 	said     map[string]bool // what may be said once in a message
 }
 
@@ -222,7 +223,7 @@ func (d *Daemon) greet(l *letter, now time.Time) (speaker qlock.Standing, ok boo
 	switch {
 	case speaker == qlock.SessionKnown:
 		l.shard.levels[l.Number] = l.Level
-		l.shard.waiting.leave(l.Name)
+		d.hasNumber(l, now)
 		l.shard.reserve(l.Number, l.Name, l.Epoch, l.Reserved, now)
 	case speaker == qlock.SessionUnknown && first:
 		d.say(l.Name, qlock.VoterSays{Kind: qlock.Unknown, Number: l.Number, First: l.Epoch})

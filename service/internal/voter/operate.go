@@ -192,7 +192,8 @@ func (d *Daemon) obey(words []string, by string, now time.Time) interface{} {
 	return Refused{"unknown command"}
 }
 
-// evict ends a client's session, and lets all go that it has. What it waits for is let go once it gets it.
+// evict ends a client's session, and lets all go that it has. What it waits for is let go once it gets it. The log says so, unless there was
+// nothing to end.
 func (d *Daemon) evict(key int, by string, now time.Time) LetGo {
 	s, number := d.shardOfKey(key)
 	gone := LetGo{Nobody: !s.rows[number].Open}
@@ -203,7 +204,9 @@ func (d *Daemon) evict(key int, by string, now time.Time) LetGo {
 		}
 	})
 	d.recount(s, number)
-	d.log.Write(event.Warning, "evicted", "client", d.cluster.NumberOf(key), "grants", gone.LetGo, "by", by)
+	if !gone.Nobody || gone.LetGo > 0 {
+		d.log.Write(event.Warning, "evicted", "client", d.cluster.NumberOf(key), "grants", gone.LetGo, "by", by)
+	}
 	return gone
 }
 

@@ -14,6 +14,7 @@ type shard struct {
 	asksBy   [qlock.MaxClients]uint64      // the oldest plan of which a session has a request, as it said; 0 before
 	notes    [qlock.MaxClients]sessionNote // what sessions say of themselves
 	levels   [qlock.MaxClients]uint64      // the newest level that a session knows, 0 until it was heard
+	locks    [qlock.MaxClients]string      // for which lock a number is: "" if that is not known
 	waiting  numberQueue                   // who waits for a number
 	open     int                           // its sessions, and the numbers that may be claimed, when they were counted last
 	free     int

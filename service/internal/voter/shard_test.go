@@ -152,3 +152,124 @@ func TestPagesOfRows(t *testing.T) {
 		t.Errorf("%q, %v", texts, err)
 	}
 }
+
+// hotShard returns a daemon whose shard 1 has the hot lock: 64 sessions have numbers for it, and as many more wait for one. It returns the hot
+// lock, another lock of the shard, and a function with which a session of a user says something in the shard.
+func hotShard(t *testing.T, more int) (d *Daemon, hot, cold string, says func(user, name string, number int, epoch uint64, lines string) string) {
+	t.Helper()
+	d, _ = sharded(t, 4)
+	d.leases.ttl = time.Hour // who waits is not gone before the test ends
+	hot = lockOf(d, 1)
+	for i := 0; cold == ""; i++ {
+		if name := fmt.Sprint("cold-", i); d.cluster.ShardOfLock(name) == 1 {
+			cold = name
+		}
+	}
+	says = func(user, name string, number int, epoch uint64, lines string) string {
+		h := wire.Header{Cluster: "test", Coterie: d.mark, Kind: wire.FromClient, Number: number, Epoch: epoch, Reserved: 1000, Name: "1-" + name}
+		d.sort(transport.Message{Mailbox: wire.VoterBox("test", 0, user), Data: append(h.Append(nil), lines...)})
+		d.takeAll()
+		session := wire.SessionName(user, h.Name)
+		reply := string(d.out[session])
+		delete(d.out, session)
+		return reply
+	}
+	for i := 0; i < 64; i++ {
+		name := fmt.Sprint("has-", i)
+		if reply := says("jobs", name, 0, 0, ". for "+hot+"\n. hello\n"); !strings.Contains(reply, fmt.Sprintf(". number %d 0 1\n", i)) {
+			t.Fatalf("session %d: %q", i, reply)
+		}
+		says("jobs", name, 0, 0, fmt.Sprintf(". claim %d 1 64\n", i))
+		says("jobs", name, i, 1, ". open 0\n")
+	}
+	for i := 0; i < more; i++ {
+		if reply := says("jobs", fmt.Sprint("waits-", i), 0, 0, ". for "+hot+"\n. hello\n"); isFree(reply) {
+			t.Fatalf("session %d more: %q", i, reply)
+		}
+	}
+	return d, hot, cold, says
+}
+
+// isFree returns whether a reply to hello shows a number that is free.
+func isFree(reply string) bool {
+	for _, line := range strings.Split(reply, "\n") {
+		if words := strings.Fields(line); len(words) == 5 && words[1] == "number" && words[4] != "0" {
+			return true
+		}
+	}
+	return false
+}
+
+// A lock has all numbers of its shard, and sixty more sessions wait for it. One that wants another lock, and comes late, gets the number
+// that is free next, and so does one of another user. Once it has it, those that yielded hear that others are free.
+func TestHotLockLeavesNumbers(t *testing.T) {
+	for _, late := range []struct{ user, lock string }{{"jobs", "cold"}, {"web", "hot"}} {
+		d, hot, cold, says := hotShard(t, 60)
+		if late.lock = hot; late.user == "jobs" {
+			late.lock = cold
+		}
+		hello := ". for " + late.lock + "\n. hello\n"
+		if isFree(says(late.user, "late", 0, 0, hello)) {
+			t.Fatal("a number is free")
+		}
+		says("jobs", "has-5", 5, 1, ". close\n")
+		if told := string(d.out[late.user+".1-late"]); !strings.Contains(told, ". free\n") || strings.Contains(string(d.out["jobs.1-waits-0"]), ". free\n") {
+			t.Errorf("%v: who waits hears %q, and the first of the others %q", late, told, d.out["jobs.1-waits-0"])
+		}
+		says("jobs", "has-6", 6, 1, ". close\n")
+		if isFree(says("jobs", "waits-0", 0, 0, ". for "+hot+"\n. hello\n")) {
+			t.Errorf("%v: another one of the hot lock comes first", late)
+		}
+		if reply := says(late.user, "late", 0, 0, hello); !isFree(reply) {
+			t.Errorf("%v: the late one sees no number: %q", late, reply)
+		}
+		says(late.user, "late", 0, 0, ". claim 5 2 64\n")
+		d.out = map[string][]byte{}
+		says(late.user, "late", 5, 2, ". open 0\n")
+		if told := string(d.out["jobs.1-waits-0"]); !strings.Contains(told, ". free\n") {
+			t.Errorf("%v: who yielded hears %q", late, told)
+		}
+		if !isFree(says("jobs", "waits-0", 0, 0, ". for "+hot+"\n. hello\n")) {
+			t.Errorf("%v: the number that is left is nobody's", late)
+		}
+	}
+}
+
+// Which lock a number is for: what its session said with its hello, until it asks for another lock. The next session of a number does not
+// have it from the one before, and no session names a lock of another shard.
+func TestLocksOfNumbers(t *testing.T) {
+	d, hot, cold, says := hotShard(t, 0)
+	s := d.shard(1)
+	if shares := s.shares(s.states()); shares.locks.counts[hot] != 64 || shares.users.counts["jobs"] != 64 {
+		t.Errorf("%+v", shares)
+	}
+	says("jobs", "has-1", 1, 1, cold+" request 1 0 70\n")
+	if s.locks[1] != cold || s.locks[2] != hot {
+		t.Errorf("after a request: %q, %q", s.locks[1], s.locks[2])
+	}
+	says("jobs", "has-1", 1, 1, cold+" release 1 0 70\n")
+	if s.locks[1] != cold {
+		t.Errorf("after a RELEASE: %q", s.locks[1])
+	}
+	for number := 1; number <= 3; number++ {
+		says("jobs", fmt.Sprint("has-", number), number, 1, ". close\n")
+	}
+	if shares := s.shares(s.states()); shares.locks.counts[hot] != 61 {
+		t.Errorf("%+v", shares)
+	}
+	says("jobs", "older", 0, 0, ". hello\n. claim 1 2 64\n") // of an older program
+	says("jobs", "older", 1, 2, ". open 0\n")
+	says("jobs", "stray", 0, 0, ". for "+lockOf(d, 2)+"\n. hello\n. claim 2 2 64\n")
+	if s.locks[1] != "" || s.locks[2] != "" {
+		t.Errorf("the next sessions: %q, %q", s.locks[1], s.locks[2])
+	}
+	if shares := s.shares(s.states()); shares.users.counts["jobs"] != 62 {
+		t.Errorf("a number that was only claimed is in use: %+v", shares)
+	}
+	if says("jobs", "stray", 2, 2, ". open 0\n"); s.waiting.lockOf("jobs.1-stray") != "" {
+		t.Error("who has a number waits")
+	}
+	if d.evict(64+5, "alice", time.Now()); s.locks[5] != "" || s.locks[6] != hot {
+		t.Errorf("after an end: %q, %q", s.locks[5], s.locks[6])
+	}
+}

@@ -82,7 +82,7 @@ func TestVoterSpeaksAsItself(t *testing.T) {
 	}
 }
 
-// Who may only look evicts nobody. A voter sees what the others know. The log says who evicted.
+// Who may only look evicts nobody. A voter sees what the others know. The log says who evicted, and not that somebody evicted nobody.
 func TestWhoMayWrite(t *testing.T) {
 	var log bytes.Buffer
 	for _, one := range []struct {
@@ -101,6 +101,7 @@ func TestWhoMayWrite(t *testing.T) {
 		{"1", "knows", false, fmt.Sprintf(`"hash":%q`, hashed("jobs.s2"))},
 		{"alice", "knows", true, fmt.Sprintf(`"hash":%q`, hashed("jobs.s2"))},
 		{"alice", "evict 2", true, `{"let_go":0}`},
+		{"alice", "evict 3", true, `{"let_go":0,"nobody":true}`},
 	} {
 		d := reader()
 		d.replies, d.done, d.log = map[string]answer{}, map[string][]byte{}, event.To(&log)

@@ -188,6 +188,15 @@ func (t *table) state(number int) int {
 	return 2
 }
 
+// states returns the states of all numbers.
+func (t *table) states() []int {
+	states := make([]int, qlock.MaxClients)
+	for number := range states {
+		states[number] = t.state(number)
+	}
+	return states
+}
+
 // set sets a row. One that the proved rows refuse reads as nobody's.
 func (t *table) set(number int, row Session) {
 	t.rows[number], t.hashes[number] = row, row.session()

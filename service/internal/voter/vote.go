@@ -135,7 +135,7 @@ func (s *shard) count(client int, one ask, by int) {
 
 // recount counts anew, once a number has a new session.
 func (d *Daemon) recount(s *shard, client int) {
-	s.requests[client] = 0
+	s.requests[client], s.locks[client] = 0, ""
 	for _, v := range d.busy.all {
 		if one, asked := v.asks[client]; asked && v.shard == s {
 			s.count(client, one, 1)

@@ -197,7 +197,8 @@ func FuzzMessage(f *testing.F) {
 		". drop 1 1\n", ". open 0\n", ". close\n", ". plan\n", "orders request 1 0 2\n", "orders request 0 0 1\n",
 		"stock request 1 0 9\nstock release 1 0 9\n", "orders release 0 0 1\n", "orders relinquish 0 0 1 1\n",
 		"x y\n\n", "orders request 1 0 1099511627775\n", "no end", ". note m 1 r a\n. who 1 orders\n. list 2 0\n",
-		". about orders 1 a note\n" + strings.Repeat(". who 1 orders\n", 15), ". list 1 1 ord\n. list 1 1\n", ". note\n. who x\n"} {
+		". about orders 1 a note\n" + strings.Repeat(". who 1 orders\n", 15), ". list 1 1 ord\n. list 1 1\n", ". note\n. who x\n", ". for orders\n. hello\n",
+		". for orders\n. hello\n. claim 5 1 9\n. for stock\n. hello\n. for x y\n"} {
 		f.Add(s.said(0, 0, 0, "nobody", lines))
 		f.Add(s.said(1, 1, 200, "other", lines))
 		f.Add(s.said(0, 1, 1<<40, "me", lines))
@@ -207,7 +208,7 @@ func FuzzMessage(f *testing.F) {
 	}
 	f.Fuzz(func(t *testing.T, message []byte) {
 		d := s.again(t)
-		rows, held := d.shard(0).rows, d.votes["orders"].held
+		rows, locks, held := d.shard(0).rows, d.shard(0).locks, d.votes["orders"].held
 		hand(d, message)
 		if sent(d) > mostReplies+4*len(message) {
 			t.Fatalf("%d bytes leave for a message of %d", sent(d), len(message))
@@ -226,6 +227,9 @@ func FuzzMessage(f *testing.F) {
 		for number, name := range []string{"me", "other"} {
 			if d.shard(0).noteOf(number) != "" && (!ours || h.Name != name) {
 				t.Fatalf("%q notes %q for another session", h.Name, d.shard(0).noteOf(number))
+			}
+			if now := d.shard(0).locks[number]; now != locks[number] && (!ours || h.Name != name) {
+				t.Fatalf("%q says that another session wants %q", h.Name, now)
 			}
 		}
 		if d.votes["orders"].asks[0].note != "" && h.Name != "me" {

@@ -35,6 +35,7 @@ const (
 	AskWho                   // who ID LOCK
 	AskNames                 // list ID PLACE [PREFIX]
 	WantsTurn                // turn LOCK STAMP GRANT TOP
+	WantsFor                 // for LOCK: what a session wants a number for. It is in front of hello, and older voters ignore it
 )
 
 // Told is what a voter says to an Ask.
@@ -94,6 +95,8 @@ func (a Ask) Append(out []byte) []byte {
 		out = withText(withNumber(append(out, ". who"...), a.ID), a.Lock)
 	case AskNames:
 		out = withText(withNumber(withNumber(append(out, ". list"...), a.ID), a.Number), a.Lock)
+	case WantsFor:
+		out = withText(append(out, ". for"...), a.Lock)
 	case WantsTurn:
 		out = withNumber(withNumber(withNumber(withText(append(out, ". turn"...), a.Lock), a.Number), a.Grant), a.Top)
 	}
@@ -120,6 +123,8 @@ func ReadAsk(line []byte) (a Ask, err error) {
 	case "turn":
 		a = Ask{Kind: WantsTurn, Lock: w.lock(), Number: w.number(), Grant: w.number(), Top: w.number()}
 		w.isWrong = w.isWrong || a.Grant > a.Top
+	case "for":
+		a = Ask{Kind: WantsFor, Lock: w.lock()}
 	default:
 		return Ask{}, nil
 	}
