@@ -178,10 +178,11 @@ func TestLockFor(t *testing.T) {
 			return h.Host == one.want.Host && h.Pid == one.want.Pid && h.Login == one.want.Login && h.Note == one.want.Note
 		})
 	}
-	var by *HeldBy
-	if _, err := silent.TryLockFor(within(t, 20*time.Second), "x-1", For{}); !errors.As(err, &by) || by.Holder.Note != "two" {
-		t.Error(err)
-	}
+	soon(t, "who tries is not told for whom it is held", func() bool { // one voter says so, which may not have the note yet
+		var by *HeldBy
+		_, err := silent.TryLockFor(within(t, 20*time.Second), "x-1", For{})
+		return errors.As(err, &by) && by.Holder.Note == "two"
+	})
 }
 
 // The note of a lock is said again, as it may be lost, and less and less often.

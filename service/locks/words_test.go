@@ -199,6 +199,7 @@ func TestOneVoterEndsNoOpening(t *testing.T) {
 func TestTimeToUseANumber(t *testing.T) {
 	c := alone(t)
 	c.cluster.Shards, c.header.Number, c.header.Epoch = 2, 0, 0
+	c.claims[3] = qlock.NewClaims()
 	var states strings.Builder
 	for number := 0; number < qlock.MaxClients; number++ {
 		isFree := 0
