@@ -144,7 +144,7 @@ func TestCeilingsAfterAnExchange(t *testing.T) {
 // Clients pass all the time while a cluster grows from three voters to five, voters restart in the middle, and goes back.
 // One is inside, the guard admits each pass once, and old settings are refused at the end.
 func TestExchangeWhileClientsPass(t *testing.T) {
-	w := worlds.New(t, worlds.Majority, 2*time.Second)
+	w := worlds.New(t, worlds.Majority, 4*time.Second)
 	w.Bus.Noise(1, 1, 3)
 	before := w.Cluster
 	first, _ := start(t, w)

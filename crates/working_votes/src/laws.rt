@@ -1,9 +1,11 @@
 //! Laws: who works by the votes of automata.
-ghost use Rattle.std.specs.Prelude.{◌≡◌, ◌≤◌, ◌+◌, ◌*◌, ℕ, List, true};
+ghost use Rattle.std.specs.Prelude.{◌≡◌, ◌≤◌, ◌+◌, ◌*◌, ◌∷◌, [], ℕ, List, true};
 ghost use Rattle.std.specs.List.{AllByRecursion};
 ghost use Rattle.voter.specs.declared.state.VoterState.{VoterState};
 ghost use Rattle.working.specs.Events.{IsRated, after_all, begins};
+ghost use Rattle.working.specs.Example.{start};
 ghost use Rattle.working.specs.Sessions.{is_working};
+ghost use Rattle.working_votes.specs.Example.{by_client, new_voters, seven_asks};
 ghost use Rattle.working_votes.specs.Turns.{AreFree, AreTrue, Askers, HasVote, IsTrue, Turn, WasTold, all_after, all_events, events_in, said_in, voter_of};
 
 /// Who works has the vote of each voter of its quorum: the grant of its automaton is to this request. This is so whatever messages are
@@ -24,4 +26,13 @@ pub fn what_is_locked_was_told()
         → AreFree voters → AreTrue who ttl span (begins periods times sessions) voters turns
         → IsTrue who ttl (after_all ttl span (begins periods times sessions) (all_events who voters turns)) (all_after voters turns) turn
         → AllByRecursion (λ r. WasTold who (after_all ttl span (after_all ttl span (begins periods times sessions) (all_events who voters turns)) (events_in who (all_after voters turns) turn)) (voter_of turn) r.client r.body) (said_in (all_after voters turns) turn) }
+{}
+
+/// What the laws ask for can be had, with clocks of which those of sessions are slower by a tenth: a voter takes a REQUEST, and its
+/// session works.
+pub fn a_session_works_by_votes()
+    ensures free { AreFree new_voters }
+    ensures premises { AreTrue by_client 100 90 start new_voters seven_asks }
+    ensures rates { AllByRecursion (IsRated 9 10) (all_events by_client new_voters seven_asks) }
+    ensures works { is_working 80 10 ((after_all 100 90 start (all_events by_client new_voters seven_asks)).sessions 7) 1 (0 ∷ []) ≡ true }
 {}

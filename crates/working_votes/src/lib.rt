@@ -9,6 +9,7 @@
 //!
 //! - Whoever works has the vote of each voter of its quorum: the automaton's grant is to its request ([`who_works_has_the_votes`]).
 //! - Each LOCKED that an automaton says is one that left the voter in the law ([`what_is_locked_was_told`]).
+//! - What these ask for can be had ([`a_session_works_by_votes`]).
 //!
 //! A message that ends a grant has to be true: the session that has the grant ended the request, or gave the vote back, or the voter may
 //! let the grant go. States that were lost, and quiet times, are not in these laws.
@@ -18,4 +19,4 @@
 
 mod laws;
 
-pub use laws::{what_is_locked_was_told, who_works_has_the_votes};
+pub use laws::{a_session_works_by_votes, what_is_locked_was_told, who_works_has_the_votes};
