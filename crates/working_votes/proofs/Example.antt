@@ -1,16 +1,13 @@
 -- that a session works by the votes of the example
-use Rattle.std.proofs.Common.{◌≡◌, ℕ, ◌≤◌, ◌<◌, true, List, [], ◌∷◌, ◌++◌, Option, Some, None, refl, sym, ap, subst, ◌∙◌, arith, inl, inr}
+use Rattle.std.proofs.Common.{◌≡◌, ℕ, true, List, [], ◌∷◌, ◌++◌, Option, Some, None, refl, sym, ap, subst, ◌∙◌, arith, inl, inr}
 use Rattle.std.specs.List.{AllByRecursion}
-use Rattle.std.specs.FinMap.{get}
 use Rattle.std.proofs.lemmas.Option.{none-some}
-use Rattle.numbers.specs.Bounds.{max_limit}
 use Rattle.voter.proofs.Contract.{MeetsContract-step}
 use Rattle.voter.proofs.Effects.{IsSound-step}
 use Rattle.voter.proofs.Soundness.{IsSound-start}
 use Rattle.voter.proofs.Staying.{taken_up-step, takes-step}
 use Rattle.voter.specs.declared.state.Grant.{Grant}
-use Rattle.voter.specs.declared.state.VoterState.{VoterState}
-use Rattle.voter.specs.Steps.{IsSound, Outcome, step}
+use Rattle.voter.specs.Steps.{Outcome, step}
 use Rattle.voter.specs.VoterContract.{IsEntry}
 use Rattle.working.specs.Events.{Beats, Event, Hears, IsRated, Marked, Marks, Renews, Takes, after_all}
 use Rattle.working.specs.Example.{pass, start}

@@ -23,6 +23,9 @@ use Rattle.working.specs.Voters.{Quiet, Voter, grant_of, heard_from, hears, give
 use Rattle.working.specs.Voters as working
 use Rattle.voter.proofs.Contract.{MeetsContract-step}
 use Rattle.voter.proofs.ReplyLemmas.{AllReport-remind}
+use Rattle.vote_leases.proofs.Told.{told_works}
+use Rattle.vote_leases.specs.Sessions.{AreTold, HasUntil, Step, all_stepped, begun, events_of}
+use Rattle.vote_leases.specs.declared.incarnation.Incarnation.{Incarnation}
 use Rattle.working.proofs.Lists.{set_by}
 use Rattle.working.proofs.Working.{has_its_votes}
 use Rattle.working_votes.specs.Turns.{AreFree, AreTrue, Askers, Crashes, Evicts, Happens, HasVote, IsOther, IsTrue, MayEnd, Meets, Reminds, Turn, WasTold, all_after, all_events, as_grant, as_vote, events_by, events_in, given_by, is_held, said_by, said_in, state_by, voter_after, voter_of}
@@ -340,6 +343,21 @@ has_votes who a b ttl lease stop periods times sessions voters turns session req
     have_all who (after_all ttl (lease + stop) w (all_events who voters turns)) (all_after voters turns) session request quorum
     (turns_on ttl (lease + stop) who turns w voters is (begins_serve who periods times sessions voters free))
     (has_its_votes a b ttl lease stop periods times sessions (all_events who voters turns) session request quorum some rated bound works)
+
+pub told_has_votes : (who : Askers) (lapses : ℕ → ℕ → Incarnation → ℕ) (a b ttl lease stop : ℕ) (periods times sessions : ℕ → ℕ) (voters : ℕ → VoterState) (turns : List Turn) (used : ℕ) (steps : List Step) (me request voter : ℕ) (quorum : List ℕ)
+    → 1 ≤ b → AllByRecursion (IsRated a b) (events_of steps) → b * (lease + stop) ≤ a * ttl
+    → AreFree voters → AreTrue who ttl (lease + stop) (begins periods times sessions) voters turns
+    → events_of steps ≡ all_events who voters turns
+    → AreTold lapses ttl (lease + stop) (begins periods times sessions) steps
+    → AllByRecursion (HasUntil lease stop ((after_all ttl (lease + stop) (begins periods times sessions) (events_of steps)).sessions me).time
+    (all_stepped ttl lease (lease + stop) me (begins periods times sessions) (begun used) steps) request) (voter ∷ quorum)
+    → AllByRecursion (HasVote who (all_after voters turns) me request) (voter ∷ quorum)
+told_has_votes who lapses a b ttl lease stop periods times sessions voters turns used steps me request voter quorum some rated bound free is same_events told all =
+    let w = begins periods times sessions in
+    has_votes who a b ttl lease stop periods times sessions voters turns me request (voter ∷ quorum) some
+    (subst (λ (events : List Event). AllByRecursion (IsRated a b) events) same_events rated) bound free is
+    (subst (λ (events : List Event). is_working lease stop ((after_all ttl (lease + stop) w events).sessions me) request (voter ∷ quorum) ≡ true) same_events
+    (told_works lapses ttl lease stop periods times sessions used steps me request voter quorum told all))
 
 told_in : (ttl span : ℕ) (who : Askers) (w : World) (voters : ℕ → VoterState) (t : Turn) → IsTrue who ttl w voters t → AllServe who w voters
     → AllByRecursion (λ r. WasTold who (after_all ttl span w (events_in who voters t)) (voter_of t) r.client r.body) (said_in voters t)

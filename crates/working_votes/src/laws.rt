@@ -5,6 +5,8 @@ ghost use Rattle.voter.specs.declared.state.VoterState.{VoterState};
 ghost use Rattle.working.specs.Events.{IsRated, after_all, begins};
 ghost use Rattle.working.specs.Example.{start};
 ghost use Rattle.working.specs.Sessions.{is_working};
+ghost use Rattle.vote_leases.specs.Sessions.{AreTold, HasUntil, Step, all_stepped, begun, events_of};
+ghost use Rattle.vote_leases.specs.declared.incarnation.Incarnation.{Incarnation};
 ghost use Rattle.working_votes.specs.Example.{by_client, new_voters, seven_asks};
 ghost use Rattle.working_votes.specs.Turns.{AreFree, AreTrue, Askers, HasVote, IsTrue, Turn, WasTold, all_after, all_events, events_in, said_in, voter_of};
 
@@ -17,6 +19,20 @@ pub fn who_works_has_the_votes()
         → AreFree voters → AreTrue who ttl (lease + stop) (begins periods times sessions) voters turns
         → is_working lease stop ((after_all ttl (lease + stop) (begins periods times sessions) (all_events who voters turns)).sessions session) request quorum ≡ true
         → AllByRecursion (HasVote who (all_after voters turns) session request) quorum }
+{}
+
+/// Whoever is told to work by what it keeps (`vote_leases`) has the vote of each voter of its quorum, by the automata. The same events
+/// reach the sessions and the voters, and both begin anew. The premises are those of the law above, and of
+/// `vote_leases::who_is_told_to_work_works`.
+pub fn who_is_told_to_work_has_the_votes()
+    ensures { (who : Askers) (lapses : ℕ → ℕ → Incarnation → ℕ) (a b ttl lease stop : ℕ) (periods times sessions : ℕ → ℕ) (voters : ℕ → VoterState) (turns : List Turn) (used : ℕ) (steps : List Step) (me request voter : ℕ) (quorum : List ℕ)
+        → 1 ≤ b → AllByRecursion (IsRated a b) (events_of steps) → b * (lease + stop) ≤ a * ttl
+        → AreFree voters → AreTrue who ttl (lease + stop) (begins periods times sessions) voters turns
+        → events_of steps ≡ all_events who voters turns
+        → AreTold lapses ttl (lease + stop) (begins periods times sessions) steps
+        → AllByRecursion (HasUntil lease stop ((after_all ttl (lease + stop) (begins periods times sessions) (events_of steps)).sessions me).time
+        (all_stepped ttl lease (lease + stop) me (begins periods times sessions) (begun used) steps) request) (voter ∷ quorum)
+        → AllByRecursion (HasVote who (all_after voters turns) me request) (voter ∷ quorum) }
 {}
 
 /// Each LOCKED that an automaton says in a turn left the voter in the law, for the session that asked: so what a session takes in the law

@@ -8,15 +8,20 @@
 //! # What is proved
 //!
 //! - Whoever works has the vote of each voter of its quorum: the automaton's grant is to its request ([`who_works_has_the_votes`]).
+//! - So does whoever is told to work by what it keeps of its votes, as `vote_leases` has it
+//!   ([`who_is_told_to_work_has_the_votes`]): proved code of sessions and of voters meets in one law.
 //! - Each LOCKED that an automaton says is one that left the voter in the law ([`what_is_locked_was_told`]).
 //! - What these ask for can be had ([`a_session_works_by_votes`]).
 //!
 //! A message that ends a grant has to be true: the session that has the grant ended the request, or gave the vote back, or the voter may
 //! let the grant go. States that were lost, and quiet times, are not in these laws.
 //!
-//! Depends on `working`, `lease_clock`, `voter` and `message`.
+//! Depends on `working`, `vote_leases`, `lease_clock`, `voter`, `message` and `numbers`.
 #![tactic(auto)]
 
 mod laws;
 
-pub use laws::{a_session_works_by_votes, what_is_locked_was_told, who_works_has_the_votes};
+pub use laws::{
+    a_session_works_by_votes, what_is_locked_was_told, who_is_told_to_work_has_the_votes,
+    who_works_has_the_votes,
+};
