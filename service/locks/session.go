@@ -572,6 +572,7 @@ func (c *Client) recognise(h wire.Header) bool {
 	switch {
 	case before.identity == "":
 	case before.identity != h.Name:
+		c.refused = c.refused || c.opening && p.accepts // it may have accepted another claim of the epoch since
 		p.forget()
 		c.spoilAll(1 << h.Number)
 	default:

@@ -387,6 +387,19 @@ func TestSessionBeginsAboveItsBases(t *testing.T) {
 	}
 }
 
+// A voter that accepted a claim, and was then made again, may accept another one of the same epoch: the claim is given up.
+func TestVoterIsMadeAgainDuringAClaim(t *testing.T) {
+	for _, isOpening := range []bool{true, false} {
+		c := alone(t)
+		c.header.Number, c.header.Epoch, c.opening = 0, 0, isOpening
+		c.noteClaim(0, true, 5, 0, firstBlock)
+		p := &c.peers[0]
+		if c.recognise(wire.Header{Number: 0, Name: "another", Run: p.run + 1, Start: 1}); c.refused != isOpening {
+			t.Errorf("opening: %v, and the claim is given up: %v", isOpening, c.refused)
+		}
+	}
+}
+
 // Above a base that is beyond all stamps a session has none.
 func TestBaseBeyondAllStamps(t *testing.T) {
 	c := alone(t)

@@ -585,6 +585,7 @@ func (c *client) recognise(h wire.Header) bool {
 	switch {
 	case before.identity == "":
 	case before.identity != h.Name:
+		c.refused = c.refused || (c.stage == claiming || c.stage == reserving) && p.accepts
 		p.forget()
 		c.spoilAll(1 << h.Number)
 	default:

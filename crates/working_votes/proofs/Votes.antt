@@ -28,7 +28,7 @@ use Rattle.vote_leases.specs.Sessions.{AreTold, HasUntil, Step, all_stepped, beg
 use Rattle.vote_leases.specs.declared.incarnation.Incarnation.{Incarnation}
 use Rattle.working.proofs.Lists.{set_by}
 use Rattle.working.proofs.Working.{has_its_votes}
-use Rattle.working_votes.specs.Turns.{AreFree, AreTrue, Askers, Crashes, Evicts, Happens, HasVote, IsOther, IsTrue, MayEnd, Meets, Reminds, Turn, WasTold, all_after, all_events, as_grant, as_vote, events_by, events_in, given_by, is_held, said_by, said_in, state_by, voter_after, voter_of}
+use Rattle.working_votes.specs.Turns.{Alters, AreFree, AreTrue, Askers, Crashes, Evicts, Happens, HasVote, IsOther, IsTrue, MayEnd, Meets, Reminds, Turn, WasTold, all_after, all_events, as_grant, as_vote, events_by, events_in, given_by, is_held, said_by, said_in, state_by, voter_after, voter_of}
 use Rattle.working_votes.proofs.Worlds.{Changes, Next, Serves, and_next, grant_ends, locked_left, restart_changes, restart_serves, said_again, serves_next, stays, vote_given}
 
 -- ---- events by which no vote is given and no grant ends
@@ -203,13 +203,13 @@ taken_ends who ttl w voter v m (Some o) steps may g has gone = elim ((MeetsContr
 
 -- the grant of another number stays
 evicted_ends : (who : Askers) (ttl : ℕ) (w : World) (voter number : ℕ) (v : VoterState) (held : Option Grant) → v.held ≡ held
-    → ((g : Grant) → v.held ≡ Some g → g.grant ≡ number → may_let_go ttl (w.voters voter) (who g.client g.stamp) ≡ true)
+    → ((g : Grant) → v.held ≡ Some g → g.grant ≡ number → MayEnd who ttl w voter g)
     → (g : Grant) → v.held ≡ Some g → is_held (state_by v (evict_held held v number)).held g ≡ false → MayEnd who ttl w voter g
 evicted_ends who ttl w voter number v None is may g has gone = absurd (none-some g (sym is ∙ has))
 evicted_ends who ttl w voter number v (Some h) is may g has gone =
     let one : h ≡ g = same_Some h g (sym is ∙ has) in
     elim (h.grant == number) as (λ b. (h.grant == number) ≡ b → is_held (state_by v (if b then step v (release_of v h) else Some (no_reply v))).held g ≡ false → MayEnd who ttl w voter g) [
-      | true ↦ λ e other. inr (inr (may g has (ap (λ (x : Grant). x.grant) (sym one) ∙ eqb-true h.grant number e)))
+      | true ↦ λ e other. may g has (ap (λ (x : Grant). x.grant) (sym one) ∙ eqb-true h.grant number e)
       | false ↦ λ e other. absurd (not_held v.held g other has)
     ] refl gone
 
@@ -293,6 +293,11 @@ crashed ttl span who w voters place all voter =
     (restart_serves ttl span w place (as_vote who (voters place).held) (all place))
     (λ apart. elsewhere w (after ttl span w (law.Restarts place)) place (working.restarted (w.voters place)) voter (as_vote who (voters voter).held) (restart_changes ttl span w place) apart (all voter))
 
+altered : (who : Askers) (w : World) (voters : ℕ → VoterState) (place : ℕ) (state : VoterState) → state.held ≡ (voters place).held → AllServe who w voters
+    → AllServe who w (set voters place state)
+altered who w voters place state is all voter =
+    set_by (λ o x. Serves w o (as_vote who x.held)) voters place state voter (subst (λ (h : Option Grant). Serves w place (as_vote who h)) (sym is) (all place)) (λ apart. all voter)
+
 turn_on : (ttl span : ℕ) (who : Askers) (w : World) (voters : ℕ → VoterState) (t : Turn) → IsTrue who ttl w voters t → AllServe who w voters
     → AllServe who (after_all ttl span w (events_in who voters t)) (voter_after voters t)
 turn_on ttl span who w voters (Happens e) is all = λ voter. other_on ttl span w e voter (as_vote who (voters voter).held) is (all voter)
@@ -303,6 +308,7 @@ turn_on ttl span who w voters (Evicts place number) is all =
 turn_on ttl span who w voters (Reminds place) is all =
     reminded who w (after ttl span w (law.Tells place)) voters place (reminder_moves ttl span who w voters place all) all
 turn_on ttl span who w voters (Crashes place) is all = crashed ttl span who w voters place all
+turn_on ttl span who w voters (Alters place state) is all = altered who w voters place state is all
 
 all_later : (ttl span : ℕ) (w : World) (first rest : List Event) → after_all ttl span w (first ++ rest) ≡ after_all ttl span (after_all ttl span w first) rest
 all_later ttl span w [] rest = refl
@@ -372,6 +378,7 @@ told_in ttl span who w voters (Reminds place) is all =
     all_reported who (after ttl span w (law.Tells place)) place (voters place).held (remind (voters place))
     (AllReport-remind (voters place)) (reminder_moves ttl span who w voters place all).left
 told_in ttl span who w voters (Crashes place) is all = tt
+told_in ttl span who w voters (Alters place state) is all = tt
 
 pub was_told : (who : Askers) (ttl span : ℕ) (periods times sessions : ℕ → ℕ) (voters : ℕ → VoterState) (turns : List Turn) (turn : Turn)
     → AreFree voters → AreTrue who ttl span (begins periods times sessions) voters turns

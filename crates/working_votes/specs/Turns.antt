@@ -41,8 +41,11 @@ pub data Turn : Type 0 where
   Evicts : ℕ → ℕ → Turn
   -- a voter reminds who has its vote: voter
   Reminds : ℕ → Turn
-  -- a voter crashes, and restarts from the least of what it saved: voter
+  -- A voter crashes, and restarts from the least of what it saved. It knows that it lost nothing, so it is not quiet: voter
   Crashes : ℕ → Turn
+  -- A voter's state changes, and nobody's vote does: its limit is raised, it skips numbers of grants, or a vote that nobody has is forgotten
+  -- and made anew: voter, state
+  Alters : ℕ → VoterState → Turn
 
 -- by these no vote is given and no grant ends, and no voter loses its state
 abbrev pub IsOther : Event → Type 0
@@ -84,6 +87,7 @@ voter_after voters (Meets voter m) = set voters voter (state_by (voters voter) (
 voter_after voters (Evicts voter number) = set voters voter (state_by (voters voter) (evict (voters voter) number))
 voter_after voters (Reminds voter) = voters
 voter_after voters (Crashes voter) = set voters voter (least_voter (voters voter))
+voter_after voters (Alters voter state) = set voters voter state
 
 -- the voter of a turn, 0 if it is of none
 abbrev pub voter_of : Turn → ℕ
@@ -92,6 +96,7 @@ voter_of (Meets voter m) = voter
 voter_of (Evicts voter number) = voter
 voter_of (Reminds voter) = voter
 voter_of (Crashes voter) = voter
+voter_of (Alters voter state) = voter
 
 -- what voters say in a turn
 abbrev pub said_in : (ℕ → VoterState) → Turn → List ToClient
@@ -100,6 +105,7 @@ said_in voters (Meets voter m) = said_by (step (voters voter) m)
 said_in voters (Evicts voter number) = said_by (evict (voters voter) number)
 said_in voters (Reminds voter) = remind (voters voter)
 said_in voters (Crashes voter) = []
+said_in voters (Alters voter state) = []
 
 -- ---- what a turn is to the law
 
@@ -109,7 +115,7 @@ is_held None g = false
 is_held (Some h) g = (h.client == g.client) && ((h.stamp == g.stamp) && (h.grant == g.grant))
 
 -- A grant ended, if the vote was its own and is not any more: its session ended the request, or gave the vote back, or the voter may let it
--- go. Of these three each does nothing where it is not so.
+-- go. Each of the three changes nothing if its condition does not hold.
 abbrev pub ended_by : Askers → ℕ → Option Grant → Option Grant → List Event
 ended_by who voter None after = []
 ended_by who voter (Some g) after =
@@ -132,6 +138,7 @@ events_in who voters (Meets voter m) = events_by who voter (voters voter).held (
 events_in who voters (Evicts voter number) = events_by who voter (voters voter).held (state_by (voters voter) (evict (voters voter) number)).held
 events_in who voters (Reminds voter) = law.Tells voter ∷ []
 events_in who voters (Crashes voter) = law.Restarts voter ∷ []
+events_in who voters (Alters voter state) = []
 
 -- what these turns are, in order, and the voters after them
 abbrev pub all_events : Askers → (ℕ → VoterState) → List Turn → List Event
@@ -151,13 +158,14 @@ MayEnd who ttl w voter g =
     ⊎ ((is_among g.grant ((w.sessions (who g.client g.stamp)).returned voter) ≡ true)
     ⊎ (may_let_go ttl (w.voters voter) (who g.client g.stamp) ≡ true))
 
--- A message that ends a grant is true. A voter lets a grant go only if it may.
+-- A message that ends a grant is true, and a voter lets a grant go only if that may end. Whatever alters a state leaves the vote as it is.
 abbrev pub IsTrue : Askers → ℕ → World → (ℕ → VoterState) → Turn → Type 0
 IsTrue who ttl w voters (Happens e) = IsOther e
 IsTrue who ttl w voters (Meets voter m) = (g : Grant) → (voters voter).held ≡ Some g → Ends m.client m.body g → MayEnd who ttl w voter g
-IsTrue who ttl w voters (Evicts voter number) = (g : Grant) → (voters voter).held ≡ Some g → g.grant ≡ number → may_let_go ttl (w.voters voter) (who g.client g.stamp) ≡ true
+IsTrue who ttl w voters (Evicts voter number) = (g : Grant) → (voters voter).held ≡ Some g → g.grant ≡ number → MayEnd who ttl w voter g
 IsTrue who ttl w voters (Reminds voter) = Unit {0}
 IsTrue who ttl w voters (Crashes voter) = Unit {0}
+IsTrue who ttl w voters (Alters voter state) = state.held ≡ (voters voter).held
 
 -- each of these is, when it comes
 abbrev pub AreTrue : Askers → ℕ → ℕ → World → (ℕ → VoterState) → List Turn → Type 0

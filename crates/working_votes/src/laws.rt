@@ -11,7 +11,7 @@ ghost use Rattle.working_votes.specs.Example.{by_client, new_voters, seven_asks}
 ghost use Rattle.working_votes.specs.Turns.{AreFree, AreTrue, Askers, HasVote, IsTrue, Turn, WasTold, all_after, all_events, events_in, said_in, voter_of};
 
 /// Who works has the vote of each voter of its quorum: the grant of its automaton is to this request. This is so whatever messages are
-/// late, lost, repeated or out of order, and whenever voters crash and restart from the least of what they saved. The bound is that of
+/// late, lost, repeated or out of order, and whenever voters crash and restart cleanly from the least of what they saved. The bound is that of
 /// `working::who_works_has_its_votes`.
 pub fn who_works_has_the_votes()
     ensures { (who : Askers) (a b ttl lease stop : ℕ) (periods times sessions : ℕ → ℕ) (voters : ℕ → VoterState) (turns : List Turn) (session request : ℕ) (quorum : List ℕ)
@@ -44,7 +44,7 @@ pub fn what_is_locked_was_told()
         → AllByRecursion (λ r. WasTold who (after_all ttl span (after_all ttl span (begins periods times sessions) (all_events who voters turns)) (events_in who (all_after voters turns) turn)) (voter_of turn) r.client r.body) (said_in (all_after voters turns) turn) }
 {}
 
-/// What the laws ask for can be had, with clocks of which those of sessions are slower by a tenth: a voter takes a REQUEST, and its
+/// The premises can be met, where no grant ends, with clocks of which those of sessions are slower by a tenth: a voter takes a REQUEST, and its
 /// session works.
 pub fn a_session_works_by_votes()
     ensures free { AreFree new_voters }

@@ -479,8 +479,9 @@ func (d *Daemon) control(l *letter, speaker qlock.Standing, line []byte, now tim
 		d.claim(l, said, now)
 		return true
 	case qlock.Drop:
-		l.shard.drop(said.Number, l.Name, said.First)
-		d.tellFree(l.shard, now)
+		if l.shard.drop(said.Number, l.Name, said.First) {
+			d.tellFree(l.shard, now)
+		}
 		return true
 	case qlock.Greet:
 		if level.Newest >= level.Greets && d.store.own.level() >= level.Greets {
@@ -550,6 +551,7 @@ func (d *Daemon) claim(l *letter, said qlock.ClientSays, now time.Time) {
 		l.shard.asksBy[number] = 0
 		d.recount(l.shard, number)
 		l.shard.locks[number] = l.shard.waiting.lockOf(name)
+		l.shard.waiting.unclaimed = time.Time{}
 		d.log.Write(event.Debug, "session-claimed", "client", number, "epoch", epoch)
 	}
 	d.say(name, qlock.VoterSays{Kind: qlock.Claimed, Number: number, First: epoch, Second: row.Base, Third: row.Reserved})

@@ -16,11 +16,16 @@ import (
 // mostQueued is how many sessions wait in order, of each shard. Others see no free number until there is room.
 const mostQueued = 4096
 
+// mostUnclaimed is for how long numbers are shown to the first ones alone. If none of them claims one, all see them: the first ones may be
+// gone, or wait in another order at other voters.
+const mostUnclaimed = 2 * time.Second
+
 // numberQueue has the sessions that wait for a number.
 type numberQueue struct {
-	all   []queued  // the first one first
-	short time.Time // when somebody waited last
-	told  time.Time // when sessions that want nothing were told so last
+	all       []queued  // the first one first
+	short     time.Time // when somebody waited last
+	told      time.Time // when sessions that want nothing were told so last
+	unclaimed time.Time // since when numbers are free, and none was claimed; zero if none is free
 }
 
 // queued is a session that waits for a number.
@@ -36,8 +41,9 @@ type queued struct {
 // the session can have no number now, it sees none that is free, and ask returns how many come before it.
 func (q *numberQueue) ask(session, lock string, states []int, taken shares, now time.Time, ttl time.Duration) (ahead int) {
 	place := q.enter(session, lock, now, ttl)
-	q.giveOut(freeOf(states), &taken)
-	if place < len(q.all) && q.all[place].isFirst {
+	free := freeOf(states)
+	q.giveOut(free, &taken)
+	if q.isUnclaimed(free, now) || place < len(q.all) && q.all[place].isFirst {
 		return 0
 	}
 	q.short = now
@@ -45,6 +51,17 @@ func (q *numberQueue) ask(session, lock string, states []int, taken shares, now 
 		states[number] = 0
 	}
 	return q.ahead(place, &taken)
+}
+
+// isUnclaimed returns whether numbers are free that nobody has claimed for long.
+func (q *numberQueue) isUnclaimed(free int, now time.Time) bool {
+	switch {
+	case free == 0:
+		q.unclaimed = time.Time{}
+	case q.unclaimed.IsZero():
+		q.unclaimed = now
+	}
+	return free > 0 && now.Sub(q.unclaimed) > mostUnclaimed
 }
 
 // freeOf returns how many numbers are free, by their states.

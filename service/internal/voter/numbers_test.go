@@ -51,6 +51,51 @@ func TestFirstComeFirstServed(t *testing.T) {
 	}
 }
 
+// A number that the first ones do not claim is shown to all after a while. Once one is claimed, the order holds again.
+func TestUnclaimedNumbers(t *testing.T) {
+	now, ttl := time.Unix(1000, 0), 20*time.Second
+	var q numberQueue
+	sees := func(name string, free int) bool {
+		states := make([]int, 64)
+		for i := 0; i < free; i++ {
+			states[i] = 1
+		}
+		q.ask(name, "", states, newShares(), now, ttl)
+		return states[0] != 0
+	}
+	for _, step := range []struct {
+		after     time.Duration
+		free      int
+		isClaimed bool
+		name      string
+		sees      bool
+	}{
+		{0, 1, false, "first", true}, {0, 1, false, "second", false}, {mostUnclaimed, 1, false, "second", false},
+		{1, 1, false, "second", true}, {0, 1, false, "third", true}, {0, 0, false, "first", false}, {0, 1, false, "second", false},
+		{mostUnclaimed + 1, 1, true, "second", false}, {mostUnclaimed + 1, 1, false, "second", true},
+	} {
+		if now = now.Add(step.after); step.isClaimed {
+			q.unclaimed = time.Time{}
+		}
+		if got := sees(step.name, step.free); got != step.sees {
+			t.Errorf("%+v: it sees one, %v", step, got)
+		}
+	}
+}
+
+// A claim that is accepted lets the order hold again. A claim that a stranger takes back frees nothing.
+func TestClaimsAndTheOrder(t *testing.T) {
+	d, _ := alone(t, 10)
+	d.shard(0).waiting.unclaimed = time.Now().Add(-time.Hour)
+	if d.repliesTo("jobs", 1, ". claim 1 1 100\n"); !d.shard(0).waiting.unclaimed.IsZero() {
+		t.Error("who comes later sees numbers still")
+	}
+	c := newTide(t, 2*time.Second)
+	if c.drop(3, "b", 1) || !c.drop(3, "a", 1) || c.drop(3, "a", 1) {
+		t.Error("not only a session takes its own claim back")
+	}
+}
+
 // A flood of sessions that want a number takes no more room than for a few thousand.
 func TestQueueIsBounded(t *testing.T) {
 	var q numberQueue

@@ -4,7 +4,8 @@ package voter
 //
 // A user with 48 numbers or more gets no other one while a session of another user waits. A lock with 56 or more gets no other one while a
 // session waits that wants another lock. A number is for the lock that its session asked for last, or else for the one that it named as it
-// wanted the number. Of a session that names none, no bound on locks holds until it asks for one. Nobody loses a number by this.
+// wanted the number. A session that names no lock is bounded only once it asks for one. Nobody loses a number by
+// this, and no claim is refused: it is for clients that ask which numbers are free before they claim one.
 
 // The shares: of one shard, while another one waits.
 const (

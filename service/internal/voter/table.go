@@ -327,15 +327,17 @@ func (t *table) claim(number int, name string, epoch, stamps uint64, now time.Ti
 }
 
 // drop frees a number that was claimed here, and that the claimer did not get from a quorum. It
-// claims this epoch never again, and others may.
-func (t *table) drop(number int, name string, epoch uint64) {
+// claims this epoch never again, and others may. It returns whether the number was that session's.
+func (t *table) drop(number int, name string, epoch uint64) bool {
 	before := t.rows[number]
 	if before.Used || t.judge(number, name, epoch) != qlock.SessionKnown {
-		return
+		return false
 	}
-	if row, err := before.after(func(r *qlock.Row) error { return r.TakeBack(t.session(number, name), epoch) }); err == nil {
+	row, err := before.after(func(r *qlock.Row) error { return r.TakeBack(t.session(number, name), epoch) })
+	if err == nil {
 		t.put(number, row)
 	}
+	return err == nil
 }
 
 // end frees a number whose session says that it is over. After a crash it is silent.
