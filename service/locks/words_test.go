@@ -394,6 +394,7 @@ func TestVoterIsMadeAgainDuringAClaim(t *testing.T) {
 		c.header.Number, c.header.Epoch, c.opening = 0, 0, isOpening
 		c.noteClaim(0, true, 5, 0, firstBlock)
 		p := &c.peers[0]
+		p.identity = "one"
 		if c.recognise(wire.Header{Number: 0, Name: "another", Run: p.run + 1, Start: 1}); c.refused != isOpening {
 			t.Errorf("opening: %v, and the claim is given up: %v", isOpening, c.refused)
 		}

@@ -98,7 +98,7 @@ IsHeard answers session (Sees epoch) = Unit {0}
 IsHeard answers session ClaimsNext = Unit {0}
 IsHeard answers session GivesUp = Unit {0}
 
--- These are the steps of a session: it hears answers that were given to it, and voters hear of no other claim that it took back.
+-- These are the steps of a session: it hears answers that were given to it, and voters hear that a claim was taken back only if it was.
 pub record AreSteps (events : List Event) (answers : List Answer) (session : ℕ) (steps : List Step) : Type 0 where
   pub heard : AllByRecursion (IsHeard answers session) steps
   pub backs : (voter epoch : ℕ) → IsOneOf (TakesBack voter session epoch) events → IsOneOf epoch (taken_back begun steps)

@@ -54,8 +54,8 @@ impl Claim {
         Some(epoch)
     }
 
-    /// Takes a voter's word that it accepted the claim of an epoch, and the base of the session's stamps there. Returns whether
-    /// that is of the claim that goes on. A late word of an earlier one changes nothing, nor does one of no voter.
+    /// Notes that a voter accepted the claim of an epoch, and the base of the session's stamps there. Returns whether that is
+    /// the claim that goes on. A late reply to an earlier one changes nothing, nor does a voter above 63.
     pub fn accepts(&mut self, voter: u8, epoch: u64, base: u64) -> bool
         ensures accepts { self.new ≡ accepted_by self.old voter epoch base }
         ensures counts { result ≡ is_accepted_by self.old voter epoch }

@@ -3,8 +3,8 @@
 //!
 //! A session that wants a number hears of the number's epochs, and claims the next one at all voters. Once each voter of a quorum
 //! accepted the claim, the number is its own under this epoch. All that others asked under the number, under any epoch before, was
-//! under stamps up to the greatest base that these voters told. If the session takes its claim back, it claims that epoch never
-//! again: the word that gives it back may come late.
+//! under stamps up to the greatest base that these voters told. If the session takes its claim back, it never claims that
+//! epoch again: the word that gives it back may come late.
 //!
 //! The calls of [`Claim`] are the steps of `specs/Claims.antt`. No call takes memory.
 //!
@@ -12,11 +12,11 @@
 //!
 //! - Each voter of a quorum that accepted a claim by these calls told the session so: a number that is a session's own by them is
 //!   one that a quorum gave it ([`claimed_numbers_were_given`]).
-//! - A claim that goes on is of an epoch that the session took back never ([`claims_are_made_once`]).
+//! - A claim that goes on is of an epoch that the session never took back ([`claims_are_made_once`]).
 //! - So no two sessions have a number under one epoch by these calls ([`epochs_are_claimed_by_one`]).
 //! - And each stamp that was used under an epoch before is at most the one above which the session begins
 //!   ([`claims_begin_above`]).
-//! - What these ask for can be had ([`two_sessions_claim`]).
+//! - The premises can be met ([`two_sessions_claim`]).
 //! - A claim that is saved is restored as it was.
 //!
 //! Depends on `sessions`, `numbers` and `quorum_set`.
