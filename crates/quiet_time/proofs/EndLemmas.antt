@@ -75,7 +75,7 @@ record GrantIsKept (g : Grant) (l : Lock) : Type 0 where
   places : length l.since.inside ≡ max_clients
 
 -- its client said that it is inside
-abbrev Renewed : Grant → SinceStart → Type 0
+abbrev pub Renewed : Grant → SinceStart → Type 0
 Renewed g s = is_said s g.client g.stamp ≡ true
 
 step_keeps : (g : Grant) (v : VoterState) (m : ToVoter) (o : Outcome) → v.held ≡ Some g → (Ends m.client m.body g → ⊥) → step v m ≡ Some o → o.state.held ≡ Some g
@@ -129,7 +129,7 @@ stamp_is : (o : Option ℕ) (s t : ℕ) → o ≡ Some s → is_stamp o t ≡ tr
 stamp_is None s t is e = absurd (none-some s is)
 stamp_is (Some r) s t is e = sym (eqb-true r t e) ∙ same_Some r s is
 
-noted_keeps : (inside : Bool) (s : SinceStart) (v : VoterState) (c : ℕ) (b : VoterBody) (g : Grant) → v.held ≡ Some g → Renewed g s → Renewed g (noted true inside s v c b)
+pub noted_keeps : (inside : Bool) (s : SinceStart) (v : VoterState) (c : ℕ) (b : VoterBody) (g : Grant) → v.held ≡ Some g → Renewed g s → Renewed g (noted true inside s v c b)
 noted_keeps false s v c (asks.Request t) g held is = is
 noted_keeps true s v c (asks.Request t) g held is = elim (is_stamp (current_stamp v c) t) as (λ b. is_stamp (current_stamp v c) t ≡ b → Renewed g (if b then record s { inside = slice_set s.inside c t } else s)) [
   | true ↦ λ e. set_keeps s c t g (λ own. stamp_is (current_stamp v c) g.stamp t (subst (λ k. current_stamp v k ≡ Some g.stamp) own (holds v g held)) e) is
@@ -138,7 +138,7 @@ noted_keeps true s v c (asks.Request t) g held is = elim (is_stamp (current_stam
 noted_keeps inside s v c (asks.Relinquish n) g held is = is
 noted_keeps inside s v c (asks.Release t) g held is = is
 
-noted_places : (inside : Bool) (s : SinceStart) (v : VoterState) (c : ℕ) (b : VoterBody) → length (noted true inside s v c b).inside ≡ length s.inside
+pub noted_places : (inside : Bool) (s : SinceStart) (v : VoterState) (c : ℕ) (b : VoterBody) → length (noted true inside s v c b).inside ≡ length s.inside
 noted_places false s v c (asks.Request t) = refl
 noted_places true s v c (asks.Request t) = elim (is_stamp (current_stamp v c) t) as (λ b. length (if b then record s { inside = slice_set s.inside c t } else s).inside ≡ length s.inside) [
   | true ↦ length-set s.inside c t
@@ -147,7 +147,7 @@ noted_places true s v c (asks.Request t) = elim (is_stamp (current_stamp v c) t)
 noted_places inside s v c (asks.Relinquish n) = refl
 noted_places inside s v c (asks.Release t) = refl
 
-noted_now : (s : SinceStart) (v : VoterState) (g : Grant) → v.held ≡ Some g → 0 < g.stamp → g.client < max_clients → length s.inside ≡ max_clients → Renewed g (noted true true s v g.client (asks.Request g.stamp))
+pub noted_now : (s : SinceStart) (v : VoterState) (g : Grant) → v.held ≡ Some g → 0 < g.stamp → g.client < max_clients → length s.inside ≡ max_clients → Renewed g (noted true true s v g.client (asks.Request g.stamp))
 noted_now s v g held some few places =
     let now : is_stamp (current_stamp v g.client) g.stamp ≡ true = ap (λ (o : Option ℕ). is_stamp o g.stamp) (holds v g held) ∙ eq-eqb g.stamp g.stamp refl in
     let t : SinceStart = record s { inside = slice_set s.inside g.client g.stamp } in
@@ -261,7 +261,7 @@ all_said g l [] k leaves some few none = absurd none
 all_said g l (e ∷ es) k leaves some few (inl now) = all_renewed g (happens l e) es (stays g l e k leaves.0) leaves.1 (said_by g l e k leaves.0 some few now)
 all_said g l (e ∷ es) k leaves some few (inr later) = all_said g (happens l e) es (stays g l e k leaves.0) leaves.1 some few later
 
-renewed_is_new : (s : SinceStart) (g : Grant) → Renewed g s → is_old s (Some g) ≡ false
+pub renewed_is_new : (s : SinceStart) (g : Grant) → Renewed g s → is_old s (Some g) ≡ false
 renewed_is_new s g is = ap (λ (b : Bool). nat_le g.grant s.begun && not b) is ∙ no_more (nat_le g.grant s.begun)
   where
     no_more : (b : Bool) → (b && false) ≡ false

@@ -1,75 +1,234 @@
 -- that a session works by the votes of the example
-use Rattle.std.proofs.Common.{◌≡◌, ℕ, true, List, [], ◌∷◌, ◌++◌, Option, Some, None, refl, sym, ap, subst, ◌∙◌, arith, inl, inr}
-use Rattle.std.specs.List.{AllByRecursion}
-use Rattle.std.proofs.lemmas.Option.{none-some}
+use Rattle.std.proofs.Common.{◌≡◌, ◌≤◌, ◌*◌, ℕ, Bool, true, false, List, [], ◌∷◌, ◌++◌, Option, Some, None, refl, sym, ap, subst, ◌∙◌, arith, inl, inr}
+use Rattle.std.specs.FinMap.{get}
+use Rattle.std.specs.List.{AllByRecursion, list_any, range_with_len}
+use Rattle.std.specs.Prelude.{◌||◌}
+use Rattle.std.proofs.lemmas.Bool.{false≢true}
+use Rattle.std.proofs.lemmas.Option.{none-some, same_Some}
+use Rattle.lease_clock.specs.Clocks.{is_silent}
+use Rattle.lease_clock.specs.Leases.{is_among}
+use Rattle.message.specs.declared.message.ClientBody.TheVariants as to_client
+use Rattle.numbers.specs.Bounds.{max_clients}
+use Rattle.quiet_time.specs.Quiet.{is_awaited, noted, since_start, waits_inside}
+use Rattle.quiet_time.specs.Runs as quiet_time
 use Rattle.voter.proofs.Contract.{MeetsContract-step}
 use Rattle.voter.proofs.Effects.{IsSound-step}
 use Rattle.voter.proofs.Soundness.{IsSound-start}
-use Rattle.voter.proofs.Staying.{taken_up-step, takes-step}
+use Rattle.voter.proofs.Staying.{ended-step, taken_up-step, takes-step}
 use Rattle.voter.specs.declared.state.Grant.{Grant}
-use Rattle.voter.specs.Steps.{Outcome, step}
-use Rattle.voter.specs.VoterContract.{IsEntry}
-use Rattle.working.specs.Events.{Beats, Event, Hears, IsRated, Marked, Marks, Renews, Takes, after_all}
+use Rattle.voter.specs.declared.state.VoterState.{VoterState}
+use Rattle.voter.specs.Steps.{IsSound, Outcome, step}
+use Rattle.voter.specs.Steps as voter
+use Rattle.voter.specs.VoterContract.{Ends, IsEntry}
+use Rattle.working.specs.Events.{Beats, Event, Hears, IsRated, Marked, Marks, Renews, Takes, World, after_all}
+use Rattle.working.specs.Events as law
 use Rattle.working.specs.Example.{pass, start}
 use Rattle.working.specs.Sessions.{is_working}
-use Rattle.working_votes.specs.Example.{by_client, new_voters, request, seven_asks}
-use Rattle.working_votes.specs.Turns.{AreFree, AreTrue, all_events, events_by, state_by}
+use Rattle.working.specs.Voters.{Quiet}
+use Rattle.working_votes.specs.Example.{by_client, gives_back, new_voters, release, request, saved, seven_asks, works_on}
+use Rattle.working_votes.specs.Turns.{AreFree, AreTrue, IsOver, MayEnd, MayEndIf, Place, all_after, all_events, closed_at, events_at, events_by, grant_at, hears_by, is_doubtful, is_put_off, started, with_lock}
+
+abbrev new_voter : VoterState
+new_voter = voter.start 0 10
+
+sound : IsSound new_voter
+sound = IsSound-start 0 10 (omega arith)
 
 -- nobody asked a new voter
-nobody : (d t : ℕ) → IsEntry (new_voters 0) d t → ⊥
+nobody : (d t : ℕ) → IsEntry new_voter d t → ⊥
 nobody d t entry = elim entry [
   | inl held ↦ none-some held.0 held.1
-  | inr waits ↦ none-some t (sym ((IsSound-start 0 10 (omega arith)).free refl d) ∙ waits)
+  | inr waits ↦ none-some t (sym (sound.free refl d) ∙ waits)
 ]
+
+-- so its vote is open to anybody
+none_of : {A : Type 0} (test : A → Bool) (xs : List A) → ((x : A) → test x ≡ false) → list_any test xs ≡ false
+none_of test [] never = refl
+none_of test (x ∷ xs) never = rw (never x) (none_of test xs never)
+
+not_awaited : is_awaited (since_start 0) new_voter ≡ false
+unfolding is_awaited
+not_awaited = none_of (λ client. waits_inside (since_start 0) client (get new_voter.waiting client)) (range_with_len 0 max_clients)
+    (λ client. ap (waits_inside (since_start 0) client) (sound.free refl client))
+
+taken : is_put_off (new_voters 0) request false ≡ false
+taken = rw not_awaited refl
 
 has_it : (g : Grant) → g.client ≡ 7 → g.stamp ≡ 1 → Some g ≡ Some (record { client = 7; stamp = 1; grant = g.grant })
 has_it g client stamp = ap (λ c. Some (record { client = c; stamp = g.stamp; grant = g.grant })) client ∙ ap (λ s. Some (record { client = 7; stamp = s; grant = g.grant })) stamp
 
 -- a new voter gives its vote to the request
-held_by_seven : (o : Outcome) (held : Option Grant) → step (new_voters 0) (request) ≡ Some o → o.state.held ≡ held
+held_by_seven : (o : Outcome) (held : Option Grant) → step new_voter request ≡ Some o → o.state.held ≡ held
     → (number : ℕ) × (held ≡ Some (record { client = 7; stamp = 1; grant = number }))
 held_by_seven o None steps is =
-    let sound = IsSound-step (new_voters 0) (request) o (IsSound-start 0 10 (omega arith)) steps in
-    let entry = taken_up-step (new_voters 0) (request) o 1 (IsSound-start 0 10 (omega arith)) refl (omega arith) (λ s before. absurd (nobody 7 s before)) steps in
+    let after = IsSound-step new_voter request o sound steps in
+    let entry = taken_up-step new_voter request o 1 sound refl (omega arith) (λ s before. absurd (nobody 7 s before)) steps in
     elim entry [
       | inl held ↦ absurd (none-some held.0 (sym is ∙ held.1))
-      | inr waits ↦ absurd (none-some 1 (sym (sound.free is 7) ∙ waits))
+      | inr waits ↦ absurd (none-some 1 (sym (after.free is 7) ∙ waits))
     ]
 held_by_seven o (Some g) steps is =
-    elim ((MeetsContract-step (new_voters 0) (request) o steps).entries g.client g.stamp (inl (g, is, refl, refl))) [
+    elim ((MeetsContract-step new_voter request o steps).entries g.client g.stamp (inl (g, is, refl, refl))) [
       | inl before ↦ absurd (nobody g.client g.stamp before)
       | inr brings ↦ (g.grant, has_it g brings.0 brings.1)
     ]
 
-held_after : (number : ℕ) × ((state_by (new_voters 0) (step (new_voters 0) (request))).held ≡ Some (record { client = 7; stamp = 1; grant = number }))
+held_after : (number : ℕ) × (grant_at (hears_by false (new_voters 0) request false) ≡ Some (record { client = 7; stamp = 1; grant = number }))
 held_after =
-    let taken = takes-step (new_voters 0) (request) (IsSound-start 0 10 (omega arith)) (omega arith) in
+    let taken = takes-step new_voter request sound (omega arith) in
     let has = held_by_seven taken.0 taken.0.state.held taken.1 refl in
-    (has.0, ap (λ (o : Option Outcome). (state_by (new_voters 0) o).held) taken.1 ∙ has.1)
+    (has.0, ap (λ (o : Option Outcome). (quiet_time.after (new_voters 0).lock (λ v. noted (closed_at (new_voters 0)) false (new_voters 0).lock.since v 7 request.body) o).vote.held) taken.1 ∙ has.1)
 
--- what the example is to the law, by the vote of the voter
-abbrev events_of : Option Grant → List Event
-events_of vote =
+-- ---- the second step, in the quiet time: the voter says its LOCKED again
+
+abbrev said_again : Outcome
+said_again = record { replies = voter.reply (voter.see saved 1) 7 (to_client.Locked 1 1) ∷ []; state = voter.see saved 1 }
+
+again : step saved request ≡ Some said_again
+unfolding step voter.take_request voter.take_request_beside
+again = refl
+
+abbrev killed : Place
+killed = started saved true
+
+-- the voter after this, once it is awake, and once the RELEASE came, by what each step does
+abbrev heard_by : Option Outcome → Place
+heard_by o = with_lock killed (quiet_time.after killed.lock (λ v. noted true true killed.lock.since v 7 request.body) o)
+
+abbrev awake_by : Option Outcome → Place
+awake_by o = record { lock = (heard_by o).lock; is_quiet = false }
+
+abbrev free_by : Option Outcome → Option Outcome → Place
+free_by o last = with_lock (awake_by o) (quiet_time.after (awake_by o).lock (λ v. noted (closed_at (awake_by o)) false (awake_by o).lock.since v 7 release.body) last)
+
+-- ---- the third step: the vote is free
+
+sound_saved : IsSound saved
+sound_saved = record {
+  limit = omega arith;
+  granted = omega arith;
+  numbered = λ g is. subst (λ (x : Grant). x.grant ≤ 1) (same_Some (record { client = 7; stamp = 1; grant = 1 }) g is) (omega arith);
+  apart = λ g is. sound.free refl g.client;
+  free = λ none. absurd (none-some (record { client = 7; stamp = 1; grant = 1 }) (sym none));
+}
+
+nobody_after : (o : Outcome) (held : Option Grant) → step (voter.see saved 1) release ≡ Some o → o.state.held ≡ held → held ≡ None
+nobody_after o None steps is = refl
+nobody_after o (Some g) steps is =
+    let has : IsEntry o.state g.client g.stamp = inl (g, is, refl, refl) in
+    let seven : Grant = record { client = 7; stamp = 1; grant = 1 } in
+    let seen : IsSound (voter.see saved 1) = record { limit = sound_saved.limit; granted = sound_saved.granted; numbered = sound_saved.numbered; apart = sound_saved.apart; free = sound_saved.free } in
+    elim ((MeetsContract-step (voter.see saved 1) release o steps).entries g.client g.stamp has) [
+      | inl before ↦ elim before [
+        | inl held ↦
+            let own : 7 ≡ g.client = ap (λ (x : Grant). x.client) (same_Some seven held.0 held.1) ∙ held.2 in
+            absurd (ended-step (voter.see saved 1) release o seven 1 seen refl refl refl (omega arith) steps g.stamp (subst (λ c. IsEntry o.state c g.stamp) (sym own) has))
+        | inr waits ↦ absurd (none-some g.stamp (sym (sound.free refl g.client) ∙ waits))
+      ]
+      | inr none ↦ absurd none
+    ]
+
+is_free : (free_by (Some said_again) (step (voter.see saved 1) release)).lock.vote.held ≡ None
+is_free =
+    let seen : IsSound (voter.see saved 1) = record { limit = sound_saved.limit; granted = sound_saved.granted; numbered = sound_saved.numbered; apart = sound_saved.apart; free = sound_saved.free } in
+    let taken = takes-step (voter.see saved 1) release seen (omega arith) in
+    ap (λ (o : Option Outcome). (free_by (Some said_again) o).lock.vote.held) taken.1 ∙ nobody_after taken.0 taken.0.state.held taken.1 refl
+
+-- ---- what the example is to the law, by the vote after the first step, the second step, and the vote after the third
+
+abbrev first_events : Option Grant → List Event
+first_events vote =
     Marks 0 ∷ pass 10 9 ∷ Marked 0 1 ∷ Beats 7 ∷ pass 10 9 ∷ Hears 7 0 109 ∷ (events_by by_client 0 None vote ++ pass 10 9 ∷ Renews 7 0 0 ∷ Takes 7 0 0 ∷ [])
 
-same_events : events_of (state_by (new_voters 0) (step (new_voters 0) request)).held ≡ all_events by_client new_voters seven_asks
-same_events = refl
+abbrev beats : ℕ → List Event
+beats time = Beats 7 ∷ Hears 7 0 time ∷ Renews 7 0 0 ∷ []
 
--- what holds of it whatever the number of the grant is, holds of it
-for_any : (P : List Event → Type 0) → ((number : ℕ) → P (events_of (Some (record { client = 7; stamp = 1; grant = number })))) → P (all_events by_client new_voters seven_asks)
-for_any P holds = subst P same_events (subst (λ (h : Option Grant). P (events_of h)) (sym held_after.1) (holds held_after.0))
+abbrev marks : ℕ → ℕ → ℕ → List Event
+marks number voters sessions = Marks 0 ∷ pass voters sessions ∷ Marked 0 number ∷ []
+
+abbrev quiet_events : List Event
+quiet_events = Takes 7 0 0 ∷ beats 127 ++ marks 1 50 45 ++ beats 172 ++ marks 2 50 45 ++ beats 217 ++ marks 3 10 9
+
+abbrev more_events : Option Grant → Option Outcome → List Event → List Event
+more_events vote o rest =
+    Marks 0 ∷ pass 10 9 ∷ Marked 0 1 ∷ Beats 7 ∷ pass 10 9 ∷ Hears 7 0 109
+    ∷ (events_by by_client 0 None vote ++ pass 10 9 ∷ Renews 7 0 0 ∷ Takes 7 0 0 ∷ law.Loses 0 ∷ (events_at by_client 0 killed (heard_by o) ++ quiet_events ++ law.Wakes 0 ∷ rest))
+
+abbrev all_of : Option Grant → Option Outcome → Option Grant → List Event
+all_of vote o last = more_events vote o (law.Ends 7 1 ∷ (events_by by_client 0 (grant_at (awake_by o)) last ++ []))
+
+abbrev first_vote : Option Grant
+first_vote = grant_at (hears_by (is_put_off (new_voters 0) request false) (new_voters 0) request false)
+
+first_is : (number : ℕ) × (first_vote ≡ Some (record { client = 7; stamp = 1; grant = number }))
+first_is = (held_after.0, ap (λ b. grant_at (hears_by b (new_voters 0) request false)) taken ∙ held_after.1)
+
+-- what holds of such events whatever the number of the first grant is, holds of the example
+for_any : (P : Option Grant → Option Outcome → Type 0) → ((number : ℕ) → P (Some (record { client = 7; stamp = 1; grant = number })) (Some said_again)) → P first_vote (step saved request)
+for_any P holds = subst (λ h. P h (step saved request)) (sym first_is.1) (subst (λ o. P (Some (record { client = 7; stamp = 1; grant = first_is.0 })) o) (sym again) (holds first_is.0))
+
+abbrev last_vote : Option Outcome → Option Grant
+last_vote o = (free_by o (step (heard_by o).lock.vote release)).lock.vote.held
+
+last_is : last_vote (step saved request) ≡ None
+last_is = subst (λ o. last_vote o ≡ None) (sym again) is_free
+
+-- ---- the premises
 
 pub free : AreFree new_voters
-free voter = refl
+free voter = (refl, refl)
 
-pub are_true : AreTrue by_client 100 90 start new_voters seven_asks
-are_true = (tt, (tt, (tt, (tt, (tt, (tt, ((λ g held ends. absurd (none-some g held)), (tt, (tt, (tt, tt))))))))))
+-- the world when the quiet time ends, and when the RELEASE arrives
+abbrev quiet_world : Option Grant → Option Outcome → World
+quiet_world vote o =
+    let asked = after_all 100 90 (after_all 100 90 start (Marks 0 ∷ pass 10 9 ∷ Marked 0 1 ∷ Beats 7 ∷ pass 10 9 ∷ Hears 7 0 109 ∷ [])) (events_by by_client 0 None vote) in
+    let lost = after_all 100 90 asked (pass 10 9 ∷ Renews 7 0 0 ∷ Takes 7 0 0 ∷ law.Loses 0 ∷ []) in
+    after_all 100 90 (after_all 100 90 lost (events_at by_client 0 killed (heard_by o))) quiet_events
 
-pub rates : AllByRecursion (IsRated 9 10) (all_events by_client new_voters seven_asks)
-rates = for_any (λ events. AllByRecursion (IsRated 9 10) events) (λ number. (
-  tt,
-  ((λ voter session. (omega arith)), (tt, (tt, ((λ voter session. (omega arith)), (tt, (tt, (tt, ((λ voter session. (omega arith)), (tt, (tt, tt)))))))))),
-))
+over : IsOver 100 ((quiet_world first_vote (step saved request)).voters 0)
+over = for_any (λ h o. IsOver 100 ((quiet_world h o).voters 0)) (λ number q is. subst (λ (x : Quiet). is_silent ((quiet_world (Some (record { client = 7; stamp = 1; grant = number })) (Some said_again)).voters 0).clock x.since 100 ≡ true) (same_Some _ q is) refl)
+
+not_doubtful : is_doubtful (heard_by (step saved request)) ≡ false
+not_doubtful = subst (λ o. is_doubtful (heard_by o) ≡ false) (sym again) refl
+
+has_ended : is_among 1 ((after_all 100 90 (quiet_world first_vote (step saved request)) (law.Wakes 0 ∷ law.Ends 7 1 ∷ [])).sessions 7).ended ≡ true
+has_ended = for_any (λ h o. is_among 1 ((after_all 100 90 (quiet_world h o) (law.Wakes 0 ∷ law.Ends 7 1 ∷ [])).sessions 7).ended ≡ true) (λ number. refl)
+
+awake_has : grant_at (awake_by (step saved request)) ≡ Some (record { client = 7; stamp = 1; grant = 1 })
+awake_has = subst (λ o. grant_at (awake_by o) ≡ Some (record { client = 7; stamp = 1; grant = 1 })) (sym again) refl
+
+-- its grant ends, as the session ended the request
+may_end : MayEndIf by_client 100 (after_all 100 90 (quiet_world first_vote (step saved request)) (law.Wakes 0 ∷ law.Ends 7 1 ∷ [])) 0 (awake_by (step saved request)) (Ends 7 release.body)
+may_end g has ends =
+    let w = after_all 100 90 (quiet_world first_vote (step saved request)) (law.Wakes 0 ∷ law.Ends 7 1 ∷ []) in
+    subst (λ (x : Grant). MayEnd by_client 100 w 0 false x) (same_Some (record { client = 7; stamp = 1; grant = 1 }) g (sym awake_has ∙ has)) (inl has_ended)
+
+pub are_true : AreTrue by_client 100 90 start new_voters (seven_asks ++ works_on ++ gives_back)
+are_true = (tt, (tt, (tt, (tt, (tt, (tt, (((λ quiet. absurd (false≢true quiet)), (λ g held ends. absurd (none-some g held))), (tt, (tt, (tt, (sound_saved, (((λ quiet. ((omega arith), (omega arith))), (λ g held ends. absurd (none-some g held))), (tt, (tt, (tt, (tt, (tt, (tt, (tt, (tt, (tt, (tt, (tt, (tt, (tt, (tt, (tt, (tt, (tt, (tt, (tt, ((refl, not_doubtful, over), (tt, (((λ quiet. absurd (false≢true quiet)), may_end), tt))))))))))))))))))))))))))))))))))
+
+-- the voters' clocks go on by ten where the sessions' go on by nine
+goes : (voter session : ℕ) → 9 * 10 ≤ 10 * 9
+goes voter session = omega arith
+
+goes_long : (voter session : ℕ) → 9 * 50 ≤ 10 * 45
+goes_long voter session = omega arith
+
+pub rates : AllByRecursion (IsRated 9 10) (all_events by_client new_voters (seven_asks ++ works_on ++ gives_back))
+unfolding step voter.take_request voter.take_request_beside
+rates = subst (λ last. AllByRecursion (IsRated 9 10) (all_of first_vote (step saved request) last)) (sym last_is)
+    (for_any (λ h o. AllByRecursion (IsRated 9 10) (all_of h o None)) (λ number. (tt, (goes, (tt, (tt, (goes, (tt, (tt, (tt, (tt, (goes, (tt, (tt, (tt, (tt, (tt, (tt, (tt, (tt, (tt, (tt, (tt, (goes_long, (tt, (tt, (tt, (tt, (tt, (goes_long, (tt, (tt, (tt, (tt, (tt, (goes, (tt, (tt, (tt, (tt, (tt, (tt, (tt, tt)))))))))))))))))))))))))))))))))))))))))))
+
+-- ---- what holds
 
 pub works : is_working 80 10 ((after_all 100 90 start (all_events by_client new_voters seven_asks)).sessions 7) 1 (0 ∷ []) ≡ true
-works = for_any (λ events. is_working 80 10 ((after_all 100 90 start events).sessions 7) 1 (0 ∷ []) ≡ true) (λ number. refl)
+works = for_any (λ h o. is_working 80 10 ((after_all 100 90 start (first_events h)).sessions 7) 1 (0 ∷ []) ≡ true) (λ number. refl)
+
+pub works_still : is_working 80 10 ((after_all 100 90 start (all_events by_client new_voters (seven_asks ++ works_on))).sessions 7) 1 (0 ∷ []) ≡ true
+unfolding step voter.take_request voter.take_request_beside
+works_still = for_any (λ h o. is_working 80 10 ((after_all 100 90 start (more_events h o [])).sessions 7) 1 (0 ∷ []) ≡ true) (λ number. refl)
+
+pub has_vote : (all_after new_voters (seven_asks ++ works_on) 0).lock.vote.held ≡ Some (record { client = 7; stamp = 1; grant = 1 })
+has_vote = awake_has
+
+pub is_over : (all_after new_voters (seven_asks ++ works_on ++ gives_back) 0).lock.vote.held ≡ None
+is_over = last_is

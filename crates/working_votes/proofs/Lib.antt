@@ -1,3 +1,5 @@
 pub mod Worlds
+pub mod Rises
+pub mod Known
 pub mod Votes
 pub mod Example

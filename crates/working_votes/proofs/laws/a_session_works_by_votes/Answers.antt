@@ -1,4 +1,4 @@
-use Rattle.working_votes.proofs.Example.{are_true, free, rates, works}
+use Rattle.working_votes.proofs.Example.{are_true, free, has_vote, is_over, rates, works, works_still}
 use Rattle.working_votes.proofs.laws.a_session_works_by_votes.Goals as goal
 
 pub returns-clause-free : goal.returns-clause-free
@@ -12,3 +12,12 @@ returns-clause-rates c = rates
 
 pub returns-clause-works : goal.returns-clause-works
 returns-clause-works c = works
+
+pub returns-clause-works_on : goal.returns-clause-works_on
+returns-clause-works_on c = works_still
+
+pub returns-clause-has_vote : goal.returns-clause-has_vote
+returns-clause-has_vote c = has_vote
+
+pub returns-clause-is_over : goal.returns-clause-is_over
+returns-clause-is_over c = is_over
