@@ -4,7 +4,7 @@ use Rattle.std.specs.Prelude.{◌==◌, ◌&&◌, ◌||◌, not, if◌then◌els
 use Rattle.std.specs.List.{slice_get}
 use Rattle.std.proofs.lemmas.Bool.{eqb-true, false≢true}
 use Rattle.lease_clock.specs.Leases.{is_among}
-use Rattle.working.specs.Events.{Beats, CountsNow, Ends, Event, GivesBack, GivesOn, Gives, Hears, Keeps, LetsGo, LetsOtherGo, Loses, Marked, Marks, Passes, Released, Relinquished, Renews, Restarts, Takes, Tells, Wakes, World, after, with_voter}
+use Rattle.working.specs.Events.{Beats, CountsNow, Ends, Event, GivesBack, GivesOn, Gives, Hears, Keeps, LetsGo, LetsOtherGo, Loses, Marked, Marks, Passes, QuietCountsNow, Released, Relinquished, Renews, Restarts, Takes, Tells, Wakes, World, after, with_voter}
 use Rattle.working.specs.Sessions.{Session, beaten, has_ended, has_returned, has_vote, renews, takes}
 use Rattle.working.specs.Voters.{Acknowledgement, Locked as Message, ends, heard_from, is_of_number, is_of_request, set}
 use Rattle.working.proofs.Lists.{both, set_by}
@@ -191,6 +191,7 @@ event_on lapses ttl lease stop me w k (Relinquished session voter number) i told
     voters_alone (lapses me) me (is_among number ((w.sessions session).returned voter)) k (with_voter w voter (ends (w.voters voter) (w.voters voter).quiet (is_of_number session number))) w refl is
 event_on lapses ttl lease stop me w k (LetsGo voter) i told is = is
 event_on lapses ttl lease stop me w k (CountsNow session voter) i told is = is
+event_on lapses ttl lease stop me w k (QuietCountsNow voter) i told is = is
 event_on lapses ttl lease stop me w k (LetsOtherGo session voter) i told is = is
 event_on lapses ttl lease stop me w k (GivesOn session voter) i told is = is
 event_on lapses ttl lease stop me w k (Restarts voter) i told is = is

@@ -9,7 +9,7 @@ use Rattle.lease_clock.specs.Clocks.{at, is_silent, leaves, returned}
 use Rattle.lease_clock.specs.Leases.{is_among}
 use Rattle.lease_clock.specs.Leases as single
 use Rattle.working.specs.Sessions.{Session, beaten, session_later}
-use Rattle.working.specs.Voters.{Acknowledgement, Grant, Locked, Quiet, Voter, awake, counts_now, gives_on, heard_from, hears, lapsed, lets_go, lets_other_go, lost, may_let_go, quiet_again, quiet_anew, restarted, said, set, voter_later, with_clock}
+use Rattle.working.specs.Voters.{Acknowledgement, Grant, Locked, Quiet, Voter, awake, counts_now, gives_on, heard_from, hears, lapsed, lets_go, lets_other_go, lost, may_let_go, quiet_again, quiet_anew, quiet_by, quiet_counts_now, restarted, said, set, voter_later, with_clock}
 use Rattle.working.proofs.Lists.{both_all, not_here, weaker}
 use Rattle.working.proofs.Seen.{Given, IsReached, WasTold, all_told, beats_of, goes, heard_with, seen, seen_if, still_told, stops}
 use Rattle.working.proofs.Holds.{AreKept, HasStopped, Holds, IsVoid, current_on, keeps}
@@ -205,6 +205,34 @@ counts_on g voter session other v sessions hs =
       | true ↦ λ same. subst (λ (o : ℕ). Holds g voter o (counts_now v session) (sessions o)) (eqb-true session other same) (counts_here g voter session v (sessions session) (hs session))
       | false ↦ λ apart. counts_there g voter session other v (sessions other) apart (hs other)
     ] refl
+
+-- a quiet time counts as begun now, at the latest
+quiet_if : (g : Given) (session l : ℕ) (v : Voter) (s : Session) (quiet : Option Quiet) → IsReached g (seen_if session l v s quiet)
+    → IsReached g (seen_if session l v s (quiet_by quiet (at v.clock v.time)))
+quiet_if g session l v s None reached = reached
+quiet_if g session l v s (Some q) reached =
+    elim (nat_lt l (said (v.lapses session) (Some q))) as (λ b. IsReached g (record (seen_if session l v s (Some q)) { heard = if b then q.since else v.heard session })
+    → IsReached g (record (seen_if session l v s (Some q)) { heard = if b then min q.since (at v.clock v.time) else v.heard session })) [
+      | true ↦ λ r.
+          let x = record (seen_if session l v s (Some q)) { heard = q.since } in
+          goes g x (single.counted_now x) single.CountsNow tt refl r
+      | false ↦ λ r. r
+    ] reached
+
+kept_by : (other lapses now : ℕ) (current : Option Grant) (quiet : Option Quiet) (ended returned : List ℕ) (left taken : List Locked)
+    → AreKept other lapses current quiet ended returned left taken → AreKept other lapses current (quiet_by quiet now) ended returned left taken
+kept_by other lapses now current None ended returned left taken kept = kept
+kept_by other lapses now current (Some q) ended returned left taken kept =
+    keeps other lapses lapses current current (Some q) (Some (record q { since = min q.since now })) ended ended returned returned left taken
+    (λ k is. record { few = is.few; stands = is.stands; next = is.next; renews = is.renews }) (λ k own is had. had) kept
+
+pub quiet_counts_on : (g : Given) (voter session : ℕ) (v : Voter) (s : Session) → Holds g voter session v s → Holds g voter session (quiet_counts_now v) s
+quiet_counts_on g voter session v s h = record {
+  reached = λ l most. quiet_if g session l v s v.quiet (h.reached l most);
+  stopped = h.stopped;
+  kept = kept_by session (v.lapses session) (at v.clock v.time) v.current v.quiet s.ended (s.returned voter) v.told (s.votes voter) h.kept;
+  leases = h.leases;
+}
 
 -- ---- silence
 

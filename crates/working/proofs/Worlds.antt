@@ -5,15 +5,15 @@ use Rattle.std.specs.List.{AllByRecursion, slice_get}
 use Rattle.std.proofs.lemmas.Bool.{false≢true, eqb-true}
 use Rattle.lease_clock.specs.Clocks.{leaves, returned}
 use Rattle.lease_clock.specs.Leases.{is_among}
-use Rattle.working.specs.Events.{Beats, CountsNow, Ends, Event, GivesBack, GivesOn, Gives, Hears, IsRated, Keeps, LetsGo, LetsOtherGo, Loses, Marked, Marks, Passes, Released, Relinquished, Renews, Restarts, Takes, Tells, Wakes, World, after, after_all, begins, serving, with_session, with_voter}
+use Rattle.working.specs.Events.{Beats, CountsNow, Ends, Event, GivesBack, GivesOn, Gives, Hears, IsRated, Keeps, LetsGo, LetsOtherGo, Loses, Marked, Marks, Passes, QuietCountsNow, Released, Relinquished, Renews, Restarts, Takes, Tells, Wakes, World, after, after_all, begins, serving, with_session, with_voter}
 use Rattle.working.specs.Sessions.{Session, beaten, has_ended, has_returned, has_vote, renews, takes}
-use Rattle.working.specs.Voters.{Acknowledgement, Grant, Locked, Quiet, Voter, awake, counts_now, ends, gives, gives_on, grant_of, heard_from, is_of_number, is_of_request, lets_go, lets_other_go, lost, renewed, restarted, set, tells_again, unless_quiet, with_clock}
+use Rattle.working.specs.Voters.{Acknowledgement, Grant, Locked, Quiet, Voter, awake, counts_now, ends, gives, gives_on, grant_of, heard_from, is_of_number, is_of_request, lets_go, lets_other_go, lost, quiet_counts_now, renewed, restarted, set, tells_again, unless_quiet, with_clock}
 use Rattle.working.proofs.Lists.{both, of_place, set_by, still_among}
 use Rattle.working.proofs.Seen.{Given, WasTold, told_at}
 use Rattle.working.proofs.Counted.{is_current}
 use Rattle.working.proofs.Holds.{AreKept, Holds, IsKept, IsOwn, IsTaken, Stands, StandsNext, keeps}
 use Rattle.working.proofs.Grants.{ends_on, gives_to, renewed_on, tells_more, unless_on}
-use Rattle.working.proofs.Steps.{awake_on, beats_on, counts_on, gives_on_on, hears_on, later_on, lets_go_on, lets_other_on, lost_on, marked_on, marks_on, restarts_on}
+use Rattle.working.proofs.Steps.{awake_on, beats_on, counts_on, gives_on_on, hears_on, later_on, lets_go_on, lets_other_on, lost_on, marked_on, marks_on, quiet_counts_on, restarts_on}
 
 -- ---- what a session does
 
@@ -206,6 +206,8 @@ event_on g w (Marked voter number) rated good =
     voter_on g w voter (with_clock (w.voters voter) (returned (w.voters voter).clock number)) (λ session. marked_on g voter session number (w.voters voter) (w.sessions session) (good voter session)) good
 event_on g w (CountsNow session voter) rated good =
     voter_on g w voter (counts_now (w.voters voter) session) (λ other. counts_on g voter session other (w.voters voter) w.sessions (good voter)) good
+event_on g w (QuietCountsNow voter) rated good =
+    voter_on g w voter (quiet_counts_now (w.voters voter)) (λ session. quiet_counts_on g voter session (w.voters voter) (w.sessions session) (good voter session)) good
 event_on g w (Gives session voter request number) rated good =
     serving_on g w voter (gives (w.voters voter) (w.voters voter).current (grant_of session request number))
     (λ other awake. gives_to g voter other (w.voters voter) (w.sessions other) (grant_of session request number) (w.voters voter).current refl awake (good voter other)) good

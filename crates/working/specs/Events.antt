@@ -4,7 +4,7 @@ use Rattle.std.specs.List.{slice_get}
 use Rattle.lease_clock.specs.Clocks.{leaves, returned}
 use Rattle.lease_clock.specs.Leases.{is_among}
 use Rattle.working.specs.Sessions.{Session, beaten, begun_session, has_ended, has_returned, is_working, renews, session_later, takes}
-use Rattle.working.specs.Voters.{Voter, awake, begun_voter, counts_now, ends, gives, gives_on, grant_of, heard_from, is_of_number, is_of_request, lets_go, lets_other_go, lost, renewed, restarted, set, tells_again, unless_quiet, voter_later, with_clock}
+use Rattle.working.specs.Voters.{Voter, awake, begun_voter, counts_now, ends, gives, gives_on, grant_of, heard_from, is_of_number, is_of_request, lets_go, lets_other_go, lost, quiet_counts_now, renewed, restarted, set, tells_again, unless_quiet, voter_later, with_clock}
 
 -- the voters and the sessions, by their numbers
 pub record World : Type 0 where
@@ -37,6 +37,8 @@ pub data Event : Type 0 where
   Marked : ℕ → ℕ → Event
   -- a session counts as heard now at a voter, at the latest: session, voter
   CountsNow : ℕ → ℕ → Event
+  -- the quiet time of a voter counts as begun now, at the latest: voter
+  QuietCountsNow : ℕ → Event
   -- A voter gives its vote to a request, if nobody has it, and a LOCKED leaves. Its grant may have any number: session, voter,
   -- request, number
   Gives : ℕ → ℕ → ℕ → ℕ → Event
@@ -95,6 +97,7 @@ after ttl span w (Renews session voter place) =
 after ttl span w (Marks voter) = with_voter w voter (with_clock (w.voters voter) (leaves (w.voters voter).clock (w.voters voter).time))
 after ttl span w (Marked voter number) = with_voter w voter (with_clock (w.voters voter) (returned (w.voters voter).clock number))
 after ttl span w (CountsNow session voter) = with_voter w voter (counts_now (w.voters voter) session)
+after ttl span w (QuietCountsNow voter) = with_voter w voter (quiet_counts_now (w.voters voter))
 after ttl span w (Gives session voter request number) =
     serving w voter (gives (w.voters voter) (w.voters voter).current (grant_of session request number))
 after ttl span w (Tells voter) = serving w voter (tells_again (w.voters voter) (w.voters voter).current)

@@ -142,6 +142,15 @@ heard_from v session beat = if is_among session v.over then v else hears v sessi
 abbrev pub counts_now : Voter → ℕ → Voter
 counts_now v session = record v { heard = set v.heard session (min (v.heard session) (at v.clock v.time)) }
 
+-- a quiet time counts as begun now, at the latest
+abbrev pub quiet_by : Option Quiet → ℕ → Option Quiet
+quiet_by None now = None
+quiet_by (Some q) now = Some (record q { since = min q.since now })
+
+-- What the lease clock skipped since its quiet time began is skipped for that, too.
+abbrev pub quiet_counts_now : Voter → Voter
+quiet_counts_now v = record v { quiet = quiet_by v.quiet (at v.clock v.time) }
+
 -- ---- grants
 
 -- a grant is current, and a LOCKED of it leaves

@@ -5,7 +5,7 @@ use Rattle.std.specs.List.{AllByRecursion}
 use Rattle.std.proofs.lemmas.Bool.{eq-eqb, eqb-true, false≢true}
 use Rattle.std.proofs.lemmas.List.{length-replicate}
 use Rattle.std.proofs.lemmas.Option.{none-some, same_Some}
-use Rattle.lease_clock.specs.Clocks.{is_silent}
+use Rattle.lease_clock.specs.Clocks.{at, is_silent}
 use Rattle.lease_clock.specs.Leases.{is_among}
 use Rattle.message.specs.declared.message.ToClient.{ToClient}
 use Rattle.message.specs.declared.message.ToVoter.{ToVoter}
@@ -40,30 +40,55 @@ use Rattle.working_votes.proofs.Worlds.{Changes, Next, NextRests, Rests, Said, S
 
 -- ---- events by which no vote is given and no grant ends
 
+-- a quiet time goes on, with the grant that was given in it, or none does
+abbrev GoesOn : Option Quiet → Option Quiet → Type 0
+GoesOn None None = Unit {0}
+GoesOn None (Some r) = ⊥
+GoesOn (Some q) None = ⊥
+GoesOn (Some q) (Some r) = r.kept ≡ q.kept
+
+goes_on : (quiet : Option Quiet) → GoesOn quiet quiet
+goes_on None = tt
+goes_on (Some q) = refl
+
+none_goes_on : (quiet next : Option Quiet) → GoesOn quiet next → quiet ≡ None → next ≡ None
+none_goes_on None None on is = refl
+none_goes_on None (Some r) on is = absurd on
+none_goes_on (Some q) next on is = absurd (none-some q (sym is))
+
+one_goes_on : (quiet next : Option Quiet) (q : Quiet) → GoesOn quiet next → quiet ≡ Some q → (r : Quiet) × (next ≡ Some r) × (r.kept ≡ q.kept)
+one_goes_on None next q on is = absurd (none-some q is)
+one_goes_on (Some p) None q on is = absurd on
+one_goes_on (Some p) (Some r) q on is = (r, refl, on ∙ ap (λ (x : Quiet). x.kept) (same_Some p q is))
+
+counted : (quiet : Option Quiet) (now : ℕ) → GoesOn quiet (working.quiet_by quiet now)
+counted None now = tt
+counted (Some q) now = refl
+
 -- the vote, the quiet time and what was told are as they were
 record IsSame (v next : Voter) : Type 0 where
   vote : next.current ≡ v.current
-  quiet : next.quiet ≡ v.quiet
+  quiet : GoesOn v.quiet next.quiet
   told : next.told ≡ v.told
 
 same : (v : Voter) → IsSame v v
-same v = record { vote = refl; quiet = refl; told = refl }
+same v = record { vote = refl; quiet = goes_on v.quiet; told = refl }
 
 hears_same : (v : Voter) (session beat : ℕ) → IsSame v (heard_from v session beat)
 hears_same v session beat = elim (is_among session v.over) as (λ b. IsSame v (if b then v else hears v session beat)) [
   | true ↦ same v
-  | false ↦ record { vote = refl; quiet = refl; told = refl }
+  | false ↦ record { vote = refl; quiet = goes_on v.quiet; told = refl }
 ]
 
 other_same : (ttl : ℕ) (v : Voter) (session : ℕ) → IsSame v (lets_other_go ttl v session)
 other_same ttl v session = elim (may_let_go ttl v session) as (λ b. IsSame v (if b then lapsed v session v.current else v)) [
-  | true ↦ record { vote = refl; quiet = refl; told = refl }
+  | true ↦ record { vote = refl; quiet = goes_on v.quiet; told = refl }
   | false ↦ same v
 ]
 
 given_on_same : (ttl : ℕ) (v : Voter) (session : ℕ) → IsSame v (gives_on ttl v session)
 given_on_same ttl v session = elim (is_silent v.clock (v.heard session) ttl) as (λ b. IsSame v (if b then record v { over = session ∷ v.over } else v)) [
-  | true ↦ record { vote = refl; quiet = refl; told = refl }
+  | true ↦ record { vote = refl; quiet = goes_on v.quiet; told = refl }
   | false ↦ same v
 ]
 
@@ -88,14 +113,16 @@ module _ (P : Voter → Type 0) (by_same : (v next : Voter) → IsSame v next �
   serving_at w place v voter is p = at_voter w place (unless_quiet (w.voters place) (w.voters place).quiet v) voter (unless_same (w.voters place) v (w.voters place).quiet is) p
 
   other_on : (ttl span : ℕ) (w : World) (e : Event) (voter : ℕ) → IsOther e → P (w.voters voter) → P ((after ttl span w e).voters voter)
-  other_on ttl span w (law.Passes voters sessions) voter is p = by_same (w.voters voter) (working.voter_later (w.voters voter) (voters voter)) (record { vote = refl; quiet = refl; told = refl }) p
+  other_on ttl span w (law.Passes voters sessions) voter is p = by_same (w.voters voter) (working.voter_later (w.voters voter) (voters voter)) (record { vote = refl; quiet = goes_on (w.voters voter).quiet; told = refl }) p
   other_on ttl span w (law.Beats session) voter is p = p
   other_on ttl span w (law.Hears session place time) voter is p =
       if_at w place (heard_from (w.voters place) session time) voter (is_among time (w.sessions session).beats) (hears_same (w.voters place) session time) p
   other_on ttl span w (law.Renews session place number) voter is p = p
-  other_on ttl span w (law.Marks place) voter is p = at_voter w place _ voter (record { vote = refl; quiet = refl; told = refl }) p
-  other_on ttl span w (law.Marked place number) voter is p = at_voter w place _ voter (record { vote = refl; quiet = refl; told = refl }) p
-  other_on ttl span w (law.CountsNow session place) voter is p = at_voter w place _ voter (record { vote = refl; quiet = refl; told = refl }) p
+  other_on ttl span w (law.Marks place) voter is p = at_voter w place _ voter (record { vote = refl; quiet = goes_on (w.voters place).quiet; told = refl }) p
+  other_on ttl span w (law.Marked place number) voter is p = at_voter w place _ voter (record { vote = refl; quiet = goes_on (w.voters place).quiet; told = refl }) p
+  other_on ttl span w (law.CountsNow session place) voter is p = at_voter w place _ voter (record { vote = refl; quiet = goes_on (w.voters place).quiet; told = refl }) p
+  other_on ttl span w (law.QuietCountsNow place) voter is p =
+      at_voter w place _ voter (record { vote = refl; quiet = counted (w.voters place).quiet (at (w.voters place).clock (w.voters place).time); told = refl }) p
   other_on ttl span w (law.Gives session place request number) voter is p = absurd is
   other_on ttl span w (law.Tells place) voter is p = absurd is
   other_on ttl span w (law.Takes session place number) voter is p = p
@@ -295,12 +322,12 @@ abbrev Stands : Askers → Voter → Place → Type 0
 Stands who v p = StandsBy who v p.is_quiet p.lock
 
 same_stands : (who : Askers) (quiet : Bool) (l : Lock) (v next : Voter) → IsSame v next → StandsBy who v quiet l → StandsBy who next quiet l
-same_stands who false l v next is s = record { awake = is.quiet ∙ s.awake; vote = is.vote ∙ s.vote }
-same_stands who true l v next is s = (
+same_stands who false l v next is s = record { awake = none_goes_on v.quiet next.quiet is.quiet s.awake; vote = is.vote ∙ s.vote }
+same_stands who true l v next is s = let on = one_goes_on v.quiet next.quiet s.0.time is.quiet s.0.quiet in (
   record {
-    time = s.0.time;
-    quiet = is.quiet ∙ s.0.quiet;
-    grant = s.0.grant;
+    time = on.0;
+    quiet = on.1;
+    grant = on.2 ∙ s.0.grant;
     told = λ g at. subst (λ told. (lapses : ℕ) × IsOneOf (record { grant = g; lapses = lapses; renews = true }) told) (sym is.told) (s.0.told g at);
   },
   s.1,

@@ -90,6 +90,7 @@ IsOther (law.Renews session voter place) = Unit {0}
 IsOther (law.Marks voter) = Unit {0}
 IsOther (law.Marked voter number) = Unit {0}
 IsOther (law.CountsNow session voter) = Unit {0}
+IsOther (law.QuietCountsNow voter) = Unit {0}
 IsOther (law.Gives session voter request number) = ⊥
 IsOther (law.Tells voter) = ⊥
 IsOther (law.Takes session voter place) = Unit {0}

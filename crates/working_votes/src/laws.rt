@@ -9,8 +9,9 @@ ghost use Rattle.vote_leases.specs.declared.incarnation.Incarnation.{Incarnation
 ghost use Rattle.working_votes.specs.Example.{by_client, gives_back, new_voters, seven_asks, works_on};
 ghost use Rattle.working_votes.specs.Turns.{AreFree, AreTrue, Askers, HasVote, IsTrue, Place, Turn, WasTold, all_after, all_events, events_in, is_quiet_in, said_in, voter_of};
 
-/// Who works has the vote of each voter of its quorum: the grant of its automaton is to this request. This is so whatever messages are
-/// late, lost, repeated or out of order, and whenever voters crash and restart cleanly from the least of what they saved. The bound is that of
+/// Who works has the vote of each voter of its quorum that is not quiet: the grant of its automaton is to this request. This is so whatever
+/// messages are late, lost, repeated or out of order. Voters may end and restart from the least of what they saved. They may be killed, and
+/// start from any sound state: then they are quiet for a TTL, and their automata do what `quiet_time` says. The bound is that of
 /// `working::who_works_has_its_votes`.
 pub fn who_works_has_the_votes()
     ensures { (who : Askers) (a b ttl lease stop : ℕ) (periods times sessions : ℕ → ℕ) (places : ℕ → Place) (turns : List Turn) (session request : ℕ) (quorum : List ℕ)
@@ -20,8 +21,8 @@ pub fn who_works_has_the_votes()
         → AllByRecursion (HasVote who (all_after places turns) session request) quorum }
 {}
 
-/// Whoever is told to work by what it keeps (`vote_leases`) has the vote of each voter of its quorum, by the automata. The same events
-/// reach the sessions and the voters, and both begin anew. The premises are those of the law above, and of
+/// Whoever is told to work by what it keeps (`vote_leases`) has the vote of each voter of its quorum that is not quiet, by the automata. The same
+/// events reach the sessions and the voters, and both begin anew. The premises are those of the law above, and of
 /// `vote_leases::who_is_told_to_work_works`.
 pub fn who_is_told_to_work_has_the_votes()
     ensures { (who : Askers) (lapses : ℕ → ℕ → Incarnation → ℕ) (a b ttl lease stop : ℕ) (periods times sessions : ℕ → ℕ) (places : ℕ → Place) (turns : List Turn) (used : ℕ) (steps : List Step) (me request voter : ℕ) (quorum : List ℕ)
@@ -35,7 +36,7 @@ pub fn who_is_told_to_work_has_the_votes()
 {}
 
 /// Each LOCKED that an automaton says in a turn left the voter in the law, for the session that asked: so what a session takes in the law
-/// is what the automaton said.
+/// is what the automaton said. One that is said in a quiet time renews a vote in the law.
 pub fn what_is_locked_was_told()
     ensures { (who : Askers) (ttl span : ℕ) (periods times sessions : ℕ → ℕ) (places : ℕ → Place) (turns : List Turn) (turn : Turn)
         → AreFree places → AreTrue who ttl span (begins periods times sessions) places turns

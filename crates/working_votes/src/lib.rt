@@ -11,13 +11,16 @@
 //! - So does whoever is told to work by what it keeps of its votes, as `vote_leases` has it
 //!   ([`who_is_told_to_work_has_the_votes`]): proved code of sessions and of voters meets in one law.
 //! - Each LOCKED that an automaton says is one that left the voter in the law ([`what_is_locked_was_told`]).
-//! - The premises of the first and the last one can be met, where no grant ends ([`a_session_works_by_votes`]).
+//! - What these ask for can be had: a session works, works on while its voter is killed and starts again, and gives the vote back
+//!   ([`a_session_works_by_votes`]).
+//!
+//! A voter that is killed, or begins from an older copy, is quiet for a TTL, and does then what `quiet_time` says. While it is quiet it may not
+//! know who has its vote. So the first two laws leave its vote out, until it serves again.
 //!
 //! A message that ends a grant has to be true: the session that has the grant ended the request, or gave the vote back, or the voter may
-//! let the grant go. States that were lost and quiet times are not in these laws. A voter of the service is quiet for a TTL after it was
-//! killed: these laws say nothing of it from then on.
+//! let the grant go. In a quiet time the voter lets none go of which it was said that its client is inside.
 //!
-//! Depends on `working`, `vote_leases`, `lease_clock`, `voter`, `message` and `numbers`.
+//! Depends on `working`, `vote_leases`, `lease_clock`, `quiet_time`, `voter`, `message` and `numbers`.
 #![tactic(auto)]
 
 mod laws;

@@ -17,6 +17,14 @@ type quiet struct {
 	since time.Duration // when it began, on the lease clock
 }
 
+// returned is called once a marker came back. The time that it skips is skipped for the quiet time, too: it counts as begun now, at the
+// latest. Else one that began as the voter went on, after it had stood still, would last for that much longer than a TTL.
+func (q *quiet) returned(latest time.Duration) {
+	if q.since > latest {
+		q.since = latest
+	}
+}
+
 // isQuiet returns whether only those inside get a vote.
 func (d *Daemon) isQuiet() bool { return d.quiet.is }
 

@@ -289,6 +289,19 @@ func TestQuietForATTL(t *testing.T) {
 	}
 }
 
+// A quiet time that began as the voter went on, after it had stood still, lasts for no longer than others.
+func TestQuietAfterAStandstill(t *testing.T) {
+	d, _ := alone(t, 10)
+	mark := func() { d.isMarker(d.markerLine(d.leases.clock.Send(d.now().Sub(d.leases.began)))) }
+	mark()
+	d.leases.began = d.leases.began.Add(-time.Minute)
+	d.beQuiet(d.now())
+	mark()
+	if now := d.now(); d.quiet.since > d.leases.at(now) || d.quietLeft(now) > d.leases.ttl {
+		t.Errorf("it lasts for %v longer than a TTL", d.quiet.since-d.leases.at(now))
+	}
+}
+
 // When the quiet time ends, a voter lets grants of before its start go, and no other one: not that of who asked when the time
 // was over and the old grants were still there, nor that of who waited for an old one, and said that he is inside.
 func TestEndOfTheQuietTime(t *testing.T) {
