@@ -46,7 +46,7 @@ unsaid : (begun client stamp : ℕ) → is_said (since_start begun) client stamp
 unsaid begun client stamp = let zero_at = slice_index-replicate_zero max_clients client in grind (arith, nat_tests, zero_at)
 
 -- a grant with a number above those of before the start is none of these
-above : (s : SinceStart) (g : Grant) → s.begun < g.grant → is_old s (Some g) ≡ false
+pub above : (s : SinceStart) (g : Grant) → s.begun < g.grant → is_old s (Some g) ≡ false
 above s g more =
     let e : nat_le g.grant s.begun ≡ false = grind (arith, nat_tests) in
     rw e refl
