@@ -140,10 +140,10 @@ func (c *Client) begin(ctx context.Context) error {
 			c.note("session", "number=%d epoch=%d", c.header.Number, c.header.Epoch)
 			return nil
 		}
+		c.abandon() // also if the client has ended meanwhile: else the number stays taken for a TTL
 		if c.why != nil {
 			return c.why
 		}
-		c.abandon()
 		if ctx.Err() != nil {
 			return err
 		}
