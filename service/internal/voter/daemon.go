@@ -60,6 +60,8 @@ type Daemon struct {
 	sealed   []sealed           // those that leave before, with the lapses of when they were said
 	outBytes int
 	order    []string          // of what leaves
+	bundles  []bundle          // what leaves to processes, in their order
+	ofBox    map[string]int    // which of these is for a mailbox
 	replies  map[string]answer // what operators get after the save, by mailbox
 	room     []byte
 
