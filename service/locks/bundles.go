@@ -192,10 +192,11 @@ func (s *shards) readBundles(messages <-chan transport.Message) {
 // unbundle puts the messages of a bundle into the mailboxes of the sessions to which they are.
 func (s *shards) unbundle(m transport.Message) {
 	wire.Messages(m.Data, func(message []byte) {
+		session := ""
 		if _, lines, err := wire.Read(message); err == nil {
-			session, _ := wire.Addressee(lines)
-			s.pass(session, transport.Message{Mailbox: m.Mailbox, Data: append([]byte(nil), message...)}) // it may wait for longer than the others
+			session, _ = wire.Addressee(lines)
 		}
+		s.pass(session, transport.Message{Mailbox: m.Mailbox, Data: append([]byte(nil), message...)}) // it may wait for longer than the others
 	})
 }
 

@@ -90,7 +90,7 @@ func TestOneHeartbeatForAllShards(t *testing.T) {
 		if measured[bundled] = messages; (len(bundles) == 0) == bundled {
 			t.Errorf("bundles: %v", bundles)
 		}
-		if stats := c.Stats(); stats.Lost > 0 || stats.FailOvers > 0 {
+		if stats := c.Stats(); stats.Lost > 0 {
 			t.Errorf("%+v", stats)
 		}
 		passAll(t, w, c)
@@ -128,7 +128,7 @@ func TestOldAndNewPrograms(t *testing.T) {
 		t.Errorf("a newer client: %v, %d voters read bundles", bundles, readers(newer))
 	}
 	for _, c := range []*Client{one, other, newer, older} {
-		if stats := c.Stats(); stats.Lost > 0 || stats.FailOvers > 0 {
+		if stats := c.Stats(); stats.Lost > 0 {
 			t.Errorf("%+v", stats)
 		}
 	}
@@ -222,13 +222,20 @@ func TestWhatWaits(t *testing.T) {
 	if asked == 0 {
 		t.Error("a request waits")
 	}
-	// what is more than a bundle may have leaves before
+}
+
+// What is more than a bundle may have leaves in the next one.
+func TestBundleIsFull(t *testing.T) {
+	c, _ := inBundles(t)
+	other := wire.Header{Cluster: "test", Coterie: c.plan.mark, Kind: wire.FromClient, Number: 7, Epoch: 1, Name: "other"}
+	long := append(other.Append(nil), strings.Repeat("orders release 7 0 1\n", wire.MostBytes/30)...)
 	for i := 0; i < 2; i++ {
-		long := append(other.Append(nil), strings.Repeat("orders release 7 0 1\n", wire.MostBytes/30)...)
 		c.bundles.send(1, wire.VoterBox("test", 1, wire.NoUser), long, true)
 	}
-	if len(c.boxes[1]) == 0 {
-		t.Error("a bundle is longer than a message may be")
+	for i := 0; i < 2; i++ {
+		if m := <-c.boxes[1]; len(m.Data) != len(long) {
+			t.Errorf("a message of %d bytes, and each of those in it has %d", len(m.Data), len(long))
+		}
 	}
 }
 
