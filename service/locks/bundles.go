@@ -3,9 +3,8 @@ package locks
 // One message in place of many, between a process and a voter.
 //
 // The sessions of a process beat at the same times, and what they say then to a voter leaves in one bundle (wire). What a voter says to them
-// in one turn comes in one, too, to a mailbox of the process. Both only once that voter said that it reads bundles:
-// one of an older program gets messages as before. A bundle changes nothing of its messages, and they may be lost, late and out of order in
-// any case.
+// in one turn comes in one, too, to a mailbox of the process. Both are so only once that voter said that it reads bundles: one of an older
+// program gets messages as before. A bundle changes nothing of its messages. These may be lost, late and out of order in any case.
 
 import (
 	"sync"
@@ -122,7 +121,7 @@ func (c *Client) hearBundles(voter int) {
 	}
 }
 
-// forgetBundles notes that a voter may read none: it started, or the session has no number there.
+// forgetBundles notes that a voter may read none: it started.
 func (c *Client) forgetBundles(voter int) {
 	p := &c.peers[voter]
 	if p.bundles, p.processes = false, 0; c.bundles != nil {

@@ -96,7 +96,7 @@ func TestOneHeartbeatForAllShards(t *testing.T) {
 		passAll(t, w, c)
 	}
 	t.Logf("%d sessions, 3 voters, a TTL of %v: %d messages in this time, and %d in bundles", shards, ttl, measured[false], measured[true])
-	if least := 4 * shards * 6 * 9 / 10; measured[false] < least || measured[true] > measured[false]/8 {
+	if least := 3 * shards * 6; measured[false] < least || measured[true] > measured[false]/8 {
 		t.Errorf("%d messages, and %d in bundles", measured[false], measured[true])
 	}
 }

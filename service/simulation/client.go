@@ -26,6 +26,7 @@ const (
 	firstBlock = 64 // as in package locks
 	mostBlock  = 4096
 	brief      = 2 * time.Second
+	soon       = 20 * time.Millisecond
 	ticks      = 25 * time.Millisecond // of the loop, and of who looks after leases
 )
 
@@ -83,6 +84,7 @@ type client struct {
 	over  time.Duration // after which silence a voter is passed over
 
 	name     string // of the session
+	hasty    bool   // it is given up soon after it claims a number, as by a call that waits no longer
 	keeps    bool   // the next session has this name, and keeps what was claimed under it: this one was given up before it was open
 	tries    int    // how many sessions it began to open
 	header   wire.Header
@@ -247,21 +249,20 @@ func (c *client) opensAgain(d time.Duration) {
 	})
 }
 
-// isImpatient gives a session up after a while if it is not open then, as a call does that waits no longer. The next try follows.
-func (c *client) isImpatient(d time.Duration) {
+// givesUpSoon gives a session up a moment after it claimed a number, unless it is open by then. The next try follows soon.
+func (c *client) givesUpSoon() {
 	session := c.tries
-	c.in(d, func() {
+	c.in(c.upTo(soon), func() {
 		c.whenUp(session, func() {
-			if c.stage == isOpen || c.healed > 0 {
+			if c.stage != claiming && c.stage != reserving || c.healed > 0 {
 				return
 			}
 			c.log("client %d gives its session up", c.id)
-			if c.stage == claiming || c.stage == reserving {
-				c.takeBack()
-			}
+			c.Incidents["sessions given up"]++
+			c.takeBack()
 			c.isOver()
 			c.keeps = true
-			c.opensAgain(c.upTo(c.ttl / 4))
+			c.opensAgain(c.upTo(soon))
 		})
 	})
 }
@@ -353,7 +354,10 @@ func (c *client) claim() {
 		c.peers[v].forgetLease(c.shows())
 	}
 	c.ends, c.beat, c.left = c.shows()+brief, c.shows(), c.shows()
-	c.begins()
+	if c.begins(); c.hasty {
+		c.hasty = false
+		c.givesUpSoon()
+	}
 }
 
 // reserveFirst reserves the first stamps of a number that a quorum gave to this session.

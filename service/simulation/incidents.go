@@ -149,9 +149,8 @@ var ofClients = []kind{
 		if c != nil {
 			w.log("client %d is killed", c.id)
 			c.isOver()
-			c.open()
-			c.tick()
-			c.isImpatient(w.upTo([]time.Duration{10 * time.Millisecond, brief}[w.random.Intn(2)]))
+			c.hasty = true
+			c.opensAgain(0)
 		}
 		return c != nil
 	}},

@@ -101,6 +101,24 @@ func TestWrongHosts(t *testing.T) {
 	}
 }
 
+// A session that is given up as it claims a number is opened again under its name. A word that takes the claim back may come late, and takes
+// nothing from the next try.
+func TestSessionIsOpenedAgain(t *testing.T) {
+	var total Figures
+	only := []string{"clients whose next session is given up", "times of noise"}
+	for seed := int64(1); seed <= 20; seed++ {
+		r := Run(Options{Seed: seed, Events: 8000, Often: true, Only: only})
+		if r.Fault != nil {
+			t.Fatalf("seed %d: %v", seed, r.Fault)
+		}
+		total.Add(r.Figures)
+	}
+	if given := total.Incidents["sessions given up"]; given < 50 {
+		t.Errorf("%d sessions are given up", given)
+	}
+	t.Logf("%+v", total)
+}
+
 // quiet returns a world in which no incident happens, after a while.
 func quiet(t *testing.T, events int) *world {
 	t.Helper()

@@ -62,6 +62,9 @@ func (b *Bus) Watch(sees func(mailbox string, message []byte)) {
 
 // known returns a copy of a message without the lines that nobody knows.
 func (b *Bus) known(message []byte) (known []byte) {
+	if len(b.unknown) == 0 {
+		return append([]byte(nil), message...)
+	}
 	for _, line := range bytes.SplitAfter(message, []byte("\n")) {
 		isKnown := true
 		for _, word := range b.unknown {
