@@ -48,6 +48,7 @@ func main() {
 	length := flag.Duration("for", 10*time.Second, "how long each load takes")
 	idle := flag.Int("idle", 0, "measure a voter with so many locks that nobody wants, and nothing else")
 	used := flag.Int("soak", 0, "use so many locks once, show what voters keep, and nothing else; QLOCK_MAX_LOCKS is what they may keep")
+	rest := flag.Int("rest", 0, "measure a process with so many sessions that rest, in a cluster of as many shards, and nothing else")
 	runs := flag.Int("runs", 0, "measure so many runs of a program under a lock, and nothing else")
 	etcd := flag.String("etcd", "", "the servers of etcd, with commas, for --runs")
 	var many crowd
@@ -67,6 +68,8 @@ func main() {
 		what = func(cluster *local.Cluster) error { return measureIdle(cluster, *idle) }
 	case *used > 0:
 		what = func(cluster *local.Cluster) error { return soak(cluster, *used) }
+	case *rest > 0:
+		what = func(cluster *local.Cluster) error { return measureRest(cluster, *rest, *length) }
 	case *runs > 0:
 		what = func(cluster *local.Cluster) error { return measureRuns(cluster, o.Bin, *runs, *etcd) }
 	case many.sessions > 0:

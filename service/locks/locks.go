@@ -124,6 +124,9 @@ type Client struct {
 	ownNote string                  // what the session says of itself, "" for nothing
 	looks   bool                    // it has no number
 	out     [qlock.MaxVoters][]byte // lines that leave at the end of this turn of the loop, by voter
+	mayWait bool                    // they may wait a moment for those of other sessions: they are a heartbeat, and no request
+	bundles *bundles                // of the process, nil if it sends none
+	bundled *mailbox                // what came to this session in bundles, nil if none does
 	room    []byte
 	stats   Stats
 	waits   prometheus.Histogram
@@ -457,6 +460,8 @@ func (c *Client) run() {
 			for i := len(c.messages); i > 0 && c.why == nil; i-- {
 				c.message(<-c.messages)
 			}
+		case m := <-c.inBundles():
+			c.messageOfBundle(m)
 		case f := <-c.calls:
 			f()
 		case f := <-c.read:
@@ -496,13 +501,10 @@ func (c *Client) flush() {
 		if len(c.out[voter]) == 0 {
 			continue
 		}
-		box := wire.VoterBox(c.cluster.ID, voter, c.user)
 		header := c.header
 		header.Coterie = c.speaks(voter)
-		header.Split(c.out[voter], func(message []byte) {
-			_ = c.carrier.Send(box, message) // a reminder repeats what is lost
-		})
+		header.Split(c.out[voter], func(message []byte) { c.post(voter, message) })
 		c.out[voter] = c.out[voter][:0]
 	}
-	c.sent = [qlock.MaxVoters]int{}
+	c.sent, c.mayWait = [qlock.MaxVoters]int{}, false
 }

@@ -84,9 +84,13 @@ func (p *plans) accepts(mark string) bool {
 }
 
 // speaks returns the mark in a message to a voter: of the plan by which the client asks, or of the one before if the voter did
-// not say yet that it has it.
+// not say yet that it has it. A client that ends while it claims a number only takes that back, which no plan is needed for: it speaks by
+// the plan of the voter, as its own may be retired there.
 func (c *Client) speaks(voter int) string {
-	if c.older != nil && c.peers[voter].mark != c.plan.mark {
+	switch mark := c.peers[voter].mark; {
+	case c.opening && c.why != nil && wire.IsID([]byte(mark)):
+		return mark
+	case c.older != nil && mark != c.plan.mark:
 		return c.older.mark
 	}
 	return c.plan.mark

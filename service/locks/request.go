@@ -312,6 +312,7 @@ func (c *Client) askAgain(l *lock) {
 
 // send puts lines with those that leave at the end of this turn, and notes what the client is doing now.
 func (c *Client) send(l *lock, lines []byte, now time.Time) {
+	c.mayWait = c.mayWait && len(lines) == 0
 	for len(lines) > 0 {
 		end := bytes.IndexByte(lines, '\n') + 1
 		if said := wire.ReadLine(lines[:end]); said.To >= 0 && said.To < len(c.peers) {
@@ -518,7 +519,8 @@ func (c *Client) round(now time.Time) {
 		c.followPlans(now)
 		return
 	}
-	if c.hasGap(now) || now.Sub(c.beat) >= c.pause() {
+	if hasGap := c.hasGap(now); hasGap || c.isDue(now) {
+		c.mayWait = !hasGap
 		c.heartbeat(now)
 	} else {
 		c.lapse()

@@ -77,6 +77,9 @@ type peer struct {
 	closed   bool                     // it ended this session
 	noted    bool                     // it has the session's note
 	notes    int                      // how many heartbeats it heard without saying so
+
+	bundles   bool // it reads bundles, and knows the session's process
+	processes int  // how many heartbeats it heard without saying so
 }
 
 // session is a client's number, and what the voters say of it.
@@ -140,10 +143,10 @@ func (c *Client) begin(ctx context.Context) error {
 			c.note("session", "number=%d epoch=%d", c.header.Number, c.header.Epoch)
 			return nil
 		}
+		c.abandon() // also if the client has ended meanwhile: else the number stays taken for a TTL
 		if c.why != nil {
 			return c.why
 		}
-		c.abandon()
 		if ctx.Err() != nil {
 			return err
 		}
@@ -312,6 +315,8 @@ func (c *Client) rounds(ctx context.Context, say func(), done func() bool) error
 			select {
 			case m := <-c.messages:
 				c.message(m)
+			case m := <-c.inBundles():
+				c.messageOfBundle(m)
 			case f := <-c.read:
 				f()
 			case <-timer.C:
@@ -335,6 +340,7 @@ func (c *Client) rounds(ctx context.Context, say func(), done func() bool) error
 func (p *peer) forget() {
 	p.accepts, p.taken, p.stamps, p.base, p.claimed = false, false, qlock.NewStamps(), 0, 0
 	p.noted, p.notes = false, 0
+	p.bundles, p.processes = false, 0
 }
 
 // forgetLease forgets what a voter said to the session before, for another one.
@@ -453,6 +459,7 @@ func (c *Client) heartbeat(now time.Time) {
 		p.sent[c.header.Seq] = up
 		c.tell(v, open)
 		c.sayNotes(v, now)
+		c.sayProcess(v)
 		if level.Newest >= level.Greets && p.level >= level.Greets {
 			c.tell(v, qlock.ClientSays{Kind: qlock.Greet})
 		}
@@ -516,8 +523,9 @@ func (c *Client) avoided(now time.Time) (mask uint64) {
 // message takes a message of a voter.
 func (c *Client) message(m transport.Message) {
 	h, lines, err := wire.Read(m.Data)
+	session, lines := wire.Addressee(lines)
 	if err != nil || h.Cluster != c.header.Cluster || h.Kind != wire.FromVoter || h.Number >= len(c.peers) ||
-		m.Sender() != strconv.Itoa(h.Number) {
+		m.Sender() != strconv.Itoa(h.Number) || session != "" && session != c.header.Name {
 		c.stats.Refused++
 		return
 	}
@@ -571,6 +579,7 @@ func (c *Client) recognise(h wire.Header) bool {
 	c.forgetNotes(h.Number)
 	switch {
 	case before.identity == "":
+		return true
 	case before.identity != h.Name:
 		c.refused = c.refused || c.opening && p.accepts // it may have accepted another claim of the epoch since
 		p.forget()
@@ -578,6 +587,7 @@ func (c *Client) recognise(h wire.Header) bool {
 	default:
 		c.restarted(h.Number)
 	}
+	c.forgetBundles(h.Number)
 	return true
 }
 

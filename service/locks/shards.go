@@ -28,8 +28,14 @@ const (
 type shards struct {
 	mutex sync.Mutex
 	all   map[int]*part
-	past  Stats // of the sessions that are over
+	past  Stats // of the sessions that are over, and what was lost of bundles
 	going sync.WaitGroup
+
+	bundles   *bundles            // nil if the process sends none
+	boxes     map[string]*mailbox // of the sessions that there are, by their names
+	isStopped bool                // the client has ended
+	over      chan struct{}       // closed once no session is left then, either
+	isOver    bool
 }
 
 // part is a client's session of a shard.
@@ -46,12 +52,40 @@ func openShards(ctx context.Context, cluster *config.Cluster, c Config) (*Client
 	if err != nil {
 		return nil, err
 	}
-	client.shards = &shards{all: map[int]*part{}}
+	if err := client.beginShards(); err != nil {
+		_ = client.Close(ctx)
+		return nil, err
+	}
 	if _, err := client.Who(ctx, "-"); err != nil {
 		_ = client.Close(ctx)
 		return nil, err
 	}
 	return client, nil
+}
+
+// beginShards begins to take what comes to the mailbox of the process.
+func (c *Client) beginShards() error {
+	nonce, err := config.Nonce()
+	if err != nil {
+		return err
+	}
+	process := c.cluster.SessionName(0, nonce)
+	boxes := wire.SessionBoxes(c.cluster.ID, wire.SessionName(c.user, process))
+	messages, err := c.carrier.Listen(boxes)
+	if err != nil {
+		return err
+	}
+	c.shards = &shards{all: map[int]*part{}, boxes: map[string]*mailbox{}, over: make(chan struct{}),
+		bundles: &bundles{process: process, began: time.Now(), carrier: c.carrier}}
+	go func() {
+		c.shards.readBundles(messages)
+		leave(c.carrier, boxes)
+	}()
+	go func() {
+		<-c.stopped
+		c.shards.stops()
+	}()
+	return nil
 }
 
 // part returns what there is of a shard.
@@ -121,6 +155,7 @@ func (c *Client) sessionFor(ctx context.Context, lock string, tries bool) (*Clie
 		brief, cancel := context.WithTimeout(context.Background(), c.config.FailOver)
 		defer cancel()
 		_ = session.Close(brief)
+		c.leaveBoxes(session)
 		return nil, why
 	}
 	c.shards.mutex.Lock()
@@ -144,6 +179,7 @@ func (c *Client) openPart(ctx context.Context, p *part, lock string, tries bool)
 		return nil, err
 	}
 	session.meet(len(session.names()))
+	c.shards.listens(session)
 	opened, err := session.connect(ctx)
 	if err != nil {
 		c.leaveBoxes(session) // the next try listens again, under the same name
@@ -153,8 +189,14 @@ func (c *Client) openPart(ctx context.Context, p *part, lock string, tries bool)
 
 // leaveBoxes ends the mailboxes of a session that nobody reads any more.
 func (c *Client) leaveBoxes(session *Client) {
-	if leaver, ok := c.carrier.(transport.Leaver); ok {
-		leaver.Leave(session.boxes())
+	leave(c.carrier, session.boxes())
+	c.shards.leaves(session.header.Name)
+}
+
+// leave ends a mailbox, if the carrier knows how.
+func leave(carrier transport.Transport, boxes string) {
+	if leaver, ok := carrier.(transport.Leaver); ok {
+		leaver.Leave(boxes)
 	}
 }
 

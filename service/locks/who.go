@@ -256,6 +256,8 @@ func (c *Client) hearTold(voter int, told wire.Told) {
 	switch {
 	case told.Kind == wire.Noted:
 		p.noted = true
+	case told.Kind == wire.Bundles:
+		c.hearBundles(voter)
 	case told.Kind == wire.Turned:
 		c.hearTurned(voter, told)
 	case told.Kind == wire.Sessions:

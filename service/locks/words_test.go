@@ -374,6 +374,58 @@ func TestEpochIsClaimedOnce(t *testing.T) {
 	}
 }
 
+// A client that ends while it claims a number gives that back before: here its plan is retired. A voter hears so by its own plan, as it
+// takes nothing of one that is retired there.
+func TestEndDuringAClaim(t *testing.T) {
+	c := alone(t)
+	c.header.Number, c.header.Epoch = 0, 0
+	c.claims[3].GivesUp()
+	var err error
+	if c.messages, err = c.carrier.Listen(c.Client.boxes()); err != nil {
+		t.Fatal(err)
+	}
+	givenBack := make(chan string, 30)
+	for v := range c.boxes {
+		go func(v int, session string) {
+			says := func(mark, lines string) {
+				h := wire.Header{Cluster: "test", Coterie: mark, Kind: wire.FromVoter, Number: v, Name: fmt.Sprint("identity-", v)}
+				_ = c.carrier.Send(wire.SessionBox("test", session, v), append(h.Append(nil), lines...))
+			}
+			for m := range c.boxes[v] {
+				h, lines, _ := wire.Read(m.Data)
+				switch text := string(lines); {
+				case strings.HasPrefix(text, ". hello"):
+					says(h.Coterie, ". number 3 5 1\n")
+				case strings.HasPrefix(text, ". claim ") && v == 0:
+					says(h.Coterie, ". claimed "+strings.TrimPrefix(strings.TrimSuffix(text, " 64\n"), ". claim ")+" 0 64\n")
+				case strings.HasPrefix(text, ". claim "):
+					says("next", ". generation 9 next 9\n")
+				case strings.HasPrefix(text, ". drop "):
+					givenBack <- fmt.Sprint(v, " ", h.Coterie)
+				}
+			}
+		}(v, wire.SessionName(c.user, c.header.Name))
+	}
+	if err := c.begin(within(t, 20*time.Second)); !errors.Is(err, ErrRetired) {
+		t.Fatal(err)
+	}
+	want := map[string]bool{"0 " + c.plan.mark: true, "1 next": true, "2 next": true}
+	for end := time.After(5 * time.Second); len(want) > 0; {
+		select {
+		case one := <-givenBack:
+			if !want[one] {
+				t.Errorf("voter and plan %q", one)
+			}
+			delete(want, one)
+		case <-end:
+			t.Fatalf("the number is not given back: %v", want)
+		}
+	}
+	if c.claimed() != 0 {
+		t.Error("a claim goes on that was taken back")
+	}
+}
+
 // The stamps of a session are above each base that the voters told which gave it the number.
 func TestSessionBeginsAboveItsBases(t *testing.T) {
 	c := alone(t)

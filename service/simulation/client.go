@@ -3,6 +3,7 @@ package simulation
 import (
 	"encoding/hex"
 	"strconv"
+	"strings"
 	"time"
 
 	"calvundek.example/service/internal/claims"
@@ -25,6 +26,7 @@ const (
 	firstBlock = 64 // as in package locks
 	mostBlock  = 4096
 	brief      = 2 * time.Second
+	soon       = 20 * time.Millisecond
 	ticks      = 25 * time.Millisecond // of the loop, and of who looks after leases
 )
 
@@ -82,6 +84,9 @@ type client struct {
 	over  time.Duration // after which silence a voter is passed over
 
 	name     string // of the session
+	hasty    bool   // it is given up soon after it claims a number, as by a call that waits no longer
+	keeps    bool   // the next session has this name, and keeps what was claimed under it: this one was given up before it was open
+	tries    int    // how many sessions it began to open
 	header   wire.Header
 	peers    []peer
 	stage    stage
@@ -125,19 +130,25 @@ func newClient(w *world, id int) *client {
 	return c
 }
 
-// open begins a session.
+// open begins a session. Until one is open, all tries have one name, as in package locks (shards.go).
 func (c *client) open() {
-	random := make([]byte, 16)
-	_, _ = c.random.Read(random)
-	c.header = wire.Header{Cluster: c.cluster.ID, Coterie: c.cluster.Marks()[0], Kind: wire.FromClient, Name: hex.EncodeToString(random), Level: level.Newest}
-	c.name = wire.SessionName(wire.NoUser, c.header.Name)
+	if !c.keeps {
+		random := make([]byte, 16)
+		_, _ = c.random.Read(random)
+		c.name, c.claims = wire.SessionName(wire.NoUser, hex.EncodeToString(random)), claims.New()
+	} else if c.Wrong.ForgetsClaims {
+		c.claims = claims.New()
+	}
+	c.keeps = false
+	c.tries++
+	_, name, _ := strings.Cut(c.name, ".")
+	c.header = wire.Header{Cluster: c.cluster.ID, Coterie: c.cluster.Marks()[0], Kind: wire.FromClient, Name: name, Level: level.Newest}
 	c.peers = make([]peer, len(c.cluster.Names()))
 	now := c.shows()
 	for v := range c.peers {
 		c.peers[v] = peer{sent: map[uint64]time.Duration{}, heard: now, stamps: qlock.NewStamps(), lease: qlock.NewLease()}
 	}
 	c.asked, c.draining, c.idle, c.beat = -1, false, 0, 0
-	c.claims = claims.New()
 	c.sessions[c.name] = c
 	c.box = &box{takes: c.takes}
 	c.broker.listen(c.boxes(), c.box)
@@ -152,16 +163,16 @@ func (c *client) shows() time.Duration { return c.clock.shows(c.now) }
 
 // atShown plans an event by the client's clock. A session that is over by then does nothing.
 func (c *client) atShown(shown time.Duration, do func()) {
-	name := c.name
-	c.at(c.clock.when(shown), func() { c.whenUp(name, do) })
+	session := c.tries
+	c.at(c.clock.when(shown), func() { c.whenUp(session, do) })
 }
 
 // whenUp does something for a session once the process does not stand still.
-func (c *client) whenUp(name string, do func()) {
+func (c *client) whenUp(session int, do func()) {
 	switch {
-	case c.name != name || c.stage == isEnded:
+	case c.tries != session || c.stage == isEnded:
 	case c.now < c.still:
-		c.at(c.still, func() { c.whenUp(name, do) })
+		c.at(c.still, func() { c.whenUp(session, do) })
 	default:
 		do()
 		c.flush()
@@ -204,8 +215,8 @@ func (c *client) takeQueue() {
 // standsStill lets the process stand still for a while.
 func (c *client) standsStill(d time.Duration) {
 	c.still = after(c.now, d)
-	name := c.name
-	c.at(c.still, func() { c.whenUp(name, c.takeQueue) })
+	session := c.tries
+	c.at(c.still, func() { c.whenUp(session, c.takeQueue) })
 }
 
 // isOver ends the session, and with it what it has. The process opens another one.
@@ -235,6 +246,24 @@ func (c *client) opensAgain(d time.Duration) {
 		for _, l := range c.locks {
 			l.think()
 		}
+	})
+}
+
+// givesUpSoon gives a session up a moment after it claimed a number, unless it is open by then. The next try follows soon.
+func (c *client) givesUpSoon() {
+	session := c.tries
+	c.in(c.upTo(soon), func() {
+		c.whenUp(session, func() {
+			if c.stage != claiming && c.stage != reserving || c.healed > 0 {
+				return
+			}
+			c.log("client %d gives its session up", c.id)
+			c.Incidents["sessions given up"]++
+			c.takeBack()
+			c.isOver()
+			c.keeps = true
+			c.opensAgain(c.upTo(soon))
+		})
 	})
 }
 
@@ -325,7 +354,10 @@ func (c *client) claim() {
 		c.peers[v].forgetLease(c.shows())
 	}
 	c.ends, c.beat, c.left = c.shows()+brief, c.shows(), c.shows()
-	c.begins()
+	if c.begins(); c.hasty {
+		c.hasty = false
+		c.givesUpSoon()
+	}
 }
 
 // reserveFirst reserves the first stamps of a number that a quorum gave to this session.
@@ -343,8 +375,14 @@ func (c *client) reserveFirst() {
 	}
 }
 
-// abandon gives a number back that some voters gave to this session, or will give it.
+// abandon takes a claim back, and chooses another number.
 func (c *client) abandon() {
+	c.takeBack()
+	c.choose()
+}
+
+// takeBack gives a number back that some voters gave to this session, or will give it.
+func (c *client) takeBack() {
 	for _, l := range c.locks {
 		l.Client = nil
 		l.shown = qlock.Shown{}
@@ -360,7 +398,6 @@ func (c *client) abandon() {
 	}
 	c.claims[c.asked].GivesUp()
 	c.flush()
-	c.choose()
 }
 
 // say says a control line to all voters.

@@ -144,6 +144,16 @@ var ofClients = []kind{
 		}
 		return c != nil
 	}},
+	{"clients whose next session is given up", func(w *world) bool {
+		c := w.someClient()
+		if c != nil {
+			w.log("client %d is killed", c.id)
+			c.isOver()
+			c.hasty = true
+			c.opensAgain(0)
+		}
+		return c != nil
+	}},
 	{"clients that stand still", func(w *world) bool {
 		c := w.someClient()
 		if c != nil && c.still < w.now {

@@ -68,6 +68,7 @@ func TestWrongHosts(t *testing.T) {
 		{"goes-on", "clients that stand still", "exclusion", 20},
 		{"lease-from-reply", "servers frozen,clients that stand still", "exclusion guard", 200},
 		{"clocks", "clients cut off,clients that stand still", "exclusion guard", 50},
+		{"forgets-claims", "clients whose next session is given up,times of noise", "claims", 50},
 		{"starts-empty", "states lost", "grants exclusion guard", 50},
 	} {
 		o := Options{Events: 8000, Often: true, Only: strings.Split(one.only, ",")}
@@ -98,6 +99,24 @@ func TestWrongHosts(t *testing.T) {
 			t.Errorf("seed %d with right hosts: %v", o.Seed, fault)
 		}
 	}
+}
+
+// A session that is given up as it claims a number is opened again under its name. A word that takes the claim back may come late, and takes
+// nothing from the next try.
+func TestSessionIsOpenedAgain(t *testing.T) {
+	var total Figures
+	only := []string{"clients whose next session is given up", "times of noise"}
+	for seed := int64(1); seed <= 20; seed++ {
+		r := Run(Options{Seed: seed, Events: 8000, Often: true, Only: only})
+		if r.Fault != nil {
+			t.Fatalf("seed %d: %v", seed, r.Fault)
+		}
+		total.Add(r.Figures)
+	}
+	if given := total.Incidents["sessions given up"]; given < 50 {
+		t.Errorf("%d sessions are given up", given)
+	}
+	t.Logf("%+v", total)
 }
 
 // quiet returns a world in which no incident happens, after a while.

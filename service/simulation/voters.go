@@ -230,6 +230,9 @@ func (r *process) Listen(mailbox string) (<-chan transport.Message, error) {
 		if r.cut || r.ended {
 			return
 		}
+		if from == voter.Clients {
+			r.checkTaken(m)
+		}
 		if from == voter.Voters && r.unnoticed {
 			m = r.forged(m)
 		}

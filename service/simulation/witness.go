@@ -10,6 +10,7 @@ import (
 	"calvundek.example/service/internal/voter"
 	"calvundek.example/service/internal/wire"
 	"calvundek.example/service/qlock"
+	"calvundek.example/service/transport"
 )
 
 // wordOf returns a word of a mailbox, "" if it has too few.
@@ -311,6 +312,23 @@ func (r *process) checkKnows(knows voter.Knows, whom string) {
 		row, is := knows.Sessions[number]
 		if saved, err := r.disk.session(number); is && (err != nil || saved.Epoch < row.Epoch || saved.Reserved < row.Reserved) {
 			r.unsaved("says %+v of number %d to %s, and the disk has %+v (%v)", row, number, whom, saved, err)
+		}
+	}
+}
+
+// checkTaken looks at what comes to a voter of a session: a claim that is taken back is none that the session makes, or by which it has its
+// number. The words that take claims back may come late, so no session claims an epoch again.
+func (r *process) checkTaken(m transport.Message) {
+	h, lines, err := wire.Read(m.Data)
+	c := r.sessions[wire.SessionName(m.Sender(), h.Name)]
+	for err == nil && c != nil {
+		_, line, rest, found := wire.Next(lines)
+		if !found {
+			return
+		}
+		said, no := qlock.ReadClientSays(line)
+		if lines = rest; no == nil && said.Kind == qlock.Drop && said.Number == c.asked && said.First > 0 && said.First == c.claims[said.Number].Shows().Epoch {
+			r.violated("claims", "voter %d hears from client %d that it takes back epoch %d of number %d, which it claims", r.number, c.id, said.First, said.Number)
 		}
 	}
 }

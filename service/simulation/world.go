@@ -10,6 +10,7 @@
 //   - a guard admits no pass of an earlier request after one of a later one, and refuses nobody who works;
 //   - nothing leaves a voter that depends on what its disk does not have at that moment;
 //   - no voter gives a number of a grant twice, and no run of it takes one stamp from two sessions;
+//   - no voter hears that a claim is taken back by which its session goes on;
 //   - in the end, once all faults stopped, everybody who wants a lock gets it within a bound.
 package simulation
 

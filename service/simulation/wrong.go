@@ -23,6 +23,7 @@ type Wrong struct {
 	GoesOn         bool // a client's program does not stop when its lease has ended
 	LeaseFromReply bool // a lease counts from when the reply came, and not from when the heartbeat left
 	Clocks         bool // clocks go at rates beyond the stated ones
+	ForgetsClaims  bool // a session that is opened again under its name does not keep what it claimed before
 	StartsEmpty    bool // a voter that lost its state starts with an empty one, as if nobody knew of it, and is not quiet
 }
 
@@ -39,6 +40,7 @@ var Duties = []struct {
 	{"goes-on", func(w *Wrong) { w.GoesOn = true }},
 	{"lease-from-reply", func(w *Wrong) { w.LeaseFromReply = true }},
 	{"clocks", func(w *Wrong) { w.Clocks = true }},
+	{"forgets-claims", func(w *Wrong) { w.ForgetsClaims = true }},
 	{"starts-empty", func(w *Wrong) { w.StartsEmpty = true }},
 }
 

@@ -18,6 +18,8 @@ type Bus struct {
 	mutex             sync.Mutex
 	lost, twice, late int // of 100 messages
 	losing            string
+	unknown           []string
+	sees              func(mailbox string, message []byte)
 	boxes             map[string]chan transport.Message
 	also              map[string][]chan transport.Message // of ports that listen beside another one
 	random            *rand.Rand
@@ -41,6 +43,38 @@ func (b *Bus) Lose(text string) {
 	b.mutex.Lock()
 	defer b.mutex.Unlock()
 	b.losing = text
+}
+
+// Without takes the lines of control with these words out of all messages from now on: so nobody hears them, as programs do not that do not
+// know them.
+func (b *Bus) Without(words ...string) {
+	b.mutex.Lock()
+	defer b.mutex.Unlock()
+	b.unknown = words
+}
+
+// Watch calls a function with each message that is sent from now on, also if it is lost.
+func (b *Bus) Watch(sees func(mailbox string, message []byte)) {
+	b.mutex.Lock()
+	defer b.mutex.Unlock()
+	b.sees = sees
+}
+
+// known returns a copy of a message without the lines that nobody knows.
+func (b *Bus) known(message []byte) (known []byte) {
+	if len(b.unknown) == 0 {
+		return append([]byte(nil), message...)
+	}
+	for _, line := range bytes.SplitAfter(message, []byte("\n")) {
+		isKnown := true
+		for _, word := range b.unknown {
+			isKnown = isKnown && !bytes.HasPrefix(line, []byte(". "+word+" ")) && string(line) != ". "+word+"\n"
+		}
+		if isKnown {
+			known = append(known, line...)
+		}
+	}
+	return known
 }
 
 // Port is the end of a bus that one process has. It is a transport.Transport and a transport.Link.
@@ -114,10 +148,13 @@ func (b *Bus) Boxes() int {
 func (p *Port) Send(mailbox string, message []byte) error {
 	p.bus.mutex.Lock()
 	defer p.bus.mutex.Unlock()
+	if p.bus.sees != nil {
+		p.bus.sees(mailbox, message)
+	}
 	if p.cut || p.bus.losing != "" && bytes.Contains(message, []byte(p.bus.losing)) || p.bus.occurs(p.bus.lost) {
 		return nil
 	}
-	message = append([]byte(nil), message...)
+	message = p.bus.known(message)
 	if p.bus.occurs(p.bus.twice) {
 		p.bus.later(mailbox, message)
 	}

@@ -70,6 +70,9 @@ func (d *Daemon) ask(l *letter, speaker qlock.Standing, line []byte, now time.Ti
 	case ask.Kind == wire.SaysNote:
 		l.shard.notes[l.Number] = sessionNote{l.Name, l.Epoch, ask.Text}
 		d.put(l.Name, wire.Told{Kind: wire.Noted}.Append(d.out[l.Name]))
+	case ask.Kind == wire.SaysProcess:
+		l.shard.processes[l.Number] = ofProcess{l.Name, ask.Text}
+		d.put(l.Name, wire.Told{Kind: wire.Bundles}.Append(d.out[l.Name]))
 	case ask.Kind == wire.SaysAbout:
 		d.noteAbout(l, ask)
 	case ask.Kind == wire.WantsTurn:
@@ -104,7 +107,7 @@ func (d *Daemon) holderOf(id uint64, lock string, v *vote, now time.Time) wire.T
 			told.Waiting |= 1 << client
 		}
 	}
-	if v.held.Number == 0 || !d.isQuiet() && v.isOver() { // who is gone gives way to whoever asks
+	if v.held.Number == 0 || !d.isQuiet() && d.mayLetGo(v) { // who is gone gives way to whoever asks
 		return told
 	}
 	client := int(v.held.Client)

@@ -60,6 +60,8 @@ type Daemon struct {
 	sealed   []sealed           // those that leave before, with the lapses of when they were said
 	outBytes int
 	order    []string          // of what leaves
+	bundles  []bundle          // what leaves to processes, in their order
+	ofBox    map[string]int    // which of these is for a mailbox
 	replies  map[string]answer // what operators get after the save, by mailbox
 	room     []byte
 
@@ -579,7 +581,7 @@ func (d *Daemon) roundOf(v *vote, now time.Time) {
 	case !v.isAwaited && !d.isQuiet():
 		v.since = nil
 	}
-	for v.held.Number > 0 && (v.isWanted() || d.isInTheWay(v)) && v.isOver() {
+	for v.held.Number > 0 && (v.isWanted() || d.isInTheWay(v)) && d.mayLetGo(v) {
 		if !d.expire(v, now) {
 			break
 		}
@@ -618,7 +620,7 @@ func (d *Daemon) seal(s *shard, number int) {
 
 // expireFor lets the grants of others go whose sessions are over, for a client that tries to get the vote.
 func (d *Daemon) expireFor(v *vote, client int, now time.Time) {
-	for v.held.Number > 0 && !v.isHolder(client) && v.isOver() && d.expire(v, now) {
+	for v.held.Number > 0 && !v.isHolder(client) && d.mayLetGo(v) && d.expire(v, now) {
 	}
 }
 
@@ -650,8 +652,8 @@ func (d *Daemon) endQuiet(now time.Time) {
 	}
 }
 
-// isOver returns whether the grant of a vote may be let go: its session is dead, or its number has a later one.
-func (v *vote) isOver() bool { return v.shard.isOver(int(v.held.Client), v.held.Stamp) }
+// mayLetGo returns whether the grant of a vote may be let go, as its session is over.
+func (d *Daemon) mayLetGo(v *vote) bool { return d.isOver(v.shard, int(v.held.Client), v.held.Stamp) }
 
 // letGo lets the current grant of a vote go, and tells its client. It returns false if that did not succeed.
 func (d *Daemon) letGo(v *vote, now time.Time) bool {

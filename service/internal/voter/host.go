@@ -251,6 +251,7 @@ func (d *Daemon) deliver() {
 		d.deliverTo(header, session, d.out[session], lapses)
 		delete(d.out, session)
 	}
+	d.deliverBundles()
 	d.order = d.order[:0]
 	for box := range d.replies {
 		d.order = append(d.order, box)
@@ -275,11 +276,18 @@ type sealed struct {
 	lapses  uint64
 }
 
-// deliverTo sends lines to a session, with this count of its lapses.
+// deliverTo sends lines to a session, with this count of its lapses. What goes to a session of a process that takes bundles waits for the
+// others of this turn.
 func (d *Daemon) deliverTo(header wire.Header, session string, lines []byte, lapses uint64) {
 	header.Coterie, header.Lapses = d.speaks(session), lapses
-	box := wire.SessionBox(header.Cluster, session, header.Number)
-	header.Split(lines, func(message []byte) { d.post(box, message) })
+	box, to := wire.SessionBox(header.Cluster, session, header.Number), d.processOf(session)
+	header.Split(lines, func(message []byte) {
+		if to == "" {
+			d.post(box, message)
+			return
+		}
+		d.bundle(wire.SessionBox(header.Cluster, wire.SessionName(userOf(session), to), header.Number), box, nameOf(session), message)
+	})
 }
 
 // post sends one message. What can't be sent is lost: a reminder repeats it.

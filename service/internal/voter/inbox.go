@@ -133,8 +133,20 @@ func (d *Daemon) isMarker(lines string) bool {
 	return true
 }
 
-// sort puts a message into the inbox. Who is of another plan is told which there are.
+// sort puts the messages of a bundle into the inbox, each as if it had come alone. Those behind the most that a bundle may have are lost.
 func (d *Daemon) sort(m transport.Message) {
+	if len(m.Data) > mostMessage {
+		d.sortOne(m)
+		return
+	}
+	all := wire.Messages(m.Data, func(message []byte) { d.sortOne(transport.Message{Mailbox: m.Mailbox, Data: message}) })
+	if !all {
+		d.noRoom.Add(1)
+	}
+}
+
+// sortOne puts a message into the inbox. Who is of another plan is told which there are.
+func (d *Daemon) sortOne(m transport.Message) {
 	d.m.received.Inc()
 	h, lines, err := wire.Read(m.Data)
 	if err == nil && h.Kind == wire.FromVoter && h.Name == d.store.meta.Identity && d.isMarker(string(lines)) {

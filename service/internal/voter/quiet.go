@@ -8,7 +8,7 @@ import (
 
 // The quiet time of a voter that was killed, or began from an older copy: only who says that he is inside gets a vote. What a vote takes
 // then, which grants are from before the start, and which of them go at the end, the proved calls say (TakeFrom, EndQuiet, Stands). Here
-// is when it begins and ends.
+// is when it begins and ends, and that no silence ends anything meanwhile.
 
 // quiet is the quiet time of a voter. It ends when the grants of before the start are let go, and no moment before: what was granted in
 // between would count as one of those.
@@ -78,10 +78,19 @@ func (v *vote) stand() {
 	}
 }
 
+// isOver returns whether the session is over that asked under a stamp of a number. In the quiet time it is only if it has left: a grant of
+// who said that he is inside, and what he said, go for his silence once that time has ended.
+func (d *Daemon) isOver(s *shard, client int, stamp uint64) bool {
+	if d.isQuiet() {
+		return s.hasLeft(client, stamp)
+	}
+	return s.isOver(client, stamp)
+}
+
 // forgetDead forgets those who said of a lock that they are inside, and whose session is over.
 func (d *Daemon) forgetDead(v *vote) {
 	for client, one := range v.asks {
-		if v.shard.isOver(client, one.stamp) {
+		if d.isOver(v.shard, client, one.stamp) {
 			_ = v.since.Forget(uint8(client)) // it never fails: there is such a client
 		}
 	}

@@ -18,6 +18,8 @@ type shard struct {
 	waiting  numberQueue                   // who waits for a number
 	open     int                           // its sessions, and the numbers that may be claimed, when they were counted last
 	free     int
+
+	processes [qlock.MaxClients]ofProcess // of which processes sessions are
 }
 
 // shard returns what is kept of a shard.

@@ -346,6 +346,52 @@ func TestEndOfTheQuietTime(t *testing.T) {
 	}
 }
 
+// No silence ends anything in a quiet time that goes on, as where an old grant can't be let go: not the grant of who said that he is inside,
+// nor what others said who wait for it. Who has left is let go at once, and who is silent still once that time has ended.
+func TestSilenceInTheQuietTime(t *testing.T) {
+	d, _ := alone(t, 10)
+	for number := 1; number <= 4; number++ {
+		d.repliesTo("jobs", number, fmt.Sprintf(". claim %d 1 100\n", number))
+	}
+	d.beQuiet(time.Now())
+	for i, one := range []struct {
+		number      int
+		lines, want string
+	}{
+		{1, "left request 1 0 1 inside\n", "left locked "},
+		{2, "left request 2 0 2 inside\n", "left fail "},
+		{3, "stays request 3 0 3 inside\n", "stays locked "},
+		{2, "stays request 2 0 4 inside\n", "stays fail "},
+	} {
+		if reply := d.repliesTo("jobs", one.number, one.lines); !strings.Contains(reply, one.want) {
+			t.Fatalf("line %d: %q", i, reply)
+		}
+	}
+	later := time.Now().Add(2 * d.leases.ttl)
+	passes(&d.shard(0).table, later)
+	d.quiet.since = d.leases.at(later)
+	holders := func(when string, isAwaited bool, want map[string]uint64) {
+		t.Helper()
+		d.round(later)
+		for name, client := range want {
+			if v := d.votes[name]; v.held.Client != client || v.isAwaited != isAwaited || d.isQuiet() != isAwaited {
+				t.Errorf("%s: %s is had by %d, somebody inside waits: %v, quiet: %v", when, name, v.held.Client, v.isAwaited, d.isQuiet())
+			}
+		}
+	}
+	holders("silent for a TTL", true, map[string]uint64{"left": 1, "stays": 3})
+	d.repliesTo("jobs", 1, ". close\n")
+	holders("closed", true, map[string]uint64{"stays": 3})
+	if client := d.votes["left"].held.Client; client != 2 {
+		t.Errorf("closed: it is had by %d", client)
+	}
+	later = later.Add(2 * d.leases.ttl)
+	passes(&d.shard(0).table, later)
+	d.round(later)
+	d.repliesTo("jobs", 4, "stays request 4 0 5\n")
+	holders("afterwards", false, map[string]uint64{"left": 2, "stays": 4})
+}
+
 // Who gives a grant of before the start back in the quiet time does not get the vote again by it. Somebody else may be inside
 // by a later grant, of which an older copy of the state knows nothing.
 func TestWhatComesBackWhileQuiet(t *testing.T) {

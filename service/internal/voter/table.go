@@ -247,10 +247,19 @@ func (t *table) judge(number int, name string, epoch uint64) qlock.Standing {
 	return standing
 }
 
-// isOver returns whether a grant of a number may be let go, by its stamp.
+// isOver returns whether a grant of a number may be let go, by its stamp: the session that got it has left, or was silent for a TTL.
 func (t *table) isOver(number int, stamp uint64) bool {
-	isOver, err := t.proved.LetsGo(number, stamp, t.clock.IsSilent(t.heard[number], t.ttl), t.byWord[number])
-	return err == nil && isOver
+	return t.letsGo(number, stamp, t.clock.IsSilent(t.heard[number], t.ttl))
+}
+
+// hasLeft returns whether the session that asked under a stamp of a number has left: it closed, or the number has a later session. One that
+// another voter ended may not know so, and has not left.
+func (t *table) hasLeft(number int, stamp uint64) bool { return t.letsGo(number, stamp, false) }
+
+// letsGo returns whether a grant of a number may be let go, by its stamp, if its session is silent, or is not.
+func (t *table) letsGo(number int, stamp uint64, isSilent bool) bool {
+	letsGo, err := t.proved.LetsGo(number, stamp, isSilent, t.byWord[number])
+	return err == nil && letsGo
 }
 
 // admit judges a message, and notes that its session was heard.

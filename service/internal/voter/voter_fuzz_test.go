@@ -207,6 +207,9 @@ func FuzzMessage(f *testing.F) {
 		f.Add(append(saved.Append(nil), lines...))
 	}
 	f.Fuzz(func(t *testing.T, message []byte) {
+		if end := bytes.Index(message, []byte("\n\n")); end >= 0 && bytes.Contains(message[end:], []byte("qlock2 ")) {
+			message = message[:end+2] // it is a bundle (FuzzBundle)
+		}
 		d := s.again(t)
 		rows, locks, held := d.shard(0).rows, d.shard(0).locks, d.votes["orders"].held
 		hand(d, message)

@@ -21,7 +21,7 @@ type Ask struct {
 	Number uint64 // of SaysAbout and WantsTurn the stamp of a request; of AskNames where to go on, 0 to begin
 	Grant  uint64 // of WantsTurn: the number of the grant that the request has here
 	Top    uint64 // of WantsTurn: up to which number the voter is to skip
-	Text   string // a note; of SaysNote "" if there is none
+	Text   string // a note; of SaysNote "" if there is none; of SaysProcess the name of a mailbox
 }
 
 // AskKind is what an Ask is.
@@ -29,13 +29,14 @@ type AskKind byte
 
 // The kinds of Ask.
 const (
-	NoAsk     AskKind = iota // the first word is not known
-	SaysNote                 // note [TEXT]: of the session
-	SaysAbout                // about LOCK STAMP TEXT: a note of a request
-	AskWho                   // who ID LOCK
-	AskNames                 // list ID PLACE [PREFIX]
-	WantsTurn                // turn LOCK STAMP GRANT TOP
-	WantsFor                 // for LOCK: what a session wants a number for. It is in front of hello, and older voters ignore it
+	NoAsk       AskKind = iota // the first word is not known
+	SaysNote                   // note [TEXT]: of the session
+	SaysAbout                  // about LOCK STAMP TEXT: a note of a request
+	AskWho                     // who ID LOCK
+	AskNames                   // list ID PLACE [PREFIX]
+	WantsTurn                  // turn LOCK STAMP GRANT TOP
+	WantsFor                   // for LOCK: what a session wants a number for. It is in front of hello, and older voters ignore it
+	SaysProcess                // process NAME: bundles of messages to sessions of this process may go to the mailbox of this name
 )
 
 // Told is what a voter says to an Ask.
@@ -72,6 +73,7 @@ const (
 	Turned            // turned LOCK STAMP TOP
 	Free              // free: a number is, for who waits for one
 	Wanted            // wanted: somebody waits for a number
+	Bundles           // bundles: the voter reads bundles, and knows the session's process
 )
 
 // IsNote returns whether a text may be a note: 1 to 128 printable bytes of ASCII, with no space at either end.
@@ -97,6 +99,8 @@ func (a Ask) Append(out []byte) []byte {
 		out = withText(withNumber(withNumber(append(out, ". list"...), a.ID), a.Number), a.Lock)
 	case WantsFor:
 		out = withText(append(out, ". for"...), a.Lock)
+	case SaysProcess:
+		out = withText(append(out, ". process"...), a.Text)
 	case WantsTurn:
 		out = withNumber(withNumber(withNumber(withText(append(out, ". turn"...), a.Lock), a.Number), a.Grant), a.Top)
 	}
@@ -125,6 +129,9 @@ func ReadAsk(line []byte) (a Ask, err error) {
 		w.isWrong = w.isWrong || a.Grant > a.Top
 	case "for":
 		a = Ask{Kind: WantsFor, Lock: w.lock()}
+	case "process":
+		a = Ask{Kind: SaysProcess, Text: string(w.next())}
+		w.isWrong = w.isWrong || !IsID([]byte(a.Text))
 	default:
 		return Ask{}, nil
 	}
@@ -158,6 +165,8 @@ func (t Told) Append(out []byte) []byte {
 		out = append(out, ". free"...)
 	case Wanted:
 		out = append(out, ". wanted"...)
+	case Bundles:
+		out = append(out, ". bundles"...)
 	}
 	return append(out, '\n')
 }
@@ -188,6 +197,8 @@ func ReadTold(line []byte) (t Told, ok bool) {
 		t = Told{Kind: Free}
 	case "wanted":
 		t = Told{Kind: Wanted}
+	case "bundles":
+		t = Told{Kind: Bundles}
 	default:
 		return Told{}, false
 	}

@@ -76,6 +76,11 @@
 // A voter sends a marker to itself, from time to time: "marker NUMBER WORD". What was sent to it
 // before comes before the marker.
 //
+// One message to a voter may be a bundle: several messages of sessions of one user, with an empty line between two (bundle.go). A session
+// says "process NAME" for that, and a voter that reads bundles says "bundles". From then on sessions of the process send it bundles, and it
+// sends what it says to sessions of the process at one time to the mailbox of a session of that name, as a bundle. There the first line of
+// each message is "to SESSION". Who does not know these words ignores them, and neither sends bundles nor gets any.
+//
 // A message has at most 256 KiB and a little more, one "hello", one "plan", and 16 lines of
 // control. It ends at its first line that can't be right.
 package wire

@@ -1,0 +1,314 @@
+package locks
+
+import (
+	"bytes"
+	"fmt"
+	"strings"
+	"sync"
+	"testing"
+	"time"
+
+	"calvundek.example/service/internal/wire"
+	"calvundek.example/service/internal/worlds"
+	"calvundek.example/service/transport"
+)
+
+// traffic counts what is sent between clients and voters: messages of the carrier, and how many of them are bundles.
+type traffic struct {
+	mutex                sync.Mutex
+	toVoters, toSessions int
+	bundles              map[string]int // by the mailbox of a voter, and "" for all sessions
+}
+
+// watched counts from now on.
+func watched(w *worlds.World) *traffic {
+	seen := &traffic{bundles: map[string]int{}}
+	w.Bus.Watch(func(mailbox string, message []byte) {
+		seen.mutex.Lock()
+		defer seen.mutex.Unlock()
+		switch isBundle := bytes.Contains(message, []byte("\n\n")); {
+		case strings.HasPrefix(mailbox, "qlock.test.c."):
+			if seen.toSessions++; isBundle {
+				seen.bundles[""]++
+			}
+		case strings.HasPrefix(mailbox, "qlock.test.v.") && strings.HasSuffix(mailbox, "."+wire.NoUser):
+			if seen.toVoters++; isBundle {
+				seen.bundles[mailbox]++
+			}
+		}
+	})
+	return seen
+}
+
+// counts returns what was counted so far, and begins anew.
+func (s *traffic) counts() (messages int, bundles map[string]int) {
+	s.mutex.Lock()
+	defer s.mutex.Unlock()
+	messages, bundles = s.toVoters+s.toSessions, s.bundles
+	s.toVoters, s.toSessions, s.bundles = 0, 0, map[string]int{}
+	return messages, bundles
+}
+
+// passAll passes once through a lock of each shard, with a pause after each.
+func passAll(t *testing.T, w *worlds.World, c *Client, pause time.Duration) {
+	t.Helper()
+	for shard := 0; shard < w.Cluster.Shards; shard++ {
+		time.Sleep(pause)
+		if err := take(t, c, nameIn(w, shard)).Unlock(); err != nil {
+			t.Error(err)
+		}
+	}
+}
+
+// readers returns how many voters said to a client that they read bundles.
+func readers(c *Client) (count int) {
+	b := c.shards.bundles
+	b.mutex.Lock()
+	defer b.mutex.Unlock()
+	for i := range b.to {
+		if b.to[i].reads {
+			count++
+		}
+	}
+	return count
+}
+
+// The sessions of a process that rest beat in one message to each voter, and each voter's replies come in one.
+func TestOneHeartbeatForAllShards(t *testing.T) {
+	const shards, ttl = 32, 4 * time.Second
+	measured := map[bool]int{}
+	for _, bundled := range []bool{false, true} {
+		w := newShards(t, shards, ttl)
+		c := startWith(t, w, Config{})
+		if !bundled {
+			c.shards.bundles = nil
+		}
+		passAll(t, w, c, ttl/4/shards)
+		time.Sleep(ttl / 4) // each heard that voters read bundles
+		seen := watched(w)
+		time.Sleep(ttl)
+		messages, bundles := seen.counts()
+		if measured[bundled] = messages; (len(bundles) == 0) == bundled {
+			t.Errorf("bundles: %v", bundles)
+		}
+		if stats := c.Stats(); stats.Lost > 0 {
+			t.Errorf("%+v", stats)
+		}
+		passAll(t, w, c, 0)
+	}
+	t.Logf("%d sessions, 3 voters, a TTL of %v: %d messages in this time, and %d in bundles", shards, ttl, measured[false], measured[true])
+	if least := 3 * shards * 6; measured[false] < least || measured[true] > measured[false]/10 {
+		t.Errorf("%d messages, and %d in bundles", measured[false], measured[true])
+	}
+}
+
+// Clients that send bundles go on with voters of older programs, and such voters get none. So do clients that send none with voters that read
+// bundles.
+func TestOldAndNewPrograms(t *testing.T) {
+	w := newShards(t, 4, 4*time.Second)
+	seen := watched(w)
+	w.Bus.Without("process")
+	one, other := startWith(t, w, Config{}), startWith(t, w, Config{})
+	for i := 0; i < 3; i++ {
+		passAll(t, w, one, 0)
+		passAll(t, w, other, 0)
+		time.Sleep(time.Second)
+	}
+	if messages, bundles := seen.counts(); len(bundles) > 0 || messages == 0 || readers(one)+readers(other) > 0 {
+		t.Errorf("older voters: %v of %d messages are bundles, %d voters are taken to read them", bundles, messages, readers(one))
+	}
+	w.Bus.Without()
+	newer, older := startWith(t, w, Config{}), startWith(t, w, Config{})
+	older.shards.bundles = nil
+	for i := 0; i < 3; i++ {
+		passAll(t, w, newer, 0)
+		passAll(t, w, older, 0)
+		time.Sleep(time.Second)
+	}
+	if _, bundles := seen.counts(); len(bundles) != 4 || readers(newer) != 3 {
+		t.Errorf("a newer client: %v, %d voters read bundles", bundles, readers(newer))
+	}
+	for _, c := range []*Client{one, other, newer, older} {
+		if stats := c.Stats(); stats.Lost > 0 {
+			t.Errorf("%+v", stats)
+		}
+	}
+}
+
+// A voter that reads bundles, and is started as an older program, gets none once a session heard of the start. Locks that are held stay so.
+func TestVoterBecomesOlder(t *testing.T) {
+	w := newShards(t, 8, 5*time.Second)
+	c := startWith(t, w, Config{})
+	var holds []*Held
+	for shard := 0; shard < 8; shard++ {
+		holds = append(holds, take(t, c, nameIn(w, shard)))
+	}
+	soon(t, "no bundles", func() bool { return readers(c) == 3 })
+	w.Stop(0)
+	w.Bus.Without("process")
+	w.Start(0)
+	soon(t, "it still gets bundles", func() bool { return readers(c) == 2 })
+	seen := watched(w)
+	time.Sleep(2 * time.Second)
+	if _, bundles := seen.counts(); bundles["qlock.test.v.0."+wire.NoUser] > 0 || bundles["qlock.test.v.1."+wire.NoUser] == 0 {
+		t.Errorf("%v", bundles)
+	}
+	for _, held := range holds {
+		if err := held.Unlock(); err != nil {
+			t.Error(err)
+		}
+	}
+}
+
+// inBundles returns a client that sends bundles to all voters, and a function that says what came to a voter.
+func inBundles(t *testing.T) (*table, func() []string) {
+	t.Helper()
+	c := alone(t)
+	c.cluster.Shards = 2
+	c.bundles, c.bundled = &bundles{process: "p", began: time.Now(), carrier: c.carrier}, newMailbox()
+	for v := range c.peers {
+		c.says(v, ". bundles\n. claimed 3 5 0 4096\n")
+	}
+	return c, func() (messages []string) {
+		for len(c.boxes[0]) > 0 {
+			wire.Messages((<-c.boxes[0]).Data, func(message []byte) {
+				_, lines, _ := wire.Read(message)
+				messages = append(messages, string(lines))
+			})
+			messages = append(messages, "")
+		}
+		return messages
+	}
+}
+
+// A heartbeat waits a moment for those of other sessions. A request waits for nothing, and takes along what waits.
+func TestWhatWaits(t *testing.T) {
+	c, came := inBundles(t)
+	other := wire.Header{Cluster: "test", Coterie: c.plan.mark, Kind: wire.FromClient, Number: 7, Epoch: 1, Name: "other"}
+	box := wire.VoterBox("test", 0, wire.NoUser)
+	c.flush()
+	came()
+	c.beat = time.Now().Add(-time.Hour)
+	c.round(time.Now())
+	if c.flush(); len(c.boxes[0]) > 0 {
+		t.Fatalf("a heartbeat leaves at once: %q", came())
+	}
+	c.bundles.send(0, box, append(other.Append(nil), "orders request 7 0 1\n"...), false)
+	if messages := came(); len(messages) != 3 || !strings.HasPrefix(messages[0], ". open 0\n") || messages[1] != "orders request 7 0 1\n" || messages[2] != "" {
+		t.Errorf("%q", messages)
+	}
+	c.bundles.send(0, box, append(other.Append(nil), "orders request 7 0 2\n"...), false)
+	if messages := came(); len(messages) != 2 || messages[0] != "orders request 7 0 2\n" {
+		t.Errorf("%q", messages)
+	}
+	c.beat = time.Now().Add(-time.Hour)
+	c.round(time.Now())
+	c.flush()
+	c.bundles.send(0, box, append(other.Append(nil), ". open 0\n"...), true)
+	soon(t, "heartbeats do not leave", func() bool { return len(c.boxes[0]) > 0 })
+	if messages := came(); len(messages) != 3 || messages[1] != ". open 0\n" {
+		t.Errorf("%q", messages)
+	}
+}
+
+// A request waits for nothing, also if it leaves in the same turn as a heartbeat.
+func TestRequestWithAHeartbeat(t *testing.T) {
+	c, _ := inBundles(t)
+	c.beat = time.Now().Add(-time.Hour)
+	if c.round(time.Now()); c.enqueue("orders", &waiter{got: make(chan *Held, 1), since: time.Now()}) != nil {
+		t.Fatal("nothing is asked")
+	}
+	asked := 0
+	for _, lines := range c.sent() {
+		for _, line := range lines {
+			if strings.HasPrefix(line, "orders request ") {
+				asked++
+			}
+		}
+	}
+	if asked < 2 {
+		t.Errorf("%d voters are asked at once", asked)
+	}
+}
+
+// What is more than a bundle may have leaves in the next one.
+func TestBundleIsFull(t *testing.T) {
+	c, _ := inBundles(t)
+	other := wire.Header{Cluster: "test", Coterie: c.plan.mark, Kind: wire.FromClient, Number: 7, Epoch: 1, Name: "other"}
+	long := append(other.Append(nil), strings.Repeat("orders release 7 0 1\n", wire.MostBytes/30)...)
+	for i := 0; i < 2; i++ {
+		c.bundles.send(1, wire.VoterBox("test", 1, wire.NoUser), long, true)
+	}
+	for i := 0; i < 2; i++ {
+		if m := <-c.boxes[1]; len(m.Data) != len(long) {
+			t.Errorf("a message of %d bytes, and each of those in it has %d", len(m.Data), len(long))
+		}
+	}
+}
+
+// A voter is told of which process a session is until it says that it reads bundles, and less and less often. One that started is told again,
+// and gets no bundle before it says so.
+func TestWhoReadsBundles(t *testing.T) {
+	c, _ := inBundles(t)
+	said := func(voter int) int { return c.lines(voter, ". process p") }
+	beats := func(n int) {
+		for i := 0; i < n; i++ {
+			c.heartbeat(time.Now())
+			c.flush()
+		}
+	}
+	said(0)
+	if beats(3); said(0) != 0 {
+		t.Error("it is said to who said that it reads bundles")
+	}
+	h := wire.Header{Cluster: "test", Coterie: c.plan.mark, Kind: wire.FromVoter, Number: 0, Name: "identity-0", Start: 2}
+	if hear(c.Client, h, ". opened 3 5 0 4096 1 0\n"); c.bundles.to[0].reads || !c.bundles.to[1].reads {
+		t.Error("a voter that started reads bundles")
+	}
+	if beats(20); said(0) != 5 {
+		t.Error("it is not said to a voter that started, or too often")
+	}
+	h.Start = 1
+	if hear(c.Client, h, ". bundles\n"); c.bundles.to[0].reads {
+		t.Error("a word from before the start counts")
+	}
+	h.Start = 2
+	if hear(c.Client, h, ". bundles\n"); !c.bundles.to[0].reads {
+		t.Error("the word of a voter that started does not count")
+	}
+}
+
+// A session takes no message to another one, and what a bundle has for a session that is not there is lost. There is room for a bounded
+// number of messages and bytes.
+func TestMessagesToSessions(t *testing.T) {
+	c, _ := inBundles(t)
+	h := wire.Header{Cluster: "test", Coterie: c.plan.mark, Kind: wire.FromVoter, Number: 1, Name: "identity-1"}
+	lines := append(h.Append(nil), ". taken 3 5\n"...)
+	if c.message(came(c.Client, 1, wire.AddressTo("another", lines))); c.takers() != 0 || c.stats.Refused != 1 {
+		t.Errorf("a message to another session is taken: %b", c.takers())
+	}
+	s := &shards{boxes: map[string]*mailbox{c.header.Name: c.bundled}}
+	var b wire.Bundle
+	b.Add(wire.AddressTo("another", lines))
+	b.Add(lines)
+	b.Add([]byte("junk\n"))
+	b.Add(wire.AddressTo(c.header.Name, lines))
+	s.unbundle(came(c.Client, 1, b.Take()))
+	if len(c.inBundles()) != 1 || s.past.Refused != 3 {
+		t.Errorf("%d messages come, %d are refused", len(c.inBundles()), s.past.Refused)
+	}
+	if c.messageOfBundle(<-c.inBundles()); c.takers() != 1<<1 || c.bundled.bytes != 0 {
+		t.Errorf("taken by %b, %d bytes wait", c.takers(), c.bundled.bytes)
+	}
+	small := newMailbox()
+	for i := 0; i < 2*mostBundled; i++ {
+		small.put(transport.Message{Data: []byte("x")})
+	}
+	large := newMailbox()
+	for i := 0; i < 10; i++ {
+		large.put(transport.Message{Data: make([]byte, wire.MostBytes)})
+	}
+	if len(small.messages) != mostBundled || len(large.messages) != roomBundled/wire.MostBytes {
+		t.Error(fmt.Sprint(len(small.messages), " small messages wait, and ", len(large.messages), " large ones"))
+	}
+}
