@@ -298,10 +298,12 @@ fn holder_of(words: &[u64; 3]) -> Option<Option<Holder>>
     ensures read { (h : Option HolderSpec) → words.now ≡ holder_words h → result ≡ Some h }
 {
     let [has_lock, request, is_lost] = *words;
-    let is_lost = bool_of(is_lost)?;
     match (has_lock, request, is_lost) {
-        (0, 0, false) => Some(None),
-        (1, request, is_lost) => Some(Some(Holder { request, is_lost })),
+        (0, 0, 0) => Some(None),
+        (1, request, is_lost) => Some(Some(Holder {
+            request,
+            is_lost: bool_of(is_lost)?,
+        })),
         _ => None,
     }
 }

@@ -1,0 +1,1 @@
+-- whoever was told that it has the lock has its votes
