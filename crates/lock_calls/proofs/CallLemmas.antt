@@ -226,3 +226,34 @@ pub said_once : (c : Calls) (request : ℕ) (phase : Phase) (steps : List CallSt
 said_once c request phase steps has kept =
     told_answers (all_call_stepped (lost c) steps) request phase
     (steps_told (lost c) steps request (lost_has c has.0 has.1 ∙ ap (λ (r : ℕ). Some (holder_of r true)) has.2) kept)
+
+-- ---- who had the lock before a step
+
+same_lock : (c next : Calls) (request : ℕ) → next.holder ≡ c.holder → HasLock next request → HasLock c request
+same_lock c next request same has = (has.0, sym same ∙ has.1, has.2)
+
+lost_had : (o : Option Holder) (request : ℕ) (h : Holder) → told_lost o ≡ Some h → h.request ≡ request → (g : Holder) × (o ≡ Some g) × (g.request ≡ request)
+lost_had None request h is same = absurd (none-some h is)
+lost_had (Some g) request h is same = (g, refl, ap (λ (x : Holder). x.request) (same_Some (holder_of g.request true) h is) ∙ same)
+
+unlocked_had : (c : Calls) (under : Bool) (request : ℕ) → HasLock (if under then record c { holder = None } else c) request → HasLock c request
+unlocked_had c true request has = absurd (none-some has.0 has.1)
+unlocked_had c false request has = has
+
+pub not_handed_had : (c : Calls) (phase : Phase) (counts : Bool) (request : ℕ) → may_hand c phase counts ≡ false → HasLock (handed c phase counts) request → HasLock c request
+not_handed_had c phase counts request may has = same_lock c (handed c phase counts) request (ap (λ (x : Calls). x.holder) (not_handed c phase counts may)) has
+
+pub wants_had : (c : Calls) (phase : Phase) (tries : Bool) (request : ℕ) → HasLock (wanted c phase tries) request → HasLock c request
+wants_had c phase tries request has = same_lock c (wanted c phase tries) request (wanted_holder c phase tries) has
+
+pub unwants_had : (c : Calls) (tries : Bool) (request : ℕ) → HasLock (unwanted c tries) request → HasLock c request
+unwants_had c tries request has = same_lock c (unwanted c tries) request (unwanted_holder c tries) has
+
+pub refuses_had : (c : Calls) (phase : Phase) (request : ℕ) → HasLock (tries_refused c phase) request → HasLock c request
+refuses_had c phase request has = same_lock c (tries_refused c phase) request (refused_holder c phase) has
+
+pub unlocks_had : (c : Calls) (other request : ℕ) → HasLock (unlocked c other) request → HasLock c request
+unlocks_had c other request has = unlocked_had c (is_under c.holder other) request has
+
+pub loses_had : (c : Calls) (request : ℕ) → HasLock (lost c) request → HasLock c request
+loses_had c request has = lost_had c.holder request has.0 has.1 has.2
