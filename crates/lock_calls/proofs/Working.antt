@@ -17,7 +17,7 @@ use Rattle.vote_leases.specs.declared.incarnation.Incarnation.{Incarnation}
 use Rattle.vote_leases.proofs.Evidence.{Counted, and_true, counted_votes, more_leases, more_votes, stands_counted}
 use Rattle.vote_leases.proofs.Stands.{begun_stands}
 use Rattle.vote_leases.proofs.Steps.{IsKept as StandsFor, step_on}
-use Rattle.lock_calls.specs.Calls.{call_fault, ends_try, handed_under, is_under, may_hand, one_more, told_lost}
+use Rattle.lock_calls.specs.Calls.{may_hand}
 use Rattle.lock_calls.specs.Steps.{CallStep, Closes, Empties, Hands, HasLock, MayBeLost, RefusesTries, Unlocks, Unwants, Wants, call_stepped}
 use Rattle.lock_calls.specs.Worlds.{AreTrue, CallWorks, Caller, CallerStep, Comes, CountsTo, EndsLater, Goes, HasVotesTo, If, IsHanded, IsTrue, StepsLater, Tells, begun_caller, caller_after, caller_then, steps_of, until_then, world_then}
 use Rattle.lock_calls.specs.declared.calls.Calls.{Calls}
@@ -341,3 +341,12 @@ one_call_works lapses a b ttl lease stop periods voters sessions used steps quor
     one_works a b ttl lease stop periods voters sessions (events_of (steps_of steps)) quorums me request other another some rated bound meet
     (call_has_votes lapses ttl lease stop periods voters sessions (used me) steps quorums me request meet told mine first)
     (call_has_votes lapses ttl lease stop periods voters sessions (used other) steps quorums other another meet told others second)
+
+-- ---- the example
+
+abbrev holder_under : ℕ → Holder
+holder_under request = record { request = request; is_lost = false }
+
+-- it is this request under which the call has the lock
+pub is_one : (first request : ℕ) (h : Holder) → Some (holder_under first) ≡ Some h → h.request ≡ request → first ≡ request
+is_one first request h has is = ap (λ (x : Holder). x.request) (same_Some (holder_under first) h has) ∙ is
