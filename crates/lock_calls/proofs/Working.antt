@@ -1,6 +1,6 @@
 -- whoever was told that it has the lock has its votes, until it gives them back
 use Rattle.std.proofs.Common.{◌≡◌, ℕ, ◌+◌, ◌*◌, ◌≤◌, ◌<◌, Bool, true, false, List, [], ◌∷◌, refl, sym, ap, subst, ◌∙◌, ◌⊎◌, inl, inr, Option, Some, None, arith}
-use Rattle.std.specs.Prelude.{◌==◌, ◌&&◌, ◌||◌, max, min, nat_lt, not, if◌then◌else◌}
+use Rattle.std.specs.Prelude.{◌==◌, ◌&&◌, ◌||◌, is_some, max, min, nat_lt, not, if◌then◌else◌}
 use Rattle.std.specs.List.{AllByRecursion, list_all, slice_get}
 use Rattle.std.proofs.lemmas.Bool.{eqb-true, eq-eqb, false≢true}
 use Rattle.std.proofs.lemmas.Bool.Decides.{nat_tests}
@@ -17,13 +17,13 @@ use Rattle.vote_leases.specs.declared.incarnation.Incarnation.{Incarnation}
 use Rattle.vote_leases.proofs.Evidence.{Counted, and_true, counted_votes, more_leases, more_votes, stands_counted}
 use Rattle.vote_leases.proofs.Stands.{begun_stands}
 use Rattle.vote_leases.proofs.Steps.{IsKept as StandsFor, step_on}
-use Rattle.lock_calls.specs.Calls.{may_hand}
+use Rattle.lock_calls.specs.Calls.{handed, has_lock, is_under, may_end, may_hand}
 use Rattle.lock_calls.specs.Steps.{CallStep, Closes, Empties, Hands, HasLock, MayBeLost, RefusesTries, Unlocks, Unwants, Wants, call_stepped}
 use Rattle.lock_calls.specs.Worlds.{AreTrue, CallWorks, Caller, CallerStep, Comes, CountsTo, EndsLater, Goes, HasVotesTo, If, IsHanded, IsTrue, StepsLater, Tells, begun_caller, caller_after, caller_then, steps_of, until_then, world_then}
 use Rattle.lock_calls.specs.declared.calls.Calls.{Calls}
 use Rattle.lock_calls.specs.declared.calls.Holder.{Holder}
-use Rattle.lock_calls.specs.declared.calls.Phase.{Phase}
-use Rattle.lock_calls.proofs.CallLemmas.{loses_had, not_handed_had, refuses_had, unlocks_had, unwants_had, wants_had}
+use Rattle.lock_calls.specs.declared.calls.Phase.TheVariants.{Idle, Asking, Inside}
+use Rattle.lock_calls.proofs.CallLemmas.{handed_has, loses_had, not_handed_had, refuses_had, unlocks_had, unwants_had, wants_had}
 
 -- ---- what a call has been told stands for messages that its session took
 
@@ -78,8 +78,8 @@ renews_stays request me place s (Some a) =
       | false ↦ same_stays request s
       | true ↦ record {
         counted = λ voter beat c.
-          set_by (λ v leases. Counted (s.votes v) (s.leases v) (s.returned v) request beat → Counted (s.votes v) leases (s.returned v) request beat) s.leases place (a ∷ s.leases place) voter
-          (λ had. more_leases a (s.votes place) (s.leases place) (s.returned place) request beat had) (λ apart had. had) c;
+            set_by (λ v leases. Counted (s.votes v) (s.leases v) (s.returned v) request beat → Counted (s.votes v) leases (s.returned v) request beat) s.leases place (a ∷ s.leases place) voter
+            (λ had. more_leases a (s.votes place) (s.leases place) (s.returned place) request beat had) (λ apart had. had) c;
         goes_on = λ on. on;
       }
     ]
@@ -92,8 +92,8 @@ takes_stays span request me place s (Some m) =
       | false ↦ same_stays request s
       | true ↦ record {
         counted = λ voter beat c.
-          set_by (λ v votes. Counted (s.votes v) (s.leases v) (s.returned v) request beat → Counted votes (s.leases v) (s.returned v) request beat) s.votes place (m ∷ s.votes place) voter
-          (λ had. more_votes m (s.votes place) (s.leases place) (s.returned place) request beat had) (λ apart had. had) c;
+            set_by (λ v votes. Counted (s.votes v) (s.leases v) (s.returned v) request beat → Counted votes (s.leases v) (s.returned v) request beat) s.votes place (m ∷ s.votes place) voter
+            (λ had. more_votes m (s.votes place) (s.leases place) (s.returned place) request beat had) (λ apart had. had) c;
         goes_on = λ on. on;
       }
     ]
@@ -117,6 +117,12 @@ so_if : (b : Bool) (P : Type 0) → If b P → b ≡ true → P
 so_if true P has is = has
 so_if false P has is = absurd (false≢true is)
 
+not_ended : (c : Calls) (request : ℕ) → HasLock c request → may_end c request ≡ true → ⊥
+not_ended c request has may = false≢true (sym (ap (λ (o : Option Holder). not (is_under o request)) has.1 ∙ ap not (eq-eqb has.0.request request has.2)) ∙ may)
+
+none_free : (c : Calls) (request : ℕ) → HasLock c request → has_lock c ≡ false → ⊥
+none_free c request has free = false≢true (sym free ∙ ap is_some has.1)
+
 event_stays : (ttl span me request : ℕ) (w : World) (c : Calls) (e : Event) → HasLock c request → EndsLater me c e → Stays request (w.sessions me) ((after ttl span w e).sessions me)
 event_stays ttl span me request w c (Passes voters sessions) has later = record { counted = λ voter beat c. c; goes_on = λ on. on }
 event_stays ttl span me request w c (Beats session) has later =
@@ -137,12 +143,12 @@ event_stays ttl span me request w c (Takes session voter place) has later =
 event_stays ttl span me request w c (Ends session ended) has later =
     own_stays request session me w.sessions (λ x. has_ended (w.sessions x) ended)
     (λ e. ended_stays request ended (w.sessions me)
-    (λ same. so_if (session == me) (HasLock c ended → ⊥) later e (subst (λ (r : ℕ). HasLock c r) same has)))
+    (λ same. not_ended c ended (subst (λ (r : ℕ). HasLock c r) same has) (so_if (session == me) (may_end c ended ≡ true) later e)))
 event_stays ttl span me request w c (Released session voter ended) has later =
     if_world request me (is_among ended (w.sessions session).ended) w (with_voter w voter (ends (w.voters voter) (w.voters voter).quiet (is_of_request session ended))) (same_stays request (w.sessions me))
 event_stays ttl span me request w c (GivesBack session voter number) has later =
     own_stays request session me w.sessions (λ x. has_returned (w.sessions x) voter number)
-    (λ e. absurd (so_if (session == me) ((r : ℕ) → HasLock c r → ⊥) later e request has))
+    (λ e. absurd (none_free c request has (so_if (session == me) (has_lock c ≡ false) later e)))
 event_stays ttl span me request w c (Relinquished session voter number) has later =
     if_world request me (is_among number ((w.sessions session).returned voter)) w (with_voter w voter (ends (w.voters voter) (w.voters voter).quiet (is_of_number session number))) (same_stays request (w.sessions me))
 event_stays ttl span me request w c (LetsGo voter) has later = same_stays request (w.sessions me)
@@ -219,20 +225,28 @@ goes_on : (lapses : ℕ → ℕ → Incarnation → ℕ) (ttl lease stop me : �
 goes_on lapses ttl lease stop me quorums w o s told later holds = record {
   kept = step_on lapses ttl lease stop me w o.kept s told holds.kept;
   told = λ request has.
-    has_on lease quorums (w.sessions me) ((world_then ttl (lease + stop) w (Goes s)).sessions me) request o.until (step_stays ttl (lease + stop) lease me request w o s has later) (holds.told request has);
+      has_on lease quorums (w.sessions me) ((world_then ttl (lease + stop) w (Goes s)).sessions me) request o.until (step_stays ttl (lease + stop) lease me request w o s has later) (holds.told request has);
 }
+
+-- one call has the lock
+only_one : (c : Calls) (request other : ℕ) → HasLock c request → HasLock c other → request ≡ other
+only_one c request other one two = sym one.2 ∙ ap (λ (h : Holder). h.request) (same_Some one.0 two.0 (sym one.1 ∙ two.1)) ∙ two.2
 
 -- something comes to the calls of this session
 comes_told : (tell : ℕ → Incarnation → ℕ) (lease : ℕ) (quorums : List (List ℕ)) (o : Caller) (session : Session) (s : CallStep) (time : ℕ) → DoMeet quorums
-    → IsHanded lease session.time quorums o s time → HoldsOf tell lease quorums o session
+    → IsHanded lease quorums o s time → HoldsOf tell lease quorums o session
     → HasTold lease quorums (record { kept = o.kept; calls = call_stepped o.calls s; until = until_then o.calls s time o.until }) session
 comes_told tell lease quorums o session (Wants phase tries) time meet is holds = λ request has. holds.told request (wants_had o.calls phase tries request has)
 comes_told tell lease quorums o session (Unwants tries) time meet is holds = λ request has. holds.told request (unwants_had o.calls tries request has)
 comes_told tell lease quorums o session (RefusesTries phase) time meet is holds = λ request has. holds.told request (refuses_had o.calls phase request has)
-comes_told tell lease quorums o session (Hands phase counts) time meet is holds = λ request has.
-    elim (may_hand o.calls phase counts) as (λ b. may_hand o.calls phase counts ≡ b → HasEvidence lease quorums session request (if b then time else o.until)) [
-      | true ↦ λ e. votes_evidence tell lease request time quorums o.kept session meet holds.kept (is e request has).0
-      | false ↦ λ e. holds.told request (not_handed_had o.calls phase counts request e has)
+comes_told tell lease quorums o session (Hands Idle counts) time meet is holds = λ request has. holds.told request has
+comes_told tell lease quorums o session (Hands Asking counts) time meet is holds = λ request has. holds.told request has
+comes_told tell lease quorums o session (Hands (Inside under) counts) time meet is holds = λ request has.
+    elim (may_hand o.calls (Inside under) counts) as (λ b. may_hand o.calls (Inside under) counts ≡ b → HasEvidence lease quorums session request (if b then time else o.until)) [
+      | true ↦ λ e.
+          votes_evidence tell lease request time quorums o.kept session meet holds.kept
+          (subst (λ (r : ℕ). HasVotesTo lease quorums o.kept r time) (only_one (handed o.calls (Inside under) counts) under request (handed_has o.calls under counts e) has) (is e))
+      | false ↦ λ e. holds.told request (not_handed_had o.calls (Inside under) counts request e has)
     ] refl
 comes_told tell lease quorums o session (Unlocks other) time meet is holds = λ request has. holds.told request (unlocks_had o.calls other request has)
 comes_told tell lease quorums o session MayBeLost time meet is holds = λ request has. holds.told request (loses_had o.calls request has)
@@ -240,7 +254,7 @@ comes_told tell lease quorums o session Empties time meet is holds = λ request 
 comes_told tell lease quorums o session Closes time meet is holds = λ request has. holds.told request has
 
 comes_on : (tell : ℕ → Incarnation → ℕ) (lease : ℕ) (quorums : List (List ℕ)) (o : Caller) (session : Session) (s : CallStep) (time : ℕ) (own : Bool) → DoMeet quorums
-    → If own (IsHanded lease session.time quorums o s time) → HoldsOf tell lease quorums o session
+    → If own (IsHanded lease quorums o s time) → HoldsOf tell lease quorums o session
     → HoldsOf tell lease quorums (if own then record { kept = o.kept; calls = call_stepped o.calls s; until = until_then o.calls s time o.until } else o) session
 comes_on tell lease quorums o session s time false meet is holds = holds
 comes_on tell lease quorums o session s time true meet is holds = record { kept = holds.kept; told = comes_told tell lease quorums o session s time meet is holds }
@@ -261,8 +275,8 @@ tells_on tell lease quorums o session time false meet is holds = holds
 tells_on tell lease quorums o session time true meet is holds = record {
   kept = holds.kept;
   told = λ request has.
-    later_evidence lease quorums session request o.until time (holds.told request has)
-    (votes_evidence tell lease request time quorums o.kept session meet holds.kept (is request has));
+      later_evidence lease quorums session request o.until time (holds.told request has)
+      (votes_evidence tell lease request time quorums o.kept session meet holds.kept (is request has));
 }
 
 -- ---- all steps
@@ -324,7 +338,7 @@ call_has_votes lapses ttl lease stop periods voters sessions used steps quorums 
       quorum = has.quorum;
       is_quorum = has.is_quorum;
       works = and_true (not (is_among request (w.sessions me).ended)) (list_all (has_vote (lease + stop) (w.sessions me) request) has.quorum)
-        (ap not has.goes_on) (all_have lease stop request o.until (w.sessions me) has.quorum works.1 has.counted);
+          (ap not has.goes_on) (all_have lease stop request o.until (w.sessions me) has.quorum works.1 has.counted);
     }
 
 pub one_call_works : (lapses : ℕ → ℕ → Incarnation → ℕ) (a b ttl lease stop : ℕ) (periods voters sessions used : ℕ → ℕ) (steps : List CallerStep) (quorums : List (List ℕ)) (me request other another : ℕ)
@@ -341,12 +355,3 @@ one_call_works lapses a b ttl lease stop periods voters sessions used steps quor
     one_works a b ttl lease stop periods voters sessions (events_of (steps_of steps)) quorums me request other another some rated bound meet
     (call_has_votes lapses ttl lease stop periods voters sessions (used me) steps quorums me request meet told mine first)
     (call_has_votes lapses ttl lease stop periods voters sessions (used other) steps quorums other another meet told others second)
-
--- ---- the example
-
-abbrev holder_under : ℕ → Holder
-holder_under request = record { request = request; is_lost = false }
-
--- it is this request under which the call has the lock
-pub is_one : (first request : ℕ) (h : Holder) → Some (holder_under first) ≡ Some h → h.request ≡ request → first ≡ request
-is_one first request h has is = ap (λ (x : Holder). x.request) (same_Some (holder_under first) h has) ∙ is

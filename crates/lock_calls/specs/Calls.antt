@@ -100,6 +100,10 @@ abbrev pub is_under : Option Holder → ℕ → Bool
 is_under None request = false
 is_under (Some h) request = h.request == request
 
+-- The session may end its request of this stamp: no call has the lock under it.
+abbrev pub may_end : Calls → ℕ → Bool
+may_end c request = not (is_under c.holder request)
+
 -- whether a call was told that the lock may be lost
 abbrev pub was_lost : Option Holder → Option Bool
 was_lost None = None

@@ -12,13 +12,28 @@ abbrev pub goes : List Step → List CallerStep
 goes [] = []
 goes (s ∷ steps) = Goes s ∷ goes steps
 
--- a call of session 7 comes, the session gets its votes, and hands the lock to the call
-abbrev pub a_call_of_seven : List CallerStep
-a_call_of_seven = Comes 7 (Wants Idle false) 0 ∷ goes asks_and_works ++ Comes 7 (Hands (Inside 1) true) 189 ∷ []
+-- a call of session 7 comes, and the session gets its votes
+abbrev pub seven_comes : List CallerStep
+seven_comes = Comes 7 (Wants Idle false) 0 ∷ goes asks_and_works
 
--- It gives the lock back, and the session leaves. A voter lets its vote go, as the session falls silent, and a call of session 8 gets the
--- lock.
+-- the lock is handed to the call
+abbrev pub seven_is_handed : CallerStep
+seven_is_handed = Comes 7 (Hands (Inside 1) true) 189
+
+abbrev pub a_call_of_seven : List CallerStep
+a_call_of_seven = seven_comes ++ seven_is_handed ∷ []
+
+-- It gives the lock back, and the session leaves.
+abbrev pub seven_unlocks : List CallerStep
+seven_unlocks = Comes 7 (Unlocks 1) 0 ∷ Goes (Happens (Ends 7 1) first) ∷ []
+
+-- A call of session 8 comes that only tries. A voter lets the vote of session 7 go, as that is silent, and session 8 gets its votes.
+abbrev pub eight_comes : List CallerStep
+eight_comes = Comes 8 (Wants Idle true) 0 ∷ goes is_followed
+
+-- the lock is handed to that call, which is told again up to when it has it
+abbrev pub eight_is_handed : List CallerStep
+eight_is_handed = Comes 8 (Hands (Inside 1) true) 306 ∷ Tells 8 306 ∷ []
+
 abbrev pub a_call_of_eight : List CallerStep
-a_call_of_eight =
-    Comes 7 (Unlocks 1) 0 ∷ Goes (Happens (Ends 7 1) first) ∷ Comes 8 (Wants Idle true) 0 ∷ goes is_followed
-    ++ Comes 8 (Hands (Inside 1) true) 306 ∷ Tells 8 306 ∷ []
+a_call_of_eight = seven_unlocks ++ eight_comes ++ eight_is_handed

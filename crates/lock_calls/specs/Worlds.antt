@@ -5,9 +5,10 @@ use Rattle.working.specs.Events.{Ends, Event, GivesBack, IsOneOf, World}
 use Rattle.vote_leases.specs.Leases.{until}
 use Rattle.vote_leases.specs.Sessions.{Asks, Happens, Holds, Kept, Learns, Step, begun as begun_kept, stepped, world_after}
 use Rattle.vote_leases.specs.declared.incarnation.Incarnation.{Incarnation}
-use Rattle.lock_calls.specs.Calls.{begun, may_hand}
+use Rattle.lock_calls.specs.Calls.{begun, has_lock, may_end, may_hand}
 use Rattle.lock_calls.specs.Steps.{CallStep, Closes, Empties, Hands, HasLock, MayBeLost, RefusesTries, Unlocks, Unwants, Wants, call_stepped}
 use Rattle.lock_calls.specs.declared.calls.Calls.{Calls}
+use Rattle.lock_calls.specs.declared.calls.Phase.TheVariants.{Idle, Asking, Inside}
 
 -- what a session keeps of its votes, its calls, and up to when the call that has the lock was told that it has it, by the session's clock
 pub record Caller : Type 0 where
@@ -88,8 +89,8 @@ If true P = P
 
 -- While a call has the lock, its request does not end, and no vote is given back: `next` and `spoiled` ask for neither.
 abbrev pub EndsLater : ℕ → Calls → Event → Type 0
-EndsLater me c (Ends session request) = If (session == me) (HasLock c request → ⊥)
-EndsLater me c (GivesBack session voter number) = If (session == me) ((request : ℕ) → HasLock c request → ⊥)
+EndsLater me c (Ends session request) = If (session == me) (may_end c request ≡ true)
+EndsLater me c (GivesBack session voter number) = If (session == me) (has_lock c ≡ false)
 EndsLater me c e = Unit {0}
 
 abbrev pub StepsLater : ℕ → Calls → Step → Type 0
@@ -98,23 +99,23 @@ StepsLater me c (Asks session request) = Unit {0}
 StepsLater me c (Learns session voter i) = Unit {0}
 StepsLater me c (Holds session voter) = Unit {0}
 
--- A call gets the lock only if votes count for its request up to the time that it is told, and that is not over.
-abbrev pub IsHanded : ℕ → ℕ → List (List ℕ) → Caller → CallStep → ℕ → Type 0
-IsHanded lease now quorums o (Hands phase counts) time =
-    may_hand o.calls phase counts ≡ true
-    → (request : ℕ) → HasLock (call_stepped o.calls (Hands phase counts)) request → HasVotesTo lease quorums o.kept request time × (now < time)
-IsHanded lease now quorums o (Wants phase tries) time = Unit {0}
-IsHanded lease now quorums o (Unwants tries) time = Unit {0}
-IsHanded lease now quorums o (RefusesTries phase) time = Unit {0}
-IsHanded lease now quorums o (Unlocks request) time = Unit {0}
-IsHanded lease now quorums o MayBeLost time = Unit {0}
-IsHanded lease now quorums o Empties time = Unit {0}
-IsHanded lease now quorums o Closes time = Unit {0}
+-- A call gets the lock only if votes count for its request up to the time that it is told.
+abbrev pub IsHanded : ℕ → List (List ℕ) → Caller → CallStep → ℕ → Type 0
+IsHanded lease quorums o (Hands (Inside request) counts) time = may_hand o.calls (Inside request) counts ≡ true → HasVotesTo lease quorums o.kept request time
+IsHanded lease quorums o (Hands Idle counts) time = Unit {0}
+IsHanded lease quorums o (Hands Asking counts) time = Unit {0}
+IsHanded lease quorums o (Wants phase tries) time = Unit {0}
+IsHanded lease quorums o (Unwants tries) time = Unit {0}
+IsHanded lease quorums o (RefusesTries phase) time = Unit {0}
+IsHanded lease quorums o (Unlocks request) time = Unit {0}
+IsHanded lease quorums o MayBeLost time = Unit {0}
+IsHanded lease quorums o Empties time = Unit {0}
+IsHanded lease quorums o Closes time = Unit {0}
 
 -- what this session does in a step is what its calls and its votes say
 abbrev pub IsTrue : ℕ → ℕ → List (List ℕ) → World → Caller → CallerStep → Type 0
 IsTrue lease me quorums w o (Goes s) = StepsLater me o.calls s
-IsTrue lease me quorums w o (Comes session s time) = If (session == me) (IsHanded lease (w.sessions me).time quorums o s time)
+IsTrue lease me quorums w o (Comes session s time) = If (session == me) (IsHanded lease quorums o s time)
 IsTrue lease me quorums w o (Tells session time) = If (session == me) ((request : ℕ) → HasLock o.calls request → HasVotesTo lease quorums o.kept request time)
 
 abbrev pub AreTrue : ℕ → ℕ → ℕ → ℕ → List (List ℕ) → World → Caller → List CallerStep → Type 0

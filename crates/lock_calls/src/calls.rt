@@ -1,6 +1,6 @@
 //! The calls of one process for one lock.
 ghost use Rattle.std.specs.Prelude.{◌≡◌, IfSome, Some, None, Option, Bool, OnOk, IfErr};
-ghost use Rattle.lock_calls.specs.Calls.{begun, call_fault, closed, emptied, ends_try, bool_word, handed, holder_words, is_new_loss, lost, lost_of, may_hand, next, somebody_waits, spoiled, tries_refused, unlocked, unwanted, wanted, words_of};
+ghost use Rattle.lock_calls.specs.Calls.{begun, call_fault, closed, emptied, ends_try, bool_word, handed, holder_words, is_new_loss, lost, lost_of, may_end, may_hand, next, somebody_waits, spoiled, tries_refused, unlocked, unwanted, wanted, words_of};
 ghost use Rattle.lock_calls.specs.declared.calls.Calls.{Calls};
 ghost use Rattle.lock_calls.specs.declared.calls.Holder.{Holder as HolderSpec};
 
@@ -168,6 +168,17 @@ impl Calls {
         }
         self.holder = None;
         Some(holder.is_lost)
+    }
+
+    /// Returns whether the session may end its request of this stamp: no call has the lock under it. It gives up, and leaves,
+    /// only then. While any call has the lock, it gives no vote back.
+    pub fn may_end(&self, request: u64) -> bool
+        ensures { result ≡ may_end self.now request }
+    {
+        match self.holder {
+            None => true,
+            Some(holder) => holder.request != request,
+        }
     }
 
     /// Notes that the lock may be lost. Returns whether the call that has it has to be told: it was not told before.
