@@ -7,19 +7,19 @@ use Rattle.std.proofs.lemmas.Bool.Decides.{nat_tests}
 use Rattle.std.proofs.lemmas.Option.{none-some, same_Some}
 use Rattle.lease_clock.specs.Leases.{is_among}
 use Rattle.working.specs.Events.{Beats, CountsNow, DoMeet, Ends, Event, GivesBack, GivesOn, Gives, Hears, IsOneOf, IsRated, Keeps, LetsGo, LetsOtherGo, Loses, Marked, Marks, Passes, Released, Relinquished, Renews, Restarts, Takes, Tells as TellsAgain, Wakes, Works, World, after, after_all, begins, with_voter}
-use Rattle.working.specs.Sessions.{Session, beaten, has_ended, has_returned, has_vote, is_working, renews, takes}
+use Rattle.working.specs.Sessions.{Session, beaten, has_ended, has_returned, has_vote, renews, takes}
 use Rattle.working.specs.Voters.{Acknowledgement, Locked as Message, ends, heard_from, is_of_number, is_of_request, set}
 use Rattle.working.proofs.Lists.{set_by}
 use Rattle.working.proofs.Working.{one_works}
 use Rattle.vote_leases.specs.Leases.{beat_of, end_of}
-use Rattle.vote_leases.specs.Sessions.{AreTold, Asks, Happens, Holds, IsToldAt, Kept, Learns, Step, begun as begun_kept, events_of, stepped}
+use Rattle.vote_leases.specs.Sessions.{AreTold, Asks, Happens, Holds, IsToldAt, Kept, Learns, Step, events_of}
 use Rattle.vote_leases.specs.declared.incarnation.Incarnation.{Incarnation}
 use Rattle.vote_leases.proofs.Evidence.{Counted, and_true, counted_votes, more_leases, more_votes, stands_counted}
 use Rattle.vote_leases.proofs.Stands.{begun_stands}
 use Rattle.vote_leases.proofs.Steps.{IsKept as StandsFor, step_on}
 use Rattle.lock_calls.specs.Calls.{handed, has_lock, is_under, may_end, may_hand}
 use Rattle.lock_calls.specs.Steps.{CallStep, Closes, Empties, Hands, HasLock, MayBeLost, RefusesTries, Unlocks, Unwants, Wants, call_stepped}
-use Rattle.lock_calls.specs.Worlds.{AreTrue, CallWorks, Caller, CallerStep, Comes, CountsTo, EndsLater, Goes, HasVotesTo, If, IsHanded, IsTrue, StepsLater, Tells, begun_caller, caller_after, caller_then, steps_of, until_then, world_then}
+use Rattle.lock_calls.specs.Worlds.{AreTrue, CallWorks, Caller, CallerStep, Comes, CountsTo, EndsLater, Goes, HasVotesTo, If, IsHanded, StepsLater, Tells, begun_caller, caller_after, caller_then, steps_of, until_then, world_then}
 use Rattle.lock_calls.specs.declared.calls.Calls.{Calls}
 use Rattle.lock_calls.specs.declared.calls.Holder.{Holder}
 use Rattle.lock_calls.specs.declared.calls.Phase.TheVariants.{Idle, Asking, Inside}

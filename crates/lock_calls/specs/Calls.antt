@@ -1,6 +1,6 @@
 -- The calls of one process for one lock: which wait, which one has the lock, and what the session has to do for them. They are
 -- served in the order in which they came.
-use Rattle.std.specs.Prelude.{ℕ, ◌+◌, ◌-◌, ◌^◌, ◌==◌, max, nat_lt, nat_le, Bool, true, false, ◌&&◌, ◌||◌, not, List, [], ◌∷◌, ◌++◌, Option, Some, None, is_none, is_some, if◌then◌else◌}
+use Rattle.std.specs.Prelude.{ℕ, ◌+◌, ◌-◌, ◌^◌, ◌==◌, nat_lt, nat_le, Bool, true, false, ◌&&◌, ◌||◌, not, List, [], ◌∷◌, ◌++◌, Option, Some, None, is_none, is_some, if◌then◌else◌}
 use Rattle.lock_calls.specs.declared.calls.Calls.{Calls}
 use Rattle.lock_calls.specs.declared.calls.Holder.{Holder}
 use Rattle.lock_calls.specs.declared.calls.Next.{Next}

@@ -1,5 +1,5 @@
 -- A call of session 7 has the lock, and after it one of session 8, in the worlds of `vote_leases`.
-use Rattle.std.specs.Prelude.{ℕ, List, [], ◌∷◌, ◌++◌, true, false}
+use Rattle.std.specs.Prelude.{List, [], ◌∷◌, ◌++◌, true, false}
 use Rattle.working.specs.Events.{Ends}
 use Rattle.vote_leases.specs.Example.{asks_and_works, first, is_followed}
 use Rattle.vote_leases.specs.Sessions.{Happens, Step}

@@ -1,5 +1,5 @@
 -- What may come to the calls for a lock, in any order, and what the laws say of it.
-use Rattle.std.specs.Prelude.{ℕ, ◌≡◌, ◌⊎◌, Bool, true, false, List, [], ◌∷◌, ◌++◌, Option, Some, None}
+use Rattle.std.specs.Prelude.{ℕ, ◌≡◌, ◌⊎◌, Bool, true, false, List, [], ◌∷◌, ◌++◌, Some}
 use Rattle.lock_calls.specs.Calls.{closed, emptied, handed, has_lock, lost, somebody_waits, tries_refused, unlocked, unwanted, wanted}
 use Rattle.lock_calls.specs.declared.calls.Calls.{Calls}
 use Rattle.lock_calls.specs.declared.calls.Holder.{Holder}

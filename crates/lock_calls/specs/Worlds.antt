@@ -1,10 +1,9 @@
 -- A session of `vote_leases` with its calls for the lock: a call has the lock only while what the session keeps says that votes count.
-use Rattle.std.specs.Prelude.{ℕ, ◌≡◌, ◌≤◌, ◌<◌, ◌+◌, ◌==◌, max, Bool, true, false, List, [], ◌∷◌, Option, Some, None, if◌then◌else◌}
+use Rattle.std.specs.Prelude.{ℕ, ◌≡◌, ◌≤◌, ◌<◌, ◌+◌, ◌==◌, max, Bool, true, false, List, [], ◌∷◌, Some, if◌then◌else◌}
 use Rattle.std.specs.List.{AllByRecursion}
 use Rattle.working.specs.Events.{Ends, Event, GivesBack, IsOneOf, World}
 use Rattle.vote_leases.specs.Leases.{until}
 use Rattle.vote_leases.specs.Sessions.{Asks, Happens, Holds, Kept, Learns, Step, begun as begun_kept, stepped, world_after}
-use Rattle.vote_leases.specs.declared.incarnation.Incarnation.{Incarnation}
 use Rattle.lock_calls.specs.Calls.{begun, has_lock, may_end, may_hand}
 use Rattle.lock_calls.specs.Steps.{CallStep, Closes, Empties, Hands, HasLock, MayBeLost, RefusesTries, Unlocks, Unwants, Wants, call_stepped}
 use Rattle.lock_calls.specs.declared.calls.Calls.{Calls}
