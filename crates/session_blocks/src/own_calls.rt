@@ -1,6 +1,5 @@
 //! The calls of a process for a lock as bytes, and what is done with them.
-ghost use Rattle.std.specs.Prelude.{◌≡◌, IfErr, IfOk, IfSome, None, OnErr, Some, length};
-ghost use Rattle.std.specs.Prelude.{if◌then◌else◌};
+ghost use Rattle.std.specs.Prelude.{◌≡◌, IfErr, IfOk, IfSome, None, OnErr, Some, if◌then◌else◌, length};
 ghost use Rattle.lock_calls.specs.Calls.{closed, emptied, words_of};
 ghost use Rattle.lock_calls.specs.declared.calls.Calls.{Calls};
 ghost use Rattle.session_blocks.specs.Bytes.{AreCalls, AreNoCalls};
