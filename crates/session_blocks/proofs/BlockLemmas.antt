@@ -5,9 +5,9 @@ use Rattle.words.proofs.WordLemmas.{length-bytes_of}
 use Rattle.words.specs.WordBytes.{bytes_of}
 use Rattle.claims.specs.Claims as claims
 use Rattle.claims.specs.declared.claim.Claim.{Claim}
-use Rattle.lock_calls.specs.Calls as calls
-use Rattle.lock_calls.specs.declared.calls.Calls.{Calls}
-use Rattle.lock_calls.specs.declared.calls.Holder.{Holder}
+use Rattle.callers.specs.Calls as calls
+use Rattle.callers.specs.declared.calls.Calls.{Calls}
+use Rattle.callers.specs.declared.calls.Holder.{Holder}
 use Rattle.own_stamps.specs.Stamps.{words_of}
 use Rattle.own_stamps.specs.declared.stamps.OwnStamps.{OwnStamps}
 use Rattle.vote_leases.specs.Saved.{lease_words, option_words, taken_words, vote_words}

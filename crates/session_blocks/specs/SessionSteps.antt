@@ -4,15 +4,15 @@ use Rattle.std.specs.Prelude.{ℕ, ℤ, ◌≡◌, ◌≢◌, ◌==◌, Bool, tr
 use Rattle.claims.specs.Claims.{accepted_by, claims_next, is_accepted_by, next_epoch}
 use Rattle.claims.specs.Claims as claims
 use Rattle.claims.specs.declared.claim.Claim.{Claim}
-use Rattle.lock_calls.specs.Calls.{call_fault, closed, emptied, ends_try, handed, is_new_loss, lost, lost_of, may_end, may_hand, next, spoiled, tries_refused, unlocked, unwanted, wanted}
-use Rattle.lock_calls.specs.Calls as calls
-use Rattle.lock_calls.specs.declared.calls.Calls.{Calls}
-use Rattle.lock_calls.specs.declared.calls.Next.{Next}
-use Rattle.lock_calls.specs.declared.calls.Next.TheVariants.{Nothing, Ask, GiveUp, Leave, Hand, Lose}
-use Rattle.lock_calls.specs.declared.calls.Phase.{Phase}
-use Rattle.lock_calls.specs.declared.calls.Phase.TheVariants.{Idle, Asking, Inside}
-use Rattle.lock_calls.specs.declared.fault.CallFault.{CallFault}
-use Rattle.lock_calls.specs.declared.fault.CallFault.TheVariants.{Closed, Held, TooMany}
+use Rattle.callers.specs.Calls.{call_fault, closed, emptied, ends_try, handed, is_new_loss, lost, lost_of, may_end, may_hand, next, spoiled, tries_refused, unlocked, unwanted, wanted}
+use Rattle.callers.specs.Calls as calls
+use Rattle.callers.specs.declared.calls.Calls.{Calls}
+use Rattle.callers.specs.declared.calls.Next.{Next}
+use Rattle.callers.specs.declared.calls.Next.TheVariants.{Nothing, Ask, GiveUp, Leave, Hand, Lose}
+use Rattle.callers.specs.declared.calls.Phase.{Phase}
+use Rattle.callers.specs.declared.calls.Phase.TheVariants.{Idle, Asking, Inside}
+use Rattle.callers.specs.declared.fault.CallFault.{CallFault}
+use Rattle.callers.specs.declared.fault.CallFault.TheVariants.{Closed, Held, TooMany}
 use Rattle.own_stamps.specs.Stamps.{is_own, told, untold}
 use Rattle.own_stamps.specs.declared.stamps.OwnStamps.{OwnStamps}
 use Rattle.vote_leases.specs.Leases.{asked, begun_lease, begun_vote, heard, is_same, is_taken, kept, taken, until}

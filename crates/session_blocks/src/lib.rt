@@ -3,10 +3,10 @@
 //!
 //! A *block* is a state as bytes, which are the caller's. A call reads it, makes the step of the state, and writes it in place. A
 //! call that is refused writes nothing, and each is refused with `BadState` if and only if the bytes are none. No call takes
-//! memory. Each is a step of `vote_leases`, of `own_stamps`, of `claims` or of `lock_calls` (`specs/SessionSteps.antt`). A call that gets a
+//! memory. Each is a step of `vote_leases`, of `own_stamps`, of `claims` or of `callers` (`specs/SessionSteps.antt`). A call that gets a
 //! phase is refused with `BadArgument` besides, if and only if the number is none.
 //!
-//! Depends on `vote_leases`, `own_stamps`, `claims`, `lock_calls`, `blocks`, `words` and the kit's `arrayvec`.
+//! Depends on `vote_leases`, `own_stamps`, `claims`, `callers`, `blocks`, `words` and the kit's `arrayvec`.
 #![tactic(auto)]
 
 pub mod leases;

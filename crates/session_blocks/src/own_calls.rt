@@ -1,14 +1,14 @@
 //! The calls of a process for a lock as bytes, and what is done with them.
 ghost use Rattle.std.specs.Prelude.{◌≡◌, IfErr, IfOk, IfSome, None, OnErr, Some, if◌then◌else◌, length};
-ghost use Rattle.lock_calls.specs.Calls.{closed, emptied, words_of};
-ghost use Rattle.lock_calls.specs.declared.calls.Calls.{Calls};
+ghost use Rattle.callers.specs.Calls.{closed, emptied, words_of};
+ghost use Rattle.callers.specs.declared.calls.Calls.{Calls};
 ghost use Rattle.session_blocks.specs.Bytes.{AreCalls, AreNoCalls};
 ghost use Rattle.session_blocks.specs.SessionSteps.{CallComes, CallGoes, CallUnlocks, CallsAreMade, CallsEnd, CallsShowEnd, CallsShowNext, CallsShowSpoiled, LockIsHanded, LockMayBeLost, TriesAreRefused, fault_number, next_number, phase_of, unlock_number};
 ghost use Rattle.blocks.specs.Numbers.{returned};
 
 use arrayvec::ArrayVec;
 use blocks::Refusal;
-use lock_calls::{CallFault, Calls, Next, Phase, SAVED_WORDS};
+use callers::{CallFault, Calls, Next, Phase, SAVED_WORDS};
 use words::{read_words, write_words};
 
 /// How many bytes calls have.

@@ -1,6 +1,6 @@
 use Rattle.std.proofs.Common.{◌∙◌, ap, refl, subst, sym}
 use Rattle.std.proofs.lemmas.Option.{none-some, same_Some}
-use Rattle.lock_calls.specs.Calls.{words_of}
+use Rattle.callers.specs.Calls.{words_of}
 use Rattle.words.specs.WordBytes.{FitIn64Bits, bytes_of}
 use Rattle.session_blocks.proofs.BlockLemmas.{length-calls}
 use Rattle.session_blocks.proofs.own_calls.load_calls.Goals as goal

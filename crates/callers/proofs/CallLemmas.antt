@@ -6,13 +6,13 @@ use Rattle.std.proofs.lemmas.Bool.{eqb-true, eq-eqb, false≢true}
 use Rattle.std.proofs.lemmas.Bool.Decides.{nat_tests}
 use Rattle.std.proofs.lemmas.Option.{none-some, same_Some}
 use Rattle.working.proofs.Lists.{both}
-use Rattle.lock_calls.specs.Calls.{call_fault, ends_try, handed, handed_under, has_lock, is_new_loss, is_unaware, is_under, lost, lost_of, may_hand, one_more, somebody_waits, spoiled, spoiled_of, told_lost, tries_refused, unlocked, unwanted, wanted, was_lost, with_holder}
-use Rattle.lock_calls.specs.Steps.{CallStep, Closes, Empties, GaveBack, Hands, HasLock, IsKept, MayBeLost, RefusesTries, Unlocks, Unwants, Wants, all_call_stepped, call_stepped}
-use Rattle.lock_calls.specs.declared.calls.Calls.{Calls}
-use Rattle.lock_calls.specs.declared.calls.Holder.{Holder}
-use Rattle.lock_calls.specs.declared.calls.Next.TheVariants.{Nothing}
-use Rattle.lock_calls.specs.declared.calls.Phase.{Phase}
-use Rattle.lock_calls.specs.declared.calls.Phase.TheVariants.{Idle, Asking, Inside}
+use Rattle.callers.specs.Calls.{call_fault, ends_try, handed, handed_under, has_lock, is_new_loss, is_unaware, is_under, lost, lost_of, may_hand, one_more, somebody_waits, spoiled, spoiled_of, told_lost, tries_refused, unlocked, unwanted, wanted, was_lost, with_holder}
+use Rattle.callers.specs.Steps.{CallStep, Closes, Empties, GaveBack, Hands, HasLock, KeepsLock, MayBeLost, RefusesTries, Unlocks, Unwants, Wants, all_call_stepped, call_stepped}
+use Rattle.callers.specs.declared.calls.Calls.{Calls}
+use Rattle.callers.specs.declared.calls.Holder.{Holder}
+use Rattle.callers.specs.declared.calls.Next.TheVariants.{Nothing}
+use Rattle.callers.specs.declared.calls.Phase.{Phase}
+use Rattle.callers.specs.declared.calls.Phase.TheVariants.{Idle, Asking, Inside}
 
 -- ---- what does not change who has the lock
 
@@ -78,7 +78,7 @@ not_unlocked c h request has other =
       | true ↦ λ e. absurd (other (sym (eqb-true h.request request e)))
     ] refl))
 
-step_goes_on : (c : Calls) (h : Holder) (s : CallStep) → c.holder ≡ Some h → IsKept h.request s → GoesOn c (call_stepped c s)
+step_goes_on : (c : Calls) (h : Holder) (s : CallStep) → c.holder ≡ Some h → KeepsLock h.request s → GoesOn c (call_stepped c s)
 step_goes_on c h (Wants phase tries) has kept = inl (wanted_holder c phase tries)
 step_goes_on c h (Unwants tries) has kept = inl (unwanted_holder c tries)
 step_goes_on c h (RefusesTries phase) has kept = inl (refused_holder c phase)
@@ -94,10 +94,10 @@ holder_of request is_lost = record { request = request; is_lost = is_lost }
 lost_has : (c : Calls) (h : Holder) → c.holder ≡ Some h → told_lost c.holder ≡ Some (holder_of h.request true)
 lost_has c h has = ap told_lost has
 
-pub step_has : (c : Calls) (s : CallStep) (request : ℕ) → HasLock c request → IsKept request s → HasLock (call_stepped c s) request
+pub step_has : (c : Calls) (s : CallStep) (request : ℕ) → HasLock c request → KeepsLock request s → HasLock (call_stepped c s) request
 step_has c s request has kept =
     let h = has.0 in
-    elim (step_goes_on c h s has.1 (subst (λ (r : ℕ). IsKept r s) (sym has.2) kept)) [
+    elim (step_goes_on c h s has.1 (subst (λ (r : ℕ). KeepsLock r s) (sym has.2) kept)) [
       | inl same ↦ (h, same ∙ has.1, has.2)
       | inr lost ↦ (holder_of h.request true, lost ∙ lost_has c h has.1, has.2)
     ]
@@ -105,7 +105,7 @@ step_has c s request has kept =
 -- ---- until it gives the lock back
 
 -- a step gives this call's lock back, or not
-is_back : (request : ℕ) (s : CallStep) → (s ≡ Unlocks request) ⊎ IsKept request s
+is_back : (request : ℕ) (s : CallStep) → (s ≡ Unlocks request) ⊎ KeepsLock request s
 is_back request (Unlocks other) = elim (other == request) as (λ b. (other == request) ≡ b → (Unlocks other ≡ Unlocks request) ⊎ (other ≡ request → ⊥)) [
   | true ↦ λ e. inl (ap Unlocks (eqb-true other request e))
   | false ↦ λ e. inr (λ same. false≢true (sym e ∙ eq-eqb other request same))
@@ -203,13 +203,13 @@ own_requests c request later counts counts_later steps first second =
 abbrev WasTold : Calls → ℕ → Type 0
 WasTold c request = c.holder ≡ Some (holder_of request true)
 
-step_told : (c : Calls) (s : CallStep) (request : ℕ) → WasTold c request → IsKept request s → WasTold (call_stepped c s) request
+step_told : (c : Calls) (s : CallStep) (request : ℕ) → WasTold c request → KeepsLock request s → WasTold (call_stepped c s) request
 step_told c s request told kept = elim (step_goes_on c (holder_of request true) s told kept) [
   | inl same ↦ same ∙ told
   | inr lost ↦ lost ∙ lost_has c (holder_of request true) told
 ]
 
-steps_told : (c : Calls) (steps : List CallStep) (request : ℕ) → WasTold c request → AllByRecursion (IsKept request) steps → WasTold (all_call_stepped c steps) request
+steps_told : (c : Calls) (steps : List CallStep) (request : ℕ) → WasTold c request → AllByRecursion (KeepsLock request) steps → WasTold (all_call_stepped c steps) request
 steps_told c [] request told kept = told
 steps_told c (s ∷ steps) request told kept = steps_told (call_stepped c s) steps request (step_told c s request told kept.0) kept.1
 
@@ -219,7 +219,7 @@ told_answers c request phase told =
     subst (λ (o : Option Holder). (is_unaware o ≡ false) × (spoiled_of o phase ≡ Nothing) × ((if is_under o request then was_lost o else None) ≡ Some true)) (sym told)
     (refl, refl, ap (λ (b : Bool). if b then Some true else None) (eq-eqb request request refl))
 
-pub said_once : (c : Calls) (request : ℕ) (phase : Phase) (steps : List CallStep) → HasLock c request → AllByRecursion (IsKept request) steps
+pub said_once : (c : Calls) (request : ℕ) (phase : Phase) (steps : List CallStep) → HasLock c request → AllByRecursion (KeepsLock request) steps
     → (is_new_loss (all_call_stepped (lost c) steps) ≡ false)
     × (spoiled (all_call_stepped (lost c) steps) phase ≡ Nothing)
     × (lost_of (all_call_stepped (lost c) steps) request ≡ Some true)

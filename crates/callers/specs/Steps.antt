@@ -1,10 +1,10 @@
 -- What may come to the calls for a lock, in any order, and what the laws say of it.
 use Rattle.std.specs.Prelude.{ℕ, ◌≡◌, ◌⊎◌, Bool, true, false, List, [], ◌∷◌, ◌++◌, Some}
-use Rattle.lock_calls.specs.Calls.{closed, emptied, handed, has_lock, lost, somebody_waits, tries_refused, unlocked, unwanted, wanted}
-use Rattle.lock_calls.specs.declared.calls.Calls.{Calls}
-use Rattle.lock_calls.specs.declared.calls.Holder.{Holder}
-use Rattle.lock_calls.specs.declared.calls.Phase.{Phase}
-use Rattle.lock_calls.specs.declared.calls.Phase.TheVariants.{Idle, Asking, Inside}
+use Rattle.callers.specs.Calls.{closed, emptied, handed, has_lock, lost, somebody_waits, tries_refused, unlocked, unwanted, wanted}
+use Rattle.callers.specs.declared.calls.Calls.{Calls}
+use Rattle.callers.specs.declared.calls.Holder.{Holder}
+use Rattle.callers.specs.declared.calls.Phase.{Phase}
+use Rattle.callers.specs.declared.calls.Phase.TheVariants.{Idle, Asking, Inside}
 
 pub data CallStep : Type 0 where
   -- a call comes in this phase: whether it only tries
@@ -53,20 +53,20 @@ pub record GaveBack (c : Calls) (steps : List CallStep) (request : ℕ) : Type 0
   pub had : HasLock (all_call_stepped c before) request
 
 -- none of these gives back what was had under this request
-abbrev pub IsKept : ℕ → CallStep → Type 0
-IsKept request (Unlocks other) = other ≡ request → ⊥
-IsKept request (Wants phase tries) = Unit {0}
-IsKept request (Unwants tries) = Unit {0}
-IsKept request (RefusesTries phase) = Unit {0}
-IsKept request (Hands phase counts) = Unit {0}
-IsKept request MayBeLost = Unit {0}
-IsKept request Empties = Unit {0}
-IsKept request Closes = Unit {0}
+abbrev pub KeepsLock : ℕ → CallStep → Type 0
+KeepsLock request (Unlocks other) = other ≡ request → ⊥
+KeepsLock request (Wants phase tries) = Unit {0}
+KeepsLock request (Unwants tries) = Unit {0}
+KeepsLock request (RefusesTries phase) = Unit {0}
+KeepsLock request (Hands phase counts) = Unit {0}
+KeepsLock request MayBeLost = Unit {0}
+KeepsLock request Empties = Unit {0}
+KeepsLock request Closes = Unit {0}
 
 -- Whoever waits is served: a call has the lock, or it is asked for, or votes are waited for that do not count yet. If nobody waits the session
 -- does not ask.
-abbrev pub IsServed : Calls → Phase → Bool → Bool → Type 0
-IsServed c Idle counts doubtful = (has_lock c ≡ true) ⊎ (somebody_waits c ≡ false)
-IsServed c Asking counts doubtful = (has_lock c ≡ true) ⊎ (somebody_waits c ≡ true)
-IsServed c (Inside request) counts doubtful =
+abbrev pub CallsAreServed : Calls → Phase → Bool → Bool → Type 0
+CallsAreServed c Idle counts doubtful = (has_lock c ≡ true) ⊎ (somebody_waits c ≡ false)
+CallsAreServed c Asking counts doubtful = (has_lock c ≡ true) ⊎ (somebody_waits c ≡ true)
+CallsAreServed c (Inside request) counts doubtful =
     (has_lock c ≡ true) ⊎ ((somebody_waits c ≡ true) × (counts ≡ false) × (doubtful ≡ false))

@@ -1,9 +1,9 @@
 use Rattle.std.proofs.Common.{[], ◌∷◌, ◌++◌, refl, inl, inr, arith}
 use Rattle.working.specs.Example.{pairs, start}
-use Rattle.lock_calls.specs.Example.{a_call_of_eight, a_call_of_seven, eight_comes, eight_is_handed, seven_comes, seven_is_handed, seven_unlocks}
-use Rattle.lock_calls.specs.Worlds.{begun_caller}
-use Rattle.lock_calls.proofs.Example.{is_one, true_then}
-use Rattle.lock_calls.proofs.laws.another_call_works.Goals as goal
+use Rattle.callers.specs.Example.{a_call_of_eight, a_call_of_seven, eight_comes, eight_is_handed, seven_comes, seven_is_handed, seven_unlocks}
+use Rattle.callers.specs.Worlds.{begun_caller}
+use Rattle.callers.proofs.Example.{is_one, true_then}
+use Rattle.callers.proofs.laws.another_call_works.Goals as goal
 
 pub returns-clause-seven : goal.returns-clause-seven
 returns-clause-seven c =

@@ -6,14 +6,14 @@ ghost use Rattle.working.specs.Example.{pairs, start};
 ghost use Rattle.vote_leases.specs.Example.{lapses_of};
 ghost use Rattle.vote_leases.specs.Sessions.{AreTold, events_of};
 ghost use Rattle.vote_leases.specs.declared.incarnation.Incarnation.{Incarnation};
-ghost use Rattle.lock_calls.specs.Calls.{has_lock, is_new_loss, lost, lost_of, may_hand, next, spoiled};
-ghost use Rattle.lock_calls.specs.Example.{a_call_of_eight, a_call_of_seven};
-ghost use Rattle.lock_calls.specs.Steps.{CallStep, GaveBack, Hands, HasLock, IsKept, IsServed, all_call_stepped, call_stepped};
-ghost use Rattle.lock_calls.specs.Worlds.{AreTrue, CallWorks, CallerStep, begun_caller, caller_after, steps_of};
-ghost use Rattle.lock_calls.specs.declared.calls.Calls.{Calls};
-ghost use Rattle.lock_calls.specs.declared.calls.Next.TheVariants.{Hand, Lose, Nothing};
-ghost use Rattle.lock_calls.specs.declared.calls.Phase.{Phase};
-ghost use Rattle.lock_calls.specs.declared.calls.Phase.TheVariants.{Inside};
+ghost use Rattle.callers.specs.Calls.{has_lock, is_new_loss, lost, lost_of, may_hand, next, spoiled};
+ghost use Rattle.callers.specs.Example.{a_call_of_eight, a_call_of_seven};
+ghost use Rattle.callers.specs.Steps.{CallStep, GaveBack, Hands, HasLock, KeepsLock, CallsAreServed, all_call_stepped, call_stepped};
+ghost use Rattle.callers.specs.Worlds.{AllAsTold, CallWorks, CallerStep, begun_caller, caller_after, steps_of};
+ghost use Rattle.callers.specs.declared.calls.Calls.{Calls};
+ghost use Rattle.callers.specs.declared.calls.Next.TheVariants.{Hand, Lose, Nothing};
+ghost use Rattle.callers.specs.declared.calls.Phase.{Phase};
+ghost use Rattle.callers.specs.declared.calls.Phase.TheVariants.{Inside};
 
 /// One call of a process has the lock: if it was handed to a call, and is handed to one again later, the call before gave it back
 /// between. This is so whatever the session hands, and when.
@@ -41,7 +41,7 @@ pub fn votes_are_given_back_after_the_call()
 
 /// A call is told once that the lock may be lost, whatever comes until it gives the lock back, and that gives the same answer.
 pub fn lost_is_said_once()
-    ensures { (c : Calls) (request : ℕ) (phase : Phase) (steps : List CallStep) → HasLock c request → AllByRecursion (IsKept request) steps
+    ensures { (c : Calls) (request : ℕ) (phase : Phase) (steps : List CallStep) → HasLock c request → AllByRecursion (KeepsLock request) steps
         → (is_new_loss (all_call_stepped (lost c) steps) ≡ false)
         × (spoiled (all_call_stepped (lost c) steps) phase ≡ Nothing)
         × (lost_of (all_call_stepped (lost c) steps) request ≡ Some true) }
@@ -50,7 +50,7 @@ pub fn lost_is_said_once()
 /// Whoever waits is served: once there is nothing to do for the session, a call has the lock, or the lock is asked for, or votes are
 /// waited for. If nobody wants the lock, the session does not ask for it.
 pub fn who_waits_is_served()
-    ensures { (c : Calls) (phase : Phase) (counts doubtful : Bool) → next c phase counts doubtful ≡ Nothing → IsServed c phase counts doubtful }
+    ensures { (c : Calls) (phase : Phase) (counts doubtful : Bool) → next c phase counts doubtful ≡ Nothing → CallsAreServed c phase counts doubtful }
 {}
 
 /// The lock may be handed to a call if and only if that is what is next.
@@ -63,12 +63,12 @@ pub fn what_is_next_may_be_handed()
 /// that it has the lock is no longer than `stop` ago, its session works under its request in the sense of `working`. So it is though
 /// what the session keeps may have forgotten a vote.
 ///
-/// `AreTrue` says that the session does what its calls say: it ends no request, and gives no vote back, while a call has the lock, and
+/// `AllAsTold` says that the session does what its calls say: it ends no request, and gives no vote back, while a call has the lock, and
 /// tells a call a time only if all votes of a quorum count up to it.
 pub fn a_call_that_works_has_its_votes()
     ensures { (lapses : ℕ → ℕ → Incarnation → ℕ) (ttl lease stop : ℕ) (periods voters sessions : ℕ → ℕ) (used : ℕ) (steps : List CallerStep) (quorums : List (List ℕ)) (me request : ℕ)
         → DoMeet quorums → AreTold lapses ttl (lease + stop) (begins periods voters sessions) (steps_of steps)
-        → AreTrue ttl lease (lease + stop) me quorums (begins periods voters sessions) (begun_caller used) steps
+        → AllAsTold ttl lease (lease + stop) me quorums (begins periods voters sessions) (begun_caller used) steps
         → CallWorks stop ((after_all ttl (lease + stop) (begins periods voters sessions) (events_of (steps_of steps))).sessions me).time
         (caller_after ttl lease (lease + stop) me (begins periods voters sessions) (begun_caller used) steps) request
         → Works lease stop quorums (after_all ttl (lease + stop) (begins periods voters sessions) (events_of (steps_of steps))) me request }
@@ -80,8 +80,8 @@ pub fn at_most_one_call_works()
     ensures { (lapses : ℕ → ℕ → Incarnation → ℕ) (a b ttl lease stop : ℕ) (periods voters sessions used : ℕ → ℕ) (steps : List CallerStep) (quorums : List (List ℕ)) (me request other another : ℕ)
         → 1 ≤ b → AllByRecursion (IsRated a b) (events_of (steps_of steps)) → b * (lease + stop) ≤ a * ttl → DoMeet quorums
         → AreTold lapses ttl (lease + stop) (begins periods voters sessions) (steps_of steps)
-        → AreTrue ttl lease (lease + stop) me quorums (begins periods voters sessions) (begun_caller (used me)) steps
-        → AreTrue ttl lease (lease + stop) other quorums (begins periods voters sessions) (begun_caller (used other)) steps
+        → AllAsTold ttl lease (lease + stop) me quorums (begins periods voters sessions) (begun_caller (used me)) steps
+        → AllAsTold ttl lease (lease + stop) other quorums (begins periods voters sessions) (begun_caller (used other)) steps
         → CallWorks stop ((after_all ttl (lease + stop) (begins periods voters sessions) (events_of (steps_of steps))).sessions me).time
         (caller_after ttl lease (lease + stop) me (begins periods voters sessions) (begun_caller (used me)) steps) request
         → CallWorks stop ((after_all ttl (lease + stop) (begins periods voters sessions) (events_of (steps_of steps))).sessions other).time
@@ -95,8 +95,8 @@ pub fn a_call_works()
     ensures bound { 10 * (80 + 10) ≤ 9 * 100 }
     ensures meet { DoMeet pairs }
     ensures says { AreTold lapses_of 100 90 start (steps_of a_call_of_seven) }
-    ensures seven { AreTrue 100 80 90 7 pairs start (begun_caller 0) a_call_of_seven }
-    ensures eight { AreTrue 100 80 90 8 pairs start (begun_caller 0) a_call_of_seven }
+    ensures seven { AllAsTold 100 80 90 7 pairs start (begun_caller 0) a_call_of_seven }
+    ensures eight { AllAsTold 100 80 90 8 pairs start (begun_caller 0) a_call_of_seven }
     ensures works { CallWorks 10 ((after_all 100 90 start (events_of (steps_of a_call_of_seven))).sessions 7).time
         (caller_after 100 80 90 7 start (begun_caller 0) a_call_of_seven) 1 }
 {}
@@ -105,8 +105,8 @@ pub fn a_call_works()
 pub fn another_call_works()
     ensures rates { AllByRecursion (IsRated 9 10) (events_of (steps_of (a_call_of_seven ++ a_call_of_eight))) }
     ensures says { AreTold lapses_of 100 90 start (steps_of (a_call_of_seven ++ a_call_of_eight)) }
-    ensures seven { AreTrue 100 80 90 7 pairs start (begun_caller 0) (a_call_of_seven ++ a_call_of_eight) }
-    ensures eight { AreTrue 100 80 90 8 pairs start (begun_caller 0) (a_call_of_seven ++ a_call_of_eight) }
+    ensures seven { AllAsTold 100 80 90 7 pairs start (begun_caller 0) (a_call_of_seven ++ a_call_of_eight) }
+    ensures eight { AllAsTold 100 80 90 8 pairs start (begun_caller 0) (a_call_of_seven ++ a_call_of_eight) }
     ensures works { CallWorks 10 ((after_all 100 90 start (events_of (steps_of (a_call_of_seven ++ a_call_of_eight)))).sessions 8).time
         (caller_after 100 80 90 8 start (begun_caller 0) (a_call_of_seven ++ a_call_of_eight)) 1 }
 {}

@@ -1,14 +1,14 @@
 -- The calls of one process for one lock: which wait, which one has the lock, and what the session has to do for them. They are
 -- served in the order in which they came.
 use Rattle.std.specs.Prelude.{ℕ, ◌+◌, ◌-◌, ◌^◌, ◌==◌, nat_lt, nat_le, Bool, true, false, ◌&&◌, ◌||◌, not, List, [], ◌∷◌, ◌++◌, Option, Some, None, is_none, is_some, if◌then◌else◌}
-use Rattle.lock_calls.specs.declared.calls.Calls.{Calls}
-use Rattle.lock_calls.specs.declared.calls.Holder.{Holder}
-use Rattle.lock_calls.specs.declared.calls.Next.{Next}
-use Rattle.lock_calls.specs.declared.calls.Next.TheVariants.{Nothing, Ask, GiveUp, Leave, Hand, Lose}
-use Rattle.lock_calls.specs.declared.calls.Phase.{Phase}
-use Rattle.lock_calls.specs.declared.calls.Phase.TheVariants.{Idle, Asking, Inside}
-use Rattle.lock_calls.specs.declared.fault.CallFault.{CallFault}
-use Rattle.lock_calls.specs.declared.fault.CallFault.TheVariants.{Closed, Held, TooMany}
+use Rattle.callers.specs.declared.calls.Calls.{Calls}
+use Rattle.callers.specs.declared.calls.Holder.{Holder}
+use Rattle.callers.specs.declared.calls.Next.{Next}
+use Rattle.callers.specs.declared.calls.Next.TheVariants.{Nothing, Ask, GiveUp, Leave, Hand, Lose}
+use Rattle.callers.specs.declared.calls.Phase.{Phase}
+use Rattle.callers.specs.declared.calls.Phase.TheVariants.{Idle, Asking, Inside}
+use Rattle.callers.specs.declared.fault.CallFault.{CallFault}
+use Rattle.callers.specs.declared.fault.CallFault.TheVariants.{Closed, Held, TooMany}
 
 -- ---- who waits, and who has the lock
 

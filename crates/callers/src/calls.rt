@@ -1,8 +1,8 @@
 //! The calls of one process for one lock.
 ghost use Rattle.std.specs.Prelude.{◌≡◌, IfSome, Some, None, Option, Bool, OnOk, IfErr};
-ghost use Rattle.lock_calls.specs.Calls.{begun, call_fault, closed, emptied, ends_try, bool_word, handed, holder_words, is_new_loss, lost, lost_of, may_end, may_hand, next, somebody_waits, spoiled, tries_refused, unlocked, unwanted, wanted, words_of};
-ghost use Rattle.lock_calls.specs.declared.calls.Calls.{Calls};
-ghost use Rattle.lock_calls.specs.declared.calls.Holder.{Holder as HolderSpec};
+ghost use Rattle.callers.specs.Calls.{begun, call_fault, closed, emptied, ends_try, bool_word, handed, holder_words, is_new_loss, lost, lost_of, may_end, may_hand, next, somebody_waits, spoiled, tries_refused, unlocked, unwanted, wanted, words_of};
+ghost use Rattle.callers.specs.declared.calls.Calls.{Calls};
+ghost use Rattle.callers.specs.declared.calls.Holder.{Holder as HolderSpec};
 
 use crate::fault::CallFault;
 

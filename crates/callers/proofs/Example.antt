@@ -2,8 +2,8 @@
 use Rattle.std.proofs.Common.{◌≡◌, ℕ, ◌+◌, false, List, [], ◌∷◌, ◌++◌, Some, ap, ◌∙◌}
 use Rattle.std.proofs.lemmas.Option.{same_Some}
 use Rattle.working.specs.Events.{World}
-use Rattle.lock_calls.specs.Worlds.{AreTrue, Caller, CallerStep, caller_after, caller_then, world_then}
-use Rattle.lock_calls.specs.declared.calls.Holder.{Holder}
+use Rattle.callers.specs.Worlds.{AllAsTold, Caller, CallerStep, caller_after, caller_then, world_then}
+use Rattle.callers.specs.declared.calls.Holder.{Holder}
 
 abbrev holder_under : ℕ → Holder
 holder_under request = record { request = request; is_lost = false }
@@ -18,9 +18,9 @@ abbrev pub world_then_all : ℕ → ℕ → World → List CallerStep → World
 world_then_all ttl span w [] = w
 world_then_all ttl span w (s ∷ steps) = world_then_all ttl span (world_then ttl span w s) steps
 
-pub true_then : (ttl lease span me : ℕ) (quorums : List (List ℕ)) (w : World) (o : Caller) (steps rest : List CallerStep) → AreTrue ttl lease span me quorums w o steps
-    → AreTrue ttl lease span me quorums (world_then_all ttl span w steps) (caller_after ttl lease span me w o steps) rest
-    → AreTrue ttl lease span me quorums w o (steps ++ rest)
+pub true_then : (ttl lease span me : ℕ) (quorums : List (List ℕ)) (w : World) (o : Caller) (steps rest : List CallerStep) → AllAsTold ttl lease span me quorums w o steps
+    → AllAsTold ttl lease span me quorums (world_then_all ttl span w steps) (caller_after ttl lease span me w o steps) rest
+    → AllAsTold ttl lease span me quorums w o (steps ++ rest)
 true_then ttl lease span me quorums w o [] rest first later = later
 true_then ttl lease span me quorums w o (s ∷ steps) rest first later =
     (first.0, true_then ttl lease span me quorums (world_then ttl span w s) (caller_then lease me w o s) steps rest first.1 later)

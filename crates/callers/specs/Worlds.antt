@@ -4,10 +4,10 @@ use Rattle.std.specs.List.{AllByRecursion}
 use Rattle.working.specs.Events.{Ends, Event, GivesBack, IsOneOf, World}
 use Rattle.vote_leases.specs.Leases.{until}
 use Rattle.vote_leases.specs.Sessions.{Asks, Happens, Holds, Kept, Learns, Step, begun as begun_kept, stepped, world_after}
-use Rattle.lock_calls.specs.Calls.{begun, has_lock, may_end, may_hand}
-use Rattle.lock_calls.specs.Steps.{CallStep, Closes, Empties, Hands, HasLock, MayBeLost, RefusesTries, Unlocks, Unwants, Wants, call_stepped}
-use Rattle.lock_calls.specs.declared.calls.Calls.{Calls}
-use Rattle.lock_calls.specs.declared.calls.Phase.TheVariants.{Idle, Asking, Inside}
+use Rattle.callers.specs.Calls.{begun, has_lock, may_end, may_hand}
+use Rattle.callers.specs.Steps.{CallStep, Closes, Empties, Hands, HasLock, MayBeLost, RefusesTries, Unlocks, Unwants, Wants, call_stepped}
+use Rattle.callers.specs.declared.calls.Calls.{Calls}
+use Rattle.callers.specs.declared.calls.Phase.TheVariants.{Idle, Asking, Inside}
 
 -- what a session keeps of its votes, its calls, and up to when the call that has the lock was told that it has it, by the session's clock
 pub record Caller : Type 0 where
@@ -23,24 +23,24 @@ begun_caller used = record { kept = begun_kept used; calls = begun used; until =
 
 pub data CallerStep : Type 0 where
   -- a step of all sessions and voters
-  Goes : Step → CallerStep
+  InWorld : Step → CallerStep
   -- Something comes to the calls of a session. If the lock is handed to one of them, that is told up to when it has the lock: session, step, time
-  Comes : ℕ → CallStep → ℕ → CallerStep
+  ToCalls : ℕ → CallStep → ℕ → CallerStep
   -- the call of a session that has the lock is told up to when it has it: session, time
-  Tells : ℕ → ℕ → CallerStep
+  TellsUntil : ℕ → ℕ → CallerStep
 
 -- the steps of all sessions and voters among these
 abbrev pub steps_of : List CallerStep → List Step
 steps_of [] = []
-steps_of (Goes s ∷ steps) = s ∷ steps_of steps
-steps_of (Comes session s time ∷ steps) = steps_of steps
-steps_of (Tells session time ∷ steps) = steps_of steps
+steps_of (InWorld s ∷ steps) = s ∷ steps_of steps
+steps_of (ToCalls session s time ∷ steps) = steps_of steps
+steps_of (TellsUntil session time ∷ steps) = steps_of steps
 
 -- the world after a step
 abbrev pub world_then : ℕ → ℕ → World → CallerStep → World
-world_then ttl span w (Goes s) = world_after ttl span w s
-world_then ttl span w (Comes session s time) = w
-world_then ttl span w (Tells session time) = w
+world_then ttl span w (InWorld s) = world_after ttl span w s
+world_then ttl span w (ToCalls session s time) = w
+world_then ttl span w (TellsUntil session time) = w
 
 -- up to when the call that has the lock was told that it has it, after this came to the calls
 abbrev pub until_then : Calls → CallStep → ℕ → ℕ → ℕ
@@ -55,10 +55,10 @@ until_then c Closes time before = before
 
 -- the session after a step, where a heartbeat counts for `lease`
 abbrev pub caller_then : ℕ → ℕ → World → Caller → CallerStep → Caller
-caller_then lease me w o (Goes s) = record { kept = stepped lease me w o.kept s; calls = o.calls; until = o.until }
-caller_then lease me w o (Comes session s time) =
+caller_then lease me w o (InWorld s) = record { kept = stepped lease me w o.kept s; calls = o.calls; until = o.until }
+caller_then lease me w o (ToCalls session s time) =
     if session == me then record { kept = o.kept; calls = call_stepped o.calls s; until = until_then o.calls s time o.until } else o
-caller_then lease me w o (Tells session time) =
+caller_then lease me w o (TellsUntil session time) =
     if session == me then record { kept = o.kept; calls = o.calls; until = max o.until time } else o
 
 -- the session after these steps, in order
@@ -82,14 +82,14 @@ pub record HasVotesTo (lease : ℕ) (quorums : List (List ℕ)) (k : Kept) (requ
   pub counts : AllByRecursion (CountsTo lease k request time) quorum
 
 -- so it is, if it is of this session
-abbrev pub If : Bool → Type 0 → Type 0
-If false P = Unit {0}
-If true P = P
+abbrev pub IfOwn : Bool → Type 0 → Type 0
+IfOwn false P = Unit {0}
+IfOwn true P = P
 
 -- While a call has the lock, its request does not end, and no vote is given back: `next` and `spoiled` ask for neither.
 abbrev pub EndsLater : ℕ → Calls → Event → Type 0
-EndsLater me c (Ends session request) = If (session == me) (may_end c request ≡ true)
-EndsLater me c (GivesBack session voter number) = If (session == me) (has_lock c ≡ false)
+EndsLater me c (Ends session request) = IfOwn (session == me) (may_end c request ≡ true)
+EndsLater me c (GivesBack session voter number) = IfOwn (session == me) (has_lock c ≡ false)
 EndsLater me c e = Unit {0}
 
 abbrev pub StepsLater : ℕ → Calls → Step → Type 0
@@ -112,15 +112,15 @@ IsHanded lease quorums o Empties time = Unit {0}
 IsHanded lease quorums o Closes time = Unit {0}
 
 -- what this session does in a step is what its calls and its votes say
-abbrev pub IsTrue : ℕ → ℕ → List (List ℕ) → World → Caller → CallerStep → Type 0
-IsTrue lease me quorums w o (Goes s) = StepsLater me o.calls s
-IsTrue lease me quorums w o (Comes session s time) = If (session == me) (IsHanded lease quorums o s time)
-IsTrue lease me quorums w o (Tells session time) = If (session == me) ((request : ℕ) → HasLock o.calls request → HasVotesTo lease quorums o.kept request time)
+abbrev pub DoesAsTold : ℕ → ℕ → List (List ℕ) → World → Caller → CallerStep → Type 0
+DoesAsTold lease me quorums w o (InWorld s) = StepsLater me o.calls s
+DoesAsTold lease me quorums w o (ToCalls session s time) = IfOwn (session == me) (IsHanded lease quorums o s time)
+DoesAsTold lease me quorums w o (TellsUntil session time) = IfOwn (session == me) ((request : ℕ) → HasLock o.calls request → HasVotesTo lease quorums o.kept request time)
 
-abbrev pub AreTrue : ℕ → ℕ → ℕ → ℕ → List (List ℕ) → World → Caller → List CallerStep → Type 0
-AreTrue ttl lease span me quorums w o [] = Unit {0}
-AreTrue ttl lease span me quorums w o (s ∷ steps) =
-    IsTrue lease me quorums w o s × AreTrue ttl lease span me quorums (world_then ttl span w s) (caller_then lease me w o s) steps
+abbrev pub AllAsTold : ℕ → ℕ → ℕ → ℕ → List (List ℕ) → World → Caller → List CallerStep → Type 0
+AllAsTold ttl lease span me quorums w o [] = Unit {0}
+AllAsTold ttl lease span me quorums w o (s ∷ steps) =
+    DoesAsTold lease me quorums w o s × AllAsTold ttl lease span me quorums (world_then ttl span w s) (caller_then lease me w o s) steps
 
 -- ---- when a call works
 

@@ -17,13 +17,13 @@ use Rattle.vote_leases.specs.declared.incarnation.Incarnation.{Incarnation}
 use Rattle.vote_leases.proofs.Evidence.{Counted, and_true, counted_votes, more_leases, more_votes, stands_counted}
 use Rattle.vote_leases.proofs.Stands.{begun_stands}
 use Rattle.vote_leases.proofs.Steps.{IsKept as StandsFor, step_on}
-use Rattle.lock_calls.specs.Calls.{handed, has_lock, is_under, may_end, may_hand}
-use Rattle.lock_calls.specs.Steps.{CallStep, Closes, Empties, Hands, HasLock, MayBeLost, RefusesTries, Unlocks, Unwants, Wants, call_stepped}
-use Rattle.lock_calls.specs.Worlds.{AreTrue, CallWorks, Caller, CallerStep, Comes, CountsTo, EndsLater, Goes, HasVotesTo, If, IsHanded, StepsLater, Tells, begun_caller, caller_after, caller_then, steps_of, until_then, world_then}
-use Rattle.lock_calls.specs.declared.calls.Calls.{Calls}
-use Rattle.lock_calls.specs.declared.calls.Holder.{Holder}
-use Rattle.lock_calls.specs.declared.calls.Phase.TheVariants.{Idle, Asking, Inside}
-use Rattle.lock_calls.proofs.CallLemmas.{handed_has, loses_had, not_handed_had, refuses_had, unlocks_had, unwants_had, wants_had}
+use Rattle.callers.specs.Calls.{handed, has_lock, is_under, may_end, may_hand}
+use Rattle.callers.specs.Steps.{CallStep, Closes, Empties, Hands, HasLock, MayBeLost, RefusesTries, Unlocks, Unwants, Wants, call_stepped}
+use Rattle.callers.specs.Worlds.{AllAsTold, CallWorks, Caller, CallerStep, ToCalls, CountsTo, EndsLater, InWorld, HasVotesTo, IfOwn, IsHanded, StepsLater, TellsUntil, begun_caller, caller_after, caller_then, steps_of, until_then, world_then}
+use Rattle.callers.specs.declared.calls.Calls.{Calls}
+use Rattle.callers.specs.declared.calls.Holder.{Holder}
+use Rattle.callers.specs.declared.calls.Phase.TheVariants.{Idle, Asking, Inside}
+use Rattle.callers.proofs.CallLemmas.{handed_has, loses_had, not_handed_had, refuses_had, unlocks_had, unwants_had, wants_had}
 
 -- ---- what a call has been told stands for messages that its session took
 
@@ -113,7 +113,7 @@ if_world : (request me : ℕ) (b : Bool) (w next : World) → Stays request (w.s
 if_world request me true w next stays = stays
 if_world request me false w next stays = same_stays request (w.sessions me)
 
-so_if : (b : Bool) (P : Type 0) → If b P → b ≡ true → P
+so_if : (b : Bool) (P : Type 0) → IfOwn b P → b ≡ true → P
 so_if true P has is = has
 so_if false P has is = absurd (false≢true is)
 
@@ -160,7 +160,7 @@ event_stays ttl span me request w c (Keeps session voter asked number) has later
 event_stays ttl span me request w c (Wakes voter) has later = same_stays request (w.sessions me)
 
 step_stays : (ttl span lease me request : ℕ) (w : World) (o : Caller) (s : Step) → HasLock o.calls request → StepsLater me o.calls s
-    → Stays request (w.sessions me) ((world_then ttl span w (Goes s)).sessions me)
+    → Stays request (w.sessions me) ((world_then ttl span w (InWorld s)).sessions me)
 step_stays ttl span lease me request w o (Happens e i) has later = event_stays ttl span me request w o.calls e has later
 step_stays ttl span lease me request w o (Asks session asked) has later = same_stays request (w.sessions me)
 step_stays ttl span lease me request w o (Learns session voter i) has later = same_stays request (w.sessions me)
@@ -221,11 +221,11 @@ record HoldsOf (tell : ℕ → Incarnation → ℕ) (lease : ℕ) (quorums : Lis
 
 goes_on : (lapses : ℕ → ℕ → Incarnation → ℕ) (ttl lease stop me : ℕ) (quorums : List (List ℕ)) (w : World) (o : Caller) (s : Step) → IsToldAt lapses w s → StepsLater me o.calls s
     → HoldsOf (lapses me) lease quorums o (w.sessions me)
-    → HoldsOf (lapses me) lease quorums (caller_then lease me w o (Goes s)) ((world_then ttl (lease + stop) w (Goes s)).sessions me)
+    → HoldsOf (lapses me) lease quorums (caller_then lease me w o (InWorld s)) ((world_then ttl (lease + stop) w (InWorld s)).sessions me)
 goes_on lapses ttl lease stop me quorums w o s told later holds = record {
   kept = step_on lapses ttl lease stop me w o.kept s told holds.kept;
   told = λ request has.
-      has_on lease quorums (w.sessions me) ((world_then ttl (lease + stop) w (Goes s)).sessions me) request o.until (step_stays ttl (lease + stop) lease me request w o s has later) (holds.told request has);
+      has_on lease quorums (w.sessions me) ((world_then ttl (lease + stop) w (InWorld s)).sessions me) request o.until (step_stays ttl (lease + stop) lease me request w o s has later) (holds.told request has);
 }
 
 -- one call has the lock
@@ -254,7 +254,7 @@ comes_told tell lease quorums o session Empties time meet is holds = λ request 
 comes_told tell lease quorums o session Closes time meet is holds = λ request has. holds.told request has
 
 comes_on : (tell : ℕ → Incarnation → ℕ) (lease : ℕ) (quorums : List (List ℕ)) (o : Caller) (session : Session) (s : CallStep) (time : ℕ) (own : Bool) → DoMeet quorums
-    → If own (IsHanded lease quorums o s time) → HoldsOf tell lease quorums o session
+    → IfOwn own (IsHanded lease quorums o s time) → HoldsOf tell lease quorums o session
     → HoldsOf tell lease quorums (if own then record { kept = o.kept; calls = call_stepped o.calls s; until = until_then o.calls s time o.until } else o) session
 comes_on tell lease quorums o session s time false meet is holds = holds
 comes_on tell lease quorums o session s time true meet is holds = record { kept = holds.kept; told = comes_told tell lease quorums o session s time meet is holds }
@@ -269,7 +269,7 @@ later_evidence lease quorums s request before time one two =
     ]
 
 tells_on : (tell : ℕ → Incarnation → ℕ) (lease : ℕ) (quorums : List (List ℕ)) (o : Caller) (session : Session) (time : ℕ) (own : Bool) → DoMeet quorums
-    → If own ((request : ℕ) → HasLock o.calls request → HasVotesTo lease quorums o.kept request time) → HoldsOf tell lease quorums o session
+    → IfOwn own ((request : ℕ) → HasLock o.calls request → HasVotesTo lease quorums o.kept request time) → HoldsOf tell lease quorums o session
     → HoldsOf tell lease quorums (if own then record { kept = o.kept; calls = o.calls; until = max o.until time } else o) session
 tells_on tell lease quorums o session time false meet is holds = holds
 tells_on tell lease quorums o session time true meet is holds = record {
@@ -282,26 +282,26 @@ tells_on tell lease quorums o session time true meet is holds = record {
 -- ---- all steps
 
 steps_on : (lapses : ℕ → ℕ → Incarnation → ℕ) (ttl lease stop me : ℕ) (quorums : List (List ℕ)) (w : World) (o : Caller) (steps : List CallerStep) → DoMeet quorums
-    → AreTold lapses ttl (lease + stop) w (steps_of steps) → AreTrue ttl lease (lease + stop) me quorums w o steps → HoldsOf (lapses me) lease quorums o (w.sessions me)
+    → AreTold lapses ttl (lease + stop) w (steps_of steps) → AllAsTold ttl lease (lease + stop) me quorums w o steps → HoldsOf (lapses me) lease quorums o (w.sessions me)
     → HoldsOf (lapses me) lease quorums (caller_after ttl lease (lease + stop) me w o steps) ((after_all ttl (lease + stop) w (events_of (steps_of steps))).sessions me)
 steps_on lapses ttl lease stop me quorums w o [] meet told are holds = holds
-steps_on lapses ttl lease stop me quorums w o (Goes (Happens e i) ∷ steps) meet told are holds =
-    steps_on lapses ttl lease stop me quorums (after ttl (lease + stop) w e) (caller_then lease me w o (Goes (Happens e i))) steps meet told.1 are.1
+steps_on lapses ttl lease stop me quorums w o (InWorld (Happens e i) ∷ steps) meet told are holds =
+    steps_on lapses ttl lease stop me quorums (after ttl (lease + stop) w e) (caller_then lease me w o (InWorld (Happens e i))) steps meet told.1 are.1
     (goes_on lapses ttl lease stop me quorums w o (Happens e i) told.0 are.0 holds)
-steps_on lapses ttl lease stop me quorums w o (Goes (Asks session request) ∷ steps) meet told are holds =
-    steps_on lapses ttl lease stop me quorums w (caller_then lease me w o (Goes (Asks session request))) steps meet told.1 are.1
+steps_on lapses ttl lease stop me quorums w o (InWorld (Asks session request) ∷ steps) meet told are holds =
+    steps_on lapses ttl lease stop me quorums w (caller_then lease me w o (InWorld (Asks session request))) steps meet told.1 are.1
     (goes_on lapses ttl lease stop me quorums w o (Asks session request) told.0 are.0 holds)
-steps_on lapses ttl lease stop me quorums w o (Goes (Learns session voter i) ∷ steps) meet told are holds =
-    steps_on lapses ttl lease stop me quorums w (caller_then lease me w o (Goes (Learns session voter i))) steps meet told.1 are.1
+steps_on lapses ttl lease stop me quorums w o (InWorld (Learns session voter i) ∷ steps) meet told are holds =
+    steps_on lapses ttl lease stop me quorums w (caller_then lease me w o (InWorld (Learns session voter i))) steps meet told.1 are.1
     (goes_on lapses ttl lease stop me quorums w o (Learns session voter i) told.0 are.0 holds)
-steps_on lapses ttl lease stop me quorums w o (Goes (Holds session voter) ∷ steps) meet told are holds =
-    steps_on lapses ttl lease stop me quorums w (caller_then lease me w o (Goes (Holds session voter))) steps meet told.1 are.1
+steps_on lapses ttl lease stop me quorums w o (InWorld (Holds session voter) ∷ steps) meet told are holds =
+    steps_on lapses ttl lease stop me quorums w (caller_then lease me w o (InWorld (Holds session voter))) steps meet told.1 are.1
     (goes_on lapses ttl lease stop me quorums w o (Holds session voter) told.0 are.0 holds)
-steps_on lapses ttl lease stop me quorums w o (Comes session s time ∷ steps) meet told are holds =
-    steps_on lapses ttl lease stop me quorums w (caller_then lease me w o (Comes session s time)) steps meet told are.1
+steps_on lapses ttl lease stop me quorums w o (ToCalls session s time ∷ steps) meet told are holds =
+    steps_on lapses ttl lease stop me quorums w (caller_then lease me w o (ToCalls session s time)) steps meet told are.1
     (comes_on (lapses me) lease quorums o (w.sessions me) s time (session == me) meet are.0 holds)
-steps_on lapses ttl lease stop me quorums w o (Tells session time ∷ steps) meet told are holds =
-    steps_on lapses ttl lease stop me quorums w (caller_then lease me w o (Tells session time)) steps meet told are.1
+steps_on lapses ttl lease stop me quorums w o (TellsUntil session time ∷ steps) meet told are holds =
+    steps_on lapses ttl lease stop me quorums w (caller_then lease me w o (TellsUntil session time)) steps meet told are.1
     (tells_on (lapses me) lease quorums o (w.sessions me) time (session == me) meet are.0 holds)
 
 begin_holds : (tell : ℕ → Incarnation → ℕ) (lease : ℕ) (quorums : List (List ℕ)) (periods voters sessions : ℕ → ℕ) (used me : ℕ)
@@ -325,7 +325,7 @@ all_have lease stop request until s (voter ∷ quorum) before all =
 
 pub call_has_votes : (lapses : ℕ → ℕ → Incarnation → ℕ) (ttl lease stop : ℕ) (periods voters sessions : ℕ → ℕ) (used : ℕ) (steps : List CallerStep) (quorums : List (List ℕ)) (me request : ℕ)
     → DoMeet quorums → AreTold lapses ttl (lease + stop) (begins periods voters sessions) (steps_of steps)
-    → AreTrue ttl lease (lease + stop) me quorums (begins periods voters sessions) (begun_caller used) steps
+    → AllAsTold ttl lease (lease + stop) me quorums (begins periods voters sessions) (begun_caller used) steps
     → CallWorks stop ((after_all ttl (lease + stop) (begins periods voters sessions) (events_of (steps_of steps))).sessions me).time
     (caller_after ttl lease (lease + stop) me (begins periods voters sessions) (begun_caller used) steps) request
     → Works lease stop quorums (after_all ttl (lease + stop) (begins periods voters sessions) (events_of (steps_of steps))) me request
@@ -344,8 +344,8 @@ call_has_votes lapses ttl lease stop periods voters sessions used steps quorums 
 pub one_call_works : (lapses : ℕ → ℕ → Incarnation → ℕ) (a b ttl lease stop : ℕ) (periods voters sessions used : ℕ → ℕ) (steps : List CallerStep) (quorums : List (List ℕ)) (me request other another : ℕ)
     → 1 ≤ b → AllByRecursion (IsRated a b) (events_of (steps_of steps)) → b * (lease + stop) ≤ a * ttl → DoMeet quorums
     → AreTold lapses ttl (lease + stop) (begins periods voters sessions) (steps_of steps)
-    → AreTrue ttl lease (lease + stop) me quorums (begins periods voters sessions) (begun_caller (used me)) steps
-    → AreTrue ttl lease (lease + stop) other quorums (begins periods voters sessions) (begun_caller (used other)) steps
+    → AllAsTold ttl lease (lease + stop) me quorums (begins periods voters sessions) (begun_caller (used me)) steps
+    → AllAsTold ttl lease (lease + stop) other quorums (begins periods voters sessions) (begun_caller (used other)) steps
     → CallWorks stop ((after_all ttl (lease + stop) (begins periods voters sessions) (events_of (steps_of steps))).sessions me).time
     (caller_after ttl lease (lease + stop) me (begins periods voters sessions) (begun_caller (used me)) steps) request
     → CallWorks stop ((after_all ttl (lease + stop) (begins periods voters sessions) (events_of (steps_of steps))).sessions other).time

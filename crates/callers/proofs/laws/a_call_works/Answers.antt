@@ -1,10 +1,10 @@
 use Rattle.std.proofs.Common.{[], ◌∷◌, refl, inl, arith}
 use Rattle.working.proofs.Example.{meet}
 use Rattle.working.specs.Example.{pairs, start}
-use Rattle.lock_calls.specs.Example.{seven_comes, seven_is_handed}
-use Rattle.lock_calls.specs.Worlds.{begun_caller}
-use Rattle.lock_calls.proofs.Example.{true_then}
-use Rattle.lock_calls.proofs.laws.a_call_works.Goals as goal
+use Rattle.callers.specs.Example.{seven_comes, seven_is_handed}
+use Rattle.callers.specs.Worlds.{begun_caller}
+use Rattle.callers.proofs.Example.{true_then}
+use Rattle.callers.proofs.laws.a_call_works.Goals as goal
 
 pub returns-clause-meet : goal.returns-clause-meet
 returns-clause-meet c = meet

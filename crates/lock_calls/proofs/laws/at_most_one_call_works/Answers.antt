@@ -1,5 +1,0 @@
-use Rattle.lock_calls.proofs.Working.{one_call_works}
-use Rattle.lock_calls.proofs.laws.at_most_one_call_works.Goals as goal
-
-pub returns : goal.returns
-returns c = one_call_works
