@@ -142,8 +142,9 @@ func (c *Client) unlock(h *Held) error {
 	l.held = nil
 	c.watch.end(h)
 	c.stats.Passes++
-	c.pump(l)                    // it leaves
-	c.pump(l)                    // and asks for who waits
+	c.pump(l) // it leaves
+	c.pump(l) // and asks for who waits
+
 	c.giveNumberBack(time.Now()) // who wants the lock again at once comes behind those that wait for a number
 	return err
 }
@@ -327,9 +328,6 @@ func (c *Client) giveUp(l *lock) {
 
 // askAgain gives a request up, and asks anew if somebody still wants the lock.
 func (c *Client) askAgain(l *lock) {
-	if !l.calls.MayEnd(l.shown.Stamp) {
-		return
-	}
 	c.giveUp(l)
 	c.pump(l)
 }
