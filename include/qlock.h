@@ -58,6 +58,7 @@ uint32_t qlock_version(void);
 #define QLOCK_VOTE_BYTES 72  /* what a session has of a voter for a lock */
 #define QLOCK_STAMPS_BYTES 24 /* under which stamps a session may ask a voter */
 #define QLOCK_CLAIM_BYTES 40 /* what a session keeps of its claims of a number */
+#define QLOCK_CALLS_BYTES 56 /* the calls of a process for a lock */
 
 /* How many bytes the pass has that a client shows to a guard. */
 #define QLOCK_PASS_BYTES 512
@@ -88,7 +89,7 @@ uint32_t qlock_version(void);
 enum {
     QLOCK_DONE = 0,
     QLOCK_BAD_ARGUMENT = 1, /* a number or the length of a pass is out of range, the mask of a quorum is 0, or there are none */
-    QLOCK_BAD_STATE = 2,    /* the bytes are no saved voter, client, guard, row, lease clock, token bucket, peer, start, lease, vote, stamps or claim, or not as many as it has */
+    QLOCK_BAD_STATE = 2,    /* the bytes are no saved voter, client, guard, row, lease clock, token bucket, peer, start, lease, vote, stamps, claim or calls, or not as many as it has */
     QLOCK_BAD_MESSAGE = 3,  /* the line is no message to this voter or client, or the bytes begin with no header, or with no line, or are no line of control */
     QLOCK_NO_ROOM = 4,      /* `out` is too short for the lines */
     QLOCK_BUSY = 5,         /* C1: the client is asking already, or is inside */
@@ -836,6 +837,111 @@ int32_t qlock_claim_gives_up(uint8_t *claim, size_t n);
 
    QLOCK_BAD_STATE  the bytes are no claim */
 int32_t qlock_claim_shows(const uint8_t *claim, size_t n, uint64_t *newest, uint64_t *epoch, uint64_t *accepted, uint64_t *base);
+
+/* ---- The calls of a process for a lock. `n` is always QLOCK_CALLS_BYTES.
+
+   Calls come, wait, are handed the lock, and give it back. The host keeps those that wait in their order; these bytes say how many they are,
+   and which one has the lock. `phase` is what the client of the lock shows (QLOCK_IDLE, QLOCK_ASKING or QLOCK_INSIDE), and `stamp` the stamp
+   of its request, which is looked at if it is inside (qlock_client_shows). After each call, and each change of the client or of its votes, the
+   host does what is next (qlock_calls_next), until that is nothing. If a vote may be somebody else's, it does what qlock_calls_spoiled says.
+
+   Each call has the lock under a request of its own. The request goes on until the call gives the lock back, also if the call was told that
+   the lock may be lost: until then votes that are left keep others out. So of all calls of all processes at most one works, from when the lock
+   was handed to it until it gives it back, up to `stop` after the last end of its votes that it was told (qlock_vote_until). This asks of a
+   host, besides what votes ask for:
+   - `counts` is 1 only if the end of each vote of the quorum is later than now.
+   - It ends a request only if qlock_calls_may_end says so, and gives no vote back while a call has the lock.
+   Keep the bytes as long as the client of the lock, in memory alone. */
+
+/* What a call is answered that comes. */
+enum {
+    QLOCK_CALL_TAKEN = 0,
+    QLOCK_CALL_CLOSED = 1,  /* the session is closed */
+    QLOCK_CALL_HELD = 2,    /* it only tries, and the lock is asked for, had, or waited for */
+    QLOCK_CALL_TOO_MANY = 3 /* 2 to the power of 64, less 1, wait already */
+};
+
+/* What the session has to do. */
+enum {
+    QLOCK_NEXT_NOTHING = 0,
+    QLOCK_NEXT_ASK = 1,     /* it asks for the lock with a new request */
+    QLOCK_NEXT_GIVE_UP = 2, /* it gives up the request by which it asks */
+    QLOCK_NEXT_LEAVE = 3,   /* it ends the request by which it is inside */
+    QLOCK_NEXT_HAND = 4,    /* it hands the lock to the first call that waits (qlock_calls_hands) */
+    QLOCK_NEXT_LOSE = 5     /* it tells the call that has the lock that it may be lost (qlock_calls_loses) */
+};
+
+/* How a call gives the lock back. */
+enum {
+    QLOCK_UNLOCK_NONE = 0, /* it does not have it under this request */
+    QLOCK_UNLOCK_DONE = 1,
+    QLOCK_UNLOCK_LOST = 2  /* it was told before that the lock may be lost */
+};
+
+/* Makes the calls for a lock that nobody wants yet. Its requests have stamps above `used`, as those of its client have.
+
+   QLOCK_BAD_STATE  `n` is not QLOCK_CALLS_BYTES */
+int32_t qlock_calls_new(uint64_t used, uint8_t *calls, size_t n);
+
+/* Takes a call that comes, behind all that wait. Writes to `*answer` whether it is taken (QLOCK_CALL_TAKEN), and why not: then nothing
+   changes. One that only tries, if `tries` is not 0, is taken only if it is the first, and nobody asks yet. It waits for votes alone.
+
+   QLOCK_BAD_STATE     the bytes are no calls
+   QLOCK_BAD_ARGUMENT  `phase` is none */
+int32_t qlock_calls_wants(uint8_t *calls, size_t n, uint32_t phase, uint64_t stamp, uint32_t tries, uint32_t *answer);
+
+/* Notes that a call does not wait any more, which only tried if `tries` is not 0.
+
+   QLOCK_BAD_STATE  the bytes are no calls */
+int32_t qlock_calls_unwants(uint8_t *calls, size_t n, uint32_t tries);
+
+/* Notes that somebody else has the lock. Writes 1 to `*yes` if that ends a call that only tries, which is the first that waits, and 0 if not.
+   Once the session is inside it ends none.
+
+   QLOCK_BAD_STATE     the bytes are no calls
+   QLOCK_BAD_ARGUMENT  `phase` is none */
+int32_t qlock_calls_refuses_tries(uint8_t *calls, size_t n, uint32_t phase, uint64_t stamp, uint32_t *yes);
+
+/* Hands the lock to the first call that waits, if that may have it: the session is inside by a request under which no call had it before,
+   no call has it now, and `counts` is not 0. Writes 1 to `*yes` if the call has it, and 0 if not: then nothing changes.
+
+   QLOCK_BAD_STATE     the bytes are no calls
+   QLOCK_BAD_ARGUMENT  `phase` is none */
+int32_t qlock_calls_hands(uint8_t *calls, size_t n, uint32_t phase, uint64_t stamp, uint32_t counts, uint32_t *yes);
+
+/* Takes the lock back from the call that has it under the request of this stamp. Writes how to `*how`: if it is QLOCK_UNLOCK_NONE, nothing
+   changes.
+
+   QLOCK_BAD_STATE  the bytes are no calls */
+int32_t qlock_calls_unlocks(uint8_t *calls, size_t n, uint64_t stamp, uint32_t *how);
+
+/* Notes that the lock may be lost. Writes 1 to `*yes` if the call that has it has to be told, as it was not told before, and 0 if not.
+
+   QLOCK_BAD_STATE  the bytes are no calls */
+int32_t qlock_calls_loses(uint8_t *calls, size_t n, uint32_t *yes);
+
+/* Notes that all calls that waited failed. If `closes` is not 0, none is taken any more. The call that has the lock has it on.
+
+   QLOCK_BAD_STATE  the bytes are no calls */
+int32_t qlock_calls_end(uint8_t *calls, size_t n, uint32_t closes);
+
+/* Writes to `*next` what the session has to do next. `doubtful` is not 0 if a vote that it has does not count any more.
+
+   QLOCK_BAD_STATE     the bytes are no calls
+   QLOCK_BAD_ARGUMENT  `phase` is none */
+int32_t qlock_calls_next(const uint8_t *calls, size_t n, uint32_t phase, uint64_t stamp, uint32_t counts, uint32_t doubtful, uint32_t *next);
+
+/* Writes to `*next` what the session has to do if a vote that it has may be somebody else's. If it gives up, or leaves, do then what is
+   next.
+
+   QLOCK_BAD_STATE     the bytes are no calls
+   QLOCK_BAD_ARGUMENT  `phase` is none */
+int32_t qlock_calls_spoiled(const uint8_t *calls, size_t n, uint32_t phase, uint64_t stamp, uint32_t *next);
+
+/* Writes 1 to `*yes` if the session may end its request of this stamp, as no call has the lock under it, and 0 if not.
+
+   QLOCK_BAD_STATE  the bytes are no calls */
+int32_t qlock_calls_may_end(const uint8_t *calls, size_t n, uint64_t stamp, uint32_t *yes);
 
 /* ---- The start of a voter among the other voters: so that no two processes of one voter give the same grant.
 

@@ -142,7 +142,6 @@ type Held struct {
 	lost   chan struct{}
 	until  atomic.Int64 // up to when its votes count, by uptime
 	over   atomic.Bool  // lost is closed
-	seen   bool         // the loop knows that it may be lost
 
 	turning *turning // the last call of Turn
 

@@ -21,8 +21,9 @@ const mostIdle = 4096
 type lock struct {
 	*qlock.Client
 	name  string
-	queue []*waiter // who wants it, first come, first served
-	held  *Held     // who has it
+	calls qlock.Calls // how many calls wait, which one has it, and what is next for them
+	queue []*waiter   // those that wait, first come, first served
+	held  *Held       // the one that has it
 	timer remind.Timer
 	asked time.Time
 	shown qlock.Shown
@@ -58,7 +59,10 @@ func (c *Client) find(name string) (*lock, error) {
 	if err != nil {
 		return nil, err
 	}
-	l := &lock{Client: client, name: name, kept: votes.New(c.used)}
+	l := &lock{Client: client, name: name, calls: qlock.NewCalls(c.used), kept: votes.New(c.used)}
+	if c.draining {
+		l.calls.Closes()
+	}
 	c.locks[name] = l
 	return l, nil
 }
@@ -74,18 +78,21 @@ func (c *Client) forget() {
 
 // enqueue puts a call of Lock behind the others.
 func (c *Client) enqueue(name string, w *waiter) error {
-	if c.draining {
-		return ErrClosed
-	}
-	if c.looks {
+	if c.looks && !c.draining {
 		return ErrLooks
 	}
 	l, err := c.find(name)
 	if err != nil {
 		return err
 	}
-	if w.tries && (len(l.queue) > 0 || l.shown.Phase != qlock.Idle) {
+	switch l.calls.Wants(l.shown, w.tries) {
+	case qlock.CallTaken:
+	case qlock.CallClosed:
+		return ErrClosed
+	case qlock.CallHeld:
 		return fmt.Errorf("%s: %w", name, ErrHeld)
+	default:
+		return fmt.Errorf("%s: too many calls wait", name)
 	}
 	l.queue = append(l.queue, w)
 	c.wasUsed = true
@@ -111,6 +118,7 @@ func (c *Client) dequeue(name string, w *waiter) {
 	for i, other := range l.queue {
 		if other == w {
 			l.queue = append(l.queue[:i:i], l.queue[i+1:]...)
+			l.calls.Unwants(w.tries)
 			break
 		}
 	}
@@ -119,20 +127,24 @@ func (c *Client) dequeue(name string, w *waiter) {
 
 // unlock gives a lock back. A holder that may have lost it hears so, also if no round noticed it yet.
 func (c *Client) unlock(h *Held) error {
-	if h.lock.held != h {
+	l := h.lock
+	if l.calls.MayEnd(h.stamp) { // h does not have it under its request
 		return ErrNotHeld
 	}
 	c.lapse()
-	var err error
 	if !h.lapse() {
 		c.lose(h)
+	}
+	var err error
+	if _, wasLost := l.calls.Unlocks(h.stamp); wasLost {
 		err = ErrLapsed
 	}
-	h.lock.held = nil
+	l.held = nil
 	c.watch.end(h)
 	c.stats.Passes++
-	c.leave(h.lock)
-	c.pump(h.lock)
+	c.pump(l) // it leaves
+	c.pump(l) // and asks for who waits
+
 	c.giveNumberBack(time.Now()) // who wants the lock again at once comes behind those that wait for a number
 	return err
 }
@@ -140,27 +152,33 @@ func (c *Client) unlock(h *Held) error {
 // lose closes Lost of a lock that is still held.
 func (c *Client) lose(h *Held) {
 	h.lapse()
-	if !h.seen {
-		h.seen = true
+	if h.lock.calls.Loses() {
 		c.stats.Lost++
 		c.note("lost", "lock=%s", h.lock.name)
 	}
 }
 
+// nextOf returns what is next for the calls of a lock.
+func (c *Client) nextOf(l *lock) qlock.Next {
+	var counts, isDoubtful bool
+	if l.shown.Phase == qlock.Inside && l.held == nil {
+		counts, isDoubtful = c.counts(l), c.isDoubtful(l)
+	}
+	return l.calls.Next(l.shown, counts, isDoubtful)
+}
+
 // pump does what a lock needs next.
 func (c *Client) pump(l *lock) {
-	switch {
-	case l.shown.Phase == qlock.Idle && len(l.queue) > 0:
+	switch c.nextOf(l) {
+	case qlock.Ask:
 		c.ask(l)
-	case l.shown.Phase == qlock.Asking && len(l.queue) == 0:
+	case qlock.GiveUp:
 		c.stats.GivenUp++
 		c.giveUp(l)
-	case l.shown.Phase == qlock.Inside && l.held == nil && len(l.queue) == 0:
-		c.leave(l)
-	case l.shown.Phase == qlock.Inside && l.held == nil && c.counts(l):
-		c.hand(l)
-	case l.shown.Phase == qlock.Inside && l.held == nil && c.isDoubtful(l):
+	case qlock.Leave:
 		c.leave(l) // the next round asks anew for who waits, after its heartbeat
+	case qlock.Hand:
+		c.hand(l)
 	}
 	if l.shown.Phase != qlock.Idle || len(l.queue) > 0 {
 		c.busy[l] = struct{}{}
@@ -178,6 +196,9 @@ func (c *Client) hand(l *lock) {
 	if err != nil {
 		c.refuse(l, fmt.Errorf("%s: %w", l.name, err))
 		c.leave(l)
+		return
+	}
+	if !l.calls.Hands(l.shown, c.counts(l)) {
 		return
 	}
 	w := l.queue[0]
@@ -198,6 +219,7 @@ func (c *Client) refuse(l *lock, why error) {
 		close(w.got)
 	}
 	l.queue = nil
+	l.calls.Empties()
 }
 
 // ask starts a request, if a quorum may be asked under its stamp. If not, it reserves more, and
@@ -410,29 +432,18 @@ func (c *Client) isHeld(name string, stamp, since uint64) {
 
 // isTried returns whether a call that waits for a lock only tries to take it.
 func (l *lock) isTried() bool {
-	for _, w := range l.queue {
-		if w.tries {
-			return true
-		}
-	}
-	return false
+	return len(l.queue) > 0 && l.queue[0].tries // it comes before all others
 }
 
-// refuseTries lets calls fail that only try to take a lock which somebody else has. Others wait on.
+// refuseTries lets a call fail that only tries to take a lock which somebody else has. Others wait on.
 func (c *Client) refuseTries(l *lock) {
-	if l.shown.Phase == qlock.Inside || !l.isTried() {
+	if !l.calls.RefusesTries(l.shown) {
 		return
 	}
-	var waiting []*waiter
-	for _, w := range l.queue {
-		if !w.tries {
-			waiting = append(waiting, w)
-			continue
-		}
-		w.why = l.heldBy()
-		close(w.got)
-	}
-	l.queue = waiting
+	w := l.queue[0] // a call that only tries comes before all others
+	l.queue = l.queue[1:]
+	w.why = l.heldBy()
+	close(w.got)
 	c.pump(l)
 }
 
@@ -446,14 +457,14 @@ func (c *Client) gone(name string, stamp uint64) {
 	c.spoil(l)
 }
 
-// spoil ends a request of which a vote may be somebody else's.
+// spoil does what is to be done if a vote may be somebody else's.
 func (c *Client) spoil(l *lock) {
-	switch {
-	case l.held != nil:
+	switch l.calls.Spoiled(l.shown) {
+	case qlock.Lose:
 		c.lose(l.held)
-	case l.shown.Phase == qlock.Asking:
+	case qlock.GiveUp:
 		c.askAgain(l)
-	case l.shown.Phase == qlock.Inside:
+	case qlock.Leave:
 		c.leave(l)
 		c.pump(l)
 	}
@@ -462,7 +473,7 @@ func (c *Client) spoil(l *lock) {
 // lapse ends the requests that have a vote of a voter which may have let it go.
 func (c *Client) lapse() {
 	for l := range c.busy {
-		if l.shown.Phase != qlock.Idle && c.isDoubtful(l) && (l.held == nil || !l.held.seen) {
+		if l.shown.Phase != qlock.Idle && c.isDoubtful(l) {
 			c.spoil(l)
 		}
 	}

@@ -836,7 +836,11 @@ func (c *Client) takers() (mask uint64) {
 
 // drain begins to close the session.
 func (c *Client) drain() {
-	if c.draining, c.idle = true, 0; c.looks {
+	c.draining, c.idle = true, 0
+	for _, l := range c.locks {
+		l.calls.Closes()
+	}
+	if c.looks {
 		c.isDrained()
 		return
 	}

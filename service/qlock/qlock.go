@@ -27,6 +27,7 @@ const (
 	VoteBytes   = C.QLOCK_VOTE_BYTES
 	StampsBytes = C.QLOCK_STAMPS_BYTES
 	ClaimBytes  = C.QLOCK_CLAIM_BYTES
+	CallsBytes  = C.QLOCK_CALLS_BYTES
 	PassBytes   = C.QLOCK_PASS_BYTES
 	MaxVoters   = C.QLOCK_MAX_VOTERS
 	MaxClients  = C.QLOCK_MAX_CLIENTS

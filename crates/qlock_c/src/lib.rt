@@ -1,7 +1,7 @@
 //! The library for C: the voter and the client of the lock, the guard of what the lock protects; at
 //! a voter the row of a client number, a lock with the rows that may speak about it, its quiet
-//! time, its start, the lease clock and token buckets; at a session its leases, votes, stamps and claims; and the
-//! headers and lines of control of a service's messages.
+//! time, its start, the lease clock and token buckets; at a session its leases, votes, stamps and
+//! claims, and the calls for a lock; and the headers and lines of control of a service's messages.
 //!
 //! A call gets the state as bytes, which are the caller's, and writes the new state in their place.
 //! Messages are lines of text, as `message` reads and writes them. No call takes memory, and there
@@ -11,7 +11,8 @@
 //!   `src/lock_calls.rt`: the functions that C calls, over `lock_blocks`.
 //! - `src/row_calls.rt`, `src/clock_calls.rt`, `src/bucket_calls.rt`, `src/start_calls.rt`,
 //!   `src/envelope_calls.rt`: those over `blocks`.
-//! - `src/session_calls.rt`: what a session keeps of its votes, its stamps and its claims, over `session_blocks`.
+//! - `src/session_calls.rt`: what a session keeps of its votes, its stamps and its claims, and the
+//!   calls for a lock, over `session_blocks`.
 //! - `src/version.rt`: the version, as a number.
 //! - `src/laws.rt`: each message has a line that its receiver takes, and the rooms in the header
 //!   are enough.
@@ -23,7 +24,8 @@
 //! 0, the automaton's own step gives the new state and the lines: `VoterSteps`, `ClientSteps` and
 //! `FenceSteps` in `lock_blocks/specs/`. What is said of quorums is in `QuorumSteps` there, and
 //! what a lock with rows does in `LockSteps`. Rows, lease clocks, token buckets, starts, headers,
-//! lines of control and refusals are in the crate `blocks`, leases, votes, and a session's stamps and claims in `session_blocks`.
+//! lines of control and refusals are in the crate `blocks`, leases, votes, a session's stamps and
+//! claims, and the calls for a lock in `session_blocks`.
 //!
 //! Depends on `lock_blocks`, `session_blocks`, `vote_leases`, `blocks`, `envelope`, `quiet_time`, `voter`, `requester`,
 //! `session_rows`, `starts`, `message`, `texts`, `words` and `numbers`.

@@ -1,13 +1,13 @@
-//! The calls of what a session keeps: leases, votes, its stamps at voters, and its claims of numbers.
+//! The calls of what a session keeps: leases, votes, its stamps at voters, its claims of numbers, and the calls for a lock.
 ghost use Rattle.std.specs.Prelude.{◌≡◌, ◌≢◌};
 ghost use Rattle.claims.specs.Claims.{given_up, saw};
 ghost use Rattle.vote_leases.specs.Leases.{ended, given_back, renewed};
-ghost use Rattle.session_blocks.specs.SessionSteps.{ClaimBecomes, ClaimIsAccepted, ClaimIsMade, ClaimShows, ClaimsNext, LeaseBecomes, LeaseHears, LeaseIsMade, StampsAreMade, StampsAreOwn, StampsHear, VoteAsks, VoteBecomes, VoteIsMade, VoteKeeps, VoteShowsEnd, VoteTakes};
+ghost use Rattle.session_blocks.specs.SessionSteps.{CallComes, CallGoes, CallUnlocks, CallsAreMade, CallsEnd, CallsShowEnd, CallsShowNext, CallsShowSpoiled, ClaimBecomes, ClaimIsAccepted, ClaimIsMade, ClaimShows, ClaimsNext, LeaseBecomes, LeaseHears, LeaseIsMade, LockIsHanded, LockMayBeLost, StampsAreMade, StampsAreOwn, StampsHear, TriesAreRefused, VoteAsks, VoteBecomes, VoteIsMade, VoteKeeps, VoteShowsEnd, VoteTakes};
 ghost use Rattle.blocks.specs.Numbers.{done};
 ghost use Rattle.blocks.specs.RowSteps.{is_yes};
 
 use blocks::number_of;
-use session_blocks::{leases, own_claims, stamps, votes};
+use session_blocks::{leases, own_calls, own_claims, stamps, votes};
 use vote_leases::{Incarnation, Locked};
 
 /// Makes the lease of a voter of which nothing was heard, in 40 bytes.
@@ -227,4 +227,130 @@ pub extern "C" fn qlock_claim_shows(
     ensures shows { ClaimShows claim.now newest.new epoch.new accepted.new base.new result }
 {
     number_of(own_claims::shows(claim, newest, epoch, accepted, base))
+}
+
+/// Makes the calls for a lock that nobody wants yet, in 56 bytes. The stamps of its requests are above this one.
+#[unsafe(no_mangle)]
+pub extern "C" fn qlock_calls_new(used: u64, calls: &mut [u8]) -> i32
+    ensures refused { result ≢ done → calls.new ≡ calls.old }
+    ensures made { CallsAreMade used calls.old calls.new result }
+{
+    number_of(own_calls::new(used, calls))
+}
+
+/// Takes a call that comes, in a phase of the client of the lock, whose request has this stamp. Writes 0 if it is taken, and else why it is
+/// refused: 1 if the session is closed, 2 if the call only tries and cannot be the first, and 3 if too many wait. Then nothing changes.
+#[unsafe(no_mangle)]
+pub extern "C" fn qlock_calls_wants(
+    calls: &mut [u8],
+    phase: u32,
+    stamp: u64,
+    tries: u32,
+    answer: &mut u32,
+) -> i32
+    ensures refused { result ≢ done → (calls.new ≡ calls.old) × (answer.new ≡ answer.old) }
+    ensures comes { CallComes phase stamp (is_yes tries) calls.old calls.new answer.new result }
+{
+    number_of(own_calls::wants(calls, phase, stamp, tries != 0, answer))
+}
+
+/// Notes that a call does not wait any more, which only tried or did not.
+#[unsafe(no_mangle)]
+pub extern "C" fn qlock_calls_unwants(calls: &mut [u8], tries: u32) -> i32
+    ensures refused { result ≢ done → calls.new ≡ calls.old }
+    ensures goes { CallGoes (is_yes tries) calls.old calls.new result }
+{
+    number_of(own_calls::unwants(calls, tries != 0))
+}
+
+/// Notes that somebody else has the lock. Writes 1 if that ends a call that only tries, and 0 if not.
+#[unsafe(no_mangle)]
+pub extern "C" fn qlock_calls_refuses_tries(
+    calls: &mut [u8],
+    phase: u32,
+    stamp: u64,
+    yes: &mut u32,
+) -> i32
+    ensures refused { result ≢ done → (calls.new ≡ calls.old) × (yes.new ≡ yes.old) }
+    ensures are { TriesAreRefused phase stamp calls.old calls.new yes.new result }
+{
+    number_of(own_calls::refuses_tries(calls, phase, stamp, yes))
+}
+
+/// Hands the lock to the first call that waits, if that may have it. Writes 1 if it has it now, and 0 if not: then nothing changes.
+#[unsafe(no_mangle)]
+pub extern "C" fn qlock_calls_hands(
+    calls: &mut [u8],
+    phase: u32,
+    stamp: u64,
+    counts: u32,
+    yes: &mut u32,
+) -> i32
+    ensures refused { result ≢ done → (calls.new ≡ calls.old) × (yes.new ≡ yes.old) }
+    ensures handed { LockIsHanded phase stamp (is_yes counts) calls.old calls.new yes.new result }
+{
+    number_of(own_calls::hands(calls, phase, stamp, counts != 0, yes))
+}
+
+/// Takes the lock back from the call that has it under the request of this stamp. Writes 1 if it is given back, 2 if the call was told before
+/// that it may be lost, and 0 if no call has it under this request: then nothing changes.
+#[unsafe(no_mangle)]
+pub extern "C" fn qlock_calls_unlocks(calls: &mut [u8], stamp: u64, how: &mut u32) -> i32
+    ensures refused { result ≢ done → (calls.new ≡ calls.old) × (how.new ≡ how.old) }
+    ensures unlocks { CallUnlocks stamp calls.old calls.new how.new result }
+{
+    number_of(own_calls::unlocks(calls, stamp, how))
+}
+
+/// Notes that the lock may be lost. Writes 1 if the call that has it has to be told, as it was not told before, and 0 if not.
+#[unsafe(no_mangle)]
+pub extern "C" fn qlock_calls_loses(calls: &mut [u8], yes: &mut u32) -> i32
+    ensures refused { result ≢ done → (calls.new ≡ calls.old) × (yes.new ≡ yes.old) }
+    ensures loses { LockMayBeLost calls.old calls.new yes.new result }
+{
+    number_of(own_calls::loses(calls, yes))
+}
+
+/// Notes that all calls that waited failed, and, if the session closes, that none is taken from now on.
+#[unsafe(no_mangle)]
+pub extern "C" fn qlock_calls_end(calls: &mut [u8], closes: u32) -> i32
+    ensures refused { result ≢ done → calls.new ≡ calls.old }
+    ensures end { CallsEnd (is_yes closes) calls.old calls.new result }
+{
+    number_of(own_calls::ends(calls, closes != 0))
+}
+
+/// Writes what the session has to do next: 0 nothing, 1 ask, 2 give up, 3 leave, 4 hand the lock to the first call that waits.
+#[unsafe(no_mangle)]
+pub extern "C" fn qlock_calls_next(
+    calls: &[u8],
+    phase: u32,
+    stamp: u64,
+    counts: u32,
+    doubtful: u32,
+    next: &mut u32,
+) -> i32
+    ensures refused { result ≢ done → next.new ≡ next.old }
+    ensures shows { CallsShowNext phase stamp (is_yes counts) (is_yes doubtful) calls.now next.new result }
+{
+    number_of(own_calls::next(calls, phase, stamp, counts != 0, doubtful != 0, next))
+}
+
+/// Writes what the session has to do if a vote that it has may be somebody else's: 0 nothing, 2 give up, 3 leave, 5 tell the call that has
+/// the lock that it may be lost.
+#[unsafe(no_mangle)]
+pub extern "C" fn qlock_calls_spoiled(calls: &[u8], phase: u32, stamp: u64, next: &mut u32) -> i32
+    ensures refused { result ≢ done → next.new ≡ next.old }
+    ensures shows { CallsShowSpoiled phase stamp calls.now next.new result }
+{
+    number_of(own_calls::spoiled(calls, phase, stamp, next))
+}
+
+/// Writes 1 if the session may end its request of this stamp, as no call has the lock under it, and 0 if not.
+#[unsafe(no_mangle)]
+pub extern "C" fn qlock_calls_may_end(calls: &[u8], stamp: u64, yes: &mut u32) -> i32
+    ensures refused { result ≢ done → yes.new ≡ yes.old }
+    ensures shows { CallsShowEnd stamp calls.now yes.new result }
+{
+    number_of(own_calls::may_end(calls, stamp, yes))
 }

@@ -1,8 +1,10 @@
--- The leases, the votes, the stamps and the claims that C sees: their numbers as bytes.
+-- The leases, the votes, the stamps, the claims and the calls that C sees: their numbers as bytes.
 use Rattle.std.specs.Prelude.{ℕ, ◌≡◌, List}
 use Rattle.words.specs.WordBytes.{FitIn64Bits, bytes_of}
 use Rattle.claims.specs.Claims as claims
 use Rattle.claims.specs.declared.claim.Claim.{Claim}
+use Rattle.callers.specs.Calls as calls
+use Rattle.callers.specs.declared.calls.Calls.{Calls}
 use Rattle.own_stamps.specs.Stamps.{words_of}
 use Rattle.own_stamps.specs.declared.stamps.OwnStamps.{OwnStamps}
 use Rattle.vote_leases.specs.Saved.{lease_words, vote_words}
@@ -44,3 +46,12 @@ pub record IsClaim (bytes : List ℕ) (claim : Claim) : Type 0 where
 -- the bytes are those of no claim
 abbrev pub IsNoClaim : List ℕ → Type 0
 IsNoClaim bytes = (claim : Claim) → IsClaim bytes claim → ⊥
+
+-- the bytes are those of these calls: each of their numbers fits in 64 bits
+pub record AreCalls (bytes : List ℕ) (those : Calls) : Type 0 where
+  pub fit : FitIn64Bits (calls.words_of those)
+  pub bytes_are : bytes ≡ bytes_of (calls.words_of those)
+
+-- the bytes are those of no calls
+abbrev pub AreNoCalls : List ℕ → Type 0
+AreNoCalls bytes = (those : Calls) → AreCalls bytes those → ⊥

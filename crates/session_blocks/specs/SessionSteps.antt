@@ -1,9 +1,18 @@
--- What the calls of leases, votes, stamps and claims return and write. Each is said for the one lease, vote or claim, or for the ones,
--- that the bytes are.
-use Rattle.std.specs.Prelude.{ℕ, ℤ, ◌≡◌, ◌≢◌, Bool, List, length, Option, None, Some, nat_lt, if◌then◌else◌}
+-- What the calls of leases, votes, stamps, claims and of the calls for a lock return and write. Each is said for the one lease, vote or
+-- claim, or for the ones, that the bytes are.
+use Rattle.std.specs.Prelude.{ℕ, ℤ, ◌≡◌, ◌≢◌, ◌==◌, Bool, true, false, List, length, Option, None, Some, nat_lt, if◌then◌else◌}
 use Rattle.claims.specs.Claims.{accepted_by, claims_next, is_accepted_by, next_epoch}
 use Rattle.claims.specs.Claims as claims
 use Rattle.claims.specs.declared.claim.Claim.{Claim}
+use Rattle.callers.specs.Calls.{call_fault, closed, emptied, ends_try, handed, is_new_loss, lost, lost_of, may_end, may_hand, next, spoiled, tries_refused, unlocked, unwanted, wanted}
+use Rattle.callers.specs.Calls as calls
+use Rattle.callers.specs.declared.calls.Calls.{Calls}
+use Rattle.callers.specs.declared.calls.Next.{Next}
+use Rattle.callers.specs.declared.calls.Next.TheVariants.{Nothing, Ask, GiveUp, Leave, Hand, Lose}
+use Rattle.callers.specs.declared.calls.Phase.{Phase}
+use Rattle.callers.specs.declared.calls.Phase.TheVariants.{Idle, Asking, Inside}
+use Rattle.callers.specs.declared.fault.CallFault.{CallFault}
+use Rattle.callers.specs.declared.fault.CallFault.TheVariants.{Closed, Held, TooMany}
 use Rattle.own_stamps.specs.Stamps.{is_own, told, untold}
 use Rattle.own_stamps.specs.declared.stamps.OwnStamps.{OwnStamps}
 use Rattle.vote_leases.specs.Leases.{asked, begun_lease, begun_vote, heard, is_same, is_taken, kept, taken, until}
@@ -12,10 +21,10 @@ use Rattle.vote_leases.specs.declared.lease.VoterLease.{VoterLease}
 use Rattle.vote_leases.specs.declared.vote.Locked.{Locked}
 use Rattle.vote_leases.specs.declared.vote.Vote.{Vote}
 use Rattle.blocks.specs.Numbers.{done, refused}
-use Rattle.blocks.specs.declared.refusal.Refusal.TheVariants.{BadState}
-use Rattle.session_blocks.specs.Bytes.{AreNoStamps, AreStamps, IsClaim, IsLease, IsNoClaim, IsNoLease, IsNoVote, IsVote}
+use Rattle.blocks.specs.declared.refusal.Refusal.TheVariants.{BadArgument, BadState}
+use Rattle.session_blocks.specs.Bytes.{AreCalls, AreNoCalls, AreNoStamps, AreStamps, IsClaim, IsLease, IsNoClaim, IsNoLease, IsNoVote, IsVote}
 
--- how many bytes a lease, a vote, stamps and a claim have
+-- how many bytes a lease, a vote, stamps, a claim and calls have
 abbrev pub lease_bytes : ℕ
 lease_bytes = 40
 
@@ -27,6 +36,9 @@ stamps_bytes = 24
 
 abbrev pub claim_bytes : ℕ
 claim_bytes = 40
+
+abbrev pub calls_bytes : ℕ
+calls_bytes = 56
 
 -- a truth as a number
 abbrev pub yes_of : Bool → ℕ
@@ -136,3 +148,98 @@ pub record ClaimShows (bytes : List ℕ) (newest epoch accepted base : ℕ) (res
   pub no_claim : IsNoClaim bytes → result ≡ refused BadState
   pub shows : (c : Claim) → IsClaim bytes c
       → (result ≡ done) × (newest ≡ c.newest) × (epoch ≡ or_zero c.epoch) × (accepted ≡ c.accepted) × (base ≡ c.base)
+
+-- ---- calls for a lock
+
+-- the phase with this number, of a session whose request has this stamp
+abbrev pub phase_of : ℕ → ℕ → Option Phase
+phase_of number request =
+    if number == 0 then Some Idle else if number == 1 then Some Asking else if number == 2 then Some (Inside request) else None
+
+-- why a call is refused, as a number: 0 if it is taken
+abbrev pub fault_number : Option CallFault → ℕ
+fault_number None = 0
+fault_number (Some Closed) = 1
+fault_number (Some Held) = 2
+fault_number (Some TooMany) = 3
+
+-- what is next, as a number
+abbrev pub next_number : Next → ℕ
+next_number Nothing = 0
+next_number Ask = 1
+next_number GiveUp = 2
+next_number Leave = 3
+next_number Hand = 4
+next_number Lose = 5
+
+-- how a call gave the lock back, as a number: 0 if it did not have it, 2 if it was told before that the lock may be lost
+abbrev pub unlock_number : Option Bool → ℕ
+unlock_number None = 0
+unlock_number (Some false) = 1
+unlock_number (Some true) = 2
+
+-- the calls are made of a lock that nobody wants
+pub record CallsAreMade (used : ℕ) (before after : List ℕ) (result : ℤ) : Type 0 where
+  pub bad_state : length before ≢ calls_bytes → result ≡ refused BadState
+  pub made : length before ≡ calls_bytes → (result ≡ done) × AreCalls after (calls.begun used)
+
+-- a call comes in this phase
+pub record CallComes (phase request : ℕ) (tries : Bool) (before after : List ℕ) (why : ℕ) (result : ℤ) : Type 0 where
+  pub no_calls : AreNoCalls before → result ≡ refused BadState
+  pub no_phase : (c : Calls) → AreCalls before c → phase_of phase request ≡ None → result ≡ refused BadArgument
+  pub comes : (c : Calls) (p : Phase) → AreCalls before c → phase_of phase request ≡ Some p
+      → (result ≡ done) × AreCalls after (wanted c p tries) × (why ≡ fault_number (call_fault c p tries))
+
+-- a call does not wait any more
+pub record CallGoes (tries : Bool) (before after : List ℕ) (result : ℤ) : Type 0 where
+  pub no_calls : AreNoCalls before → result ≡ refused BadState
+  pub goes : (c : Calls) → AreCalls before c → (result ≡ done) × AreCalls after (unwanted c tries)
+
+-- somebody else has the lock: 1 if that ends a call that only tries, and 0 if not
+pub record TriesAreRefused (phase request : ℕ) (before after : List ℕ) (yes : ℕ) (result : ℤ) : Type 0 where
+  pub no_calls : AreNoCalls before → result ≡ refused BadState
+  pub no_phase : (c : Calls) → AreCalls before c → phase_of phase request ≡ None → result ≡ refused BadArgument
+  pub are : (c : Calls) (p : Phase) → AreCalls before c → phase_of phase request ≡ Some p
+      → (result ≡ done) × AreCalls after (tries_refused c p) × (yes ≡ yes_of (ends_try c p))
+
+-- the lock is handed to the first call that waits, if that may have it: 1 if so, and 0 if not
+pub record LockIsHanded (phase request : ℕ) (counts : Bool) (before after : List ℕ) (yes : ℕ) (result : ℤ) : Type 0 where
+  pub no_calls : AreNoCalls before → result ≡ refused BadState
+  pub no_phase : (c : Calls) → AreCalls before c → phase_of phase request ≡ None → result ≡ refused BadArgument
+  pub handed : (c : Calls) (p : Phase) → AreCalls before c → phase_of phase request ≡ Some p
+      → (result ≡ done) × AreCalls after (handed c p counts) × (yes ≡ yes_of (may_hand c p counts))
+
+-- a call gives the lock back
+pub record CallUnlocks (request : ℕ) (before after : List ℕ) (how : ℕ) (result : ℤ) : Type 0 where
+  pub no_calls : AreNoCalls before → result ≡ refused BadState
+  pub unlocks : (c : Calls) → AreCalls before c
+      → (result ≡ done) × AreCalls after (unlocked c request) × (how ≡ unlock_number (lost_of c request))
+
+-- the lock may be lost: 1 if a call has to be told, and 0 if not
+pub record LockMayBeLost (before after : List ℕ) (yes : ℕ) (result : ℤ) : Type 0 where
+  pub no_calls : AreNoCalls before → result ≡ refused BadState
+  pub loses : (c : Calls) → AreCalls before c → (result ≡ done) × AreCalls after (lost c) × (yes ≡ yes_of (is_new_loss c))
+
+-- all calls that wait fail, and none is taken from now on if the session closes
+pub record CallsEnd (closes : Bool) (before after : List ℕ) (result : ℤ) : Type 0 where
+  pub no_calls : AreNoCalls before → result ≡ refused BadState
+  pub end : (c : Calls) → AreCalls before c → (result ≡ done) × AreCalls after (if closes then closed c else emptied c)
+
+-- what the session has to do next
+pub record CallsShowNext (phase request : ℕ) (counts doubtful : Bool) (bytes : List ℕ) (shown : ℕ) (result : ℤ) : Type 0 where
+  pub no_calls : AreNoCalls bytes → result ≡ refused BadState
+  pub no_phase : (c : Calls) → AreCalls bytes c → phase_of phase request ≡ None → result ≡ refused BadArgument
+  pub shows : (c : Calls) (p : Phase) → AreCalls bytes c → phase_of phase request ≡ Some p
+      → (result ≡ done) × (shown ≡ next_number (next c p counts doubtful))
+
+-- what it has to do if a vote may be somebody else's
+pub record CallsShowSpoiled (phase request : ℕ) (bytes : List ℕ) (shown : ℕ) (result : ℤ) : Type 0 where
+  pub no_calls : AreNoCalls bytes → result ≡ refused BadState
+  pub no_phase : (c : Calls) → AreCalls bytes c → phase_of phase request ≡ None → result ≡ refused BadArgument
+  pub shows : (c : Calls) (p : Phase) → AreCalls bytes c → phase_of phase request ≡ Some p
+      → (result ≡ done) × (shown ≡ next_number (spoiled c p))
+
+-- whether the session may end its request of this stamp: 1 if it may, and 0 if not
+pub record CallsShowEnd (request : ℕ) (bytes : List ℕ) (yes : ℕ) (result : ℤ) : Type 0 where
+  pub no_calls : AreNoCalls bytes → result ≡ refused BadState
+  pub shows : (c : Calls) → AreCalls bytes c → (result ≡ done) × (yes ≡ yes_of (may_end c request))

@@ -1,0 +1,4 @@
+pub mod Calls
+pub mod Example
+pub mod Steps
+pub mod Worlds
