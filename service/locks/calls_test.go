@@ -111,8 +111,8 @@ func TestLossIsSaidOnce(t *testing.T) {
 	if l.shown.Phase != qlock.Inside || !h.over.Load() || c.stats.Lost != 1 {
 		t.Errorf("%v, and %d were lost", l.shown, c.stats.Lost)
 	}
-	if err := c.unlock(h); !errors.Is(err, ErrLapsed) || l.shown.Phase != qlock.Idle {
-		t.Errorf("%v: %v", l.shown, err)
+	if err := c.unlock(h); !errors.Is(err, ErrLapsed) || l.shown.Phase != qlock.Idle || c.stats.Lost != 1 {
+		t.Errorf("%v, and %d were lost: %v", l.shown, c.stats.Lost, err)
 	}
 	if err := c.unlock(h); !errors.Is(err, ErrNotHeld) {
 		t.Error(err)

@@ -1,5 +1,5 @@
--- The calls of one process for one lock: which wait, which one has the lock, and what the session has to do for them. They are
--- served in the order in which they came.
+-- The calls of one process for one lock: how many wait, which one has the lock, and what the session has to do for them. Its host keeps
+-- those that wait in their order.
 use Rattle.std.specs.Prelude.{ℕ, ◌+◌, ◌-◌, ◌^◌, ◌==◌, nat_lt, nat_le, Bool, true, false, ◌&&◌, ◌||◌, not, List, [], ◌∷◌, ◌++◌, Option, Some, None, is_none, is_some, if◌then◌else◌}
 use Rattle.callers.specs.declared.calls.Calls.{Calls}
 use Rattle.callers.specs.declared.calls.Holder.{Holder}
@@ -163,6 +163,15 @@ spoiled_of (Some h) phase = if h.is_lost then Nothing else Lose
 
 abbrev pub spoiled : Calls → Phase → Next
 spoiled c phase = spoiled_of c.holder phase
+
+-- what is to be done ends the request
+abbrev pub ends_request : Next → Bool
+ends_request Nothing = false
+ends_request Ask = false
+ends_request GiveUp = true
+ends_request Leave = true
+ends_request Hand = false
+ends_request Lose = false
 
 -- ---- saved
 

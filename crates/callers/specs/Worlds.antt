@@ -86,7 +86,7 @@ abbrev pub IfOwn : Bool → Type 0 → Type 0
 IfOwn false P = Unit {0}
 IfOwn true P = P
 
--- While a call has the lock, its request does not end, and no vote is given back: `next` and `spoiled` ask for neither.
+-- While a call has the lock, its request does not end, and no vote is given back: `next` and `spoiled` end no such request.
 abbrev pub EndsLater : ℕ → Calls → Event → Type 0
 EndsLater me c (Ends session request) = IfOwn (session == me) (may_end c request ≡ true)
 EndsLater me c (GivesBack session voter number) = IfOwn (session == me) (has_lock c ≡ false)
@@ -100,7 +100,8 @@ StepsLater me c (Holds session voter) = Unit {0}
 
 -- A call gets the lock only if votes count for its request up to the time that it is told.
 abbrev pub IsHanded : ℕ → List (List ℕ) → Caller → CallStep → ℕ → Type 0
-IsHanded lease quorums o (Hands (Inside request) counts) time = may_hand o.calls (Inside request) counts ≡ true → HasVotesTo lease quorums o.kept request time
+IsHanded lease quorums o (Hands (Inside request) counts) time =
+    may_hand o.calls (Inside request) counts ≡ true → HasVotesTo lease quorums o.kept request time
 IsHanded lease quorums o (Hands Idle counts) time = Unit {0}
 IsHanded lease quorums o (Hands Asking counts) time = Unit {0}
 IsHanded lease quorums o (Wants phase tries) time = Unit {0}
@@ -112,15 +113,16 @@ IsHanded lease quorums o Empties time = Unit {0}
 IsHanded lease quorums o Closes time = Unit {0}
 
 -- what this session does in a step is what its calls and its votes say
-abbrev pub DoesAsTold : ℕ → ℕ → List (List ℕ) → World → Caller → CallerStep → Type 0
-DoesAsTold lease me quorums w o (InWorld s) = StepsLater me o.calls s
-DoesAsTold lease me quorums w o (ToCalls session s time) = IfOwn (session == me) (IsHanded lease quorums o s time)
-DoesAsTold lease me quorums w o (TellsUntil session time) = IfOwn (session == me) ((request : ℕ) → HasLock o.calls request → HasVotesTo lease quorums o.kept request time)
+abbrev pub DoesAsTold : ℕ → ℕ → List (List ℕ) → Caller → CallerStep → Type 0
+DoesAsTold lease me quorums o (InWorld s) = StepsLater me o.calls s
+DoesAsTold lease me quorums o (ToCalls session s time) = IfOwn (session == me) (IsHanded lease quorums o s time)
+DoesAsTold lease me quorums o (TellsUntil session time) =
+    IfOwn (session == me) ((request : ℕ) → HasLock o.calls request → HasVotesTo lease quorums o.kept request time)
 
 abbrev pub AllAsTold : ℕ → ℕ → ℕ → ℕ → List (List ℕ) → World → Caller → List CallerStep → Type 0
 AllAsTold ttl lease span me quorums w o [] = Unit {0}
 AllAsTold ttl lease span me quorums w o (s ∷ steps) =
-    DoesAsTold lease me quorums w o s × AllAsTold ttl lease span me quorums (world_then ttl span w s) (caller_then lease me w o s) steps
+    DoesAsTold lease me quorums o s × AllAsTold ttl lease span me quorums (world_then ttl span w s) (caller_then lease me w o s) steps
 
 -- ---- when a call works
 

@@ -6,7 +6,7 @@ ghost use Rattle.working.specs.Example.{pairs, start};
 ghost use Rattle.vote_leases.specs.Example.{lapses_of};
 ghost use Rattle.vote_leases.specs.Sessions.{AreTold, events_of};
 ghost use Rattle.vote_leases.specs.declared.incarnation.Incarnation.{Incarnation};
-ghost use Rattle.callers.specs.Calls.{has_lock, is_new_loss, lost, lost_of, may_hand, next, spoiled};
+ghost use Rattle.callers.specs.Calls.{ends_request, has_lock, is_new_loss, lost, lost_of, may_end, may_hand, next, spoiled};
 ghost use Rattle.callers.specs.Example.{a_call_of_eight, a_call_of_seven};
 ghost use Rattle.callers.specs.Steps.{CallStep, GaveBack, Hands, HasLock, KeepsLock, CallsAreServed, all_call_stepped, call_stepped};
 ghost use Rattle.callers.specs.Worlds.{AllAsTold, CallWorks, CallerStep, begun_caller, caller_after, steps_of};
@@ -33,10 +33,13 @@ pub fn each_call_has_its_own_request()
 {}
 
 /// Votes are given back after the call: while a call has the lock, there is nothing to do for the session, whatever its votes do, but
-/// to tell the call that the lock may be lost. So its request goes on, and keeps others out where votes are left.
+/// to tell the call that the lock may be lost. So its request goes on, and keeps others out where votes are left: each request
+/// that the session is to end may end.
 pub fn votes_are_given_back_after_the_call()
-    ensures { (c : Calls) (phase : Phase) (counts doubtful : Bool) → has_lock c ≡ true
-        → (next c phase counts doubtful ≡ Nothing) × ((spoiled c phase ≡ Nothing) ⊎ (spoiled c phase ≡ Lose)) }
+    ensures next { (c : Calls) (phase : Phase) (counts doubtful : Bool) → has_lock c ≡ true → next c phase counts doubtful ≡ Nothing }
+    ensures spoiled { (c : Calls) (phase : Phase) → has_lock c ≡ true → (spoiled c phase ≡ Nothing) ⊎ (spoiled c phase ≡ Lose) }
+    ensures may_end { (c : Calls) (phase : Phase) (counts doubtful : Bool) (request : ℕ) → ends_request (next c phase counts doubtful) ≡ true → may_end c request ≡ true }
+    ensures may_end_then { (c : Calls) (phase : Phase) (request : ℕ) → ends_request (spoiled c phase) ≡ true → may_end c request ≡ true }
 {}
 
 /// A call is told once that the lock may be lost, whatever comes until it gives the lock back, and that gives the same answer.
@@ -63,8 +66,8 @@ pub fn what_is_next_may_be_handed()
 /// that it has the lock is no longer than `stop` ago, its session works under its request in the sense of `working`. So it is though
 /// what the session keeps may have forgotten a vote.
 ///
-/// `AllAsTold` says that the session does what its calls say: it ends no request, and gives no vote back, while a call has the lock, and
-/// tells a call a time only if all votes of a quorum count up to it.
+/// `AllAsTold` says that the session does what its calls say: it ends no request under which a call has the lock, gives no vote back
+/// while one has it, and tells a call a time only if all votes of a quorum count up to it.
 pub fn a_call_that_works_has_its_votes()
     ensures { (lapses : ℕ → ℕ → Incarnation → ℕ) (ttl lease stop : ℕ) (periods voters sessions : ℕ → ℕ) (used : ℕ) (steps : List CallerStep) (quorums : List (List ℕ)) (me request : ℕ)
         → DoMeet quorums → AreTold lapses ttl (lease + stop) (begins periods voters sessions) (steps_of steps)
