@@ -5,6 +5,7 @@ import (
 	"fmt"
 	"strings"
 	"sync"
+	"sync/atomic"
 	"testing"
 	"time"
 
@@ -157,6 +158,50 @@ func TestVoterBecomesOlder(t *testing.T) {
 		if err := held.Unlock(); err != nil {
 			t.Error(err)
 		}
+	}
+}
+
+// counting is a carrier that counts the bundles that come.
+type counting struct {
+	*transport.NATS
+	came atomic.Int64
+}
+
+func (c *counting) Listen(boxes string) (<-chan transport.Message, error) {
+	from, err := c.NATS.Listen(boxes)
+	to := make(chan transport.Message, 1<<10)
+	go func() {
+		for m := range from {
+			if bytes.Contains(m.Data, []byte("\n\n")) {
+				c.came.Add(1)
+			}
+			to <- m
+		}
+	}()
+	return to, err
+}
+
+// The permissions that users have let their processes get bundles, from voters that are users, too.
+func TestUsersGetBundles(t *testing.T) {
+	cluster, folder := secured(t)
+	if cluster.Shards = 8; cluster.Check() != nil {
+		t.Fatal(cluster.Check())
+	}
+	serve(t, cluster, folder)
+	carrier := &counting{NATS: connect(t, cluster, access(folder, "shop"))}
+	client, err := open(within(t, 20*time.Second), cluster, Config{User: "shop", Transport: carrier})
+	if err != nil {
+		t.Fatal(err)
+	}
+	w := &worlds.World{Cluster: cluster}
+	passAll(t, w, client, 0)
+	soon(t, "no bundles come", func() bool { return readers(client) == 3 && carrier.came.Load() > 3 })
+	passAll(t, w, client, 0)
+	if stats := client.Stats(); stats.Lost > 0 || stats.Refused > 0 || carrier.Refusal() != nil {
+		t.Errorf("%+v, %v", stats, carrier.Refusal())
+	}
+	if err := client.Close(within(t, 20*time.Second)); err != nil {
+		t.Error(err)
 	}
 }
 
