@@ -161,6 +161,33 @@ func TestVoterBecomesOlder(t *testing.T) {
 	}
 }
 
+// The mailbox of a process ends with its client and all its sessions, and no earlier: a session may go on for a while.
+func TestMailboxOfAProcess(t *testing.T) {
+	w := newShards(t, 4, 4*time.Second)
+	before := w.Bus.Boxes()
+	c := startWith(t, w, Config{})
+	passAll(t, w, c, 0)
+	if boxes := w.Bus.Boxes() - before; boxes != 6 { // of the client, the process, and four sessions
+		t.Fatalf("%d mailboxes", boxes)
+	}
+	if err := c.Close(within(t, 20*time.Second)); err != nil {
+		t.Error(err)
+	}
+	soon(t, "mailboxes stay", func() bool { return w.Bus.Boxes()-before == 1 })
+	s := &shards{boxes: map[string]*mailbox{}, over: make(chan struct{}), bundles: &bundles{}}
+	one := &Client{}
+	one.header.Name = "one"
+	s.listens(one)
+	if s.stops(); s.isOver {
+		t.Error("it ends before a session that goes on")
+	}
+	if s.leaves("one"); !s.isOver {
+		t.Error("it does not end with the last session")
+	}
+	s.listens(one)
+	s.leaves("one") // of a call that was under way
+}
+
 // counting is a carrier that counts the bundles that come.
 type counting struct {
 	*transport.NATS
