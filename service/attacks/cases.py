@@ -49,6 +49,7 @@ from secure import Secure, Speaker, authority, certificate, server_file, start_s
 GREAT_STAMP = (1 << 62) - 1
 NEXT = PROGRAMS.parent / "next"  # programs that know one level more: service/build --next
 FLOOD = 256 << 10
+BUNDLED = 256  # messages in a bundle, at most
 PAGE_BYTES = 4096
 FIBMAP = 1
 CLONE_NEWNET = 0x40000000
@@ -176,22 +177,25 @@ def word_of_one_voter(room: Path) -> bool:
 # What a message may cost
 
 
-def flood(c: Cluster, line: str, size: int, voters: range) -> None:
-    """Sends so many bytes of a line to each of these voters, as fast as they go."""
+def flood(c: Cluster, line: str, size: int, voters: range, bundled: bool) -> None:
+    """Sends so many bytes of a line to each of these voters, as fast as they go: in long messages, or in bundles of short ones."""
     stranger = Stranger(c)
-    for _ in range(size // FLOOD):
+    lines = line * (FLOOD // len(line))
+    if bundled:
+        lines = line + ("\n" + stranger.header("c", "0 0 0 flood 1") + line) * (BUNDLED - 1)
+    for _ in range(size // len(lines)):
         for voter in voters:
-            stranger.say(voter, 0, 0, 0, "flood", line * (FLOOD // len(line)))
+            stranger.say(voter, 0, 0, 0, "flood", lines)
     stranger.must_arrive()
 
 
-def stands_flood(room: Path, line: str, size: int, voters: range) -> bool:
+def stands_flood(room: Path, line: str, size: int, voters: range, bundled: bool = False) -> bool:
     """Whether the holder of twenty locks keeps them under a flood, and others go on."""
     c = Cluster(room, ttl="5s")
     holder, other = Session(c), Session(c)
     print("the holder:", holder.ask("take kept 20", "taken", 60))
     began = time.monotonic()
-    flood(c, line, size, voters)
+    flood(c, line, size, voters, bundled)
     goes_on = other.has("meanwhile", 10)
     took = time.monotonic() - began
     is_healthy = until(lambda: all(c.health(voter) == 200 for voter in NAMES), 8)
@@ -205,6 +209,12 @@ def stands_flood(room: Path, line: str, size: int, voters: range) -> bool:
 def flood_of_questions(room: Path) -> bool:
     """One megabyte of `hello` to each voter, of somebody without a session, may lose no lock."""
     return stands_flood(room, ". hello\n", 1 << 20, range(len(NAMES)))
+
+
+@case(120)
+def flood_of_bundles(room: Path) -> bool:
+    """One megabyte of bundles to each voter, with one `hello` in each of their messages, may lose no lock."""
+    return stands_flood(room, ". hello\n", 1 << 20, range(len(NAMES)), bundled=True)
 
 
 @case(120)

@@ -132,10 +132,9 @@ func connect(t *testing.T, cluster *config.Cluster, access config.Access) *trans
 	return link
 }
 
-// With certificates and users a client passes and an operator sees it. Another client hears nothing of it, and can't
-// speak to voters as an operator, or as a voter to it.
-func TestCertificatesAndUsers(t *testing.T) {
-	cluster, folder := secured(t)
+// serve starts the voters of a cluster, each as its own user.
+func serve(t *testing.T, cluster *config.Cluster, folder string) {
+	t.Helper()
 	for i, name := range cluster.Planned.Names {
 		own := worlds.NewVoter(name, filepath.Join(folder, "voter-"+name))
 		if _, err := voter.Init(own, cluster); err != nil {
@@ -155,6 +154,13 @@ func TestCertificatesAndUsers(t *testing.T) {
 			}
 		})
 	}
+}
+
+// With certificates and users a client passes and an operator sees it. Another client hears nothing of it, and can't
+// speak to voters as an operator, or as a voter to it.
+func TestCertificatesAndUsers(t *testing.T) {
+	cluster, folder := secured(t)
+	serve(t, cluster, folder)
 	shop := connect(t, cluster, access(folder, "shop"))
 	client, err := open(within(t, 20*time.Second), cluster, Config{User: "shop", Transport: shop})
 	if err != nil {

@@ -326,9 +326,11 @@ func (r *process) checkTaken(m transport.Message) {
 		if !found {
 			return
 		}
-		said, no := qlock.ReadClientSays(line)
-		if lines = rest; no == nil && said.Kind == qlock.Drop && said.Number == c.asked && said.First > 0 && said.First == c.claims[said.Number].Shows().Epoch {
-			r.violated("claims", "voter %d hears from client %d that it takes back epoch %d of number %d, which it claims", r.number, c.id, said.First, said.Number)
+		said, wrong := qlock.ReadClientSays(line)
+		lines = rest
+		isTakenBack := wrong == nil && said.Kind == qlock.Drop && said.First > 0
+		if isTakenBack && said.Number == c.asked && said.First == c.claims.Claimed(c.asked) {
+			r.violated("claims", "voter %d hears that client %d takes epoch %d of number %d back, which it claims", r.number, c.id, said.First, said.Number)
 		}
 	}
 }

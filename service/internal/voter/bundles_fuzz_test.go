@@ -51,7 +51,8 @@ func FuzzBundle(f *testing.F) {
 	s := newStage(f)
 	me, other := s.said(0, 1, 200, "me", "orders release 0 0 1\nqlock2 request 0 0 2\n"), s.said(1, 1, 200, "other", ". open 0\norders request 1 0 3\n")
 	for _, seed := range [][][]byte{{me}, {me, other}, {other, []byte("junk\n"), me}, {s.said(0, 0, 0, "nobody", ". hello\n"), other, other},
-		{s.said(0, 1, 200, "me", ". process p\n. open 0\n"), s.said(1, 1, 200, "other", ". process p\nno line\n"), s.said(2, 1, 200, "third", ". claim 2 1 9\n")},
+		{s.said(0, 1, 200, "me", ". process p\n. open 0\n"), s.said(1, 1, 200, "other", ". process p\nno line\n"),
+			s.said(2, 1, 200, "third", ". claim 2 1 9\n")},
 		{s.said(0, 7, 1<<50, "evil", "orders request 0 0 9\n"), me, []byte("qlock2 \n"), []byte("\n"), other}} {
 		var b wire.Bundle
 		for _, message := range seed {

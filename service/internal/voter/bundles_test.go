@@ -53,7 +53,10 @@ func claimed(t *testing.T, sessions int) *Daemon {
 // Each message of a bundle is taken as if it had come alone: those that are refused are counted, and the others go on.
 func TestMessagesOfABundle(t *testing.T) {
 	d := claimed(t, 4)
-	foreign, refused, received := testutil.ToFloat64(d.m.foreign), testutil.ToFloat64(d.m.refused), testutil.ToFloat64(d.m.received)
+	counts := func() [3]float64 {
+		return [3]float64{testutil.ToFloat64(d.m.received), testutil.ToFloat64(d.m.foreign), testutil.ToFloat64(d.m.refused)}
+	}
+	before := counts()
 	other := wire.Header{Cluster: "other", Coterie: d.mark, Kind: wire.FromClient, Number: 1, Epoch: 1, Name: "session-1"}
 	d.sends("jobs", speaks(d, 1, "qlock2 request 1 0 1\n"), other.Append(nil), []byte("junk\n"), speaks(d, 2, "qlock2 release 1 0 1\n"),
 		speaks(d, 3, ". open 0\nno line\n"), speaks(d, 4, "qlock2 request 4 0 2\nstock request 4 0 3\n"))
@@ -65,9 +68,10 @@ func TestMessagesOfABundle(t *testing.T) {
 	if held := d.votes["qlock2"].held; held.Client != 1 {
 		t.Errorf("the vote is had by %+v", held)
 	}
-	foreign, refused, received = testutil.ToFloat64(d.m.foreign)-foreign, testutil.ToFloat64(d.m.refused)-refused, testutil.ToFloat64(d.m.received)-received
-	if foreign != 2 || refused != 2 || received != 6 {
-		t.Errorf("of %v messages %v are foreign, and %v lines are refused", received, foreign, refused)
+	for i, more := range [3]float64{6, 2, 2} {
+		if count := counts()[i] - before[i]; count != more {
+			t.Errorf("of messages, foreign ones and refused lines (%d): %v are counted, and not %v", i, count, more)
+		}
 	}
 	if d.sends("other", speaks(d, 1, "lists request 1 0 4\n"), speaks(d, 2, "lists request 2 0 5\n")); d.votes["lists"] != nil {
 		t.Error("a user speaks for sessions of another one")

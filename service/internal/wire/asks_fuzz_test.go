@@ -9,7 +9,8 @@ import (
 // asks are lines of control that have a text, or ask who has a lock, and what voters say to them.
 var asks = []string{"note", "note m0 17 root nightly", "about orders 17 m0 1 root x", "who 1 orders", "list 3 0", "list 3 512 ord", "noted",
 	"has 1 orders 0", "has 1 orders 18446744073709551615 63 17 900 jobs", "has 0 orders 4 0 1 2 - m0 17 root nightly run", "listed 3 0 512",
-	"sessions 64 900 0", "for orders", "process jobs-77", "bundles", "", "process", "process ", "process a b", "process .x", "bundles 1", " ", "for", "for ", "for .x", "for orders ", "for orders 1", "note ", "note  x", "note x ", "about orders 17", "who 1", "who 01 orders", "who 1 orders ", "list 3", "has 1 orders 0 64 1 1 -",
+	"sessions 64 900 0", "for orders", "process jobs-77", "bundles", "",
+	"process", "process ", "process a b", "process .x", "bundles 1", " ", "for", "for ", "for .x", "for orders ", "for orders 1", "note ", "note  x", "note x ", "about orders 17", "who 1", "who 01 orders", "who 1 orders ", "list 3", "has 1 orders 0 64 1 1 -",
 	"has 1 orders 0 1 1 1", "listed 3 0", "hello", "note " + strings.Repeat("x", 129)}
 
 // What is read of such a line is what it was made of: it is the line that is written again. A line of which only the first word

@@ -83,7 +83,8 @@ func TestAddressee(t *testing.T) {
 	if to, rest := Addressee(lines); to != "two" || string(rest) != "orders request 5 0 17\n" {
 		t.Errorf("%q, %q", to, rest)
 	}
-	for _, lines := range []string{"", "orders request 5 0 17\n", ". to \n", ". to a b\n", ". to two", ". to " + strings.Repeat("x", 33) + "\n", ". open 0\n. to two\n"} {
+	for _, lines := range []string{"", "orders request 5 0 17\n", ". to \n", ". to a b\n", ". to two", ". to " + strings.Repeat("x", 33) + "\n",
+		". open 0\n. to two\n"} {
 		if to, rest := Addressee([]byte(lines)); to != "" || string(rest) != lines {
 			t.Errorf("%q: %q, %q", lines, to, rest)
 		}
