@@ -181,6 +181,13 @@ func (c *Client) reserveFirst(ctx context.Context) error {
 // claims this epoch again: the line that gives it back may come late. Locks of this number are forgotten.
 func (c *Client) abandon() {
 	c.locks, c.busy = map[string]*lock{}, map[*lock]struct{}{}
+	if c.header.Epoch > 0 { // a quorum gave the number, and voters that heard the session since then take no claim back
+		for v := range c.peers {
+			c.out[v] = c.out[v][:0]
+		}
+		c.say(qlock.ClientSays{Kind: qlock.Close})
+		c.flush()
+	}
 	c.header.Number, c.header.Epoch, c.header.Reserved = 0, 0, 0
 	epoch := c.claimed()
 	for v := range c.peers {

@@ -426,6 +426,36 @@ func TestEndDuringAClaim(t *testing.T) {
 	}
 }
 
+// A session that gives its number up before it has its first stamps leaves it free, also at voters that heard it under this number.
+func TestNumberWithoutStampsIsFree(t *testing.T) {
+	w := worlds.New(t, worlds.Majority, 60*time.Second)
+	opens := func() *Client {
+		c, err := newClient(w.Cluster, Config{Transport: w.Bus.Port()})
+		if err == nil {
+			c.messages, err = c.carrier.Listen(c.boxes())
+		}
+		if err == nil {
+			err = c.choose(within(t, 10*time.Second))
+		}
+		if err != nil {
+			t.Fatal(err)
+		}
+		return c
+	}
+	c := opens()
+	if err := c.claim(within(t, 10*time.Second)); err != nil {
+		t.Fatal(err)
+	}
+	number := c.asked
+	c.crowd.Highest = 1000 // so that it needs other stamps than those that came with the claim
+	if err := c.reserveFirst(within(t, 0)); err == nil {
+		t.Fatal("it has stamps")
+	}
+	soon(t, "the number is not taken", func() bool { return opens().states[number] == 0 })
+	c.abandon()
+	soon(t, "the number stays taken", func() bool { return opens().states[number] == 1 })
+}
+
 // The stamps of a session are above each base that the voters told which gave it the number.
 func TestSessionBeginsAboveItsBases(t *testing.T) {
 	c := alone(t)

@@ -387,6 +387,13 @@ func (c *client) takeBack() {
 		l.Client = nil
 		l.shown = qlock.Shown{}
 	}
+	if c.header.Epoch > 0 {
+		for v := range c.peers {
+			c.out[v] = c.out[v][:0]
+		}
+		c.say(qlock.ClientSays{Kind: qlock.Close})
+		c.flush()
+	}
 	c.header.Number, c.header.Epoch, c.header.Reserved = 0, 0, 0
 	epoch := c.claims.Claimed(c.asked)
 	for v := range c.peers {
