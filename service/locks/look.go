@@ -20,6 +20,16 @@ func Look(c Config) (*Client, error) {
 }
 
 func look(cluster *config.Cluster, c Config) (*Client, error) {
+	client, err := newLook(cluster, c)
+	if err != nil {
+		return nil, err
+	}
+	go client.run()
+	return client, nil
+}
+
+// newLook returns a client that only looks, and whose loop did not begin yet.
+func newLook(cluster *config.Cluster, c Config) (*Client, error) {
 	client, err := newClient(cluster, c)
 	if err != nil {
 		return nil, err
@@ -29,7 +39,6 @@ func look(cluster *config.Cluster, c Config) (*Client, error) {
 		client.close()
 		return nil, client.explained(err)
 	}
-	go client.run()
 	return client, nil
 }
 

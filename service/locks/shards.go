@@ -48,14 +48,16 @@ type part struct {
 
 // openShards connects, and waits until a quorum of voters replies.
 func openShards(ctx context.Context, cluster *config.Cluster, c Config) (*Client, error) {
-	client, err := look(cluster, c)
+	client, err := newLook(cluster, c)
 	if err != nil {
 		return nil, err
 	}
 	if err := client.beginShards(); err != nil {
-		_ = client.Close(ctx)
+		leave(client.carrier, client.boxes())
+		client.close()
 		return nil, err
 	}
+	go client.run()
 	if _, err := client.Who(ctx, "-"); err != nil {
 		_ = client.Close(ctx)
 		return nil, err

@@ -107,7 +107,7 @@ func (d *Daemon) holderOf(id uint64, lock string, v *vote, now time.Time) wire.T
 			told.Waiting |= 1 << client
 		}
 	}
-	if v.held.Number == 0 || !d.isQuiet() && d.mayLetGo(v) { // who is gone gives way to whoever asks
+	if v.held.Number == 0 || !d.isQuiet() && v.isOver() { // who is gone gives way to whoever asks
 		return told
 	}
 	client := int(v.held.Client)

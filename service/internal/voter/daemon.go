@@ -83,7 +83,6 @@ type Daemon struct {
 	reach           uint64       // up to which number they may be now
 	voters          <-chan transport.Message
 	floor, ceiling  uint64            // its grants are above the floor, and up to the ceiling
-	quiet           quiet             // only those inside get a vote
 	nothing         qlock.SinceStart  // of votes of which nothing was said since the start
 	markers         [keyBytes]byte    // the key of this run's markers
 	done            map[string][]byte // replies to what operators let go, by their questions
@@ -581,7 +580,7 @@ func (d *Daemon) roundOf(v *vote, now time.Time) {
 	case !v.isAwaited && !d.isQuiet():
 		v.since = nil
 	}
-	for v.held.Number > 0 && (v.isWanted() || d.isInTheWay(v)) && d.mayLetGo(v) {
+	for v.held.Number > 0 && (v.isWanted() || d.isInTheWay(v)) && v.isOver() {
 		if !d.expire(v, now) {
 			break
 		}
@@ -620,14 +619,14 @@ func (d *Daemon) seal(s *shard, number int) {
 
 // expireFor lets the grants of others go whose sessions are over, for a client that tries to get the vote.
 func (d *Daemon) expireFor(v *vote, client int, now time.Time) {
-	for v.held.Number > 0 && !v.isHolder(client) && d.mayLetGo(v) && d.expire(v, now) {
+	for v.held.Number > 0 && !v.isHolder(client) && v.isOver() && d.expire(v, now) {
 	}
 }
 
 // endQuiet lets the grants of before the start go of which nobody said that he is inside. If one can't be let go, as no grant is left for
 // who waits, this voter stays quiet.
 func (d *Daemon) endQuiet(now time.Time) {
-	if !d.isQuiet() || !d.leases.clock.IsSilent(d.quiet.since, d.leases.ttl) {
+	if !d.isQuiet() || !d.leases.clock.IsSilent(d.leases.quiet.since, d.leases.ttl) {
 		return
 	}
 	isLeft := false
@@ -648,12 +647,12 @@ func (d *Daemon) endQuiet(now time.Time) {
 		}
 	})
 	if !isLeft {
-		d.quiet = quiet{}
+		d.leases.quiet = quiet{}
 	}
 }
 
-// mayLetGo returns whether the grant of a vote may be let go, as its session is over.
-func (d *Daemon) mayLetGo(v *vote) bool { return d.isOver(v.shard, int(v.held.Client), v.held.Stamp) }
+// isOver returns whether the grant of a vote may be let go, as its session is over.
+func (v *vote) isOver() bool { return v.shard.isOver(int(v.held.Client), v.held.Stamp) }
 
 // letGo lets the current grant of a vote go, and tells its client. It returns false if that did not succeed.
 func (d *Daemon) letGo(v *vote, now time.Time) bool {

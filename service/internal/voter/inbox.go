@@ -127,7 +127,7 @@ func (d *Daemon) isMarker(lines string) bool {
 	for _, s := range d.inTurn {
 		s.returned(now)
 	}
-	d.quiet.returned(d.leases.at(now))
+	d.leases.quiet.returned(d.leases.at(now))
 	_, left := d.leases.clock.Shows()
 	d.marked.Store(int64(d.leases.began.Add(left).Sub(d.started)))
 	return true

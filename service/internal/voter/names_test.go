@@ -25,7 +25,7 @@ func reopened(t *testing.T, d *Daemon) *Daemon {
 	}
 	t.Cleanup(func() { again.store.disk.Close() })
 	again.start(time.Now())
-	again.quiet = quiet{}
+	again.leases.quiet = quiet{}
 	return again
 }
 

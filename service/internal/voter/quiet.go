@@ -26,14 +26,14 @@ func (q *quiet) returned(latest time.Duration) {
 }
 
 // isQuiet returns whether only those inside get a vote.
-func (d *Daemon) isQuiet() bool { return d.quiet.is }
+func (d *Daemon) isQuiet() bool { return d.leases.quiet.is }
 
 // quietLeft returns for how long only those inside get a vote, at least for a tick while that has not ended.
 func (d *Daemon) quietLeft(now time.Time) time.Duration {
 	if !d.isQuiet() {
 		return 0
 	}
-	if left := d.quiet.since + d.leases.ttl - d.leases.at(now); left > tick {
+	if left := d.leases.quiet.since + d.leases.ttl - d.leases.at(now); left > tick {
 		return left
 	}
 	return tick
@@ -51,7 +51,7 @@ func (d *Daemon) quietFor(now time.Time) time.Duration {
 // beQuiet begins a quiet time: what votes granted so far is from before it. It is over after a TTL by the lease clock, so that whoever is
 // inside could be heard for as long.
 func (d *Daemon) beQuiet(now time.Time) {
-	d.quiet = quiet{true, d.leases.at(now)}
+	d.leases.quiet = quiet{true, d.leases.at(now)}
 	for _, v := range d.busy.all {
 		v.since = qlock.NewSinceStart(greatest(v.begun, v.held.Number))
 		v.stand()
@@ -78,19 +78,10 @@ func (v *vote) stand() {
 	}
 }
 
-// isOver returns whether the session is over that asked under a stamp of a number. In the quiet time it is only if it has left: a grant of
-// who said that he is inside, and what he said, go for his silence once that time has ended.
-func (d *Daemon) isOver(s *shard, client int, stamp uint64) bool {
-	if d.isQuiet() {
-		return s.hasLeft(client, stamp)
-	}
-	return s.isOver(client, stamp)
-}
-
 // forgetDead forgets those who said of a lock that they are inside, and whose session is over.
 func (d *Daemon) forgetDead(v *vote) {
 	for client, one := range v.asks {
-		if d.isOver(v.shard, client, one.stamp) {
+		if v.shard.isOver(client, one.stamp) {
 			_ = v.since.Forget(uint8(client)) // it never fails: there is such a client
 		}
 	}

@@ -264,7 +264,7 @@ func TestNoReminderWhileQuiet(t *testing.T) {
 // quietIsOver lets a quiet time begin that is over after the next turn: markers come back until then.
 func quietIsOver(d *Daemon) {
 	now := time.Now()
-	for d.beQuiet(now); !d.leases.clock.IsSilent(d.quiet.since, d.leases.ttl); now = now.Add(periodOf(d.leases.ttl)) {
+	for d.beQuiet(now); !d.leases.clock.IsSilent(d.leases.quiet.since, d.leases.ttl); now = now.Add(periodOf(d.leases.ttl)) {
 		d.leases.clock.Returns(d.leases.clock.Send(now.Sub(d.leases.began)))
 	}
 }
@@ -297,8 +297,8 @@ func TestQuietAfterAStandstill(t *testing.T) {
 	d.leases.began = d.leases.began.Add(-time.Minute)
 	d.beQuiet(d.now())
 	mark()
-	if now := d.now(); d.quiet.since > d.leases.at(now) || d.quietLeft(now) > d.leases.ttl {
-		t.Errorf("it lasts for %v longer than a TTL", d.quiet.since-d.leases.at(now))
+	if now := d.now(); d.leases.quiet.since > d.leases.at(now) || d.quietLeft(now) > d.leases.ttl {
+		t.Errorf("it lasts for %v longer than a TTL", d.leases.quiet.since-d.leases.at(now))
 	}
 }
 
@@ -369,7 +369,7 @@ func TestSilenceInTheQuietTime(t *testing.T) {
 	}
 	later := time.Now().Add(2 * d.leases.ttl)
 	passes(&d.shard(0).table, later)
-	d.quiet.since = d.leases.at(later)
+	d.leases.quiet.since = d.leases.at(later)
 	holders := func(when string, isAwaited bool, want map[string]uint64) {
 		t.Helper()
 		d.round(later)
@@ -380,6 +380,9 @@ func TestSilenceInTheQuietTime(t *testing.T) {
 		}
 	}
 	holders("silent for a TTL", true, map[string]uint64{"left": 1, "stays": 3})
+	if reply := d.repliesTo("other", 50, ". hello\n. claim 1 2 100\n"); !strings.Contains(reply, ". number 1 1 0\n") || strings.Contains(reply, ". claimed 1 2") {
+		t.Errorf("silent for a TTL, its number is given on: %q", reply)
+	}
 	d.repliesTo("jobs", 1, ". close\n")
 	holders("closed", true, map[string]uint64{"stays": 3})
 	if client := d.votes["left"].held.Client; client != 2 {

@@ -63,6 +63,7 @@ type leases struct {
 	ttl     time.Duration
 	began   time.Time       // when this run began: times of the lease clock are since then
 	clock   qlock.Clock     // says who was silent
+	quiet   quiet           // of the voter: no silence ends anything in it
 	changed map[int]Session // to be saved before anything leaves, by their keys
 	later   map[int]Session // to be saved with the next save: after a crash a TTL makes up for it
 }
@@ -247,17 +248,11 @@ func (t *table) judge(number int, name string, epoch uint64) qlock.Standing {
 	return standing
 }
 
-// isOver returns whether a grant of a number may be let go, by its stamp: the session that got it has left, or was silent for a TTL.
+// isOver returns whether a grant of a number may be let go, by its stamp: the session that got it has left, or was silent for a TTL. It has
+// left if it closed, or if the number has a later session. One that another voter ended may not know so, and has not left. In the quiet
+// time only who has left is over: what he has who said that he is inside, and his number, go for his silence once that time has ended.
 func (t *table) isOver(number int, stamp uint64) bool {
-	return t.letsGo(number, stamp, t.clock.IsSilent(t.heard[number], t.ttl))
-}
-
-// hasLeft returns whether the session that asked under a stamp of a number has left: it closed, or the number has a later session. One that
-// another voter ended may not know so, and has not left.
-func (t *table) hasLeft(number int, stamp uint64) bool { return t.letsGo(number, stamp, false) }
-
-// letsGo returns whether a grant of a number may be let go, by its stamp, if its session is silent, or is not.
-func (t *table) letsGo(number int, stamp uint64, isSilent bool) bool {
+	isSilent := !t.quiet.is && t.clock.IsSilent(t.heard[number], t.ttl)
 	letsGo, err := t.proved.LetsGo(number, stamp, isSilent, t.byWord[number])
 	return err == nil && letsGo
 }

@@ -79,7 +79,7 @@ func TestUpgrade(t *testing.T) {
 	if d.quietLeft(time.Now()) == 0 {
 		t.Error("it is not quiet, though nobody knows how it ended")
 	}
-	d.quiet = quiet{}
+	d.leases.quiet = quiet{}
 	if row := d.shard(0).rows[0]; row.Open || row.Base != 9000 || row.Reserved != 9000 || row.Epoch != 7 {
 		t.Errorf("a session is %+v", row)
 	}
