@@ -82,6 +82,9 @@ func (c *Client) enqueue(name string, w *waiter) error {
 		return ErrLooks
 	}
 	l, err := c.find(name)
+	if err != nil && c.draining {
+		return ErrClosed
+	}
 	if err != nil {
 		return err
 	}

@@ -28,8 +28,11 @@ const (
 type shards struct {
 	mutex sync.Mutex
 	all   map[int]*part
-	past  Stats // of the sessions that are over, and what was lost of bundles
-	going sync.WaitGroup
+	past  Stats          // of the sessions that are over, and what was lost of bundles
+	going sync.WaitGroup // sessions that go on, and that are opened
+
+	closing   chan struct{} // closed once no call of Lock is taken any more
+	isClosing bool
 
 	bundles   *bundles            // nil if the process sends none
 	boxes     map[string]*mailbox // of the sessions that there are, by their names
@@ -77,7 +80,7 @@ func (c *Client) beginShards() error {
 	if err != nil {
 		return err
 	}
-	c.shards = &shards{all: map[int]*part{}, boxes: map[string]*mailbox{}, over: make(chan struct{}),
+	c.shards = &shards{all: map[int]*part{}, boxes: map[string]*mailbox{}, over: make(chan struct{}), closing: make(chan struct{}),
 		bundles: &bundles{process: process, began: time.Now(), carrier: c.carrier}}
 	go func() {
 		c.shards.readBundles(messages)
@@ -109,10 +112,54 @@ func (c *Client) lockInShard(ctx context.Context, name string, w *waiter) (*Held
 		}
 		held, err := session.lock(ctx, name, &waiter{tries: w.tries, note: w.note})
 		isOver := errors.Is(err, ErrClosed) || errors.Is(err, ErrLost)
-		if !isOver || c.Err() != nil || ctx.Err() != nil {
+		if !isOver || c.whyClosed() != nil || ctx.Err() != nil {
 			return held, err
 		}
 		c.forgetSession(c.cluster.ShardOfLock(name), session)
+	}
+}
+
+// whyClosed returns why no call of Lock is taken any more, nil if they are.
+func (c *Client) whyClosed() error {
+	select {
+	case <-c.shards.closing:
+		return ErrClosed
+	default:
+		return c.Err()
+	}
+}
+
+// untilClosed returns a context that also ends once no call of Lock is taken any more.
+func (c *Client) untilClosed(ctx context.Context) (context.Context, context.CancelFunc) {
+	ctx, cancel := context.WithCancel(ctx)
+	go func() {
+		select {
+		case <-c.shards.closing:
+		case <-c.ended:
+		case <-ctx.Done():
+		}
+		cancel()
+	}()
+	return ctx, cancel
+}
+
+// begins notes that a session is opened, if the client is not closed. Whoever closes it waits until that is done.
+func (s *shards) begins() bool {
+	s.mutex.Lock()
+	defer s.mutex.Unlock()
+	if !s.isClosing {
+		s.going.Add(1)
+	}
+	return !s.isClosing
+}
+
+// closes lets no session be opened any more.
+func (s *shards) closes() {
+	s.mutex.Lock()
+	defer s.mutex.Unlock()
+	if !s.isClosing {
+		s.isClosing = true
+		close(s.closing)
 	}
 }
 
@@ -125,15 +172,28 @@ func (c *Client) sessionFor(ctx context.Context, lock string, tries bool) (*Clie
 		defer func() { <-p.gate }()
 	case <-ctx.Done():
 		return nil, ctx.Err()
+	case <-c.shards.closing:
+		return nil, ErrClosed
 	case <-c.ended:
 		return nil, c.why
+	}
+	if why := c.whyClosed(); why != nil {
+		return nil, why
 	}
 	if session := c.current(p); session != nil {
 		return session, nil
 	}
-	if err := c.Err(); err != nil {
-		return nil, err
+	return c.openFor(ctx, p, shard, lock, tries)
+}
+
+// openFor opens the session of a shard, whose gate the caller is in.
+func (c *Client) openFor(ctx context.Context, p *part, shard int, lock string, tries bool) (*Client, error) {
+	if !c.shards.begins() {
+		return nil, ErrClosed
 	}
+	defer c.shards.going.Done()
+	ctx, cancel := c.untilClosed(ctx)
+	defer cancel()
 	if p.name == "" {
 		nonce, err := config.Nonce()
 		if err != nil {
@@ -150,22 +210,33 @@ func (c *Client) sessionFor(ctx context.Context, lock string, tries bool) (*Clie
 	}) == nil {
 		session, err = c.openPart(ctx, p, lock, tries)
 	}
-	if err != nil {
+	why := c.whyClosed()
+	switch {
+	case err != nil && why != nil:
+		return nil, why
+	case err != nil:
 		return nil, err
-	}
-	if why := c.Err(); why != nil { // it was closed meanwhile
+	case !c.adds(p, session): // the client was closed meanwhile
 		brief, cancel := context.WithTimeout(context.Background(), c.config.FailOver)
 		defer cancel()
 		_ = session.Close(brief)
 		c.leaveBoxes(session)
-		return nil, why
+		return nil, c.whyClosed()
 	}
+	return session, nil
+}
+
+// adds makes a session that of its shard, if the client is not closed.
+func (c *Client) adds(p *part, session *Client) bool {
 	c.shards.mutex.Lock()
 	defer c.shards.mutex.Unlock()
+	if c.whyClosed() != nil {
+		return false
+	}
 	p.client, p.name, p.claims = session, "", nil
 	c.shards.going.Add(1)
 	go c.follow(p, session)
-	return session, nil
+	return true
 }
 
 // openPart opens the session of a shard for a lock, with the plans that this client knows.
@@ -280,8 +351,9 @@ func (s *shards) sessions() (sessions []*Client) {
 	return sessions
 }
 
-// closeAll closes all sessions, and returns the first error of one.
+// closeAll lets no session be opened any more, closes all that there are, and returns the first error of one.
 func (c *Client) closeAll(ctx context.Context) error {
+	c.shards.closes()
 	sessions := c.shards.sessions()
 	errs := make(chan error, len(sessions))
 	for _, session := range sessions {
@@ -297,7 +369,7 @@ func (c *Client) closeAll(ctx context.Context) error {
 	ended := make(chan struct{})
 	go func() { c.shards.going.Wait(); close(ended) }()
 	select {
-	case <-ended: // also those that were giving their numbers back
+	case <-ended: // also those that were giving their numbers back, or were opened
 	case <-ctx.Done():
 	}
 	return first

@@ -72,6 +72,70 @@ func TestLocksOfAllShards(t *testing.T) {
 	}
 }
 
+// Close of a client with shards refuses calls of Lock at once, also those that wait, while a lock is still held.
+func TestCloseRefusesCallsInAllShards(t *testing.T) {
+	w := newShards(t, 4, 5*time.Second)
+	c := startWith(t, w, Config{})
+	held := take(t, c, nameIn(w, 0))
+	waits, closed := make(chan error, 1), make(chan error, 1)
+	go func() {
+		_, err := c.Lock(context.Background(), nameIn(w, 0))
+		waits <- err
+	}()
+	time.Sleep(100 * time.Millisecond)
+	go func() { closed <- c.Close(within(t, 10*time.Second)) }()
+	select {
+	case err := <-waits:
+		if !errors.Is(err, ErrClosed) {
+			t.Errorf("a call that waited: %v", err)
+		}
+	case <-time.After(2 * time.Second):
+		t.Error("a call that waits goes on")
+	}
+	for shard := 0; shard < 4; shard++ {
+		if _, err := c.Lock(within(t, time.Second), nameIn(w, shard)); !errors.Is(err, ErrClosed) {
+			t.Errorf("shard %d: %v", shard, err)
+		}
+	}
+	if err := held.Unlock(); err != nil {
+		t.Error(err)
+	}
+	if err := <-closed; err != nil {
+		t.Error(err)
+	}
+}
+
+// Close ends the opening of sessions that find no quorum, and leaves nothing behind.
+func TestCloseEndsWhatIsOpened(t *testing.T) {
+	w := newShards(t, 4, 5*time.Second)
+	c := startWith(t, w, Config{})
+	for v := 0; v < 3; v++ {
+		w.Kill(v)
+	}
+	waits := make(chan error, 1)
+	go func() {
+		_, err := c.Lock(context.Background(), nameIn(w, 1))
+		waits <- err
+	}()
+	time.Sleep(100 * time.Millisecond)
+	if err := c.Close(within(t, time.Second)); err != nil && !errors.Is(err, context.DeadlineExceeded) {
+		t.Error(err)
+	}
+	select {
+	case err := <-waits:
+		if !errors.Is(err, ErrClosed) {
+			t.Error(err)
+		}
+	case <-time.After(2 * time.Second):
+		t.Fatal("the call waits for ever")
+	}
+	select {
+	case <-c.shards.over:
+	case <-time.After(2 * time.Second):
+		t.Error("the mailbox of the process stays")
+	}
+}
+
 // nested returns a context of a holder.
 func (h *Held) nested() context.Context {
 	ctx, _ := h.Context(context.Background())
