@@ -843,7 +843,7 @@ int32_t qlock_claim_shows(const uint8_t *claim, size_t n, uint64_t *newest, uint
    Calls come, wait, are handed the lock, and give it back. The host keeps those that wait in their order; these bytes say how many they are,
    and which one has the lock. `phase` is what the client of the lock shows (QLOCK_IDLE, QLOCK_ASKING or QLOCK_INSIDE), and `stamp` the stamp
    of its request, which is looked at if it is inside (qlock_client_shows). After each call, and each change of the client or of its votes, the
-   host does what is next (qlock_calls_next), until that is nothing. If a vote may be somebody else's, it does what qlock_calls_spoiled says.
+   host does what is next (qlock_calls_next), until that is nothing, or can't be done now: no stamp may be used yet, say. If a vote may be somebody else's, it does what qlock_calls_spoiled says.
 
    Each call has the lock under a request of its own. The request goes on until the call gives the lock back, also if the call was told that
    the lock may be lost: until then votes that are left keep others out. So of all calls of all processes at most one works, from when the lock
@@ -853,7 +853,7 @@ int32_t qlock_claim_shows(const uint8_t *claim, size_t n, uint64_t *newest, uint
    - It ends a request only if qlock_calls_may_end says so, and gives no vote back while a call has the lock.
    Keep the bytes as long as the client of the lock, in memory alone. */
 
-/* What a call is answered that comes. */
+/* Whether a call that comes is taken, and why not. */
 enum {
     QLOCK_CALL_TAKEN = 0,
     QLOCK_CALL_CLOSED = 1,  /* the session is closed */

@@ -15,7 +15,7 @@ ghost use Rattle.callers.specs.declared.calls.Next.TheVariants.{Hand, Lose, Noth
 ghost use Rattle.callers.specs.declared.calls.Phase.{Phase};
 ghost use Rattle.callers.specs.declared.calls.Phase.TheVariants.{Inside};
 
-/// One call of a process has the lock: if it was handed to a call, and is handed to one again later, the call before gave it back
+/// One call of a session has the lock: if it was handed to a call, and is handed to one again later, the call before gave it back
 /// between. This is so whatever the session hands, and when.
 pub fn one_call_has_the_lock()
     ensures { (c : Calls) (request : ℕ) (again : Phase) (counts counts_again : Bool) (steps : List CallStep)

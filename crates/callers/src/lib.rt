@@ -12,7 +12,7 @@
 //!
 //! # What is proved
 //!
-//! - One call of a process has the lock, under a request of its own ([`one_call_has_the_lock`], [`each_call_has_its_own_request`]).
+//! - One call of a session has the lock, under a request of its own ([`one_call_has_the_lock`], [`each_call_has_its_own_request`]).
 //! - No request ends while a call has the lock under it ([`votes_are_given_back_after_the_call`]), and a call is told once that the lock
 //!   may be lost ([`lost_is_said_once`]).
 //! - Whoever waits is served ([`who_waits_is_served`], [`what_is_next_may_be_handed`]).

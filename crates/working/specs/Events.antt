@@ -19,9 +19,8 @@ begins periods voters sessions = record {
   sessions = λ session. begun_session (sessions session);
 }
 
--- What may happen. Messages that left arrive late, in any order, again, or never. An operator who evicts a session only has
--- no message of it taken any more: so there is no event for that. Nor is there one for a session that closes: it ends its
--- requests.
+-- What may happen. Messages that left arrive late, in any order, again, or never. There is no event for an operator who ends a
+-- grant: that is outside. Nor is there one for a session that closes: it ends its requests.
 pub data Event : Type 0 where
   -- time passes: the clock of each voter goes on by its first number, and that of each session by its second one
   Passes : (ℕ → ℕ) → (ℕ → ℕ) → Event
