@@ -3,8 +3,9 @@ package locks
 // One message in place of many, between a process and a voter.
 //
 // The sessions of a process beat at the same times, and what they say then to a voter leaves in one bundle (wire). What a voter says to them
-// in one turn comes in one, too, to a mailbox of the process. Both are so only once that voter said that it reads bundles: one of an older
-// program gets messages as before. A bundle changes nothing of its messages. These may be lost, late and out of order in any case.
+// in one turn comes in one, too, to a mailbox of the process. Both are so only once that voter said that it reads bundles, and until it is
+// started again: it may be of an older program then, and gets messages as before. A bundle changes nothing of its messages. These may be
+// lost, late and out of order in any case.
 
 import (
 	"sync"
@@ -33,25 +34,49 @@ type bundles struct {
 // leaving is what waits for the other sessions' heartbeats, to one voter.
 type leaving struct {
 	wire.Bundle
-	box   string
-	reads bool // the voter said that it reads bundles, since it started
-	waits bool // it leaves after a moment
+	box    string
+	reader voterStart // the voter, as it said that it reads bundles: the empty one if it did not since it started
+	waits  bool       // it leaves after a moment
 }
 
-// reads notes that a voter reads bundles, or that it may not: it started, and may be an older program.
-func (b *bundles) reads(voter int, reads bool) {
+// reads returns whether a voter said that it reads bundles since this start. That of a voter that was not heard yet is empty.
+func (to *leaving) reads(since voterStart) bool { return since.identity != "" && to.reader == since }
+
+// reads returns whether a voter said to a session of the process that it reads bundles since this start.
+func (b *bundles) reads(voter int, since voterStart) bool {
 	b.mutex.Lock()
 	defer b.mutex.Unlock()
-	b.to[voter].reads = reads
+	return b.to[voter].reads(since)
 }
 
-// send sends a message to a voter. One that may wait goes with those of other sessions, a moment later. One that may not takes those along
-// that wait.
-func (b *bundles) send(voter int, box string, message []byte, mayWait bool) {
+// readsNow notes that a voter reads bundles since this start.
+func (b *bundles) readsNow(voter int, since voterStart) {
+	b.mutex.Lock()
+	defer b.mutex.Unlock()
+	b.to[voter].reader = since
+}
+
+// heard notes that a session heard a voter of this start for the first time. If the voter said before another start that it reads bundles,
+// that counts no more, and what waits for it leaves one by one.
+func (b *bundles) heard(voter int, since voterStart) {
 	b.mutex.Lock()
 	defer b.mutex.Unlock()
 	to := &b.to[voter]
-	if !to.reads || !mayWait && to.Count() == 0 {
+	if to.reads(since) {
+		return
+	}
+	if to.reader = (voterStart{}); to.Count() > 0 {
+		wire.Messages(to.Take(), func(message []byte) { _ = b.carrier.Send(to.box, message) })
+	}
+}
+
+// send sends a message to a voter, of a session that knows it by this start. One that may wait goes with those of other sessions, a moment
+// later. One that may not takes those along that wait. To a voter that did not say since then that it reads bundles each goes alone.
+func (b *bundles) send(voter int, since voterStart, box string, message []byte, mayWait bool) {
+	b.mutex.Lock()
+	defer b.mutex.Unlock()
+	to := &b.to[voter]
+	if !to.reads(since) || !mayWait && to.Count() == 0 {
 		_ = b.carrier.Send(box, message) // a reminder repeats what is lost
 		return
 	}
@@ -98,14 +123,14 @@ func (c *Client) post(voter int, message []byte) {
 		_ = c.carrier.Send(box, message) // a reminder repeats what is lost
 		return
 	}
-	c.bundles.send(voter, box, message, c.mayWait)
+	c.bundles.send(voter, c.peers[voter].voterStart, box, message, c.mayWait)
 }
 
 // sayProcess says of which process the session is, with a heartbeat, to a voter that has its number and did not say that it reads bundles.
 // One of an older program never does: it hears less and less of it.
 func (c *Client) sayProcess(voter int) {
 	p := &c.peers[voter]
-	if c.bundles == nil || p.bundles || !p.accepts {
+	if c.bundles == nil || !p.accepts || p.bundles && c.bundles.reads(voter, p.voterStart) {
 		return
 	}
 	if p.processes++; p.processes&(p.processes-1) == 0 { // the first time, the second, the fourth..
@@ -117,15 +142,15 @@ func (c *Client) sayProcess(voter int) {
 func (c *Client) hearBundles(voter int) {
 	if c.bundles != nil {
 		c.peers[voter].bundles = true
-		c.bundles.reads(voter, true)
+		c.bundles.readsNow(voter, c.peers[voter].voterStart)
 	}
 }
 
-// forgetBundles notes that a voter may read none: it started.
+// forgetBundles notes that a voter may read none: the session did not hear this start of it before.
 func (c *Client) forgetBundles(voter int) {
 	p := &c.peers[voter]
 	if p.bundles, p.processes = false, 0; c.bundles != nil {
-		c.bundles.reads(voter, false)
+		c.bundles.heard(voter, p.voterStart)
 	}
 }
 
@@ -195,7 +220,7 @@ func (s *shards) unbundle(m transport.Message) {
 		if _, lines, err := wire.Read(message); err == nil {
 			session, _ = wire.Addressee(lines)
 		}
-		s.pass(session, transport.Message{Mailbox: m.Mailbox, Data: append([]byte(nil), message...)}) // it may wait for longer than the others
+		s.pass(session, transport.Message{Mailbox: m.Mailbox, Data: message})
 	})
 }
 

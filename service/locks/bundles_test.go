@@ -67,7 +67,7 @@ func readers(c *Client) (count int) {
 	b.mutex.Lock()
 	defer b.mutex.Unlock()
 	for i := range b.to {
-		if b.to[i].reads {
+		if b.to[i].reader != (voterStart{}) {
 			count++
 		}
 	}
@@ -162,6 +162,41 @@ func TestVoterBecomesOlder(t *testing.T) {
 		if err := held.Unlock(); err != nil {
 			t.Error(err)
 		}
+	}
+}
+
+// A voter that reads bundles, and is started as an older program while the process has no session, gets none from later sessions.
+func TestVoterBecomesOlderWithoutSessions(t *testing.T) {
+	w := newShards(t, 8, 5*time.Second)
+	c := startWith(t, w, Config{})
+	passAll(t, w, c, 0)
+	soon(t, "no bundles", func() bool { return readers(c) == 3 })
+	for _, session := range c.shards.sessions() {
+		if err := session.Close(within(t, 20*time.Second)); err != nil {
+			t.Fatal(err)
+		}
+	}
+	soon(t, "sessions stay", func() bool { return len(c.shards.sessions()) == 0 })
+	w.Stop(0)
+	w.Bus.Without("process")
+	w.Start(0)
+	w.Ready()
+	seen := watched(w)
+	var holds []*Held
+	for shard := 0; shard < 8; shard++ {
+		holds = append(holds, take(t, c, nameIn(w, shard)))
+	}
+	time.Sleep(2 * time.Second)
+	if _, bundles := seen.counts(); bundles["qlock.test.v.0."+wire.NoUser] > 0 || bundles["qlock.test.v.1."+wire.NoUser] == 0 || readers(c) != 2 {
+		t.Errorf("%v, %d voters read bundles", bundles, readers(c))
+	}
+	for _, held := range holds {
+		if err := held.Unlock(); err != nil {
+			t.Error(err)
+		}
+	}
+	if stats := c.Stats(); stats.Lost > 0 {
+		t.Errorf("%+v", stats)
 	}
 }
 
@@ -269,18 +304,18 @@ func TestWhatWaits(t *testing.T) {
 	if c.flush(); len(c.boxes[0]) > 0 {
 		t.Fatalf("a heartbeat leaves at once: %q", came())
 	}
-	c.bundles.send(0, box, append(other.Append(nil), "orders request 7 0 1\n"...), false)
+	c.bundles.send(0, c.peers[0].voterStart, box, append(other.Append(nil), "orders request 7 0 1\n"...), false)
 	if messages := came(); len(messages) != 3 || !strings.HasPrefix(messages[0], ". open 0\n") || messages[1] != "orders request 7 0 1\n" {
 		t.Errorf("%q", messages)
 	}
-	c.bundles.send(0, box, append(other.Append(nil), "orders request 7 0 2\n"...), false)
+	c.bundles.send(0, c.peers[0].voterStart, box, append(other.Append(nil), "orders request 7 0 2\n"...), false)
 	if messages := came(); len(messages) != 2 || messages[0] != "orders request 7 0 2\n" {
 		t.Errorf("%q", messages)
 	}
 	c.beat = time.Now().Add(-time.Hour)
 	c.round(time.Now())
 	c.flush()
-	c.bundles.send(0, box, append(other.Append(nil), ". open 0\n"...), true)
+	c.bundles.send(0, c.peers[0].voterStart, box, append(other.Append(nil), ". open 0\n"...), true)
 	soon(t, "heartbeats do not leave", func() bool { return len(c.boxes[0]) > 0 })
 	if messages := came(); len(messages) != 3 || messages[1] != ". open 0\n" {
 		t.Errorf("%q", messages)
@@ -307,13 +342,51 @@ func TestRequestWithAHeartbeat(t *testing.T) {
 	}
 }
 
+// What is urgent waits for nothing, also if it leaves in the same turn as a heartbeat that was due.
+func TestUrgentWithAHeartbeat(t *testing.T) {
+	for name, says := range map[string]func(c *table){
+		"a reservation": func(c *table) { c.reserve(c.header.Reserved+1, time.Now()) },
+		"a drain":       func(c *table) { c.drain() },
+		"a close": func(c *table) {
+			c.draining = true
+			c.says(0, fmt.Sprintf(". opened 3 5 0 4096 %d 0\n", c.header.Seq))
+		},
+		"a question": func(c *table) { c.questions[1] = newQuestion(wire.AskWho, "orders") },
+		"a turn": func(c *table) {
+			c.turns[&Held{lock: &lock{name: "orders"}, turning: &turning{awaited: map[int]time.Time{0: {}}}}] = true
+			for h := range c.turns {
+				h.lock.held = h
+			}
+		},
+	} {
+		c, came := inBundles(t)
+		c.flush()
+		came()
+		c.beat = time.Now().Add(-time.Hour)
+		c.round(time.Now())
+		says(c)
+		if c.flush(); len(c.boxes[0]) != 1 {
+			t.Errorf("%s waits for a bundle", name)
+		}
+	}
+	c, came := inBundles(t)
+	c.flush()
+	came()
+	c.draining, c.peers[0].drained = true, true
+	c.beat = time.Now().Add(-time.Hour)
+	c.round(time.Now())
+	if c.flush(); len(c.boxes[0]) != 1 {
+		t.Error("a close that is said again waits for a bundle")
+	}
+}
+
 // What is more than a bundle may have leaves in the next one.
 func TestBundleIsFull(t *testing.T) {
 	c, _ := inBundles(t)
 	other := wire.Header{Cluster: "test", Coterie: c.plan.mark, Kind: wire.FromClient, Number: 7, Epoch: 1, Name: "other"}
 	long := append(other.Append(nil), strings.Repeat("orders release 7 0 1\n", wire.MostBytes/30)...)
 	for i := 0; i < 2; i++ {
-		c.bundles.send(1, wire.VoterBox("test", 1, wire.NoUser), long, true)
+		c.bundles.send(1, c.peers[1].voterStart, wire.VoterBox("test", 1, wire.NoUser), long, true)
 	}
 	for i := 0; i < 2; i++ {
 		if m := <-c.boxes[1]; len(m.Data) != len(long) {
@@ -338,19 +411,112 @@ func TestWhoReadsBundles(t *testing.T) {
 		t.Error("it is said to who said that it reads bundles")
 	}
 	h := wire.Header{Cluster: "test", Coterie: c.plan.mark, Kind: wire.FromVoter, Number: 0, Name: "identity-0", Start: 2}
-	if hear(c.Client, h, ". opened 3 5 0 4096 1 0\n"); c.bundles.to[0].reads || !c.bundles.to[1].reads {
+	reads := func(voter int) bool { return c.bundles.reads(voter, c.peers[voter].voterStart) }
+	if hear(c.Client, h, ". opened 3 5 0 4096 1 0\n"); reads(0) || !reads(1) {
 		t.Error("a voter that started reads bundles")
 	}
 	if beats(20); said(0) != 5 {
 		t.Error("it is not said to a voter that started, or too often")
 	}
 	h.Start = 1
-	if hear(c.Client, h, ". bundles\n"); c.bundles.to[0].reads {
+	if hear(c.Client, h, ". bundles\n"); reads(0) {
 		t.Error("a word from before the start counts")
 	}
 	h.Start = 2
-	if hear(c.Client, h, ". bundles\n"); !c.bundles.to[0].reads {
+	if hear(c.Client, h, ". bundles\n"); !reads(0) {
 		t.Error("the word of a voter that started does not count")
+	}
+}
+
+// secondSession returns another session of a process that sends bundles. It heard no voter yet.
+func secondSession(t *testing.T, c *table) *table {
+	t.Helper()
+	other, err := newClient(c.cluster, Config{Transport: c.carrier})
+	if err != nil {
+		t.Fatal(err)
+	}
+	other.header.Number, other.header.Epoch, other.header.Reserved = 4, 1, mostBlock
+	other.plans, other.bundles, other.bundled = c.plans.copied(), c.bundles, newMailbox()
+	claiming(other, 4, 1)
+	return &table{Client: other, boxes: c.boxes}
+}
+
+// emptied takes all messages out of a mailbox.
+func emptied(box <-chan transport.Message) {
+	for len(box) > 0 {
+		<-box
+	}
+}
+
+// That a voter reads bundles counts for the start under which it said so: the first session that hears another one ends it for all, and each
+// sends bundles only to the start that it heard itself. Heartbeats that wait then leave one by one.
+func TestBundlesAreForOneStart(t *testing.T) {
+	c, _ := inBundles(t)
+	c.flush()
+	emptied(c.boxes[0])
+	other := secondSession(t, c)
+	beats := func(c *table, bundled bool) {
+		t.Helper()
+		before := len(c.boxes[0])
+		c.beat = time.Now().Add(-time.Hour)
+		c.round(time.Now())
+		if c.flush(); len(c.boxes[0]) == before != bundled {
+			t.Errorf("bundled: %v", !bundled)
+		}
+	}
+	beats(other, false) // the voter was not heard
+	emptied(c.boxes[0])
+	h := wire.Header{Cluster: "test", Coterie: c.plan.mark, Kind: wire.FromVoter, Number: 0, Name: "identity-0"}
+	hear(other.Client, h, ". opened 4 1 0 4096 1 0\n")
+	beats(c, true)
+	beats(other, true)
+	h.Start = 1
+	third := secondSession(t, c)
+	hear(third.Client, h, ". opened 4 1 0 4096 1 0\n")
+	if len(c.boxes[0]) != 2 {
+		t.Errorf("%d messages leave", len(c.boxes[0]))
+	}
+	for len(c.boxes[0]) > 0 {
+		if m := <-c.boxes[0]; strings.Contains(string(m.Data), "\n\n") {
+			t.Errorf("a bundle leaves: %q", m.Data)
+		}
+	}
+	beats(other, false)
+	beats(third, false)
+	hear(third.Client, h, ". claimed 4 1 0 4096\n. bundles\n")
+	beats(third, true)
+	beats(other, false) // it did not hear that start yet
+	hear(other.Client, h, ". opened 4 1 0 4096 1 0\n")
+	beats(other, true)
+	for _, later := range []wire.Header{{Start: 1, Run: 1, Name: "identity-0a"}, {Start: 2, Run: 1, Name: "identity-0a"}} {
+		h.Name, h.Run, h.Start = later.Name, later.Run, later.Start
+		hear(secondSession(t, c).Client, h, "")
+		beats(third, false)
+		hear(third.Client, h, ". bundles\n")
+		beats(third, true)
+	}
+}
+
+// A session says again of which process it is, where another one heard a late message of an earlier start.
+func TestBundlesAreSaidAgain(t *testing.T) {
+	c, _ := inBundles(t)
+	late := wire.Header{Cluster: "test", Coterie: c.plan.mark, Kind: wire.FromVoter, Number: 0, Name: "identity-late"}
+	hear(secondSession(t, c).Client, late, "")
+	if c.heartbeat(time.Now()); !bytes.Contains(c.out[0], []byte(". process p\n")) || bytes.Contains(c.out[1], []byte(". process p\n")) {
+		t.Errorf("%q, %q", c.out[0], c.out[1])
+	}
+}
+
+// A session that waits for a number that is free hears of it also in a bundle.
+func TestFreeInABundle(t *testing.T) {
+	c, _ := inBundles(t)
+	c.bundled.put(c.word(0, ". free\n"))
+	began := time.Now()
+	if err := c.awaitsFree(within(t, 20*time.Second)); err != nil || time.Since(began) > c.cluster.TTL.Duration/20 {
+		t.Errorf("%v after %v", err, time.Since(began))
+	}
+	if c.bundled.bytes != 0 {
+		t.Errorf("%d bytes wait", c.bundled.bytes)
 	}
 }
 

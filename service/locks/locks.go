@@ -124,7 +124,7 @@ type Client struct {
 	ownNote string                  // what the session says of itself, "" for nothing
 	looks   bool                    // it has no number
 	out     [qlock.MaxVoters][]byte // lines that leave at the end of this turn of the loop, by voter
-	mayWait bool                    // they may wait a moment for those of other sessions: they are a heartbeat, and no request
+	mayWait bool                    // they may wait a moment for those of other sessions: they are a heartbeat that was due, and nothing urgent
 	bundles *bundles                // of the process, nil if it sends none
 	bundled *mailbox                // what came to this session in bundles, nil if none does
 	room    []byte

@@ -533,10 +533,13 @@ func (c *Client) round(now time.Time) {
 		c.followPlans(now)
 		return
 	}
-	if hasGap := c.hasGap(now); hasGap || c.isDue(now) {
-		c.mayWait = !hasGap
+	switch hasGap := c.hasGap(now); {
+	case hasGap:
 		c.heartbeat(now)
-	} else {
+	case c.isDue(now):
+		c.mayWait = true
+		c.show(now)
+	default:
 		c.lapse()
 	}
 	c.noteSilent(c.silent(now))

@@ -49,11 +49,17 @@ const (
 // errTaken is why a claim failed: another session was faster.
 var errTaken = errors.New("locks: another session has the number")
 
+// voterStart is one start of a voter.
+type voterStart struct {
+	identity string
+	run      uint64 // how often the voter was made again
+	start    uint64 // how often it started
+}
+
 // peer is a voter, as a session knows it.
 type peer struct {
-	identity string
-	run      uint64                   // how often the voter was made again
-	start    uint64                   // how often it started
+	voterStart // the latest one that was heard
+
 	quiet    time.Time                // until then it takes only requests of who is inside
 	mark     string                   // of the newest plan that it has, once it said so
 	oldest   uint64                   // the number of the oldest plan that it said is not retired
@@ -241,6 +247,8 @@ func (c *Client) awaitsFree(ctx context.Context) error {
 		select {
 		case m := <-c.messages:
 			c.message(m)
+		case m := <-c.inBundles():
+			c.messageOfBundle(m)
 		case f := <-c.read:
 			f()
 		case <-timer.C:
@@ -438,9 +446,15 @@ func (c *Client) mayAsk(quorum, stamp uint64) bool {
 	return quorum&^owners == 0 && c.hasQuorum(owners)
 }
 
-// heartbeat shows that the session is there. What may have been lost before is lost first: replies to this heartbeat say
-// nothing of the time before it.
+// heartbeat shows that the session is there, and waits for no other session: something needs it now.
 func (c *Client) heartbeat(now time.Time) {
+	c.show(now)
+	c.mayWait = false
+}
+
+// show shows that the session is there. What may have been lost before is lost first: replies to this heartbeat say nothing of the time
+// before it.
+func (c *Client) show(now time.Time) {
 	c.lapse()
 	c.beat = now
 	c.header.Seq++
@@ -471,9 +485,15 @@ func (c *Client) heartbeat(now time.Time) {
 			c.tell(v, qlock.ClientSays{Kind: qlock.Greet})
 		}
 		if c.draining && p.drained {
-			c.tell(v, qlock.ClientSays{Kind: qlock.Close})
+			c.closeAt(v)
 		}
 	}
+}
+
+// closeAt tells a voter to end the session, and waits for no other session. Heartbeats repeat it.
+func (c *Client) closeAt(voter int) {
+	c.tell(voter, qlock.ClientSays{Kind: qlock.Close})
+	c.mayWait = false
 }
 
 // disclaim ends what voters still have of a session that wants nothing: a RELEASE was lost.
@@ -579,14 +599,14 @@ func (c *Client) recognise(h wire.Header) bool {
 	case h.Name == p.identity && h.Start == p.start:
 		return true
 	case p.identity == "" || h.Name != p.identity && h.Run > p.run || h.Name == p.identity && h.Start > p.start:
-		p.identity, p.run, p.start = h.Name, h.Run, h.Start
+		p.voterStart = voterStart{h.Name, h.Run, h.Start}
 	default:
 		return false
 	}
 	c.forgetNotes(h.Number)
+	c.forgetBundles(h.Number)
 	switch {
 	case before.identity == "":
-		return true
 	case before.identity != h.Name:
 		c.refused = c.refused || c.opening && p.accepts // it may have accepted another claim of the epoch since
 		p.forget()
@@ -594,7 +614,6 @@ func (c *Client) recognise(h wire.Header) bool {
 	default:
 		c.restarted(h.Number)
 	}
-	c.forgetBundles(h.Number)
 	return true
 }
 
@@ -805,7 +824,7 @@ func (c *Client) opened(voter int, base, reserved, seq, requests uint64) {
 		p.drained = true // for good, as nothing is asked any more
 	}
 	if p.drained && !p.closed {
-		c.tell(voter, qlock.ClientSays{Kind: qlock.Close}) // heartbeats repeat it
+		c.closeAt(voter)
 	}
 	c.noteStamps(voter, base, reserved)
 }

@@ -144,6 +144,7 @@ func (c *Client) askForTurn(h *Held, now time.Time) {
 		h.turning.awaited[voter] = now
 		ask := wire.Ask{Kind: wire.WantsTurn, Lock: h.lock.name, Number: h.stamp, Grant: h.turning.grants[voter], Top: h.turning.turn}
 		c.out[voter] = ask.Append(c.out[voter])
+		c.mayWait = false
 	}
 }
 

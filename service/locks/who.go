@@ -208,6 +208,7 @@ func (c *Client) sendQuestions(now time.Time) {
 			ask := q.Ask
 			ask.Number = a.place
 			c.out[v] = ask.Append(c.out[v])
+			c.mayWait = false
 		}
 	}
 }

@@ -98,6 +98,30 @@ func TestLongBundles(t *testing.T) {
 	}
 }
 
+// Of a bundle only the messages stay that wait, so what is counted of a sender is what is in memory of it.
+func TestJunkOfABundleIsNotKept(t *testing.T) {
+	d := claimed(t, 1)
+	junk := []byte(strings.Repeat("x", wire.MostBytes-1000) + "\n")
+	short := speaks(d, 1, ". open 0\n")
+	var b wire.Bundle
+	for _, message := range [][]byte{short, junk, short} {
+		b.Add(message)
+	}
+	bundle := b.Take()
+	d.sort(transport.Message{Mailbox: wire.VoterBox("test", 0, "jobs"), Data: bundle})
+	for i := range bundle {
+		bundle[i] = 'x'
+	}
+	if size := d.inbox.sizes[1]; d.inbox.count != 2 || size != 2*len(short) {
+		t.Fatalf("%d messages wait, of %d bytes", d.inbox.count, size)
+	}
+	for _, l := range d.inbox.queues[1] {
+		if string(l.lines) != ". open 0\n" || cap(l.lines) > 2*len(short) {
+			t.Errorf("%q is in memory with %d bytes", l.lines, cap(l.lines))
+		}
+	}
+}
+
 // delivers returns what leaves a voter in a turn, by mailboxes.
 func (d *Daemon) delivers(t *testing.T) map[string][]string {
 	t.Helper()

@@ -41,15 +41,19 @@ func (b *Bundle) Take() []byte {
 }
 
 // Messages hands the messages of a bundle to a function, in their order. One that came alone is a bundle of one. It returns whether these
-// were all: more than MostBundled are not handed out.
+// were all: more than MostBundled are not handed out. Of several each is a copy, so who keeps one does not keep the whole bundle.
 func Messages(bundle []byte, use func(message []byte)) (all bool) {
 	for count := 0; count < MostBundled; count++ {
 		end := bytes.Index(bundle, []byte(emptyLine))
-		if end < 0 {
+		switch {
+		case end < 0 && count == 0:
 			use(bundle)
 			return true
+		case end < 0:
+			use(append([]byte(nil), bundle...))
+			return true
 		}
-		use(bundle[:end+1])
+		use(append([]byte(nil), bundle[:end+1]...))
 		bundle = bundle[end+len(emptyLine):]
 	}
 	return false

@@ -42,6 +42,23 @@ func TestBundle(t *testing.T) {
 	}
 }
 
+// Who keeps a message of several keeps nothing else of the bundle. One that came alone is not copied.
+func TestMessageIsACopy(t *testing.T) {
+	bundle := []byte("one\n\ntwo\n\nthree\n")
+	var kept [][]byte
+	Messages(bundle, func(message []byte) { kept = append(kept, message) })
+	copy(bundle, bytes.Repeat([]byte("x"), len(bundle)))
+	if text := fmt.Sprintf("%q", kept); text != `["one\n" "two\n" "three\n"]` {
+		t.Error(text)
+	}
+	alone := []byte("one\n")
+	Messages(alone, func(message []byte) {
+		if &message[0] != &alone[0] {
+			t.Error("a message alone is copied")
+		}
+	})
+}
+
 // A bundle is no longer than a message may be, and has a bounded number of messages. A message that is longer is alone.
 func TestBundleIsBounded(t *testing.T) {
 	long := session("one", strings.Repeat("orders request 5 0 17\n", MostBytes/25))
