@@ -454,6 +454,7 @@ func TestBundlesAreForOneStart(t *testing.T) {
 	c, _ := inBundles(t)
 	c.flush()
 	emptied(c.boxes[0])
+	c.bundles.to[0].waits = true // no timer ends it, however slow the machine is
 	other := secondSession(t, c)
 	beats := func(c *table, bundled bool) {
 		t.Helper()
