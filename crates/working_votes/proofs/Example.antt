@@ -9,7 +9,7 @@ use Rattle.lease_clock.specs.Clocks.{is_silent}
 use Rattle.lease_clock.specs.Leases.{is_among}
 use Rattle.message.specs.declared.message.ClientBody.TheVariants as to_client
 use Rattle.numbers.specs.Bounds.{max_clients}
-use Rattle.quiet_time.specs.Quiet.{is_awaited, noted, since_start, waits_inside}
+use Rattle.quiet_time.specs.Quiet.{is_awaited, is_old, noted, since_start, waits_inside}
 use Rattle.quiet_time.specs.Runs as quiet_time
 use Rattle.voter.proofs.Contract.{MeetsContract-step}
 use Rattle.voter.proofs.Effects.{IsSound-step}
@@ -17,6 +17,7 @@ use Rattle.voter.proofs.Soundness.{IsSound-start}
 use Rattle.voter.proofs.Staying.{ended-step, taken_up-step, takes-step}
 use Rattle.voter.specs.declared.state.Grant.{Grant}
 use Rattle.voter.specs.declared.state.VoterState.{VoterState}
+use Rattle.voter.specs.Leases.{evict}
 use Rattle.voter.specs.Steps.{IsSound, Outcome, step}
 use Rattle.voter.specs.Steps as voter
 use Rattle.voter.specs.VoterContract.{Ends, IsEntry}
@@ -25,8 +26,8 @@ use Rattle.working.specs.Events as law
 use Rattle.working.specs.Example.{pass, start}
 use Rattle.working.specs.Sessions.{is_working}
 use Rattle.working.specs.Voters.{Quiet}
-use Rattle.working_votes.specs.Example.{by_client, gives_back, new_voters, release, request, saved, seven_asks, works_on}
-use Rattle.working_votes.specs.Turns.{AreFree, AreTrue, IsOver, MayEnd, MayEndIf, Place, all_after, all_events, closed_at, events_at, events_by, grant_at, hears_by, is_doubtful, is_put_off, started, with_lock}
+use Rattle.working_votes.specs.Example.{by_client, gives_back, mark_after, new_voters, release, request, saved, seven_asks, starts_anew, whole, works_on}
+use Rattle.working_votes.specs.Turns.{Alters, AreFree, AreTrue, Crashes, Evicts, IsOver, Loses, MayEnd, MayEndIf, Place, Turn, Wakes, all_after, all_events, closed_at, events_at, events_by, events_in, grant_at, hears_by, is_doubtful, is_put_off, known, place_after, places_after, started, with_lock}
 
 abbrev new_voter : VoterState
 new_voter = voter.start 0 10
@@ -112,27 +113,48 @@ sound_saved = record {
   free = λ none. absurd (none-some (record { client = 7; stamp = 1; grant = 1 }) (sym none));
 }
 
-nobody_after : (o : Outcome) (held : Option Grant) → step (voter.see saved 1) release ≡ Some o → o.state.held ≡ held → held ≡ None
-nobody_after o None steps is = refl
-nobody_after o (Some g) steps is =
-    let has : IsEntry o.state g.client g.stamp = inl (g, is, refl, refl) in
-    let seven : Grant = record { client = 7; stamp = 1; grant = 1 } in
-    let seen : IsSound (voter.see saved 1) = record { limit = sound_saved.limit; granted = sound_saved.granted; numbered = sound_saved.numbered; apart = sound_saved.apart; free = sound_saved.free } in
-    elim ((MeetsContract-step (voter.see saved 1) release o steps).entries g.client g.stamp has) [
+-- the vote is free after the RELEASE of who has it, if nobody waits
+nobody_after : (v : VoterState) → IsSound v → v.held ≡ Some (record { client = 7; stamp = 1; grant = 1 }) → ((d : ℕ) → get v.waiting d ≡ None)
+    → (o : Outcome) (held : Option Grant) → step v release ≡ Some o → o.state.held ≡ held → held ≡ None
+nobody_after v ok has free o None steps is = refl
+nobody_after v ok has free o (Some g) steps is =
+    let entry : IsEntry o.state g.client g.stamp = inl (g, is, refl, refl) in
+    let g7 : Grant = record { client = 7; stamp = 1; grant = 1 } in
+    elim ((MeetsContract-step v release o steps).entries g.client g.stamp entry) [
       | inl before ↦ elim before [
         | inl held ↦
-            let own : 7 ≡ g.client = ap (λ (x : Grant). x.client) (same_Some seven held.0 held.1) ∙ held.2 in
-            absurd (ended-step (voter.see saved 1) release o seven 1 seen refl refl refl (omega arith) steps g.stamp (subst (λ c. IsEntry o.state c g.stamp) (sym own) has))
-        | inr waits ↦ absurd (none-some g.stamp (sym (sound.free refl g.client) ∙ waits))
+            let own : 7 ≡ g.client = ap (λ (x : Grant). x.client) (same_Some g7 held.0 (sym has ∙ held.1)) ∙ held.2 in
+            absurd (ended-step v release o g7 1 ok has refl refl (omega arith) steps g.stamp (subst (λ c. IsEntry o.state c g.stamp) (sym own) entry))
+        | inr waits ↦ absurd (none-some g.stamp (sym (free g.client) ∙ waits))
       ]
       | inr none ↦ absurd none
     ]
 
+seen_saved : IsSound (voter.see saved 1)
+seen_saved = record { limit = sound_saved.limit; granted = sound_saved.granted; numbered = sound_saved.numbered; apart = sound_saved.apart; free = sound_saved.free }
+
 is_free : (free_by (Some said_again) (step (voter.see saved 1) release)).lock.vote.held ≡ None
 is_free =
-    let seen : IsSound (voter.see saved 1) = record { limit = sound_saved.limit; granted = sound_saved.granted; numbered = sound_saved.numbered; apart = sound_saved.apart; free = sound_saved.free } in
-    let taken = takes-step (voter.see saved 1) release seen (omega arith) in
-    ap (λ (o : Option Outcome). (free_by (Some said_again) o).lock.vote.held) taken.1 ∙ nobody_after taken.0 taken.0.state.held taken.1 refl
+    let taken = takes-step (voter.see saved 1) release seen_saved (omega arith) in
+    ap (λ (o : Option Outcome). (free_by (Some said_again) o).lock.vote.held) taken.1
+    ∙ nobody_after (voter.see saved 1) seen_saved refl (sound.free refl) taken.0 taken.0.state.held taken.1 refl
+
+-- ---- the fourth step, in another quiet time: the grant of the older copy is let go
+
+abbrev old_by : Option Outcome → Place
+old_by o = with_lock killed (quiet_time.after killed.lock (λ v. killed.lock.since) o)
+
+old_is : ((old_by (evict saved 1)).lock.vote.held ≡ None) × ((old_by (evict saved 1)).lock.since ≡ killed.lock.since)
+old_is =
+    let taken = takes-step saved release sound_saved (omega arith) in
+    let gone = nobody_after saved sound_saved refl (sound.free refl) taken.0 taken.0.state.held taken.1 refl in
+    subst (λ (o : Option Outcome). ((old_by o).lock.vote.held ≡ None) × ((old_by o).lock.since ≡ killed.lock.since)) (sym taken.1) (gone, refl)
+
+old_known : grant_at (old_by (evict saved 1)) ≡ None
+old_known = ap (λ (h : Option Grant). known true (old_by (evict saved 1)).lock.since h) old_is.0
+
+old_certain : is_doubtful (old_by (evict saved 1)) ≡ false
+old_certain = ap (λ (h : Option Grant). is_old (old_by (evict saved 1)).lock.since h) old_is.0
 
 -- ---- what the example is to the law, by the vote after the first step, the second step, and the vote after the third
 
@@ -203,8 +225,24 @@ may_end g has ends =
     let w = after_all 100 90 (quiet_world first_vote (step saved request)) (law.Wakes 0 ∷ law.Ends 7 1 ∷ []) in
     subst (λ (x : Grant). MayEnd by_client 100 w 0 false x) (same_Some (record { client = 7; stamp = 1; grant = 1 }) g (sym awake_has ∙ has)) (inl has_ended)
 
-pub are_true : AreTrue by_client 100 90 start new_voters (seven_asks ++ works_on ++ gives_back)
-are_true = (tt, (tt, (tt, (tt, (tt, (tt, (((λ quiet. absurd (false≢true quiet)), (λ g held ends. absurd (none-some g held))), (tt, (tt, (tt, (sound_saved, (((λ quiet. ((omega arith), (omega arith))), (λ g held ends. absurd (none-some g held))), (tt, (tt, (tt, (tt, (tt, (tt, (tt, (tt, (tt, (tt, (tt, (tt, (tt, (tt, (tt, (tt, (tt, (tt, (tt, ((refl, not_doubtful, over), (tt, (((λ quiet. absurd (false≢true quiet)), may_end), tt))))))))))))))))))))))))))))))))))
+-- the world when the second quiet time ends
+abbrev old_world : Option Grant → Option Outcome → Option Grant → Option Grant → World
+old_world vote o last old =
+    let freed = after_all 100 90 (after_all 100 90 (quiet_world vote o) (law.Wakes 0 ∷ law.Ends 7 1 ∷ [])) (events_by by_client 0 (grant_at (awake_by o)) last) in
+    let begun = after_all 100 90 (after_all 100 90 freed (law.Restarts 0 ∷ law.Loses 0 ∷ [])) (events_by by_client 0 None old) in
+    after_all 100 90 begun (marks 1 50 45 ++ marks 2 50 45 ++ marks 3 10 9)
+
+abbrev IsOverThen : Option Grant → Option Outcome → Option Grant → Option Grant → Type 0
+IsOverThen vote o last old = IsOver 100 ((old_world vote o last old).voters 0)
+
+over_again : IsOverThen first_vote (step saved request) (last_vote (step saved request)) (grant_at (old_by (evict saved 1)))
+over_again =
+    subst (λ last. IsOverThen first_vote (step saved request) last (grant_at (old_by (evict saved 1)))) (sym last_is)
+    (subst (λ old. IsOverThen first_vote (step saved request) None old) (sym old_known)
+    (for_any (λ h o. IsOverThen h o None None) (λ number q is. subst (λ (x : Quiet). is_silent ((old_world (Some (record { client = 7; stamp = 1; grant = number })) (Some said_again) None None).voters 0).clock x.since 100 ≡ true) (same_Some _ q is) refl)))
+
+pub are_true : AreTrue by_client 100 90 start new_voters whole
+are_true = (tt, (tt, (tt, (tt, (tt, (tt, (((λ quiet. absurd (false≢true quiet)), (λ g held ends. absurd (none-some g held))), (tt, (tt, (tt, (sound_saved, (((λ quiet. ((omega arith), (omega arith))), (λ g held ends. absurd (none-some g held))), (tt, (tt, (tt, (tt, (tt, (tt, (tt, (tt, (tt, (tt, (tt, (tt, (tt, (tt, (tt, (tt, (tt, (tt, (tt, ((refl, not_doubtful, over), (tt, (((λ quiet. absurd (false≢true quiet)), may_end), (refl, ((sym last_is, (λ quiet. absurd (false≢true quiet))), (sound_saved, ((λ g held same. absurd (none-some g held)), (tt, (tt, (tt, (tt, (tt, (tt, (tt, (tt, (tt, ((refl, old_certain, over_again), tt))))))))))))))))))))))))))))))))))))))))))))))))
 
 -- the voters' clocks go on by ten where the sessions' go on by nine
 goes : (voter session : ℕ) → 9 * 10 ≤ 10 * 9
@@ -213,10 +251,53 @@ goes voter session = omega arith
 goes_long : (voter session : ℕ) → 9 * 50 ≤ 10 * 45
 goes_long voter session = omega arith
 
-pub rates : AllByRecursion (IsRated 9 10) (all_events by_client new_voters (seven_asks ++ works_on ++ gives_back))
+abbrev before : List Turn
+before = seven_asks ++ works_on ++ gives_back
+
+before_rates : AllByRecursion (IsRated 9 10) (all_events by_client new_voters before)
 unfolding step voter.take_request voter.take_request_beside
-rates = subst (λ last. AllByRecursion (IsRated 9 10) (all_of first_vote (step saved request) last)) (sym last_is)
+before_rates = subst (λ last. AllByRecursion (IsRated 9 10) (all_of first_vote (step saved request) last)) (sym last_is)
     (for_any (λ h o. AllByRecursion (IsRated 9 10) (all_of h o None)) (λ number. (tt, (goes, (tt, (tt, (goes, (tt, (tt, (tt, (tt, (goes, (tt, (tt, (tt, (tt, (tt, (tt, (tt, (tt, (tt, (tt, (tt, (goes_long, (tt, (tt, (tt, (tt, (tt, (goes_long, (tt, (tt, (tt, (tt, (tt, (goes, (tt, (tt, (tt, (tt, (tt, (tt, (tt, tt)))))))))))))))))))))))))))))))))))))))))))
+
+-- the events of turns, and of others after them
+events_then : (places : ℕ → Place) (first rest : List Turn) → all_events by_client places (first ++ rest) ≡ all_events by_client places first ++ all_events by_client (all_after places first) rest
+events_then places [] rest = refl
+events_then places (t ∷ first) rest =
+    ap (λ events. events_in by_client places t ++ events) (events_then (places_after places t) first rest)
+    ∙ sym (together (events_in by_client places t) (all_events by_client (places_after places t) first) (all_events by_client (all_after (places_after places t) first) rest))
+  where
+    together : (x y z : List Event) → (x ++ y) ++ z ≡ x ++ (y ++ z)
+    together [] y z = refl
+    together (e ∷ x) y z = ap (λ events. e ∷ events) (together x y z)
+
+both_rates : (first rest : List Event) → AllByRecursion (IsRated 9 10) first → AllByRecursion (IsRated 9 10) rest → AllByRecursion (IsRated 9 10) (first ++ rest)
+both_rates [] rest none all = all
+both_rates (e ∷ first) rest rated all = (rated.0, both_rates first rest rated.1 all)
+
+old_rates : (first vote : Option Grant) → first ≡ None → vote ≡ None → AllByRecursion (IsRated 9 10) (law.Restarts 0 ∷ law.Loses 0 ∷ (events_by by_client 0 first vote ++ []))
+old_rates None None none is = (tt, (tt, (tt, tt)))
+old_rates None (Some g) none is = absurd (none-some g (sym is))
+old_rates (Some g) vote none is = absurd (none-some g (sym none))
+
+abbrev lets_go : List Turn
+lets_go = Crashes 0 ∷ Alters 0 (voter.start 0 20) ∷ Loses 0 saved ∷ Evicts 0 1 ∷ []
+
+abbrev ends_quiet : List Turn
+ends_quiet = mark_after 1 50 45 ++ mark_after 2 50 45 ++ mark_after 3 10 9 ++ Wakes 0 ∷ []
+
+rates_to : (places : ℕ → Place) → AllByRecursion (IsRated 9 10) (all_events by_client places lets_go)
+rates_to places = old_rates (grant_at killed) (grant_at (place_after killed (Evicts 0 1))) refl old_known
+
+rates_from : (places : ℕ → Place) → AllByRecursion (IsRated 9 10) (all_events by_client places ends_quiet)
+rates_from places = (tt, (goes_long, (tt, (tt, (goes_long, (tt, (tt, (goes, (tt, (tt, tt))))))))))
+
+rates_then : (places : ℕ → Place) → AllByRecursion (IsRated 9 10) (all_events by_client places starts_anew)
+rates_then places = subst (λ events. AllByRecursion (IsRated 9 10) events) (sym (events_then places lets_go ends_quiet))
+    (both_rates (all_events by_client places lets_go) (all_events by_client (all_after places lets_go) ends_quiet) (rates_to places) (rates_from (all_after places lets_go)))
+
+pub rates : AllByRecursion (IsRated 9 10) (all_events by_client new_voters whole)
+rates = subst (λ events. AllByRecursion (IsRated 9 10) events) (sym (events_then new_voters before starts_anew))
+    (both_rates (all_events by_client new_voters before) (all_events by_client (all_after new_voters before) starts_anew) before_rates (rates_then (all_after new_voters before)))
 
 -- ---- what holds
 
@@ -232,3 +313,9 @@ has_vote = awake_has
 
 pub is_over : (all_after new_voters (seven_asks ++ works_on ++ gives_back) 0).lock.vote.held ≡ None
 is_over = last_is
+
+pub serves : (all_after new_voters whole 0).is_quiet ≡ false
+serves = refl
+
+pub is_free_then : (all_after new_voters whole 0).lock.vote.held ≡ None
+is_free_then = old_is.0

@@ -1,4 +1,5 @@
--- A session asks a voter, and works by its vote. It works on while the voter is killed and starts again, and gives the vote back.
+-- A session asks a voter, and works by its vote. It works on while the voter is killed and starts again, and gives the vote back. The
+-- voter ends and starts, and then an older copy of its state is put back.
 use Rattle.std.specs.Prelude.{ℕ, true, false, List, [], ◌∷◌, ◌++◌, Some}
 use Rattle.message.specs.declared.message.ToVoter.{ToVoter}
 use Rattle.message.specs.declared.message.VoterBody.TheVariants as asks
@@ -6,7 +7,7 @@ use Rattle.voter.specs.declared.state.VoterState.{VoterState}
 use Rattle.voter.specs.Steps.{start}
 use Rattle.working.specs.Events.{Beats, Ends, Hears, Marked, Marks, Renews, Takes}
 use Rattle.working.specs.Example.{pass}
-use Rattle.working_votes.specs.Turns.{Askers, Happens, Loses, Meets, Place, Turn, Wakes, started}
+use Rattle.working_votes.specs.Turns.{Alters, Askers, Crashes, Evicts, Happens, Loses, Meets, Place, Turn, Wakes, started}
 
 -- voters that may give ten grants, and gave none
 abbrev pub new_voters : ℕ → Place
@@ -50,3 +51,13 @@ works_on =
 -- the session ends its request, and its RELEASE reaches the voter
 abbrev pub gives_back : List Turn
 gives_back = Happens (Ends 7 1) ∷ Meets 0 release false ∷ []
+
+-- The voter ends, starts again, and may give twenty grants. It is killed, and starts from the state of before, in which the session has
+-- its vote. Nobody says that he is inside, so that grant is let go, and the quiet time ends.
+abbrev pub starts_anew : List Turn
+starts_anew =
+    Crashes 0 ∷ Alters 0 (start 0 20) ∷ Loses 0 saved ∷ Evicts 0 1 ∷ mark_after 1 50 45 ++ mark_after 2 50 45 ++ mark_after 3 10 9 ++ Wakes 0 ∷ []
+
+-- all of it
+abbrev pub whole : List Turn
+whole = seven_asks ++ works_on ++ gives_back ++ starts_anew

@@ -1,12 +1,12 @@
 //! Laws: who works by the votes of automata.
-ghost use Rattle.std.specs.Prelude.{◌≡◌, ◌≤◌, ◌+◌, ◌*◌, ◌∷◌, ◌++◌, [], ℕ, List, None, Some, true};
+ghost use Rattle.std.specs.Prelude.{◌≡◌, ◌≤◌, ◌+◌, ◌*◌, ◌∷◌, ◌++◌, [], ℕ, List, None, Some, false, true};
 ghost use Rattle.std.specs.List.{AllByRecursion};
 ghost use Rattle.working.specs.Events.{IsRated, after_all, begins};
 ghost use Rattle.working.specs.Example.{start};
 ghost use Rattle.working.specs.Sessions.{is_working};
 ghost use Rattle.vote_leases.specs.Sessions.{AreTold, HasUntil, Step, all_stepped, begun, events_of};
 ghost use Rattle.vote_leases.specs.declared.incarnation.Incarnation.{Incarnation};
-ghost use Rattle.working_votes.specs.Example.{by_client, gives_back, new_voters, seven_asks, works_on};
+ghost use Rattle.working_votes.specs.Example.{by_client, gives_back, new_voters, seven_asks, whole, works_on};
 ghost use Rattle.working_votes.specs.Turns.{AreFree, AreTrue, Askers, HasVote, IsTrue, Place, Turn, WasTold, all_after, all_events, events_in, is_quiet_in, said_in, voter_of};
 
 /// Who works has the vote of each voter of its quorum that is not quiet: the grant of its automaton is to this request. This is so whatever
@@ -46,13 +46,16 @@ pub fn what_is_locked_was_told()
 
 /// The premises can be met, with clocks of which those of sessions are slower by a tenth: a voter takes a REQUEST, and its session works. The
 /// voter is killed, and the session works on over the quiet time, after which it has the vote. Then it ends its request, and nobody has the
-/// vote.
+/// vote. The voter ends and starts, and may give more grants. Then it is killed, and an older copy of its state is put back, in which the
+/// session has the vote: that is let go, and nobody has the vote as the quiet time ends.
 pub fn a_session_works_by_votes()
     ensures free { AreFree new_voters }
-    ensures premises { AreTrue by_client 100 90 start new_voters (seven_asks ++ works_on ++ gives_back) }
-    ensures rates { AllByRecursion (IsRated 9 10) (all_events by_client new_voters (seven_asks ++ works_on ++ gives_back)) }
+    ensures premises { AreTrue by_client 100 90 start new_voters whole }
+    ensures rates { AllByRecursion (IsRated 9 10) (all_events by_client new_voters whole) }
     ensures works { is_working 80 10 ((after_all 100 90 start (all_events by_client new_voters seven_asks)).sessions 7) 1 (0 ∷ []) ≡ true }
     ensures works_on { is_working 80 10 ((after_all 100 90 start (all_events by_client new_voters (seven_asks ++ works_on))).sessions 7) 1 (0 ∷ []) ≡ true }
     ensures has_vote { (all_after new_voters (seven_asks ++ works_on) 0).lock.vote.held ≡ Some (record { client = 7; stamp = 1; grant = 1 }) }
     ensures is_over { (all_after new_voters (seven_asks ++ works_on ++ gives_back) 0).lock.vote.held ≡ None }
+    ensures serves { (all_after new_voters whole 0).is_quiet ≡ false }
+    ensures is_free { (all_after new_voters whole 0).lock.vote.held ≡ None }
 {}

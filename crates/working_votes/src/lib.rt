@@ -11,8 +11,8 @@
 //! - So does whoever is told to work by what it keeps of its votes, as `vote_leases` has it
 //!   ([`who_is_told_to_work_has_the_votes`]): proved code of sessions and of voters meets in one law.
 //! - Each LOCKED that an automaton says is one that left the voter in the law ([`what_is_locked_was_told`]).
-//! - What these ask for can be had: a session works, works on while its voter is killed and starts again, and gives the vote back
-//!   ([`a_session_works_by_votes`]).
+//! - What these ask for can be had: a session works, works on while its voter is killed and starts again, and gives the vote back. Then the
+//!   voter ends and starts, and an older copy of its state is put back ([`a_session_works_by_votes`]).
 //!
 //! A voter that is killed, or begins from an older copy, is quiet for a TTL, and does then what `quiet_time` says. While it is quiet it may not
 //! know who has its vote. So the first two laws leave its vote out, until it serves again.

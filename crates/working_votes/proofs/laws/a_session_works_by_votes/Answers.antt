@@ -1,4 +1,4 @@
-use Rattle.working_votes.proofs.Example.{are_true, free, has_vote, is_over, rates, works, works_still}
+use Rattle.working_votes.proofs.Example.{are_true, free, has_vote, is_free_then, is_over, rates, serves, works, works_still}
 use Rattle.working_votes.proofs.laws.a_session_works_by_votes.Goals as goal
 
 pub returns-clause-free : goal.returns-clause-free
@@ -21,3 +21,9 @@ returns-clause-has_vote c = has_vote
 
 pub returns-clause-is_over : goal.returns-clause-is_over
 returns-clause-is_over c = is_over
+
+pub returns-clause-serves : goal.returns-clause-serves
+returns-clause-serves c = serves
+
+pub returns-clause-is_free : goal.returns-clause-is_free
+returns-clause-is_free c = is_free_then
