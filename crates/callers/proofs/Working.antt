@@ -9,7 +9,7 @@ use Rattle.lease_clock.specs.Leases.{is_among}
 use Rattle.working.specs.Events.{Beats, CountsNow, DoMeet, Ends, Event, GivesBack, GivesOn, Gives, Hears, IsOneOf, IsRated, Keeps, LetsGo, LetsOtherGo, Loses, Marked, Marks, Passes, QuietCountsNow, Released, Relinquished, Renews, Restarts, Takes, Tells as TellsAgain, Wakes, Works, World, after, after_all, begins, with_voter}
 use Rattle.working.specs.Sessions.{Session, beaten, has_ended, has_returned, has_vote, renews, takes}
 use Rattle.working.specs.Voters.{Acknowledgement, Locked as Message, ends, heard_from, is_of_number, is_of_request, set}
-use Rattle.working.proofs.Lists.{set_by}
+use Rattle.working.proofs.Lists.{one_of, set_by}
 use Rattle.working.proofs.Working.{one_works}
 use Rattle.vote_leases.specs.Leases.{beat_of, end_of}
 use Rattle.vote_leases.specs.Sessions.{AreTold, Asks, Happens, Holds, IsToldAt, Kept, Learns, Step, events_of}
@@ -194,13 +194,6 @@ told_evidence tell lease request time voter k s is has =
       subst (λ (r : ℕ). is_among r s.ended ≡ false) has.1 (stands.goes_on has.0),
     )
 
-one_of : (P : ℕ → Type 0) (xs : List ℕ) (x : ℕ) → AllByRecursion P xs → IsOneOf x xs → P x
-one_of P [] x ps among = absurd among
-one_of P (y ∷ ys) x ps among = elim among [
-  | inl e ↦ subst P (sym e) ps.0
-  | inr rest ↦ one_of P ys x ps.1 rest
-]
-
 -- a quorum that meets itself has a voter, so the request goes on
 votes_evidence : (tell : ℕ → Incarnation → ℕ) (lease request time : ℕ) (quorums : List (List ℕ)) (k : Kept) (s : Session) → DoMeet quorums → StandsFor tell k s
     → HasVotesTo lease quorums k request time → HasEvidence lease quorums s request time
@@ -233,7 +226,7 @@ goes_on lapses ttl lease stop me quorums w o s told later holds = record {
 only_one : (c : Calls) (request other : ℕ) → HasLock c request → HasLock c other → request ≡ other
 only_one c request other one two = sym one.2 ∙ ap (λ (h : Holder). h.request) (same_Some one.0 two.0 (sym one.1 ∙ two.1)) ∙ two.2
 
--- something comes to the calls of this session
+-- something comes to a session's calls
 comes_told : (tell : ℕ → Incarnation → ℕ) (lease : ℕ) (quorums : List (List ℕ)) (o : Caller) (session : Session) (s : CallStep) (time : ℕ) → DoMeet quorums
     → IsHanded lease quorums o s time → HoldsOf tell lease quorums o session
     → HasTold lease quorums (record { kept = o.kept; calls = call_stepped o.calls s; until = until_then o.calls s time o.until }) session

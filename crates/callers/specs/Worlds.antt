@@ -81,7 +81,7 @@ pub record HasVotesTo (lease : ℕ) (quorums : List (List ℕ)) (k : Kept) (requ
   pub is_quorum : IsOneOf quorum quorums
   pub counts : AllByRecursion (CountsTo lease k request time) quorum
 
--- so it is, if it is of this session
+-- so it is, if it is the session's own
 abbrev pub IfOwn : Bool → Type 0 → Type 0
 IfOwn false P = Unit {0}
 IfOwn true P = P
@@ -112,7 +112,7 @@ IsHanded lease quorums o MayBeLost time = Unit {0}
 IsHanded lease quorums o Empties time = Unit {0}
 IsHanded lease quorums o Closes time = Unit {0}
 
--- what this session does in a step is what its calls and its votes say
+-- what a session does in a step is what its calls and its votes say
 abbrev pub DoesAsTold : ℕ → ℕ → List (List ℕ) → Caller → CallerStep → Type 0
 DoesAsTold lease me quorums o (InWorld s) = StepsLater me o.calls s
 DoesAsTold lease me quorums o (ToCalls session s time) = IfOwn (session == me) (IsHanded lease quorums o s time)
