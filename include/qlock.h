@@ -59,6 +59,8 @@ uint32_t qlock_version(void);
 #define QLOCK_STAMPS_BYTES 24 /* under which stamps a session may ask a voter */
 #define QLOCK_CLAIM_BYTES 40 /* what a session keeps of its claims of a number */
 #define QLOCK_CALLS_BYTES 56 /* the calls of a process for a lock */
+#define QLOCK_VOTES_BYTES 4608  /* a vote of each of 64 voters for a lock, one after the other */
+#define QLOCK_LEASES_BYTES 2560 /* a lease of each of 64 voters, one after the other */
 
 /* How many bytes the pass has that a client shows to a guard. */
 #define QLOCK_PASS_BYTES 512
@@ -89,10 +91,10 @@ uint32_t qlock_version(void);
 enum {
     QLOCK_DONE = 0,
     QLOCK_BAD_ARGUMENT = 1, /* a number or the length of a pass is out of range, the mask of a quorum is 0, or there are none */
-    QLOCK_BAD_STATE = 2,    /* the bytes are no saved voter, client, guard, row, lease clock, token bucket, peer, start, lease, vote, stamps, claim or calls, or not as many as it has */
+    QLOCK_BAD_STATE = 2,    /* the bytes are no saved voter, client, guard, row, lease clock, token bucket, peer, start, lease, vote, stamps, claim, calls or lock of a session, or not as many as it has */
     QLOCK_BAD_MESSAGE = 3,  /* the line is no message to this voter or client, or the bytes begin with no header, or with no line, or are no line of control */
     QLOCK_NO_ROOM = 4,      /* `out` is too short for the lines */
-    QLOCK_BUSY = 5,         /* C1: the client is asking already, or is inside */
+    QLOCK_BUSY = 5,         /* C1: the client is asking already, or is inside; or a call has the lock under its request */
     QLOCK_NOT_INSIDE = 6,   /* C2: the client is not inside */
     QLOCK_NOT_ASKING = 7,   /* C3: the client is not asking */
     QLOCK_STAMPS_SPENT = 8, /* C4: the client's clock has reached the limit, so no stamp is left for a request */
@@ -410,6 +412,36 @@ int32_t qlock_has_quorum(const uint64_t *masks, size_t n, uint64_t voters, int32
 
    QLOCK_BAD_ARGUMENT  `n` or `m` is 0, or a mask is 0 */
 int32_t qlock_bridge(const uint64_t *firsts, size_t n, const uint64_t *seconds, size_t m, int32_t *yes);
+
+/* ---- Fail-over: whom a session asks, and when it gives up a request that waits and asks others. Sets of voters and quorums are masks,
+   as above. Times are those of one clock of the session, in any unit. That votes exclude one another depends on none of these calls.
+
+   A session asks the quorums of a plan's cycle in turn (qlock_quorums), without voters that it avoids (qlock_avoided), and without voters that
+   had no room for the lock. A request that waits for a voter that is avoided is given up once it waits for too long (qlock_is_stuck), or at
+   once if the voter said that it ends, or is quiet (qlock_waits_for), and the session asks again. */
+
+/* Writes to `*voters` those that were heard longer ago than `most`. Voter v was heard at `heard[v]`, for v below `n`, and below 64. No voter
+   is silent that was heard later than `now`. It is never refused. */
+int32_t qlock_silent(const uint64_t *heard, size_t n, uint64_t now, uint64_t most, uint64_t *voters);
+
+/* Writes to `*voters` those that the session avoids: those that are silent, and those whose quiet time ends later than `now`. That of voter v
+   ends at `ends[v]`, for v below `m`. It is never refused. */
+int32_t qlock_avoided(const uint64_t *heard, size_t n, const uint64_t *ends, size_t m, uint64_t now, uint64_t most, uint64_t *voters);
+
+/* Writes to `*place` the place in the cycle of the `n` quorums `masks` of the one that the session asks with a ticket, whose own place is
+   `ticket` modulo `n`: the first one from there on, around the cycle, that has no voter of `avoided`, and none of `full`. If there is none, it is
+   the first one that has none of `full`: the others may give their votes later. Go on with the ticket after that place.
+
+   QLOCK_BAD_ARGUMENT  each of the quorums has a voter of `full`, or `n` is 0 */
+int32_t qlock_next_quorum(const uint64_t *masks, size_t n, uint64_t ticket, uint64_t avoided, uint64_t full, uint64_t *place);
+
+/* Writes 1 to `*yes` if a request to `quorum`, which has the votes of `votes`, waits for the vote of a voter of `avoided`, and others would do:
+   one of the `n` quorums `masks` has no voter of `avoided`, and none of `full`. Writes 0 if not. It is never refused. */
+int32_t qlock_waits_for(const uint64_t *masks, size_t n, uint64_t quorum, uint64_t votes, uint64_t avoided, uint64_t full, uint32_t *yes);
+
+/* Writes 1 to `*yes` if that is so, and the request was asked longer ago than `most`, and 0 if not. It is never refused. */
+int32_t qlock_is_stuck(const uint64_t *masks, size_t n, uint64_t quorum, uint64_t votes, uint64_t asked, uint64_t avoided, uint64_t full,
+                       uint64_t now, uint64_t most, uint32_t *yes);
 
 /* ---- The guard (fence) of what the lock protects: it refuses a client that lost the lock without noticing it, and comes
    late. `n` is always QLOCK_FENCE_BYTES. */
@@ -942,6 +974,101 @@ int32_t qlock_calls_spoiled(const uint8_t *calls, size_t n, uint32_t phase, uint
 
    QLOCK_BAD_STATE  the bytes are no calls */
 int32_t qlock_calls_may_end(const uint8_t *calls, size_t n, uint64_t stamp, uint32_t *yes);
+
+/* ---- One lock of a session, whole: its client, its votes, and the calls for it, so that no host says which phase the client is in, or
+   whether its votes count.
+
+   A lock is three blocks: a client (`client`, QLOCK_CLIENT_BYTES), the votes of all 64 voters for it one after the other (`votes`,
+   QLOCK_VOTES_BYTES), and the calls for it (`calls`, QLOCK_CALLS_BYTES). `leases` are the leases of all 64 voters one after the other
+   (QLOCK_LEASES_BYTES): the session has one of each voter for all its locks. A voter that there is not has a lease and a vote as they are
+   new. Make the blocks by qlock_client_new or qlock_client_anew, qlock_vote_new for each voter, and qlock_calls_new, with the same `used`.
+   `span` is for how long a vote counts after a heartbeat left, and `now` the time of the host's clock.
+
+   If a call has the lock, the client is inside by the request under which the call has it. Blocks of which that is not so are no lock. So
+   are those of which one is none. Each call here reads all blocks, and refuses them with QLOCK_BAD_STATE if they are no lock, or if the
+   leases are none. It writes those that it is not given as const.
+
+   These calls take the place of the calls of a client that begin and end a request and take a line, of those of its votes, and of those of
+   the calls that get a phase. What else comes to the calls is as before (qlock_calls_unwants, qlock_calls_unlocks, qlock_calls_loses and
+   qlock_calls_end), and so is what only shows the client. Before the session hears of a later incarnation of a voter, the vote of that voter
+   keeps what counts (qlock_vote_keeps, with its 72 bytes of `votes`).
+
+   What a session does by them is as its calls say: it ends no request under which a call has the lock, gives no vote back while one has it,
+   and has and hands on the lock only up to a time up to which all votes of the quorum count. */
+
+/* Writes to `*end` up to when all votes of the quorum count for the request that runs: at that time one does not count any more. 0 if they do
+   not all count, or no request runs. It is the time up to which the call that has the lock has it.
+
+   QLOCK_BAD_STATE  the blocks are no lock, or the leases are none */
+int32_t qlock_held_until(const uint8_t *client, size_t n, const uint8_t *votes, size_t m, const uint8_t *calls, size_t k,
+                         const uint8_t *leases, size_t l, uint64_t span, uint64_t *end);
+
+/* Writes to `*next` what the session has to do next for the calls, at this time. The incarnation of voter v is known since `since[v]`, of 64
+   numbers: a vote that did not begin to count is doubtful once nothing was acknowledged for `span` since then.
+
+   QLOCK_BAD_STATE  the blocks are no lock, or the leases are none */
+int32_t qlock_held_next(const uint8_t *client, size_t n, const uint8_t *votes, size_t m, const uint8_t *calls, size_t k,
+                        const uint8_t *leases, size_t l, const uint64_t *since, size_t voters, uint64_t span, uint64_t now, uint32_t *next);
+
+/* Writes to `*next` what the session has to do if a vote that it has may be somebody else's. If it gives up, or leaves, do then what is next.
+
+   QLOCK_BAD_STATE  the blocks are no lock */
+int32_t qlock_held_spoiled(const uint8_t *client, size_t n, const uint8_t *votes, size_t m, const uint8_t *calls, size_t k, uint32_t *next);
+
+/* Hands the lock to the first call that waits, if the session is inside by a request under which no call had it before, no call has it now,
+   and all votes of the quorum count at this time. Writes to `*end` up to when the call has it, and 0 if it was not handed the lock: then
+   nothing changes.
+
+   QLOCK_BAD_STATE  the blocks are no lock, or the leases are none */
+int32_t qlock_held_hand(const uint8_t *client, size_t n, const uint8_t *votes, size_t m, uint8_t *calls, size_t k,
+                        const uint8_t *leases, size_t l, uint64_t span, uint64_t now, uint64_t *end);
+
+/* Takes a call that comes, behind all that wait. Writes to `*answer` whether it is taken (QLOCK_CALL_TAKEN), and why not: then nothing
+   changes. One that only tries, if `tries` is not 0, is taken only if it is the first, and nobody asks yet.
+
+   QLOCK_BAD_STATE  the blocks are no lock */
+int32_t qlock_held_wants(const uint8_t *client, size_t n, const uint8_t *votes, size_t m, uint8_t *calls, size_t k, uint32_t tries, uint32_t *answer);
+
+/* Notes that somebody else has the lock. Writes 1 to `*yes` if that ends a call that only tries, which is the first that waits, and 0 if not.
+
+   QLOCK_BAD_STATE  the blocks are no lock */
+int32_t qlock_held_refuses_tries(const uint8_t *client, size_t n, const uint8_t *votes, size_t m, uint8_t *calls, size_t k, uint32_t *yes);
+
+/* Starts a request for the votes of a quorum, as qlock_client_ask does, and asks with it at all votes.
+
+   QLOCK_BAD_STATE     the blocks are no lock
+   QLOCK_BAD_ARGUMENT  the mask is 0
+   QLOCK_BUSY          the client is asking already, or is inside
+   QLOCK_STAMPS_SPENT  the client's clock is at the limit
+   QLOCK_NO_ROOM       `out` is too short */
+int32_t qlock_held_ask(uint8_t *client, size_t n, uint8_t *votes, size_t m, const uint8_t *calls, size_t k, uint64_t quorum,
+                       uint8_t *out, size_t room, size_t *written);
+
+/* Takes the line of a message to the client, as qlock_client_take does. The header of the message says this incarnation of the voter. A
+   LOCKED brings a vote, or renews it if the client is inside. What leaves gives votes back, and ends requests.
+
+   QLOCK_BAD_STATE    the blocks are no lock, or the leases are none
+   QLOCK_BAD_MESSAGE  the line is no message to this client
+   QLOCK_NO_ROOM      `out` is too short */
+int32_t qlock_held_take(uint8_t *client, size_t n, uint8_t *votes, size_t m, const uint8_t *calls, size_t k, const uint8_t *leases, size_t l,
+                        uint64_t span, uint64_t now, uint64_t run, uint64_t start, uint64_t lapses, const uint8_t *line, size_t length,
+                        uint8_t *out, size_t room, size_t *written, int32_t *entered);
+
+/* Leaves: ends the request by which the client is inside, there and at all votes.
+
+   QLOCK_BAD_STATE   the blocks are no lock
+   QLOCK_BUSY        a call has the lock under the request
+   QLOCK_NOT_INSIDE  the client is not inside
+   QLOCK_NO_ROOM     `out` is too short */
+int32_t qlock_held_leave(uint8_t *client, size_t n, uint8_t *votes, size_t m, const uint8_t *calls, size_t k, uint8_t *out, size_t room, size_t *written);
+
+/* Gives up the request by which the client asks, there and at all votes.
+
+   QLOCK_BAD_STATE   the blocks are no lock
+   QLOCK_BUSY        a call has the lock under the request
+   QLOCK_NOT_ASKING  the client is not asking
+   QLOCK_NO_ROOM     `out` is too short */
+int32_t qlock_held_give_up(uint8_t *client, size_t n, uint8_t *votes, size_t m, const uint8_t *calls, size_t k, uint8_t *out, size_t room, size_t *written);
 
 /* ---- The start of a voter among the other voters: so that no two processes of one voter give the same grant.
 

@@ -248,6 +248,75 @@ static void one_quorum(void) {
     end(&second, 0, result);
 }
 
+/* the first place from the ticket's on, around the cycle, of a quorum without these voters, and n if there is none */
+static size_t place_without(const uint64_t *masks, size_t n, uint64_t ticket, uint64_t voters) {
+    for (size_t i = 0; i < n; i++)
+        if ((masks[(ticket % n + i) % n] & voters) == 0) return (ticket % n + i) % n;
+    return n;
+}
+
+/* times up to 99 */
+static struct block times_of(void) {
+    struct block b = block_of(8 * below(70));
+    for (size_t i = 0; i < b.n / 8; i++) {
+        uint64_t time = below(100);
+        memcpy(b.bytes + 8 * i, &time, 8);
+    }
+    note(&b);
+    return b;
+}
+
+/* the calls on whom a session asks */
+static void one_choice(void) {
+    struct block quorums = block_of(8 * below(6)), heard = times_of(), ends = times_of();
+    fill_masks(&quorums);
+    note(&quorums);
+    const uint64_t *masks = (const uint64_t *)(const void *)quorums.bytes, *at = (const uint64_t *)(const void *)heard.bytes;
+    const uint64_t *until = (const uint64_t *)(const void *)ends.bytes;
+    size_t n = quorums.n / 8, place;
+    uint64_t avoided = rnd() & rnd() & 31, full = rnd() & rnd() & 31, ticket = below(2) ? below(20) : rnd();
+    uint64_t quorum = rnd() & 31, votes = rnd() & rnd() & 31, now = below(100), most = below(100), asked = below(100), got = 7777, wanted = 0;
+    uint32_t yes = 7777, waits = (quorum & ~votes & avoided) != 0 && place_without(masks, n, 0, avoided | full) < n;
+    int32_t result;
+    switch (below(5)) {
+    case 0:
+    case 1:
+        call = below(2) ? "qlock_silent" : "qlock_avoided";
+        for (size_t v = 0; v < 64; v++) {
+            if (v < heard.n / 8 && now > at[v] && now - at[v] > most) wanted |= (uint64_t)1 << v;
+            if (call[6] == 'a' && v < ends.n / 8 && now < until[v]) wanted |= (uint64_t)1 << v;
+        }
+        result = call[6] == 's' ? qlock_silent(at, heard.n / 8, now, most, &got)
+                                : qlock_avoided(at, heard.n / 8, until, ends.n / 8, now, most, &got);
+        is_named(result, "0");
+        if (got != wanted) fail("voters", result);
+        break;
+    case 2:
+        call = "qlock_next_quorum";
+        place = place_without(masks, n, ticket, avoided | full);
+        if (place == n) place = place_without(masks, n, ticket, full);
+        result = qlock_next_quorum(masks, n, ticket, avoided, full, &got);
+        is_named(result, "01");
+        if ((result == QLOCK_BAD_ARGUMENT) != (place == n)) fail("refused", result);
+        if (got != (result == QLOCK_DONE ? place : 7777)) fail("place", result);
+        break;
+    case 3:
+        call = "qlock_waits_for";
+        result = qlock_waits_for(masks, n, quorum, votes, avoided, full, &yes);
+        is_named(result, "0");
+        if (yes != waits) fail("yes", result);
+        break;
+    default:
+        call = "qlock_is_stuck";
+        result = qlock_is_stuck(masks, n, quorum, votes, asked, avoided, full, now, most, &yes);
+        is_named(result, "0");
+        if (yes != (now > asked && now - asked > most && waits)) fail("yes", result);
+    }
+    end(&quorums, 0, result);
+    end(&heard, 0, result);
+    end(&ends, 0, result);
+}
+
 /* the words of a call, which are numbers of 64 bits: mostly as many as it writes */
 static struct block words_of(size_t n) { return block_of(8 * (below(8) ? n : below(20))); }
 
@@ -497,6 +566,7 @@ int main(int argc, char **argv) {
         one_call();
         if (i % 4 == 0) one_lease();
         if (i % 8 == 0) one_quorum();
+        if (i % 8 == 4) one_choice();
         if (i % 4 == 0) one_header();
         if (i % 4 == 2) one_control();
     }

@@ -27,6 +27,7 @@ from pathlib import Path
 from cluster import (
     ENDINGS,
     GROWN,
+    LEVEL,
     NAMES,
     NATS,
     PROGRAMS,
@@ -847,7 +848,7 @@ def speaks_as_another(room: Path) -> bool:
     time.sleep(1)
     name, mark = re.findall(rf"c\.jobs\.(\S+)\.\d+ \d .*\r\nqlock2 {c.id} (\S+) v ", own.settle())[0]
     begin = f"qlock2 {c.id} {mark}"
-    close = f"{begin} c {s.number} 1 64 {name} 99\n. close\n"
+    close = f"{begin} c {s.number} 1 64 {name} 99 level={LEVEL}\n. close\n"
     evict = f"{begin} o question\nevict {s.number}\n"
     identity = {voter: reply["identity"] for voter, reply in c.status().items()}
     passed, wrong = [], []
@@ -1001,12 +1002,12 @@ def rolling_upgrade(room: Path) -> bool:
                 print(f"{voter} by {programs}: {c.last(voter)}")
                 return False
     kept = held.lost() == 0 and len(first) == 1 and formats(c) == first
-    early = c.ctl("level", "2", check=False)
+    early = c.ctl("level", str(LEVEL + 1), check=False)
     newer = Session(c, programs=NEXT)
     before = ". greeted" in spy.read(1)
     held.tell("unlock held")
     held.tell("close")
-    raised = again(lambda: c.ctl("level", "2", check=False))
+    raised = again(lambda: c.ctl("level", str(LEVEL + 1), check=False))
     print(f"level too early: {early[0]}; then: {raised[0]} {raised[1][-60:]}; the lock was kept: {kept}")
     after = newer.has("after", 10) and ". greeted" in spy.read(1)
     after = after and len(formats(c)) == 1 and formats(c) != first

@@ -24,6 +24,7 @@ SERVICE = Path(__file__).resolve().parent.parent
 PROGRAMS = Path(os.environ.get("QLOCK_PROGRAMS", SERVICE / "out" / "bin"))
 NATS = shutil.which("nats-server") or "/usr/sbin/nats-server"
 NAMES = ["hub", "rim1", "rim2", "rim3", "rim4"]
+LEVEL = 2  # at which `qlockctl init` begins a cluster
 WHEEL = SERVICE / "wheel-4.toml"
 GROWN = SERVICE / "wheel-4-grown.toml"
 
@@ -498,7 +499,7 @@ class Stranger(Wire):
 
     def header(self, kind: str, words: str) -> str:
         """The header of a client's or a voter's message."""
-        return f"qlock2 {self.id} {self.marks[kind]} {kind} {words}\n"
+        return f"qlock2 {self.id} {self.marks[kind]} {kind} {words} level={LEVEL}\n"
 
     def say(self, voter: int, number: int, epoch: int, reserved: int, name: str, lines: str) -> None:
         """Sends a message of a client to a voter."""

@@ -341,8 +341,18 @@ func TestOperators(t *testing.T) {
 	if _, err := b.Lock(within(t, time.Second), "x"); !errors.Is(err, ErrLost) {
 		t.Error(err)
 	}
-	if err := take(t, a, "x").Unlock(); err != nil {
-		t.Error(err)
+	if _, err := a.Lock(within(t, time.Second), "x"); err == nil {
+		t.Error("somebody has the lock while who was evicted may work")
+	}
+	held = take(t, a, "x") // once that client was silent for a TTL
+	c, _ := start(t, w)
+	ask(fmt.Sprint("evict ", a.Number(), " now"))
+	if !isLost(held) {
+		t.Error("a client that was evicted at once does not know")
+	}
+	began := time.Now()
+	if err := take(t, c, "x").Unlock(); err != nil || time.Since(began) > 2*time.Second {
+		t.Errorf("the next one waited for %v: %v", time.Since(began), err)
 	}
 	replies, err := console.Ask(within(t, time.Second), "nonsense", 0)
 	if err != nil || replies[0].Err == nil || !strings.Contains(replies[0].Err.Error(), "unknown command") {

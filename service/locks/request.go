@@ -230,15 +230,15 @@ func (c *Client) refuse(l *lock, why error) {
 func (c *Client) ask(l *lock) {
 	now, before := time.Now(), *l.Client
 	full := c.without(l, now)
-	if !c.plan.HasQuorum(^full) {
+	quorum, found := c.nextQuorum(c.avoided(now), full)
+	if !found {
 		c.refuse(l, fmt.Errorf("%s: %w", l.name, ErrFull))
 		return
 	}
-	quorum := c.nextQuorum(c.avoided(now), full)
 	stamp, lines, err := c.begins(l, quorum)
 	if err == nil && !c.mayAsk(quorum, stamp) {
 		*l.Client = before // these voters may lag behind others
-		quorum = c.nextQuorum(c.avoided(now)|^c.owners(stamp), full)
+		quorum, _ = c.nextQuorum(c.avoided(now)|^c.owners(stamp), full)
 		stamp, lines, err = c.begins(l, quorum)
 	}
 	switch {
@@ -299,18 +299,15 @@ func (c *Client) tries(l *lock, quorum uint64) (stamp uint64, lines []byte, err 
 	return shown.Stamp, lines, err
 }
 
-// nextQuorum returns the quorum of the next ticket that has none of these voters. If there is none
-// it returns that of the next one without those that have no room: the others may give a vote later.
-// Some quorum has room.
-func (c *Client) nextQuorum(avoided, full uint64) uint64 {
-	quorums, without := c.plan.Quorums, avoided|full
-	if !c.plan.HasQuorum(^without) {
-		without = full
+// nextQuorum returns the quorum of the next ticket that has none of these voters. If there is none it returns that of the next one without
+// those that have no room, as the others may give a vote later, and if there is none of these either it returns false.
+func (c *Client) nextQuorum(avoided, full uint64) (quorum uint64, found bool) {
+	place, found := c.plan.Next(c.ticket, avoided, full)
+	if !found {
+		return 0, false
 	}
-	for quorums[c.ticket%len(quorums)]&without != 0 {
-		c.ticket++
-	}
-	return quorums[c.ticket%len(quorums)]
+	c.ticket = place
+	return c.plan.Quorums[place], true
 }
 
 func (c *Client) leave(l *lock) {
@@ -343,6 +340,8 @@ func (c *Client) send(l *lock, lines []byte, now time.Time) {
 		if said := wire.ReadLine(lines[:end]); said.To >= 0 && said.To < len(c.peers) {
 			c.out[said.To] = append(append(append(c.out[said.To], l.name...), ' '), lines[:end-1]...)
 			switch isRequest := string(said.Word) == "request"; {
+			case string(said.Word) == "relinquish":
+				l.kept.GivesBack(said.To, said.Stamp) // a FAIL may have several votes given back
 			case isRequest && l.shown.Phase == qlock.Inside:
 				c.out[said.To] = append(c.out[said.To], " inside"...)
 			case isRequest && l.isTried():
@@ -396,10 +395,6 @@ func (c *Client) take(voter int, name, line []byte) {
 		return
 	}
 	said, wasInside := wire.ReadLine(line), l.shown.Phase == qlock.Inside
-	asksBack, before := string(said.Word) == "inquire", uint64(0)
-	if asksBack {
-		before = l.grantOf(voter)
-	}
 	if said.Stamp == l.shown.Stamp && string(said.Word) == "fail" && l.shown.Phase == qlock.Asking {
 		defer c.refuseTries(l) // once the line is taken
 	}
@@ -409,10 +404,7 @@ func (c *Client) take(voter int, name, line []byte) {
 		return
 	}
 	c.room = lines
-	switch {
-	case asksBack && before > 0 && l.grantOf(voter) == 0:
-		l.kept.GivesBack(voter, before)
-	case string(said.Word) == "locked":
+	if string(said.Word) == "locked" {
 		granted := qlock.Granted{Incarnation: c.peers[voter].said, Stamp: said.Stamp, Grant: said.Grant, Renews: wasInside}
 		if l.kept.Takes(voter, granted, c.leases(), uptime()); l.held != nil {
 			c.counts(l)
@@ -585,15 +577,24 @@ func (c *Client) hasGap(now time.Time) bool {
 	return !last.IsZero() && (c.back != back || ofDay-here > c.config.Heartbeat)
 }
 
-// isStuck returns whether a request waits for a silent voter, and others would do.
-func (c *Client) isStuck(l *lock, silent uint64, now time.Time) bool {
-	return now.Sub(l.asked) > c.config.FailOver && c.waitsFor(l, silent, now)
+// isStuck returns whether a request waits for one of these voters for longer than the fail-over time, and others would do, which have room.
+func (c *Client) isStuck(l *lock, avoided uint64, now time.Time) bool {
+	return l.asks(avoided) && c.plan.IsStuck(c.waiting(l, now), avoided, c.without(l, now), late, uint64(c.config.FailOver))
 }
 
 // waitsFor returns whether a request waits for one of these voters, and others would do, which have room.
-func (c *Client) waitsFor(l *lock, silent uint64, now time.Time) bool {
-	return l.shown.Phase == qlock.Asking && l.shown.Quorum&silent&^c.votes(l) != 0 &&
-		c.plan.HasQuorum(^(silent | c.without(l, now)))
+func (c *Client) waitsFor(l *lock, avoided uint64, now time.Time) bool {
+	return l.asks(avoided) && c.plan.WaitsFor(c.waiting(l, now), avoided, c.without(l, now))
+}
+
+// asks returns whether a request asks one of these voters. If not, it waits for none of them.
+func (l *lock) asks(voters uint64) bool {
+	return l.shown.Phase == qlock.Asking && l.shown.Quorum&voters != 0
+}
+
+// waiting returns the request of a lock.
+func (c *Client) waiting(l *lock, now time.Time) qlock.Waiting {
+	return qlock.Waiting{Quorum: l.shown.Quorum, Votes: c.votes(l), Asked: since(l.asked, now)}
 }
 
 // remind repeats the requests that wait for a vote, or shows that the holder is there.

@@ -523,28 +523,42 @@ func (c *Client) disclaimOf(l *lock, voters uint64, now time.Time) {
 // uptime is a clock that also goes on while the machine sleeps.
 func uptime() time.Duration { return boot.Uptime() }
 
-// silent returns the voters of which nothing came for the fail-over time, or, of a session that rests, since the heartbeat before it.
-func (c *Client) silent(now time.Time) (mask uint64) {
+// late is what the time is now to the calls that say who is silent: times before it are of the past.
+const late uint64 = math.MaxInt64
+
+// since returns a time as these calls take it. One that is nobody's is 0.
+func since(at, now time.Time) uint64 { return late - uint64(now.Sub(at)) }
+
+// silence is for how long nothing comes of a voter until it is silent: for the fail-over time, or, if the session rests, since the heartbeat
+// before it.
+func (c *Client) silence() uint64 {
 	most := c.config.FailOver
 	if c.rests() {
 		most += c.pause()
 	}
+	return uint64(most)
+}
+
+// heard returns when each voter was heard, and when its quiet time ends.
+func (c *Client) heard(now time.Time) (heard, quiet []uint64) {
+	times := make([]uint64, 2*len(c.peers))
+	heard, quiet = times[:len(c.peers)], times[len(c.peers):]
 	for v := range c.peers {
-		if now.Sub(c.peers[v].heard) > most {
-			mask |= 1 << v
-		}
+		heard[v], quiet[v] = since(c.peers[v].heard, now), since(c.peers[v].quiet, now)
 	}
-	return mask
+	return heard, quiet
+}
+
+// silent returns the voters of which nothing came for so long.
+func (c *Client) silent(now time.Time) uint64 {
+	heard, _ := c.heard(now)
+	return qlock.Silent(heard, late, c.silence())
 }
 
 // avoided returns the voters that are asked only if nobody else would do: they are silent, or quiet.
-func (c *Client) avoided(now time.Time) (mask uint64) {
-	for v := range c.peers {
-		if now.Before(c.peers[v].quiet) {
-			mask |= 1 << v
-		}
-	}
-	return mask | c.silent(now)
+func (c *Client) avoided(now time.Time) uint64 {
+	heard, quiet := c.heard(now)
+	return qlock.Avoided(heard, quiet, late, c.silence())
 }
 
 // message takes a message of a voter.

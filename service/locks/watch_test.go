@@ -255,7 +255,8 @@ func TestClaimIsAcknowledged(t *testing.T) {
 func TestAsksWhoAcknowledged(t *testing.T) {
 	c := still(t, worlds.New(t, worlds.Majority, 20*time.Second))
 	turns(c, 200*time.Millisecond, func() bool { return false })
-	voter := bits.TrailingZeros64(c.nextQuorum(0, 0))
+	quorum, _ := c.nextQuorum(0, 0)
+	voter := bits.TrailingZeros64(quorum)
 	c.peers[voter].forgetLease()
 	if c.owners(c.used+1)>>voter&1 == 1 {
 		t.Error("it may be asked")
@@ -288,6 +289,22 @@ func TestVotesEndWithTheirRequest(t *testing.T) {
 	givesBack(c, l, voter, bits.TrailingZeros64(l.shown.Quorum&^(1<<voter)), 2)
 	if c.votes(l) != 0 || until(voter) != 0 {
 		t.Errorf("votes of %b, up to %v", c.votes(l), until(voter))
+	}
+}
+
+// A vote that its voter asked for goes back once another voter says that the request has to wait: it counts no more then.
+func TestVoteGoesBackOnFail(t *testing.T) {
+	c, l, _ := asks(t)
+	voter := bits.TrailingZeros64(l.shown.Quorum)
+	other := bits.TrailingZeros64(l.shown.Quorum &^ (1 << voter))
+	lapsed(c, voter, 0, locked(c, l, voter, 1))
+	lapsed(c, voter, 0, fmt.Sprintf("x inquire %d %d 1 0\n", voter, c.header.Number))
+	if c.votes(l) == 0 || l.kept.Until(voter, c.leases()) == 0 {
+		t.Fatal("the vote went back at once")
+	}
+	lapsed(c, other, 0, fmt.Sprintf("x fail %d %d %d 0\n", other, c.header.Number, l.shown.Stamp))
+	if until := l.kept.Until(voter, c.leases()); c.votes(l) != 0 || until != 0 {
+		t.Errorf("votes of %b, up to %v", c.votes(l), until)
 	}
 }
 

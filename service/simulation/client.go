@@ -2,6 +2,7 @@ package simulation
 
 import (
 	"encoding/hex"
+	"math"
 	"strconv"
 	"strings"
 	"time"
@@ -18,7 +19,7 @@ import (
 //
 // They follow the rules of package locks (session.go, request.go, watch.go), whose client has goroutines and reads the
 // machine's clock, and so can't be stepped. Shared with it are the proved client of package qlock, the messages (wire), the
-// plans, what is kept of claims (claims) and of votes (votes), and the timer of reminders (remind). What is here is the simulation's own: it
+// plans, whom a session asks, what is kept of claims (claims) and of votes (votes), and the timer of reminders (remind). What is here is the simulation's own: it
 // is kept in the order of package locks, under the same names, so that both can be laid side by side. There are no plans that are exchanged, and no calls that only
 // try.
 
@@ -580,14 +581,23 @@ func (l *lock) disclaim(voters uint64) {
 }
 
 // avoided returns the voters that are asked only if nobody else would do: they are silent, or quiet.
-func (c *client) avoided() (mask uint64) {
-	now := c.shows()
+func (c *client) avoided() uint64 {
+	heard, quiet := c.heard()
+	return qlock.Avoided(heard, quiet, late, uint64(c.over))
+}
+
+// late is what the time is now to the calls that say who is silent: times before it are of the past.
+const late uint64 = math.MaxInt64
+
+// since returns a time of the client's clock as these calls take it.
+func (c *client) since(at time.Duration) uint64 { return late - uint64(c.shows()-at) }
+
+// heard returns when each voter was heard, and when its quiet time ends.
+func (c *client) heard() (heard, quiet []uint64) {
 	for v := range c.peers {
-		if p := &c.peers[v]; now-p.heard > c.over || now < p.quiet {
-			mask |= 1 << v
-		}
+		heard, quiet = append(heard, c.since(c.peers[v].heard)), append(quiet, c.since(c.peers[v].quiet))
 	}
-	return mask
+	return heard, quiet
 }
 
 // message takes a message of a voter.
@@ -854,13 +864,9 @@ func (c *client) takers() (mask uint64) {
 }
 
 // silent returns the voters of which nothing came for a while.
-func (c *client) silent() (mask uint64) {
-	for v := range c.peers {
-		if c.shows()-c.peers[v].heard > c.over {
-			mask |= 1 << v
-		}
-	}
-	return mask
+func (c *client) silent() uint64 {
+	heard, _ := c.heard()
+	return qlock.Silent(heard, late, uint64(c.over))
 }
 
 // drain begins to close the session.
@@ -909,7 +915,7 @@ func (c *client) round() {
 		case !l.isBusy():
 		case l.shown.Phase == qlock.Idle:
 			l.pump()
-		case c.shows()-l.asked > c.over && l.waitsFor(avoided):
+		case l.isStuck(avoided):
 			l.askAgain()
 		case l.timer.IsDue(dateOf(c.shows())):
 			l.remind()

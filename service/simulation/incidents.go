@@ -4,6 +4,7 @@ import (
 	"encoding/hex"
 	"encoding/json"
 	"errors"
+	"fmt"
 	"strconv"
 	"time"
 
@@ -182,6 +183,15 @@ var ofClients = []kind{
 		c.flush()
 		return true
 	}},
+	{"sessions that operators end", func(w *world) bool {
+		c := w.someClient()
+		if c == nil || c.stage != isOpen {
+			return false
+		}
+		w.log("an operator ends the session of client %d, number %d", c.id, c.header.Number)
+		w.evicts(c.header.Number)
+		return true
+	}},
 	{"clocks that change their rates", func(w *world) bool {
 		if w.random.Intn(2) == 0 {
 			p := w.voters[w.random.Intn(len(w.voters))]
@@ -192,6 +202,19 @@ var ofClients = []kind{
 		c.clock.sets(w.now, w.rate(false))
 		return true
 	}},
+}
+
+// evicts lets an operator end the session of a number at all voters.
+func (w *world) evicts(number int) {
+	w.questions++
+	h := wire.Header{Cluster: w.cluster.ID, Coterie: w.cluster.Marks()[0], Kind: wire.FromOperator, Name: fmt.Sprint("q", w.questions)}
+	words := fmt.Sprintf("evict %d\n", number)
+	if w.Wrong.EvictsAtOnce {
+		words = fmt.Sprintf("evict %d now\n", number)
+	}
+	for _, p := range w.voters {
+		w.broker.send(w.now, wire.WriteBox(w.cluster.ID, p.number, "alice"), append(h.Append(nil), words...))
+	}
 }
 
 // Kinds returns the names of all kinds of incidents.

@@ -292,14 +292,8 @@ func (l *lock) tries(quorum uint64) (stamp uint64, lines []byte, err error) {
 
 // nextQuorum returns the quorum of the next ticket that has none of these voters, or that of the next one.
 func (c *client) nextQuorum(avoided uint64) uint64 {
-	quorums := c.cluster.Planned.Quorums
-	if !c.hasQuorum(^avoided) {
-		avoided = 0
-	}
-	for quorums[c.ticket%len(quorums)]&avoided != 0 {
-		c.ticket++
-	}
-	return quorums[c.ticket%len(quorums)]
+	c.ticket, _ = c.cluster.Planned.Next(c.ticket, avoided, 0) // voters have room for each lock
+	return c.cluster.Planned.Quorums[c.ticket]
 }
 
 func (l *lock) leave() {
@@ -331,7 +325,10 @@ func (l *lock) send(lines []byte) {
 		end := bytes.IndexByte(lines, '\n') + 1
 		if said := wire.ReadLine(lines[:end]); said.To >= 0 && said.To < len(c.peers) {
 			out := append(append(append(c.out[said.To], l.name...), ' '), lines[:end-1]...)
-			if string(said.Word) == "request" && l.shown.Phase == qlock.Inside {
+			switch isRequest := string(said.Word) == "request"; {
+			case string(said.Word) == "relinquish":
+				l.kept.GivesBack(said.To, said.Stamp) // a FAIL may have several votes given back
+			case isRequest && l.shown.Phase == qlock.Inside:
 				out = append(out, " inside"...)
 			}
 			c.out[said.To] = append(out, '\n')
@@ -382,19 +379,12 @@ func (c *client) take(v int, name string, line []byte) {
 		return
 	}
 	said, wasInside := wire.ReadLine(line), l.shown.Phase == qlock.Inside
-	asksBack, before := string(said.Word) == "inquire", uint64(0)
-	if asksBack {
-		before = l.grantOf(v)
-	}
 	lines, _, err := l.Take(line, c.room[:0])
 	if err != nil {
 		return
 	}
 	c.room = lines
-	switch {
-	case asksBack && before > 0 && l.grantOf(v) == 0:
-		l.kept.GivesBack(v, before)
-	case string(said.Word) == "locked":
+	if string(said.Word) == "locked" {
 		granted := qlock.Granted{Incarnation: c.peers[v].said, Stamp: said.Stamp, Grant: said.Grant, Renews: wasInside}
 		l.kept.Takes(v, granted, c.leases(), c.shows())
 	}
@@ -466,7 +456,17 @@ func (l *lock) grantOf(voter int) uint64 {
 
 // waitsFor returns whether a request waits for one of these voters, and others would do.
 func (l *lock) waitsFor(silent uint64) bool {
-	return l.shown.Phase == qlock.Asking && l.shown.Quorum&silent&^l.votes() != 0 && l.client.hasQuorum(^silent)
+	return l.shown.Phase == qlock.Asking && l.client.cluster.Planned.WaitsFor(l.waiting(), silent, 0)
+}
+
+// isStuck returns whether it does so for longer than the fail-over time.
+func (l *lock) isStuck(silent uint64) bool {
+	c := l.client
+	return l.shown.Phase == qlock.Asking && c.cluster.Planned.IsStuck(l.waiting(), silent, 0, late, uint64(c.over))
+}
+
+func (l *lock) waiting() qlock.Waiting {
+	return qlock.Waiting{Quorum: l.shown.Quorum, Votes: l.votes(), Asked: l.client.since(l.asked)}
 }
 
 // remind repeats the requests that wait for a vote, or shows that the holder is there.

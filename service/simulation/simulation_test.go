@@ -69,6 +69,7 @@ func TestWrongHosts(t *testing.T) {
 		{"lease-from-reply", "servers frozen,clients that stand still", "exclusion guard", 200},
 		{"clocks", "clients cut off,clients that stand still", "exclusion guard", 50},
 		{"forgets-claims", "clients whose next session is given up,times of noise", "claims", 50},
+		{"evicts-at-once", "sessions that operators end,clients cut off", "exclusion guard", 50},
 		{"starts-empty", "states lost", "grants exclusion guard", 50},
 	} {
 		o := Options{Events: 8000, Often: true, Only: strings.Split(one.only, ",")}

@@ -157,6 +157,7 @@ type world struct {
 	nextLook   instant
 	noise      noise
 	incidents  incidents
+	questions  int     // of operators
 	healed     instant // when the faults stopped, 0 before
 	calmed     instant // when the last of them was over
 	bound      time.Duration

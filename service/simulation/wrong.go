@@ -24,6 +24,7 @@ type Wrong struct {
 	LeaseFromReply bool // a lease counts from when the reply came, and not from when the heartbeat left
 	Clocks         bool // clocks go at rates beyond the stated ones
 	ForgetsClaims  bool // a session that is opened again under its name does not keep what it claimed before
+	EvictsAtOnce   bool // an operator that ends a session lets go at once what it has
 	StartsEmpty    bool // a voter that lost its state starts with an empty one, as if nobody knew of it, and is not quiet
 }
 
@@ -41,6 +42,7 @@ var Duties = []struct {
 	{"lease-from-reply", func(w *Wrong) { w.LeaseFromReply = true }},
 	{"clocks", func(w *Wrong) { w.Clocks = true }},
 	{"forgets-claims", func(w *Wrong) { w.ForgetsClaims = true }},
+	{"evicts-at-once", func(w *Wrong) { w.EvictsAtOnce = true }},
 	{"starts-empty", func(w *Wrong) { w.StartsEmpty = true }},
 }
 

@@ -58,6 +58,7 @@ var kinds = []struct {
 	{"older copies of the last run that went on", 1, (*player).goBack, hasIslands},
 	{"times all voters were killed at once", 1, (*player).killAll, hasIslands},
 	{"sessions that operators ended", 2, (*player).evict, nil},
+	{"sessions that operators ended at once", 1, (*player).evictNow, nil},
 	{"locks that operators unlocked", 2, (*player).unlock, nil},
 	{"voters cut off", 3, func(p *player) { p.cut(p.cluster.Voters, (*local.Island).Cut) }, hasIslands},
 	{"voters that are not heard", 3, func(p *player) { p.cut(p.cluster.Voters, (*local.Island).Mute) }, hasIslands},
@@ -244,12 +245,23 @@ func (p *player) fill() {
 // letGo is what the grants are counted as that voters let go at an operator's word.
 const letGo = "grants let go for operators"
 
-// evict lets an operator end a client's session.
+// evict lets an operator end a client's session. Nobody else gets what it has while it may work, so nobody is excused.
 func (p *player) evict() {
-	one := p.workers[p.random.Intn(len(p.workers))]
-	if number := p.witness.session(one.Name); number >= 0 {
-		p.order(p.witness.excuseSession(number), "evict", fmt.Sprint(number))
+	if number := p.anySession(); number >= 0 {
+		p.order(func() {}, "evict", fmt.Sprint(number))
 	}
+}
+
+// evictNow lets an operator end a client's session, and let go at once what it has.
+func (p *player) evictNow() {
+	if number := p.anySession(); number >= 0 {
+		p.order(p.witness.excuseSession(number), "evict", "--now", fmt.Sprint(number))
+	}
+}
+
+// anySession returns the number of the session of some client process, below 0 if it has none.
+func (p *player) anySession() int {
+	return p.witness.session(p.workers[p.random.Intn(len(p.workers))].Name)
 }
 
 // unlock lets an operator unlock a lock in which somebody is, if there is one.

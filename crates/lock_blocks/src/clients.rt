@@ -24,7 +24,7 @@ use quorum_set::QSet;
 use requester::{Phase, Requester, Seen};
 
 /// Reads the line of a message to the client with this number.
-fn read_to_client(line: &[u8], id: u8) -> Result<ToClient, Refusal>
+pub fn read_to_client(line: &[u8], id: u8) -> Result<ToClient, Refusal>
     ensures read { IfOk result (IsToClient line.now id) }
     // It is the only one.
     ensures only { IfOk result (λ m. (n : ToClient) → IsToClient line.now id n → n ≡ m) }
@@ -37,7 +37,7 @@ fn read_to_client(line: &[u8], id: u8) -> Result<ToClient, Refusal>
 }
 
 /// Writes 1 if the client entered in the step, else 0.
-fn show_entry(seen: Seen, entered: &mut i32)
+pub fn show_entry(seen: Seen, entered: &mut i32)
     ensures { entered.new ≡ entered_number seen }
 {
     match seen {

@@ -13,8 +13,8 @@
 //!   `lock_node` and `quiet_time` have it (`specs/LockSteps.antt`).
 //! - [`tables`]: what those rows say of a session and of a grant (`specs/LockSteps.antt`).
 //! - [`quorums`]: what is said of quorums (`specs/QuorumSteps.antt`).
-//! - `src/saved_bytes.rt`: the states as bytes (`specs/Bytes.antt`).
-//! - `src/lines.rt`: messages as lines, in a text of fixed room (`specs/Lines.antt`).
+//! - [`saved_bytes`]: the states as bytes (`specs/Bytes.antt`).
+//! - [`lines`]: messages as lines, in a text of fixed room (`specs/Lines.antt`).
 //!
 //! `specs/Sent.antt` says what is sent by all these calls. The laws about it are in `qlock_c`.
 //!
@@ -24,9 +24,9 @@
 
 pub mod clients;
 pub mod guards;
-mod lines;
+pub mod lines;
 pub mod locks;
 pub mod quorums;
-mod saved_bytes;
+pub mod saved_bytes;
 pub mod tables;
 pub mod voters;

@@ -36,7 +36,7 @@ pub fn load_lease(bytes: &[u8]) -> Result<VoterLease, Refusal>
 }
 
 /// Returns the lease with these numbers. `None` if they are not those of a lease.
-fn lease_of(words: &[u64]) -> Option<VoterLease>
+pub fn lease_of(words: &[u64]) -> Option<VoterLease>
     requires { length words.now ≡ 5 }
     ensures text { IfSome result (λ l. words.now ≡ lease_words l) }
     ensures read { (l : VoterLease) → words.now ≡ lease_words l → result ≡ Some l }

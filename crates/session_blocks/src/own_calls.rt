@@ -15,7 +15,7 @@ use words::{read_words, write_words};
 pub const CALLS_BYTES: usize = 56;
 
 /// Returns the calls that were saved as these bytes. Fails with `BadState` if there are none.
-fn load_calls(bytes: &[u8]) -> Result<Calls, Refusal>
+pub fn load_calls(bytes: &[u8]) -> Result<Calls, Refusal>
     ensures loaded { IfOk result (AreCalls bytes.now) }
     // They are the only ones.
     ensures only { IfOk result (λ c. (d : Calls) → AreCalls bytes.now d → d ≡ c) }
@@ -45,7 +45,7 @@ fn calls_of(words: &[u64]) -> Option<Calls>
 }
 
 /// Writes the bytes of calls.
-fn store_calls(calls: &Calls, bytes: &mut [u8])
+pub fn store_calls(calls: &Calls, bytes: &mut [u8])
     requires { length bytes.old ≡ 56 }
     ensures { AreCalls bytes.new calls.now }
 {
@@ -66,7 +66,7 @@ fn read_phase(phase: u32, request: u64) -> Result<Phase, Refusal>
 }
 
 /// Returns why a call was refused, as a number, and 0 if it was taken.
-fn number_of_fault(fault: Option<CallFault>) -> u32
+pub fn number_of_fault(fault: Option<CallFault>) -> u32
     ensures { result ≡ fault_number fault }
 {
     match fault {
@@ -78,7 +78,7 @@ fn number_of_fault(fault: Option<CallFault>) -> u32
 }
 
 /// Returns what is next, as a number.
-fn number_of_next(next: Next) -> u32
+pub fn number_of_next(next: Next) -> u32
     ensures { result ≡ next_number next }
 {
     match next {

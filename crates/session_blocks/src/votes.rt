@@ -37,7 +37,7 @@ fn load_vote(bytes: &[u8]) -> Result<Vote, Refusal>
 }
 
 /// Returns the vote with these numbers. `None` if they are not those of a vote.
-fn vote_of(words: &[u64]) -> Option<Vote>
+pub fn vote_of(words: &[u64]) -> Option<Vote>
     requires { length words.now ≡ 9 }
     ensures text { IfSome result (λ v. words.now ≡ vote_words v) }
     ensures read { (v : Vote) → words.now ≡ vote_words v → result ≡ Some v }

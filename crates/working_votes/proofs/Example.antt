@@ -1,8 +1,10 @@
 -- that a session works by the votes of the example
-use Rattle.std.proofs.Common.{◌≡◌, ◌≤◌, ◌*◌, ℕ, Bool, true, false, List, [], ◌∷◌, ◌++◌, Option, Some, None, refl, sym, ap, subst, ◌∙◌, arith, inl, inr}
+use Rattle.std.proofs.Common.{◌≡◌, ◌<◌, ◌≤◌, ◌*◌, ◌⊎◌, ℕ, zero, suc, Bool, true, false, List, [], ◌∷◌, ◌++◌, Option, Some, None, refl, sym, ap, subst, ◌∙◌, arith, inl, inr}
 use Rattle.std.specs.FinMap.{get}
 use Rattle.std.specs.List.{AllByRecursion, list_any, range_with_len}
 use Rattle.std.proofs.lemmas.Bool.{false≢true}
+use Rattle.std.proofs.lemmas.Bool.Decides.{nat_tests}
+use Rattle.std.specs.Prelude.{nat_lt}
 use Rattle.std.proofs.lemmas.Option.{none-some, same_Some}
 use Rattle.lease_clock.specs.Clocks.{is_silent}
 use Rattle.lease_clock.specs.Leases.{is_among}
@@ -11,7 +13,7 @@ use Rattle.numbers.specs.Bounds.{max_clients}
 use Rattle.quiet_time.specs.Quiet.{is_awaited, is_old, noted, since_start, waits_inside}
 use Rattle.quiet_time.specs.Runs as quiet_time
 use Rattle.voter.proofs.Contract.{MeetsContract-step}
-use Rattle.voter.proofs.Effects.{IsSound-step}
+use Rattle.voter.proofs.Effects.{IsSound-step, step-Some}
 use Rattle.voter.proofs.Soundness.{IsSound-start}
 use Rattle.voter.proofs.Staying.{ended-step, taken_up-step, takes-step}
 use Rattle.voter.specs.declared.state.Grant.{Grant}
@@ -25,14 +27,21 @@ use Rattle.working.specs.Events as law
 use Rattle.working.specs.Example.{pass, start}
 use Rattle.working.specs.Sessions.{is_working}
 use Rattle.working.specs.Voters.{Quiet}
+use Rattle.working_votes.proofs.Rises.{rises-step}
 use Rattle.working_votes.specs.Example.{by_client, gives_back, mark_after, new_voters, release, request, saved, seven_asks, starts_anew, whole, works_on}
 use Rattle.working_votes.specs.Turns.{Alters, AreFree, AreTrue, Crashes, Evicts, IsOver, Loses, MayEnd, MayEndIf, Place, Turn, Wakes, all_after, all_events, closed_at, events_at, events_by, events_in, grant_at, hears_by, is_doubtful, is_put_off, known, place_after, places_after, started, with_lock}
 
+one_or_two : (n : ℕ) → 0 < n → n ≤ 2 → (n ≡ 1) ⊎ (n ≡ 2)
+one_or_two zero some few = absurd (omega arith)
+one_or_two (suc zero) some few = inl refl
+one_or_two (suc (suc zero)) some few = inr refl
+one_or_two (suc (suc (suc n))) some few = absurd (omega arith)
+
 abbrev new_voter : VoterState
-new_voter = voter.start 0 10
+new_voter = voter.start 0 2
 
 sound : IsSound new_voter
-sound = IsSound-start 0 10 (omega arith)
+sound = IsSound-start 0 2 (omega arith)
 
 -- nobody asked a new voter
 nobody : (d t : ℕ) → IsEntry new_voter d t → ⊥
@@ -79,20 +88,38 @@ held_after =
     let has = held_by_seven taken.0 taken.0.state.held taken.1 refl in
     (has.0, ap (λ (o : Option Outcome). (quiet_time.after (new_voters 0).lock (λ v. noted (closed_at (new_voters 0)) false (new_voters 0).lock.since v 7 request.body) o).vote.held) taken.1 ∙ has.1)
 
+-- it may give two grants
+first_one : (o : Outcome) (g : Grant) → step new_voter request ≡ Some o → o.state.held ≡ Some g → (g.grant ≡ 1) ⊎ (g.grant ≡ 2)
+first_one o g steps is =
+    let within = step-Some new_voter request o steps in
+    let few : nat_lt 2 o.state.granted ≡ false = subst (λ (p : Outcome). nat_lt 2 p.state.granted ≡ false) within.1 within.0 in
+    let counted = (IsSound-step new_voter request o sound steps).numbered g is in
+    elim ((rises-step 0 new_voter request o (omega arith) steps).given g is) [
+      | inl before ↦ absurd (none-some g before)
+      | inr above ↦ (let most : o.state.granted ≤ 2 = grind (arith, nat_tests) in one_or_two g.grant above (omega arith))
+    ]
+
+number_is : (held_after.0 ≡ 1) ⊎ (held_after.0 ≡ 2)
+unfolding held_after held_by_seven
+number_is =
+    let taken = takes-step new_voter request sound (omega arith) in
+    let has = held_by_seven taken.0 taken.0.state.held taken.1 refl in
+    first_one taken.0 (record { client = 7; stamp = 1; grant = has.0 }) taken.1 has.1
+
 -- ---- the second step, in the quiet time: the voter says its LOCKED again
 
-abbrev said_again : Outcome
+abbrev pub said_again : Outcome
 said_again = record { replies = voter.reply (voter.see saved 1) 7 (to_client.Locked 1 1) ∷ []; state = voter.see saved 1 }
 
 again : step saved request ≡ Some said_again
 unfolding step voter.take_request voter.take_request_beside
 again = refl
 
-abbrev killed : Place
+abbrev pub killed : Place
 killed = started saved true
 
 -- the voter after this, once it is awake, and once the RELEASE came, by what each step does
-abbrev heard_by : Option Outcome → Place
+abbrev pub heard_by : Option Outcome → Place
 heard_by o = with_lock killed (quiet_time.after killed.lock (λ v. noted true true killed.lock.since v 7 request.body) o)
 
 abbrev awake_by : Option Outcome → Place
@@ -157,7 +184,7 @@ old_certain = ap (λ (h : Option Grant). is_old (old_by (evict saved 1)).lock.si
 
 -- ---- what the example is to the law, by the vote after the first step, the second step, and the vote after the third
 
-abbrev first_events : Option Grant → List Event
+abbrev pub first_events : Option Grant → List Event
 first_events vote =
     Marks 0 ∷ pass 10 9 ∷ Marked 0 1 ∷ Beats 7 ∷ pass 10 9 ∷ Hears 7 0 109 ∷ (events_by by_client 0 None vote ++ pass 10 9 ∷ Renews 7 0 0 ∷ Takes 7 0 0 ∷ [])
 
@@ -167,7 +194,7 @@ beats time = Beats 7 ∷ Hears 7 0 time ∷ Renews 7 0 0 ∷ []
 abbrev marks : ℕ → ℕ → ℕ → List Event
 marks number voters sessions = Marks 0 ∷ pass voters sessions ∷ Marked 0 number ∷ []
 
-abbrev quiet_events : List Event
+abbrev pub quiet_events : List Event
 quiet_events = Takes 7 0 0 ∷ beats 127 ++ marks 1 50 45 ++ beats 172 ++ marks 2 50 45 ++ beats 217 ++ marks 3 10 9
 
 abbrev more_events : Option Grant → Option Outcome → List Event → List Event
@@ -178,15 +205,28 @@ more_events vote o rest =
 abbrev all_of : Option Grant → Option Outcome → Option Grant → List Event
 all_of vote o last = more_events vote o (law.Ends 7 1 ∷ (events_by by_client 0 (grant_at (awake_by o)) last ++ []))
 
-abbrev first_vote : Option Grant
+abbrev pub first_vote : Option Grant
 first_vote = grant_at (hears_by (is_put_off (new_voters 0) request false) (new_voters 0) request false)
 
 first_is : (number : ℕ) × (first_vote ≡ Some (record { client = 7; stamp = 1; grant = number }))
 first_is = (held_after.0, ap (λ b. grant_at (hears_by b (new_voters 0) request false)) taken ∙ held_after.1)
 
 -- what holds of such events whatever the number of the first grant is, holds of the example
-for_any : (P : Option Grant → Option Outcome → Type 0) → ((number : ℕ) → P (Some (record { client = 7; stamp = 1; grant = number })) (Some said_again)) → P first_vote (step saved request)
+pub for_any : (P : Option Grant → Option Outcome → Type 0) → ((number : ℕ) → P (Some (record { client = 7; stamp = 1; grant = number })) (Some said_again)) → P first_vote (step saved request)
 for_any P holds = subst (λ h. P h (step saved request)) (sym first_is.1) (subst (λ o. P (Some (record { client = 7; stamp = 1; grant = first_is.0 })) o) (sym again) (holds first_is.0))
+
+-- and what holds if that is 1 or 2
+pub for_both : (P : Option Grant → Option Outcome → Type 0)
+    → P (Some (record { client = 7; stamp = 1; grant = 1 })) (Some said_again) → P (Some (record { client = 7; stamp = 1; grant = 2 })) (Some said_again)
+    → P first_vote (step saved request)
+unfolding first_is
+for_both P one two =
+    subst (λ h. P h (step saved request)) (sym first_is.1)
+    (subst (λ o. P (Some (record { client = 7; stamp = 1; grant = first_is.0 })) o) (sym again)
+    (elim number_is [
+      | inl is ↦ subst (λ n. P (Some (record { client = 7; stamp = 1; grant = n })) (Some said_again)) (sym is) one
+      | inr is ↦ subst (λ n. P (Some (record { client = 7; stamp = 1; grant = n })) (Some said_again)) (sym is) two
+    ]))
 
 abbrev last_vote : Option Outcome → Option Grant
 last_vote o = (free_by o (step (heard_by o).lock.vote release)).lock.vote.held
@@ -250,16 +290,16 @@ goes voter session = omega arith
 goes_long : (voter session : ℕ) → 9 * 50 ≤ 10 * 45
 goes_long voter session = omega arith
 
-abbrev before : List Turn
+abbrev pub before : List Turn
 before = seven_asks ++ works_on ++ gives_back
 
-before_rates : AllByRecursion (IsRated 9 10) (all_events by_client new_voters before)
+pub before_rates : AllByRecursion (IsRated 9 10) (all_events by_client new_voters before)
 unfolding step voter.take_request voter.take_request_beside
 before_rates = subst (λ last. AllByRecursion (IsRated 9 10) (all_of first_vote (step saved request) last)) (sym last_is)
     (for_any (λ h o. AllByRecursion (IsRated 9 10) (all_of h o None)) (λ number. (tt, (goes, (tt, (tt, (goes, (tt, (tt, (tt, (tt, (goes, (tt, (tt, (tt, (tt, (tt, (tt, (tt, (tt, (tt, (tt, (tt, (goes_long, (tt, (tt, (tt, (tt, (tt, (goes_long, (tt, (tt, (tt, (tt, (tt, (goes, (tt, (tt, (tt, (tt, (tt, (tt, (tt, tt)))))))))))))))))))))))))))))))))))))))))))
 
 -- the events of turns, and of others after them
-events_then : (places : ℕ → Place) (first rest : List Turn) → all_events by_client places (first ++ rest) ≡ all_events by_client places first ++ all_events by_client (all_after places first) rest
+pub events_then : (places : ℕ → Place) (first rest : List Turn) → all_events by_client places (first ++ rest) ≡ all_events by_client places first ++ all_events by_client (all_after places first) rest
 events_then places [] rest = refl
 events_then places (t ∷ first) rest =
     ap (λ events. events_in by_client places t ++ events) (events_then (places_after places t) first rest)

@@ -7,11 +7,13 @@ use Rattle.voter.specs.declared.state.VoterState.{VoterState}
 use Rattle.voter.specs.Steps.{start}
 use Rattle.working.specs.Events.{Beats, Ends, Hears, Marked, Marks, Renews, Takes}
 use Rattle.working.specs.Example.{pass}
-use Rattle.working_votes.specs.Turns.{Alters, Askers, Crashes, Evicts, Happens, Loses, Meets, Place, Turn, Wakes, started}
+use Rattle.vote_leases.specs.Example.{first, second, under}
+use Rattle.vote_leases.specs.Sessions.{Asks, Holds, Learns, Step}
+use Rattle.working_votes.specs.Turns.{Alters, Askers, Crashes, Evicts, Happens, Loses, Meets, Place, Turn, Wakes, all_after, all_events, started}
 
--- voters that may give ten grants, and gave none
+-- voters that may give two grants, and gave none
 abbrev pub new_voters : ℕ → Place
-new_voters voter = started (start voter 10) false
+new_voters voter = started (start voter 2) false
 
 -- each client is a session
 abbrev pub by_client : Askers
@@ -32,7 +34,7 @@ seven_asks =
 
 -- the last state of the voter that was saved: the request has its vote, by the first grant
 abbrev pub saved : VoterState
-saved = record (start 0 10) { held = Some (record { client = 7; stamp = 1; grant = 1 }); granted = 1 }
+saved = record (start 0 2) { held = Some (record { client = 7; stamp = 1; grant = 1 }); granted = 1 }
 
 -- a heartbeat of session 7 that left at this time is heard and acknowledged
 abbrev pub beat_at : ℕ → List Turn
@@ -47,6 +49,12 @@ abbrev pub works_on : List Turn
 works_on =
     Loses 0 saved ∷ Meets 0 request true ∷ Happens (Takes 7 0 0) ∷ beat_at 127 ++ mark_after 1 50 45 ++ beat_at 172 ++ mark_after 2 50 45
     ++ beat_at 217 ++ mark_after 3 10 9 ++ Wakes 0 ∷ []
+
+-- What session 7 does meanwhile: it asks, and keeps its vote. Once the voter was killed it hears of another start, and keeps what counted.
+abbrev pub seven_is_told : List Step
+seven_is_told =
+    Asks 7 1 ∷ under (λ voter. first) (all_events by_client new_voters seven_asks)
+    ++ Holds 7 0 ∷ Learns 7 0 second ∷ under (λ voter. second) (all_events by_client (all_after new_voters seven_asks) works_on)
 
 -- the session ends its request, and its RELEASE reaches the voter
 abbrev pub gives_back : List Turn

@@ -6,7 +6,8 @@ ghost use Rattle.working.specs.Example.{start};
 ghost use Rattle.working.specs.Sessions.{is_working};
 ghost use Rattle.vote_leases.specs.Sessions.{AreTold, HasUntil, Step, all_stepped, begun, events_of};
 ghost use Rattle.vote_leases.specs.declared.incarnation.Incarnation.{Incarnation};
-ghost use Rattle.working_votes.specs.Example.{by_client, gives_back, new_voters, seven_asks, whole, works_on};
+ghost use Rattle.vote_leases.specs.Example.{lapses_of};
+ghost use Rattle.working_votes.specs.Example.{by_client, gives_back, new_voters, seven_asks, seven_is_told, whole, works_on};
 ghost use Rattle.working_votes.specs.Turns.{AreFree, AreTrue, Askers, HasVote, IsTrue, Place, Turn, WasTold, all_after, all_events, events_in, is_quiet_in, said_in, voter_of};
 
 /// Who works has the vote of each voter of its quorum that is not quiet: the grant of its automaton is to this request. This is so whatever
@@ -42,6 +43,17 @@ pub fn what_is_locked_was_told()
         → AreFree places → AreTrue who ttl span (begins periods times sessions) places turns
         → IsTrue who ttl (after_all ttl span (begins periods times sessions) (all_events who places turns)) (all_after places turns) turn
         → AllByRecursion (λ r. WasTold who (after_all ttl span (after_all ttl span (begins periods times sessions) (all_events who places turns)) (events_in who (all_after places turns) turn)) (voter_of turn) (is_quiet_in (all_after places turns) turn) r.client r.body) (said_in (all_after places turns) turn) }
+{}
+
+/// The premises of the law on who is told to work can be met together: the session of the example below keeps its vote, hears of the
+/// voter's second start, and is told to work on over the quiet time, by the events of the voter's turns.
+pub fn a_session_is_told_to_work_by_votes()
+    ensures same { events_of seven_is_told ≡ all_events by_client new_voters (seven_asks ++ works_on) }
+    ensures premises { AreTrue by_client 100 90 start new_voters (seven_asks ++ works_on) }
+    ensures rates { AllByRecursion (IsRated 9 10) (events_of seven_is_told) }
+    ensures says { AreTold lapses_of 100 90 start seven_is_told }
+    ensures counts { AllByRecursion (HasUntil 80 10 ((after_all 100 90 start (events_of seven_is_told)).sessions 7).time
+        (all_stepped 100 80 90 7 start (begun 0) seven_is_told) 1) (0 ∷ []) }
 {}
 
 /// The premises can be met, with clocks of which those of sessions are slower by a tenth: a voter takes a REQUEST, and its session works. The

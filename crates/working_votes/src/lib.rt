@@ -11,6 +11,7 @@
 //! - So does whoever is told to work by what it keeps of its votes, as `vote_leases` has it
 //!   ([`who_is_told_to_work_has_the_votes`]): proved code of sessions and of voters meets in one law.
 //! - Each LOCKED that an automaton says is one that left the voter in the law ([`what_is_locked_was_told`]).
+//! - The premises of that law can be met together ([`a_session_is_told_to_work_by_votes`]).
 //! - What these ask for can be had: a session works, works on while its voter is killed and starts again, and gives the vote back. Then the
 //!   voter ends and starts, and an older copy of its state is put back ([`a_session_works_by_votes`]).
 //!
@@ -26,6 +27,6 @@
 mod laws;
 
 pub use laws::{
-    a_session_works_by_votes, what_is_locked_was_told, who_is_told_to_work_has_the_votes,
-    who_works_has_the_votes,
+    a_session_is_told_to_work_by_votes, a_session_works_by_votes, what_is_locked_was_told,
+    who_is_told_to_work_has_the_votes, who_works_has_the_votes,
 };

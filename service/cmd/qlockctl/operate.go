@@ -13,6 +13,7 @@ import (
 	"time"
 
 	"calvundek.example/service/internal/config"
+	"calvundek.example/service/internal/level"
 	"calvundek.example/service/internal/operator"
 	"calvundek.example/service/internal/voter"
 	"calvundek.example/service/internal/wire"
@@ -59,7 +60,7 @@ func initialise(path, coterieFile string, c *config.Cluster) error {
 	if err != nil {
 		return fmt.Errorf("%s: %w", coterieFile, err)
 	}
-	c.Coterie, c.Plan = plan.Coterie, plan.Text
+	c.Coterie, c.Plan, c.Level = plan.Coterie, plan.Text, level.Newest
 	if err := c.Check(); err != nil {
 		return err
 	}
@@ -215,19 +216,25 @@ func seconds(s float64) time.Duration {
 }
 
 func evictCommand(ctx context.Context, s *settings) *cobra.Command {
-	command := &cobra.Command{Use: "evict CLIENT", Args: cobra.ExactArgs(1), Short: "End a client's session, and let all go that it has",
-		Long: "Ends a client's session, and lets all go that it has. The client may still believe that it has its locks: only guards " +
-			"refuse what it writes then. `qlockctl report` shows the numbers of clients."}
+	atOnce := false
+	command := &cobra.Command{Use: "evict CLIENT", Args: cobra.ExactArgs(1), Short: "End a client's session",
+		Long: "Ends a client's session. The client hears so, and stops. What it has goes once the voters did not hear it for a TTL, so that " +
+			"nobody else gets it while the client may work. With --now it goes at once: the client may still believe then that it has its " +
+			"locks, and only guards refuse what it writes. `qlockctl report` shows the numbers of clients."}
+	command.Flags().BoolVar(&atOnce, "now", false, "let all go at once that the client has: only guards refuse what it writes then")
 	return simple(ctx, s, command, func(args []string) (string, error) {
 		if !isClient(args[0]) {
 			return "", fmt.Errorf("%q is no client number, 0 to %d, or with its shard in front, as 7/5", args[0], qlock.MaxClients-1)
+		}
+		if atOnce {
+			return "evict " + args[0] + " now", nil
 		}
 		return "evict " + args[0], nil
 	}, letGo, evicted)
 }
 
-// evicted returns errNobody if the voters of a quorum say that no session had the number, and no voter had one. Else it returns the
-// verdict on the replies.
+// evicted returns errNobody if the voters of a quorum say that no session had the number, and no voter had one, or has votes of one. Else it
+// returns the verdict on the replies.
 func evicted(replies []operator.Reply, isEnough func(voters uint64) bool) error {
 	without := uint64(0)
 	for _, r := range replies {
@@ -235,7 +242,7 @@ func evicted(replies []operator.Reply, isEnough func(voters uint64) bool) error 
 		if r.Err != nil {
 			continue
 		}
-		if json.Unmarshal(r.Body, &gone) != nil || !gone.Nobody || gone.LetGo > 0 {
+		if json.Unmarshal(r.Body, &gone) != nil || !gone.Nobody || gone.LetGo+gone.Later > 0 {
 			return verdict(replies, isEnough)
 		}
 		without |= 1 << r.Voter
@@ -264,6 +271,9 @@ func letGo(r operator.Reply) (string, error) {
 	var gone voter.LetGo
 	err := json.Unmarshal(r.Body, &gone)
 	text := fmt.Sprintf("let_go=%d", gone.LetGo)
+	if gone.Later > 0 {
+		text += fmt.Sprintf(" later=%d", gone.Later)
+	}
 	if gone.Nobody {
 		text += " nobody=true"
 	}

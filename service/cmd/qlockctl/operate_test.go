@@ -69,6 +69,7 @@ func TestEvicted(t *testing.T) {
 		{"- - -", errSilent, 1},
 		{nobody + " " + nobody + " " + somebody, nil, 0},
 		{nobody + " " + some + " " + nobody, nil, 0},
+		{nobody + " " + `{"let_go":0,"later":1,"nobody":true}` + " " + nobody, nil, 0},
 		{somebody + " " + nobody + " -", errSilent, exitPartly},
 	} {
 		var replies []operator.Reply
@@ -88,8 +89,10 @@ func TestEvicted(t *testing.T) {
 			t.Errorf("%s: %v, %d", one.bodies, err, end.code)
 		}
 	}
-	if line, err := letGo(operator.Reply{Body: []byte(nobody)}); line != "let_go=0 nobody=true" || err != nil {
-		t.Error(line, err)
+	for body, want := range map[string]string{nobody: "let_go=0 nobody=true", `{"let_go":0,"later":2}`: "let_go=0 later=2"} {
+		if line, err := letGo(operator.Reply{Body: []byte(body)}); line != want || err != nil {
+			t.Error(line, err)
+		}
 	}
 }
 

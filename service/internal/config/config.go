@@ -16,6 +16,7 @@ import (
 	"time"
 
 	"calvundek.example/service/internal/event"
+	"calvundek.example/service/internal/level"
 	"calvundek.example/service/internal/wire"
 	"calvundek.example/service/qlock"
 	"github.com/BurntSushi/toml"
@@ -57,6 +58,7 @@ type Cluster struct {
 	Coterie string   `toml:"coterie"`
 	Plan    string   `toml:"plan"`
 	Shards  int      `toml:"shards,omitzero"` // each has 64 numbers for sessions; 1 if 0
+	Level   uint64   `toml:"level,omitzero"`  // at which the cluster began; the oldest one if 0
 
 	Generation uint64 `toml:"generation,omitzero"` // how often the plan was exchanged
 	OldCoterie string `toml:"old_coterie,omitempty"`
@@ -129,6 +131,8 @@ func (c *Cluster) Check() (err error) {
 		return fmt.Errorf("%w: ttl is %v, and has to be %v or longer", ErrConfig, c.TTL, shortestTTL)
 	case c.checkShards() != "":
 		return fmt.Errorf("%w: %s", ErrConfig, c.checkShards())
+	case c.Level > level.Newest:
+		return fmt.Errorf("%w: the cluster began at level %d, and this program knows levels up to %d", ErrConfig, c.Level, level.Newest)
 	}
 	if c.Planned, err = qlock.ReadPlan(c.Coterie, c.Plan); err != nil {
 		return fmt.Errorf("%w: %v", ErrConfig, err)

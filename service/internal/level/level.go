@@ -6,6 +6,9 @@ package level
 // Oldest and Newest are the levels that this program knows. A program knows the level of the release before.
 const Oldest = 1
 
+// Floors is the level from which voters drop the rows of shards that nobody uses, and keep a floor of each.
+const Floors = 2
+
 // Greets is the level from which voters take the word "greet", and states have another format. It is for trials of an upgrade
 // alone: only programs that are built with the tag "nextlevel" know it.
-const Greets = 2
+const Greets = 3

@@ -3,4 +3,4 @@
 package level
 
 // Newest is the newest level that this program knows.
-const Newest = 1
+const Newest = Floors

@@ -45,6 +45,9 @@ type Daemon struct {
 	shards     map[int]*shard // that were used in this run, or have a row
 	inTurn     []*shard       // the same ones
 	nextShard  int            // whose sessions are counted next
+	nextUnused int            // which was looked at last, whether nobody uses it
+	floors     map[int]Floor  // of shards that were dropped
+	newFloors  map[int]Floor  // they changed since the last save
 	waitsSince time.Time      // since when the request waits that waited longest at the last round, zero if none did
 
 	plans         Generations
@@ -129,7 +132,8 @@ func OpenIn(around Surroundings, own *config.Voter, cluster *config.Cluster, car
 		dirty: map[*vote]struct{}{}, silent: map[*vote]struct{}{},
 		leases: leases{ttl: cluster.TTL.Duration},
 		out:    map[string][]byte{}, replies: map[string]answer{}, started: now, away: now,
-		done: map[string][]byte{}, newPeers: map[int]Peer{}, gone: map[string]struct{}{}, restsFor: shortestRest}
+		done: map[string][]byte{}, newPeers: map[int]Peer{}, gone: map[string]struct{}{}, restsFor: shortestRest,
+		floors: map[int]Floor{}, newFloors: map[int]Floor{}}
 	if d.restsFor < 2*cluster.TTL.Duration {
 		d.restsFor = 2 * cluster.TTL.Duration
 	}
@@ -190,7 +194,7 @@ func (d *Daemon) load(now time.Time) error {
 			d.leases.later[key] = row
 		}
 		return nil
-	}, func(place int, p Peer) { d.peers[place], d.loaded[place] = p, p })
+	}, func(shard int, floor Floor) { d.floors[shard] = floor }, func(place int, p Peer) { d.peers[place], d.loaded[place] = p, p })
 	for i := 0; err == nil && i < len(votes); i++ {
 		if err = d.restore(votes[i].name, votes[i].state, now); err != nil {
 			err = fmt.Errorf("vote %q: %w", votes[i].name, err)
@@ -565,6 +569,7 @@ func (d *Daemon) round(now time.Time) {
 	}
 	d.endQuiet(now)
 	d.forget(now)
+	d.dropUnused(now)
 	d.busy.each(func(v *vote) { d.roundOf(v, now) })
 	d.measure(now)
 }

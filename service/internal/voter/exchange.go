@@ -345,7 +345,7 @@ func (d *Daemon) retire(number uint64, mark string) error {
 	}
 	for _, key := range silent {
 		s, client := d.shardOfKey(key)
-		s.expel(client)
+		s.expel(client, true) // it was silent for a TTL
 		d.recount(s, client)
 	}
 	if err := d.setPlans(d.plans.retire()); err != nil {
@@ -428,6 +428,9 @@ func (d *Daemon) learn(text string, now time.Time) (known Knows, err error) {
 		return known, err
 	} else if known.Sessions == nil {
 		return known, ErrNothing
+	}
+	if err := d.learnsLevel(known.Level); err != nil {
+		return known, err
 	}
 	d.learnAll(known, now)
 	return known, nil

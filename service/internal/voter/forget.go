@@ -75,6 +75,7 @@ func (d *Daemon) mustBeSaved(v *vote) bool {
 func (d *Daemon) forgetVote(v *vote) {
 	d.floor = greatest(d.floor, v.highest)
 	delete(d.votes, v.name)
+	v.shard.votes--
 	delete(d.dirty, v)
 	delete(d.silent, v)
 	d.gone[v.name] = struct{}{}

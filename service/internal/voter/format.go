@@ -17,13 +17,17 @@ import (
 // The formats. Format 1 had checksums of votes alone. Only Upgrade reads it.
 const (
 	firstFormat  = 2
-	raisedFormat = 3 // has own.Raised. As level.Greets it is for trials of an upgrade alone
+	floorFormat  = 3 // has floors of shards
+	raisedFormat = 4 // has own.Raised. As level.Greets it is for trials of an upgrade alone
 )
 
 // formatOf returns the format of a state at a level of the cluster.
 func formatOf(of uint64) int {
-	if of >= level.Greets {
+	switch {
+	case of >= level.Greets:
 		return raisedFormat
+	case of >= level.Floors:
+		return floorFormat
 	}
 	return firstFormat
 }

@@ -188,7 +188,7 @@ func (d *Daemon) IsLively(within time.Duration) bool {
 // waits for the next save, at most ten seconds: steps that send nothing, and rows of which a TTL
 // makes up for the loss.
 func (d *Daemon) commit(now time.Time) error {
-	must := len(d.dirty)+len(d.leases.changed)+len(d.newPeers) > 0 || d.newPlans || d.newOwn
+	must := len(d.dirty)+len(d.leases.changed)+len(d.newPeers)+len(d.newFloors) > 0 || d.newPlans || d.newOwn
 	leaves := len(d.out)+len(d.sealed)+len(d.replies)+len(d.letters)+len(d.skips) > 0
 	switch {
 	case !must && len(d.leases.later)+len(d.silent)+len(d.gone) == 0:
@@ -211,7 +211,7 @@ func (d *Daemon) save(now time.Time) error {
 	for v := range d.silent {
 		d.dirty[v] = struct{}{}
 	}
-	c := changes{votes: d.dirty, gone: d.gone, sessions: d.leases.unsaved(), peers: d.newPeers}
+	c := changes{votes: d.dirty, gone: d.gone, sessions: d.leases.unsaved(), floors: d.newFloors, dropped: d.leases.dropped, peers: d.newPeers}
 	if d.newPlans {
 		c.plans = &d.plans
 	}
@@ -225,7 +225,8 @@ func (d *Daemon) save(now time.Time) error {
 	d.m.batch.Observe(float64(len(d.dirty)))
 	d.leases.saved()
 	d.dirty, d.silent, d.newPeers = map[*vote]struct{}{}, map[*vote]struct{}{}, map[int]Peer{}
-	d.gone, d.newPlans, d.newOwn, d.savedAll = map[string]struct{}{}, false, false, now
+	d.gone, d.newFloors = map[string]struct{}{}, map[int]Floor{}
+	d.newPlans, d.newOwn, d.savedAll = false, false, now
 	return nil
 }
 

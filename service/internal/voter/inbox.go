@@ -174,6 +174,7 @@ func (d *Daemon) sortOne(m transport.Message) {
 		queue = h.Number
 		shard.hear(h.Number, d.now()) // it may wait for its turn
 	}
+	shard.used = d.now()
 	if !d.inbox.put(queue, &letter{Header: h, shard: shard, lines: lines, size: len(m.Data)}) {
 		d.noRoom.Add(1)
 	}

@@ -16,7 +16,7 @@ func newTide(t *testing.T, ttl time.Duration) *tide {
 	now := time.Unix(1000, 0)
 	l := leases{ttl: ttl}
 	l.begin(now)
-	rows := newTable(&l, 0)
+	rows := newTable(&l, 0, Floor{})
 	one := &tide{t, now, &rows}
 	one.claim(3, "a", 1, 0, now)
 	return one

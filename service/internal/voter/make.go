@@ -10,6 +10,7 @@ import (
 	"time"
 
 	"calvundek.example/service/internal/config"
+	"calvundek.example/service/internal/level"
 	"calvundek.example/service/internal/operator"
 	"calvundek.example/service/qlock"
 )
@@ -27,7 +28,7 @@ func Init(own *config.Voter, cluster *config.Cluster) (Meta, error) {
 
 // InitIn is Init in other surroundings than those of this machine.
 func InitIn(around Surroundings, own *config.Voter, cluster *config.Cluster) (Meta, error) {
-	return create(around, own, cluster, Knows{}, 0)
+	return create(around, own, cluster, Knows{Level: cluster.Level}, 0)
 }
 
 // InitLost makes the state of a voter in place of one that was lost. Its grants are numbered above all that it gave, and
@@ -102,6 +103,12 @@ func askRest(ctx context.Context, console *operator.Console, first operator.Repl
 		for key, row := range more.Sessions {
 			all.Sessions[key] = row
 		}
+		for shard, floor := range more.Floors {
+			if all.Floors == nil {
+				all.Floors = map[int]Floor{}
+			}
+			all.Floors[shard] = floor
+		}
 		all.Next = more.Next
 	}
 	body, err := json.Marshal(all)
@@ -111,16 +118,20 @@ func askRest(ctx context.Context, console *operator.Console, first operator.Repl
 
 // Texts returns what is known as texts of which each has room in a message.
 func (k Knows) Texts() (texts []string, err error) {
-	var keys []int
-	for key := range k.Sessions {
-		keys = append(keys, key)
-	}
-	sort.Ints(keys)
-	for begin := 0; begin == 0 || begin < len(keys); begin += mostRows {
-		part := Knows{Peers: k.Peers, Level: k.Level, Sessions: map[int]Session{}}
-		for i := begin; i < len(keys) && i < begin+mostRows; i++ {
-			part.Sessions[keys[i]] = k.Sessions[keys[i]]
+	parts := []Knows{k.part()}
+	last := func() *Knows {
+		if parts[len(parts)-1].isFull() {
+			parts = append(parts, k.part())
 		}
+		return &parts[len(parts)-1]
+	}
+	for _, key := range sorted(k.Sessions) {
+		last().Sessions[key] = k.Sessions[key]
+	}
+	for _, shard := range sorted(k.Floors) {
+		last().Floors[shard] = k.Floors[shard]
+	}
+	for _, part := range parts {
 		text, err := json.Marshal(part)
 		if err != nil {
 			return nil, err
@@ -128,6 +139,20 @@ func (k Knows) Texts() (texts []string, err error) {
 		texts = append(texts, string(text))
 	}
 	return texts, nil
+}
+
+// part returns what is known without sessions and floors.
+func (k Knows) part() Knows {
+	return Knows{Peers: k.Peers, Level: k.Level, Sessions: map[int]Session{}, Floors: map[int]Floor{}}
+}
+
+// sorted returns the keys of a map in order.
+func sorted[V any](of map[int]V) (keys []int) {
+	for key := range of {
+		keys = append(keys, key)
+	}
+	sort.Ints(keys)
+	return keys
 }
 
 // create makes a state with a new identity.
@@ -140,6 +165,7 @@ func create(around Surroundings, own *config.Voter, cluster *config.Cluster, kno
 		return meta, err
 	}
 	meta.Made = around.Now().UTC()
+	meta.Format = formatOf(known.Level)
 	ceiling := known.Peers[meta.Voter].Ceiling
 	delete(known.Peers, meta.Voter)
 	if around.Disk != nil {
@@ -149,9 +175,10 @@ func create(around Surroundings, own *config.Voter, cluster *config.Cluster, kno
 }
 
 // Merge returns what voters together know: of each place the last voter, with the highest ceiling; of each number the
-// newest session, and the highest stamp that one keeps as reserved. It also returns which voters replied.
+// newest session, and the highest stamp that one keeps as reserved; of each shard that all dropped the floor above all of theirs. It also
+// returns which voters replied.
 func Merge(replies []operator.Reply) (all Knows, heard uint64, err error) {
-	all.Sessions, all.Peers = map[int]Session{}, map[int]Peer{}
+	all.Sessions, all.Peers, all.Floors = map[int]Session{}, map[int]Peer{}, map[int]Floor{}
 	for _, r := range replies {
 		if r.Err != nil {
 			continue
@@ -161,6 +188,12 @@ func Merge(replies []operator.Reply) (all Knows, heard uint64, err error) {
 			return Knows{}, 0, fmt.Errorf("%s: %w", r.Name, operator.ErrRefused)
 		}
 		heard |= 1 << r.Voter
+		all.Level = greatest(all.Level, one.Level)
+		for shard, floor := range one.Floors {
+			if shard >= 0 && shard < config.MostShards {
+				all.Floors[shard] = all.Floors[shard].with(floor)
+			}
+		}
 		for place, p := range one.Peers {
 			if place >= 0 && place < places {
 				all.Peers[place] = laterPeer(all.Peers[place], p)
@@ -172,7 +205,30 @@ func Merge(replies []operator.Reply) (all Knows, heard uint64, err error) {
 			}
 		}
 	}
+	if all.Level > level.Newest {
+		return Knows{}, 0, fmt.Errorf("%w: %d, and this one knows levels up to %d", ErrLevel, all.Level, level.Newest)
+	}
+	all.raise()
 	return all, heard, nil
+}
+
+// raise puts the rows of floors in place of the floors of those shards of which some voter knows rows.
+func (k *Knows) raise() {
+	used := map[int]bool{}
+	for key := range k.Sessions {
+		used[key/qlock.MaxClients] = true
+	}
+	for shard, floor := range k.Floors {
+		if !used[shard] {
+			continue
+		}
+		for number := range floor.Epochs {
+			if row, key := floor.row(number), shard*qlock.MaxClients+number; row.Epoch > 0 {
+				k.Sessions[key] = newer(k.Sessions[key], row)
+			}
+		}
+		delete(k.Floors, shard)
+	}
 }
 
 // newer returns the session of two that counts, with the higher of what both reserved: one in use

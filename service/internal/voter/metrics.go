@@ -16,11 +16,11 @@ import (
 
 // metrics are a voter's numbers for Prometheus.
 type metrics struct {
-	registry                                                                         *prometheus.Registry
-	received, foreign, refused, unsent, reminders, expired, grants, spent, forgotten prometheus.Counter
-	full, fullUser                                                                   prometheus.Counter
-	commit, batch                                                                    prometheus.Histogram
-	locks, busy, held, userLocks, sessions, numbers, plan, left                      prometheus.Gauge
+	registry                                                                                  *prometheus.Registry
+	received, foreign, refused, unsent, reminders, expired, grants, spent, forgotten, dropped prometheus.Counter
+	full, fullUser                                                                            prometheus.Counter
+	commit, batch                                                                             prometheus.Histogram
+	locks, busy, held, userLocks, sessions, numbers, shards, plan, left                       prometheus.Gauge
 
 	lasting, waiting oldest // of the grants that last, and of the requests that wait
 	most             uint64 // the highest number of a grant that was given, or skipped for a turn
@@ -71,6 +71,7 @@ func newMetrics() *metrics {
 	m.full = m.counter("requests_full_total", "Requests for locks for which there was no room (max_locks).")
 	m.fullUser = m.counter("requests_full_user_total", "Requests for locks beyond what their user may have (max_locks_user).")
 	m.forgotten = m.counter("locks_forgotten_total", "Locks that were forgotten, as nobody used them.")
+	m.dropped = m.counter("shards_dropped_total", "Shards whose numbers were forgotten, as nobody used them.")
 	m.commit = m.histogram("commit_seconds", "Time of one save.", prometheus.ExponentialBuckets(0.0002, 2, 14))
 	m.batch = m.histogram("commit_votes", "Votes of one save.", prometheus.ExponentialBuckets(1, 2, 12))
 	m.locks = m.gauge("locks", "Locks that this voter knows.")
@@ -79,6 +80,7 @@ func newMetrics() *metrics {
 	m.userLocks = m.gauge("user_locks", "Locks that one user has or waits for: those of the user who has most.")
 	m.sessions = m.gauge("sessions", "Sessions that are open.")
 	m.numbers = m.gauge("numbers_free", "Client numbers that are free, or whose session was silent for the TTL.")
+	m.shards = m.gauge("shards", "Shards whose numbers are in memory.")
 	m.plan = m.gauge("plan", "How often the plan was exchanged.")
 	m.left = m.gauge("grants_left", "How many grants may follow the highest one that this run saw.")
 	return m
@@ -201,6 +203,7 @@ func (d *Daemon) measure(now time.Time) {
 	d.m.held.Set(float64(held))
 	d.m.sessions.Set(float64(open))
 	d.m.numbers.Set(float64(free))
+	d.m.shards.Set(float64(len(d.inTurn)))
 	d.m.plan.Set(float64(d.plans.Number))
 	d.m.locks.Set(float64(len(d.votes)))
 }

@@ -78,7 +78,8 @@ type WaiterView struct {
 // LetGo is the reply to `evict` and `unlock`: how many grants were let go.
 type LetGo struct {
 	LetGo  int  `json:"let_go"`
-	Nobody bool `json:"nobody,omitempty"` // no session had the number that was to be evicted
+	Later  int  `json:"later,omitempty"`  // grants of a session that was ended, which go once it is silent for a TTL
+	Nobody bool `json:"nobody,omitempty"` // no session had the number that was to be evicted, nor was it to become free
 }
 
 // Refused is the reply to what an operator may not do, or what is not known.
@@ -155,7 +156,8 @@ func written(reply interface{}) []byte {
 	}
 }
 
-// obey does what these words say: `status`, `lock LOCK`, `sessions`, `evict NUMBER`, `unlock LOCK GRANT`, or what exchange obeys.
+// obey does what these words say: `status`, `lock LOCK`, `knows`, `evict NUMBER`, `evict NUMBER now`, `unlock LOCK GRANT`, or what exchange
+// obeys.
 func (d *Daemon) obey(words []string, by string, now time.Time) interface{} {
 	switch {
 	case len(words) == 1 && words[0] == "status":
@@ -175,9 +177,9 @@ func (d *Daemon) obey(words []string, by string, now time.Time) interface{} {
 			return d.view(v, now)
 		}
 		return VoteView{Lock: words[1], Client: -1}
-	case len(words) == 2 && words[0] == "evict":
+	case len(words) == 2 && words[0] == "evict", len(words) == 3 && words[0] == "evict" && words[2] == "now":
 		if key, ok := d.cluster.KeyOf(words[1]); ok {
-			return d.evict(key, by, now)
+			return d.evict(key, len(words) == 3, by, now)
 		}
 		return Refused{"client numbers are " + d.cluster.NumberOf(0) + " to " + d.cluster.NumberOf(d.cluster.Numbers()-1)}
 	case len(words) == 3 && words[0] == "unlock":
@@ -192,20 +194,25 @@ func (d *Daemon) obey(words []string, by string, now time.Time) interface{} {
 	return Refused{"unknown command"}
 }
 
-// evict ends a client's session, and lets all go that it has. What it waits for is let go once it gets it. The log says so, unless there was
-// nothing to end.
-func (d *Daemon) evict(key int, by string, now time.Time) LetGo {
+// evict ends a client's session: no message of it counts any more. What it has goes once it is silent for a TTL, as it may work until
+// it hears that it is over, and so does its number; both at once if that is wanted. What it waits for goes as soon once it gets it. The log
+// says so, unless there was nothing to end.
+func (d *Daemon) evict(key int, atOnce bool, by string, now time.Time) LetGo {
 	s, number := d.shardOfKey(key)
-	gone := LetGo{Nobody: !s.rows[number].Open}
-	s.expel(number)
+	gone := LetGo{Nobody: !s.rows[number].Open && !(atOnce && s.byWord[number])}
+	s.expel(number, atOnce)
 	d.busy.each(func(v *vote) {
-		if v.shard == s && v.isHolder(number) && d.letGo(v, now) {
+		switch {
+		case v.shard != s || !v.isHolder(number):
+		case !atOnce:
+			gone.Later++
+		case d.letGo(v, now):
 			gone.LetGo++
 		}
 	})
 	d.recount(s, number)
 	if !gone.Nobody || gone.LetGo > 0 {
-		d.log.Write(event.Warning, "evicted", "client", d.cluster.NumberOf(key), "grants", gone.LetGo, "by", by)
+		d.log.Write(event.Warning, "evicted", "client", d.cluster.NumberOf(key), "grants", gone.LetGo, "later", gone.Later, "by", by)
 	}
 	return gone
 }

@@ -28,14 +28,14 @@ func TestRepeatedEvict(t *testing.T) {
 		_, body, _ := wire.Read((<-heard).Data)
 		return strings.TrimSpace(string(body))
 	}
-	if got := ask("evict 0"); got != `{"let_go":1}` {
+	if got := ask("evict 0 now"); got != `{"let_go":1}` {
 		t.Fatal(got)
 	}
 	two := newCallerOf(t, w, 0, "two", 3)
 	if !two.says(". claim 0 3 50\norders request 0 0 101\n", "orders locked") {
 		t.Fatal("the next session has no vote")
 	}
-	if got := ask("evict 0"); got != `{"let_go":1}` {
+	if got := ask("evict 0 now"); got != `{"let_go":1}` {
 		t.Errorf("the reply comes again: %s", got)
 	}
 	header.Name = "op2"

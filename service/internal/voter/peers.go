@@ -219,13 +219,17 @@ func (d *Daemon) putPeer(place int, p Peer) {
 type Knows struct {
 	Peers    map[int]Peer    `json:"peers"`
 	Sessions map[int]Session `json:"sessions"`
+	Floors   map[int]Floor   `json:"floors,omitempty"` // of the shards that were dropped
 	Level    uint64          `json:"level"`
 	From     int             `json:"from,omitempty"` // sessions from this key on
 	Next     int             `json:"next,omitempty"` // the key from which others are to be asked for, 0 if there is none
 }
 
-// mostRows is how many sessions one message tells at most.
+// mostRows is how many sessions one message tells at most, or as many floors as count for these.
 const mostRows = 800
+
+// isFull returns whether a message that tells this has no room for more.
+func (k *Knows) isFull() bool { return len(k.Sessions)+rowsOfFloor*len(k.Floors) >= mostRows }
 
 // knows returns what this voter keeps, with sessions from a key on, and what it is itself.
 func (d *Daemon) knows(from int) Knows {
@@ -238,11 +242,15 @@ func (d *Daemon) knows(from int) Knows {
 	self := d.self()
 	self.Ceiling = d.store.own.Ceiling
 	peers[d.store.meta.Voter] = self
-	known := Knows{Peers: peers, Sessions: map[int]Session{}, Level: d.store.own.level(), From: from}
+	known := Knows{Peers: peers, Sessions: map[int]Session{}, Floors: map[int]Floor{}, Level: d.store.own.level(), From: from}
 	for _, key := range d.keys(from) {
-		if len(known.Sessions) == mostRows {
+		if known.isFull() {
 			known.Next = key
 			break
+		}
+		if shard := key / qlock.MaxClients; d.shards[shard] == nil {
+			known.Floors[shard] = d.floors[shard]
+			continue
 		}
 		s, number := d.shardOfKey(key)
 		known.Sessions[key] = s.rows[number]
@@ -250,8 +258,17 @@ func (d *Daemon) knows(from int) Knows {
 	return known
 }
 
-// keys returns the keys of the numbers that a session ever had, from one on, in order.
+// keys returns the keys of the numbers that a session ever had, from one on, in order. The first key of a shard that was dropped stands for
+// its floor.
 func (d *Daemon) keys(from int) (keys []int) {
+	for shard := range d.floors {
+		if first := shard * qlock.MaxClients; d.shards[shard] == nil && first+qlock.MaxClients > from {
+			if first < from {
+				first = from // the rows before were told when it was there
+			}
+			keys = append(keys, first)
+		}
+	}
 	for _, s := range d.inTurn {
 		for number, row := range s.rows {
 			if key := s.key(number); row.Epoch > 0 && key >= from {

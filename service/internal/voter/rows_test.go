@@ -15,11 +15,12 @@ import (
 
 // content is what a state has.
 type content struct {
-	meta  Meta
-	saves uint64
-	votes map[string]string
-	rows  map[int]Session
-	peers map[int]Peer
+	meta   Meta
+	saves  uint64
+	votes  map[string]string
+	rows   map[int]Session
+	floors map[int]Floor
+	peers  map[int]Peer
 }
 
 // aState makes a state with votes and sessions, and returns its folder and its owner.
@@ -63,10 +64,11 @@ func read(folder string, meta Meta) (content, error) {
 
 // contentOf returns what an open state has.
 func contentOf(s *store) (content, error) {
-	c := content{meta: s.meta, saves: s.saves, votes: map[string]string{}, rows: map[int]Session{}, peers: map[int]Peer{}}
+	c := content{meta: s.meta, saves: s.saves, votes: map[string]string{}, rows: map[int]Session{}, floors: map[int]Floor{},
+		peers: map[int]Peer{}}
 	err := s.load(func(name string, state []byte) error { c.votes[name] = string(state); return nil },
 		func(number int, row Session, _ bool) error { c.rows[number] = row; return nil },
-		func(place int, p Peer) { c.peers[place] = p })
+		func(shard int, floor Floor) { c.floors[shard] = floor }, func(place int, p Peer) { c.peers[place] = p })
 	return c, err
 }
 

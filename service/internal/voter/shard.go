@@ -1,6 +1,8 @@
 package voter
 
 import (
+	"time"
+
 	"calvundek.example/service/qlock"
 )
 
@@ -20,6 +22,9 @@ type shard struct {
 	free     int
 
 	processes [qlock.MaxClients]ofProcess // of which processes sessions are
+
+	votes int       // how many locks of it are known
+	used  time.Time // when a message of a session of it came
 }
 
 // shard returns what is kept of a shard.
@@ -29,7 +34,7 @@ func (d *Daemon) shard(number int) *shard {
 		if d.shards == nil {
 			d.shards = map[int]*shard{}
 		}
-		s = &shard{table: newTable(&d.leases, number), free: qlock.MaxClients}
+		s = &shard{table: newTable(&d.leases, number, d.floors[number]), free: qlock.MaxClients}
 		d.shards[number] = s
 		d.inTurn = append(d.inTurn, s)
 	}

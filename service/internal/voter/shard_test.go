@@ -71,7 +71,7 @@ func TestSessionsOfShards(t *testing.T) {
 			t.Errorf("a session of another shard says something of %s: %+v", lock, v.asks)
 		}
 	}
-	if gone := d.evict(2*qlock.MaxClients+5, "alice", time.Now()); gone.LetGo != 1 || d.shard(1).rows[5].Open != true || d.shard(2).rows[5].Open {
+	if gone := d.evict(2*qlock.MaxClients+5, true, "alice", time.Now()); gone.LetGo != 1 || d.shard(1).rows[5].Open != true || d.shard(2).rows[5].Open {
 		t.Errorf("an operator ends a session: %+v", gone)
 	}
 	if reply := d.obey([]string{"evict", "5"}, "alice", time.Now()); reply != (Refused{"client numbers are 0/0 to 3/63"}) {
@@ -269,7 +269,7 @@ func TestLocksOfNumbers(t *testing.T) {
 	if says("jobs", "stray", 2, 2, ". open 0\n"); s.waiting.lockOf("jobs.1-stray") != "" {
 		t.Error("who has a number waits")
 	}
-	if d.evict(64+5, "alice", time.Now()); s.locks[5] != "" || s.locks[6] != hot {
+	if d.evict(64+5, false, "alice", time.Now()); s.locks[5] != "" || s.locks[6] != hot {
 		t.Errorf("after an end: %q, %q", s.locks[5], s.locks[6])
 	}
 }

@@ -100,7 +100,10 @@ func TestWhoMayWrite(t *testing.T) {
 		{"1", "evict 2", false, `"error"`},
 		{"1", "knows", false, fmt.Sprintf(`"hash":%q`, hashed("jobs.s2"))},
 		{"alice", "knows", true, fmt.Sprintf(`"hash":%q`, hashed("jobs.s2"))},
+		{"bob", "evict 2 now", false, `"error"`},
+		{"alice", "evict 2 soon", true, `"error"`},
 		{"alice", "evict 2", true, `{"let_go":0}`},
+		{"alice", "evict 2 now", true, `{"let_go":0}`},
 		{"alice", "evict 3", true, `{"let_go":0,"nobody":true}`},
 	} {
 		d := reader()
@@ -113,11 +116,11 @@ func TestWhoMayWrite(t *testing.T) {
 		if is != (one.want != "") || is && !strings.Contains(string(reply.text()), one.want) {
 			t.Errorf("%s asks %s: %q", one.by, one.words, reply.text())
 		}
-		if d.shard(0).rows[2].Open == (one.by == "alice" && one.words == "evict 2") {
+		if d.shard(0).rows[2].Open == (one.by == "alice" && (one.words == "evict 2" || one.words == "evict 2 now")) {
 			t.Errorf("%s asks %s: %+v", one.by, one.words, d.shard(0).rows[2])
 		}
 	}
-	if said := log.String(); strings.Count(said, "event=evicted") != 1 || !strings.Contains(said, "by=alice") {
+	if said := log.String(); strings.Count(said, "event=evicted") != 2 || !strings.Contains(said, "by=alice") {
 		t.Error(said)
 	}
 }

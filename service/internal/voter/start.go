@@ -149,6 +149,9 @@ func (d *Daemon) isKept(now time.Time) {
 	for _, v := range d.busy.all {
 		client := int(v.held.Client)
 		v.shard.byWord[client] = v.shard.byWord[client] || v.held.Number > 0 && !v.shard.rows[client].Open
+		if v.held.Number > 0 && v.shard.isEarlier(client, v.held.Stamp) {
+			v.shard.passes(client, now) // this run may not know how the number was passed on
+		}
 	}
 	if turn == qlock.ServesQuietly {
 		d.beQuiet(now)
@@ -310,6 +313,11 @@ func (d *Daemon) learnAll(known Knows, now time.Time) {
 		s, number := d.shardOfKey(key)
 		if row.Lapses = 0; s.learn(number, row, now) {
 			d.recount(s, number)
+		}
+	}
+	for shard, floor := range known.Floors {
+		if d.cluster.IsKey(shard * qlock.MaxClients) {
+			d.learnFloor(shard, floor, now)
 		}
 	}
 	for place, p := range known.Peers {

@@ -484,9 +484,37 @@ func TestCeilingBeyondAllGrants(t *testing.T) {
 	}
 }
 
-// A session that another voter ended may still be heard here, and be inside. Its votes and its number go when it would have been
-// silent for a TTL, also after a restart.
+// A session that another voter or an operator ended, or whose number another one has at another voter, may still be inside. Its votes and its number go when it would have been silent for a
+// TTL, also after a restart.
 func TestWhatOthersEnd(t *testing.T) {
+	learns := func(d *Daemon, row string, now time.Time) error {
+		_, err := d.learn(`{"sessions":{"1":{"epoch":2,"used":true,"base":1000,"reserved":1000`+row+`}}}`, now)
+		return err
+	}
+	for by, end := range map[string]func(d *Daemon, now time.Time) error{
+		"another voter": func(d *Daemon, now time.Time) error { return learns(d, "", now) },
+		"another voter, of which another session has the number": func(d *Daemon, now time.Time) error {
+			return learns(d, `,"hash":"jobs.later","open":true`, now)
+		},
+		"an operator": func(d *Daemon, now time.Time) (err error) {
+			if gone := d.evict(1, false, "alice", now); gone != (LetGo{Later: 1}) {
+				err = fmt.Errorf("%+v", gone)
+			}
+			return err
+		},
+		"two operators": func(d *Daemon, now time.Time) (err error) {
+			d.evict(1, false, "alice", now)
+			if gone := d.evict(1, false, "bob", now); gone != (LetGo{Later: 1, Nobody: true}) {
+				err = fmt.Errorf("%+v", gone)
+			}
+			return err
+		},
+	} {
+		t.Run(by, func(t *testing.T) { whatOthersEnd(t, end) })
+	}
+}
+
+func whatOthersEnd(t *testing.T, end func(d *Daemon, now time.Time) error) {
 	d, _ := alone(t, 10)
 	for number := 1; number <= 2; number++ {
 		d.repliesTo("jobs", number, fmt.Sprintf(". claim %d 1 100\n", number))
@@ -494,13 +522,13 @@ func TestWhatOthersEnd(t *testing.T) {
 	d.repliesTo("jobs", 1, "orders request 1 0 1\n")
 	d.repliesTo("jobs", 2, "orders request 2 0 2\n")
 	now := time.Now()
-	if _, err := d.learn(`{"sessions":{"1":{"epoch":2,"used":true,"base":1000,"reserved":1000}}}`, now); err != nil {
+	if err := end(d, now); err != nil {
 		t.Fatal(err)
 	}
 	stays := func(when string) {
 		t.Helper()
 		d.round(now)
-		if v := d.votes["orders"]; v.held.Client != 1 || d.shard(0).state(1) != 0 || claimAt(&d.shard(0).table, 1, "other", 3, now) {
+		if v := d.votes["orders"]; v.held.Client != 1 || d.shard(0).state(1) != 0 || claimAt(&d.shard(0).table, 1, "other", 9, now) {
 			t.Errorf("%s: the vote is held by %+v, and its number is to be had: %d", when, v.held, d.shard(0).state(1))
 		}
 	}
@@ -513,7 +541,7 @@ func TestWhatOthersEnd(t *testing.T) {
 	stays("after a restart")
 	later := time.Now().Add(2 * d.leases.ttl)
 	passes(&d.shard(0).table, later)
-	if d.round(later); d.votes["orders"].held.Client != 2 || d.shard(0).state(1) != 1 || !claimAt(&d.shard(0).table, 1, "other", 3, later) {
+	if d.round(later); d.votes["orders"].held.Client != 2 || d.shard(0).state(1) == 0 || !claimAt(&d.shard(0).table, 1, "other", 9, later) {
 		t.Errorf("after a TTL: the vote is held by %+v, and its number is free: %d", d.votes["orders"].held, d.shard(0).state(1))
 	}
 }
@@ -527,7 +555,7 @@ func TestLearnsWhatIsOver(t *testing.T) {
 	table.put(3, one)
 	other := tableAt(now)
 	other.put(3, one)
-	other.expel(3)
+	other.expel(3, false)
 	if !table.learn(3, other.rows[3], now) || table.rows[3].Open || table.rows[3].Base < 100 {
 		t.Errorf("an eviction: %+v", table.rows[3])
 	}
@@ -536,5 +564,45 @@ func TestLearnsWhatIsOver(t *testing.T) {
 	two.Used = true
 	if table.learn(3, two, now); table.rows[3].Open || table.rows[3].Base < 300 || table.rows[3].Reserved < 300 {
 		t.Errorf("two sessions of one epoch: %+v", table.rows[3])
+	}
+}
+
+// Once another session has a number, its messages keep no vote of the session before.
+func TestNumberIsPassedOn(t *testing.T) {
+	d, _ := alone(t, 10)
+	for number := 1; number <= 2; number++ {
+		d.repliesTo("jobs", number, fmt.Sprintf(". claim %d 1 100\n", number))
+	}
+	d.repliesTo("jobs", 1, "orders request 1 0 1\n")
+	d.repliesTo("jobs", 2, "orders request 2 0 2\n")
+	now := time.Now()
+	if _, err := d.learn(`{"sessions":{"1":{"epoch":2,"used":true,"base":1000,"reserved":1000,"hash":"jobs.later","open":true}}}`, now); err != nil {
+		t.Fatal(err)
+	}
+	s, later := d.shard(0), now.Add(2*d.leases.ttl)
+	passes(&s.table, later)
+	s.hear(1, later)
+	if d.round(later); d.votes["orders"].held.Client != 2 || s.state(1) != 0 {
+		t.Errorf("the vote is held by %+v, and the number is to be had: %d", d.votes["orders"].held, s.state(1))
+	}
+}
+
+// A session whose number was passed on to it long ago may work, also once it is ended here, or elsewhere.
+func TestPassedOnSessionIsEnded(t *testing.T) {
+	now := time.Now()
+	for by, ends := range map[string]func(t *table, at time.Time){
+		"an operator":   func(t *table, at time.Time) { t.expel(5, false) },
+		"another voter": func(t *table, at time.Time) { t.learn(5, Session{Epoch: 4, Base: 100, Reserved: 100, Used: true}, at) },
+	} {
+		table, later := tableAt(now), now.Add(time.Hour)
+		table.learn(5, Session{Hash: "jobs.x", Epoch: 3, Base: 10, Reserved: 100, Open: true, Used: true}, now)
+		passes(table, later)
+		table.hear(5, later)
+		if ends(table, later); table.isOver(5, 50) || table.isDead(5) {
+			t.Errorf("%s ends it: its grants go at once, %v", by, table.isOver(5, 50))
+		}
+		if passes(table, later.Add(2*table.ttl)); !table.isOver(5, 50) || !table.isDead(5) {
+			t.Errorf("%s ends it: its grants never go", by)
+		}
 	}
 }

@@ -108,13 +108,16 @@ func fill(disk Disk, meta Meta, plans Generations, known Knows, ceiling uint64) 
 		if err := b.putMeta(meta); err != nil {
 			return err
 		}
-		if err := b.putOwn(own{Ceiling: ceiling}); err != nil {
+		if err := b.putOwn(own{Ceiling: ceiling, Level: known.Level}); err != nil {
 			return err
 		}
 		if err := b.putPlans(plans); err != nil {
 			return err
 		}
 		if err := b.putPeers(known.Peers); err != nil {
+			return err
+		}
+		if err := b.putFloors(known.Floors, nil); err != nil {
 			return err
 		}
 		return b.putSessions(known.Sessions)
@@ -239,10 +242,10 @@ func (s *store) read(rows Rows) (err error) {
 	return err
 }
 
-// load hands each vote, each session and what is known of each place to a function. A session is old if it would be saved
-// in another form.
+// load hands each vote, each floor, then each session, and what is known of each place to a function. A session is old if it would be
+// saved in another form.
 func (s *store) load(vote func(name string, state []byte) error, session func(key int, row Session, isOld bool) error,
-	peer func(place int, p Peer)) error {
+	floor func(shard int, floor Floor), peer func(place int, p Peer)) error {
 	return s.disk.View(func(rows Rows) error {
 		err := each(rows, voteBucket, func(key, value []byte) error {
 			state, ok := unpack(value)
@@ -255,6 +258,22 @@ func (s *store) load(vote func(name string, state []byte) error, session func(ke
 			return err
 		}
 		err = each(rows, sessionBucket, func(key, value []byte) error {
+			shard, is := shardOfFloor(key)
+			var one Floor
+			if is && json.Unmarshal(value, &one) != nil {
+				return fmt.Errorf("floor %x: %w", key, ErrDamaged)
+			} else if is {
+				floor(shard, one)
+			}
+			return nil
+		})
+		if err != nil {
+			return err
+		}
+		err = each(rows, sessionBucket, func(key, value []byte) error {
+			if _, is := shardOfFloor(key); is {
+				return nil
+			}
 			var row Session
 			number, ok := numberOfRow(key)
 			if err := json.Unmarshal(value, &row); err != nil || !ok {
@@ -306,6 +325,8 @@ type changes struct {
 	votes    map[*vote]struct{}
 	gone     map[string]struct{} // locks that are forgotten
 	sessions map[int]Session
+	floors   map[int]Floor
+	dropped  map[int]struct{} // rows for which floors stand
 	peers    map[int]Peer
 	plans    *Generations
 	own      *own
@@ -342,6 +363,9 @@ func (s *store) save(c changes) error {
 			}
 		}
 		if err := b.putPeers(c.peers); err != nil {
+			return err
+		}
+		if err := b.putFloors(c.floors, c.dropped); err != nil {
 			return err
 		}
 		return b.putSessions(c.sessions)

@@ -61,11 +61,12 @@ const (
 // leases is what the tables of all shards share: the lease clock, and which rows are to be saved.
 type leases struct {
 	ttl     time.Duration
-	began   time.Time       // when this run began: times of the lease clock are since then
-	clock   qlock.Clock     // says who was silent
-	quiet   quiet           // of the voter: no silence ends anything in it
-	changed map[int]Session // to be saved before anything leaves, by their keys
-	later   map[int]Session // to be saved with the next save: after a crash a TTL makes up for it
+	began   time.Time        // when this run began: times of the lease clock are since then
+	clock   qlock.Clock      // says who was silent
+	quiet   quiet            // of the voter: no silence ends anything in it
+	changed map[int]Session  // to be saved before anything leaves, by their keys
+	later   map[int]Session  // to be saved with the next save: after a crash a TTL makes up for it
+	dropped map[int]struct{} // rows that go with the next save, as a floor stands for them
 }
 
 // table has a row for each client number of a shard. A session claims its number, and is never learned from a
@@ -81,16 +82,26 @@ type table struct {
 	hashes [qlock.MaxClients]qlock.Session // how the proved rows name the sessions of these
 	names  [qlock.MaxClients]string        // of the sessions of these rows that were heard in this run; nothing can be sent to others
 	heard  [qlock.MaxClients]time.Duration // on the lease clock
-	byWord [qlock.MaxClients]bool          // another voter ended the session, which may not know so: its votes go by the lease
+	byWord [qlock.MaxClients]bool          // the session was ended, by another voter or an operator, and may not know so: its votes go by the lease
+	passed [qlock.MaxClients]passed        // when another voter said that another session has the number
 	epochs [qlock.MaxClients]qlock.Bucket  // how far the epochs of a number may grow
 	stamps qlock.Bucket                    // how far the highest stamp may grow
 }
 
-// newTable returns the table of a shard that no session has used. What numbers may grow begins with the run.
-func newTable(l *leases, shard int) table {
+// passed is when this voter learned that another session has a number: the session before may not know so, and its votes go by the lease.
+type passed struct {
+	is bool
+	at time.Duration // on the lease clock
+}
+
+// newTable returns the table of a shard that no session has used since it has this floor. What numbers may grow begins with the run.
+func newTable(l *leases, shard int, floor Floor) table {
 	t := table{leases: l, number: shard, stamps: *qlock.NewBucket(stampRate, mostStamps, 0)}
 	for i := range t.epochs {
 		t.epochs[i] = *qlock.NewBucket(epochRate, mostEpochs, 0)
+		if row := floor.row(i); row != (Session{}) {
+			t.set(i, row)
+		}
 	}
 	return t
 }
@@ -111,7 +122,7 @@ func periodOf(ttl time.Duration) time.Duration {
 // begin begins a run of a voter: all leases begin anew.
 func (l *leases) begin(now time.Time) {
 	l.began, l.clock = now, *qlock.NewClock(periodOf(l.ttl), 0)
-	l.changed, l.later = map[int]Session{}, map[int]Session{}
+	l.saved()
 }
 
 // at returns the reading of the lease clock at which a session is heard that is heard now.
@@ -136,6 +147,9 @@ func (t *table) returned(now time.Time) {
 		if heard > latest {
 			t.heard[number] = latest
 		}
+		if t.passed[number].at > latest {
+			t.passed[number].at = latest
+		}
 	}
 }
 
@@ -146,8 +160,8 @@ func (t *table) silent(number int) time.Duration {
 	return reading - t.heard[number]
 }
 
-// isDead returns whether the votes of a number may be let go: its session was ended, or silent for a TTL. One that another
-// voter ended counts as silent since then. No session has stamps above the greatest one.
+// isDead returns whether the votes of a number may be let go: its session has ended, or was silent for a TTL. One that another
+// voter ended counts as silent since then, and one that an operator ended since it was heard last. No session has stamps above the greatest one.
 func (t *table) isDead(number int) bool { return t.isOver(number, math.MaxUint64) }
 
 // lapse counts that a grant of a number's session is let go since it was silent. Whoever hears the
@@ -237,7 +251,9 @@ func (l *leases) unsaved() map[int]Session {
 }
 
 // saved notes that all rows are saved.
-func (l *leases) saved() { l.changed, l.later = map[int]Session{}, map[int]Session{} }
+func (l *leases) saved() {
+	l.changed, l.later, l.dropped = map[int]Session{}, map[int]Session{}, map[int]struct{}{}
+}
 
 // judge judges a message by the session that sent it.
 func (t *table) judge(number int, name string, epoch uint64) qlock.Standing {
@@ -249,11 +265,20 @@ func (t *table) judge(number int, name string, epoch uint64) qlock.Standing {
 }
 
 // isOver returns whether a grant of a number may be let go, by its stamp: the session that got it has left, or was silent for a TTL. It has
-// left if it closed, or if the number has a later session. One that another voter ended may not know so, and has not left. In the quiet
-// time only who has left is over: what he has who said that he is inside, and his number, go for his silence once that time has ended.
+// left if it closed, or if the number has a later session, which claimed it here. One that another voter or an operator ended may not know
+// so, and has not left; nor has one if another voter said that a later session has the number.
+// In the quiet time only who has left is over: what he has who said that he is inside, and his number, go for his silence once that time
+// has ended.
 func (t *table) isOver(number int, stamp uint64) bool {
-	isSilent := !t.quiet.is && t.clock.IsSilent(t.heard[number], t.ttl)
-	letsGo, err := t.proved.LetsGo(number, stamp, isSilent, t.byWord[number])
+	heard, byWord := t.heard[number], t.byWord[number]
+	if passed := t.passed[number]; passed.is && t.isEarlier(number, stamp) {
+		if !byWord {
+			heard = passed.at // what is heard is another session
+		}
+		byWord = true
+	}
+	isSilent := !t.quiet.is && t.clock.IsSilent(heard, t.ttl)
+	letsGo, err := t.proved.LetsGo(number, stamp, isSilent, byWord)
 	return err == nil && letsGo
 }
 
@@ -387,12 +412,18 @@ func (t *table) learn(number int, there Session, now time.Time) bool {
 		}
 		t.byWord[number] = !row.Open && (before.Open || t.byWord[number])
 		t.hear(number, now)
+		if row.Open {
+			t.passes(number, now)
+		}
 	}
 	if row != before {
 		t.put(number, row)
 	}
 	return isOther
 }
+
+// passes notes that this voter learned that another session has a number.
+func (t *table) passes(number int, now time.Time) { t.passed[number] = passed{true, t.at(now)} }
 
 func greatest(a, b uint64) uint64 {
 	if a > b {
@@ -408,11 +439,14 @@ func smallest(a, b uint64) uint64 {
 	return b
 }
 
-// expel ends a number's session, which an operator wants. No message of its epoch counts any more.
-func (t *table) expel(number int) {
+// expel ends a number's session. No message of its epoch counts any more. Unless what it has may go at once it goes by the lease, as if
+// another voter had ended the session.
+func (t *table) expel(number int, atOnce bool) {
+	wasOpen := t.rows[number].Open
 	if row, err := t.rows[number].after((*qlock.Row).Evict); err == nil {
 		row.Hash, row.Used, row.Lapses = "", true, 0
 		t.put(number, row)
+		t.byWord[number] = !atOnce && (wasOpen || t.byWord[number])
 	}
 }
 

@@ -11,7 +11,7 @@ import (
 
 func tableAt(now time.Time) *table {
 	l := leasesAt(now)
-	t := newTable(&l, 0)
+	t := newTable(&l, 0, Floor{})
 	return &t
 }
 
@@ -97,11 +97,14 @@ func TestClaims(t *testing.T) {
 		later.Add(1100*time.Millisecond)) {
 		t.Error("a lease is not as long as the TTL")
 	}
-	table.expel(3)
-	if table.admit(3, "b", 2, later) != qlock.SessionOver || !isDeadAt(table, 3, later) {
-		t.Error("a session that was expelled goes on")
+	table.expel(3, false)
+	if table.admit(3, "b", 2, later) != qlock.SessionOver || table.rows[3].Open || isDeadAt(table, 3, later) {
+		t.Error("a session that was expelled goes on, or what it has goes before it was silent")
 	}
-	if claimAt(table, 3, "d", 3, later) || !claimAt(table, 3, "d", 4, later) {
+	if table.expel(3, true); !isDeadAt(table, 3, later) {
+		t.Error("what a session has stays that was expelled at once")
+	}
+	if claimAt(table, 3, "d", 4, later) || !claimAt(table, 3, "d", 5, later) {
 		t.Error("an epoch was given twice")
 	}
 }

@@ -69,6 +69,7 @@ func (d *Daemon) voteOf(name string, voter *qlock.Voter) *vote {
 // keep makes a lock known.
 func (d *Daemon) keep(v *vote) {
 	d.votes[v.name] = v
+	v.shard.votes++
 	delete(d.gone, v.name)
 }
 

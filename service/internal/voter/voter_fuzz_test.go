@@ -366,7 +366,7 @@ var orders = map[string]bool{"evict": true, "unlock": true, "exchange": true, "r
 func FuzzOperator(f *testing.F) {
 	s := newStage(f)
 	plan := "0 " + config.Mark(0, s.cluster.Coterie)
-	for _, words := range []string{"status", "knows", "lock orders", "lock x y", "evict 0", "evict 64",
+	for _, words := range []string{"status", "knows", "lock orders", "lock x y", "evict 0", "evict 0 now", "evict 64",
 		"unlock orders 1", "unlock orders 2", "ready " + plan, "retire " + plan, "retire 1 " + plan[2:],
 		"settle " + plan + " {\"sessions\":{\"3\":{\"name\":\"x\",\"epoch\":9,\"base\":1,\"reserved\":7,\"open\":true}}}",
 		"inform " + plan + " {\"sessions\":{\"3\":{\"name\":\"x\",\"epoch\":9,\"base\":1,\"reserved\":7,\"open\":true}}}",
@@ -492,13 +492,16 @@ func FuzzMerge(f *testing.F) {
 	f.Add(first, second)
 	f.Add(first, []byte("{}"))
 	f.Add([]byte("{\"error\":\"no\"}"), second)
+	dropped, _ := json.Marshal(Knows{Sessions: map[int]Session{}, Floors: map[int]Floor{0: {120, []uint64{0, 0, 0, 3, 9}}, 7: {5, []uint64{1}}}})
+	f.Add(first, dropped)
+	f.Add(dropped, dropped)
 	f.Fuzz(func(t *testing.T, first, second []byte) {
 		replies := []operator.Reply{{Voter: 0, Name: "a", Body: first}, {Voter: 1, Name: "b", Body: second}}
 		all, heard, err := Merge(replies)
 		if err != nil {
 			return
 		}
-		if heard != 0b11 || len(all.Sessions) > qlock.MaxClients {
+		if heard != 0b11 || len(all.Sessions) > config.MostShards*qlock.MaxClients {
 			t.Fatalf("%b, %d sessions", heard, len(all.Sessions))
 		}
 		for _, body := range [][]byte{first, second} {
@@ -509,6 +512,17 @@ func FuzzMerge(f *testing.F) {
 			for place, p := range one.Peers {
 				if got := all.Peers[place]; place >= 0 && place < places && (p.Ceiling > got.Ceiling || p.Run > got.Run) {
 					t.Fatalf("place %d: %+v of %+v", place, got, p)
+				}
+			}
+			for shard, floor := range one.Floors {
+				if shard < 0 || shard >= config.MostShards || all.Floors[shard].isAbove(floor) {
+					continue
+				}
+				for number := range floor.Epochs {
+					row, got := floor.row(number), all.Sessions[shard*qlock.MaxClients+number]
+					if row.Epoch > 0 && (got.Reserved < row.Reserved || got.Epoch < row.Epoch && !got.Used) {
+						t.Fatalf("shard %d, number %d: %+v of %+v", shard, number, got, row)
+					}
 				}
 			}
 			for number, row := range one.Sessions {

@@ -1,0 +1,4 @@
+mod VoterLemmas
+mod PlaceLemmas
+mod ChoiceLemmas
+mod Example
