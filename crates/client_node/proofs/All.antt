@@ -30,7 +30,7 @@ use Rattle.client_node.specs.declared.fault.LockFault.{LockFault}
 use Rattle.client_node.proofs.Stands.{AreVotes, Stands, not_own}
 use Rattle.client_node.proofs.Told.{Goes, goes_on, lock_goes}
 
--- ---- a step of others changes no vote of this session
+-- ---- a step of others changes no vote of the session
 
 same_votes : (b : Bool) (a k : Kept) → a.votes ≡ k.votes → (if b then a else k).votes ≡ k.votes
 same_votes true a k same = same
@@ -109,7 +109,7 @@ step_later me c (Asks session request) no_step = tt
 step_later me c (Learns session voter i) no_step = tt
 step_later me c (Holds session voter) no_step = tt
 
--- it is none of this session
+-- it is none of the session
 abbrev IsOther : ℕ → CallerStep → Type 0
 IsOther me (InWorld s) = IsNoStepOf me s
 IsOther me (ToCalls session s time) = (session == me) ≡ false
@@ -206,7 +206,7 @@ module _ (me session : ℕ) (other : (session == me) ≡ false) where
 
 -- ---- all steps
 
--- a step of one lock, by whether it is that of this session
+-- a step of one lock, by whether it is that of the session
 one_goes : (ttl lease span me session : ℕ) (quorums : List (List ℕ)) (w : World) (o : Caller) (locks : ℕ → Lock) (s : LockStep) (own : Bool) → (session == me) ≡ own
     → IfOwn own (IsMet me quorums w o.kept (locks me) s) → Stands quorums o (locks me)
     → Goes ttl lease span me quorums w o (if own then lock_stepped lease (locks session) s else locks me) (lock_steps lease session (locks session) s)

@@ -145,7 +145,7 @@ abbrev pub time_of : Option ℕ → ℕ
 time_of None = 0
 time_of (Some time) = time
 
--- what a step of the lock of this session is
+-- what a step of the lock of the session is
 abbrev pub lock_steps : ℕ → ℕ → Lock → LockStep → List CallerStep
 lock_steps lease me l (AsksQuorum quorum) = asked_steps me (ask_lock l quorum)
 lock_steps lease me l (TakesMessage m incarnation leases now place) =
@@ -171,7 +171,7 @@ lock_steps lease me l ClosesLock = ToCalls me Closes 0 ∷ []
 pub data NodeStep : Type 0 where
   -- a step of all sessions and voters that is none of a lock
   Elsewhere : Step → NodeStep
-  -- a step of the lock of this session
+  -- a step of the lock of the session
   AtLock : ℕ → LockStep → NodeStep
 
 -- what it is for `callers`
@@ -213,7 +213,7 @@ abbrev pub runs_at : ℕ → Option Vote → Bool
 runs_at request None = false
 runs_at request (Some v) = v.is_open && v.request == request
 
--- A LOCKED that comes is at this place of all that left the voter, and is for this session. If it renews the vote of the request that runs,
+-- A LOCKED that comes is at this place of all that left the voter, and is for the session. If it renews the vote of the request that runs,
 -- the client is inside: a voter says such a one only to a request that said so.
 abbrev pub WasSaid : ℕ → World → Lock → ℕ → ClientBody → ℕ → Type 0
 WasSaid me w l voter (to_client.Locked stamp number) place =
@@ -243,7 +243,7 @@ IsMet me quorums w k l LosesLock = Unit {0}
 IsMet me quorums w k l FailsCalls = Unit {0}
 IsMet me quorums w k l ClosesLock = Unit {0}
 
--- An event that is none of a lock of this session: it takes a LOCKED, ends a request, and gives a vote back only by its lock.
+-- An event that is none of a lock of the session: it takes a LOCKED, ends a request, and gives a vote back only by its lock.
 abbrev pub IsNoEventOf : ℕ → Event → Type 0
 IsNoEventOf me (Takes session voter place) = (session == me) ≡ false
 IsNoEventOf me (Ends session request) = (session == me) ≡ false
@@ -261,7 +261,7 @@ abbrev pub IsMetIn : ℕ → List (List ℕ) → World → Kept → (ℕ → Loc
 IsMetIn me quorums w k locks (Elsewhere s) = IsNoStepOf me s
 IsMetIn me quorums w k locks (AtLock session s) = IfOwn (session == me) (IsMet me quorums w k (locks me) s)
 
--- All that is asked of the host of this session, and of voters, step by step.
+-- All that is asked of the host of the session, and of voters, step by step.
 abbrev pub AllMet : ℕ → ℕ → ℕ → ℕ → List (List ℕ) → World → Caller → (ℕ → Lock) → List NodeStep → Type 0
 AllMet ttl lease span me quorums w o locks [] = Unit {0}
 AllMet ttl lease span me quorums w o locks (s ∷ steps) =

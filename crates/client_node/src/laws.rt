@@ -21,7 +21,7 @@ use callers::Next;
 /// votes of a quorum count up to it. This is the premise of `callers::at_most_one_call_works`.
 ///
 /// `AllMet` says what is asked of the host, and of voters. The quorum that is asked is one of the quorums. The leases that are
-/// passed are the session's, and times are those of its clock. A LOCKED that comes left its voter for this session.
+/// passed are the session's, and times are those of its clock. A LOCKED that comes left its voter for the session.
 pub fn what_the_node_does_is_as_told()
     ensures told { (ttl lease span : ℕ) (periods voters sessions ids limits used : ℕ → ℕ) (quorums : List (List ℕ)) (me : ℕ) (steps : List NodeStep)
         → MayBegin (ids me) (limits me) (used me)

@@ -117,8 +117,7 @@ class TestCheck(Place):
         self.rows.append(("library", "./library", ""))
         self.lay()
         run = self.begin("check", SLOW="100")
-        for _ in range(2):
-            self.wait_for_proof()
+        self.wait_for_proof(2)
         time.sleep(1)
         run.send_signal(signal.SIGTERM)
         self.assertIn("check: library was ended", run.communicate(timeout=30)[0])
