@@ -27,7 +27,7 @@ CHECKS = (
     ("must-not-compile", "must-not-compile/run.sh", "qlock"),
     ("examples", "examples/check.sh", "qlock qlock_show"),
     ("hostile", "hostile/run.py", "qlock qlock_show demo_members"),
-    ("library", "./library", "qlock_c qlock_plan_c"),
+    ("library", "./library", "qlock_c qlock_session_c qlock_plan_c"),
     ("service", "service/check.sh", "library"),
     ("packaging", "packaging/check.sh", "service qlock qlock_show"),
     ("embedding", "examples/embed/check.sh", "proofs examples hostile packaging"),

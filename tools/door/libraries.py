@@ -23,11 +23,8 @@ from crates import BUILD, ROOT
 
 LIBRARIES = {"qlock": "The voter, the client and the guard of a voting lock",
              "qlock_plan": "Plans of coteries, and the quorums of tickets"}
-
-
-def crate_of(name):
-    """Returns the crate that a library is made of."""
-    return f"{name}_c"
+# The crates that each library is made of.
+CRATES_OF = {"qlock": ("qlock_c", "qlock_session_c"), "qlock_plan": ("qlock_plan_c",)}
 
 
 def call(*words, **given):
@@ -49,8 +46,8 @@ def pc_text(name, number, prefix, folder, include):
 
 
 def make(name, room):
-    """Makes a library of the archive of its crate."""
-    archives = [product(crate_of(name))]
+    """Makes a library of the archives of its crates."""
+    archives = [product(it) for it in CRATES_OF[name]]
     if name == "qlock_plan":
         # its memory comes from malloc, which the kit calls
         archives.append(os.path.join(rt.kit(), "c", "liblibc_c.a"))
@@ -69,7 +66,7 @@ def make(name, room):
 
 
 def main(_=()):
-    crates = [crate_of(it) for it in LIBRARIES]
+    crates = [it for name in LIBRARIES for it in CRATES_OF[name]]
     if not all(is_current(it, product(it)) for it in crates):
         print("library: proving and building, once after each change", file=sys.stderr)
         build(crates)

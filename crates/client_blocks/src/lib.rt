@@ -1,5 +1,5 @@
 //! One lock of a session as bytes: its client, the votes of all voters and the calls for it, each a block of its own, and what the calls
-//! of all three do: what `qlock_c` exports of a session's lock.
+//! of all three do: what `qlock_session_c` exports of a session's lock.
 //!
 //! The blocks are the caller's. A call reads all three, makes the step of the lock, and writes in place what changed. A call that is
 //! refused writes nothing, and each is refused with `BadState` if and only if the bytes are no lock: one block is none, or a call has the

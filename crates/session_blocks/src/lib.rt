@@ -1,5 +1,5 @@
 //! What a session keeps of its votes, of its stamps, of its claims and of the calls for a lock as bytes, and what the calls of these do;
-//! and the quorum that a session asks, as a number: what `qlock_c` exports of them.
+//! and the quorum that a session asks, as a number: what `qlock_session_c` exports of them.
 //!
 //! A *block* is a state as bytes, which are the caller's. A call reads it, makes the step of the state, and writes it in place. A
 //! call that is refused writes nothing, and each is refused with `BadState` if and only if the bytes are none. No call takes

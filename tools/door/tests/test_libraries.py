@@ -56,7 +56,9 @@ class TestLibraries(Place):
         self.assertEqual(ran.returncode, 0, ran.stderr)
         self.assertEqual(sorted(it for it in os.listdir(self.at("build")) if not it.endswith(".log")),
                          ["libqlock.a", "libqlock.so", "libqlock_c.a", "libqlock_plan.a", "libqlock_plan.so",
-                          "libqlock_plan_c.a", "qlock.pc", "qlock_plan.pc"])
+                          "libqlock_plan_c.a", "libqlock_session_c.a", "qlock.pc", "qlock_plan.pc"])
+        with open(self.at("build", "libqlock.a"), encoding="utf-8") as file:
+            self.assertEqual(file.read(), "archive of out/libqlock_c.a\narchive of out/libqlock_session_c.a\n")
         with open(self.at("build", "libqlock_plan.a"), encoding="utf-8") as file:
             self.assertEqual(file.read(), "malloc\narchive of out/libqlock_plan_c.a\n")
         with open(self.at("build", "qlock.pc"), encoding="utf-8") as file:

@@ -2,7 +2,7 @@ use Rattle.std.proofs.Common.{◌∙◌, ℤ, subst, sym, w32}
 use Rattle.std.proofs.lemmas.Int.{to_z-of_z}
 use Rattle.claims.specs.Claims.{saw}
 use Rattle.session_blocks.specs.SessionSteps.{ClaimBecomes}
-use Rattle.qlock_c.proofs.session_calls.qlock_claim_sees.Goals as goal
+use Rattle.qlock_session_c.proofs.session_calls.qlock_claim_sees.Goals as goal
 
 pub returns-clause-sees : goal.returns-clause-sees
 returns-clause-sees c =

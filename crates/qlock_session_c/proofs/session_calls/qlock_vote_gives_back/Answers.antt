@@ -2,7 +2,7 @@ use Rattle.std.proofs.Common.{◌∙◌, ℤ, subst, sym, w32}
 use Rattle.std.proofs.lemmas.Int.{to_z-of_z}
 use Rattle.vote_leases.specs.Leases.{given_back}
 use Rattle.session_blocks.specs.SessionSteps.{VoteBecomes}
-use Rattle.qlock_c.proofs.session_calls.qlock_vote_gives_back.Goals as goal
+use Rattle.qlock_session_c.proofs.session_calls.qlock_vote_gives_back.Goals as goal
 
 pub returns-clause-gives : goal.returns-clause-gives
 returns-clause-gives c =
