@@ -1010,6 +1010,13 @@ int32_t qlock_held_until(const uint8_t *client, size_t n, const uint8_t *votes, 
 int32_t qlock_held_next(const uint8_t *client, size_t n, const uint8_t *votes, size_t m, const uint8_t *calls, size_t k,
                         const uint8_t *leases, size_t l, const uint64_t *since, size_t voters, uint64_t span, uint64_t now, uint32_t *next);
 
+/* Writes 1 to `*yes` if a vote of the quorum may be somebody else's at this time, and 0 if not: do then what qlock_held_spoiled says.
+
+   QLOCK_BAD_STATE  the blocks are no lock, or the leases are none */
+int32_t qlock_held_is_doubtful(const uint8_t *client, size_t n, const uint8_t *votes, size_t m, const uint8_t *calls, size_t k,
+                               const uint8_t *leases, size_t l, const uint64_t *since, size_t voters, uint64_t span, uint64_t now,
+                               uint32_t *yes);
+
 /* Writes to `*next` what the session has to do if a vote that it has may be somebody else's. If it gives up, or leaves, do then what is next.
 
    QLOCK_BAD_STATE  the blocks are no lock */

@@ -6,7 +6,7 @@ use Rattle.requester.specs.declared.fault.ClientFault.{ClientFault}
 use Rattle.callers.specs.Calls.{call_fault, ends_try, spoiled, tries_refused, wanted}
 use Rattle.vote_leases.specs.declared.incarnation.Incarnation.{Incarnation}
 use Rattle.vote_leases.specs.declared.lease.VoterLease.{VoterLease}
-use Rattle.client_node.specs.Locks.{Lock, LockOutcome, ask_lock, hand_lock, handed_until, next, phase_of, take_lock, until, with_calls}
+use Rattle.client_node.specs.Locks.{Lock, LockOutcome, ask_lock, hand_lock, handed_until, is_doubtful, next, phase_of, take_lock, until, with_calls}
 use Rattle.client_node.specs.declared.fault.LockFault.{LockFault}
 use Rattle.client_node.specs.declared.fault.LockFault.TheVariants.{HasLock, OfClient}
 use Rattle.blocks.specs.Numbers.{client_refusal, done, refused}
@@ -32,6 +32,13 @@ pub record LockShowsNext (client votes calls leases since : List ℕ) (span now 
   pub no_leases : AreNoLeases leases → result ≡ refused BadState
   pub shows : (l : Lock) (ls : List VoterLease) → IsLock client votes calls l → AreLeases leases ls
       → (result ≡ done) × (shown ≡ next_number (next l ls since span now))
+
+-- whether a vote may be somebody else's, at this time: 1 if so, and 0 if not
+pub record LockShowsDoubt (client votes calls leases since : List ℕ) (span now yes : ℕ) (result : ℤ) : Type 0 where
+  pub no_lock : IsNoLock client votes calls → result ≡ refused BadState
+  pub no_leases : AreNoLeases leases → result ≡ refused BadState
+  pub shows : (l : Lock) (ls : List VoterLease) → IsLock client votes calls l → AreLeases leases ls
+      → (result ≡ done) × (yes ≡ yes_of (is_doubtful l ls since span now))
 
 -- what it has to do if a vote may be somebody else's
 pub record LockShowsSpoiled (client votes calls : List ℕ) (shown : ℕ) (result : ℤ) : Type 0 where

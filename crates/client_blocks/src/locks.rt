@@ -5,7 +5,7 @@ ghost use Rattle.callers.specs.Calls.{call_fault, wanted};
 ghost use Rattle.client_node.specs.Locks.{Lock, give_up_lock, leave_lock, phase_of, with_calls};
 ghost use Rattle.session_blocks.specs.SessionSteps.{fault_number};
 ghost use Rattle.client_blocks.specs.Bytes.{IsLock, IsNoLock};
-ghost use Rattle.client_blocks.specs.HeldSteps.{LockAsks, LockEnds, LockHands, LockIsWanted, LockRefusesTries, LockShowsEnd, LockShowsNext, LockShowsSpoiled, LockTakes, lock_refusal};
+ghost use Rattle.client_blocks.specs.HeldSteps.{LockAsks, LockEnds, LockHands, LockIsWanted, LockRefusesTries, LockShowsDoubt, LockShowsEnd, LockShowsNext, LockShowsSpoiled, LockTakes, lock_refusal};
 ghost use Rattle.blocks.specs.Numbers.{refused, returned};
 
 use crate::lists::{load_leases, load_votes, store_votes};
@@ -73,6 +73,26 @@ pub fn next(
     let lock = load_lock(client, votes, calls)?;
     let leases = load_leases(leases)?;
     *next = number_of_next(lock.next(&leases, since, span, now));
+    Ok(())
+}
+
+/// Writes 1 if one of the votes of the quorum may be somebody else's at this time, and 0 if not.
+pub fn is_doubtful(
+    client: &[u8],
+    votes: &[u8],
+    calls: &[u8],
+    leases: &[u8],
+    since: &[u64],
+    span: u64,
+    now: u64,
+    yes: &mut u32,
+) -> Result<(), Refusal>
+    ensures shows { LockShowsDoubt client.now votes.now calls.now leases.now since.now span now yes.new (returned result) }
+    ensures refused { OnErr result (yes.new ≡ yes.old) }
+{
+    let lock = load_lock(client, votes, calls)?;
+    let leases = load_leases(leases)?;
+    *yes = u32::from(lock.is_doubtful(&leases, since, span, now));
     Ok(())
 }
 

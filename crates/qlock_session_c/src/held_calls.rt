@@ -2,7 +2,7 @@
 ghost use Rattle.std.specs.Prelude.{◌≡◌, ◌≢◌, ◌≤◌, [], length};
 ghost use Rattle.numbers.specs.Sets.{members_of};
 ghost use Rattle.client_node.specs.Locks.{give_up_lock, leave_lock};
-ghost use Rattle.client_blocks.specs.HeldSteps.{LockAsks, LockEnds, LockHands, LockIsWanted, LockRefusesTries, LockShowsEnd, LockShowsNext, LockShowsSpoiled, LockTakes};
+ghost use Rattle.client_blocks.specs.HeldSteps.{LockAsks, LockEnds, LockHands, LockIsWanted, LockRefusesTries, LockShowsDoubt, LockShowsEnd, LockShowsNext, LockShowsSpoiled, LockTakes};
 ghost use Rattle.blocks.specs.Numbers.{done, refused};
 ghost use Rattle.blocks.specs.RowSteps.{is_yes};
 
@@ -44,6 +44,25 @@ pub extern "C" fn qlock_held_next(
     ensures shows { LockShowsNext client.now votes.now calls.now leases.now since.now span now next.new result }
 {
     number_of(locks::next(client, votes, calls, leases, since, span, now, next))
+}
+
+/// Writes 1 if a vote that the session has may be somebody else's at this time, and 0 if not. The incarnation of voter v is known since
+/// `since[v]`.
+#[unsafe(no_mangle)]
+pub extern "C" fn qlock_held_is_doubtful(
+    client: &[u8],
+    votes: &[u8],
+    calls: &[u8],
+    leases: &[u8],
+    since: &[u64],
+    span: u64,
+    now: u64,
+    yes: &mut u32,
+) -> i32
+    ensures refused { result ≢ done → yes.new ≡ yes.old }
+    ensures shows { LockShowsDoubt client.now votes.now calls.now leases.now since.now span now yes.new result }
+{
+    number_of(locks::is_doubtful(client, votes, calls, leases, since, span, now, yes))
 }
 
 /// Writes what the session has to do if a vote that it has may be somebody else's: 0 nothing, 2 give up, 3 leave, 5 tell the call that has
