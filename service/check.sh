@@ -32,7 +32,7 @@ build=${QLOCK_BUILD:-$root/build}
 [ -e "$build/libqlock.a" ] && [ -e "$build/libqlock_plan.a" ] || "$root/library"
 
 packages="./agent ./qlock ./locks ./guard ./transport ./internal/boot ./internal/bus ./internal/claims ./internal/config ./internal/event ./internal/exchange ./internal/local ./internal/measure \
-    ./internal/operator ./internal/qlockd ./internal/remind ./internal/unit ./internal/users ./internal/voter ./internal/votes ./internal/wire ./internal/worlds \
+    ./internal/operator ./internal/qlockd ./internal/remind ./internal/unit ./internal/users ./internal/voter ./internal/wire ./internal/worlds \
     ./cmd/qlock-voter ./cmd/qlockctl ./cmd/qlockd ./trial ./attacks/session ./bench"
 laid=$(gofmt -l "$here/agent" "$here/qlock" "$here/locks" "$here/guard" "$here/transport" "$here/internal" "$here/cmd" "$here/trial" "$here/attacks" "$here/bench" "$here/simulation")
 [ -z "$laid" ] || { echo "service: gofmt would change $laid" >&2; exit 1; }

@@ -558,15 +558,224 @@ static void one_call(void) {
     end(&grants, writes_grants, result);
 }
 
+/* ---- one lock of a session, whole: what its calls write is what those of its parts write */
+
+enum { SPAN = 20 };
+static uint8_t own_client[QLOCK_CLIENT_BYTES], own_votes[QLOCK_VOTES_BYTES], own_calls[QLOCK_CALLS_BYTES], own_leases[QLOCK_LEASES_BYTES];
+static uint64_t own_now;
+static unsigned own_id;
+
+/* a lock that nobody wants yet, of the client 0 or 1 */
+static void fresh_lock(void) {
+    uint64_t used = below(3);
+    own_id = (unsigned)below(2);
+    int32_t refused = qlock_client_anew((uint8_t)own_id, below(4) ? QLOCK_MAX_STAMP : used + 2, used, own_client, sizeof own_client);
+    for (size_t v = 0; v < QLOCK_MAX_VOTERS; v++) {
+        refused |= qlock_vote_new(used, own_votes + v * QLOCK_VOTE_BYTES, QLOCK_VOTE_BYTES);
+        refused |= qlock_lease_new(own_leases + v * QLOCK_LEASE_BYTES, QLOCK_LEASE_BYTES);
+    }
+    if (refused | qlock_calls_new(used, own_calls, sizeof own_calls)) exit(3);
+    own_now = 1;
+}
+
+/* the stamp of the lock's request, its quorum and its phase */
+static uint64_t lock_shows(int32_t *phase, uint64_t *quorum) {
+    uint64_t stamp;
+    if (qlock_client_shows(own_client, sizeof own_client, phase, &stamp, quorum) != QLOCK_DONE) exit(3);
+    return stamp;
+}
+
+/* up to when all votes of the quorum count, by the calls of each vote */
+static uint64_t lock_end(void) {
+    int32_t phase;
+    uint64_t quorum, first = UINT64_MAX;
+    lock_shows(&phase, &quorum);
+    if (phase == QLOCK_IDLE) return 0;
+    for (size_t v = 0; v < QLOCK_MAX_VOTERS; v++) {
+        uint64_t end;
+        if (!(quorum >> v & 1)) continue;
+        if (qlock_vote_until(own_votes + v * QLOCK_VOTE_BYTES, QLOCK_VOTE_BYTES, own_leases + v * QLOCK_LEASE_BYTES, QLOCK_LEASE_BYTES, SPAN, &end)) exit(3);
+        if (end < first) first = end;
+    }
+    return first;
+}
+
+/* what else happens to a lock: time passes, a voter is heard, and a call ends */
+static void lock_goes_on(void) {
+    int32_t phase;
+    uint32_t yes;
+    uint64_t quorum, stamp = lock_shows(&phase, &quorum);
+    uint8_t *lease = own_leases + below(4) * QLOCK_LEASE_BYTES;
+    own_now += below(4);
+    switch (below(8)) {
+    case 0:
+        call = "qlock_lease_hears";
+        is_named(qlock_lease_hears(lease, QLOCK_LEASE_BYTES, 0, below(20) == 0, 0, &yes), "0");
+        break;
+    case 1:
+        call = "qlock_calls_unlocks";
+        is_named(qlock_calls_unlocks(own_calls, sizeof own_calls, stamp, &yes), "0");
+        break;
+    case 2:
+        call = "qlock_calls_unwants";
+        is_named(qlock_calls_unwants(own_calls, sizeof own_calls, below(2)), "0");
+        break;
+    case 3:
+        call = "qlock_calls_loses";
+        is_named(qlock_calls_loses(own_calls, sizeof own_calls, &yes), "0");
+        break;
+    default:
+        call = "qlock_lease_renews";
+        is_named(qlock_lease_renews(lease, QLOCK_LEASE_BYTES, 0, 0, 0, own_now), "0");
+    }
+}
+
+/* a line of a voter to the lock's client, half of the time the vote for its request */
+static struct block line_of_lock(uint64_t stamp, int is_inside) {
+    char text[80];
+    if (below(2)) return line_of(0);
+    int n = snprintf(text, sizeof text, "locked %u %u %llu %u %llu", (unsigned)below(4), own_id, (unsigned long long)stamp,
+                     (unsigned)below(9), is_inside ? (unsigned long long)stamp : 0ull);
+    return copy_of((uint8_t *)text, (size_t)n);
+}
+
+static void one_lock(void) {
+    lock_goes_on();
+    int32_t phase, entered = 7777, entered_alone = 7777;
+    uint32_t got = 7777, alone = 7777;
+    uint64_t quorum, end_at = 7777, stamp = lock_shows(&phase, &quorum), until = lock_end(), asked = below(3) ? (uint64_t)1 << below(4) : rnd() & 15;
+    size_t written = 7777, written_alone = 7777;
+    int is_right = below(8) != 0, counts = own_now < until;
+    struct block c = is_right ? copy_of(own_client, sizeof own_client) : state_of(own_client, sizeof own_client);
+    struct block v = is_right ? copy_of(own_votes, sizeof own_votes) : state_of(own_votes, sizeof own_votes);
+    struct block k = is_right ? copy_of(own_calls, sizeof own_calls) : state_of(own_calls, sizeof own_calls);
+    struct block l = is_right ? copy_of(own_leases, sizeof own_leases) : state_of(own_leases, sizeof own_leases);
+    struct block since = block_of(8 * QLOCK_MAX_VOTERS), line = line_of_lock(stamp, phase == QLOCK_INSIDE), out = block_of(room());
+    if (below(2)) memset(since.bytes, 0, since.n);
+    const uint64_t *at = (const uint64_t *)(const void *)since.bytes;
+    uint8_t client_alone[QLOCK_CLIENT_BYTES], calls_alone[QLOCK_CALLS_BYTES], out_alone[MOST];
+    memcpy(client_alone, own_client, sizeof client_alone);
+    memcpy(calls_alone, own_calls, sizeof calls_alone);
+    note(&c), note(&v), note(&k), note(&l), note(&since), note(&line), note(&out);
+    int32_t result, result_alone = QLOCK_DONE;
+    int sends = 0, writes_calls = 0, had = qlock_calls_may_end(own_calls, sizeof own_calls, stamp, &alone) == QLOCK_DONE && !alone;
+    alone = 7777;
+    /* half of the time what goes on: a request begins, gets a vote, and the lock is handed to a call */
+    switch (below(2) ? below(11) : phase == QLOCK_IDLE ? 7 : phase == QLOCK_ASKING ? 10 : 3) {
+    case 0:
+        call = "qlock_held_until";
+        result = qlock_held_until(c.bytes, c.n, v.bytes, v.n, k.bytes, k.n, l.bytes, l.n, SPAN, &end_at);
+        is_named(result, "02");
+        if (is_right && end_at != until) fail("another end", result);
+        break;
+    case 1: {
+        uint32_t doubtful = 7777;
+        call = "qlock_held_is_doubtful";
+        result = qlock_held_is_doubtful(c.bytes, c.n, v.bytes, v.n, k.bytes, k.n, l.bytes, l.n, at, since.n / 8, SPAN, own_now, &doubtful);
+        is_named(result, "02");
+        if (is_right && (doubtful > 1 || (doubtful && phase == QLOCK_IDLE) || (doubtful && counts))) fail("doubt", result);
+        call = "qlock_held_next";
+        int32_t next = qlock_held_next(c.bytes, c.n, v.bytes, v.n, k.bytes, k.n, l.bytes, l.n, at, since.n / 8, SPAN, own_now, &got);
+        if (next != result) fail("refused", next);
+        if (!is_right) break;
+        result_alone = qlock_calls_next(calls_alone, sizeof calls_alone, (uint32_t)phase, stamp, (uint32_t)counts, doubtful, &alone);
+        break;
+    }
+    case 2:
+        call = "qlock_held_spoiled";
+        result = qlock_held_spoiled(c.bytes, c.n, v.bytes, v.n, k.bytes, k.n, &got);
+        is_named(result, "02");
+        if (is_right) result_alone = qlock_calls_spoiled(calls_alone, sizeof calls_alone, (uint32_t)phase, stamp, &alone);
+        break;
+    case 3:
+    case 4:
+        call = "qlock_held_hand";
+        result = qlock_held_hand(c.bytes, c.n, v.bytes, v.n, k.bytes, k.n, l.bytes, l.n, SPAN, own_now, &end_at);
+        is_named(result, "02");
+        writes_calls = result == QLOCK_DONE;
+        if (!is_right) break;
+        result_alone = qlock_calls_hands(calls_alone, sizeof calls_alone, (uint32_t)phase, stamp, (uint32_t)counts, &alone);
+        if (end_at != (alone ? until : 0)) fail("up to another end", result);
+        got = alone;
+        break;
+    case 5:
+        call = "qlock_held_wants";
+        asked = below(2);
+        result = qlock_held_wants(c.bytes, c.n, v.bytes, v.n, k.bytes, k.n, (uint32_t)asked, &got);
+        is_named(result, "02");
+        writes_calls = result == QLOCK_DONE;
+        if (is_right) result_alone = qlock_calls_wants(calls_alone, sizeof calls_alone, (uint32_t)phase, stamp, (uint32_t)asked, &alone);
+        break;
+    case 6:
+        call = "qlock_held_refuses_tries";
+        result = qlock_held_refuses_tries(c.bytes, c.n, v.bytes, v.n, k.bytes, k.n, &got);
+        is_named(result, "02");
+        writes_calls = result == QLOCK_DONE;
+        if (is_right) result_alone = qlock_calls_refuses_tries(calls_alone, sizeof calls_alone, (uint32_t)phase, stamp, &alone);
+        break;
+    case 7:
+        call = "qlock_held_ask";
+        result = qlock_held_ask(c.bytes, c.n, v.bytes, v.n, k.bytes, k.n, asked, out.bytes, out.n, &written);
+        is_named(result, "012458");
+        sends = 1;
+        if (is_right) result_alone = qlock_client_ask(client_alone, sizeof client_alone, asked, out_alone, out.n, &written_alone);
+        break;
+    case 8:
+        call = "qlock_held_leave";
+        result = qlock_held_leave(c.bytes, c.n, v.bytes, v.n, k.bytes, k.n, out.bytes, out.n, &written);
+        is_named(result, "02456");
+        sends = 1;
+        if (is_right && had) result_alone = QLOCK_BUSY;
+        else if (is_right) result_alone = qlock_client_leave(client_alone, sizeof client_alone, out_alone, out.n, &written_alone);
+        break;
+    case 9:
+        call = "qlock_held_give_up";
+        result = qlock_held_give_up(c.bytes, c.n, v.bytes, v.n, k.bytes, k.n, out.bytes, out.n, &written);
+        is_named(result, "02457");
+        sends = 1;
+        if (is_right && had) result_alone = QLOCK_BUSY;
+        else if (is_right) result_alone = qlock_client_give_up(client_alone, sizeof client_alone, out_alone, out.n, &written_alone);
+        break;
+    default:
+        call = "qlock_held_take";
+        result = qlock_held_take(c.bytes, c.n, v.bytes, v.n, k.bytes, k.n, l.bytes, l.n, SPAN, own_now, 0, below(20) == 0, 0, line.bytes,
+                                 line.n, out.bytes, out.n, &written, &entered);
+        is_named(result, "0234");
+        sends = 1;
+        if (!is_right) break;
+        result_alone = qlock_client_take(client_alone, sizeof client_alone, line.bytes, line.n, out_alone, out.n, &written_alone, &entered_alone);
+        if (entered != entered_alone) fail("entered", result);
+    }
+    if (is_right) {
+        if (result != result_alone) fail("another result than that of its part", result);
+        if (got != alone) fail("another number than that of its part", result);
+        if (memcmp(c.bytes, client_alone, c.n) != 0) fail("another client than that of its part", result);
+        if (memcmp(k.bytes, calls_alone, k.n) != 0) fail("other calls than those of its part", result);
+        if (written != written_alone || (written != 7777 && memcmp(out.bytes, out_alone, written) != 0)) fail("other lines than those of its part", result);
+    }
+    int is_sent = sends && result == QLOCK_DONE;
+    if (is_sent) are_lines(&out, written, result);
+    else if (written != 7777) fail("wrote a count", result);
+    if (is_right && result == QLOCK_DONE) {
+        memcpy(own_client, c.bytes, sizeof own_client);
+        memcpy(own_votes, v.bytes, sizeof own_votes);
+        memcpy(own_calls, k.bytes, sizeof own_calls);
+    }
+    end(&c, is_sent, result), end(&v, is_sent, result), end(&k, writes_calls, result), end(&l, 0, result);
+    end(&since, 0, result), end(&line, 0, result), end(&out, is_sent, result);
+}
+
 int main(int argc, char **argv) {
     long rounds = argc > 1 ? atol(argv[1]) : 200000;
     if (argc > 2) seed ^= strtoull(argv[2], NULL, 10);
     for (long i = 0; i < rounds; i++) {
         if (i % 500 == 0) fresh();
+        if (i % 500 == 0) fresh_lock();
         one_call();
         if (i % 4 == 0) one_lease();
         if (i % 8 == 0) one_quorum();
         if (i % 8 == 4) one_choice();
+        if (i % 2 == 1) one_lock();
         if (i % 4 == 0) one_header();
         if (i % 4 == 2) one_control();
     }

@@ -2,6 +2,7 @@ package locks
 
 import (
 	"errors"
+	"fmt"
 	"math/bits"
 	"testing"
 	"time"
@@ -43,19 +44,50 @@ func turns(c *Client, most time.Duration, holds func() bool) bool {
 
 // age lets the newest heartbeat that a voter acknowledged have left a TTL ago. So do the votes that are taken of it: one whose LOCKED
 // came twice keeps what counted when the second one came.
-func age(c *Client, voter int) {
-	p := &c.peers[voter]
-	p.lease = qlock.NewLease()
-	p.lease.Hears(p.said)
-	p.lease.Renews(p.said, uptime()-c.cluster.TTL.Duration)
+func age(t *testing.T, c *Client, voter int) {
+	t.Helper()
+	then, said := uptime()-c.cluster.TTL.Duration, c.peers[voter].said
+	c.leases.Of[voter] = qlock.NewLease()
+	c.leases.Of[voter].Hears(said)
+	c.leases.Of[voter].Renews(said, then)
 	for l := range c.busy {
-		if grant := l.grantOf(voter); grant > 0 {
-			vote := qlock.NewVote(l.shown.Stamp - 1)
-			vote.Asks(l.shown.Stamp)
-			vote.Takes(&p.lease, qlock.Granted{Incarnation: p.said, Stamp: l.shown.Stamp, Grant: grant}, c.leases().Span, uptime())
-			*l.kept.Of(voter) = vote
+		if l.Grant(voter) > 0 {
+			takeAgain(t, c, l, then)
 		}
 	}
+}
+
+// takeAgain lets a lock be one whose LOCKEDs came at this time, by the leases as they are. If somebody has it, it was handed out then.
+func takeAgain(t *testing.T, c *Client, l *lock, then time.Duration) {
+	t.Helper()
+	stamp, number := l.shown.Stamp, c.header.Number
+	again, err := qlock.NewLockClient(uint8(number), stamp-1)
+	if err != nil {
+		t.Fatal(err)
+	}
+	if l.held != nil {
+		again.Wants(false)
+	}
+	for _, w := range l.queue {
+		again.Wants(w.tries)
+	}
+	if _, err := again.Ask(l.shown.Quorum, nil); err != nil {
+		t.Fatal(err)
+	}
+	for voter := range c.peers {
+		grant := l.Grant(voter)
+		if grant == 0 {
+			continue
+		}
+		line := fmt.Sprintf("locked %d %d %d %d 0", voter, number, stamp, grant)
+		if _, _, err := again.Take(&c.leases, c.peers[voter].said, then, []byte(line), nil); err != nil {
+			t.Fatal(err)
+		}
+	}
+	if l.held != nil && again.Hand(&c.leases, then) == 0 {
+		t.Fatal("the lock is not handed out")
+	}
+	l.LockClient = again
 }
 
 // A client that stood still takes the last vote after another one is in doubt. It hands nothing out, and asks anew.
@@ -69,18 +101,18 @@ func TestDoubtfulVoteIsNotHandedOut(t *testing.T) {
 	}
 	c.flush()
 	l := c.locks["x"]
-	if !turns(c, 5*time.Second, func() bool { return c.votes(l) != 0 }) || bits.OnesCount64(c.votes(l)) != 1 {
-		t.Fatalf("votes of %b", c.votes(l))
+	if !turns(c, 5*time.Second, func() bool { return l.Votes() != 0 }) || bits.OnesCount64(l.Votes()) != 1 {
+		t.Fatalf("votes of %b", l.Votes())
 	}
-	voter := bits.TrailingZeros64(c.votes(l))
-	before := c.peers[voter].lease
-	age(c, voter)
+	voter := bits.TrailingZeros64(l.Votes())
+	before := c.leases.Of[voter]
+	age(t, c, voter)
 	stamp := l.shown.Stamp
 	turns(c, 300*time.Millisecond, func() bool { return len(call.got) > 0 })
 	if len(call.got) > 0 || l.held != nil {
 		t.Fatal("a lock is handed out by a vote that may be somebody else's")
 	}
-	c.peers[voter].lease = before
+	c.leases.Of[voter] = before
 	c.round(time.Now())
 	c.flush()
 	if !turns(c, 5*time.Second, func() bool { return len(call.got) > 0 }) || l.shown.Stamp <= stamp {
@@ -117,7 +149,7 @@ func TestUnlockSaysThatItIsLost(t *testing.T) {
 	held := take(t, c, "x")
 	err := c.call(func() error {
 		for v := range c.peers {
-			age(c, v)
+			age(t, c, v)
 		}
 		return c.unlock(held)
 	})

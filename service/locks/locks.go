@@ -22,7 +22,6 @@ import (
 
 	"calvundek.example/service/internal/claims"
 	"calvundek.example/service/internal/config"
-	"calvundek.example/service/internal/votes"
 	"calvundek.example/service/internal/wire"
 	"calvundek.example/service/qlock"
 	"calvundek.example/service/transport"
@@ -110,10 +109,9 @@ type Client struct {
 	session
 	plans
 	watch  *watch
-	known  votes.Leases // what it knows of its leases
-	last   time.Time    // when the loop last went round
-	missed uint64       // the voters that were silent then
-	back   uint64       // how often the connection had come back by then
+	last   time.Time // when the loop last went round
+	missed uint64    // the voters that were silent then
+	back   uint64    // how often the connection had come back by then
 
 	followed time.Time // when voters were asked last which plans there are
 	locks    map[string]*lock
@@ -220,7 +218,7 @@ func newNamed(cluster *config.Cluster, c Config, name string, own *claims.Number
 		waits: newWaits(), config: c, carrier: c.Transport, close: func() {},
 		calls: make(chan func()), ended: make(chan struct{}), stopped: make(chan struct{}), locks: map[string]*lock{}, busy: map[*lock]struct{}{},
 		asker: asker{questions: map[uint64]*question{}}, turns: map[*Held]bool{}}
-	client.session, client.known = newSession(cluster, name, own), leasesOf(client)
+	client.session = newSession(cluster, name, own)
 	if !c.NoNote {
 		client.ownNote = ownNote(c.Note)
 	}

@@ -47,8 +47,8 @@ func newScene(t *testing.T) *scene {
 	one := bits.TrailingZeros64(l.shown.Quorum)
 	s.missed = bits.TrailingZeros64(l.shown.Quorum &^ (1 << one))
 	s.message(came(s.Client, one, s.says(one, s.locked("x", one))))
-	if bits.OnesCount64(s.votes(l)) != 1 {
-		t.Fatalf("votes of %b", s.votes(l))
+	if bits.OnesCount64(l.Votes()) != 1 {
+		t.Fatalf("votes of %b", l.Votes())
 	}
 	s.flush()
 	for i, kind := range []wire.AskKind{wire.AskWho, wire.AskNames} {
@@ -92,14 +92,14 @@ type view struct {
 func (s *scene) view(sender int) view {
 	v := view{number: s.header.Number, epoch: s.header.Epoch, locks: len(s.locks), handed: len(s.call.got)}
 	if l := s.locks["x"]; l != nil {
-		v.votes = s.votes(l)
+		v.votes = l.Votes()
 	}
 	for i, p := range s.peers[:3] {
 		known := &v.others
 		if i == sender {
 			known = &v.sender
 		}
-		known[i] = fmt.Sprint(p.identity, p.run, p.start, p.mark, p.lease, p.stamps, p.requests, p.closed, p.noted,
+		known[i] = fmt.Sprint(p.identity, p.run, p.start, p.mark, s.leases.Of[i], p.stamps, p.requests, p.closed, p.noted,
 			*s.asked[0].of(i), *s.asked[1].of(i), s.asked[0].said["x"][i], s.asked[1].said["x"][i])
 	}
 	return v

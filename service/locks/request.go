@@ -3,11 +3,9 @@ package locks
 import (
 	"bytes"
 	"fmt"
-	"math/bits"
 	"time"
 
 	"calvundek.example/service/internal/remind"
-	"calvundek.example/service/internal/votes"
 	"calvundek.example/service/internal/wire"
 	"calvundek.example/service/qlock"
 	"calvundek.example/service/transport"
@@ -17,20 +15,17 @@ import (
 // session used.
 const mostIdle = 4096
 
-// lock is one lock, as this client sees it.
+// lock is one lock, as this client sees it. What it asks, which votes count, which call has it and what is next for the calls are calls of the
+// proved library.
 type lock struct {
-	*qlock.Client
+	*qlock.LockClient
 	name  string
-	calls qlock.Calls // how many calls wait, which one has it, and what is next for them
-	queue []*waiter   // those that wait, first come, first served
-	held  *Held       // the one that has it
+	queue []*waiter // the calls that wait, first come, first served
+	held  *Held     // the one that has it
 	timer remind.Timer
 	asked time.Time
 	shown qlock.Shown
 	plan  uint64 // the number of the plan by which it asked last
-
-	kept  votes.Kept    // up to when its votes count
-	until time.Duration // the first end of those of its quorum, when that was last looked at, by uptime
 
 	holder Holder // who has it, as a voter said to this request
 
@@ -55,13 +50,13 @@ func (c *Client) find(name string) (*lock, error) {
 	if len(c.locks) >= mostIdle+len(c.busy) {
 		c.forget()
 	}
-	client, err := qlock.ClientAnew(uint8(c.header.Number), qlock.MaxStamp, c.used)
+	client, err := qlock.NewLockClient(uint8(c.header.Number), c.used)
 	if err != nil {
 		return nil, err
 	}
-	l := &lock{Client: client, name: name, calls: qlock.NewCalls(c.used), kept: votes.New(c.used)}
+	l := &lock{LockClient: client, name: name}
 	if c.draining {
-		l.calls.Closes()
+		l.Closes()
 	}
 	c.locks[name] = l
 	return l, nil
@@ -88,7 +83,7 @@ func (c *Client) enqueue(name string, w *waiter) error {
 	if err != nil {
 		return err
 	}
-	switch l.calls.Wants(l.shown, w.tries) {
+	switch l.Wants(w.tries) {
 	case qlock.CallTaken:
 	case qlock.CallClosed:
 		return ErrClosed
@@ -121,7 +116,7 @@ func (c *Client) dequeue(name string, w *waiter) {
 	for i, other := range l.queue {
 		if other == w {
 			l.queue = append(l.queue[:i:i], l.queue[i+1:]...)
-			l.calls.Unwants(w.tries)
+			l.Unwants(w.tries)
 			break
 		}
 	}
@@ -131,7 +126,7 @@ func (c *Client) dequeue(name string, w *waiter) {
 // unlock gives a lock back. A holder that may have lost it hears so, also if no round noticed it yet.
 func (c *Client) unlock(h *Held) error {
 	l := h.lock
-	if l.calls.MayEnd(h.stamp) { // h does not have it under its request
+	if l.MayEnd(h.stamp) { // h does not have it under its request
 		return ErrNotHeld
 	}
 	c.lapse()
@@ -139,7 +134,7 @@ func (c *Client) unlock(h *Held) error {
 		c.lose(h)
 	}
 	var err error
-	if _, wasLost := l.calls.Unlocks(h.stamp); wasLost {
+	if _, wasLost := l.Unlocks(h.stamp); wasLost {
 		err = ErrLapsed
 	}
 	l.held = nil
@@ -155,24 +150,15 @@ func (c *Client) unlock(h *Held) error {
 // lose closes Lost of a lock that is still held.
 func (c *Client) lose(h *Held) {
 	h.lapse()
-	if h.lock.calls.Loses() {
+	if h.lock.Loses() {
 		c.stats.Lost++
 		c.note("lost", "lock=%s", h.lock.name)
 	}
 }
 
-// nextOf returns what is next for the calls of a lock.
-func (c *Client) nextOf(l *lock) qlock.Next {
-	var counts, isDoubtful bool
-	if l.shown.Phase == qlock.Inside && l.held == nil {
-		counts, isDoubtful = c.counts(l), c.isDoubtful(l)
-	}
-	return l.calls.Next(l.shown, counts, isDoubtful)
-}
-
 // pump does what a lock needs next.
 func (c *Client) pump(l *lock) {
-	switch c.nextOf(l) {
+	switch l.Next(&c.leases, uptime()) {
 	case qlock.Ask:
 		c.ask(l)
 	case qlock.GiveUp:
@@ -201,14 +187,15 @@ func (c *Client) hand(l *lock) {
 		c.leave(l)
 		return
 	}
-	if !l.calls.Hands(l.shown, c.counts(l)) {
+	until := l.Hand(&c.leases, uptime())
+	if until == 0 {
 		return
 	}
 	w := l.queue[0]
 	l.queue = l.queue[1:]
 	l.held = &Held{client: c, lock: l, quorum: l.shown.Quorum, stamp: l.shown.Stamp, token: pass, lost: make(chan struct{}),
 		note: w.note, noteDue: map[int]due{}}
-	l.held.until.Store(int64(l.until))
+	l.held.until.Store(int64(until))
 	c.watch.begin(l.held)
 	c.waits.Observe(time.Since(w.since).Seconds())
 	c.sayAboutToAll(l.held)
@@ -222,13 +209,13 @@ func (c *Client) refuse(l *lock, why error) {
 		close(w.got)
 	}
 	l.queue = nil
-	l.calls.Empties()
+	l.Empties()
 }
 
 // ask starts a request, if a quorum may be asked under its stamp. If not, it reserves more, and
 // pump comes again. A lock that has no stamp left fails alone.
 func (c *Client) ask(l *lock) {
-	now, before := time.Now(), *l.Client
+	now, before := time.Now(), *l.LockClient
 	full := c.without(l, now)
 	quorum, found := c.nextQuorum(c.avoided(now), full)
 	if !found {
@@ -237,22 +224,21 @@ func (c *Client) ask(l *lock) {
 	}
 	stamp, lines, err := c.begins(l, quorum)
 	if err == nil && !c.mayAsk(quorum, stamp) {
-		*l.Client = before // these voters may lag behind others
+		*l.LockClient = before // these voters may lag behind others
 		quorum, _ = c.nextQuorum(c.avoided(now)|^c.owners(stamp), full)
 		stamp, lines, err = c.begins(l, quorum)
 	}
 	switch {
 	case err != nil:
-		*l.Client = before
+		*l.LockClient = before
 		c.refuse(l, fmt.Errorf("%s: %w", l.name, err))
 	case !c.mayAsk(quorum, stamp):
-		*l.Client = before
+		*l.LockClient = before
 		c.reserve(stamp, now)
 	default:
 		c.ticket++
 		c.stats.Requests++
 		l.asked, l.plan, l.holder = now, c.generation, Holder{}
-		l.kept.Asks(quorum, stamp)
 		c.send(l, lines, now)
 		c.use(stamp, now)
 	}
@@ -278,11 +264,11 @@ func (c *Client) full(voter int, name string, stamp uint64) {
 // begins begins a request of a lock, under a stamp above all bases, and returns the stamp and what
 // to send.
 func (c *Client) begins(l *lock, quorum uint64) (stamp uint64, lines []byte, err error) {
-	before := *l.Client
+	before := *l.LockClient
 	if stamp, lines, err = c.tries(l, quorum); err != nil || stamp > c.floor() {
 		return stamp, lines, err
 	}
-	*l.Client = before
+	*l.LockClient = before
 	if err := l.Raise(c.floor()); err != nil {
 		return 0, nil, err
 	}
@@ -295,8 +281,7 @@ func (c *Client) tries(l *lock, quorum uint64) (stamp uint64, lines []byte, err 
 		return 0, nil, err
 	}
 	c.room = lines
-	shown, err := l.Shows()
-	return shown.Stamp, lines, err
+	return l.Shows().Stamp, lines, nil
 }
 
 // nextQuorum returns the quorum of the next ticket that has none of these voters. If there is none it returns that of the next one without
@@ -312,7 +297,6 @@ func (c *Client) nextQuorum(avoided, full uint64) (quorum uint64, found bool) {
 
 func (c *Client) leave(l *lock) {
 	if lines, err := l.Leave(c.room[:0]); err == nil {
-		l.kept.Ends(l.shown.Stamp)
 		c.room = lines
 		c.send(l, lines, time.Now())
 	}
@@ -320,7 +304,6 @@ func (c *Client) leave(l *lock) {
 
 func (c *Client) giveUp(l *lock) {
 	if lines, err := l.GiveUp(c.room[:0]); err == nil {
-		l.kept.Ends(l.shown.Stamp)
 		c.room = lines
 		c.send(l, lines, time.Now())
 	}
@@ -340,8 +323,6 @@ func (c *Client) send(l *lock, lines []byte, now time.Time) {
 		if said := wire.ReadLine(lines[:end]); said.To >= 0 && said.To < len(c.peers) {
 			c.out[said.To] = append(append(append(c.out[said.To], l.name...), ' '), lines[:end-1]...)
 			switch isRequest := string(said.Word) == "request"; {
-			case string(said.Word) == "relinquish":
-				l.kept.GivesBack(said.To, said.Stamp) // a FAIL may have several votes given back
 			case isRequest && l.shown.Phase == qlock.Inside:
 				c.out[said.To] = append(c.out[said.To], " inside"...)
 			case isRequest && l.isTried():
@@ -356,11 +337,7 @@ func (c *Client) send(l *lock, lines []byte, now time.Time) {
 
 // look looks at what a client is doing, and notes what there is to remind of: its request, or that it is inside.
 func (c *Client) look(l *lock, now time.Time) {
-	shown, err := l.Shows()
-	if err != nil {
-		c.drop(l, err)
-		return
-	}
+	shown := l.Shows()
 	if shown.Phase != l.shown.Phase {
 		l.timer.Of(0, now)
 	}
@@ -377,16 +354,6 @@ func (c *Client) look(l *lock, now time.Time) {
 	l.timer.Of(shown.Stamp, now)
 }
 
-// drop forgets a lock whose automaton can't be read, and ends what waits for it or has it.
-func (c *Client) drop(l *lock, why error) {
-	c.refuse(l, fmt.Errorf("%s: %w", l.name, why))
-	if l.held != nil {
-		c.lose(l.held)
-	}
-	delete(c.locks, l.name)
-	delete(c.busy, l)
-}
-
 // take takes a line of a voter.
 func (c *Client) take(voter int, name, line []byte) {
 	l, err := c.find(string(name))
@@ -394,22 +361,17 @@ func (c *Client) take(voter int, name, line []byte) {
 		c.stats.Refused++
 		return
 	}
-	said, wasInside := wire.ReadLine(line), l.shown.Phase == qlock.Inside
+	said := wire.ReadLine(line)
 	if said.Stamp == l.shown.Stamp && string(said.Word) == "fail" && l.shown.Phase == qlock.Asking {
 		defer c.refuseTries(l) // once the line is taken
 	}
-	lines, _, err := l.Take(line, c.room[:0])
+	lines, _, err := l.Take(&c.leases, c.peers[voter].said, uptime(), line, c.room[:0])
 	if err != nil {
 		c.stats.Refused++
 		return
 	}
 	c.room = lines
-	if string(said.Word) == "locked" {
-		granted := qlock.Granted{Incarnation: c.peers[voter].said, Stamp: said.Stamp, Grant: said.Grant, Renews: wasInside}
-		if l.kept.Takes(voter, granted, c.leases(), uptime()); l.held != nil {
-			c.counts(l)
-		}
-	}
+	c.noteEnd(l)
 	c.send(l, lines, time.Now())
 	c.pump(l)
 }
@@ -432,7 +394,7 @@ func (l *lock) isTried() bool {
 
 // refuseTries lets a call fail that only tries to take a lock which somebody else has. Others wait on.
 func (c *Client) refuseTries(l *lock) {
-	if !l.calls.RefusesTries(l.shown) {
+	if !l.RefusesTries() {
 		return
 	}
 	w := l.queue[0] // a call that only tries comes before all others
@@ -454,7 +416,7 @@ func (c *Client) gone(name string, stamp uint64) {
 
 // spoil does what is to be done if a vote may be somebody else's.
 func (c *Client) spoil(l *lock) {
-	switch l.calls.Spoiled(l.shown) {
+	switch l.Spoiled() {
 	case qlock.Lose:
 		c.lose(l.held)
 	case qlock.GiveUp:
@@ -468,55 +430,17 @@ func (c *Client) spoil(l *lock) {
 // lapse ends the requests that have a vote of a voter which may have let it go.
 func (c *Client) lapse() {
 	for l := range c.busy {
-		if l.shown.Phase != qlock.Idle && c.isDoubtful(l) {
+		if l.IsDoubtful(&c.leases, uptime()) {
 			c.spoil(l)
 		}
 	}
 }
 
-// leases has the leases of the voters.
-func (c *Client) leases() votes.Leases { return c.known }
-
-// leasesOf has the leases of the voters of a client.
-func leasesOf(c *Client) votes.Leases {
-	return votes.Leases{
-		Of:    func(voter int) *qlock.Lease { return &c.peers[voter].lease },
-		Since: func(voter int) time.Duration { return c.peers[voter].since },
-		Span:  leaseOf(c.cluster.TTL.Duration),
-	}
-}
-
-// counts returns whether all votes of a lock's quorum count now. A holder has it up to the first end of them.
-func (c *Client) counts(l *lock) bool {
-	l.until = l.kept.End(l.shown.Quorum, c.leases())
+// noteEnd notes up to when the holder of a lock has it: the first end of the votes of its quorum.
+func (c *Client) noteEnd(l *lock) {
 	if l.held != nil {
-		l.held.until.Store(int64(l.until))
+		l.held.until.Store(int64(l.Until(&c.leases)))
 	}
-	return uptime() < l.until
-}
-
-// isDoubtful returns whether a lock has the vote of a voter which may have let it go.
-func (c *Client) isDoubtful(l *lock) bool {
-	return l.kept.IsDoubtful(c.leases(), uptime())
-}
-
-// votes returns the voters whose votes a client has.
-func (c *Client) votes(l *lock) (mask uint64) {
-	for rest := l.shown.Quorum; rest != 0; rest &= rest - 1 {
-		if voter := bits.TrailingZeros64(rest); l.grantOf(voter) > 0 {
-			mask |= 1 << voter
-		}
-	}
-	return mask
-}
-
-// grantOf returns the number of the grant by which a client has the vote of a voter, 0 if it does not have it.
-func (l *lock) grantOf(voter int) uint64 {
-	grant, err := l.Grant(uint8(voter))
-	if err != nil {
-		return 0
-	}
-	return grant
 }
 
 // round does what time asks for: heartbeats, reminders, and other quorums in place of those with a silent voter.
@@ -594,7 +518,7 @@ func (l *lock) asks(voters uint64) bool {
 
 // waiting returns the request of a lock.
 func (c *Client) waiting(l *lock, now time.Time) qlock.Waiting {
-	return qlock.Waiting{Quorum: l.shown.Quorum, Votes: c.votes(l), Asked: since(l.asked, now)}
+	return qlock.Waiting{Quorum: l.shown.Quorum, Votes: l.Votes(), Asked: since(l.asked, now)}
 }
 
 // remind repeats the requests that wait for a vote, or shows that the holder is there.

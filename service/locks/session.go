@@ -66,9 +66,7 @@ type peer struct {
 	asked    time.Time                // when it was asked for its plan
 	awaited  bool                     // it was asked, and did not send it yet
 	heard    time.Time                // when a message came
-	lease    qlock.Lease              // up to when its votes count
 	said     qlock.Incarnation        // the latest one that it said
-	since    time.Duration            // when it said that first, by uptime
 	answers  bool                     // it acknowledged a heartbeat, or the claim, since then
 	sent     map[uint64]time.Duration // when heartbeats left that it did not acknowledge, by uptime
 	accepts  bool                     // it accepted this session's claim of its number
@@ -90,8 +88,10 @@ type peer struct {
 
 // session is a client's number, and what the voters say of it.
 type session struct {
-	header   wire.Header // also what is to be reserved
-	peers    []peer
+	header wire.Header // also what is to be reserved
+	peers  []peer
+	leases qlock.Leases // the leases of the voters, and since when their incarnations are known, by uptime
+
 	beat     time.Time // when the last heartbeat left
 	used     uint64    // no stamp that this number used so far is above it
 	block    uint64    // how many stamps were reserved last
@@ -120,8 +120,8 @@ type session struct {
 }
 
 func newSession(cluster *config.Cluster, name string, own *claims.Numbers) session {
-	s := session{asked: -1, claims: own, unused: time.Now(), drained: make(chan struct{}), header: wire.Header{Cluster: cluster.ID, Kind: wire.FromClient, Name: name,
-		Level: level.Newest}}
+	s := session{asked: -1, claims: own, unused: time.Now(), drained: make(chan struct{}), leases: qlock.NewLeases(leaseOf(cluster.TTL.Duration)),
+		header: wire.Header{Cluster: cluster.ID, Kind: wire.FromClient, Name: name, Level: level.Newest}}
 	s.meet(len(cluster.Names()))
 	return s
 }
@@ -129,7 +129,8 @@ func newSession(cluster *config.Cluster, name string, own *claims.Numbers) sessi
 // meet lets a session have at least so many voters. New ones were heard just now.
 func (s *session) meet(voters int) {
 	for len(s.peers) < voters {
-		s.peers = append(s.peers, peer{sent: map[uint64]time.Duration{}, heard: time.Now(), stamps: qlock.NewStamps(), lease: qlock.NewLease(), since: uptime()})
+		s.leases.Since[len(s.peers)] = uptime()
+		s.peers = append(s.peers, peer{sent: map[uint64]time.Duration{}, heard: time.Now(), stamps: qlock.NewStamps()})
 	}
 }
 
@@ -199,7 +200,7 @@ func (c *Client) abandon() {
 	for v := range c.peers {
 		c.peers[v].sent = map[uint64]time.Duration{}
 		c.peers[v].forget()
-		c.peers[v].forgetLease()
+		c.forgetLease(v)
 		c.out[v] = c.out[v][:0]
 		c.tell(v, qlock.ClientSays{Kind: qlock.Drop, Number: c.asked, First: epoch})
 	}
@@ -280,7 +281,7 @@ func (c *Client) claim(ctx context.Context) error {
 	c.refused, c.block, c.left = false, firstBlock, uptime()
 	for v := range c.peers {
 		c.peers[v].forget()
-		c.peers[v].forgetLease()
+		c.forgetLease(v)
 	}
 	short, cancel := context.WithTimeout(ctx, brief)
 	defer cancel()
@@ -359,8 +360,9 @@ func (p *peer) forget() {
 }
 
 // forgetLease forgets what a voter said to the session before, for another one.
-func (p *peer) forgetLease() {
-	p.lease, p.said, p.since, p.answers = qlock.NewLease(), qlock.Incarnation{}, uptime(), false
+func (s *session) forgetLease(voter int) {
+	s.leases.Of[voter], s.leases.Since[voter] = qlock.NewLease(), uptime()
+	s.peers[voter].said, s.peers[voter].answers = qlock.Incarnation{}, false
 }
 
 // use notes that a stamp is used. It reserves more before the block is spent.
@@ -410,7 +412,7 @@ func (c *Client) noteStamps(voter int, base, reserved uint64) {
 // isBelow returns whether a request waits for a voter that does not take it any more: its stamp is not above the base there. Such a
 // voter started from an older copy of its state, and got to know this session anew.
 func (c *Client) isBelow(l *lock, voter int) bool {
-	return l.shown.Phase == qlock.Asking && l.shown.Stamp <= c.peers[voter].base && (l.shown.Quorum&^c.votes(l))>>voter&1 == 1
+	return l.shown.Phase == qlock.Asking && l.shown.Stamp <= c.peers[voter].base && (l.shown.Quorum&^l.Votes())>>voter&1 == 1
 }
 
 func greatest(a, b uint64) uint64 {
@@ -642,7 +644,7 @@ func (c *Client) restarted(voter int) {
 	}
 	for l := range c.busy {
 		switch {
-		case l.shown.Phase == qlock.Idle || c.votes(l)>>voter&1 == 0:
+		case l.shown.Phase == qlock.Idle || l.Votes()>>voter&1 == 0:
 		case l.shown.Phase == qlock.Inside:
 			c.remind(l, now)
 		default:
@@ -661,12 +663,12 @@ func (c *Client) noteIncarnation(h wire.Header) {
 		return
 	}
 	for l := range c.busy {
-		l.kept.Of(h.Number).Keeps(&p.lease)
+		l.Keeps(h.Number, &c.leases)
 	}
-	if p.stale = !p.lease.Hears(said); p.stale {
+	if p.stale = !c.leases.Of[h.Number].Hears(said); p.stale {
 		return
 	}
-	p.said, p.since, p.answers = said, uptime(), false
+	p.said, p.answers, c.leases.Since[h.Number] = said, false, uptime()
 	if said.Run == before.Run && said.Start == before.Start {
 		c.spoilVotes(h.Number)
 	}
@@ -678,7 +680,7 @@ func (c *Client) noteIncarnation(h wire.Header) {
 // spoilVotes ends all requests that have the vote of a voter.
 func (c *Client) spoilVotes(voter int) {
 	for l := range c.busy {
-		if l.shown.Phase != qlock.Idle && c.votes(l)>>voter&1 == 1 {
+		if l.shown.Phase != qlock.Idle && l.Votes()>>voter&1 == 1 {
 			c.spoil(l)
 		}
 	}
@@ -688,15 +690,16 @@ func (c *Client) spoilVotes(voter int) {
 func (c *Client) acknowledge(voter int, left time.Duration) {
 	p := &c.peers[voter]
 	isFirst := !p.answers
-	p.lease.Renews(p.said, left)
+	c.leases.Of[voter].Renews(p.said, left)
 	p.answers = true
 	for l := range c.busy {
-		switch {
+		switch isAsked := l.shown.Quorum>>voter&1 == 1; {
 		case isFirst && l.shown.Phase == qlock.Idle:
 			c.pump(l) // this voter may be asked now
-		case l.shown.Phase == qlock.Idle || l.shown.Quorum>>voter&1 == 0:
-		case c.counts(l) && l.shown.Phase == qlock.Inside && l.held == nil:
-			c.pump(l) // it waited for this
+		case isAsked && l.shown.Phase == qlock.Inside && l.held == nil:
+			c.pump(l) // it may have waited for this
+		case isAsked:
+			c.noteEnd(l)
 		}
 	}
 }
@@ -878,7 +881,7 @@ func (c *Client) takers() (mask uint64) {
 func (c *Client) drain() {
 	c.draining, c.idle = true, 0
 	for _, l := range c.locks {
-		l.calls.Closes()
+		l.Closes()
 	}
 	if c.looks {
 		c.isDrained()

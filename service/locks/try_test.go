@@ -92,7 +92,7 @@ func TestWhoTriesHearsOfWhoHas(t *testing.T) {
 	w := worlds.New(t, worlds.Majority, 20*time.Second)
 	held := take(t, func() *Client { c, _ := start(t, w); return c }(), "x")
 	c := still(t, w)
-	stamp, _, err := c.tries(&lock{Client: mustFind(t, c, "x").Client}, held.quorum)
+	stamp, _, err := c.tries(&lock{LockClient: mustFind(t, c, "x").LockClient}, held.quorum)
 	if err != nil {
 		t.Fatal(err)
 	}

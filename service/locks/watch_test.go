@@ -66,10 +66,7 @@ func TestAcknowledgementRevivesNothing(t *testing.T) {
 	voter := 0
 	for ; h.quorum>>voter&1 == 0; voter++ {
 	}
-	grant, err := h.lock.Grant(uint8(voter))
-	if err != nil {
-		t.Fatal(err)
-	}
+	grant := h.lock.Grant(voter)
 	stamp, seq := h.stamp, c.header.Seq
 	lapsed(c, voter, 1, fmt.Sprintf(". opened %d %d 0 4096 %d 1\n", c.header.Number, c.header.Epoch, seq))
 	if !h.over.Load() {
@@ -83,18 +80,18 @@ func TestAcknowledgementRevivesNothing(t *testing.T) {
 		t.Fatal(err)
 	}
 	asked := c.locks["x"].shown
-	lease := c.peers[voter].lease
+	lease := c.leases.Of[voter]
 	c.peers[voter].sent[seq+1] = uptime()
 	line := fmt.Sprintf("x locked %d %d %d %d %d\n", voter, c.header.Number, asked.Stamp, grant+1, stamp)
 	lapsed(c, voter, 0, line+fmt.Sprintf(". opened %d %d 0 4096 %d 1\n", c.header.Number, c.header.Epoch, seq+1))
-	if c.votes(c.locks["x"])>>voter&1 == 1 || c.peers[voter].lease != lease {
+	if c.locks["x"].Votes()>>voter&1 == 1 || c.leases.Of[voter] != lease {
 		t.Error("a word from before revives a vote")
 	}
-	if c.votes(c.locks["x"]) != 0 {
+	if c.locks["x"].Votes() != 0 {
 		t.Error("there are votes already")
 	}
 	if asked.Quorum>>voter&1 == 1 {
-		if lapsed(c, voter, 1, line); c.votes(c.locks["x"])>>voter&1 == 0 {
+		if lapsed(c, voter, 1, line); c.locks["x"].Votes()>>voter&1 == 0 {
 			t.Error("a new word gives no vote")
 		}
 	}
@@ -117,21 +114,21 @@ func TestLapsesOfAnotherPlan(t *testing.T) {
 func TestVoteOfTheStartBefore(t *testing.T) {
 	c, h := held(t)
 	voter := bits.TrailingZeros64(h.quorum)
-	start, until := c.peers[voter].start, h.lock.kept.Until(voter, c.leases())
+	start, until := c.peers[voter].start, h.lock.VoteUntil(voter, &c.leases)
 	acknowledged := func() string {
 		c.header.Seq++
 		c.peers[voter].sent[c.header.Seq] = uptime()
 		return fmt.Sprintf(". opened %d %d 0 4096 %d 1\n", c.header.Number, c.header.Epoch, c.header.Seq)
 	}
-	if started(c, voter, start+1, 0, acknowledged()); h.lock.kept.Until(voter, c.leases()) != until {
+	if started(c, voter, start+1, 0, acknowledged()); h.lock.VoteUntil(voter, &c.leases) != until {
 		t.Error("a voter that started again renews a vote that it may have given to somebody else")
 	}
 	if h.over.Load() {
 		t.Error("a lock is lost before its votes end")
 	}
-	grant := h.lock.grantOf(voter)
+	grant := h.lock.Grant(voter)
 	line := locked(c, h.lock, voter, grant+1)
-	if started(c, voter, start+1, 0, line+acknowledged()); h.lock.kept.Until(voter, c.leases()) <= until {
+	if started(c, voter, start+1, 0, line+acknowledged()); h.lock.VoteUntil(voter, &c.leases) <= until {
 		t.Error("a vote that the voter gave again is not renewed")
 	}
 }
@@ -148,13 +145,13 @@ func TestNumberInTheLineCounts(t *testing.T) {
 	if lapsed(c, other, 0, locked(c, l, other, 1)); len(call.got) == 0 {
 		t.Fatal("the lock is not held")
 	}
-	start, until := c.peers[voter].start, l.kept.Until(voter, c.leases())
+	start, until := c.peers[voter].start, l.VoteUntil(voter, &c.leases)
 	again := func(grant uint64) time.Duration {
 		c.header.Seq++
 		c.peers[voter].sent[c.header.Seq] = uptime()
 		started(c, voter, start+1, 0, locked(c, l, voter, grant)+
 			fmt.Sprintf(". opened %d %d 0 4096 %d 1\n", c.header.Number, c.header.Epoch, c.header.Seq))
-		return l.kept.Until(voter, c.leases())
+		return l.VoteUntil(voter, &c.leases)
 	}
 	if again(1) > until {
 		t.Error("a vote is renewed by a number that was given back")
@@ -168,11 +165,11 @@ func TestNumberInTheLineCounts(t *testing.T) {
 func TestLaterClaimAcknowledgesNothing(t *testing.T) {
 	c, h := held(t)
 	voter := bits.TrailingZeros64(h.quorum)
-	c.peers[voter].forgetLease()
+	c.forgetLease(voter)
 	line := fmt.Sprintf(". claimed %d %d 0 4096\n", c.header.Number, c.header.Epoch)
 	lapsed(c, voter, 0, fmt.Sprintf(". unknown %d %d\n", c.header.Number, c.header.Epoch))
-	lease := c.peers[voter].lease
-	if lapsed(c, voter, 0, line); c.peers[voter].lease != lease {
+	lease := c.leases.Of[voter]
+	if lapsed(c, voter, 0, line); c.leases.Of[voter] != lease {
 		t.Error("a claim that was said again acknowledges a heartbeat")
 	}
 }
@@ -181,13 +178,13 @@ func TestLaterClaimAcknowledgesNothing(t *testing.T) {
 func TestLostVoteIsNotRenewed(t *testing.T) {
 	c, h := held(t)
 	voter := bits.TrailingZeros64(h.quorum)
-	start, grant := c.peers[voter].start, h.lock.grantOf(voter)
-	age(c, voter)
+	start, grant := c.peers[voter].start, h.lock.Grant(voter)
+	age(t, c, voter)
 	c.header.Seq++
 	c.peers[voter].sent[c.header.Seq] = uptime()
 	line := locked(c, h.lock, voter, grant+1)
 	started(c, voter, start+1, 0, line+fmt.Sprintf(". opened %d %d 0 4096 %d 1\n", c.header.Number, c.header.Epoch, c.header.Seq))
-	if until := h.lock.kept.Until(voter, c.leases()); until > uptime() {
+	if until := h.lock.VoteUntil(voter, &c.leases); until > uptime() {
 		t.Errorf("a vote that was lost counts for %v", until-uptime())
 	}
 }
@@ -239,10 +236,38 @@ func TestVoteWaitsForItsLease(t *testing.T) {
 	}
 }
 
+// A vote of a voter that just started, which acknowledged nothing yet, is in doubt once it did so for no lease. Then the request is made anew.
+func TestVoteOfANewStartIsNotInDoubt(t *testing.T) {
+	c, l, _ := asks(t)
+	voter, stamp := bits.TrailingZeros64(l.shown.Quorum), l.shown.Stamp
+	started(c, voter, c.peers[voter].start+1, 0, locked(c, l, voter, 1))
+	if c.lapse(); l.shown.Stamp != stamp || l.Votes() == 0 {
+		t.Fatal("a request is over whose vote may begin to count")
+	}
+	c.leases.Since[voter] -= c.leases.Span + time.Second
+	if c.lapse(); l.shown.Stamp == stamp {
+		t.Error("a request waits by a vote that does not begin to count")
+	}
+}
+
+// Who has a lock has it for longer once all voters of its quorum acknowledged a later heartbeat.
+func TestAcknowledgementsAreTold(t *testing.T) {
+	c, h := held(t)
+	until := h.until.Load()
+	for v := range c.peers {
+		c.header.Seq++
+		c.peers[v].sent[c.header.Seq] = uptime()
+		lapsed(c, v, 0, fmt.Sprintf(". opened %d %d 0 4096 %d 1\n", c.header.Number, c.header.Epoch, c.header.Seq))
+	}
+	if h.until.Load() <= until {
+		t.Error("who has the lock hears of no later end")
+	}
+}
+
 // A voter that accepts a claim heard the session.
 func TestClaimIsAcknowledged(t *testing.T) {
 	c := still(t, worlds.New(t, worlds.Majority, 20*time.Second))
-	c.peers[0].forgetLease()
+	c.forgetLease(0)
 	if isLeased(c, 0) {
 		t.Fatal("a voter acknowledged nothing")
 	}
@@ -257,7 +282,7 @@ func TestAsksWhoAcknowledged(t *testing.T) {
 	turns(c, 200*time.Millisecond, func() bool { return false })
 	quorum, _ := c.nextQuorum(0, 0)
 	voter := bits.TrailingZeros64(quorum)
-	c.peers[voter].forgetLease()
+	c.forgetLease(voter)
 	if c.owners(c.used+1)>>voter&1 == 1 {
 		t.Error("it may be asked")
 	}
@@ -273,7 +298,7 @@ func TestAsksWhoAcknowledged(t *testing.T) {
 // A vote counts neither for a request that is over, nor once it is given back.
 func TestVotesEndWithTheirRequest(t *testing.T) {
 	c, l, _ := asks(t)
-	until := func(v int) time.Duration { return l.kept.Until(v, c.leases()) }
+	until := func(v int) time.Duration { return l.VoteUntil(v, &c.leases) }
 	voter := bits.TrailingZeros64(l.shown.Quorum)
 	if lapsed(c, voter, 0, locked(c, l, voter, 1)); until(voter) == 0 {
 		t.Fatal("a vote does not count")
@@ -287,8 +312,8 @@ func TestVotesEndWithTheirRequest(t *testing.T) {
 		t.Fatal("the next vote does not count")
 	}
 	givesBack(c, l, voter, bits.TrailingZeros64(l.shown.Quorum&^(1<<voter)), 2)
-	if c.votes(l) != 0 || until(voter) != 0 {
-		t.Errorf("votes of %b, up to %v", c.votes(l), until(voter))
+	if l.Votes() != 0 || until(voter) != 0 {
+		t.Errorf("votes of %b, up to %v", l.Votes(), until(voter))
 	}
 }
 
@@ -299,12 +324,12 @@ func TestVoteGoesBackOnFail(t *testing.T) {
 	other := bits.TrailingZeros64(l.shown.Quorum &^ (1 << voter))
 	lapsed(c, voter, 0, locked(c, l, voter, 1))
 	lapsed(c, voter, 0, fmt.Sprintf("x inquire %d %d 1 0\n", voter, c.header.Number))
-	if c.votes(l) == 0 || l.kept.Until(voter, c.leases()) == 0 {
+	if l.Votes() == 0 || l.VoteUntil(voter, &c.leases) == 0 {
 		t.Fatal("the vote went back at once")
 	}
 	lapsed(c, other, 0, fmt.Sprintf("x fail %d %d %d 0\n", other, c.header.Number, l.shown.Stamp))
-	if until := l.kept.Until(voter, c.leases()); c.votes(l) != 0 || until != 0 {
-		t.Errorf("votes of %b, up to %v", c.votes(l), until)
+	if until := l.VoteUntil(voter, &c.leases); l.Votes() != 0 || until != 0 {
+		t.Errorf("votes of %b, up to %v", l.Votes(), until)
 	}
 }
 
@@ -317,7 +342,12 @@ func TestRestartedVoterHearsWhatIsOver(t *testing.T) {
 	if c.restarted(voter); bytes.Contains(c.out[voter], []byte("x release")) {
 		t.Errorf("a lock that is held is over: %q", c.out[voter])
 	}
-	c.leave(l)
+	if c.leave(l); l.shown.Phase != qlock.Inside {
+		t.Fatal("a request is over under which a call has the lock")
+	}
+	if err := c.unlock(h); err != nil {
+		t.Fatal(err)
+	}
 	c.out[voter] = nil
 	if c.restarted(voter); !bytes.Contains(c.out[voter], []byte("x release")) {
 		t.Errorf("it does not hear that a request is over: %q", c.out[voter])

@@ -284,7 +284,7 @@ func held(t *testing.T) (*Client, *Held) {
 func TestHeartbeatHidesNoLoss(t *testing.T) {
 	c, h := held(t)
 	for v := range c.peers {
-		age(c, v)
+		age(t, c, v)
 	}
 	c.beat = c.beat.Add(-c.cluster.TTL.Duration) // so a heartbeat is due
 	c.round(time.Now())
@@ -295,10 +295,13 @@ func TestHeartbeatHidesNoLoss(t *testing.T) {
 
 // isLeased returns whether a vote counts now that is taken from a voter.
 func isLeased(c *Client, voter int) bool {
-	p, vote := &c.peers[voter], qlock.NewVote(0)
-	vote.Asks(1)
-	vote.Takes(&p.lease, qlock.Granted{Incarnation: p.said, Stamp: 1, Grant: 1}, c.leases().Span, uptime())
-	return vote.Until(&p.lease, c.leases().Span) > uptime()
+	l, err := qlock.NewLockClient(3, 0)
+	if err != nil {
+		return false
+	}
+	_, _ = l.Ask(1<<voter, nil)
+	_, _, _ = l.Take(&c.leases, c.peers[voter].said, uptime(), []byte(fmt.Sprintf("locked %d 3 1 1 0", voter)), nil)
+	return l.Until(&c.leases) > uptime()
 }
 
 // A reply says that a voter heard the heartbeat, not that it heard anything when the reply came.

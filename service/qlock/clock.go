@@ -60,8 +60,10 @@ func nanoseconds(time time.Duration) C.uint64_t {
 }
 
 // mustBeDone panics if a call was refused that can't be.
-func mustBeDone(code C.int32_t) {
-	if err := refusal(code); err != nil {
+func mustBeDone(code C.int32_t) { must(refusal(code)) }
+
+func must(err error) {
+	if err != nil {
 		panic(err)
 	}
 }

@@ -28,6 +28,8 @@ const (
 	StampsBytes = C.QLOCK_STAMPS_BYTES
 	ClaimBytes  = C.QLOCK_CLAIM_BYTES
 	CallsBytes  = C.QLOCK_CALLS_BYTES
+	VotesBytes  = C.QLOCK_VOTES_BYTES
+	LeasesBytes = C.QLOCK_LEASES_BYTES
 	PassBytes   = C.QLOCK_PASS_BYTES
 	MaxVoters   = C.QLOCK_MAX_VOTERS
 	MaxClients  = C.QLOCK_MAX_CLIENTS

@@ -9,7 +9,6 @@ import (
 
 	"calvundek.example/service/internal/claims"
 	"calvundek.example/service/internal/level"
-	"calvundek.example/service/internal/votes"
 	"calvundek.example/service/internal/wire"
 	"calvundek.example/service/qlock"
 	"calvundek.example/service/transport"
@@ -19,9 +18,9 @@ import (
 //
 // They follow the rules of package locks (session.go, request.go, watch.go), whose client has goroutines and reads the
 // machine's clock, and so can't be stepped. Shared with it are the proved client of package qlock, the messages (wire), the
-// plans, whom a session asks, what is kept of claims (claims) and of votes (votes), and the timer of reminders (remind). What is here is the simulation's own: it
-// is kept in the order of package locks, under the same names, so that both can be laid side by side. There are no plans that are exchanged, and no calls that only
-// try.
+// plans, whom a session asks, a lock of a session whole, what is kept of claims (claims), and the timer of reminders (remind). What is here
+// is the simulation's own: it is kept in the order of package locks, under the same names, so that both can be laid side by side. There are
+// no plans that are exchanged, and no calls that only try.
 
 const (
 	firstBlock = 64 // as in package locks
@@ -56,9 +55,7 @@ type peer struct {
 	start    uint64
 	quiet    time.Duration            // until then it takes only requests of who is inside
 	heard    time.Duration            // when a message came
-	lease    qlock.Lease              // up to when its votes count
 	said     qlock.Incarnation        // the latest one that it said
-	since    time.Duration            // when it said that first
 	answers  bool                     // it acknowledged a heartbeat, or the claim, since then
 	sent     map[uint64]time.Duration // when heartbeats left that it did not acknowledge
 	accepts  bool                     // it accepted this session's claim of its number
@@ -90,6 +87,7 @@ type client struct {
 	tries    int    // how many sessions it began to open
 	header   wire.Header
 	peers    []peer
+	leases   qlock.Leases // of the voters
 	stage    stage
 	replied  uint64 // the voters that replied to what is asked now
 	claims   *claims.Numbers
@@ -144,10 +142,11 @@ func (c *client) open() {
 	c.tries++
 	_, name, _ := strings.Cut(c.name, ".")
 	c.header = wire.Header{Cluster: c.cluster.ID, Coterie: c.cluster.Marks()[0], Kind: wire.FromClient, Name: name, Level: level.Newest}
-	c.peers = make([]peer, len(c.cluster.Names()))
+	c.peers, c.leases = make([]peer, len(c.cluster.Names())), qlock.NewLeases(leaseOf(c.ttl))
 	now := c.shows()
 	for v := range c.peers {
-		c.peers[v] = peer{sent: map[uint64]time.Duration{}, heard: now, stamps: qlock.NewStamps(), lease: qlock.NewLease()}
+		c.peers[v] = peer{sent: map[uint64]time.Duration{}, heard: now, stamps: qlock.NewStamps()}
+		c.leases.Since[v] = now
 	}
 	c.asked, c.draining, c.idle, c.beat = -1, false, 0, 0
 	c.sessions[c.name] = c
@@ -352,7 +351,7 @@ func (c *client) claim() {
 	c.stage, c.refused, c.block = claiming, false, firstBlock
 	for v := range c.peers {
 		c.peers[v].forget()
-		c.peers[v].forgetLease(c.shows())
+		c.forgetLease(v)
 	}
 	c.ends, c.beat, c.left = c.shows()+brief, c.shows(), c.shows()
 	if c.begins(); c.hasty {
@@ -385,7 +384,7 @@ func (c *client) abandon() {
 // takeBack gives a number back that some voters gave to this session, or will give it.
 func (c *client) takeBack() {
 	for _, l := range c.locks {
-		l.Client = nil
+		l.LockClient = nil
 		l.shown = qlock.Shown{}
 	}
 	if c.header.Epoch > 0 {
@@ -400,7 +399,7 @@ func (c *client) takeBack() {
 	for v := range c.peers {
 		c.peers[v].sent = map[uint64]time.Duration{}
 		c.peers[v].forget()
-		c.peers[v].forgetLease(c.shows())
+		c.forgetLease(v)
 		c.out[v] = c.out[v][:0]
 		c.tell(v, qlock.ClientSays{Kind: qlock.Drop, Number: c.asked, First: epoch})
 	}
@@ -431,8 +430,9 @@ func (p *peer) forget() {
 }
 
 // forgetLease forgets what a voter said to the session before, for another one.
-func (p *peer) forgetLease(now time.Duration) {
-	p.lease, p.said, p.since, p.answers = qlock.NewLease(), qlock.Incarnation{}, now, false
+func (c *client) forgetLease(v int) {
+	c.leases.Of[v], c.leases.Since[v] = qlock.NewLease(), c.shows()
+	c.peers[v].said, c.peers[v].answers = qlock.Incarnation{}, false
 }
 
 // use notes that a stamp is used. It reserves more before the block is spent.
@@ -478,7 +478,7 @@ func (c *client) noteStamps(v int, base, reserved uint64) {
 
 // isBelow returns whether a request waits for a voter that does not take it any more: its stamp is not above the base there.
 func (c *client) isBelow(l *lock, v int) bool {
-	return l.shown.Phase == qlock.Asking && l.shown.Stamp <= c.peers[v].base && (l.shown.Quorum&^l.votes())>>v&1 == 1
+	return l.shown.Phase == qlock.Asking && l.shown.Stamp <= c.peers[v].base && (l.shown.Quorum&^l.Votes())>>v&1 == 1
 }
 
 func greatest(a, b uint64) uint64 {
@@ -571,7 +571,7 @@ func (c *client) disclaim() {
 
 // disclaim tells voters again that the requests of a lock are over.
 func (l *lock) disclaim(voters uint64) {
-	if l.Client == nil {
+	if l.LockClient == nil {
 		return
 	}
 	if lines, err := l.Disclaim(voters, l.client.room[:0]); err == nil {
@@ -655,7 +655,7 @@ func (c *client) restarted(v int) {
 		switch {
 		case l.shown.Phase == qlock.Idle:
 			l.disclaim(1 << v)
-		case l.votes()>>v&1 == 0:
+		case l.Votes()>>v&1 == 0:
 		case l.shown.Phase == qlock.Inside:
 			l.remind()
 		default:
@@ -672,14 +672,17 @@ func (c *client) noteIncarnation(h wire.Header) {
 		return
 	}
 	for _, l := range c.locks {
-		l.kept.Of(h.Number).Keeps(&p.lease)
+		if l.LockClient != nil {
+			l.Keeps(h.Number, &c.leases)
+		}
 	}
-	if p.stale = !p.lease.Hears(said); p.stale {
+	if p.stale = !c.leases.Of[h.Number].Hears(said); p.stale {
 		return
 	}
-	if p.said, p.since, p.answers = said, c.shows(), false; said.Run == before.Run && said.Start == before.Start {
+	p.said, p.answers, c.leases.Since[h.Number] = said, false, c.shows()
+	if said.Run == before.Run && said.Start == before.Start {
 		for _, l := range c.locks {
-			if l.shown.Phase != qlock.Idle && l.votes()>>h.Number&1 == 1 {
+			if l.shown.Phase != qlock.Idle && l.Votes()>>h.Number&1 == 1 {
 				l.spoil()
 			}
 		}
@@ -693,21 +696,12 @@ func (c *client) noteIncarnation(h wire.Header) {
 func (c *client) acknowledge(v int, left time.Duration) {
 	p := &c.peers[v]
 	isFirst := !p.answers
-	p.lease.Renews(p.said, left)
+	c.leases.Of[v].Renews(p.said, left)
 	p.answers = true
 	for _, l := range c.locks {
 		if isFirst && l.shown.Phase == qlock.Idle || l.shown.Phase == qlock.Inside && l.held == nil {
 			l.pump() // it may have waited for this
 		}
-	}
-}
-
-// leases has the leases of the voters.
-func (c *client) leases() votes.Leases {
-	return votes.Leases{
-		Of:    func(v int) *qlock.Lease { return &c.peers[v].lease },
-		Since: func(v int) time.Duration { return c.peers[v].since },
-		Span:  leaseOf(c.ttl),
 	}
 }
 
@@ -874,7 +868,7 @@ func (c *client) drain() {
 	c.log("client %d closes its session", c.id)
 	c.draining, c.idle = true, 0
 	for _, l := range c.locks {
-		l.wants = false
+		l.unwant()
 		l.pump()
 	}
 	c.heartbeat()

@@ -3,11 +3,9 @@ package simulation
 import (
 	"bytes"
 	"fmt"
-	"math/bits"
 	"time"
 
 	"calvundek.example/service/internal/remind"
-	"calvundek.example/service/internal/votes"
 	"calvundek.example/service/internal/wire"
 	"calvundek.example/service/qlock"
 )
@@ -19,7 +17,7 @@ func request(voter, client int) []byte {
 
 // lock is one lock, as a client sees it, and the part of its program that wants it from time to time.
 type lock struct {
-	*qlock.Client // nil until the session first asks
+	*qlock.LockClient // nil until the session is open and the program wants it
 	*witness
 	client *client
 	wants  bool    // the program waits for it
@@ -29,7 +27,6 @@ type lock struct {
 	timer  remind.Timer
 	asked  time.Duration
 	shown  qlock.Shown
-	kept   votes.Kept // up to when its votes count
 }
 
 // held is a lock that a program has.
@@ -60,9 +57,7 @@ func (h *held) works(t instant) bool {
 }
 
 // leaseEnds returns until when the lock lasts if no voter is heard any more, by the client's clock.
-func (h *held) leaseEnds() time.Duration {
-	return h.kept.End(h.quorum, h.client.leases())
-}
+func (h *held) leaseEnds() time.Duration { return h.Until(&h.client.leases) }
 
 // think lets the program want the lock after a while.
 func (l *lock) think() {
@@ -78,12 +73,12 @@ func (l *lock) think() {
 		if c.draining || l.wants || l.held != nil {
 			return
 		}
-		l.wants, l.since = true, c.now
+		l.want()
 		if c.healed == 0 && c.random.Intn(20) == 0 { // it gives up after a while
 			since := l.since
 			c.atShown(c.shows()+c.upTo(c.ttl), func() {
 				if l.wants && l.since == since {
-					l.wants = false
+					l.unwant()
 					l.pump()
 					l.think()
 				}
@@ -93,7 +88,22 @@ func (l *lock) think() {
 	})
 }
 
-// works lets the program work for a while, and give the lock back.
+// want lets the program wait for the lock, and unwant lets it wait no more.
+func (l *lock) want() {
+	l.wants, l.since = true, l.client.now
+	if l.LockClient != nil {
+		l.Wants(false)
+	}
+}
+
+func (l *lock) unwant() {
+	if l.wants && l.LockClient != nil {
+		l.Unwants(false)
+	}
+	l.wants = false
+}
+
+// begins lets the program work for a while, and give the lock back.
 func (h *held) begins() {
 	c := h.client
 	stays := c.upTo(c.incidents.stays)
@@ -134,7 +144,7 @@ func (h *held) write() {
 
 // lose closes Lost. The program stops soon.
 func (h *held) lose() {
-	if h.isLost {
+	if !h.Loses() {
 		return
 	}
 	c := h.client
@@ -171,7 +181,8 @@ func (h *held) ends() {
 	if c.random.Intn(20) == 0 { // somebody goes on with the pass, who did not hear that the lock is given back
 		c.in(c.upTo(3*c.ttl), func() { h.witness.shows(h) })
 	}
-	l.leave()
+	l.Unlocks(h.stamp)
+	l.pump() // it leaves
 	l.pump()
 	l.think()
 }
@@ -183,7 +194,7 @@ func (l *lock) isOver() {
 		h.witness.leaves(h)
 		l.client.in(l.client.upTo(3*l.client.ttl), func() { h.witness.shows(h) }) // what it sent before may be late
 	}
-	l.Client, l.held, l.wants, l.shown, l.kept, l.timer = nil, nil, false, qlock.Shown{}, votes.Kept{}, remind.Timer{}
+	l.LockClient, l.held, l.wants, l.shown, l.timer = nil, nil, false, qlock.Shown{}, remind.Timer{}
 }
 
 // isBusy returns whether the lock is asked for, held or wanted.
@@ -192,22 +203,36 @@ func (l *lock) isBusy() bool { return l.shown.Phase != qlock.Idle || l.wants }
 // pump does what a lock needs next.
 func (l *lock) pump() {
 	c := l.client
-	switch {
-	case c.stage != isOpen:
-	case l.shown.Phase == qlock.Idle && l.wants:
-		l.ask()
-	case l.shown.Phase == qlock.Asking && !l.wants:
-		l.giveUp()
-	case l.shown.Phase == qlock.Inside && l.held == nil && !l.wants:
-		l.leave()
-	case l.shown.Phase == qlock.Inside && l.held == nil && c.shows() < l.kept.End(l.shown.Quorum, c.leases()):
-		l.hand()
-	case l.shown.Phase == qlock.Inside && l.held == nil && l.isDoubtful():
-		l.leave() // the next round asks anew, after its heartbeat
+	if c.stage == isOpen && l.isThere() {
+		switch l.Next(&c.leases, c.shows()) {
+		case qlock.Ask:
+			l.ask()
+		case qlock.GiveUp:
+			l.giveUp()
+		case qlock.Leave:
+			l.leave() // the next round asks anew, after its heartbeat
+		case qlock.Hand:
+			l.hand()
+		}
 	}
 	if c.draining && !c.isBusy() && c.idle == 0 {
 		c.heartbeat()
 	}
+}
+
+// isThere begins the lock if the program wants it, above all stamps of the session's number. It returns whether it is there.
+func (l *lock) isThere() bool {
+	if l.LockClient != nil || !l.wants {
+		return l.LockClient != nil
+	}
+	c := l.client
+	client, err := qlock.NewLockClient(uint8(c.header.Number), c.used)
+	if err != nil {
+		l.violated("client", "client %d begins no lock: %v", c.id, err)
+		return false
+	}
+	l.LockClient = client
+	return l.Wants(false) == qlock.CallTaken
 }
 
 // hand gives the lock to the program.
@@ -216,6 +241,9 @@ func (l *lock) hand() {
 	pass, err := l.Pass()
 	if err != nil {
 		l.violated("client", "client %d is inside %s without a pass: %v", c.id, l.name, err)
+		return
+	}
+	if l.Hand(&c.leases, c.shows()) == 0 {
 		return
 	}
 	wait := time.Duration(c.now - l.since)
@@ -237,19 +265,11 @@ func (l *lock) hand() {
 // ask starts a request, if a quorum may be asked under its stamp. If not, it reserves more.
 func (l *lock) ask() {
 	c := l.client
-	if l.Client == nil {
-		var err error
-		if l.Client, err = qlock.ClientAnew(uint8(c.header.Number), qlock.MaxStamp, c.used); err != nil {
-			l.violated("client", "client %d begins no lock: %v", c.id, err)
-			return
-		}
-		l.kept = votes.New(c.used)
-	}
-	before := *l.Client
+	before := *l.LockClient
 	quorum := c.nextQuorum(c.avoided())
 	stamp, lines, err := l.begin(quorum)
 	if err == nil && !c.mayAsk(quorum, stamp) {
-		*l.Client = before
+		*l.LockClient = before
 		quorum = c.nextQuorum(c.avoided() | ^c.owners(stamp))
 		stamp, lines, err = l.begin(quorum)
 	}
@@ -257,12 +277,11 @@ func (l *lock) ask() {
 	case err != nil:
 		l.violated("client", "client %d does not ask: %v", c.id, err)
 	case !c.mayAsk(quorum, stamp):
-		*l.Client = before
+		*l.LockClient = before
 		c.reserve(stamp)
 	default:
 		c.ticket++
 		l.asked = c.shows()
-		l.kept.Asks(quorum, stamp)
 		l.send(lines)
 		c.use(stamp)
 	}
@@ -270,11 +289,11 @@ func (l *lock) ask() {
 
 // begin begins a request under a stamp above all bases.
 func (l *lock) begin(quorum uint64) (stamp uint64, lines []byte, err error) {
-	before := *l.Client
+	before := *l.LockClient
 	if stamp, lines, err = l.tries(quorum); err != nil || stamp > l.client.floor() {
 		return stamp, lines, err
 	}
-	*l.Client = before
+	*l.LockClient = before
 	if err := l.Raise(l.client.floor()); err != nil {
 		return 0, nil, err
 	}
@@ -286,8 +305,7 @@ func (l *lock) tries(quorum uint64) (stamp uint64, lines []byte, err error) {
 		return 0, nil, err
 	}
 	l.client.room = lines
-	shown, err := l.Shows()
-	return shown.Stamp, lines, err
+	return l.Shows().Stamp, lines, nil
 }
 
 // nextQuorum returns the quorum of the next ticket that has none of these voters, or that of the next one.
@@ -298,7 +316,6 @@ func (c *client) nextQuorum(avoided uint64) uint64 {
 
 func (l *lock) leave() {
 	if lines, err := l.Leave(l.client.room[:0]); err == nil {
-		l.kept.Ends(l.shown.Stamp)
 		l.client.room = lines
 		l.send(lines)
 	}
@@ -306,7 +323,6 @@ func (l *lock) leave() {
 
 func (l *lock) giveUp() {
 	if lines, err := l.GiveUp(l.client.room[:0]); err == nil {
-		l.kept.Ends(l.shown.Stamp)
 		l.client.room = lines
 		l.send(lines)
 	}
@@ -325,10 +341,7 @@ func (l *lock) send(lines []byte) {
 		end := bytes.IndexByte(lines, '\n') + 1
 		if said := wire.ReadLine(lines[:end]); said.To >= 0 && said.To < len(c.peers) {
 			out := append(append(append(c.out[said.To], l.name...), ' '), lines[:end-1]...)
-			switch isRequest := string(said.Word) == "request"; {
-			case string(said.Word) == "relinquish":
-				l.kept.GivesBack(said.To, said.Stamp) // a FAIL may have several votes given back
-			case isRequest && l.shown.Phase == qlock.Inside:
+			if string(said.Word) == "request" && l.shown.Phase == qlock.Inside {
 				out = append(out, " inside"...)
 			}
 			c.out[said.To] = append(out, '\n')
@@ -340,12 +353,7 @@ func (l *lock) send(lines []byte) {
 
 // looks looks at what a client is doing, and notes what there is to remind of.
 func (l *lock) looks() {
-	shown, err := l.Shows()
-	if err != nil {
-		l.violated("client", "client %d: %v", l.client.id, err)
-		return
-	}
-	now := dateOf(l.client.shows())
+	shown, now := l.Shows(), dateOf(l.client.shows())
 	if shown.Phase != l.shown.Phase {
 		l.timer.Of(0, now)
 	}
@@ -365,7 +373,7 @@ func (l *lock) looks() {
 // find returns a lock of the client by its name, nil if it never asked for it.
 func (c *client) find(name string) *lock {
 	for _, l := range c.locks {
-		if l.name == name && l.Client != nil {
+		if l.name == name && l.LockClient != nil {
 			return l
 		}
 	}
@@ -378,16 +386,11 @@ func (c *client) take(v int, name string, line []byte) {
 	if l == nil {
 		return
 	}
-	said, wasInside := wire.ReadLine(line), l.shown.Phase == qlock.Inside
-	lines, _, err := l.Take(line, c.room[:0])
+	lines, _, err := l.Take(&c.leases, c.peers[v].said, c.shows(), line, c.room[:0])
 	if err != nil {
 		return
 	}
 	c.room = lines
-	if string(said.Word) == "locked" {
-		granted := qlock.Granted{Incarnation: c.peers[v].said, Stamp: said.Stamp, Grant: said.Grant, Renews: wasInside}
-		l.kept.Takes(v, granted, c.leases(), c.shows())
-	}
 	l.send(lines)
 	l.pump()
 }
@@ -401,12 +404,12 @@ func (c *client) gone(name string, stamp uint64) {
 
 // spoil ends a request of which a vote may be somebody else's.
 func (l *lock) spoil() {
-	switch {
-	case l.held != nil:
+	switch l.Spoiled() {
+	case qlock.Lose:
 		l.held.lose()
-	case l.shown.Phase == qlock.Asking:
+	case qlock.GiveUp:
 		l.askAgain()
-	case l.shown.Phase == qlock.Inside:
+	case qlock.Leave:
 		l.leave()
 		l.pump()
 	}
@@ -415,7 +418,7 @@ func (l *lock) spoil() {
 // lapse ends the requests that have a vote of a voter which may have let it go.
 func (c *client) lapse() {
 	for _, l := range c.locks {
-		if l.shown.Phase != qlock.Idle && l.isDoubtful() && (l.held == nil || !l.held.isLost) {
+		if l.LockClient != nil && l.IsDoubtful(&c.leases, c.shows()) {
 			l.spoil()
 		}
 	}
@@ -430,30 +433,6 @@ func (c *client) look() {
 	}
 }
 
-// isDoubtful returns whether a client has the vote of a voter which may have let it go.
-func (l *lock) isDoubtful() bool {
-	return l.kept.IsDoubtful(l.client.leases(), l.client.shows())
-}
-
-// votes returns the voters whose votes a client has.
-func (l *lock) votes() (mask uint64) {
-	for rest := l.shown.Quorum; rest != 0; rest &= rest - 1 {
-		if voter := bits.TrailingZeros64(rest); l.grantOf(voter) > 0 {
-			mask |= 1 << voter
-		}
-	}
-	return mask
-}
-
-// grantOf returns the number of the grant by which a client has the vote of a voter, 0 if it does not have it.
-func (l *lock) grantOf(voter int) uint64 {
-	grant, err := l.Grant(uint8(voter))
-	if err != nil {
-		return 0
-	}
-	return grant
-}
-
 // waitsFor returns whether a request waits for one of these voters, and others would do.
 func (l *lock) waitsFor(silent uint64) bool {
 	return l.shown.Phase == qlock.Asking && l.client.cluster.Planned.WaitsFor(l.waiting(), silent, 0)
@@ -466,7 +445,7 @@ func (l *lock) isStuck(silent uint64) bool {
 }
 
 func (l *lock) waiting() qlock.Waiting {
-	return qlock.Waiting{Quorum: l.shown.Quorum, Votes: l.votes(), Asked: l.client.since(l.asked)}
+	return qlock.Waiting{Quorum: l.shown.Quorum, Votes: l.Votes(), Asked: l.client.since(l.asked)}
 }
 
 // remind repeats the requests that wait for a vote, or shows that the holder is there.
