@@ -244,3 +244,49 @@ func TestLockIsCopied(t *testing.T) {
 		}
 	}
 }
+
+// What a pass costs by quorums of three voters: a call comes, three LOCKEDs, the lock is handed out, given back, and left.
+func BenchmarkLockPass(b *testing.B) {
+	l, err := NewLockClient(me, 0)
+	if err != nil {
+		b.Fatal(err)
+	}
+	leases, out := NewLeases(span), make([]byte, 0, 1<<13)
+	for v := range leases.Of {
+		leases.Of[v].Renews(Incarnation{}, time.Second)
+	}
+	for n := 0; n < b.N; n++ {
+		l.Wants(false)
+		if l.Next(&leases, time.Second) != Ask {
+			b.Fatal("it does not ask")
+		}
+		_, _ = l.Ask(0b111, out)
+		stamp := l.Shows().Stamp
+		for v := 0; v < 3; v++ {
+			line := fmt.Sprintf("locked %d %d %d %d 0", v, me, stamp, n+1)
+			if _, _, err := l.Take(&leases, Incarnation{}, time.Second, []byte(line), out); err != nil {
+				b.Fatal(err)
+			}
+		}
+		if l.Next(&leases, time.Second) != Hand || l.Hand(&leases, time.Second) == 0 {
+			b.Fatal("it is not handed out")
+		}
+		l.Unlocks(stamp)
+		if l.Next(&leases, time.Second) != Leave {
+			b.Fatal("it does not leave")
+		}
+		_, _ = l.Leave(out)
+	}
+}
+
+// What is next for a lock that somebody has.
+func BenchmarkLockNext(b *testing.B) {
+	l, err := NewLockClient(me, 0)
+	if err != nil {
+		b.Fatal(err)
+	}
+	leases := NewLeases(span)
+	for n := 0; n < b.N; n++ {
+		l.Next(&leases, time.Second)
+	}
+}
