@@ -236,7 +236,11 @@ func (c *client) isOver() {
 // opensAgain opens another session after a while.
 func (c *client) opensAgain(d time.Duration) {
 	c.in(d, func() {
-		if c.stage != isEnded {
+		switch {
+		case c.stage != isEnded:
+			return
+		case c.rests > c.now:
+			c.opensAgain(time.Duration(c.rests-c.now) + c.upTo(c.ttl))
 			return
 		}
 		c.log("client %d opens another session", c.id)
@@ -897,6 +901,9 @@ func (c *client) round() {
 	if c.stage != isOpen {
 		c.goesOn()
 		return
+	}
+	if c.rests > c.now && !c.draining {
+		c.drain()
 	}
 	if c.shows()-c.beat >= c.beats {
 		c.heartbeat()

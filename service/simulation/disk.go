@@ -32,6 +32,8 @@ type disk struct {
 	full bool // there is no room for another save
 	used int  // how many processes use it
 
+	floors uint64 // how often a floor took the place of rows
+
 	saving func() saving // how a save ends
 	behind []change      // of wrong hosts: what was said to be saved, and is not yet
 
@@ -90,11 +92,14 @@ func (d *disk) apply(changes []change) {
 			of = map[string][]byte{}
 			d.rows[c.bucket] = of
 		}
-		if c.row == nil {
+		switch {
+		case c.row == nil:
 			delete(of, c.key)
-		} else {
-			of[c.key] = c.row
+			continue
+		case c.bucket == "sessions" && len(c.key) == 2:
+			d.floors++
 		}
+		of[c.key] = c.row
 	}
 }
 
@@ -235,7 +240,7 @@ func (d *disk) session(number int) (voter.Session, error) {
 	key := string([]byte{byte(number)})
 	row := d.rows["sessions"][key]
 	if row == nil {
-		return voter.Session{}, nil
+		return d.saved().Session(number)
 	}
 	if known := d.sessions[key]; known.of == &row[0] {
 		return known.row, nil

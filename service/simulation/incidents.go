@@ -8,6 +8,7 @@ import (
 	"strconv"
 	"time"
 
+	"calvundek.example/service/internal/level"
 	"calvundek.example/service/internal/operator"
 	"calvundek.example/service/internal/voter"
 	"calvundek.example/service/internal/wire"
@@ -183,6 +184,19 @@ var ofClients = []kind{
 		c.flush()
 		return true
 	}},
+	{"times without sessions", func(w *world) bool {
+		if w.rests > w.now || len(w.Only) == 0 && w.random.Intn(30) > 0 {
+			return false
+		}
+		w.rests = after(w.now, 70*time.Second+w.upTo(time.Minute)) // after a minute the numbers may be forgotten
+		w.log("all clients close their sessions until %v", time.Duration(w.rests))
+		return true
+	}},
+	{"levels that are raised", func(w *world) bool {
+		w.log("an operator raises the level to %d", level.Newest)
+		w.orders(fmt.Sprintf("level %d\n", level.Newest))
+		return true
+	}},
 	{"sessions that operators end", func(w *world) bool {
 		c := w.someClient()
 		if c == nil || c.stage != isOpen {
@@ -206,12 +220,17 @@ var ofClients = []kind{
 
 // evicts lets an operator end the session of a number at all voters.
 func (w *world) evicts(number int) {
-	w.questions++
-	h := wire.Header{Cluster: w.cluster.ID, Coterie: w.cluster.Marks()[0], Kind: wire.FromOperator, Name: fmt.Sprint("q", w.questions)}
 	words := fmt.Sprintf("evict %d\n", number)
 	if w.Wrong.EvictsAtOnce {
 		words = fmt.Sprintf("evict %d now\n", number)
 	}
+	w.orders(words)
+}
+
+// orders lets an operator say something to all voters.
+func (w *world) orders(words string) {
+	w.questions++
+	h := wire.Header{Cluster: w.cluster.ID, Coterie: w.cluster.Marks()[0], Kind: wire.FromOperator, Name: fmt.Sprint("q", w.questions)}
 	for _, p := range w.voters {
 		w.broker.send(w.now, wire.WriteBox(w.cluster.ID, p.number, "alice"), append(h.Append(nil), words...))
 	}
@@ -529,7 +548,7 @@ func (w *world) makesAgain(p *place, replies []operator.Reply) {
 func (w *world) heal() {
 	w.healed, w.calmed = w.now, w.now
 	w.log("no fault happens any more")
-	w.noise, w.broker.thawsAt = calm, w.now
+	w.noise, w.broker.thawsAt, w.rests = calm, w.now, w.now
 	for _, p := range w.voters {
 		p := p
 		p.cut, p.disk.full = false, false
@@ -554,7 +573,8 @@ func (w *world) heal() {
 		}
 		for _, l := range c.locks {
 			if c.stage == isEnded {
-				continue
+				c.opensAgain(c.upTo(c.ttl)) // it may rest
+				break
 			}
 			if l.think(); l.held != nil {
 				l.held.endsSoon()

@@ -102,6 +102,28 @@ func TestWrongHosts(t *testing.T) {
 	}
 }
 
+// Numbers that nobody has are forgotten, and sessions that come back later begin above all that was: whatever voters lose meanwhile, and
+// also while only some of them know of floors.
+func TestNumbersAreForgotten(t *testing.T) {
+	var total Figures
+	for _, only := range [][]string{
+		{"times without sessions", "levels that are raised"},
+		{"times without sessions", "levels that are raised", "voters killed", "voters ended", "states lost"},
+	} {
+		for seed := int64(1); seed <= 8; seed++ {
+			r := Run(Options{Seed: seed, Events: 20000, Often: true, Only: only})
+			if r.Fault != nil {
+				t.Fatalf("%v, seed %d: %v", only, seed, r.Fault)
+			}
+			total.Add(r.Figures)
+		}
+	}
+	if forgotten := total.Incidents["shards forgotten"]; forgotten < 20 {
+		t.Errorf("numbers are forgotten %d times", forgotten)
+	}
+	t.Logf("%d passes, %d events, %.0f s, %v", total.Passes, total.Steps, total.Virtual.Seconds(), total.Incidents)
+}
+
 // A session that is given up as it claims a number is opened again under its name. A word that takes the claim back may come late, and takes
 // nothing from the next try.
 func TestSessionIsOpenedAgain(t *testing.T) {

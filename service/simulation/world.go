@@ -21,6 +21,7 @@ import (
 	"time"
 
 	"calvundek.example/service/internal/config"
+	"calvundek.example/service/internal/level"
 	"calvundek.example/service/qlock"
 )
 
@@ -154,6 +155,7 @@ type world struct {
 	sessions   map[string]*client // by the session's name, as voters call it
 	forgets    *place             // a voter that lost something, and does not serve yet
 	startsCopy *place             // a voter that starts from an older copy
+	rests      instant            // until then no client opens a session
 	nextLook   instant
 	noise      noise
 	incidents  incidents
@@ -202,6 +204,9 @@ func Run(o Options) (result Result) {
 		w.next()
 	}
 	w.Virtual = time.Duration(w.now)
+	for _, p := range w.voters {
+		w.Incidents["shards forgotten"] += p.disk.floors
+	}
 	return Result{Figures: w.Figures, Hash: w.hash, Fault: w.fault}
 }
 
@@ -223,6 +228,9 @@ func (w *world) begin() error {
 	w.bound = longestWait + 3*w.ttl
 	w.cluster = &config.Cluster{ID: "sim", Servers: []string{"none"}, TTL: config.Duration{Duration: w.ttl},
 		Coterie: plan.Coterie, Plan: plan.Text}
+	if w.random.Intn(2) == 0 {
+		w.cluster.Level = level.Newest
+	}
 	if err := w.cluster.Check(); err != nil {
 		return err
 	}

@@ -41,9 +41,15 @@ func (s Saved) Vote(lock string) (*qlock.Voter, error) {
 	return qlock.RestoreVoter(state)
 }
 
-// Session returns the row of a client's number.
+// Session returns the row of a client's number, in the first shard. A number without a row reads as the shard's floor, if there is one.
 func (s Saved) Session(number int) (row Session, err error) {
-	return row, s.read(sessionBucket, []byte{byte(number)}, &row)
+	key := []byte{byte(number)}
+	if value, err := get(s.Rows, sessionBucket, key); err != nil || value != nil {
+		return row, s.read(sessionBucket, key, &row)
+	}
+	var floor Floor
+	err = s.read(sessionBucket, floorKey(0), &floor)
+	return floor.row(number), err
 }
 
 // Peer returns what is kept of the voter of a place.
