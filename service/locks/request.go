@@ -11,9 +11,9 @@ import (
 	"calvundek.example/service/transport"
 )
 
-// mostIdle is how many locks that nobody wants are kept. A lock that comes back begins anew above all stamps that this
+// mostIdle is how many locks that nobody wants are kept, of 6 KB each. A lock that comes back begins anew above all stamps that this
 // session used.
-const mostIdle = 4096
+const mostIdle = 256
 
 // lock is one lock, as this client sees it. What it asks, which votes count, which call has it and what is next for the calls are calls of the
 // proved library.
@@ -129,7 +129,7 @@ func (c *Client) unlock(h *Held) error {
 	if l.MayEnd(h.stamp) { // h does not have it under its request
 		return ErrNotHeld
 	}
-	c.lapse()
+	c.doubt(l)
 	if !h.lapse() {
 		c.lose(h)
 	}
@@ -427,13 +427,32 @@ func (c *Client) spoil(l *lock) {
 	}
 }
 
-// lapse ends the requests that have a vote of a voter which may have let it go.
+// lapse ends the requests that have a vote of a voter which may have let it go. No vote of a lock that somebody has is in doubt before the
+// time up to which he has it.
 func (c *Client) lapse() {
+	up := int64(uptime())
 	for l := range c.busy {
-		if l.IsDoubtful(&c.leases, uptime()) {
-			c.spoil(l)
+		if l.held == nil || l.held.until.Load() <= up {
+			c.doubt(l)
 		}
 	}
+}
+
+// doubt ends the request of a lock if it has a vote of a voter which may have let it go.
+func (c *Client) doubt(l *lock) {
+	if l.IsDoubtful(&c.leases, uptime()) {
+		c.spoil(l)
+	}
+}
+
+// noteEnds notes up to when holders have their locks, as voters acknowledged something since the last round.
+func (c *Client) noteEnds() {
+	for l := range c.busy {
+		if l.shown.Quorum&c.renewed != 0 {
+			c.noteEnd(l)
+		}
+	}
+	c.renewed = 0
 }
 
 // noteEnd notes up to when the holder of a lock has it: the first end of the votes of its quorum.
@@ -448,6 +467,9 @@ func (c *Client) round(now time.Time) {
 	if c.looks {
 		c.followPlans(now)
 		return
+	}
+	if c.renewed != 0 {
+		c.noteEnds()
 	}
 	switch hasGap := c.hasGap(now); {
 	case hasGap:

@@ -92,6 +92,7 @@ type session struct {
 	peers  []peer
 	leases qlock.Leases // the leases of the voters, and since when their incarnations are known, by uptime
 
+	renewed  uint64    // the voters that acknowledged something since the last round
 	beat     time.Time // when the last heartbeat left
 	used     uint64    // no stamp that this number used so far is above it
 	block    uint64    // how many stamps were reserved last
@@ -692,14 +693,13 @@ func (c *Client) acknowledge(voter int, left time.Duration) {
 	isFirst := !p.answers
 	c.leases.Of[voter].Renews(p.said, left)
 	p.answers = true
+	c.renewed |= 1 << voter // the next round tells those that have a lock
 	for l := range c.busy {
-		switch isAsked := l.shown.Quorum>>voter&1 == 1; {
+		switch {
 		case isFirst && l.shown.Phase == qlock.Idle:
 			c.pump(l) // this voter may be asked now
-		case isAsked && l.shown.Phase == qlock.Inside && l.held == nil:
+		case l.shown.Phase == qlock.Inside && l.held == nil && l.shown.Quorum>>voter&1 == 1:
 			c.pump(l) // it may have waited for this
-		case isAsked:
-			c.noteEnd(l)
 		}
 	}
 }

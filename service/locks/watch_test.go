@@ -259,7 +259,7 @@ func TestAcknowledgementsAreTold(t *testing.T) {
 		c.peers[v].sent[c.header.Seq] = uptime()
 		lapsed(c, v, 0, fmt.Sprintf(". opened %d %d 0 4096 %d 1\n", c.header.Number, c.header.Epoch, c.header.Seq))
 	}
-	if h.until.Load() <= until {
+	if c.round(time.Now()); h.until.Load() <= until {
 		t.Error("who has the lock hears of no later end")
 	}
 }
