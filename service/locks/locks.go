@@ -114,6 +114,7 @@ type Client struct {
 	back   uint64    // how often the connection had come back by then
 
 	followed time.Time // when voters were asked last which plans there are
+	looked   int       // the one that was asked alone last
 	locks    map[string]*lock
 	busy     map[*lock]struct{} // locks that ask, are inside, or are wanted
 	ticket   int

@@ -60,6 +60,7 @@ func openShards(ctx context.Context, cluster *config.Cluster, c Config) (*Client
 		client.close()
 		return nil, err
 	}
+	client.followed = time.Now()
 	go client.run()
 	if _, err := client.Who(ctx, "-"); err != nil {
 		_ = client.Close(ctx)
@@ -273,26 +274,30 @@ func leave(carrier transport.Transport, boxes string) {
 	}
 }
 
-// Plans are exchanged while a client has no session: then it asks voters now and then which there are, and more often while it follows.
+// Plans are exchanged while a client has no session. So it asks one voter a minute which there are, each in its turn, and all of them more
+// often while it follows. If it missed more than one exchange it reads the cluster's file again.
 const (
-	looksForPlans = 10 * time.Second
+	looksForPlans = time.Minute
 	followsPlans  = 500 * time.Millisecond
 )
 
-// followPlans lets voters say which plans there are, if it is time for that. Any question does.
+// followPlans lets voters say which plans there are, if it is time for that. Any question does, and each reply says it.
 func (c *Client) followPlans(now time.Time) {
-	pause := looksForPlans
-	if c.next != nil || c.isReading || c.older != nil {
-		pause = followsPlans
+	follows, since := c.next != nil || c.isReading || c.older != nil, now.Sub(c.followed)
+	switch {
+	case !c.cluster.HasShards():
+	case follows && since >= followsPlans:
+		c.followed = now
+		c.newest++
+		q := newQuestion(wire.AskWho, "-")
+		q.ID = c.newest
+		c.questions[q.ID] = q
+	case since >= looksForPlans:
+		c.followed = now
+		c.looked = (c.looked + 1) % len(c.peers)
+		c.newest++ // nobody waits for the reply
+		c.out[c.looked] = wire.Ask{Kind: wire.AskWho, ID: c.newest, Lock: "-"}.Append(c.out[c.looked])
 	}
-	if !c.cluster.HasShards() || now.Sub(c.followed) < pause {
-		return
-	}
-	c.followed = now
-	c.newest++
-	q := newQuestion(wire.AskWho, "-")
-	q.ID = c.newest
-	c.questions[q.ID] = q
 }
 
 // readAgain takes the plans of the cluster's file, and returns whether they are newer. The client was away for more than one exchange.

@@ -5,6 +5,7 @@ import (
 	"encoding/json"
 	"errors"
 	"fmt"
+	"math/bits"
 	"os"
 	"path/filepath"
 	"strings"
@@ -226,6 +227,41 @@ func TestNoNumberOfShard(t *testing.T) {
 	}
 	if err := take(t, late, nameIn(w, 1)).Unlock(); err != nil {
 		t.Errorf("another shard is full, too: %v", err)
+	}
+}
+
+// A client that wants nothing asks one voter a minute which plans there are, each in its turn. One that follows a plan asks all of them.
+func TestRestingClientAsksOneVoterAMinute(t *testing.T) {
+	w := newShards(t, 2, 2*time.Second)
+	c, err := newLook(w.Cluster, Config{Transport: w.Bus.Port()})
+	if err != nil {
+		t.Fatal(err)
+	}
+	asked, now := uint64(0), time.Now()
+	for c.followed = now; asked != 0b111; {
+		now = now.Add(59 * time.Second)
+		c.followPlans(now)
+		for v := range c.peers {
+			if len(c.out[v]) > 0 {
+				t.Fatalf("voter %d is asked within a minute: %q", v, c.out[v])
+			}
+		}
+		now = now.Add(time.Second)
+		c.followPlans(now)
+		before := asked
+		for v := range c.peers {
+			if len(c.out[v]) > 0 {
+				asked |= 1 << v
+				c.out[v] = nil
+			}
+		}
+		if bits.OnesCount64(asked^before) != 1 {
+			t.Fatalf("the voters %b are asked after %b", asked, before)
+		}
+	}
+	c.isReading = true
+	if c.followPlans(now.Add(time.Second)); len(c.questions) != 1 {
+		t.Errorf("%d questions of one that follows", len(c.questions))
 	}
 }
 
