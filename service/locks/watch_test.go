@@ -459,3 +459,19 @@ func TestGapsAreNoticed(t *testing.T) {
 		t.Error("a connection that came back is not noticed")
 	}
 }
+
+// A LOCKED for a request that was not made gives the session nothing, and takes nothing from it: who has the lock has it on, and gets it again.
+func TestVoteForNoRequest(t *testing.T) {
+	c, h := held(t)
+	until := h.until.Load()
+	for v := range c.peers {
+		lapsed(c, v, 0, fmt.Sprintf("x locked %d %d %d 9 0\n", v, c.header.Number, h.stamp+1000))
+	}
+	if h.until.Load() < until {
+		t.Error("a word of another request ends the votes of a lock that somebody has")
+	}
+	if err := c.unlock(h); err != nil {
+		t.Error(err)
+	}
+	gets(t, c, comes(t, c, "x"))
+}
