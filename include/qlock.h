@@ -1052,7 +1052,9 @@ int32_t qlock_held_ask(uint8_t *client, size_t n, uint8_t *votes, size_t m, cons
                        uint8_t *out, size_t room, size_t *written);
 
 /* Takes the line of a message to the client, as qlock_client_take does. The header of the message says this incarnation of the voter. A
-   LOCKED brings a vote, or renews it if the client is inside. What leaves gives votes back, and ends requests.
+   LOCKED brings a vote, or renews it if the client is inside. What leaves gives votes back, and ends requests: a LOCKED for another request
+   than the one that runs goes back by RELEASE, and all requests up to its stamp are over then. So give it no LOCKED with a stamp above all
+   that the lock asked with: no voter says one that keeps to its calls.
 
    QLOCK_BAD_STATE    the blocks are no lock, or the leases are none
    QLOCK_BAD_MESSAGE  the line is no message to this client

@@ -2,6 +2,7 @@ package locks
 
 import (
 	"errors"
+	"fmt"
 	"testing"
 	"time"
 
@@ -66,19 +67,24 @@ func TestNextCallIsAskedForAtOnce(t *testing.T) {
 	}
 }
 
-// A request for which nobody waits any more is given up: the call ended, or failed.
+// A request for which nobody waits any more is given up: the call ended, or failed, whether it waited or only tried.
 func TestNobodyIsAskedFor(t *testing.T) {
 	for name, ends := range map[string]func(*Client, *waiter){
 		"ends":  func(c *Client, call *waiter) { c.dequeue("x", call) },
 		"fails": func(c *Client, call *waiter) { c.refuse(c.locks["x"], ErrFull); c.pump(c.locks["x"]) },
 	} {
-		t.Run(name, func(t *testing.T) {
-			c := still(t, worlds.New(t, worlds.Majority, 20*time.Second))
-			call := comes(t, c, "x")
-			if ends(c, call); c.locks["x"].shown.Phase != qlock.Idle || c.stats.GivenUp != 1 {
-				t.Errorf("%v, and %d given up", c.locks["x"].shown, c.stats.GivenUp)
-			}
-		})
+		for _, tries := range []bool{false, true} {
+			t.Run(fmt.Sprint(name, tries), func(t *testing.T) {
+				c := still(t, worlds.New(t, worlds.Majority, 20*time.Second))
+				call := &waiter{got: make(chan *Held, 1), since: time.Now(), tries: tries}
+				if err := c.enqueue("x", call); err != nil {
+					t.Fatal(err)
+				}
+				if ends(c, call); c.locks["x"].shown.Phase != qlock.Idle || c.stats.GivenUp != 1 {
+					t.Errorf("%v, and %d given up", c.locks["x"].shown, c.stats.GivenUp)
+				}
+			})
+		}
 	}
 }
 
@@ -116,5 +122,14 @@ func TestLossIsSaidOnce(t *testing.T) {
 	}
 	if err := c.unlock(h); !errors.Is(err, ErrNotHeld) {
 		t.Error(err)
+	}
+}
+
+// Who has a lock hears that it may be lost as the session ends.
+func TestSessionThatEndsLosesItsLocks(t *testing.T) {
+	c := still(t, worlds.New(t, worlds.Majority, 20*time.Second))
+	h := gets(t, c, comes(t, c, "x"))
+	if c.end(ErrLost); !h.over.Load() || c.stats.Lost != 1 {
+		t.Errorf("%d were lost", c.stats.Lost)
 	}
 }

@@ -20,6 +20,7 @@ const mostIdle = 256
 type lock struct {
 	*qlock.LockClient
 	name  string
+	above uint64    // the stamps of its requests are above this one
 	queue []*waiter // the calls that wait, first come, first served
 	held  *Held     // the one that has it
 	timer remind.Timer
@@ -54,7 +55,7 @@ func (c *Client) find(name string) (*lock, error) {
 	if err != nil {
 		return nil, err
 	}
-	l := &lock{LockClient: client, name: name}
+	l := &lock{LockClient: client, name: name, above: c.used}
 	if c.draining {
 		l.Closes()
 	}
@@ -362,6 +363,10 @@ func (c *Client) take(voter int, name, line []byte) {
 		return
 	}
 	said := wire.ReadLine(line)
+	if string(said.Word) == "locked" && said.Stamp > greatest(l.above, l.shown.Stamp) {
+		c.stats.Refused++ // there was no such request: its RELEASE would end the votes of all requests up to this stamp
+		return
+	}
 	if said.Stamp == l.shown.Stamp && string(said.Word) == "fail" && l.shown.Phase == qlock.Asking {
 		defer c.refuseTries(l) // once the line is taken
 	}

@@ -212,27 +212,60 @@ func givesBack(c *Client, l *lock, voter, other int, grant uint64) {
 	lapsed(c, voter, 0, fmt.Sprintf("x inquire %d %d %d 0\n", voter, c.header.Number, grant))
 }
 
-// A lock is handed out once all its votes count. A voter that just started acknowledged nothing yet: a heartbeat leaves at once, and its
-// reply does.
-func TestVoteWaitsForItsLease(t *testing.T) {
-	c, l, call := asks(t)
-	last := 63 - bits.LeadingZeros64(l.shown.Quorum)
+// inside returns a client that has all votes for the lock x, and the call that waits for it. The last voter just started, and acknowledged
+// nothing yet: the lock is not handed out.
+func inside(t *testing.T) (c *Client, l *lock, call *waiter, last int) {
+	t.Helper()
+	c, l, call = asks(t)
+	last = 63 - bits.LeadingZeros64(l.shown.Quorum)
 	for v := range c.peers {
 		if v != last && l.shown.Quorum>>v&1 == 1 {
 			lapsed(c, v, 0, locked(c, l, v, 1))
 		}
 	}
-	start, seq := c.peers[last].start+1, c.header.Seq
-	started(c, last, start, 0, locked(c, l, last, 1))
+	seq := c.header.Seq
+	started(c, last, c.peers[last].start+1, 0, locked(c, l, last, 1))
 	if l.shown.Phase != qlock.Inside || len(call.got) > 0 {
 		t.Fatalf("phase %v, handed out: %d", l.shown.Phase, len(call.got))
 	}
 	if c.header.Seq == seq {
 		t.Error("no heartbeat leaves")
 	}
-	started(c, last, start, 0, fmt.Sprintf(". opened %d %d 0 4096 %d 1\n", c.header.Number, c.header.Epoch, c.header.Seq))
-	if len(call.got) == 0 {
+	return c, l, call, last
+}
+
+// acknowledges lets a voter acknowledge the newest heartbeat.
+func acknowledges(c *Client, voter int) {
+	started(c, voter, c.peers[voter].start, 0, fmt.Sprintf(". opened %d %d 0 4096 %d 1\n", c.header.Number, c.header.Epoch, c.header.Seq))
+}
+
+// A lock is handed out once all its votes count. A voter that just started acknowledged nothing yet: a heartbeat leaves at once, and its
+// reply does.
+func TestVoteWaitsForItsLease(t *testing.T) {
+	c, _, call, last := inside(t)
+	if acknowledges(c, last); len(call.got) == 0 {
 		t.Error("a lock whose votes count is not handed out")
+	}
+}
+
+// A vote from before its voter started again counts for a lock that is not handed out yet, as long as it did before.
+func TestVoteOfTheStartBeforeIsEnough(t *testing.T) {
+	c, l, call, last := inside(t)
+	first := bits.TrailingZeros64(l.shown.Quorum)
+	until := l.VoteUntil(first, &c.leases)
+	started(c, first, c.peers[first].start+1, 0, "")
+	if acknowledges(c, last); len(call.got) == 0 || (<-call.got).until.Load() != int64(until) {
+		t.Error("a lock whose votes count is not handed out up to their first end")
+	}
+}
+
+// A request by which a client is inside is made anew at once if a vote is in doubt, and not only in the next round.
+func TestDoubtfulRequestIsMadeAnew(t *testing.T) {
+	c, l, _, last := inside(t)
+	stamp := l.shown.Stamp
+	c.leases.Since[last] -= c.leases.Span + time.Second
+	if c.lapse(); l.shown.Phase != qlock.Asking || l.shown.Stamp <= stamp {
+		t.Errorf("%v after the request %d", l.shown, stamp)
 	}
 }
 
@@ -260,6 +293,25 @@ func TestAcknowledgementsAreTold(t *testing.T) {
 		lapsed(c, v, 0, fmt.Sprintf(". opened %d %d 0 4096 %d 1\n", c.header.Number, c.header.Epoch, c.header.Seq))
 	}
 	if c.round(time.Now()); h.until.Load() <= until {
+		t.Error("who has the lock hears of no later end")
+	}
+}
+
+// So it is told as a voter that started again says again that it gave its vote: what that acknowledged before counts from then on.
+func TestVoteThatIsGivenAgainIsTold(t *testing.T) {
+	c, h := held(t)
+	for v := range c.peers {
+		c.header.Seq++
+		c.peers[v].sent[c.header.Seq] = uptime()
+		started(c, v, c.peers[v].start+1, 0, fmt.Sprintf(". opened %d %d 0 4096 %d 1\n", c.header.Number, c.header.Epoch, c.header.Seq))
+	}
+	until := h.until.Load()
+	for v := range c.peers {
+		if h.quorum>>v&1 == 1 {
+			started(c, v, c.peers[v].start, 0, locked(c, h.lock, v, h.lock.Grant(v)+1))
+		}
+	}
+	if h.until.Load() <= until {
 		t.Error("who has the lock hears of no later end")
 	}
 }
@@ -292,6 +344,41 @@ func TestAsksWhoAcknowledged(t *testing.T) {
 	}
 	if quorum := c.locks["x"].shown.Quorum; quorum == 0 || quorum>>voter&1 == 1 {
 		t.Errorf("the voters %b are asked, and not %d", quorum, voter)
+	}
+}
+
+// A lock for which no voter may be asked yet is asked for once enough of them acknowledged something, and not only in the next round.
+func TestAsksOnceVotersAcknowledge(t *testing.T) {
+	c := still(t, worlds.New(t, worlds.Majority, 20*time.Second))
+	turns(c, 200*time.Millisecond, func() bool { return false })
+	for v := range c.peers {
+		c.forgetLease(v)
+	}
+	call := &waiter{got: make(chan *Held, 1), since: time.Now()}
+	if err := c.enqueue("x", call); err != nil {
+		t.Fatal(err)
+	}
+	l := c.locks["x"]
+	for v := range c.peers {
+		if l.shown.Phase != qlock.Idle && v < 2 {
+			t.Fatalf("%v, and %d voters acknowledged something", l.shown, v)
+		}
+		c.acknowledge(v, uptime())
+	}
+	if l.shown.Phase != qlock.Asking {
+		t.Error("the next round asks for it")
+	}
+}
+
+// A voter that let a vote go acknowledged nothing since. The request that is made anew asks others, if they would do.
+func TestAsksOthersAfterALapse(t *testing.T) {
+	c, l, _ := asks(t)
+	voter, stamp := bits.TrailingZeros64(l.shown.Quorum), l.shown.Stamp
+	lapsed(c, voter, 0, locked(c, l, voter, 1))
+	for c.ticket = 0; c.plan.Quorums[c.ticket]>>voter&1 == 0; c.ticket++ { // the next quorum has this voter
+	}
+	if lapsed(c, voter, 1, ""); l.shown.Phase != qlock.Asking || l.shown.Stamp <= stamp || l.shown.Quorum>>voter&1 == 1 {
+		t.Errorf("%v after the request %d, of which voter %d let its vote go", l.shown, stamp, voter)
 	}
 }
 
@@ -371,4 +458,20 @@ func TestGapsAreNoticed(t *testing.T) {
 	if !c.hasGap(now.Add(40 * time.Millisecond)) {
 		t.Error("a connection that came back is not noticed")
 	}
+}
+
+// A LOCKED for a request that was not made gives the session nothing, and takes nothing from it: who has the lock has it on, and gets it again.
+func TestVoteForNoRequest(t *testing.T) {
+	c, h := held(t)
+	until := h.until.Load()
+	for v := range c.peers {
+		lapsed(c, v, 0, fmt.Sprintf("x locked %d %d %d 9 0\n", v, c.header.Number, h.stamp+1000))
+	}
+	if h.until.Load() < until {
+		t.Error("a word of another request ends the votes of a lock that somebody has")
+	}
+	if err := c.unlock(h); err != nil {
+		t.Error(err)
+	}
+	gets(t, c, comes(t, c, "x"))
 }

@@ -293,6 +293,19 @@ func TestHeartbeatHidesNoLoss(t *testing.T) {
 	}
 }
 
+// He hears so in each round, also if no heartbeat is due.
+func TestRoundNoticesALoss(t *testing.T) {
+	c, h := held(t)
+	for v := range c.peers {
+		age(t, c, v)
+	}
+	c.beat = time.Now()
+	seq := c.header.Seq
+	if c.round(time.Now()); !h.over.Load() || c.header.Seq != seq {
+		t.Errorf("a round notices no loss, or %d heartbeats leave", c.header.Seq-seq)
+	}
+}
+
 // isLeased returns whether a vote counts now that is taken from a voter.
 func isLeased(c *Client, voter int) bool {
 	l, err := qlock.NewLockClient(3, 0)

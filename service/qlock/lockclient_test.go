@@ -137,6 +137,35 @@ func TestLockKeeps(t *testing.T) {
 	lost.is("what is not kept", lost.Until(&lost.leases), time.Duration(0))
 }
 
+// A vote counts by what the incarnation acknowledged that gave it: the one of the message.
+func TestLockTakesAnIncarnation(t *testing.T) {
+	for _, said := range []Incarnation{{Run: 1}, {Start: 1}, {Lapses: 1}, {Run: 1, Start: 2, Lapses: 3}} {
+		s := newScene(t)
+		s.leases.Of[0].Hears(said)
+		s.leases.Of[0].Renews(said, time.Second)
+		s.asks(1)
+		_, entered, err := s.Take(&s.leases, said, 0, []byte(fmt.Sprintf("locked 0 %d %d 1 0", me, s.Shows().Stamp)), nil)
+		s.is(fmt.Sprintf("%+v: it got the lock", said), entered && err == nil, true)
+		s.is(fmt.Sprintf("%+v: the end", said), s.Until(&s.leases), 9*time.Second)
+	}
+}
+
+// A LOCKED of a later incarnation renews a vote while that counts, and not once it does not.
+func TestLockRenewsAVote(t *testing.T) {
+	for now, want := range map[time.Duration]time.Duration{8 * time.Second: 13 * time.Second, 9 * time.Second: 9 * time.Second} {
+		s, later := newScene(t, time.Second), Incarnation{Start: 1}
+		s.asks(1)
+		s.says(0, 0)
+		s.Keeps(0, &s.leases)
+		s.leases.Of[0].Hears(later)
+		s.leases.Of[0].Renews(later, 5*time.Second)
+		if _, _, err := s.Take(&s.leases, later, now, []byte(fmt.Sprintf("locked 0 %d %d 2 0", me, s.Shows().Stamp)), nil); err != nil {
+			t.Fatal(err)
+		}
+		s.is(fmt.Sprintf("the end after a LOCKED at %v", now), s.Until(&s.leases), want)
+	}
+}
+
 // One FAIL may give several votes back. Each counts no more then.
 func TestLockGivesVotesBack(t *testing.T) {
 	s := newScene(t, time.Second, time.Second, time.Second)

@@ -20,6 +20,7 @@ type lock struct {
 	*qlock.LockClient // nil until the session is open and the program wants it
 	*witness
 	client *client
+	above  uint64  // the stamps of its requests are above this one
 	wants  bool    // the program waits for it
 	since  instant // when it began to
 	served bool    // it got it since the faults stopped
@@ -231,7 +232,7 @@ func (l *lock) isThere() bool {
 		l.violated("client", "client %d begins no lock: %v", c.id, err)
 		return false
 	}
-	l.LockClient = client
+	l.LockClient, l.above = client, c.used
 	return l.Wants(false) == qlock.CallTaken
 }
 
@@ -384,6 +385,10 @@ func (c *client) find(name string) *lock {
 func (c *client) take(v int, name string, line []byte) {
 	l := c.find(name)
 	if l == nil {
+		return
+	}
+	if said := wire.ReadLine(line); string(said.Word) == "locked" && said.Stamp > greatest(l.above, l.shown.Stamp) {
+		c.violated("protocol", "voter %d gives client %d its vote for no request: %s", v, c.id, line)
 		return
 	}
 	lines, _, err := l.Take(&c.leases, c.peers[v].said, c.shows(), line, c.room[:0])
