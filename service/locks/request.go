@@ -347,7 +347,7 @@ func (c *Client) look(l *lock, now time.Time) {
 	case qlock.Asking:
 		l.timer.First, l.timer.Most = 100*time.Millisecond, 2*time.Second
 	case qlock.Inside:
-		l.timer.First, l.timer.Most = c.cluster.TTL.Duration/4, c.cluster.TTL.Duration/4
+		l.timer.First, l.timer.Most = c.cluster.TTL.Duration/4, c.cluster.TTL.Duration
 	default:
 		l.timer.Of(0, now)
 		return

@@ -665,6 +665,9 @@ func (c *Client) noteIncarnation(h wire.Header) {
 	}
 	for l := range c.busy {
 		l.Keeps(h.Number, &c.leases)
+		if l.shown.Phase == qlock.Inside && l.shown.Quorum>>h.Number&1 == 1 {
+			l.timer.Sooner(time.Now()) // it counts again once the voter says so
+		}
 	}
 	if p.stale = !c.leases.Of[h.Number].Hears(said); p.stale {
 		return

@@ -283,6 +283,25 @@ func TestVoteOfANewStartIsNotInDoubt(t *testing.T) {
 	}
 }
 
+// Who has a lock says so to its voters once in a TTL, and soon after one of them started again.
+func TestHolderSaysThatItIsInside(t *testing.T) {
+	c, h := held(t)
+	began, quarter := time.Now(), c.cluster.TTL.Duration/4
+	before := c.stats.Reminders
+	for i := time.Duration(1); i <= 16; i++ {
+		c.round(began.Add(i * quarter))
+	}
+	if said := c.stats.Reminders - before; said < 4 || said > 6 {
+		t.Errorf("it says so %d times in four TTLs", said)
+	}
+	voter := bits.TrailingZeros64(h.quorum)
+	started(c, voter, c.peers[voter].start+1, 0, "")
+	before = c.stats.Reminders
+	if c.round(time.Now().Add(quarter + time.Second)); c.stats.Reminders == before {
+		t.Error("a voter that started again does not hear it soon")
+	}
+}
+
 // Who has a lock has it for longer once all voters of its quorum acknowledged a later heartbeat.
 func TestAcknowledgementsAreTold(t *testing.T) {
 	c, h := held(t)

@@ -676,8 +676,12 @@ func (c *client) noteIncarnation(h wire.Header) {
 		return
 	}
 	for _, l := range c.locks {
-		if l.LockClient != nil {
-			l.Keeps(h.Number, &c.leases)
+		if l.LockClient == nil {
+			continue
+		}
+		l.Keeps(h.Number, &c.leases)
+		if l.shown.Phase == qlock.Inside && l.shown.Quorum>>h.Number&1 == 1 {
+			l.timer.Sooner(dateOf(c.shows()))
 		}
 	}
 	if p.stale = !c.leases.Of[h.Number].Hears(said); p.stale {

@@ -363,7 +363,7 @@ func (l *lock) looks() {
 	case qlock.Asking:
 		l.timer.First, l.timer.Most = 100*time.Millisecond, 2*time.Second
 	case qlock.Inside:
-		l.timer.First, l.timer.Most = l.ttl/4, l.ttl/4
+		l.timer.First, l.timer.Most = l.ttl/4, l.ttl
 	default:
 		l.timer.Of(0, now)
 		return

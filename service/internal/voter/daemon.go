@@ -574,6 +574,10 @@ func (d *Daemon) round(now time.Time) {
 	d.measure(now)
 }
 
+// longestReminder is how long it is from one reminder to the next one of a vote for which nobody waits: a RELEASE may be lost. The first of
+// those that come to wait has it reminded soon.
+const longestReminder = time.Minute
+
 // roundOf does what time asks for of a vote.
 func (d *Daemon) roundOf(v *vote, now time.Time) {
 	if v.isAwaited {
@@ -589,6 +593,9 @@ func (d *Daemon) roundOf(v *vote, now time.Time) {
 		if !d.expire(v, now) {
 			break
 		}
+	}
+	if v.timer.Most = d.own.Most.Duration; !v.isWanted() && v.timer.Most < longestReminder {
+		v.timer.Most = longestReminder
 	}
 	if v.timer.IsDue(now) {
 		if lines, err := v.RemindHolder(&v.shard.proved, nil); err == nil && len(lines) > 0 {

@@ -154,3 +154,27 @@ func TestNoLockIsForgottenUnsaved(t *testing.T) {
 		t.Errorf("%d locks after the save", len(d.votes))
 	}
 }
+
+// Who has a vote for which nobody waits is reminded once a minute at last, and soon once somebody came to wait for it.
+func TestRemindersOfUnwantedVotes(t *testing.T) {
+	d, says := alone(t, 10)
+	says("orders request 0 0 1\n")
+	now, v := time.Now(), d.votes["orders"]
+	reminders := func(most time.Duration) (count int) {
+		for end := now.Add(most); now.Before(end); {
+			now = now.Add(100 * time.Millisecond)
+			if d.roundOf(v, now); len(d.out) > 0 {
+				count++
+				d.out = map[string][]byte{}
+			}
+		}
+		return count
+	}
+	if count := reminders(10 * time.Minute); count < 12 || count > 16 {
+		t.Errorf("%d reminders in ten minutes", count)
+	}
+	d.noteAsk(v, 1, 2, now)
+	if count := reminders(3 * time.Second); count < 2 {
+		t.Errorf("%d reminders in three seconds while somebody waits", count)
+	}
+}
