@@ -340,7 +340,6 @@ func (d *Daemon) admit(v *vote, l *letter, said wire.Line, now time.Time) bool {
 		return false
 	}
 	d.keep(v)
-	d.rest(v, now) // until somebody has it
 	return true
 }
 
