@@ -639,6 +639,15 @@ static struct block line_of_lock(uint64_t stamp, int is_inside) {
     return copy_of((uint8_t *)text, (size_t)n);
 }
 
+/* asks with a stamp at all votes, or ends the request of that stamp there, by the calls of each vote */
+static void all_votes(uint8_t *votes, uint64_t stamp, int asks) {
+    uint32_t yes;
+    for (size_t v = 0; v < QLOCK_MAX_VOTERS; v++) {
+        uint8_t *vote = votes + v * QLOCK_VOTE_BYTES;
+        if ((asks ? qlock_vote_asks(vote, QLOCK_VOTE_BYTES, stamp, &yes) : qlock_vote_ends(vote, QLOCK_VOTE_BYTES, stamp)) != QLOCK_DONE) exit(3);
+    }
+}
+
 static void one_lock(void) {
     lock_goes_on();
     int32_t phase, entered = 7777, entered_alone = 7777;
@@ -653,12 +662,13 @@ static void one_lock(void) {
     struct block since = block_of(8 * QLOCK_MAX_VOTERS), line = line_of_lock(stamp, phase == QLOCK_INSIDE), out = block_of(room());
     if (below(2)) memset(since.bytes, 0, since.n);
     const uint64_t *at = (const uint64_t *)(const void *)since.bytes;
-    uint8_t client_alone[QLOCK_CLIENT_BYTES], calls_alone[QLOCK_CALLS_BYTES], out_alone[MOST];
+    uint8_t client_alone[QLOCK_CLIENT_BYTES], votes_alone[QLOCK_VOTES_BYTES], calls_alone[QLOCK_CALLS_BYTES], out_alone[MOST];
     memcpy(client_alone, own_client, sizeof client_alone);
+    memcpy(votes_alone, own_votes, sizeof votes_alone);
     memcpy(calls_alone, own_calls, sizeof calls_alone);
     note(&c), note(&v), note(&k), note(&l), note(&since), note(&line), note(&out);
     int32_t result, result_alone = QLOCK_DONE;
-    int sends = 0, writes_calls = 0, had = qlock_calls_may_end(own_calls, sizeof own_calls, stamp, &alone) == QLOCK_DONE && !alone;
+    int sends = 0, takes = 0, writes_calls = 0, had = qlock_calls_may_end(own_calls, sizeof own_calls, stamp, &alone) == QLOCK_DONE && !alone;
     alone = 7777;
     /* half of the time what goes on: a request begins, gets a vote, and the lock is handed to a call */
     switch (below(2) ? below(11) : phase == QLOCK_IDLE ? 7 : phase == QLOCK_ASKING ? 10 : 3) {
@@ -718,7 +728,10 @@ static void one_lock(void) {
         result = qlock_held_ask(c.bytes, c.n, v.bytes, v.n, k.bytes, k.n, asked, out.bytes, out.n, &written);
         is_named(result, "012458");
         sends = 1;
-        if (is_right) result_alone = qlock_client_ask(client_alone, sizeof client_alone, asked, out_alone, out.n, &written_alone);
+        if (!is_right) break;
+        result_alone = qlock_client_ask(client_alone, sizeof client_alone, asked, out_alone, out.n, &written_alone);
+        if (result_alone == QLOCK_DONE && qlock_client_shows(client_alone, sizeof client_alone, &phase, &stamp, &quorum) == QLOCK_DONE)
+            all_votes(votes_alone, stamp, 1);
         break;
     case 8:
         call = "qlock_held_leave";
@@ -727,6 +740,7 @@ static void one_lock(void) {
         sends = 1;
         if (is_right && had) result_alone = QLOCK_BUSY;
         else if (is_right) result_alone = qlock_client_leave(client_alone, sizeof client_alone, out_alone, out.n, &written_alone);
+        if (result_alone == QLOCK_DONE) all_votes(votes_alone, stamp, 0);
         break;
     case 9:
         call = "qlock_held_give_up";
@@ -735,9 +749,11 @@ static void one_lock(void) {
         sends = 1;
         if (is_right && had) result_alone = QLOCK_BUSY;
         else if (is_right) result_alone = qlock_client_give_up(client_alone, sizeof client_alone, out_alone, out.n, &written_alone);
+        if (result_alone == QLOCK_DONE) all_votes(votes_alone, stamp, 0);
         break;
     default:
         call = "qlock_held_take";
+        takes = 1; /* which votes a line changes is not looked at */
         result = qlock_held_take(c.bytes, c.n, v.bytes, v.n, k.bytes, k.n, l.bytes, l.n, SPAN, own_now, 0, below(20) == 0, 0, line.bytes,
                                  line.n, out.bytes, out.n, &written, &entered);
         is_named(result, "0234");
@@ -751,6 +767,7 @@ static void one_lock(void) {
         if (got != alone) fail("another number than that of its part", result);
         if (memcmp(c.bytes, client_alone, c.n) != 0) fail("another client than that of its part", result);
         if (memcmp(k.bytes, calls_alone, k.n) != 0) fail("other calls than those of its part", result);
+        if (!takes && memcmp(v.bytes, votes_alone, v.n) != 0) fail("other votes than those of its parts", result);
         if (written != written_alone || (written != 7777 && memcmp(out.bytes, out_alone, written) != 0)) fail("other lines than those of its part", result);
     }
     int is_sent = sends && result == QLOCK_DONE;
@@ -769,8 +786,7 @@ int main(int argc, char **argv) {
     long rounds = argc > 1 ? atol(argv[1]) : 200000;
     if (argc > 2) seed ^= strtoull(argv[2], NULL, 10);
     for (long i = 0; i < rounds; i++) {
-        if (i % 500 == 0) fresh();
-        if (i % 500 == 0) fresh_lock();
+        if (i % 500 == 0) fresh(), fresh_lock();
         one_call();
         if (i % 4 == 0) one_lease();
         if (i % 8 == 0) one_quorum();
