@@ -21,7 +21,7 @@ abbrev pub all_told : List Answer → OwnStamps
 all_told [] = untold
 all_told (a ∷ answers) = told (all_told answers) a.row.base a.row.reserved
 
--- an answer of these, of this voter, for this session under its epoch
+-- an answer of these, of this voter, for the session under its epoch
 abbrev pub IsOf : List Answer → ℕ → ℕ → ℕ → Answer → Type 0
 IsOf answers session epoch voter a =
     IsOneOf a answers × (a.voter ≡ voter) × (a.row.session ≡ Some session) × (a.row.epoch ≡ epoch)

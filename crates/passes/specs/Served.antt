@@ -21,7 +21,7 @@ pub record IsNewVoting (lock v limit : ℕ) (voting : Voting) : Type 0 where
   pub may : LeaveOut voting.first voting.turns
   pub vote : voting.first.locks lock ≡ node_of (start v limit)
 
--- This voter, at some moment, told this session that the request of this client and stamp has its vote for the lock,
+-- This voter, at some moment, told the session that the request of this client and stamp has its vote for the lock,
 -- by the grant with this number: the voters, the lock, the session.
 abbrev pub Told : (ℕ → Voting) → ℕ → ℕ → Giving
 Told voting lock session v client stamp grant =

@@ -152,14 +152,14 @@ impl SessionRow {
         })
     }
 
-    /// Returns whether the number is this session's, under this epoch.
+    /// Returns whether the number is the session's, under this epoch.
     pub fn owns(&self, session: u128, epoch: u64) -> bool
         ensures { result ≡ has_number self.now session epoch }
     {
         self.epoch == epoch && is_name(self.session, session)
     }
 
-    /// Returns whether the voter takes a REQUEST of this session, under this epoch and stamp: the number is
+    /// Returns whether the voter takes a REQUEST of the session, under this epoch and stamp: the number is
     /// the session's, and the stamp is one of its own.
     pub fn takes(&self, session: u128, epoch: u64, stamp: u64) -> bool
         ensures { result ≡ is_taken self.now session epoch stamp }

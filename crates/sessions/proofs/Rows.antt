@@ -203,7 +203,7 @@ dropped_goes T r epoch stamp =
 abbrev Anybody : ℕ → ℕ → Type 0
 Anybody session epoch = Unit {0}
 
--- the stamp is this session's at the row, or past, or nobody has the number
+-- the stamp is the session's at the row, or past, or nobody has the number
 pub record IsSpent (u : Use) (r : Row) : Type 0 where
   pub few : u.stamp ≤ r.reserved
   pub of : ((r.session ≡ Some u.session) × (u.epoch ≡ r.epoch)) ⊎ ((u.stamp ≤ r.base) ⊎ (r.session ≡ None))

@@ -110,7 +110,7 @@ renewed_on g voter other v s grant (Some q) is h =
 
 -- ---- grants that end
 
--- what is not freed, or not of this session, stands as before
+-- what is not freed, or not of the session, stands as before
 free_stands : (other : ℕ) (o : Option Grant) (is_such : Grant → Bool) (ended returned : List ℕ) (grant : Grant)
     → ((g : Grant) → is_such g ≡ true → g.session ≡ other → (is_among g.request ended ≡ true) ⊎ (is_among g.number returned ≡ true))
     → grant.session ≡ other → o ≡ Some grant → Stands (free o is_such) ended returned grant

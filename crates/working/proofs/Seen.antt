@@ -25,7 +25,7 @@ pub record Given : Type 0 where
 
 -- ---- the world of one voter and one client
 
--- when the heartbeats left that were acknowledged to this session, with at most these lapses
+-- when the heartbeats left that were acknowledged to the session, with at most these lapses
 abbrev pub beats_of : ℕ → ℕ → List Acknowledgement → List ℕ
 beats_of session most [] = []
 beats_of session most (a ∷ others) =

@@ -331,7 +331,7 @@ lapsed_here g voter session v s next awake may h =
     (weaker {Q = λ a. a.session ≡ session → a.lapses < lapses session → a.beat + (g.lease + g.stop) ≤ s.time} (λ a (ended : Ended g session s a) own less. ended own) v.acknowledged stopped)
     (kept_grown session (v.lapses session) (lapses session) v.current next s.ended (s.returned voter) v.told (s.votes voter) more (awake_kept voter session v s None awake h.kept)) h)
 
--- what is void by these lapses, and of this session, is so by equal ones
+-- what is void by these lapses, and of the session, is so by equal ones
 void_as : (l n m : ℕ) (b c : Bool) → n ≡ m → b ≡ c → (l < n) ⊎ (b ≡ true) → (l < m) ⊎ (c ≡ true)
 void_as l n m b c same alike void = elim void [
   | inl less ↦ inl (subst (λ (x : ℕ). l < x) same less)

@@ -138,7 +138,7 @@ IsOneOf x (y ∷ ys) = (x ≡ y) ⊎ IsOneOf x ys
 abbrev pub DoMeet : List (List ℕ) → Type 0
 DoMeet quorums = (p q : List ℕ) → IsOneOf p quorums → IsOneOf q quorums → (v : ℕ) × IsOneOf v p × IsOneOf v q
 
--- this session works under this request, with the votes of one of these quorums
+-- the session works under this request, with the votes of one of these quorums
 pub record Works (lease stop : ℕ) (quorums : List (List ℕ)) (w : World) (session request : ℕ) : Type 0 where
   pub quorum : List ℕ
   pub is_quorum : IsOneOf quorum quorums

@@ -30,7 +30,7 @@ session_later s span = record s { time = s.time + span }
 abbrev pub beaten : Session → Session
 beaten s = record s { beats = s.time ∷ s.beats }
 
--- it takes an acknowledgement that reaches it from a voter, if it is for this session
+-- it takes an acknowledgement that reaches it from a voter, if it is for the session
 abbrev pub renews : ℕ → Session → ℕ → Option Acknowledgement → Session
 renews session s voter None = s
 renews session s voter (Some a) = if a.session == session then record s { leases = set s.leases voter (a ∷ s.leases voter) } else s
@@ -66,7 +66,7 @@ is_working lease stop s request quorum = not (is_among request s.ended) && list_
 
 -- ---- what reaches it from voters
 
--- It takes a LOCKED that reaches it from a voter, if it is for this session. One that renews a vote it takes only if it has that
+-- It takes a LOCKED that reaches it from a voter, if it is for the session. One that renews a vote it takes only if it has that
 -- vote still.
 abbrev pub takes : ℕ → ℕ → Session → ℕ → Option Locked → Session
 takes span session s voter None = s

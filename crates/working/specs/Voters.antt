@@ -195,11 +195,11 @@ is_of_number session number grant = (grant.session == session) && (grant.number 
 
 -- ---- silence
 
--- it may let grants of this session go: the session is silent for a TTL, or its number was given on
+-- it may let grants of the session go: the session is silent for a TTL, or its number was given on
 abbrev pub may_let_go : ℕ → Voter → ℕ → Bool
 may_let_go ttl v session = is_silent v.clock (v.heard session) ttl || is_among session v.over
 
--- it let a grant of this session go, and this one is current now
+-- it let a grant of the session go, and this one is current now
 abbrev pub lapsed : Voter → ℕ → Option Grant → Voter
 lapsed v session current = record v { lapses = set v.lapses session (v.lapses session + 1); current = current }
 
