@@ -56,8 +56,8 @@ func (h Holder) String() string {
 	return strings.Join(words, " ")
 }
 
-// isSame returns whether two are the same but for times and those that wait.
-func (h Holder) isSame(other Holder) bool {
+// IsSame returns whether two are the same but for times and those that wait: no change for Watch.
+func (h Holder) IsSame(other Holder) bool {
 	h.Since, h.Waiting = other.Since, other.Waiting
 	return h == other
 }

@@ -206,7 +206,7 @@ func runByAgent(ctx context.Context, client *agent.Client, of taking, grace time
 	if isDown(err) {
 		return status{exitNoLock, fmt.Errorf("%s: %w; start qlockd, or try again later", of.lock, err)}
 	}
-	for _, hopeless := range []error{agent.ErrName, agent.ErrAbsent, agent.ErrRefused} {
+	for _, hopeless := range []error{agent.ErrName, agent.ErrAbsent, agent.ErrRefused, agent.ErrDenied} {
 		if errors.Is(err, hopeless) {
 			return status{exitSettings, fmt.Errorf("%s: %w", of.lock, err)}
 		}
