@@ -208,6 +208,33 @@ func TestWatchOfTheCluster(t *testing.T) {
 	}
 }
 
+// Who begins to watch hears who has the lock now, and no older answer that others heard before.
+func TestWatcherHearsNoOlderAnswer(t *testing.T) {
+	h := start(t, ttl)
+	lock := &watched{clients: 1, begun: 7, told: 7, holder: locks.Holder{Note: "older"}, stop: func() {}, changed: make(chan struct{})}
+	says := func(question uint64, note string) {
+		h.agent.mutex.Lock()
+		defer h.agent.mutex.Unlock()
+		lock.told, lock.holder = question, locks.Holder{Note: note}
+		close(lock.changed)
+		lock.changed = make(chan struct{})
+	}
+	h.agent.mutex.Lock()
+	h.agent.watched["x"] = lock
+	h.agent.mutex.Unlock()
+	s := h.watch("x")
+	if s.status(); s.line()["held"] != false {
+		t.Error("somebody has it")
+	}
+	h.until("it watches", func() bool { return h.watches("x") == 2 })
+	time.Sleep(100 * time.Millisecond)
+	says(8, "newer")
+	if line := s.line(); line["note"] != "newer" {
+		t.Error(line)
+	}
+	_ = s.connection.Close()
+}
+
 // Many who watch one lock ask voters no more often than one.
 func TestManyWatchOneLock(t *testing.T) {
 	h := start(t, ttl)
