@@ -403,57 +403,63 @@ func TestShardsFollowPlans(t *testing.T) {
 	}
 }
 
-// A hot lock has all numbers of its shard, and more sessions wait for it. Who wants another lock of the shard comes late, and gets the next
-// number that is free.
+// A lock is held, and 79 more clients want it. It has 56 numbers of its shard, and stays at that while it is held. So another lock of the
+// shard is had at once, and one of another client after it. Then all that wait get the lock.
 func TestHotLockStopsNoNeighbour(t *testing.T) {
-	w := newShards(t, 2, 20*time.Second)
-	hot, cold := nameOf(w, 1, 0), nameOf(w, 1, 1)
+	const crowd, most = 80, 56
+	w := newShards(t, 2, 10*time.Second)
+	hot, cold, count := nameOf(w, 1, 0), nameOf(w, 1, 1), &counter{}
+	holder, one, other := startWith(t, w, Config{NoNote: true}), startWith(t, w, Config{NoNote: true}), startWith(t, w, Config{NoNote: true})
+	held := take(t, holder, hot)
 	var group sync.WaitGroup
-	passes, began := make(chan int, 1), make(chan struct{})
-	passes <- 0
-	pass := func(c *Client) {
-		defer group.Done()
-		held, err := c.Lock(within(t, 60*time.Second), hot)
-		if err != nil {
-			t.Error(err)
-			return
-		}
-		n := <-passes
-		if passes <- n + 1; n == 0 {
-			<-began
-		}
-		if n < 20 {
-			time.Sleep(100 * time.Millisecond)
-		}
-		if err := held.Unlock(); err != nil {
-			t.Error(err)
-		}
-	}
-	for i := 0; i < qlock.MaxClients+16; i++ {
+	for i := 1; i < crowd; i++ {
+		c := startWith(t, w, Config{NoNote: true})
 		group.Add(1)
-		go pass(startWith(t, w, Config{NoNote: true}))
+		go func() {
+			defer group.Done()
+			held, err := c.Lock(within(t, 100*time.Second), hot)
+			if err != nil {
+				t.Error(err)
+				return
+			}
+			count.pass()
+			if err := held.Unlock(); err != nil {
+				t.Error(err)
+			}
+		}()
 	}
-	neighbour, before := startWith(t, w, Config{NoNote: true}), 0
-	soon(t, "not all numbers are taken", func() bool { return who(t, neighbour, hot).Waiting == qlock.MaxClients-1 })
-	time.Sleep(time.Second) // the others wait for a number
-	group.Add(1)
-	go func() {
-		defer group.Done()
-		held, err := neighbour.Lock(within(t, 60*time.Second), cold)
+	soon(t, "not as many wait as may", func() bool { return who(t, holder, hot).Waiting >= most-1 })
+	for began := time.Now(); time.Since(began) < 5*time.Second; time.Sleep(100 * time.Millisecond) {
+		if n := who(t, holder, hot).Waiting; n > most-1 {
+			t.Errorf("one has the lock, and %d have numbers to wait for it", n)
+		}
+	}
+	for _, c := range []*Client{one, other} {
+		began := time.Now()
+		h, err := c.Lock(within(t, 4*time.Second), cold)
 		if err != nil {
-			t.Error(err)
-			return
+			t.Fatal(err)
 		}
-		before = <-passes
-		passes <- before
-		if err := held.Unlock(); err != nil {
+		if took := time.Since(began); took > 500*time.Millisecond {
+			t.Errorf("the neighbour had its lock after %v", took)
+		} else {
+			t.Logf("the neighbour had its lock after %v", took)
+		}
+		if isNow(held.Lost()) {
+			t.Fatal("the hot lock is lost")
+		}
+		if err := h.Unlock(); err != nil {
 			t.Error(err)
 		}
-	}()
-	time.Sleep(time.Second) // it waits behind them
-	close(began)
+	}
+	if _, err := other.TryLock(within(t, 5*time.Second), hot); !errors.Is(err, ErrNumbers) && !errors.Is(err, ErrHeld) {
+		t.Errorf("who tries: %v", err)
+	}
+	if err := held.Unlock(); err != nil {
+		t.Error(err)
+	}
 	group.Wait()
-	if before > 8 {
-		t.Errorf("the neighbour gets its lock after %d passes of the others", before)
+	if count.met || count.total != crowd-1 {
+		t.Errorf("%d passes, two inside: %v", count.total, count.met)
 	}
 }
