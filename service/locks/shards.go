@@ -10,6 +10,7 @@ import (
 	"context"
 	"errors"
 	"sync"
+	"sync/atomic"
 	"time"
 
 	"calvundek.example/service/internal/claims"
@@ -47,6 +48,8 @@ type part struct {
 	name   string          // of the session that is opened: it keeps its place among those that wait for a number
 	claims *claims.Numbers // those that it made
 	client *Client         // nil if there is none
+
+	short atomic.Pointer[wire.Told] // of whoever opens the session (session.short)
 }
 
 // openShards connects, and waits until a quorum of voters replies.
@@ -172,6 +175,9 @@ func (c *Client) sessionFor(ctx context.Context, lock string, tries bool) (*Clie
 	case p.gate <- struct{}{}:
 		defer func() { <-p.gate }()
 	case <-ctx.Done():
+		if short := p.short.Load(); short != nil {
+			return nil, crowded(*short, ctx.Err()) // another call waits for the number, too
+		}
 		return nil, ctx.Err()
 	case <-c.shards.closing:
 		return nil, ErrClosed
@@ -248,7 +254,7 @@ func (c *Client) openPart(ctx context.Context, p *part, lock string, tries bool)
 	if err != nil {
 		return nil, err
 	}
-	session.wants = lock
+	session.wants, session.short = lock, &p.short
 	if err := c.call(func() error { session.plans = c.plans.copied(); return nil }); err != nil {
 		return nil, err
 	}

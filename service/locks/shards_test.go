@@ -218,6 +218,9 @@ func TestNoNumberOfShard(t *testing.T) {
 		waits <- err
 	}()
 	time.Sleep(2 * time.Second)
+	if _, err := late.Lock(within(t, time.Second), nameOf(w, 0, 70)); !errors.Is(err, ErrNumbers) || !errors.Is(err, context.DeadlineExceeded) {
+		t.Errorf("who waits behind another call that waits for the number: %v", err)
+	}
 	if _, err := startWith(t, w, Config{NoNote: true}).Lock(within(t, 6*time.Second), name); !errors.Is(err, ErrNumbers) ||
 		!strings.Contains(err.Error(), "wait for a number before this one") {
 		t.Errorf("who waits is told: %v", err)

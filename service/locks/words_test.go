@@ -524,3 +524,71 @@ func TestSpentEpochs(t *testing.T) {
 		t.Errorf("number %d is chosen", c.asked)
 	}
 }
+
+// Who waited for a number hears ErrNumbers and how many sessions there were, whatever was asked last as its time ended. That no quorum replied
+// it hears only if none did. What an earlier call heard does not count.
+func TestWhyThereIsNoNumber(t *testing.T) {
+	var taken strings.Builder
+	for number := 0; number < qlock.MaxClients; number++ {
+		fmt.Fprintf(&taken, ". number %d 1 0\n", number)
+	}
+	taken.WriteString(". sessions 64 0 0 5 0\n")
+	free := strings.Replace(taken.String(), ". number 9 1 0\n", ". number 9 1 1\n", 1)
+	type reply struct {
+		hello  string
+		denies bool // claims
+	}
+	c, replies := alone(t), make(chan reply, 1) // what voters reply now
+	c.claims[3].GivesUp()
+	var err error
+	if c.messages, err = c.carrier.Listen(c.Client.boxes()); err != nil {
+		t.Fatal(err)
+	}
+	for v := range c.boxes {
+		go func(v int, session string) {
+			h := wire.Header{Cluster: "test", Coterie: c.plan.mark, Kind: wire.FromVoter, Number: v, Name: fmt.Sprint("identity-", v)}
+			for m := range c.boxes[v] {
+				_, lines, _ := wire.Read(m.Data)
+				text := string(lines)
+				says := <-replies
+				replies <- says
+				switch claim := ""; {
+				case strings.HasSuffix(text, ". hello\n"):
+					text = says.hello
+				case says.denies && strings.Contains(text, ". claim "):
+					claim = text[strings.Index(text, ". claim "):]
+					text = strings.Replace(strings.TrimSuffix(claim, " 64\n"), "claim", "denied", 1) + "\n"
+				default:
+					continue
+				}
+				_ = c.carrier.Send(wire.SessionBox("test", session, v), append(h.Append(nil), text...))
+			}
+		}(v, wire.SessionName(c.user, c.header.Name))
+	}
+	for _, one := range []struct {
+		what        string
+		first, then string // what voters reply to hello, and what after a second
+		denies      bool
+		want        error
+		text        string
+	}{
+		{"none is free, and then no voter replies", taken.String(), "", false, ErrNumbers, "64 sessions are open"},
+		{"no voter replies", "", "", false, ErrNoQuorum, "no quorum"},
+		{"none is free, and then no voter replies to the claim of one", taken.String(), free, false, ErrNumbers, "5 wait for a number before this one"},
+		{"no voter replies to a claim", free, free, false, ErrNoQuorum, "no quorum"},
+		{"others are always faster", free, free, true, ErrNumbers, "64 sessions are open"},
+		{"none is free", taken.String(), taken.String(), false, ErrNumbers, "64 sessions are open"},
+	} {
+		replies <- reply{one.first, one.denies}
+		c.header.Number, c.header.Epoch, c.wants = 0, 0, ""
+		ctx, cancel := context.WithTimeout(context.Background(), 2500*time.Millisecond)
+		again := time.AfterFunc(time.Second, func() { <-replies; replies <- reply{one.then, one.denies} })
+		err := c.begin(ctx)
+		if !errors.Is(err, one.want) || !errors.Is(err, context.DeadlineExceeded) || !strings.Contains(err.Error(), one.text) {
+			t.Errorf("%s: %v", one.what, err)
+		}
+		again.Stop()
+		cancel()
+		<-replies
+	}
+}
