@@ -112,6 +112,7 @@ type session struct {
 	crowd   wire.Told // how many sessions there are, as a voter said
 	isFree  bool      // a voter said that a number is free
 	wants   string    // the lock for which a number is wanted, "" if that is not known
+	wishes  *wishes   // the locks of all calls for which one is wanted, nil without shards
 
 	short *atomic.Pointer[wire.Told] // of this call: which sessions there were as no number was to be had last, nil before that
 
@@ -251,6 +252,9 @@ func (c *Client) choose(ctx context.Context) error {
 		if err := c.awaitsFree(ctx); err != nil {
 			return err
 		}
+		if c.wishes != nil && !c.isFree {
+			c.wants = c.wishes.next(c.wants) // that lock may have a number
+		}
 	}
 }
 
@@ -264,12 +268,18 @@ func (c *Client) askForNumbers() {
 	}
 }
 
-// awaitsFree waits until a voter says that a number is free, and at most for a tenth of the TTL.
+// awaitsFree waits until a voter says that a number is free, or one is wanted for another lock, and at most for a tenth of the TTL.
 func (c *Client) awaitsFree(ctx context.Context) error {
 	timer := time.NewTimer(c.cluster.TTL.Duration / 10)
 	defer timer.Stop()
+	var grown <-chan struct{}
+	if c.wishes != nil {
+		grown = c.wishes.grown
+	}
 	for c.isFree = false; !c.isFree && c.why == nil; {
 		select {
+		case <-grown:
+			return nil
 		case m := <-c.messages:
 			c.message(m)
 		case m := <-c.inBundles():

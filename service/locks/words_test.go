@@ -540,6 +540,7 @@ func TestWhyThereIsNoNumber(t *testing.T) {
 	}
 	c, replies := alone(t), make(chan reply, 1) // what voters reply now
 	c.claims[3].GivesUp()
+	c.cluster.TTL.Duration = 2 * time.Second // it asks again after a tenth of that
 	var err error
 	if c.messages, err = c.carrier.Listen(c.Client.boxes()); err != nil {
 		t.Fatal(err)
@@ -557,7 +558,7 @@ func TestWhyThereIsNoNumber(t *testing.T) {
 					text = says.hello
 				case says.denies && strings.Contains(text, ". claim "):
 					claim = text[strings.Index(text, ". claim "):]
-					text = strings.Replace(strings.TrimSuffix(claim, " 64\n"), "claim", "denied", 1) + "\n"
+					text = strings.Replace(strings.TrimSuffix(claim, " 64\n"), "claim", "refused", 1) + "\n"
 				default:
 					continue
 				}
@@ -567,7 +568,7 @@ func TestWhyThereIsNoNumber(t *testing.T) {
 	}
 	for _, one := range []struct {
 		what        string
-		first, then string // what voters reply to hello, and what after a second
+		first, then string // what voters reply to hello, and what after half a second
 		denies      bool
 		want        error
 		text        string
@@ -581,8 +582,8 @@ func TestWhyThereIsNoNumber(t *testing.T) {
 	} {
 		replies <- reply{one.first, one.denies}
 		c.header.Number, c.header.Epoch, c.wants = 0, 0, ""
-		ctx, cancel := context.WithTimeout(context.Background(), 2500*time.Millisecond)
-		again := time.AfterFunc(time.Second, func() { <-replies; replies <- reply{one.then, one.denies} })
+		ctx, cancel := context.WithTimeout(context.Background(), 1200*time.Millisecond)
+		again := time.AfterFunc(500*time.Millisecond, func() { <-replies; replies <- reply{one.then, one.denies} })
 		err := c.begin(ctx)
 		if !errors.Is(err, one.want) || !errors.Is(err, context.DeadlineExceeded) || !strings.Contains(err.Error(), one.text) {
 			t.Errorf("%s: %v", one.what, err)
@@ -590,5 +591,52 @@ func TestWhyThereIsNoNumber(t *testing.T) {
 		again.Stop()
 		cancel()
 		<-replies
+	}
+}
+
+// Who hears that a number is free asks for the lock for which it waited. If none is free for a while it asks for another one that is wanted.
+func TestFreeIsForTheLockThatWasNamed(t *testing.T) {
+	var taken strings.Builder
+	for number := 0; number < qlock.MaxClients; number++ {
+		fmt.Fprintf(&taken, ". number %d 1 0\n", number)
+	}
+	c, named := alone(t), make(chan string, 1000)
+	c.claims[3].GivesUp()
+	c.cluster.TTL.Duration = 3 * time.Second
+	c.wants, c.wishes = "one", &wishes{locks: []string{"one", "other"}, grown: make(chan struct{}, 1)}
+	var err error
+	if c.messages, err = c.carrier.Listen(c.Client.boxes()); err != nil {
+		t.Fatal(err)
+	}
+	for v := range c.boxes {
+		go func(v int, session string) {
+			h := wire.Header{Cluster: "test", Coterie: c.plan.mark, Kind: wire.FromVoter, Number: v, Name: fmt.Sprint("identity-", v)}
+			says := func(lines string) {
+				_ = c.carrier.Send(wire.SessionBox("test", session, v), append(h.Append(nil), lines...))
+			}
+			isFirst := true
+			for m := range c.boxes[v] {
+				_, lines, _ := wire.Read(m.Data)
+				says(taken.String())
+				if v == 0 {
+					named <- string(lines)
+				}
+				if v == 0 && isFirst {
+					time.AfterFunc(100*time.Millisecond, func() { says(". free\n") })
+				}
+				isFirst = false
+			}
+		}(v, wire.SessionName(c.user, c.header.Name))
+	}
+	c.header.Number, c.header.Epoch = 0, 0
+	if err := c.begin(within(t, 900*time.Millisecond)); !errors.Is(err, ErrNumbers) {
+		t.Error(err)
+	}
+	var order []string
+	for len(named) > 0 {
+		order = append(order, strings.Fields(<-named)[2])
+	}
+	if got := strings.Join(order, " "); !strings.HasPrefix(got, "one one ") || !strings.Contains(got, " other") {
+		t.Error(got)
 	}
 }
