@@ -255,8 +255,7 @@ func TestWhoIsAskedForANumber(t *testing.T) {
 	d, hot, cold, says := hotShard(t, 4, 1)
 	asked := func() (ofHot, ofCold int) {
 		for number := 0; number < 60; number++ {
-			name := fmt.Sprint("jobs.1-has-", number)
-			heard := string(d.out[name]) + says("jobs", fmt.Sprint("has-", number), number, 1, ". open 0\n")
+			heard := says("jobs", fmt.Sprint("has-", number), number, 1, ". open 0\n") // and what was told before
 			switch n := strings.Count(heard, ". wanted\n"); {
 			case number < 56:
 				ofHot += n
