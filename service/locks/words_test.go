@@ -577,8 +577,8 @@ func TestWhyThereIsNoNumber(t *testing.T) {
 		{"no voter replies", "", "", false, ErrNoQuorum, "no quorum"},
 		{"none is free, and then no voter replies to the claim of one", taken.String(), free, false, ErrNumbers, "5 wait for a number before this one"},
 		{"no voter replies to a claim", free, free, false, ErrNoQuorum, "no quorum"},
-		{"others are always faster", free, free, true, ErrNumbers, "64 sessions are open"},
 		{"none is free", taken.String(), taken.String(), false, ErrNumbers, "64 sessions are open"},
+		{"others are always faster", free, free, true, ErrNumbers, "64 sessions are open"},
 	} {
 		replies <- reply{one.first, one.denies}
 		c.header.Number, c.header.Epoch, c.wants = 0, 0, ""
