@@ -319,17 +319,17 @@ func (n *NoNumber) Is(target error) bool { return target == ErrNumbers }
 func (n *NoNumber) Unwrap() error { return n.why }
 
 // crowded returns why no number is to be had, and what voters said of the sessions that have them.
-func (c *Client) crowded(why error) error {
+func crowded(crowd wire.Told, why error) error {
 	milliseconds := func(n uint64) time.Duration {
 		return (time.Duration(n) * time.Millisecond).Round(100 * time.Millisecond)
 	}
 	switch {
-	case c.crowd.Kind == wire.NotTold && why == nil:
+	case crowd.Kind == wire.NotTold && why == nil:
 		return ErrNumbers
-	case c.crowd.Kind == wire.NotTold:
+	case crowd.Kind == wire.NotTold:
 		return because{ErrNumbers, why}
 	}
-	return &NoNumber{int(c.crowd.Open), int(c.crowd.Ahead), milliseconds(c.crowd.Silent), milliseconds(c.crowd.Waits), why}
+	return &NoNumber{int(crowd.Open), int(crowd.Ahead), milliseconds(crowd.Silent), milliseconds(crowd.Waits), why}
 }
 
 // HasNumber returns whether the client has a number for a lock. In a cluster with shards it has none until a call of Lock opened the session
