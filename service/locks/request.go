@@ -130,7 +130,7 @@ func (c *Client) unlock(h *Held) error {
 	if l.MayEnd(h.stamp) { // h does not have it under its request
 		return ErrNotHeld
 	}
-	c.doubt(l)
+	c.doubt(l, uptime())
 	if !h.lapse() {
 		c.lose(h)
 	}
@@ -142,7 +142,9 @@ func (c *Client) unlock(h *Held) error {
 	c.watch.end(h)
 	c.stats.Passes++
 	c.pump(l) // it leaves
-	c.pump(l) // and asks for who waits
+	if len(l.queue) > 0 {
+		c.pump(l) // and asks for who waits
+	}
 
 	c.giveNumberBack(time.Now()) // who wants the lock again at once comes behind those that wait for a number
 	return err
@@ -159,7 +161,7 @@ func (c *Client) lose(h *Held) {
 
 // pump does what a lock needs next.
 func (c *Client) pump(l *lock) {
-	switch l.Next(&c.leases, uptime()) {
+	switch c.nextOf(l) {
 	case qlock.Ask:
 		c.ask(l)
 	case qlock.GiveUp:
@@ -178,6 +180,14 @@ func (c *Client) pump(l *lock) {
 	if c.draining && len(c.busy) == 0 && c.idle == 0 {
 		c.heartbeat(time.Now()) // the voters say at once that they have nothing of this session any more
 	}
+}
+
+// nextOf returns what is next for the calls of a lock. It is nothing for one that is asked for while somebody waits, as most LOCKEDs find it.
+func (c *Client) nextOf(l *lock) qlock.Next {
+	if l.shown.Phase == qlock.Asking && len(l.queue) > 0 {
+		return qlock.Nothing
+	}
+	return l.Next(&c.leases, uptime())
 }
 
 // hand gives a lock that this client entered to the first who waits.
@@ -432,20 +442,21 @@ func (c *Client) spoil(l *lock) {
 	}
 }
 
-// lapse ends the requests that have a vote of a voter which may have let it go. No vote of a lock that somebody has is in doubt before the
-// time up to which he has it.
+// lapse ends the requests that have a vote of a voter which may have let it go.
 func (c *Client) lapse() {
-	up := int64(uptime())
+	up := uptime()
 	for l := range c.busy {
-		if l.held == nil || l.held.until.Load() <= up {
-			c.doubt(l)
-		}
+		c.doubt(l, up)
 	}
 }
 
-// doubt ends the request of a lock if it has a vote of a voter which may have let it go.
-func (c *Client) doubt(l *lock) {
-	if l.IsDoubtful(&c.leases, uptime()) {
+// doubt ends the request of a lock if it has a vote of a voter which may have let it go. No vote of a lock that somebody has is in doubt
+// before the time up to which he has it.
+func (c *Client) doubt(l *lock, up time.Duration) {
+	if h := l.held; h != nil && up < time.Duration(h.until.Load()) {
+		return
+	}
+	if l.IsDoubtful(&c.leases, up) {
 		c.spoil(l)
 	}
 }
