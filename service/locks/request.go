@@ -130,7 +130,7 @@ func (c *Client) unlock(h *Held) error {
 	if l.MayEnd(h.stamp) { // h does not have it under its request
 		return ErrNotHeld
 	}
-	c.doubt(l, uptime())
+	c.doubt(l)
 	if !h.lapse() {
 		c.lose(h)
 	}
@@ -442,21 +442,20 @@ func (c *Client) spoil(l *lock) {
 	}
 }
 
-// lapse ends the requests that have a vote of a voter which may have let it go.
+// lapse ends the requests that have a vote of a voter which may have let it go. No vote of a lock that somebody has is in doubt before the
+// time up to which he has it.
 func (c *Client) lapse() {
-	up := uptime()
+	up := int64(uptime())
 	for l := range c.busy {
-		c.doubt(l, up)
+		if l.held == nil || l.held.until.Load() <= up {
+			c.doubt(l)
+		}
 	}
 }
 
-// doubt ends the request of a lock if it has a vote of a voter which may have let it go. No vote of a lock that somebody has is in doubt
-// before the time up to which he has it.
-func (c *Client) doubt(l *lock, up time.Duration) {
-	if h := l.held; h != nil && up < time.Duration(h.until.Load()) {
-		return
-	}
-	if l.IsDoubtful(&c.leases, up) {
+// doubt ends the request of a lock if it has a vote of a voter which may have let it go.
+func (c *Client) doubt(l *lock) {
+	if l.IsDoubtful(&c.leases, uptime()) {
 		c.spoil(l)
 	}
 }
