@@ -6,9 +6,9 @@ package locks
 // its session, and the highest stamp that was reserved.
 //
 //  1. want STAMPS, and hello: each voter claims a number for the session, the first one that is free at or
-//     behind a hash of the session, under the next epoch there, if no session waits for one. It says which
-//     numbers are free besides, and their epochs. If a quorum claimed the same number under the same epoch, the session claims that, too,
-//     and has it: one trip.
+//     behind a hash of the session, under the next epoch there, unless others wait for one. It says which
+//     numbers are free besides, and their epochs. If a quorum claimed the same number under the same epoch,
+//     the session claims that, too, and has it: one trip.
 //  2. Else claim NUMBER EPOCH STAMPS, of the number that most voters chose, or of one that is free, under one
 //     more than any epoch that was seen. A voter accepts an epoch once, and only if the number is free, or its
 //     session was silent for the TTL. It says its base, which is what was reserved there so far, and reserves
