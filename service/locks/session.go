@@ -1049,7 +1049,7 @@ func (c *Client) noteBrought(voter int, got brought) {
 	case !c.choosing:
 		c.takesBack(voter, got.number, got.epoch)
 	default:
-		if before := p.brought; before.epoch > 0 && before != got {
+		if before := p.brought; before.epoch > 0 && (before.number != got.number || before.epoch != got.epoch) {
 			c.takesBack(voter, before.number, before.epoch)
 		}
 		if p.brought = got; !p.stale {

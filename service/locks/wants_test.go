@@ -402,3 +402,16 @@ func TestOthersAreGivenBack(t *testing.T) {
 		t.Errorf("%q", got)
 	}
 }
+
+// A voter may say its choice again, and with more stamps. If it says another one, the one before is given back.
+func TestChoiceIsSaidAgain(t *testing.T) {
+	c, said := newcomer(t, claims.New())
+	c.choosing = true
+	c.says(0, brings(7, 5))
+	if c.says(0, ". claimed 7 5 0 128\n"); c.peers[0].brought.reserved != 128 || c.claims[7].Shows().Newest != 0 || said() != [3]string{} {
+		t.Errorf("%+v, %+v", c.peers[0].brought, c.claims[7].Shows())
+	}
+	if c.says(0, brings(8, 1)); c.peers[0].brought.number != 8 || said() != [3]string{". drop 7 5\n", "", ""} {
+		t.Errorf("%+v", c.peers[0].brought)
+	}
+}

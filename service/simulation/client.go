@@ -1023,7 +1023,7 @@ func (c *client) noteBrought(v int, got brought) {
 	case c.stage != choosing:
 		c.takesBack(v, got.number, got.epoch)
 	default:
-		if before := p.brought; before.epoch > 0 && before != got {
+		if before := p.brought; before.epoch > 0 && (before.number != got.number || before.epoch != got.epoch) {
 			c.takesBack(v, before.number, before.epoch)
 		}
 		if p.brought = got; !p.stale {
