@@ -115,6 +115,7 @@ func FuzzReply(f *testing.F) {
 	for voter := uint8(0); voter < 3; voter++ {
 		for _, lines := range []string{"", ". taken 0 1\n", ". closed 0 1\n", ". opened 0 1 0 99999999 3 0\n",
 			". opened 0 1 99999999 3 0\n", ". number 5 7 1\n", ". leaving\n", ". claimed 0 1 0 4096\n",
+			". claimed 5 7 0 64\n. number 6 7 1\n. claimed 5 7 0 64\n. claimed 5 18446744073709551615 9 9\n", ". claimed 0 0 0 0\n",
 			". refused 0 1\n", ". gone x 1\n", ". gone y 1\n", ". unknown 0 1\n", ". generation 9 000000000000 9\n", ". full x 1\n",
 			". generation 1 abcdefabcdef 0\n. plan 1 dg== dg==\n", "x locked 0 0 1 1 1\n", "x inquire 0 0 1\n",
 			"x failed 0 0 1\n", "z locked 0 0 9 9 9\n", "x y\n\n", ". noted\n", ". has 1 x 0 5 1 900 - m 1 r a\n", ". has 0 x 6 5 1 0 jobs\n",

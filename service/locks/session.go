@@ -5,12 +5,18 @@ package locks
 // A session is a number of 0 to 63, an epoch and a name. Each voter keeps, for each number, the newest epoch, the name of
 // its session, and the highest stamp that was reserved.
 //
-//  1. hello: the voters say which numbers are free, and their epochs.
-//  2. claim NUMBER EPOCH STAMPS, one more than any epoch that was seen. A voter accepts an epoch once,
-//     and only if the number is free, or its session was silent for the TTL. It says its base, which
-//     is what was reserved there so far, and reserves so many stamps above it.
+//  1. want STAMPS, and hello: each voter claims a number for the session, the first one that is free at or
+//     behind a hash of the session, under the next epoch there, unless others wait for one. It says which
+//     numbers are free besides, and their epochs. If a quorum claimed the same number under the same epoch,
+//     the session claims that, too, and has it: one trip.
+//  2. Else claim NUMBER EPOCH STAMPS, of the number that most voters chose, or of one that is free, under one
+//     more than any epoch that was seen. A voter accepts an epoch once, and only if the number is free, or its
+//     session was silent for the TTL. It says its base, which is what was reserved there so far, and reserves
+//     so many stamps above it. Voters of older programs know no want, so with them it is these two trips.
 //  3. A quorum accepted. Any two quorums share a voter, so an epoch has one session. The number is
 //     claimed at the other voters, too, as soon as they say that they don't know the session.
+//     What voters claimed besides is given back: the session claims it, takes that back, and says so (drop). What
+//     it may not claim any more, and what it did not hear of, the voter ends (want 0).
 //  4. Heartbeats carry what is to be reserved besides. A quorum is asked under a stamp only if each of its
 //     voters said that the stamp is above the session's base there, and reserved there. Voters take
 //     no other one.
@@ -77,6 +83,7 @@ type peer struct {
 	taken    bool                     // it said that this session is over
 	level    uint64                   // of the cluster, as it knows it
 	stale    bool                     // the message that is taken is of an earlier incarnation
+	brought  brought                  // the number that it chose for this session, which wants one
 	requests uint64                   // how many of this session it said that it has
 	drained  bool                     // it has no request of this session any more
 	closed   bool                     // it ended this session
@@ -85,6 +92,12 @@ type peer struct {
 
 	bundles   bool // it reads bundles, and knows the session's process
 	processes int  // how many heartbeats it heard without saying so
+}
+
+// brought is a number that a voter chose for a session, and claimed for it. Without an epoch it is none.
+type brought struct {
+	number                int
+	epoch, base, reserved uint64
 }
 
 // session is a client's number, and what the voters say of it.
@@ -103,16 +116,19 @@ type session struct {
 	done     bool          // it is closed
 
 	// while a number is claimed
-	opening bool
-	claims  *claims.Numbers
-	states  [qlock.MaxClients]int // the worst that a voter said of a number: 0 taken, 2 silent for the TTL, 1 free
-	asked   int
-	left    time.Duration // when the claim left, by uptime
-	refused bool
-	crowd   wire.Told // how many sessions there are, as a voter said
-	isFree  bool      // a voter said that a number is free
-	wants   string    // the lock for which a number is wanted, "" if that is not known
-	wishes  *wishes   // the locks of all calls for which one is wanted, nil without shards
+	opening  bool
+	claims   *claims.Numbers
+	states   [qlock.MaxClients]int // the worst that a voter said of a number: 0 taken, 2 silent for the TTL, 1 free
+	asked    int
+	failed   int                      // the number whose claim failed last, -1 if none did
+	seen     [qlock.MaxClients]uint64 // the newest epoch that a voter said of a number
+	choosing bool                     // it wants a number, of which none is chosen yet
+	left     time.Duration            // when the first word left that could bring this name a number, by uptime; 0 if none did
+	refused  bool
+	crowd    wire.Told // how many sessions there are, as a voter said
+	isFree   bool      // a voter said that a number is free
+	wants    string    // the lock for which a number is wanted, "" if that is not known
+	wishes   *wishes   // the locks of all calls for which one is wanted, nil without shards
 
 	short *atomic.Pointer[wire.Told] // of this call: which sessions there were as no number was to be had last, nil before that
 
@@ -125,7 +141,7 @@ type session struct {
 }
 
 func newSession(cluster *config.Cluster, name string, own *claims.Numbers) session {
-	s := session{asked: -1, claims: own, short: &atomic.Pointer[wire.Told]{}, unused: time.Now(), drained: make(chan struct{}), leases: qlock.NewLeases(leaseOf(cluster.TTL.Duration)),
+	s := session{asked: -1, failed: -1, claims: own, short: &atomic.Pointer[wire.Told]{}, unused: time.Now(), drained: make(chan struct{}), leases: qlock.NewLeases(leaseOf(cluster.TTL.Duration)),
 		header: wire.Header{Cluster: cluster.ID, Kind: wire.FromClient, Name: name, Level: level.Newest}}
 	s.meet(len(cluster.Names()))
 	return s
@@ -144,6 +160,7 @@ func (c *Client) begin(ctx context.Context) error {
 	c.opening = true
 	for c.short.Store(nil); ; {
 		if err := c.choose(ctx); err != nil {
+			c.wantsNone()
 			return c.withoutNumber(ctx, err)
 		}
 		err := c.claim(ctx)
@@ -229,22 +246,67 @@ func (c *Client) abandon() {
 		c.tell(v, qlock.ClientSays{Kind: qlock.Drop, Number: c.asked, First: epoch})
 	}
 	c.claims[c.asked].GivesUp()
+	c.failed = c.asked
+	c.wantsNone()
+}
+
+// wantsNone gives back what voters chose for this session, also what it did not hear of. They take words in the order in which they leave.
+func (c *Client) wantsNone() {
+	for v := range c.peers {
+		if got := c.peers[v].brought; got.epoch > 0 {
+			c.takesBack(v, got.number, got.epoch)
+		}
+		c.peers[v].brought = brought{}
+		c.endWant(v)
+	}
 	c.flush()
+}
+
+// endWant lets a voter end what it chose for this session, if nothing came under that.
+func (c *Client) endWant(voter int) {
+	c.out[voter] = wire.Ask{Kind: wire.WantsNumber}.Append(c.out[voter])
+}
+
+// takesBack gives a number back that a voter chose for this session, and that it does not take: it claims that, and takes it back at once.
+// One that it may not claim under this epoch any more it can't take back, and the voter ends it. While it claims the number under another
+// epoch it says nothing: once that is over, or the voter heard nothing of it for a TTL, the number is free there.
+func (c *Client) takesBack(voter, number int, epoch uint64) {
+	own := &c.claims[number]
+	switch shown := own.Shows(); {
+	case shown.Epoch > 0:
+	case shown.Newest >= epoch:
+		c.endWant(voter)
+	default:
+		own.Sees(epoch - 1)
+		own.Next()
+		own.GivesUp()
+		c.tell(voter, qlock.ClientSays{Kind: qlock.Drop, Number: number, First: epoch})
+	}
 }
 
 // choose asks the voters which numbers are free, and chooses one. It waits for one if there is none.
 func (c *Client) choose(ctx context.Context) error {
 	for {
-		c.replied, c.crowd = 0, wire.Told{}
+		c.header.Seq++ // what takes wants of before back, and comes late, is of an earlier message
+		c.replied, c.crowd, c.seen = 0, wire.Told{}, [qlock.MaxClients]uint64{}
 		for i := range c.states {
 			c.states[i] = 1
 		}
-		if err := c.rounds(ctx, c.askForNumbers, c.isAnswered); err != nil {
+		c.forgetAll()
+		c.choosing = true
+		err := c.rounds(ctx, c.askForNumbers, c.isAnswered)
+		c.choosing = false
+		if err != nil {
 			return err
 		}
-		if c.pick() {
+		isChosen := c.takesBrought() || c.pick()
+		for number, epoch := range c.seen {
+			c.claims[number].Sees(epoch)
+		}
+		if isChosen {
 			return nil
 		}
+		c.flush()
 		c.notesShort()
 		if c.config.DontWait {
 			return crowded(c.crowd, nil)
@@ -258,12 +320,16 @@ func (c *Client) choose(ctx context.Context) error {
 	}
 }
 
-// askForNumbers asks all voters which numbers are free, and says for which lock one is wanted.
+// askForNumbers asks all voters for a number, and which ones are free, and says for which lock one is wanted.
 func (c *Client) askForNumbers() {
+	if c.left == 0 {
+		c.left = uptime()
+	}
 	for v := range c.peers {
 		if c.wants != "" {
 			c.out[v] = wire.Ask{Kind: wire.WantsFor, Lock: c.wants}.Append(c.out[v])
 		}
+		c.out[v] = wire.Ask{Kind: wire.WantsNumber, Number: firstBlock, Lock: c.wants}.Append(c.out[v])
 		c.tell(v, qlock.ClientSays{Kind: qlock.Hello})
 	}
 }
@@ -282,8 +348,10 @@ func (c *Client) awaitsFree(ctx context.Context) error {
 			return nil
 		case m := <-c.messages:
 			c.message(m)
+			c.flush()
 		case m := <-c.inBundles():
 			c.messageOfBundle(m)
+			c.flush()
 		case f := <-c.read:
 			f()
 		case <-timer.C:
@@ -295,28 +363,131 @@ func (c *Client) awaitsFree(ctx context.Context) error {
 	return nil
 }
 
-// pick chooses a number that is free, or else one whose session is silent, and returns whether there is one. A number whose epochs are
-// spent has no session any more.
-func (c *Client) pick() bool {
-	for _, want := range []int{1, 2} {
-		for i, first := 0, rand.Intn(qlock.MaxClients); i < qlock.MaxClients; i++ {
-			if number := (first + i) % qlock.MaxClients; c.states[number] == want && c.claims[number].Shows().Newest < math.MaxUint64 {
-				c.asked = number
-				return true
+// takesBrought takes the number that each voter of a quorum chose under one epoch, and returns whether there is one. The other numbers that
+// voters chose it gives back.
+func (c *Client) takesBrought() bool {
+	for v := range c.peers {
+		got := c.peers[v].brought
+		voters := c.bringers(got)
+		if got.epoch == 0 || !c.hasQuorum(voters) || c.claims[got.number].Shows().Newest >= got.epoch {
+			continue
+		}
+		c.asked = got.number
+		c.claims[c.asked].Sees(got.epoch - 1)
+		c.claims[c.asked].Next()
+		c.takeBackBut(got.number, got.epoch)
+		for w := range c.peers {
+			if p := &c.peers[w]; voters>>w&1 == 1 && c.claims[c.asked].Accepts(uint8(w), got.epoch, p.brought.base) {
+				c.noteStamps(w, p.brought.base, p.brought.reserved)
 			}
 		}
+		return true
 	}
 	return false
 }
 
-// claim claims the number that was chosen, under a new epoch.
-func (c *Client) claim(ctx context.Context) error {
-	epoch := c.claims[c.asked].Next()
-	c.refused, c.block, c.left = false, firstBlock, uptime()
+// bringers returns the voters that chose a number under the same epoch.
+func (c *Client) bringers(got brought) (mask uint64) {
 	for v := range c.peers {
-		c.peers[v].forget()
-		c.forgetLease(v)
+		if p := &c.peers[v]; p.brought.number == got.number && p.brought.epoch == got.epoch {
+			mask |= 1 << v
+		}
 	}
+	return mask
+}
+
+// takeBackBut gives back what voters chose except a number under an epoch, that of older epochs first: who claims a later one claims no
+// older one any more.
+func (c *Client) takeBackBut(number int, epoch uint64) {
+	for {
+		least := -1
+		for v := range c.peers {
+			got := c.peers[v].brought
+			isLeft := got.epoch > 0 && (got.number != number || got.epoch != epoch)
+			if isLeft && (least < 0 || got.epoch < c.peers[least].brought.epoch) {
+				least = v
+			}
+		}
+		if least < 0 {
+			return
+		}
+		got := c.peers[least].brought
+		c.peers[least].brought = brought{}
+		c.takesBack(least, got.number, got.epoch)
+	}
+}
+
+// pick chooses a number that is free, or else one whose session is silent, and returns whether there is one. First comes the one that most
+// voters chose for this session, and what they chose besides is given back. A number whose epochs are spent has no session any more.
+func (c *Client) pick() bool {
+	c.spurn()
+	c.asked = c.mostBrought()
+	for _, want := range []int{1, 2} {
+		for i, first := 0, rand.Intn(qlock.MaxClients); i < qlock.MaxClients && c.asked < 0; i++ {
+			if number := (first + i) % qlock.MaxClients; c.states[number] == want && c.newestEpoch(number) < math.MaxUint64 {
+				c.asked = number
+			}
+		}
+	}
+	if c.asked < 0 {
+		c.takeBackBut(-1, 0)
+		return false
+	}
+	var epoch uint64 // the newest one under which a voter chose it
+	for v := range c.peers {
+		if got := c.peers[v].brought; got.number == c.asked {
+			epoch = greatest(epoch, got.epoch)
+		}
+	}
+	if newest := c.newestEpoch(c.asked); epoch > newest {
+		c.takeBackBut(c.asked, epoch)
+		c.claims[c.asked].Sees(epoch - 1)
+	} else {
+		c.takeBackBut(-1, 0)
+		c.claims[c.asked].Sees(newest)
+	}
+	return true
+}
+
+// spurn takes a number as taken that a voter has as this session's by a claim that it took back: the voter did not hear so, and would refuse
+// another claim.
+func (c *Client) spurn() {
+	for v := range c.peers {
+		if got := c.peers[v].brought; got.epoch > 0 && c.claims[got.number].Shows().Newest >= got.epoch {
+			c.states[got.number] = 0
+		}
+	}
+}
+
+// mostBrought returns the number that most voters chose, of those that no voter said are taken, -1 if there is none. One whose claim just
+// failed is none: who refused it may not show why.
+func (c *Client) mostBrought() int {
+	number, most := -1, 0
+	var counts [qlock.MaxClients]int
+	for v := range c.peers {
+		got := c.peers[v].brought
+		if got.epoch == 0 || c.states[got.number] == 0 || got.number == c.failed || c.newestEpoch(got.number) == math.MaxUint64 {
+			continue
+		}
+		if counts[got.number]++; counts[got.number] > most {
+			number, most = got.number, counts[got.number]
+		}
+	}
+	return number
+}
+
+// newestEpoch returns the newest epoch of a number of which this session knows.
+func (c *Client) newestEpoch(number int) uint64 {
+	return greatest(c.seen[number], c.claims[number].Shows().Newest)
+}
+
+// claim claims the number that was chosen, under a new epoch, unless a quorum has done that for it.
+func (c *Client) claim(ctx context.Context) error {
+	if c.refused, c.block = false, firstBlock; c.isAccepted() {
+		return nil
+	}
+	epoch := c.claims[c.asked].Next()
+	c.forgetAll()
 	short, cancel := context.WithTimeout(ctx, brief)
 	defer cancel()
 	claim := qlock.ClientSays{Kind: qlock.ClaimStamps, Number: c.asked, First: epoch, Second: firstBlock}
@@ -391,6 +562,15 @@ func (p *peer) forget() {
 	p.accepts, p.taken, p.stamps, p.base, p.claimed = false, false, qlock.NewStamps(), 0, 0
 	p.noted, p.notes = false, 0
 	p.bundles, p.processes = false, 0
+	p.brought = brought{}
+}
+
+// forgetAll forgets what voters said of numbers, and to sessions before.
+func (c *Client) forgetAll() {
+	for v := range c.peers {
+		c.peers[v].forget()
+		c.forgetLease(v)
+	}
 }
 
 // forgetLease forgets what a voter said to the session before, for another one.
@@ -788,8 +968,12 @@ func (c *Client) hear(voter int, says qlock.VoterSays) {
 		}
 		c.noteNumber(voter, says.Number, says.First, int(says.Second))
 	case qlock.Claimed, qlock.Denied:
-		if claims := c.header.Epoch == 0 && says.Number == c.asked && says.First == c.claimed() && says.First > 0; claims || mine {
+		claims := c.header.Epoch == 0 && says.Number == c.asked && says.First == c.claimed() && says.First > 0
+		switch {
+		case claims || mine:
 			c.noteClaim(voter, says.Kind == qlock.Claimed, says.First, says.Second, says.Third)
+		case says.Kind == qlock.Claimed:
+			c.noteBrought(voter, brought{says.Number, says.First, says.Second, says.Third})
 		}
 	case qlock.Opened:
 		if mine && !c.peers[voter].stale {
@@ -834,7 +1018,7 @@ func (c *Client) avoid() {
 
 // noteNumber notes what a voter says of a number.
 func (c *Client) noteNumber(voter, which int, epoch uint64, state int) {
-	c.claims[which].Sees(epoch)
+	c.seen[which] = greatest(c.seen[which], epoch)
 	if state == 0 || c.states[which] == 1 {
 		c.states[which] = state
 	}
@@ -852,9 +1036,34 @@ func (c *Client) noteClaim(voter int, granted bool, epoch, base, reserved uint64
 		return // no stamp is above that base
 	}
 	if p := &c.peers[voter]; p.claimed == 0 && !p.stale {
-		c.acknowledge(voter, c.left) // of a claim that was said again it is not known when that left: the next heartbeat is acknowledged
+		c.acknowledgeFirst(voter) // of a claim that was said again it is not known when that left: the next heartbeat is acknowledged
 	}
 	c.noteStamps(voter, base, reserved)
+}
+
+// noteBrought notes the number that a voter chose for this session. One that came after the session chose another one is given back.
+func (c *Client) noteBrought(voter int, got brought) {
+	p := &c.peers[voter]
+	switch {
+	case got.epoch == 0 || got.base > qlock.MaxStamp || c.looks:
+	case !c.choosing:
+		c.takesBack(voter, got.number, got.epoch)
+	default:
+		if before := p.brought; before.epoch > 0 && (before.number != got.number || before.epoch != got.epoch) {
+			c.takesBack(voter, before.number, before.epoch)
+		}
+		if p.brought = got; !p.stale {
+			c.acknowledgeFirst(voter)
+		}
+	}
+}
+
+// acknowledgeFirst notes that a voter heard this session since its first word left. It does not say which one it heard: if that was long
+// ago, the next heartbeat is acknowledged.
+func (c *Client) acknowledgeFirst(voter int) {
+	if uptime()-c.left < c.cluster.TTL.Duration/4 {
+		c.acknowledge(voter, c.left)
+	}
 }
 
 // claimAgain claims the number at a voter that does not know this session, once for each heartbeat.

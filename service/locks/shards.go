@@ -47,6 +47,8 @@ type part struct {
 	gate   chan struct{}   // whoever opens the session is in it
 	name   string          // of the session that is opened: it keeps its place among those that wait for a number
 	claims *claims.Numbers // those that it made
+	left   time.Duration   // when the first word under that name left that could bring a number, 0 if none did
+	seq    uint64          // of the last message under that name
 	client *Client         // nil if there is none
 
 	short  atomic.Pointer[wire.Told] // of whoever opens the session (session.short)
@@ -293,7 +295,7 @@ func (c *Client) adds(p *part, session *Client) bool {
 	if c.whyClosed() != nil {
 		return false
 	}
-	p.client, p.name, p.claims = session, "", nil
+	p.client, p.name, p.claims, p.left, p.seq = session, "", nil, 0, 0
 	c.shards.going.Add(1)
 	go c.follow(p, session)
 	return true
@@ -308,6 +310,7 @@ func (c *Client) openPart(ctx context.Context, p *part, lock string, tries bool)
 		return nil, err
 	}
 	session.wants, session.wishes, session.short = lock, &p.wishes, &p.short
+	session.left, session.header.Seq = p.left, p.seq
 	if err := c.call(func() error { session.plans = c.plans.copied(); return nil }); err != nil {
 		return nil, err
 	}
@@ -315,6 +318,7 @@ func (c *Client) openPart(ctx context.Context, p *part, lock string, tries bool)
 	c.shards.listens(session)
 	opened, err := session.connect(ctx)
 	if err != nil {
+		p.left, p.seq = session.left, session.header.Seq
 		c.leaveBoxes(session) // the next try listens again, under the same name
 	}
 	return opened, err

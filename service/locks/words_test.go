@@ -35,6 +35,7 @@ func alone(t *testing.T) *table {
 	}
 	c.header.Number, c.header.Epoch, c.header.Reserved = 3, 5, mostBlock
 	claiming(c, 3, 5)
+	c.left = uptime()
 	one := &table{Client: c}
 	for voter := range c.peers {
 		box, err := b.Port().Listen(wire.VoterBox(cluster.ID, voter, wire.NoUser))
@@ -379,8 +380,10 @@ func TestEpochIsClaimedOnce(t *testing.T) {
 		if err != nil {
 			t.Fatal(err)
 		}
-		c.noteNumber(0, 3, 4, 1)
-		c.asked = 3
+		c.states[3] = 1
+		if c.noteNumber(0, 3, 4, 1); !c.pick() || c.asked != 3 {
+			t.Fatal("a free number is not chosen")
+		}
 		if err := c.claim(ended); err == nil || c.claimed() != want {
 			t.Errorf("epoch %d, %v", c.claimed(), err)
 		}
@@ -410,7 +413,7 @@ func TestEndDuringAClaim(t *testing.T) {
 			for m := range c.boxes[v] {
 				h, lines, _ := wire.Read(m.Data)
 				switch text := string(lines); {
-				case strings.HasPrefix(text, ". hello"):
+				case strings.HasSuffix(text, ". hello\n"):
 					says(h.Coterie, ". number 3 5 1\n")
 				case strings.HasPrefix(text, ". claim ") && v == 0:
 					says(h.Coterie, ". claimed "+strings.TrimPrefix(strings.TrimSuffix(text, " 64\n"), ". claim ")+" 0 64\n")

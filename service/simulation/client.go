@@ -9,6 +9,7 @@ import (
 
 	"calvundek.example/service/internal/claims"
 	"calvundek.example/service/internal/level"
+	"calvundek.example/service/internal/voter"
 	"calvundek.example/service/internal/wire"
 	"calvundek.example/service/qlock"
 	"calvundek.example/service/transport"
@@ -64,9 +65,16 @@ type peer struct {
 	claimed  uint64                   // with which heartbeat the number was claimed there again
 	taken    bool                     // it said that this session is over
 	stale    bool                     // the message that is taken is of an earlier incarnation
+	brought  brought                  // the number that it chose for this session, which wants one
 	requests uint64                   // how many of this session it said that it has
 	drained  bool                     // it has no request of this session any more
 	closed   bool                     // it ended this session
+}
+
+// brought is a number that a voter chose for a session, and claimed for it. Without an epoch it is none.
+type brought struct {
+	number                int
+	epoch, base, reserved uint64
 }
 
 // client is a process with one session, and a program that wants each lock from time to time.
@@ -81,6 +89,7 @@ type client struct {
 	beats time.Duration // how long it is from one heartbeat to the next one
 	over  time.Duration // after which silence a voter is passed over
 
+	wants    bool   // it wants a number with its hello. Half of the clients are of the version before, and do not
 	name     string // of the session
 	hasty    bool   // it is given up soon after it claims a number, as by a call that waits no longer
 	keeps    bool   // the next session has this name, and keeps what was claimed under it: this one was given up before it was open
@@ -93,7 +102,9 @@ type client struct {
 	claims   *claims.Numbers
 	states   [qlock.MaxClients]int // the worst that a voter said of a number: 0 taken, 2 silent for the TTL, 1 free
 	asked    int
-	left     time.Duration // when the claim left
+	failed   int                      // the number whose claim failed last, -1 if none did
+	seen     [qlock.MaxClients]uint64 // the newest epoch that a voter said of a number
+	left     time.Duration            // when the claim left; if it wants numbers, when the first word of this name left
 	refused  bool
 	saysAt   time.Duration // when what is asked is asked again
 	pause    time.Duration
@@ -118,6 +129,7 @@ func newClient(w *world, id int) *client {
 		c.beats = 500 * time.Millisecond
 	}
 	c.over = 4 * c.beats
+	c.wants = w.random.Intn(2) == 0
 	for i := range w.locks {
 		c.locks = append(c.locks, &lock{witness: w.locks[i], client: c})
 	}
@@ -131,29 +143,40 @@ func newClient(w *world, id int) *client {
 
 // open begins a session. Until one is open, all tries have one name, as in package locks (shards.go).
 func (c *client) open() {
+	seq := uint64(0) // of the last message under the name
 	if !c.keeps {
-		random := make([]byte, 16)
-		_, _ = c.random.Read(random)
-		c.name, c.claims = wire.SessionName(wire.NoUser, hex.EncodeToString(random)), claims.New()
-	} else if c.Wrong.ForgetsClaims {
+		c.left = 0
+		c.name, c.claims = c.newName(), claims.New()
+	} else if seq = c.header.Seq; c.Wrong.ForgetsClaims {
 		c.claims = claims.New()
 	}
 	c.keeps = false
 	c.tries++
 	_, name, _ := strings.Cut(c.name, ".")
-	c.header = wire.Header{Cluster: c.cluster.ID, Coterie: c.cluster.Marks()[0], Kind: wire.FromClient, Name: name, Level: level.Newest}
+	c.header = wire.Header{Cluster: c.cluster.ID, Coterie: c.cluster.Marks()[0], Kind: wire.FromClient, Name: name, Level: level.Newest, Seq: seq}
 	c.peers, c.leases = make([]peer, len(c.cluster.Names())), qlock.NewLeases(leaseOf(c.ttl))
 	now := c.shows()
 	for v := range c.peers {
 		c.peers[v] = peer{sent: map[uint64]time.Duration{}, heard: now, stamps: qlock.NewStamps()}
 		c.leases.Since[v] = now
 	}
-	c.asked, c.draining, c.idle, c.beat = -1, false, 0, 0
+	c.asked, c.failed, c.draining, c.idle, c.beat = -1, -1, false, 0, 0
 	c.sessions[c.name] = c
 	c.box = &box{takes: c.takes}
 	c.broker.listen(c.boxes(), c.box)
 	c.stage = choosing
 	c.choose()
+}
+
+// newName returns a name. Voters that choose numbers for it begin at one of the first few, so that numbers are given on.
+func (c *client) newName() string {
+	for few := 1 + c.random.Intn(8); ; {
+		random := make([]byte, 16)
+		_, _ = c.random.Read(random)
+		if name := wire.SessionName(wire.NoUser, hex.EncodeToString(random)); voter.FirstNumber(name) < few {
+			return name
+		}
+	}
 }
 
 func (c *client) boxes() string { return wire.SessionBoxes(c.cluster.ID, c.name) }
@@ -253,17 +276,21 @@ func (c *client) opensAgain(d time.Duration) {
 	})
 }
 
-// givesUpSoon gives a session up a moment after it claimed a number, unless it is open by then. The next try follows soon.
+// givesUpSoon gives a session up a moment after it claimed a number, or wants one, unless it is open by then. The next try follows soon.
 func (c *client) givesUpSoon() {
 	session := c.tries
 	c.in(c.upTo(soon), func() {
 		c.whenUp(session, func() {
-			if c.stage != claiming && c.stage != reserving || c.healed > 0 {
+			isEarly := c.stage == choosing && c.wants || c.stage == claiming || c.stage == reserving
+			if !isEarly || c.healed > 0 {
 				return
 			}
 			c.log("client %d gives its session up", c.id)
 			c.Incidents["sessions given up"]++
-			c.takeBack()
+			if c.claims.Claimed(c.asked) > 0 {
+				c.takeBack()
+			}
+			c.wantsNone()
 			c.isOver()
 			c.keeps = true
 			c.opensAgain(c.upTo(soon))
@@ -271,13 +298,24 @@ func (c *client) givesUpSoon() {
 	})
 }
 
-// choose asks the voters which numbers are free.
+// choose asks the voters for a number, and which ones are free.
 func (c *client) choose() {
-	c.stage, c.replied = choosing, 0
+	c.stage, c.replied, c.seen = choosing, 0, [qlock.MaxClients]uint64{}
 	for i := range c.states {
 		c.states[i] = 1
 	}
+	if c.wants {
+		c.header.Seq++
+		c.forgetAll()
+		if c.left == 0 {
+			c.left = c.shows()
+		}
+	}
 	c.begins()
+	if c.wants && c.hasty {
+		c.hasty = false
+		c.givesUpSoon()
+	}
 }
 
 // begins begins to say what the stage says, again and again.
@@ -300,7 +338,7 @@ func (c *client) goesOn() {
 	c.saysAt = now + c.pause
 	switch c.stage {
 	case choosing:
-		c.say(qlock.ClientSays{Kind: qlock.Hello})
+		c.askForNumbers()
 	case waiting:
 		c.choose()
 	case claiming:
@@ -314,7 +352,7 @@ func (c *client) goesOn() {
 func (c *client) hears() {
 	switch {
 	case c.stage == choosing && c.isAnswered():
-		c.claim()
+		c.chooses()
 	case c.stage == claiming && c.refused:
 		c.abandon()
 	case c.stage == claiming && c.hasQuorum(c.claims[c.asked].Shows().Accepted):
@@ -336,9 +374,122 @@ func (c *client) hasQuorum(voters uint64) bool { return c.cluster.Planned.HasQuo
 // isAnswered returns whether a quorum replied.
 func (c *client) isAnswered() bool { return c.hasQuorum(c.replied) }
 
-// claim claims a number under a new epoch.
-func (c *client) claim() {
-	c.asked = -1
+// askForNumbers asks all voters for a number, and which ones are free.
+func (c *client) askForNumbers() {
+	for v := range c.peers {
+		if c.wants {
+			c.out[v] = wire.Ask{Kind: wire.WantsNumber, Number: firstBlock}.Append(c.out[v])
+		}
+		c.tell(v, qlock.ClientSays{Kind: qlock.Hello})
+	}
+}
+
+// chooses goes on with the number that a quorum chose, or claims one that is free, or waits for one.
+func (c *client) chooses() {
+	isBrought := c.takesBrought()
+	isChosen := isBrought || c.pick()
+	for number, epoch := range c.seen {
+		c.claims[number].Sees(epoch)
+	}
+	switch {
+	case isBrought:
+		c.refused, c.block, c.beat = false, firstBlock, c.shows()
+		c.Incidents["numbers in one trip"]++
+		c.reserveFirst()
+	case isChosen:
+		c.claim()
+	default:
+		c.stage, c.pause, c.saysAt = waiting, 0, c.shows()+c.ttl/10
+	}
+}
+
+// takesBrought takes the number that each voter of a quorum chose under one epoch, and returns whether there is one.
+func (c *client) takesBrought() bool {
+	for v := range c.peers {
+		got := c.peers[v].brought
+		voters := c.bringers(got)
+		if got.epoch == 0 || !c.hasQuorum(voters) || c.claims[got.number].Shows().Newest >= got.epoch {
+			continue
+		}
+		c.asked = got.number
+		c.claims[c.asked].Sees(got.epoch - 1)
+		c.claims[c.asked].Next()
+		c.takeBackBut(got.number, got.epoch)
+		for w := range c.peers {
+			if p := &c.peers[w]; voters>>w&1 == 1 && c.claims[c.asked].Accepts(uint8(w), got.epoch, p.brought.base) {
+				c.noteStamps(w, p.brought.base, p.brought.reserved)
+			}
+		}
+		return true
+	}
+	return false
+}
+
+// bringers returns the voters that chose a number under the same epoch.
+func (c *client) bringers(got brought) (mask uint64) {
+	for v := range c.peers {
+		if p := &c.peers[v]; p.brought.number == got.number && p.brought.epoch == got.epoch {
+			mask |= 1 << v
+		}
+	}
+	return mask
+}
+
+// takeBackBut gives back what voters chose except a number under an epoch, that of older epochs first.
+func (c *client) takeBackBut(number int, epoch uint64) {
+	for {
+		least := -1
+		for v := range c.peers {
+			got := c.peers[v].brought
+			isLeft := got.epoch > 0 && (got.number != number || got.epoch != epoch)
+			if isLeft && (least < 0 || got.epoch < c.peers[least].brought.epoch) {
+				least = v
+			}
+		}
+		if least < 0 {
+			return
+		}
+		got := c.peers[least].brought
+		c.peers[least].brought = brought{}
+		c.takesBack(least, got.number, got.epoch)
+	}
+}
+
+// takesBack gives a number back that a voter chose for this session, and that it does not take.
+func (c *client) takesBack(v, number int, epoch uint64) {
+	own := &c.claims[number]
+	switch shown := own.Shows(); {
+	case shown.Epoch > 0:
+	case shown.Newest >= epoch:
+		c.endWant(v)
+	default:
+		own.Sees(epoch - 1)
+		own.Next()
+		own.GivesUp()
+		c.tell(v, qlock.ClientSays{Kind: qlock.Drop, Number: number, First: epoch})
+	}
+}
+
+// endWant lets a voter end what it chose for this session, if nothing came under that.
+func (c *client) endWant(v int) { c.out[v] = wire.Ask{Kind: wire.WantsNumber}.Append(c.out[v]) }
+
+// wantsNone gives back what voters chose for this session, also what it did not hear of.
+func (c *client) wantsNone() {
+	for v := range c.peers {
+		if got := c.peers[v].brought; got.epoch > 0 {
+			c.takesBack(v, got.number, got.epoch)
+		}
+		if c.peers[v].brought = (brought{}); c.wants {
+			c.endWant(v)
+		}
+	}
+	c.flush()
+}
+
+// pick chooses the number that most voters chose for this session, or else one that is free, and returns whether there is one.
+func (c *client) pick() bool {
+	c.spurn()
+	c.asked = c.mostBrought()
 	few := 1 + c.random.Intn(8) // so that numbers are given on
 	for _, want := range []int{1, 2} {
 		for i, first := 0, c.random.Intn(few); i < qlock.MaxClients && c.asked < 0; i++ {
@@ -348,16 +499,60 @@ func (c *client) claim() {
 		}
 	}
 	if c.asked < 0 {
-		c.stage, c.pause, c.saysAt = waiting, 0, c.shows()+c.ttl/10
-		return
+		c.takeBackBut(-1, 0)
+		return false
 	}
+	var epoch uint64 // the newest one under which a voter chose it
+	for v := range c.peers {
+		if got := c.peers[v].brought; got.number == c.asked {
+			epoch = greatest(epoch, got.epoch)
+		}
+	}
+	if newest := greatest(c.seen[c.asked], c.claims[c.asked].Shows().Newest); epoch > newest {
+		c.takeBackBut(c.asked, epoch)
+		c.claims[c.asked].Sees(epoch - 1)
+	} else {
+		c.takeBackBut(-1, 0)
+		c.claims[c.asked].Sees(newest)
+	}
+	return true
+}
+
+// spurn takes a number as taken that a voter has as this session's by a claim that it took back: the voter did not hear so, and would refuse
+// another claim.
+func (c *client) spurn() {
+	for v := range c.peers {
+		if got := c.peers[v].brought; got.epoch > 0 && c.claims[got.number].Shows().Newest >= got.epoch {
+			c.states[got.number] = 0
+		}
+	}
+}
+
+// mostBrought returns the number that most voters chose, of those that no voter said are taken, -1 if there is none.
+func (c *client) mostBrought() int {
+	number, most := -1, 0
+	var counts [qlock.MaxClients]int
+	for v := range c.peers {
+		got := c.peers[v].brought
+		if got.epoch == 0 || c.states[got.number] == 0 || got.number == c.failed {
+			continue
+		}
+		if counts[got.number]++; counts[got.number] > most {
+			number, most = got.number, counts[got.number]
+		}
+	}
+	return number
+}
+
+// claim claims a number under a new epoch.
+func (c *client) claim() {
 	c.claims[c.asked].Next()
 	c.stage, c.refused, c.block = claiming, false, firstBlock
-	for v := range c.peers {
-		c.peers[v].forget()
-		c.forgetLease(v)
+	c.forgetAll()
+	c.ends, c.beat = c.shows()+brief, c.shows()
+	if !c.wants {
+		c.left = c.shows()
 	}
-	c.ends, c.beat, c.left = c.shows()+brief, c.shows(), c.shows()
 	if c.begins(); c.hasty {
 		c.hasty = false
 		c.givesUpSoon()
@@ -372,6 +567,7 @@ func (c *client) reserveFirst() {
 	}
 	c.stage, c.refused = reserving, false
 	claim := c.claims[c.asked].Shows()
+	c.checkOwn(claim.Epoch)
 	c.used = claim.Base
 	c.header.Number, c.header.Epoch, c.header.Reserved = c.asked, claim.Epoch, c.used+firstBlock
 	if c.hears(); c.stage == reserving {
@@ -408,7 +604,8 @@ func (c *client) takeBack() {
 		c.tell(v, qlock.ClientSays{Kind: qlock.Drop, Number: c.asked, First: epoch})
 	}
 	c.claims[c.asked].GivesUp()
-	c.flush()
+	c.failed = c.asked
+	c.wantsNone()
 }
 
 // say says a control line to all voters.
@@ -431,6 +628,15 @@ func (c *client) tell(v int, says qlock.ClientSays) {
 // forget forgets what a voter said of a number.
 func (p *peer) forget() {
 	p.accepts, p.taken, p.stamps, p.base, p.claimed = false, false, qlock.NewStamps(), 0, 0
+	p.brought = brought{}
+}
+
+// forgetAll forgets what voters said of numbers, and to sessions before.
+func (c *client) forgetAll() {
+	for v := range c.peers {
+		c.peers[v].forget()
+		c.forgetLease(v)
+	}
 }
 
 // forgetLease forgets what a voter said to the session before, for another one.
@@ -749,6 +955,8 @@ func (c *client) hear(v int, says qlock.VoterSays) {
 	case qlock.Claimed, qlock.Denied:
 		if c.stage == claiming && says.Number == c.asked && says.First == c.claims.Claimed(c.asked) || mine {
 			c.noteClaim(v, says.Kind == qlock.Claimed, says.First, says.Second, says.Third)
+		} else if says.Kind == qlock.Claimed && c.wants {
+			c.noteBrought(v, brought{says.Number, says.First, says.Second, says.Third})
 		}
 	case qlock.Opened:
 		if mine && !c.peers[v].stale {
@@ -785,7 +993,7 @@ func (c *client) avoid() {
 
 // noteNumber notes what a voter says of a number.
 func (c *client) noteNumber(v, which int, epoch uint64, state int) {
-	c.claims[which].Sees(epoch)
+	c.seen[which] = greatest(c.seen[which], epoch)
 	if state == 0 || c.states[which] == 1 {
 		c.states[which] = state
 	}
@@ -802,9 +1010,33 @@ func (c *client) noteClaim(v int, granted bool, epoch, base, reserved uint64) {
 		return // no stamp is above that base
 	}
 	if p := &c.peers[v]; p.claimed == 0 && !p.stale {
-		c.acknowledge(v, c.left)
+		c.acknowledgeFirst(v)
 	}
 	c.noteStamps(v, base, reserved)
+}
+
+// noteBrought notes the number that a voter chose for this session. One that came after the session chose another one is given back.
+func (c *client) noteBrought(v int, got brought) {
+	p := &c.peers[v]
+	switch {
+	case got.epoch == 0 || got.base > qlock.MaxStamp:
+	case c.stage != choosing:
+		c.takesBack(v, got.number, got.epoch)
+	default:
+		if before := p.brought; before.epoch > 0 && (before.number != got.number || before.epoch != got.epoch) {
+			c.takesBack(v, before.number, before.epoch)
+		}
+		if p.brought = got; !p.stale {
+			c.acknowledgeFirst(v)
+		}
+	}
+}
+
+// acknowledgeFirst notes that a voter heard this session since its first word left, unless that was long ago.
+func (c *client) acknowledgeFirst(v int) {
+	if !c.wants || c.shows()-c.left < c.ttl/4 {
+		c.acknowledge(v, c.left)
+	}
 }
 
 // claimAgain claims the number at a voter that does not know this session, once for each heartbeat.

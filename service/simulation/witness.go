@@ -329,9 +329,26 @@ func (r *process) checkTaken(m transport.Message) {
 		said, wrong := qlock.ReadClientSays(line)
 		lines = rest
 		isTakenBack := wrong == nil && said.Kind == qlock.Drop && said.First > 0
+		if isTakenBack {
+			r.takenBack[claim{c.name, said.Number, said.First}] = true
+		}
 		if isTakenBack && said.Number == c.asked && said.First == c.claims.Claimed(c.asked) {
 			r.violated("claims", "voter %d hears that client %d takes epoch %d of number %d back, which it claims", r.number, c.id, said.First, said.Number)
 		}
+	}
+}
+
+// claim is a claim of a session.
+type claim struct {
+	session string
+	number  int
+	epoch   uint64
+}
+
+// checkOwn looks at a number that a session has by a claim: no voter heard that this was taken back.
+func (c *client) checkOwn(epoch uint64) {
+	if c.takenBack[claim{c.name, c.asked, epoch}] {
+		c.violated("claims", "client %d goes on by epoch %d of number %d, and a voter has heard that this is taken back", c.id, epoch, c.asked)
 	}
 }
 

@@ -153,6 +153,7 @@ type world struct {
 	watch   watch
 
 	sessions   map[string]*client // by the session's name, as voters call it
+	takenBack  map[claim]bool     // the claims of which a voter heard that they are taken back
 	forgets    *place             // a voter that lost something, and does not serve yet
 	startsCopy *place             // a voter that starts from an older copy
 	rests      instant            // until then no client opens a session
@@ -237,7 +238,7 @@ func (w *world) begin() error {
 	w.broker = broker{world: w, boxes: map[string][]*box{}}
 	w.noise = calm
 	w.watch = newWatch()
-	w.sessions = map[string]*client{}
+	w.sessions, w.takenBack = map[string]*client{}, map[claim]bool{}
 	for i := 1 + w.random.Intn(3); i > 0; i-- {
 		lock, err := newWitness(w, fmt.Sprint("lock-", len(w.locks)))
 		if err != nil {

@@ -58,6 +58,9 @@ func (d *Daemon) ask(l *letter, speaker qlock.Standing, line []byte, now time.Ti
 			l.lock = ask.Lock
 		}
 		return true, true
+	case ask.Kind == wire.WantsNumber:
+		d.want(l, ask, now)
+		return true, true
 	case ask.Kind == wire.AskWho:
 		d.put(l.Name, d.holderOf(ask.ID, ask.Lock, d.votes[ask.Lock], now).Append(d.out[l.Name]))
 	case ask.Kind == wire.AskNames:

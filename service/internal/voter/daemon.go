@@ -500,12 +500,22 @@ func (d *Daemon) control(l *letter, speaker qlock.Standing, line []byte, now tim
 	return isRight
 }
 
-// hello says which numbers are free, and which of these may be had now: who came first goes first.
+// hello says which numbers are free, and which of these may be had now: who came first goes first. A session that wants one gets it at
+// once, unless others wait for it, and hears nothing else of that.
 func (d *Daemon) hello(l *letter, now time.Time) bool {
 	states := l.shard.states()
+	own := d.again(l, now)
+	if own >= 0 {
+		states[own] = 1 // it may have that
+	}
 	ahead := l.shard.waiting.ask(l.Name, l.lock, states, l.shard.shares(states, l.Name), now, d.leases.ttl)
+	if own < 0 {
+		own = d.bring(l, states, now)
+	}
 	for number, row := range l.shard.rows {
-		d.say(l.Name, qlock.VoterSays{Kind: qlock.NumberIs, Number: number, First: row.Epoch, Second: uint64(states[number])})
+		if number != own {
+			d.say(l.Name, qlock.VoterSays{Kind: qlock.NumberIs, Number: number, First: row.Epoch, Second: uint64(states[number])})
+		}
 	}
 	d.tellIdle(l.shard, now)
 	d.tellSessions(l, ahead, now)
@@ -544,21 +554,28 @@ func (d *Daemon) shut(l *letter, speaker qlock.Standing, now time.Time) bool {
 
 // claim takes a claim of a number, with its first stamps, or with none.
 func (d *Daemon) claim(l *letter, said qlock.ClientSays, now time.Time) {
-	name, number, epoch := l.Name, said.Number, said.First
+	if !d.gives(l, said.Number, said.First, said.Second, now) {
+		d.say(l.Name, qlock.VoterSays{Kind: qlock.Denied, Number: said.Number, First: said.First})
+	}
+}
+
+// gives gives a number to a session by a claim, with so many stamps, or again, and tells it so. It returns false if the session does not
+// get it.
+func (d *Daemon) gives(l *letter, number int, epoch, stamps uint64, now time.Time) bool {
 	before := l.shard.rows[number]
-	if !l.shard.claim(number, name, epoch, said.Second, now) {
-		d.say(name, qlock.VoterSays{Kind: qlock.Denied, Number: number, First: epoch})
-		return
+	if !l.shard.claim(number, l.Name, epoch, stamps, now) {
+		return false
 	}
 	row := l.shard.rows[number]
 	if before.Hash != row.Hash || before.Epoch != epoch {
 		l.shard.asksBy[number] = 0
 		d.recount(l.shard, number)
-		l.shard.locks[number] = l.shard.waiting.lockOf(name)
+		l.shard.locks[number] = l.shard.waiting.lockOf(l.Name)
 		l.shard.waiting.unclaimed = time.Time{}
 		d.log.Write(event.Debug, "session-claimed", "client", number, "epoch", epoch)
 	}
-	d.say(name, qlock.VoterSays{Kind: qlock.Claimed, Number: number, First: epoch, Second: row.Base, Third: row.Reserved})
+	d.say(l.Name, qlock.VoterSays{Kind: qlock.Claimed, Number: number, First: epoch, Second: row.Base, Third: row.Reserved})
+	return true
 }
 
 // round does what time asks for: it lets grants of dead clients go that are in the way of others, and reminds.

@@ -34,6 +34,7 @@ type letter struct {
 	begun    bool
 	controls int
 	lock     string          // for which it wants a number, "" if it did not say so
+	wanted   uint64          // with how many stamps it wants one that this voter chooses, 0 if it does not
 	said     map[string]bool // what may be said once in a message
 }
 

@@ -76,16 +76,17 @@ type leases struct {
 // whose messages were heard.
 type table struct {
 	*leases
-	number int // of the shard
-	rows   [qlock.MaxClients]Session
-	proved qlock.Table                     // the same rows, as the proved calls read them
-	hashes [qlock.MaxClients]qlock.Session // how the proved rows name the sessions of these
-	names  [qlock.MaxClients]string        // of the sessions of these rows that were heard in this run; nothing can be sent to others
-	heard  [qlock.MaxClients]time.Duration // on the lease clock
-	byWord [qlock.MaxClients]bool          // the session was ended, by another voter or an operator, and may not know so: its votes go by the lease
-	passed [qlock.MaxClients]passed        // when another voter said that another session has the number
-	epochs [qlock.MaxClients]qlock.Bucket  // how far the epochs of a number may grow
-	stamps qlock.Bucket                    // how far the highest stamp may grow
+	number  int // of the shard
+	rows    [qlock.MaxClients]Session
+	proved  qlock.Table                     // the same rows, as the proved calls read them
+	hashes  [qlock.MaxClients]qlock.Session // how the proved rows name the sessions of these
+	names   [qlock.MaxClients]string        // of the sessions of these rows that were heard in this run; nothing can be sent to others
+	heard   [qlock.MaxClients]time.Duration // on the lease clock
+	byWord  [qlock.MaxClients]bool          // the session was ended, by another voter or an operator, and may not know so: its votes go by the lease
+	passed  [qlock.MaxClients]passed        // when another voter said that another session has the number
+	brought [qlock.MaxClients]uint64        // a want brought the number to its session in this run, in which of its messages, and none came under it yet (wants.go)
+	epochs  [qlock.MaxClients]qlock.Bucket  // how far the epochs of a number may grow
+	stamps  qlock.Bucket                    // how far the highest stamp may grow
 }
 
 // passed is when this voter learned that another session has a number: the session before may not know so, and its votes go by the lease.
@@ -214,6 +215,10 @@ func (t *table) states() []int {
 
 // set sets a row. One that the proved rows refuse reads as nobody's.
 func (t *table) set(number int, row Session) {
+	before := t.rows[number]
+	if !row.Open || row.Hash != before.Hash || row.Epoch != before.Epoch {
+		t.brought[number] = 0
+	}
 	t.rows[number], t.hashes[number] = row, row.session()
 	if r, err := row.row(t.hashes[number]); err == nil {
 		t.proved.Put(number, r)
@@ -289,7 +294,7 @@ func (t *table) admit(number int, name string, epoch uint64, now time.Time) qloc
 		return judged
 	}
 	t.hear(number, now)
-	t.names[number] = name
+	t.names[number], t.brought[number] = name, 0
 	if row := t.rows[number]; !row.Used {
 		row.Used = true
 		t.note(number, row)
@@ -329,12 +334,13 @@ func (t *table) highest() (stamp uint64) {
 }
 
 // claim gives a number to a session, with so many stamps, and returns whether it did: its session was silent for a TTL, or it is
-// free, and the proved row takes the claim. The same claim again is granted again.
+// free, and the proved row takes the claim. The same claim again is granted again. A session that a want brought another epoch of the
+// number may claim a later one: nothing came under that.
 func (t *table) claim(number int, name string, epoch, stamps uint64, now time.Time) bool {
 	if t.judge(number, name, epoch) == qlock.SessionKnown {
 		return true
 	}
-	if !t.isDead(number) {
+	if !t.isDead(number) && !(t.isBrought(number) && t.session(number, name) == t.hashes[number]) {
 		return false
 	}
 	before, highest := t.rows[number], t.highest()

@@ -17,8 +17,8 @@ var ErrAsk = errors.New("wire: a line of control is wrong")
 type Ask struct {
 	Kind   AskKind
 	ID     uint64 // of a question: its replies have it, too
-	Lock   string // a lock's name; of AskNames what names begin with, "" for all
-	Number uint64 // of SaysAbout and WantsTurn the stamp of a request; of AskNames where to go on, 0 to begin
+	Lock   string // a lock's name; of AskNames what names begin with, "" for all; of WantsNumber "" if it is not known
+	Number uint64 // of SaysAbout and WantsTurn the stamp of a request; of AskNames where to go on, 0 to begin; of WantsNumber how many stamps
 	Grant  uint64 // of WantsTurn: the number of the grant that the request has here
 	Top    uint64 // of WantsTurn: up to which number the voter is to skip
 	Text   string // a note; of SaysNote "" if there is none; of SaysProcess the name of a mailbox
@@ -36,6 +36,7 @@ const (
 	AskNames                   // list ID PLACE [PREFIX]
 	WantsTurn                  // turn LOCK STAMP GRANT TOP
 	WantsFor                   // for LOCK: what a session wants a number for. It is in front of hello, and older voters ignore it
+	WantsNumber                // want STAMPS [LOCK]: a claim whose number and epoch the voter fills in. It is as WantsFor; of 0 stamps it is taken back
 	SaysProcess                // process NAME: bundles of messages to sessions of this process may go to the mailbox of this name
 )
 
@@ -99,6 +100,8 @@ func (a Ask) Append(out []byte) []byte {
 		out = withText(withNumber(withNumber(append(out, ". list"...), a.ID), a.Number), a.Lock)
 	case WantsFor:
 		out = withText(append(out, ". for"...), a.Lock)
+	case WantsNumber:
+		out = withText(withNumber(append(out, ". want"...), a.Number), a.Lock)
 	case SaysProcess:
 		out = withText(append(out, ". process"...), a.Text)
 	case WantsTurn:
@@ -129,6 +132,11 @@ func ReadAsk(line []byte) (a Ask, err error) {
 		w.isWrong = w.isWrong || a.Grant > a.Top
 	case "for":
 		a = Ask{Kind: WantsFor, Lock: w.lock()}
+	case "want":
+		if a = (Ask{Kind: WantsNumber, Number: w.number()}); w.rest != nil {
+			a.Lock = w.lock()
+			w.isWrong = w.isWrong || a.Number == 0
+		}
 	case "process":
 		a = Ask{Kind: SaysProcess, Text: string(w.next())}
 		w.isWrong = w.isWrong || !IsID([]byte(a.Text))

@@ -23,6 +23,11 @@
 //	              request; where some wait for a number, how many do before this one, and the highest reserved stamp
 //	claim N EPOCH STAMPS   claimed N EPOCH BASE RESERVED, or refused N EPOCH; it reserves so many
 //	              stamps above BASE, none without STAMPS
+//	for LOCK      none: for which lock hello wants a number. It comes in front of hello
+//	want STAMPS LOCK   claimed N EPOCH BASE RESERVED, in front of the replies to hello, and none of these is of N then: a claim
+//	              whose number and epoch the voter fills in, if numbers are free and nobody waits for one. It comes in
+//	              front of hello, and without LOCK if none is known. Of 0 STAMPS it gives back what a want brought and
+//	              under which nothing came
 //	drop N EPOCH  none: a claim had no quorum
 //	open PLAN     opened N EPOCH BASE RESERVED SEQ REQUESTS, and after an exchange generation PLAN
 //	              COTERIE OLDEST. This is the heartbeat; PLAN is the number of the oldest plan of
