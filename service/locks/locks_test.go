@@ -5,6 +5,7 @@ import (
 	"encoding/json"
 	"errors"
 	"fmt"
+	"math/bits"
 	"strings"
 	"sync"
 	"testing"
@@ -227,8 +228,19 @@ func TestVoterLeaves(t *testing.T) {
 		}
 		waits <- err
 	}()
+	var asked uint64
+	soon(t, "the lock is not asked for", func() bool {
+		_ = c.call(func() error {
+			if l := c.locks["x"]; l != nil {
+				asked = l.shown.Quorum
+			}
+			return nil
+		})
+		return asked != 0
+	})
 	time.Sleep(100 * time.Millisecond)
-	w.Stop(0)
+	voter := bits.TrailingZeros64(asked & held.quorum) // the request waits for its vote
+	w.Stop(voter)
 	began := time.Now()
 	soon(t, "a voter that left is not silent", func() bool { return len(c.Silent()) == 1 && len(other.Silent()) == 1 })
 	if err := held.Unlock(); err != nil {
@@ -245,7 +257,7 @@ func TestVoterLeaves(t *testing.T) {
 	if took := time.Since(began); took > 1500*time.Millisecond { // a fail-over takes two seconds
 		t.Errorf("it took %v", took)
 	}
-	w.Start(0)
+	w.Start(voter)
 	soon(t, "a voter that is back stays silent", func() bool { return len(c.Silent()) == 0 })
 }
 

@@ -1,6 +1,7 @@
 package locks
 
 import (
+	"bytes"
 	"context"
 	"encoding/json"
 	"errors"
@@ -14,6 +15,7 @@ import (
 	"time"
 
 	"calvundek.example/service/internal/voter"
+	"calvundek.example/service/internal/wire"
 	"calvundek.example/service/internal/worlds"
 	"calvundek.example/service/qlock"
 )
@@ -231,6 +233,19 @@ func TestNoNumberOfShard(t *testing.T) {
 	}
 	if err := take(t, late, nameIn(w, 1)).Unlock(); err != nil {
 		t.Errorf("another shard is full, too: %v", err)
+	}
+}
+
+// A session says for which lock it wants a number also to voters of older programs, which know no want.
+func TestOlderVotersHearForWhichLock(t *testing.T) {
+	c := still(t, worlds.New(t, worlds.Majority, 20*time.Second))
+	c.wants = "orders"
+	c.askForNumbers()
+	line := wire.Ask{Kind: wire.WantsFor, Lock: "orders"}.Append(nil)
+	for v := range c.peers {
+		if !bytes.Contains(c.out[v], line) {
+			t.Errorf("voter %d hears %q", v, c.out[v])
+		}
 	}
 }
 
