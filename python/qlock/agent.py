@@ -9,6 +9,9 @@
 A lock lasts as long as its connection, so the agent gives the lock of a process back that dies. `held.lost` is an event that is set
 when the lock may be somebody else's: if the agent says so, or is gone, or says nothing for too long. End the work then, within a
 tenth of `held.ttl`. A child that is forked has none of the locks of its parent.
+
+`client.who("orders")`, `client.list("orders-")` and `client.watch("leader")` say who has a lock of the cluster, on whichever host.
+`client.locks()` has those of this host.
 """
 import json
 import os
@@ -16,8 +19,10 @@ import socket as sockets
 import threading
 import time
 import weakref
+from dataclasses import dataclass, fields
+from datetime import datetime, timedelta, timezone
 from types import TracebackType
-from typing import Any, Callable, Dict, List, Optional, Type
+from typing import Any, Callable, Dict, Iterator, List, Optional, Type
 from urllib.parse import quote, urlencode
 
 SOCKET = "/run/qlock/qlockd.sock"
@@ -29,15 +34,21 @@ class AgentFault(Exception):
 
     word = "internal"
 
-    def __init__(self, why: str, word: str = "") -> None:
+    def __init__(self, why: str, word: str = "", said: Optional[Dict[str, Any]] = None) -> None:
         super().__init__(why)
         self.word = word or self.word
+        self._said = said or {}
 
 
 class HeldElsewhere(AgentFault):
     """Somebody else has the lock, or asked before. Only `try_lock` raises this."""
 
     word = "held"
+
+    @property
+    def holder(self) -> Optional["Holder"]:
+        """who has the lock, None if that is not known"""
+        return Holder.read(self._said["holder"]) if self._said.get("holder") else None
 
 
 class NotInTime(AgentFault, TimeoutError):
@@ -46,10 +57,29 @@ class NotInTime(AgentFault, TimeoutError):
     word = "timeout"
 
 
+class NoNumber(AgentFault):
+    """No client number was to be had: at once by `try_lock`, and for the time to wait by `lock`. All are in use. Wait longer, or make a
+    cluster with more shards."""
+
+    word = "numbers"
+
+    @property
+    def waiting(self) -> Optional[int]:
+        """how many sessions wait for a number before the agent's, None if that is not known"""
+        count: Optional[int] = self._said.get("waiting")
+        return count
+
+
 class Unreachable(AgentFault, ConnectionError):
     """The agent is not there, has no session, or reaches no quorum of voters."""
 
     word = "unreachable"
+
+
+class Denied(AgentFault, PermissionError):
+    """The servers of NATS refuse the agent's user, or let it take no locks."""
+
+    word = "denied"
 
 
 class Full(AgentFault):
@@ -70,11 +100,15 @@ class Lost(AgentFault):
     word = "lost"
 
 
-_KINDS: Dict[str, Type[AgentFault]] = {kind.word: kind for kind in (HeldElsewhere, NotInTime, Unreachable, Full, BadName, Lost)}
+_KINDS: Dict[str, Type[AgentFault]] = {
+    kind.word: kind for kind in (HeldElsewhere, NotInTime, NoNumber, Unreachable, Denied, Full, BadName, Lost)
+}
 _KINDS["closing"] = Unreachable
 
-# How long the agent may take to reply, beside the time for which a lock is waited for.
+# How long the agent may take to reply, beside the time for which a lock or voters are waited for.
 _REPLY = 5.0
+# How long voters may take to reply if nobody says.
+_VOTERS = 3.0
 # How long a look at the connection takes at most: the clock of the look stands still while the machine sleeps.
 _LOOK = 0.2
 
@@ -109,6 +143,7 @@ class _Connection:
     def lines_for_ever(self) -> None:
         """Lets `line` take its own time from now on."""
         self._limit = None
+        self.socket.settimeout(None)
 
     def line(self, most: Optional[float] = None) -> Optional[bytes]:
         """Returns the next line without its end, b"" at the end of the connection, and None if none came in time."""
@@ -139,8 +174,8 @@ class _Connection:
                 said = json.loads(self._text())
                 word, why = str(said["fault"]), str(said["why"])
             except (ValueError, KeyError, TypeError):
-                word, why = "internal", " ".join(status)
-            raise _KINDS.get(word, AgentFault)(why, word)
+                said, word, why = {}, "internal", " ".join(status)
+            raise _KINDS.get(word, AgentFault)(why, word, said)
 
     def _text(self) -> str:
         line = self.line()
@@ -151,7 +186,10 @@ class _Connection:
         return line.decode("utf-8", "replace")
 
     def json(self) -> Any:
-        return json.loads(self._text())
+        try:
+            return json.loads(self._text())
+        except ValueError as fault:
+            raise Unreachable(f"what the agent says is none of its lines: {fault}") from fault
 
     def close(self) -> None:
         """Ends the connection, also if another process has it, too."""
@@ -161,6 +199,48 @@ class _Connection:
             pass  # it has ended
         self.socket.close()
         _connections.discard(self)
+
+
+@dataclass(frozen=True)
+class Holder:
+    """Who has a lock of the cluster, by what voters say. It is false if nobody has it. What it says was so a moment ago: decide nothing by
+    it, and show it to people."""
+
+    lock: str
+    held: bool = False
+    user: str = ""
+    """of NATS: the broker vouches for it. "" without users"""
+    host: str = ""
+    pid: int = 0
+    login: str = ""
+    """its user of the system"""
+    note: str = ""
+    """its own, or the name of its process"""
+    since: Optional[datetime] = None
+    """since when it has the lock, about"""
+    waiting: int = 0
+    """how many other sessions wait for the lock: an agent is one"""
+    asked: bool = False
+    """the voters that replied do not say that it has the votes of a quorum"""
+    session: str = ""
+    """as operators see it, and as `qlockctl evict` takes it"""
+
+    def __bool__(self) -> bool:
+        return self.held
+
+    @classmethod
+    def read(cls, said: Dict[str, Any]) -> "Holder":
+        """Returns who the agent says it is."""
+        known = {field.name: said[field.name] for field in fields(cls) if field.name in said}
+        if "since" in known:
+            known["since"] = _time(known["since"])
+        return cls(**known)
+
+
+def _time(text: str) -> datetime:
+    """Returns a time in UTC, which has any number of digits behind the second."""
+    whole, _, rest = text.rstrip("Z").partition(".")
+    return datetime.fromisoformat(whole).replace(tzinfo=timezone.utc) + timedelta(microseconds=int(rest[:6].ljust(6, "0")))
 
 
 class Client:
@@ -173,20 +253,22 @@ class Client:
         self.note = note
 
     def lock(self, name: str, wait: Optional[float] = None, on_lost: Optional[Callable[["Held"], None]] = None,
-             turn: bool = False) -> "Held":
+             turn: bool = False, note: str = "") -> "Held":
         """Waits for a lock, for at most `wait` seconds, and without limit if it is None. `on_lost` is called, in a thread of
         its own, when the lock may be somebody else's. With `turn` the lock has its turn (`Held.turn`): for that all voters of
-        its quorum have to reply."""
-        return self._take(name, wait, {"turn": "1"} if turn else {}, on_lost)
+        its quorum have to reply. `note` is that of this lock, in place of the client's."""
+        return self._take(name, wait, {"turn": "1"} if turn else {}, on_lost, note)
 
-    def try_lock(self, name: str, on_lost: Optional[Callable[["Held"], None]] = None, turn: bool = False) -> "Held":
-        """Takes a lock that nobody has. Raises `HeldElsewhere` if somebody else has it, or asked before."""
-        return self._take(name, 10.0, {"try": "1", "turn": "1"} if turn else {"try": "1"}, on_lost)
+    def try_lock(self, name: str, on_lost: Optional[Callable[["Held"], None]] = None, turn: bool = False, note: str = "") -> "Held":
+        """Takes a lock that nobody has. Raises `HeldElsewhere` if somebody else has it, or asked before, and `NoNumber` if all client
+        numbers are in use."""
+        return self._take(name, 10.0, {"try": "1", "turn": "1"} if turn else {"try": "1"}, on_lost, note)
 
-    def _take(self, name: str, wait: Optional[float], query: Dict[str, str], on_lost: Optional[Callable[["Held"], None]]) -> "Held":
+    def _take(self, name: str, wait: Optional[float], query: Dict[str, str], on_lost: Optional[Callable[["Held"], None]],
+              note: str) -> "Held":
         limit = None
-        if self.note:
-            query["note"] = self.note
+        if note or self.note:
+            query["note"] = note or self.note
         if wait is not None:
             wait = max(wait, 0.001)
             query["wait"], limit = f"{wait:.6f}s", wait + _REPLY
@@ -201,8 +283,8 @@ class Client:
     def _call(self, call: str, limit: Optional[float] = _REPLY) -> _Connection:
         return _Connection(self.socket, call, limit)
 
-    def _get(self, path: str) -> Any:
-        connection = self._call(f"GET {path}")
+    def _get(self, path: str, limit: float = _REPLY) -> Any:
+        connection = self._call(f"GET {path}", limit)
         try:
             connection.reply()
             return connection.json()
@@ -218,6 +300,71 @@ class Client:
         """Returns what the agent says of itself."""
         said: Dict[str, Any] = self._get("/v1/status")
         return said
+
+    def who(self, name: str, wait: float = _VOTERS) -> Holder:
+        """Returns who has a lock of the cluster, on whichever host; it is false if nobody has it. Raises `Unreachable` if no quorum of
+        voters replies within `wait` seconds."""
+        return Holder.read(self._get(f"/v1/who/{quote(name, safe='')}?{_wait(wait)}", wait + _REPLY))
+
+    def list(self, prefix: str = "", wait: float = _VOTERS) -> List[Holder]:
+        """Returns the locks of the cluster of which the name begins with a prefix, and that somebody has or waits for, in the order of their
+        names. Raises `Unreachable` if no quorum of voters replies within `wait` seconds."""
+        rows = self._get(f"/v1/who?{urlencode({'prefix': prefix})}&{_wait(wait)}", wait + _REPLY)["locks"]
+        return [Holder.read(row) for row in rows]
+
+    def watch(self, name: str, wait: float = _VOTERS) -> "Watch":
+        """Returns who has a lock of the cluster, one after the other: first who has it now, and then each change, until it is closed. Raises
+        `Unreachable` if no quorum of voters replies within `wait` seconds at first."""
+        connection = self._call(f"GET /v1/watch/{quote(name, safe='')}?{_wait(wait)}", wait + _REPLY)
+        try:
+            connection.reply()
+            return Watch(connection)
+        except BaseException:
+            connection.close()
+            raise
+
+
+def _wait(seconds: float) -> str:
+    """Returns the part of a query that says for how long to wait."""
+    return f"wait={max(seconds, 0.001):.6f}s"
+
+
+class Watch:
+    """Who has a lock, one after the other, until `close` or the end of its `with`. The next one raises `Unreachable` if the agent ends. The
+    agent asks voters twice a second, so a holder who has the lock for less than that may be missed. While no quorum of them replies
+    nothing comes. Changes of `since` and `waiting` alone are none. One thread may wait for the next one, and any thread may close it."""
+
+    def __init__(self, connection: _Connection) -> None:
+        self._connection = connection
+        self._is_over = False
+        connection.lines_for_ever()
+
+    def __iter__(self) -> Iterator[Holder]:
+        return self
+
+    def __next__(self) -> Holder:
+        if self._is_over:
+            raise StopIteration
+        try:
+            return Holder.read(self._connection.json())
+        except Exception:
+            if self._is_over:
+                raise StopIteration from None
+            self.close()
+            raise
+
+    def close(self) -> None:
+        """Ends the connection. Who waits for the next one waits no more."""
+        self._is_over = True
+        self._connection.close()
+
+    def __enter__(self) -> "Watch":
+        return self
+
+    def __exit__(
+        self, kind: Optional[Type[BaseException]], fault: Optional[BaseException], trace: Optional[TracebackType]
+    ) -> None:
+        self.close()
 
 
 class Held:

@@ -11,9 +11,11 @@ import threading
 import time
 import unittest
 import unittest.mock
+from datetime import datetime, timezone
 from pathlib import Path
 
-from qlock.agent import AgentFault, BadName, Client, Full, HeldElsewhere, Lost, NotInTime, Unreachable, _connections
+from qlock.agent import (AgentFault, BadName, Client, Denied, Full, HeldElsewhere, Holder, Lost, NoNumber, NotInTime, Unreachable,
+                         _connections, _time)
 
 PROGRAMS = Path(os.environ.get("QLOCK_PROGRAMS") or Path(__file__).resolve().parents[2] / "service" / "out" / "bin")
 NATS = shutil.which("nats-server", path=os.environ.get("PATH", "") + ":/usr/sbin")
@@ -68,6 +70,10 @@ class MadeUp:
 
 def head(status, *lines):
     return f"HTTP/1.0 {status} X\r\nContent-Type: application/json\r\n\r\n" + "".join(json.dumps(line) + "\n" for line in lines)
+
+
+HELD = {"lock": "x", "held": True, "client": 5, "session": "7/5", "user": "jobs", "host": "m3", "pid": 17, "login": "root", "note": "nightly",
+        "since": "2026-12-01T00:10:02.12Z", "waiting": 2, "of a later version": {}}
 
 
 def first(left=60.0):
@@ -127,7 +133,8 @@ class WithMadeUpAgent(unittest.TestCase):
     def test_each_fault_has_a_class(self):
         for status, word, kind, other in (
             (409, "held", HeldElsewhere, AgentFault), (408, "timeout", NotInTime, TimeoutError),
-            (504, "unreachable", Unreachable, ConnectionError),
+            (504, "unreachable", Unreachable, ConnectionError), (429, "numbers", NoNumber, AgentFault),
+            (403, "denied", Denied, PermissionError),
             (503, "closing", Unreachable, ConnectionError), (507, "full", Full, AgentFault), (400, "name", BadName, ValueError),
             (410, "lost", Lost, AgentFault), (400, "request", AgentFault, AgentFault), (500, "of a later version", AgentFault, Exception),
         ):
@@ -141,6 +148,86 @@ class WithMadeUpAgent(unittest.TestCase):
             threading.Thread(target=lambda got=got: eventually(lambda: len(got) == 2) and got[1].close(), daemon=True).start()
             with self.assertRaises(AgentFault):
                 self.client.lock("x")
+
+    def test_what_a_refusal_says_besides(self):
+        self.agent.next(head(409, {"fault": "held", "why": "x", "holder": HELD}))
+        with self.assertRaises(HeldElsewhere) as said:
+            self.client.try_lock("x")
+        self.assertEqual((said.exception.holder.note, said.exception.holder.pid), ("nightly", 17))
+        self.agent.next(head(429, {"fault": "numbers", "why": "x", "waiting": 3}))
+        with self.assertRaises(NoNumber) as said:
+            self.client.try_lock("x")
+        self.assertEqual(said.exception.waiting, 3)
+        for status, word in ((409, "held"), (429, "numbers")):
+            self.agent.next(head(status, {"fault": word, "why": "x"}))
+            with self.assertRaises(AgentFault) as said:
+                self.client.try_lock("x")
+            self.assertIsNone(said.exception.holder if word == "held" else said.exception.waiting)
+
+    def test_note_of_one_lock(self):
+        for client, note, want in ((self.client, "a b", "note=a+b&"), (self.client, "", ""), (Client(self.agent.path, "own"), "", "note=own&"),
+                                   (Client(self.agent.path, "own"), "a", "note=a&")):
+            for call, words in ((client.lock, {"wait": 1}), (client.try_lock, {})):
+                got = self.agent.next(head(409, {"fault": "held", "why": "x"}))
+                with self.assertRaises(HeldElsewhere):
+                    call("x", note=note, **words)
+                self.assertEqual(got[0].split("?")[1].replace("try=1&", "").split("wait=")[0], want)
+
+    def test_who_has_a_lock(self):
+        got = self.agent.next(head(200, HELD))
+        holder = self.client.who("a b")
+        self.assertEqual(got[0], "GET /v1/who/a%20b?wait=3.000000s HTTP/1.0")
+        self.assertEqual(holder, Holder("x", True, "jobs", "m3", 17, "root", "nightly", datetime(2026, 12, 1, 0, 10, 2, 120000, timezone.utc),
+                                        2, False, "7/5"))
+        self.assertTrue(holder)
+        self.agent.next(head(200, {"lock": "x", "held": False}))
+        self.assertFalse(self.client.who("x"))
+        got = self.agent.next(head(504, {"fault": "unreachable", "why": "x"}))
+        with self.assertRaises(Unreachable):
+            self.client.who("x", wait=0)
+        self.assertIn("wait=0.001000s", got[0])
+        self.agent.next("HTTP/1.0 200 OK\r\n\r\nno JSON\n")
+        with self.assertRaises(Unreachable):
+            self.client.who("x")
+
+    def test_times(self):
+        for text, micros in (("2026-12-01T00:10:02Z", 0), ("2026-12-01T00:10:02.5Z", 500000), ("2026-12-01T00:10:02.123456789Z", 123456)):
+            self.assertEqual(_time(text), datetime(2026, 12, 1, 0, 10, 2, micros, timezone.utc))
+
+    def test_list_of_the_cluster(self):
+        got = self.agent.next(head(200, {"locks": [HELD, {"lock": "y", "held": False}]}))
+        self.assertEqual([(it.lock, it.held) for it in self.client.list("a-&")], [("x", True), ("y", False)])
+        self.assertEqual(got[0], "GET /v1/who?prefix=a-%26&wait=3.000000s HTTP/1.0")
+
+    def test_watch(self):
+        got = self.agent.next(head(200, {"lock": "x", "held": False}))
+        with self.client.watch("x") as holders:
+            self.assertFalse(next(holders))
+            self.assertTrue(eventually(lambda: len(got) == 2))
+            self.assertEqual(got[0], "GET /v1/watch/x?wait=3.000000s HTTP/1.0")
+            self.assertIsNone(holders._connection.socket.gettimeout())
+            threading.Timer(0.3, lambda: got[1].sendall((json.dumps(HELD) + "\n").encode())).start()
+            self.assertEqual(next(holders).note, "nightly")
+            threading.Timer(0.3, holders.close).start()  # by another thread
+            self.assertEqual(list(holders), [])
+            self.assertEqual(got[1].recv(1), b"")
+            self.assertEqual(list(holders), [])
+        for end in (b"", b"no JSON\n"):
+            got = self.agent.next(head(200, HELD))
+            holders = self.client.watch("x")
+            self.assertTrue(next(holders))
+            self.assertTrue(eventually(lambda: len(got) == 2))
+            got[1].sendall(end)
+            got[1].shutdown(socket.SHUT_WR)
+            with self.assertRaises(Unreachable):
+                next(holders)
+            self.assertEqual(list(holders), [])
+            self.assertEqual(got[1].recv(1), b"")
+        got = self.agent.next(head(403, {"fault": "denied", "why": "x"}))
+        with self.assertRaises(Denied):
+            self.client.watch("x")
+        self.assertTrue(eventually(lambda: len(got) == 2))
+        self.assertEqual(got[1].recv(1), b"")
 
     def test_agent_that_is_not_there(self):
         with self.assertRaises(Unreachable):
@@ -293,7 +380,7 @@ class WithAgent(unittest.TestCase):
         cls.socket = str(cls.room / "q.sock")
         (cls.room / "qlockd.toml").write_text(f'cluster = "{cluster}"\nsocket = "{cls.socket}"\n')
         cls.start([PROGRAMS / "qlockd", "start", "-c", cls.room / "qlockd.toml"])
-        if not eventually(lambda: os.path.exists(cls.socket)):
+        if not eventually(lambda: is_there(cls.socket)):
             raise AssertionError("the agent does not start")
         cls.client = Client(cls.socket)
         cls.client.lock("ready", wait=30).unlock()
@@ -322,6 +409,27 @@ class WithAgent(unittest.TestCase):
         self.client.try_lock("x").unlock()
         self.assertEqual(self.client.status()["cluster"], "test")
 
+    def test_holders_of_the_cluster(self):
+        path, _, _ = self.other_agent("elsewhere")
+        other = Client(path, note="elsewhere")
+        self.assertFalse(self.client.who("w-1"))
+        with self.client.watch("w-1") as holders:
+            self.assertFalse(next(holders))
+            with other.lock("w-1", wait=30), other.lock("w-2", note="second"):
+                for holder in holders:
+                    if holder.note == "elsewhere":
+                        break
+                self.assertEqual((holder.pid, holder.lock, holder.host), (os.getpid(), "w-1", socket.gethostname()))
+                self.assertTrue(eventually(lambda: self.client.who("w-2").note == "second"))
+                self.assertEqual([(it.lock, it.note) for it in self.client.list("w-")], [("w-1", "elsewhere"), ("w-2", "second")])
+                self.assertEqual(self.client.locks("w-1"), [])
+                with self.assertRaises(HeldElsewhere) as said:
+                    self.client.try_lock("w-1")
+                self.assertEqual(said.exception.holder.note, "elsewhere")
+            self.assertFalse(next(holders))
+        with self.assertRaises(BadName):
+            self.client.watch("a b")
+
     def test_lock_lasts_longer_than_its_ttl(self):
         with self.client.lock("long", wait=10) as held:
             time.sleep(5)
@@ -349,7 +457,7 @@ class WithAgent(unittest.TestCase):
         file.write_text(f'cluster = "{self.room / "cluster.toml"}"\nsocket = "{path}"\n')
         words = [PROGRAMS / "qlockd", "start", "-c", file]
         other = self.start(words)
-        self.assertTrue(eventually(lambda: os.path.exists(path)))
+        self.assertTrue(eventually(lambda: is_there(path)))
         return path, words, other
 
     def test_agent_that_stands_still(self):

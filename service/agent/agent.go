@@ -35,8 +35,10 @@ const Socket = "/run/qlock/qlockd.sock"
 var (
 	ErrHeld        = errors.New("agent: somebody else has the lock")
 	ErrTimeout     = errors.New("agent: the lock was not to be had in time")
+	ErrNumbers     = errors.New("agent: no client number was to be had: all are in use (wait longer, or make a cluster with more shards)")
 	ErrAbsent      = errors.New("agent: no agent is there, or this user may not connect to it")
 	ErrUnreachable = errors.New("agent: the agent has no session, reaches no quorum of voters, or ended")
+	ErrDenied      = errors.New("agent: the servers of NATS refuse the agent's user")
 	ErrFull        = errors.New("agent: no quorum of voters has room for another lock")
 	ErrName        = errors.New("agent: a lock's name has 1 to 64 of A-Z a-z 0-9 _ - . : and no dot first")
 	ErrLost        = errors.New("agent: the lock may have been somebody else's before it was given back")
@@ -44,13 +46,15 @@ var (
 )
 
 // words are the words of faults, and the errors that they are. Any other one is ErrRefused.
-var words = map[string]error{"held": ErrHeld, "timeout": ErrTimeout, "unreachable": ErrUnreachable, "closing": ErrUnreachable,
-	"full": ErrFull, "name": ErrName, "lost": ErrLost}
+var words = map[string]error{"held": ErrHeld, "timeout": ErrTimeout, "numbers": ErrNumbers, "unreachable": ErrUnreachable,
+	"closing": ErrUnreachable, "denied": ErrDenied, "full": ErrFull, "name": ErrName, "lost": ErrLost}
 
 // Fault is why the agent refused a request.
 type Fault struct {
-	Word string `json:"fault"` // one of a few that stay the same
-	Why  string `json:"why"`
+	Word    string  `json:"fault"` // one of a few that stay the same
+	Why     string  `json:"why"`
+	Holder  *Holder `json:"holder"`  // of ErrHeld: who has the lock; nil if that is not known
+	Waiting int     `json:"waiting"` // of ErrNumbers: how many sessions wait for a number before the agent's
 }
 
 func (f *Fault) Error() string { return f.Why }
@@ -92,7 +96,7 @@ func New(socket string) *Client {
 }
 
 // WithNote returns a client whose locks have a note: what others see of who has them, besides process and user. Without one it
-// is the name of the process.
+// is the name of the process. It is cheap: client.WithNote("nightly").Lock(ctx, "orders") has a note for one lock.
 func (c *Client) WithNote(note string) *Client { return &Client{c.socket, note, c.turn} }
 
 // WithTurn returns a client whose locks have a turn (Held.Turn). All voters of a lock's quorum have to reply for that, so it takes
@@ -120,7 +124,8 @@ func (c *Client) Lock(ctx context.Context, name string) (*Held, error) {
 	return c.take(ctx, name, url.Values{})
 }
 
-// TryLock takes a lock that nobody has. It fails with ErrHeld if somebody else has it, or asked before.
+// TryLock takes a lock that nobody has. It fails with ErrHeld if somebody else has it, or asked before: then Fault.Holder says who,
+// if that is known. It waits for no number: that is ErrNumbers.
 func (c *Client) TryLock(ctx context.Context, name string) (*Held, error) {
 	return c.take(ctx, name, url.Values{"try": {"1"}})
 }
@@ -152,29 +157,30 @@ func (c *Client) take(ctx context.Context, name string, query url.Values) (*Held
 	if err != nil {
 		return nil, err
 	}
-	// whoever calls this may give up
-	isTaken, done := make(chan struct{}), make(chan struct{})
-	go func() {
-		defer close(done)
-		select {
-		case <-limit.Done():
-			_ = connection.Close()
-		case <-isTaken:
-		}
-	}()
+	ready := endsWith(limit, connection) // whoever calls this may give up
 	held, err := ask(connection, name, query)
-	close(isTaken)
-	<-done
+	ready()
 	if err == nil && limit.Err() == nil {
 		go held.read()
 		go held.watch(catchUp)
 		return held, nil
 	}
 	_ = connection.Close()
-	if ctx.Err() != nil && !errors.As(err, new(*Fault)) {
-		err = ctx.Err()
-	}
-	return nil, err
+	return nil, unlessEnded(ctx, err)
+}
+
+// endsWith ends a connection with a context, until the function is called that it returns.
+func endsWith(ctx context.Context, connection net.Conn) (ready func()) {
+	isReady, done := make(chan struct{}), make(chan struct{})
+	go func() {
+		defer close(done)
+		select {
+		case <-ctx.Done():
+			_ = connection.Close()
+		case <-isReady:
+		}
+	}()
+	return func() { close(isReady); <-done }
 }
 
 // late returns a context that ends some time from now, or as its parent is cancelled.
@@ -217,7 +223,7 @@ func send(connection net.Conn, method, path string, query url.Values) (*http.Res
 	if reply.StatusCode != http.StatusOK {
 		fault := &Fault{}
 		if err := json.NewDecoder(reply.Body).Decode(fault); err != nil {
-			fault = &Fault{"internal", reply.Status}
+			fault = &Fault{Word: "internal", Why: reply.Status}
 		}
 		return nil, fault
 	}

@@ -124,3 +124,47 @@ func TestSilence(t *testing.T) {
 		t.Error(err)
 	}
 }
+
+// Who reads late what he watches gets the newest holder only. The channel closes with the connection.
+func TestNewestHolder(t *testing.T) {
+	path := filepath.Join(t.TempDir(), "q.sock")
+	listener, err := net.ListenUnix("unix", &net.UnixAddr{Name: path, Net: "unix"})
+	if err != nil {
+		t.Fatal(err)
+	}
+	defer listener.Close()
+	ends := make(chan *net.UnixConn, 1)
+	go func() {
+		connection, err := listener.AcceptUnix()
+		if err != nil {
+			return
+		}
+		if _, err := http.ReadRequest(bufio.NewReader(connection)); err != nil {
+			t.Error(err)
+		}
+		fmt.Fprint(connection, "HTTP/1.1 200 OK\r\n\r\n")
+		for n := 1; n <= 3; n++ {
+			fmt.Fprintf(connection, `{"lock":"x","held":true,"pid":%d,"since":"2026-12-01T00:10:02.5Z"}`+"\n", n)
+		}
+		ends <- connection
+	}()
+	holders, err := New(path).Watch(context.Background(), "x")
+	if err != nil {
+		t.Fatal(err)
+	}
+	end := <-ends
+	time.Sleep(500 * time.Millisecond)
+	want := Holder{Pid: 3, Since: time.Date(2026, 12, 1, 0, 10, 2, 500000000, time.UTC)}
+	if holder := <-holders; holder != want {
+		t.Errorf("%+v", holder)
+	}
+	_ = end.Close()
+	select {
+	case _, more := <-holders:
+		if more {
+			t.Error("there is another one")
+		}
+	case <-time.After(20 * time.Second):
+		t.Error("the channel stays open")
+	}
+}

@@ -41,8 +41,8 @@ var (
 	ErrFull     = errors.New("locks: no quorum of voters has room for another lock, or for one of this user: max_locks, max_locks_user")
 	ErrLooks    = errors.New("locks: the client only looks: it has no number, and takes no locks")
 	ErrRetired  = errors.New("locks: the plan of the cluster's file is retired; take the newest file")
-	ErrNumbers  = errors.New("locks: all client numbers are in use (wait longer, share one by an agent on each host, or make a cluster with " +
-		"more shards: init --shards)")
+	ErrNumbers  = errors.New("locks: all client numbers are in use, or as many as one lock may have (wait longer, share one by an agent on " +
+		"each host, or make a cluster with more shards: init --shards)")
 )
 
 // because is an error, and why it came about. errors.Is finds both.

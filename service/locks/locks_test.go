@@ -598,6 +598,9 @@ func TestNumbersInUse(t *testing.T) {
 	if !strings.Contains(fmt.Sprint(err), "64 sessions are open, one of them was silent for ") {
 		t.Errorf("it does not say how many there are: %v", err)
 	}
+	if none := (&NoNumber{}); !errors.As(err, &none) || none.Open != qlock.MaxClients || none.Ahead != 0 {
+		t.Errorf("%+v", none)
+	}
 	for _, way := range []string{"wait longer", "an agent on each host", "init --shards"} {
 		if !strings.Contains(fmt.Sprint(err), way) {
 			t.Errorf("it does not say %q: %v", way, err)

@@ -72,7 +72,7 @@ func (c *Client) watches(ctx context.Context, lock string, found chan Holder) {
 	var last *Holder
 	for {
 		holder, err := c.Who(ctx, lock)
-		if err == nil && (last == nil || !last.isSame(holder)) {
+		if err == nil && (last == nil || !last.IsSame(holder)) {
 			last = &holder
 			select {
 			case <-found: // nobody read it

@@ -29,6 +29,7 @@ import (
 	"math"
 	"math/rand"
 	"strconv"
+	"sync/atomic"
 	"time"
 
 	"calvundek.example/service/internal/boot"
@@ -111,6 +112,9 @@ type session struct {
 	crowd   wire.Told // how many sessions there are, as a voter said
 	isFree  bool      // a voter said that a number is free
 	wants   string    // the lock for which a number is wanted, "" if that is not known
+	wishes  *wishes   // the locks of all calls for which one is wanted, nil without shards
+
+	short *atomic.Pointer[wire.Told] // of this call: which sessions there were as no number was to be had last, nil before that
 
 	wanted  time.Time // when a voter said last that others wait for a number
 	wasUsed bool      // a lock was asked for
@@ -121,7 +125,7 @@ type session struct {
 }
 
 func newSession(cluster *config.Cluster, name string, own *claims.Numbers) session {
-	s := session{asked: -1, claims: own, unused: time.Now(), drained: make(chan struct{}), leases: qlock.NewLeases(leaseOf(cluster.TTL.Duration)),
+	s := session{asked: -1, claims: own, short: &atomic.Pointer[wire.Told]{}, unused: time.Now(), drained: make(chan struct{}), leases: qlock.NewLeases(leaseOf(cluster.TTL.Duration)),
 		header: wire.Header{Cluster: cluster.ID, Kind: wire.FromClient, Name: name, Level: level.Newest}}
 	s.meet(len(cluster.Names()))
 	return s
@@ -138,9 +142,9 @@ func (s *session) meet(voters int) {
 // begin gets a number, and reserves its first stamps. If another session was faster it takes another number.
 func (c *Client) begin(ctx context.Context) error {
 	c.opening = true
-	for {
+	for c.short.Store(nil); ; {
 		if err := c.choose(ctx); err != nil {
-			return err
+			return c.withoutNumber(ctx, err)
 		}
 		err := c.claim(ctx)
 		if err == nil {
@@ -148,17 +152,36 @@ func (c *Client) begin(ctx context.Context) error {
 		}
 		if err == nil {
 			c.opening, c.unused = false, time.Now() // it wanted a number until now
+			c.short.Store(nil)
 			c.note("session", "number=%d epoch=%d", c.header.Number, c.header.Epoch)
 			return nil
+		}
+		if errors.Is(err, errTaken) {
+			c.notesShort()
 		}
 		c.abandon() // also if the client has ended meanwhile: else the number stays taken for a TTL
 		if c.why != nil {
 			return c.why
 		}
 		if ctx.Err() != nil {
-			return err
+			return c.withoutNumber(ctx, err)
 		}
 	}
+}
+
+// notesShort notes that a quorum said that no number is to be had, or others were faster.
+func (c *Client) notesShort() {
+	crowd := c.crowd
+	c.short.Store(&crowd)
+}
+
+// withoutNumber returns why a session has no number. If the context ended, and voters had said before that none is to be had, it is that,
+// whatever was asked last.
+func (c *Client) withoutNumber(ctx context.Context, err error) error {
+	if short := c.short.Load(); short != nil && c.why == nil && ctx.Err() != nil {
+		return crowded(*short, ctx.Err())
+	}
+	return err
 }
 
 // reserveFirst reserves the first stamps of a number that a quorum gave to this session. Where voters know of other stamps, what came
@@ -222,11 +245,15 @@ func (c *Client) choose(ctx context.Context) error {
 		if c.pick() {
 			return nil
 		}
+		c.notesShort()
 		if c.config.DontWait {
-			return c.crowded(nil)
+			return crowded(c.crowd, nil)
 		}
 		if err := c.awaitsFree(ctx); err != nil {
-			return c.crowded(err)
+			return err
+		}
+		if c.wishes != nil && !c.isFree {
+			c.wants = c.wishes.next(c.wants) // that lock may have a number
 		}
 	}
 }
@@ -241,12 +268,18 @@ func (c *Client) askForNumbers() {
 	}
 }
 
-// awaitsFree waits until a voter says that a number is free, and at most for a tenth of the TTL.
+// awaitsFree waits until a voter says that a number is free, or one is wanted for another lock, and at most for a tenth of the TTL.
 func (c *Client) awaitsFree(ctx context.Context) error {
 	timer := time.NewTimer(c.cluster.TTL.Duration / 10)
 	defer timer.Stop()
+	var grown <-chan struct{}
+	if c.wishes != nil {
+		grown = c.wishes.grown
+	}
 	for c.isFree = false; !c.isFree && c.why == nil; {
 		select {
+		case <-grown:
+			return nil
 		case m := <-c.messages:
 			c.message(m)
 		case m := <-c.inBundles():

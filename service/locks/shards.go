@@ -10,6 +10,7 @@ import (
 	"context"
 	"errors"
 	"sync"
+	"sync/atomic"
 	"time"
 
 	"calvundek.example/service/internal/claims"
@@ -47,6 +48,60 @@ type part struct {
 	name   string          // of the session that is opened: it keeps its place among those that wait for a number
 	claims *claims.Numbers // those that it made
 	client *Client         // nil if there is none
+
+	short  atomic.Pointer[wire.Told] // of whoever opens the session (session.short)
+	wishes wishes
+}
+
+// wishes are the locks for which calls wait that have no session.
+type wishes struct {
+	mutex sync.Mutex
+	locks []string      // of each call one
+	grown chan struct{} // says that there is another one
+}
+
+// add adds the lock of a call. The function that it returns takes it out.
+func (w *wishes) add(lock string) (remove func()) {
+	w.mutex.Lock()
+	defer w.mutex.Unlock()
+	if w.locks = append(w.locks, lock); len(w.locks) > 1 {
+		select {
+		case w.grown <- struct{}{}:
+		default:
+		}
+	}
+	return func() {
+		w.mutex.Lock()
+		defer w.mutex.Unlock()
+		for i, one := range w.locks {
+			if one == lock {
+				w.locks = append(w.locks[:i], w.locks[i+1:]...)
+				return
+			}
+		}
+	}
+}
+
+// next returns another lock than this one, if there is one: that for which a call waits that came after those for this one, or else the
+// first one.
+func (w *wishes) next(lock string) string {
+	w.mutex.Lock()
+	defer w.mutex.Unlock()
+	first, after := lock, lock
+	for _, one := range w.locks {
+		if one == lock {
+			after = lock
+		} else if after == lock {
+			after = one
+		}
+		if first == lock {
+			first = one
+		}
+	}
+	if after == lock {
+		return first
+	}
+	return after
 }
 
 // openShards connects, and waits until a quorum of voters replies.
@@ -99,7 +154,7 @@ func (s *shards) part(shard int) *part {
 	s.mutex.Lock()
 	defer s.mutex.Unlock()
 	if s.all[shard] == nil {
-		s.all[shard] = &part{gate: make(chan struct{}, 1)}
+		s.all[shard] = &part{gate: make(chan struct{}, 1), wishes: wishes{grown: make(chan struct{}, 1)}}
 	}
 	return s.all[shard]
 }
@@ -168,10 +223,14 @@ func (s *shards) closes() {
 func (c *Client) sessionFor(ctx context.Context, lock string, tries bool) (*Client, error) {
 	shard := c.cluster.ShardOfLock(lock)
 	p := c.shards.part(shard)
+	defer p.wishes.add(lock)()
 	select {
 	case p.gate <- struct{}{}:
 		defer func() { <-p.gate }()
 	case <-ctx.Done():
+		if short := p.short.Load(); short != nil {
+			return nil, crowded(*short, ctx.Err()) // another call waits for the number, too
+		}
 		return nil, ctx.Err()
 	case <-c.shards.closing:
 		return nil, ErrClosed
@@ -248,7 +307,7 @@ func (c *Client) openPart(ctx context.Context, p *part, lock string, tries bool)
 	if err != nil {
 		return nil, err
 	}
-	session.wants = lock
+	session.wants, session.wishes, session.short = lock, &p.wishes, &p.short
 	if err := c.call(func() error { session.plans = c.plans.copied(); return nil }); err != nil {
 		return nil, err
 	}

@@ -171,10 +171,11 @@ func TestMoreThanSixtyFourClients(t *testing.T) {
 
 // Where all numbers of a shard are taken the others wait, in order, for those that want nothing any more. Each gets the lock.
 func TestMoreClientsThanNumbers(t *testing.T) {
+	const processes = 100
 	w := newShards(t, 2, 20*time.Second)
 	name, count := nameIn(w, 1), &counter{}
 	var group sync.WaitGroup
-	for i := 0; i < qlock.MaxClients+20; i++ {
+	for i := 0; i < processes; i++ {
 		c := startWith(t, w, Config{NoNote: true})
 		group.Add(1)
 		go func() {
@@ -193,7 +194,7 @@ func TestMoreClientsThanNumbers(t *testing.T) {
 		}()
 	}
 	group.Wait()
-	if count.met || count.total != 2*(qlock.MaxClients+20) {
+	if count.met || count.total != 2*processes {
 		t.Errorf("%d passes, two inside: %v", count.total, count.met)
 	}
 }
@@ -218,6 +219,9 @@ func TestNoNumberOfShard(t *testing.T) {
 		waits <- err
 	}()
 	time.Sleep(2 * time.Second)
+	if _, err := late.Lock(within(t, time.Second), nameOf(w, 0, 70)); !errors.Is(err, ErrNumbers) || !errors.Is(err, context.DeadlineExceeded) {
+		t.Errorf("who waits behind another call that waits for the number: %v", err)
+	}
 	if _, err := startWith(t, w, Config{NoNote: true}).Lock(within(t, 6*time.Second), name); !errors.Is(err, ErrNumbers) ||
 		!strings.Contains(err.Error(), "wait for a number before this one") {
 		t.Errorf("who waits is told: %v", err)
@@ -403,57 +407,111 @@ func TestShardsFollowPlans(t *testing.T) {
 	}
 }
 
-// A hot lock has all numbers of its shard, and more sessions wait for it. Who wants another lock of the shard comes late, and gets the next
-// number that is free.
+// A lock is held, and 79 more clients want it. It has 56 numbers of its shard, and stays at that while it is held. So another lock of the
+// shard is had at once, and one of another client after it. Then all that wait get the lock.
 func TestHotLockStopsNoNeighbour(t *testing.T) {
-	w := newShards(t, 2, 20*time.Second)
-	hot, cold := nameOf(w, 1, 0), nameOf(w, 1, 1)
+	const crowd, most = 80, 56
+	w := newShards(t, 2, 10*time.Second)
+	hot, cold, count := nameOf(w, 1, 0), nameOf(w, 1, 1), &counter{}
+	holder, one, other, both := startWith(t, w, Config{NoNote: true}), startWith(t, w, Config{NoNote: true}),
+		startWith(t, w, Config{NoNote: true}), startWith(t, w, Config{NoNote: true})
+	held := take(t, holder, hot)
 	var group sync.WaitGroup
-	passes, began := make(chan int, 1), make(chan struct{})
-	passes <- 0
-	pass := func(c *Client) {
-		defer group.Done()
-		held, err := c.Lock(within(t, 60*time.Second), hot)
-		if err != nil {
-			t.Error(err)
-			return
-		}
-		n := <-passes
-		if passes <- n + 1; n == 0 {
-			<-began
-		}
-		if n < 20 {
-			time.Sleep(100 * time.Millisecond)
-		}
-		if err := held.Unlock(); err != nil {
-			t.Error(err)
-		}
-	}
-	for i := 0; i < qlock.MaxClients+16; i++ {
+	for i := 1; i < crowd; i++ {
+		c := startWith(t, w, Config{NoNote: true})
 		group.Add(1)
-		go pass(startWith(t, w, Config{NoNote: true}))
+		go func() {
+			defer group.Done()
+			held, err := c.Lock(within(t, 100*time.Second), hot)
+			if err != nil {
+				t.Error(err)
+				return
+			}
+			count.pass()
+			if err := held.Unlock(); err != nil {
+				t.Error(err)
+			}
+		}()
 	}
-	neighbour, before := startWith(t, w, Config{NoNote: true}), 0
-	soon(t, "not all numbers are taken", func() bool { return who(t, neighbour, hot).Waiting == qlock.MaxClients-1 })
-	time.Sleep(time.Second) // the others wait for a number
-	group.Add(1)
-	go func() {
-		defer group.Done()
-		held, err := neighbour.Lock(within(t, 60*time.Second), cold)
+	soon(t, "not as many wait as may", func() bool { return who(t, holder, hot).Waiting >= most-1 })
+	for began := time.Now(); time.Since(began) < 5*time.Second; time.Sleep(100 * time.Millisecond) {
+		if n := who(t, holder, hot).Waiting; n > most-1 {
+			t.Fatalf("one has the lock, and %d have numbers to wait for it", n)
+		}
+	}
+	for _, c := range []*Client{one, other} {
+		began := time.Now()
+		h, err := c.Lock(within(t, 4*time.Second), cold)
 		if err != nil {
-			t.Error(err)
-			return
+			t.Fatal(err)
 		}
-		before = <-passes
-		passes <- before
-		if err := held.Unlock(); err != nil {
+		if took := time.Since(began); took > 500*time.Millisecond {
+			t.Errorf("the neighbour had its lock after %v", took)
+		} else {
+			t.Logf("the neighbour had its lock after %v", took)
+		}
+		if isNow(held.Lost()) {
+			t.Fatal("the hot lock is lost")
+		}
+		if err := h.Unlock(); err != nil {
 			t.Error(err)
 		}
+	}
+	if _, err := other.TryLock(within(t, 5*time.Second), hot); !errors.Is(err, ErrNumbers) && !errors.Is(err, ErrHeld) {
+		t.Errorf("who tries: %v", err)
+	}
+	waits := make(chan error, 1) // a process that wants both locks
+	go func() {
+		_, err := both.Lock(within(t, 3*time.Second), hot)
+		waits <- err
 	}()
-	time.Sleep(time.Second) // it waits behind them
-	close(began)
+	time.Sleep(300 * time.Millisecond) // it waits for a number
+	began := time.Now()
+	if err := take(t, both, cold).Unlock(); err != nil || time.Since(began) > 400*time.Millisecond {
+		t.Errorf("a process that waits for the hot lock had another one after %v: %v", time.Since(began), err)
+	} else {
+		t.Logf("the process that waits had its lock after %v", time.Since(began))
+	}
+	if err := <-waits; !errors.Is(err, context.DeadlineExceeded) {
+		t.Errorf("it waits for the hot lock: %v", err)
+	}
+	if err := held.Unlock(); err != nil {
+		t.Error(err)
+	}
 	group.Wait()
-	if before > 8 {
-		t.Errorf("the neighbour gets its lock after %d passes of the others", before)
+	if count.met || count.total != crowd-1 {
+		t.Errorf("%d passes, two inside: %v", count.total, count.met)
+	}
+}
+
+// The locks for which calls wait are named in turn, each again and again, and the one that was named goes on if there is no other one.
+func TestWishes(t *testing.T) {
+	w := wishes{grown: make(chan struct{}, 1)}
+	order := func(lock string, n int) (named string) {
+		for i := 0; i < n; i++ {
+			lock = w.next(lock)
+			named += lock
+		}
+		return named
+	}
+	if named := order("a", 2); named != "aa" {
+		t.Error(named)
+	}
+	removeA := w.add("a")
+	if named := order("a", 2); named != "aa" || len(w.grown) != 0 {
+		t.Error(named)
+	}
+	removeB := w.add("b")
+	if w.add("c"); len(w.grown) != 1 {
+		t.Error("who waits does not hear that a number is wanted for another lock")
+	}
+	if named := order("a", 5); named != "bcabc" {
+		t.Error(named)
+	}
+	if removeB(); order("b", 3) != "aca" {
+		t.Error(order("b", 3))
+	}
+	if removeA(); order("a", 2) != "cc" {
+		t.Error(order("a", 2))
 	}
 }

@@ -2,7 +2,6 @@ package locks
 
 import (
 	"context"
-	"errors"
 	"fmt"
 	"math/bits"
 	"sort"
@@ -57,8 +56,8 @@ func (h Holder) String() string {
 	return strings.Join(words, " ")
 }
 
-// isSame returns whether two are the same but for times and those that wait.
-func (h Holder) isSame(other Holder) bool {
+// IsSame returns whether two are the same but for times and those that wait: no change for Watch.
+func (h Holder) IsSame(other Holder) bool {
 	h.Since, h.Waiting = other.Since, other.Waiting
 	return h == other
 }
@@ -293,25 +292,55 @@ func (c *Client) hearCrowd(told wire.Told) {
 	c.crowd.Ahead, c.crowd.Highest = ahead, highest
 }
 
+// NoNumber is the error of a call that got no number, if voters said which sessions have them. errors.Is finds ErrNumbers, and why the call
+// waits no longer if it did.
+type NoNumber struct {
+	Open   int           // how many sessions there are
+	Ahead  int           // how many wait for a number before this one
+	Silent time.Duration // for how long one that has a number was silent, at most
+	Waits  time.Duration // for how long a request of one has waited, at most
+	why    error         // of the context, nil if the call did not wait
+}
+
+func (n *NoNumber) Error() string {
+	text := fmt.Sprintf("%v: %d sessions are open, one of them was silent for %v, and a request has waited for %v", ErrNumbers, n.Open, n.Silent, n.Waits)
+	if n.Ahead > 0 {
+		text += fmt.Sprintf("; %d wait for a number before this one", n.Ahead)
+	}
+	if n.why != nil {
+		text += fmt.Sprint(": ", n.why)
+	}
+	return text
+}
+
+// Is returns whether an error is ErrNumbers.
+func (n *NoNumber) Is(target error) bool { return target == ErrNumbers }
+
+func (n *NoNumber) Unwrap() error { return n.why }
+
 // crowded returns why no number is to be had, and what voters said of the sessions that have them.
-func (c *Client) crowded(why error) error {
+func crowded(crowd wire.Told, why error) error {
 	milliseconds := func(n uint64) time.Duration {
 		return (time.Duration(n) * time.Millisecond).Round(100 * time.Millisecond)
 	}
-	text := fmt.Sprintf("%d sessions are open, one of them was silent for %v, and a request has waited for %v", c.crowd.Open,
-		milliseconds(c.crowd.Silent), milliseconds(c.crowd.Waits))
-	if c.crowd.Ahead > 0 {
-		text += fmt.Sprintf("; %d wait for a number before this one", c.crowd.Ahead)
-	}
 	switch {
-	case c.crowd.Kind == wire.NotTold && why == nil:
+	case crowd.Kind == wire.NotTold && why == nil:
 		return ErrNumbers
-	case c.crowd.Kind == wire.NotTold:
+	case crowd.Kind == wire.NotTold:
 		return because{ErrNumbers, why}
-	case why == nil:
-		return because{ErrNumbers, errors.New(text)}
 	}
-	return because{ErrNumbers, fmt.Errorf("%s: %w", text, why)}
+	return &NoNumber{int(crowd.Open), int(crowd.Ahead), milliseconds(crowd.Silent), milliseconds(crowd.Waits), why}
+}
+
+// HasNumber returns whether the client has a number for a lock. In a cluster with shards it has none until a call of Lock opened the session
+// of the lock's shard, and none again once that is over.
+func (c *Client) HasNumber(lock string) bool {
+	switch {
+	case c.shards != nil:
+		return c.current(c.shards.part(c.cluster.ShardOfLock(lock))) != nil
+	default:
+		return !c.looks
+	}
 }
 
 // hearHolder takes what a voter says of a lock that a question is about.

@@ -524,3 +524,119 @@ func TestSpentEpochs(t *testing.T) {
 		t.Errorf("number %d is chosen", c.asked)
 	}
 }
+
+// Who waited for a number hears ErrNumbers and how many sessions there were, whatever was asked last as its time ended. That no quorum replied
+// it hears only if none did. What an earlier call heard does not count.
+func TestWhyThereIsNoNumber(t *testing.T) {
+	var taken strings.Builder
+	for number := 0; number < qlock.MaxClients; number++ {
+		fmt.Fprintf(&taken, ". number %d 1 0\n", number)
+	}
+	taken.WriteString(". sessions 64 0 0 5 0\n")
+	free := strings.Replace(taken.String(), ". number 9 1 0\n", ". number 9 1 1\n", 1)
+	type reply struct {
+		hello  string
+		denies bool // claims
+	}
+	c, replies := alone(t), make(chan reply, 1) // what voters reply now
+	c.claims[3].GivesUp()
+	c.cluster.TTL.Duration = 2 * time.Second // it asks again after a tenth of that
+	var err error
+	if c.messages, err = c.carrier.Listen(c.Client.boxes()); err != nil {
+		t.Fatal(err)
+	}
+	for v := range c.boxes {
+		go func(v int, session string) {
+			h := wire.Header{Cluster: "test", Coterie: c.plan.mark, Kind: wire.FromVoter, Number: v, Name: fmt.Sprint("identity-", v)}
+			for m := range c.boxes[v] {
+				_, lines, _ := wire.Read(m.Data)
+				text := string(lines)
+				says := <-replies
+				replies <- says
+				switch claim := ""; {
+				case strings.HasSuffix(text, ". hello\n"):
+					text = says.hello
+				case says.denies && strings.Contains(text, ". claim "):
+					claim = text[strings.Index(text, ". claim "):]
+					text = strings.Replace(strings.TrimSuffix(claim, " 64\n"), "claim", "refused", 1) + "\n"
+				default:
+					continue
+				}
+				_ = c.carrier.Send(wire.SessionBox("test", session, v), append(h.Append(nil), text...))
+			}
+		}(v, wire.SessionName(c.user, c.header.Name))
+	}
+	for _, one := range []struct {
+		what        string
+		first, then string // what voters reply to hello, and what after half a second
+		denies      bool
+		want        error
+		text        string
+	}{
+		{"none is free, and then no voter replies", taken.String(), "", false, ErrNumbers, "64 sessions are open"},
+		{"no voter replies", "", "", false, ErrNoQuorum, "no quorum"},
+		{"none is free, and then no voter replies to the claim of one", taken.String(), free, false, ErrNumbers, "5 wait for a number before this one"},
+		{"no voter replies to a claim", free, free, false, ErrNoQuorum, "no quorum"},
+		{"none is free", taken.String(), taken.String(), false, ErrNumbers, "64 sessions are open"},
+		{"others are always faster", free, free, true, ErrNumbers, "64 sessions are open"},
+	} {
+		replies <- reply{one.first, one.denies}
+		c.header.Number, c.header.Epoch, c.wants = 0, 0, ""
+		ctx, cancel := context.WithTimeout(context.Background(), 1200*time.Millisecond)
+		again := time.AfterFunc(500*time.Millisecond, func() { <-replies; replies <- reply{one.then, one.denies} })
+		err := c.begin(ctx)
+		if !errors.Is(err, one.want) || !errors.Is(err, context.DeadlineExceeded) || !strings.Contains(err.Error(), one.text) {
+			t.Errorf("%s: %v", one.what, err)
+		}
+		again.Stop()
+		cancel()
+		<-replies
+	}
+}
+
+// Who hears that a number is free asks for the lock for which it waited. If none is free for a while it asks for another one that is wanted.
+func TestFreeIsForTheLockThatWasNamed(t *testing.T) {
+	var taken strings.Builder
+	for number := 0; number < qlock.MaxClients; number++ {
+		fmt.Fprintf(&taken, ". number %d 1 0\n", number)
+	}
+	c, named := alone(t), make(chan string, 1000)
+	c.claims[3].GivesUp()
+	c.cluster.TTL.Duration = 3 * time.Second
+	c.wants, c.wishes = "one", &wishes{locks: []string{"one", "other"}, grown: make(chan struct{}, 1)}
+	var err error
+	if c.messages, err = c.carrier.Listen(c.Client.boxes()); err != nil {
+		t.Fatal(err)
+	}
+	for v := range c.boxes {
+		go func(v int, session string) {
+			h := wire.Header{Cluster: "test", Coterie: c.plan.mark, Kind: wire.FromVoter, Number: v, Name: fmt.Sprint("identity-", v)}
+			says := func(lines string) {
+				_ = c.carrier.Send(wire.SessionBox("test", session, v), append(h.Append(nil), lines...))
+			}
+			isFirst := true
+			for m := range c.boxes[v] {
+				_, lines, _ := wire.Read(m.Data)
+				says(taken.String())
+				if v == 0 {
+					named <- string(lines)
+				}
+				if v == 0 && isFirst {
+					time.AfterFunc(100*time.Millisecond, func() { says(". free\n") })
+				}
+				isFirst = false
+			}
+		}(v, wire.SessionName(c.user, c.header.Name))
+	}
+	c.header.Number, c.header.Epoch = 0, 0
+	if err := c.begin(within(t, 900*time.Millisecond)); !errors.Is(err, ErrNumbers) {
+		t.Error(err)
+	}
+	var order []string
+	for len(named) > 0 {
+		order = append(order, strings.Fields(<-named)[2])
+	}
+	if got := strings.Join(order, " "); !strings.HasPrefix(got, "one one ") || !strings.Contains(got, " other") {
+		t.Error(got)
+	}
+}

@@ -306,13 +306,21 @@ func ofUser(err error) error {
 	return nil
 }
 
-// Explain returns an error, with why there is no connection if there is none, or why the server refuses the user.
+// explained is an error, and the refusal that is why. errors.Is finds both.
+type explained struct{ what, why error }
+
+func (e explained) Error() string        { return fmt.Sprintf("%v: %v", e.what, e.why) }
+func (e explained) Is(target error) bool { return errors.Is(e.why, target) }
+func (e explained) Unwrap() error        { return e.what }
+
+// Explain returns an error, with why there is no connection if there is none, or why the server refuses the user: then errors.Is finds
+// ErrRefused, too.
 func (n *NATS) Explain(err error) error {
 	if err == nil {
 		return nil
 	}
 	if refusal := n.Refusal(); refusal != nil {
-		return fmt.Errorf("%w: %v", err, refusal)
+		return explained{err, refusal}
 	}
 	if n.Connected() {
 		return err

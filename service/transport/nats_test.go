@@ -248,7 +248,8 @@ func TestRefusal(t *testing.T) {
 		t.Fatal(err)
 	}
 	until(t, "a mailbox is refused", refused(link, "other.a"))
-	if err := link.Explain(os.ErrClosed); !errors.Is(err, os.ErrClosed) || !strings.Contains(err.Error(), "refuses the user") {
+	if err := link.Explain(os.ErrClosed); !errors.Is(err, os.ErrClosed) || !errors.Is(err, transport.ErrRefused) ||
+		!strings.Contains(err.Error(), "refuses the user") {
 		t.Error(err)
 	}
 	s.kill()

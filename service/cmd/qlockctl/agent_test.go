@@ -167,6 +167,29 @@ func TestAgentIsDown(t *testing.T) {
 	}
 }
 
+// Another try may help where the agent has no number, or no quorum. It does not help where the servers of NATS refuse its user.
+func TestFaultsOfTheAgent(t *testing.T) {
+	socket := filepath.Join(t.TempDir(), "q.sock")
+	listener, err := net.Listen("unix", socket)
+	if err != nil {
+		t.Fatal(err)
+	}
+	word := make(chan string, 1)
+	server := &http.Server{Handler: http.HandlerFunc(func(w http.ResponseWriter, _ *http.Request) {
+		w.WriteHeader(http.StatusTeapot)
+		_ = json.NewEncoder(w).Encode(map[string]string{"fault": <-word, "why": "because"})
+	})}
+	go server.Serve(listener)
+	defer server.Close()
+	for said, want := range map[string]int{"numbers": exitNoLock, "unreachable": exitNoLock, "closing": exitNoLock, "full": exitNoLock,
+		"denied": exitSettings, "request": exitSettings, "name": exitSettings} {
+		word <- said
+		if got := runs(t, "run", "--agent", socket, "x", "true"); got != want {
+			t.Errorf("%s: %d", said, got)
+		}
+	}
+}
+
 // The agent's lock is free as soon as the program has ended, and its pass is the agent's.
 func TestPassOfTheAgent(t *testing.T) {
 	socket, _ := agentIn(t, 20*time.Second)

@@ -65,7 +65,7 @@ func command(ctx context.Context) *cobra.Command {
 	flags.DurationVar(&s.timeout, "timeout", 3*time.Second, "how long to wait for replies of voters")
 	flags.BoolVar(&s.json, "json", false, "print JSON")
 	root.AddCommand(initCommand(s), usersCommand(s), statusCommand(ctx, s), reportCommand(ctx, s), whoCommand(ctx, s), listCommand(ctx, s),
-		evictCommand(ctx, s), unlockCommand(ctx, s),
+		watchCommand(ctx, s), evictCommand(ctx, s), unlockCommand(ctx, s),
 		exchangeCommand(ctx, s), retireCommand(ctx, s), levelCommand(ctx, s), runCommand(ctx, s))
 	return root
 }
@@ -164,7 +164,7 @@ func unlessRefused(ctx context.Context, by transport.Transport, connect func(ctx
 	}()
 	err := connect(ctx)
 	if refusal := link.Refusal(); err != nil && refusal != nil {
-		return fmt.Errorf("%w; run, who and list need a user that takes locks (qlockctl users --user NAME), and operators have qlockctl report",
+		return fmt.Errorf("%w; run, who, list and watch need a user that takes locks (qlockctl users --user NAME), and operators have qlockctl report",
 			refusal)
 	}
 	return err

@@ -175,14 +175,8 @@ func run(ctx context.Context, settings locks.Config, of taking, grace time.Durat
 		take = client.TryLock
 	}
 	held, err := take(limit, of.lock)
-	if errors.Is(err, locks.ErrNumbers) {
-		return status{exitNoLock, fmt.Errorf("%s: %w", of.lock, err)}
-	} else if errors.Is(err, context.DeadlineExceeded) {
-		return status{exitNoLock, notToBeHad(client, of)}
-	} else if errors.Is(err, locks.ErrFull) || errors.Is(err, locks.ErrHeld) {
-		return status{exitNoLock, err}
-	} else if err != nil {
-		return withoutLock(limit, fmt.Errorf("%s: %w", of.lock, err))
+	if err != nil {
+		return notTaken(limit, err, client.Silent(), of)
 	}
 	turn := uint64(0)
 	if of.turns {
@@ -206,7 +200,7 @@ func runByAgent(ctx context.Context, client *agent.Client, of taking, grace time
 	if isDown(err) {
 		return status{exitNoLock, fmt.Errorf("%s: %w; start qlockd, or try again later", of.lock, err)}
 	}
-	for _, hopeless := range []error{agent.ErrName, agent.ErrAbsent, agent.ErrRefused} {
+	for _, hopeless := range []error{agent.ErrName, agent.ErrAbsent, agent.ErrRefused, agent.ErrDenied} {
 		if errors.Is(err, hopeless) {
 			return status{exitSettings, fmt.Errorf("%s: %w", of.lock, err)}
 		}
@@ -257,14 +251,21 @@ func runWith(ctx context.Context, held owned, of taking, turn uint64, grace time
 	return nil
 }
 
-// notToBeHad says why a lock was not to be had in time, as far as this client knows: voters that
-// are silent may be why.
-func notToBeHad(client *locks.Client, of taking) error {
-	if silent := client.Silent(); len(silent) > 0 {
-		return fmt.Errorf("%s: the lock was not to be had for %v; these voters are silent: %s", of.lock, of.wait,
-			strings.Join(silent, ", "))
+// notTaken returns the status of a command that did not get its lock, and why, as far as this client knows. Who had no number asked nobody
+// for the lock, so it does not say that somebody else had that. Else voters that are silent may be why.
+func notTaken(limit context.Context, err error, silent []string, of taking) error {
+	switch {
+	case errors.Is(err, locks.ErrNumbers) || errors.Is(err, locks.ErrNoQuorum):
+		return status{exitNoLock, fmt.Errorf("%s: %w", of.lock, err)}
+	case errors.Is(err, context.DeadlineExceeded) && len(silent) > 0:
+		return status{exitNoLock, fmt.Errorf("%s: the lock was not to be had for %v; these voters are silent: %s", of.lock, of.wait,
+			strings.Join(silent, ", "))}
+	case errors.Is(err, context.DeadlineExceeded):
+		return status{exitNoLock, fmt.Errorf("%s: somebody else had the lock for %v", of.lock, of.wait)}
+	case errors.Is(err, locks.ErrFull) || errors.Is(err, locks.ErrHeld):
+		return status{exitNoLock, err}
 	}
-	return fmt.Errorf("%s: somebody else had the lock for %v", of.lock, of.wait)
+	return withoutLock(limit, fmt.Errorf("%s: %w", of.lock, err))
 }
 
 // withoutLock returns the status of a command that has no lock: 75 if its time or its session is over, and 78 if another

@@ -124,6 +124,43 @@ func TestWithoutLock(t *testing.T) {
 	}
 }
 
+// outOfTime is an error of a call whose time ended.
+type outOfTime struct{ error }
+
+func (o outOfTime) Is(target error) bool { return target == o.error }
+func (o outOfTime) Unwrap() error        { return context.DeadlineExceeded }
+
+// A command that had no number, or reached no quorum, does not say that somebody else had the lock.
+func TestNotTaken(t *testing.T) {
+	over, cancel := context.WithCancel(context.Background())
+	cancel()
+	of := taking{lock: "x", wait: 2 * time.Second}
+	for _, one := range []struct {
+		err    error
+		silent []string
+		code   int
+		text   string
+	}{
+		{outOfTime{locks.ErrNumbers}, nil, exitNoLock, "x: " + locks.ErrNumbers.Error()},
+		{outOfTime{locks.ErrNumbers}, []string{"a"}, exitNoLock, "x: " + locks.ErrNumbers.Error()},
+		{outOfTime{locks.ErrNoQuorum}, nil, exitNoLock, "x: " + locks.ErrNoQuorum.Error()},
+		{context.DeadlineExceeded, nil, exitNoLock, "x: somebody else had the lock for 2s"},
+		{context.DeadlineExceeded, []string{"a", "b"}, exitNoLock, "x: the lock was not to be had for 2s; these voters are silent: a, b"},
+		{locks.ErrHeld, nil, exitNoLock, locks.ErrHeld.Error()},
+		{locks.ErrFull, nil, exitNoLock, locks.ErrFull.Error()},
+		{locks.ErrLost, nil, exitNoLock, "x: " + locks.ErrLost.Error()},
+	} {
+		var got status
+		if !errors.As(notTaken(over, one.err, one.silent, of), &got) || got.code != one.code || got.Error() != one.text {
+			t.Errorf("%v: %d, %v", one.err, got.code, got)
+		}
+	}
+	var got status
+	if !errors.As(notTaken(context.Background(), locks.ErrName, nil, of), &got) || got.code != exitSettings {
+		t.Errorf("a bad name: %d", got.code)
+	}
+}
+
 // fileOf writes a cluster's file.
 func fileOf(t *testing.T, w *worlds.World) string {
 	t.Helper()

@@ -9,6 +9,7 @@ import (
 	"time"
 
 	"calvundek.example/service/internal/config"
+	"calvundek.example/service/internal/view"
 	"calvundek.example/service/internal/wire"
 	"calvundek.example/service/locks"
 	"github.com/spf13/cobra"
@@ -30,7 +31,7 @@ func whoCommand(ctx context.Context, s *settings) *cobra.Command {
 					return err
 				}
 				if s.json {
-					return json.NewEncoder(os.Stdout).Encode(viewOf(args[0], holder))
+					return json.NewEncoder(os.Stdout).Encode(view.Of(args[0], holder))
 				}
 				_, err = fmt.Println(holder)
 				return err
@@ -50,12 +51,57 @@ func listCommand(ctx context.Context, s *settings) *cobra.Command {
 		}}
 }
 
+func watchCommand(ctx context.Context, s *settings) *cobra.Command {
+	return &cobra.Command{Use: "watch LOCK", Args: cobra.ExactArgs(1), Short: "Show who has a lock, and each change",
+		Long: "Shows who has a lock, as `who` does, and again after each change, until a signal comes. It asks twice a second, so it misses " +
+			"who has the lock for less than that. While no quorum of voters replies it shows nothing, and it fails if none does at first.",
+		RunE: func(_ *cobra.Command, args []string) error {
+			if !wire.IsName([]byte(args[0])) {
+				return fmt.Errorf("%w: %q", locks.ErrName, args[0])
+			}
+			err := s.lookUntil(ctx, func(ctx context.Context, client *locks.Client) error {
+				return watchLock(ctx, client, args[0], s.timeout, s.json, os.Stdout)
+			})
+			if ctx.Err() != nil { // it watched until a signal came
+				return nil
+			}
+			return err
+		}}
+}
+
+// watchLock writes who has a lock, and each change, until the context ends. It fails if no quorum of voters replies within a limit at first.
+func watchLock(ctx context.Context, client *locks.Client, lock string, limit time.Duration, inJSON bool, out io.Writer) error {
+	first, cancel := context.WithTimeout(ctx, limit)
+	defer cancel()
+	if _, err := client.Who(first, lock); err != nil {
+		return err
+	}
+	holders, err := client.Watch(ctx, lock)
+	if err != nil {
+		return err
+	}
+	for holder := range holders {
+		if inJSON {
+			err = json.NewEncoder(out).Encode(view.Of(lock, holder))
+		} else {
+			_, err = fmt.Fprintln(out, holder)
+		}
+		if err != nil {
+			return err
+		}
+	}
+	if err := client.Err(); err != nil {
+		return err
+	}
+	return ctx.Err()
+}
+
 // listLocks writes the locks of which the name begins with a prefix.
 func listLocks(ctx context.Context, client *locks.Client, prefix string, inJSON bool, out io.Writer) error {
-	views := []holderView{}
+	views := []view.Holder{}
 	err := client.List(ctx, prefix, func(lock string, holder locks.Holder) error {
 		if inJSON {
-			views = append(views, viewOf(lock, holder))
+			views = append(views, view.Of(lock, holder))
 			return nil
 		}
 		_, err := fmt.Fprintf(out, "%-20s %v\n", lock, holder)
@@ -67,8 +113,17 @@ func listLocks(ctx context.Context, client *locks.Client, prefix string, inJSON 
 	return json.NewEncoder(out).Encode(views)
 }
 
-// look lets a function use a client that has no number.
+// look lets a function use a client that has no number, for as long as voters may take to reply.
 func (s *settings) look(ctx context.Context, use func(ctx context.Context, client *locks.Client) error) error {
+	return s.lookUntil(ctx, func(ctx context.Context, client *locks.Client) error {
+		ctx, cancel := context.WithTimeout(ctx, s.timeout)
+		defer cancel()
+		return use(ctx, client)
+	})
+}
+
+// lookUntil lets a function use a client that has no number, for as long as it likes.
+func (s *settings) lookUntil(ctx context.Context, use func(ctx context.Context, client *locks.Client) error) error {
 	cluster, err := config.ReadCluster(s.cluster)
 	if err != nil {
 		return err
@@ -82,34 +137,10 @@ func (s *settings) look(ctx context.Context, use func(ctx context.Context, clien
 	if err != nil {
 		return err
 	}
-	ctx, cancel := context.WithTimeout(ctx, s.timeout)
-	defer cancel()
-	defer func() { _ = client.Close(ctx) }()
+	defer func() {
+		brief, cancel := context.WithTimeout(context.Background(), s.timeout)
+		defer cancel()
+		_ = client.Close(brief)
+	}()
 	return unlessRefused(ctx, link, func(ctx context.Context) error { return use(ctx, client) })
-}
-
-// holderView is a holder, as --json prints it.
-type holderView struct {
-	Lock    string     `json:"lock"`
-	Held    bool       `json:"held"` // somebody has it, or with asked may have it
-	Asked   bool       `json:"asked,omitempty"`
-	Client  *int       `json:"client,omitempty"`
-	Session string     `json:"session,omitempty"` // the client as evict takes it
-	User    string     `json:"user,omitempty"`
-	Host    string     `json:"host,omitempty"`
-	Pid     int        `json:"pid,omitempty"`
-	Login   string     `json:"login,omitempty"`
-	Note    string     `json:"note,omitempty"`
-	Since   *time.Time `json:"since,omitempty"`
-	Waiting int        `json:"waiting,omitempty"`
-}
-
-func viewOf(lock string, h locks.Holder) holderView {
-	v := holderView{Lock: lock, Held: !h.IsNobody(), Asked: h.Asked, User: h.User, Host: h.Host, Pid: h.Pid, Login: h.Login, Note: h.Note,
-		Waiting: h.Waiting}
-	if v.Held {
-		since := h.Since.UTC().Truncate(time.Millisecond)
-		v.Client, v.Session, v.Since = &h.Number, h.Session, &since
-	}
-	return v
 }

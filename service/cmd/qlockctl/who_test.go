@@ -1,15 +1,18 @@
 package main
 
 import (
+	"bufio"
 	"bytes"
 	"context"
 	"encoding/json"
 	"errors"
+	"io"
 	"os"
 	"strings"
 	"testing"
 	"time"
 
+	"calvundek.example/service/internal/view"
 	"calvundek.example/service/internal/worlds"
 	"calvundek.example/service/locks"
 )
@@ -37,7 +40,7 @@ func TestWhoRuns(t *testing.T) {
 		}
 	}
 	host, _ := os.Hostname()
-	if v := viewOf("x", holder); !v.Held || v.Asked || v.Host != host || v.Pid != os.Getpid() || v.Note != "sleep" || v.Client == nil ||
+	if v := view.Of("x", holder); !v.Held || v.Asked || v.Host != host || v.Pid != os.Getpid() || v.Note != "sleep" || v.Client == nil ||
 		v.Since == nil {
 		t.Errorf("%+v", v)
 	}
@@ -47,7 +50,7 @@ func TestWhoRuns(t *testing.T) {
 		t.Errorf("%v: %q", err, text.String())
 	}
 	text.Reset()
-	var views []holderView
+	var views []view.Holder
 	if err := listLocks(ctx, looker, "", true, &text); err != nil {
 		t.Fatal(err)
 	}
@@ -60,16 +63,70 @@ func TestWhoRuns(t *testing.T) {
 	if err := listLocks(ctx, looker, "none", true, &text); err != nil || text.String() != "[]\n" {
 		t.Errorf("%v: %q", err, text.String())
 	}
-	if text, err := json.Marshal(viewOf("x", locks.Holder{})); err != nil || string(text) != `{"lock":"x","held":false}` {
+	if text, err := json.Marshal(view.Of("x", locks.Holder{})); err != nil || string(text) != `{"lock":"x","held":false}` {
 		t.Errorf("%v: %s", err, text)
 	}
 }
 
 // A name that no lock has is refused before anybody is asked.
 func TestWhoName(t *testing.T) {
-	root := command(context.Background())
-	root.SetArgs([]string{"who", "--cluster", "/there/is/none", "a b"})
-	if err := root.Execute(); !errors.Is(err, locks.ErrName) {
+	for _, name := range []string{"who", "watch"} {
+		root := command(context.Background())
+		root.SetArgs([]string{name, "--cluster", "/there/is/none", "a b"})
+		if err := root.Execute(); !errors.Is(err, locks.ErrName) {
+			t.Error(err)
+		}
+	}
+}
+
+// Who watches a lock gets a line for who has it, and one for each change, until he ends. Without a quorum of voters he hears so.
+func TestWatchLock(t *testing.T) {
+	w := worlds.New(t, worlds.Majority, 20*time.Second)
+	path := fileOf(t, w)
+	port := w.Bus.Port()
+	looker, err := locks.Look(locks.Config{Cluster: path, Transport: port})
+	if err != nil {
+		t.Fatal(err)
+	}
+	defer looker.Close(context.Background())
+	ctx, cancel := context.WithTimeout(context.Background(), 60*time.Second)
+	defer cancel()
+	for _, inJSON := range []bool{false, true} {
+		in, out := io.Pipe()
+		lines, ended := bufio.NewScanner(in), make(chan error, 1)
+		watching, stop := context.WithCancel(ctx)
+		go func() { ended <- watchLock(watching, looker, "x", 20*time.Second, inJSON, out); _ = out.Close() }()
+		next := func(want string) {
+			t.Helper()
+			for lines.Scan() && !strings.Contains(lines.Text(), want) { // it may be asked for first
+				if !strings.Contains(lines.Text(), "asked") {
+					t.Errorf("%q, not %q", lines.Text(), want)
+				}
+			}
+		}
+		nobody := map[bool]string{false: "nobody", true: `{"lock":"x","held":false}`}[inJSON]
+		next(nobody)
+		client, err := locks.Open(ctx, locks.Config{Cluster: path, Transport: w.Bus.Port(), NoNote: true})
+		if err != nil {
+			t.Fatal(err)
+		}
+		held, err := client.Lock(ctx, "x")
+		if err != nil {
+			t.Fatal(err)
+		}
+		next(map[bool]string{false: "client ", true: `"held":true,`}[inJSON])
+		if err := held.Unlock(); err != nil {
+			t.Error(err)
+		}
+		next(nobody)
+		_ = client.Close(ctx)
+		stop()
+		if err := <-ended; !errors.Is(err, context.Canceled) {
+			t.Error(err)
+		}
+	}
+	port.Cut(true)
+	if err := watchLock(ctx, looker, "x", 100*time.Millisecond, false, io.Discard); !errors.Is(err, locks.ErrNoQuorum) {
 		t.Error(err)
 	}
 }

@@ -18,6 +18,7 @@ import (
 	"calvundek.example/service/internal/event"
 	"calvundek.example/service/internal/wire"
 	"calvundek.example/service/locks"
+	"calvundek.example/service/transport"
 	"github.com/prometheus/client_golang/prometheus"
 )
 
@@ -64,7 +65,8 @@ type Agent struct {
 	changed chan struct{}
 	places  map[string]*place
 	holders map[string]*place // by the names of locks: who has it, or had it last
-	last    uint64            // of the places so far
+	watched map[string]*watched
+	last    uint64 // of the places so far
 }
 
 // session is a session of the lock service, and its cluster as it began.
@@ -80,7 +82,8 @@ func (s *session) ttl() time.Duration { return s.cluster.TTL.Duration }
 // New returns an agent that has no session yet.
 func New(c Config) *Agent {
 	a := &Agent{config: c, closing: make(chan struct{}), changed: make(chan struct{}), places: map[string]*place{}, holders: map[string]*place{},
-		why: errors.New("it has just started, and waits for voters")}
+		watched: map[string]*watched{},
+		why:     errors.New("it has just started, and waits for voters")}
 	a.registry = a.newRegistry()
 	return a
 }
@@ -243,19 +246,32 @@ func (a *Agent) current() (s *session, why error, changed <-chan struct{}) {
 	return a.now, a.why, a.changed
 }
 
-// session waits until there is a session, or the context ends.
-func (a *Agent) session(ctx context.Context) (*session, error) {
+// session waits until there is a session, or the context ends. Who only tries does not wait while all numbers are in use.
+func (a *Agent) session(ctx context.Context, tries bool) (*session, error) {
 	for {
 		s, why, changed := a.current()
 		if s != nil {
 			return s, nil
 		}
+		if tries && errors.Is(why, locks.ErrNumbers) {
+			return nil, noSession(why)
+		}
 		select {
 		case <-changed:
 		case <-ctx.Done():
-			return nil, fmt.Errorf("%w: %v", errNoSession, why)
+			return nil, noSession(why)
 		}
 	}
+}
+
+// noSession returns why there is no session: errNoSession, unless there is a word of its own for that.
+func noSession(why error) error {
+	for _, known := range []error{locks.ErrNumbers, transport.ErrRefused} {
+		if errors.Is(why, known) {
+			return fmt.Errorf("the agent has no session: %w", why)
+		}
+	}
+	return fmt.Errorf("%w: %v", errNoSession, why)
 }
 
 // take takes a lock for a place. If the session ends meanwhile it asks anew in the next one.
@@ -264,7 +280,7 @@ func (a *Agent) take(ctx context.Context, p *place, asked asked) (*session, erro
 		return nil, fmt.Errorf("%w: %q", locks.ErrName, asked.name)
 	}
 	for {
-		s, err := a.session(ctx)
+		s, err := a.session(ctx, asked.tries)
 		if err != nil {
 			return nil, err
 		}

@@ -712,14 +712,14 @@ func TestCutOff(t *testing.T) {
 	_ = again.connection.Close()
 }
 
-// evict ends the agent's session, and returns it.
+// evict ends the session of the agent, and lets what it has go at once. It returns the session.
 func (h *host) evict() *session {
 	h.t.Helper()
 	s, _, _ := h.agent.current()
 	console := h.world.Console()
 	ctx, cancel := context.WithTimeout(context.Background(), 20*time.Second)
 	defer cancel()
-	if _, err := console.Ask(ctx, fmt.Sprintf("evict %d", s.Number()), console.All()...); err != nil {
+	if _, err := console.Ask(ctx, fmt.Sprintf("evict %d now", s.Number()), console.All()...); err != nil {
 		h.t.Fatal(err)
 	}
 	return s

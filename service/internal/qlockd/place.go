@@ -6,12 +6,14 @@ import (
 	"encoding/hex"
 	"errors"
 	"fmt"
+	"os"
 	"sort"
 	"sync"
 	"sync/atomic"
 	"time"
 
 	"calvundek.example/service/internal/event"
+	"calvundek.example/service/internal/view"
 	"calvundek.example/service/locks"
 )
 
@@ -34,6 +36,7 @@ type place struct {
 	state   state         // of the list
 	held    *locks.Held   // nil while it waits
 	turn    uint64        // of held, 0 if nobody asked for it
+	note    string        // what others see of who has it, besides process and user
 	session *session      // of held
 	why     string        // why the client has to stop, "" as long as it need not
 	lost    chan struct{} // closed once it has to
@@ -246,6 +249,19 @@ func (a *Agent) sizes() map[state]int {
 		sizes[p.state]++
 	}
 	return sizes
+}
+
+// heldHere returns why a client that tries does not get a lock, with who of this host has it.
+func (a *Agent) heldHere(name string, why error) error {
+	a.mutex.Lock()
+	defer a.mutex.Unlock()
+	p := a.holders[name]
+	if p == nil || isClosed(p.ended) || holderOf(why) != nil {
+		return why
+	}
+	host, _ := os.Hostname()
+	since := p.since.UTC().Truncate(time.Millisecond)
+	return &heldHere{why, view.Holder{Lock: name, Held: true, Host: host, Pid: p.peer.Pid, Login: p.peer.login(), Note: p.note, Since: &since}}
 }
 
 // The errors of a DELETE.

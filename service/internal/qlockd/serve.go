@@ -1,6 +1,7 @@
 package qlockd
 
 import (
+	"bytes"
 	"context"
 	"encoding/hex"
 	"encoding/json"
@@ -13,12 +14,14 @@ import (
 	"time"
 
 	"calvundek.example/service/internal/boot"
+	"calvundek.example/service/internal/view"
 	"calvundek.example/service/locks"
 	"calvundek.example/service/qlock"
+	"calvundek.example/service/transport"
 	"github.com/prometheus/client_golang/prometheus/promhttp"
 )
 
-// mostBody is how long the body of a request may be. Nobody reads it.
+// mostBody is how long the body of a request may be.
 const mostBody = 1 << 12
 
 // tryFor is how long a try waits for votes if nobody says.
@@ -29,6 +32,9 @@ type fault struct {
 	Status int    `json:"-"`
 	Word   string `json:"fault"`
 	Why    string `json:"why"`
+
+	Holder  *view.Holder `json:"holder,omitempty"`  // who has the lock that was tried, if that is known
+	Waiting *int         `json:"waiting,omitempty"` // how many sessions wait for a number before the agent's, if voters said so
 }
 
 // faults are the errors that have a word of their own.
@@ -40,6 +46,7 @@ var faults = []struct {
 	{locks.ErrName, http.StatusBadRequest, "name"},
 	{errRequest, http.StatusBadRequest, "request"},
 	{errOther, http.StatusForbidden, "other"},
+	{transport.ErrRefused, http.StatusForbidden, "denied"},
 	{errUnknown, http.StatusNotFound, "unknown"},
 	{errMethod, http.StatusMethodNotAllowed, "method"},
 	{errTimeout, http.StatusRequestTimeout, "timeout"},
@@ -47,29 +54,38 @@ var faults = []struct {
 	{locks.ErrLapsed, http.StatusGone, "lost"},
 	{errClosing, http.StatusServiceUnavailable, "closing"},
 	{errGone, http.StatusRequestTimeout, "gone"},
+	{locks.ErrNumbers, http.StatusTooManyRequests, "numbers"},
+	{errNoNumber, http.StatusTooManyRequests, "numbers"},
 	{errNoSession, http.StatusGatewayTimeout, "unreachable"},
 	{errNoTurn, http.StatusGatewayTimeout, "unreachable"},
+	{locks.ErrNoQuorum, http.StatusGatewayTimeout, "unreachable"},
 	{locks.ErrFull, http.StatusInsufficientStorage, "full"},
 }
 
 var (
-	errRequest = errors.New("the request can't be read")
-	errMethod  = errors.New("there is no such call")
-	errTimeout = errors.New("the lock was not to be had in time")
-	errClosing = errors.New("the agent ends")
-	errGone    = errors.New("the connection ended before the lock was to be had")
-	errNoTurn  = errors.New("some voter that has to tell the lock's turn did not")
+	errRequest  = errors.New("the request can't be read")
+	errMethod   = errors.New("there is no such call")
+	errTimeout  = errors.New("the lock was not to be had in time")
+	errNoNumber = errors.New("no client number was to be had in time")
+	errClosing  = errors.New("the agent ends")
+	errGone     = errors.New("the connection ended before there was an answer")
+	errNoTurn   = errors.New("some voter that has to tell the lock's turn did not")
 )
 
 // faultOf returns what is said of an error.
 func faultOf(err error) fault {
 	why := strings.Replace(err.Error(), "locks: ", "", 1)
+	f := fault{Status: http.StatusInternalServerError, Word: "internal", Why: why, Holder: holderOf(err)}
+	if none := (&locks.NoNumber{}); errors.As(err, &none) {
+		f.Waiting = &none.Ahead
+	}
 	for _, one := range faults {
 		if errors.Is(err, one.err) {
-			return fault{one.status, one.word, why}
+			f.Status, f.Word = one.status, one.word
+			break
 		}
 	}
-	return fault{http.StatusInternalServerError, "internal", why}
+	return f
 }
 
 // refuse answers a request with why it is refused.
@@ -93,26 +109,42 @@ func (a *Agent) handler() http.Handler {
 	a.show(mux)
 	mux.HandleFunc("/v1/status", a.only(http.MethodGet, func(w http.ResponseWriter, r *http.Request) { answer(w, a.status()) }))
 	mux.HandleFunc("/v1/locks", a.only(http.MethodGet, func(w http.ResponseWriter, r *http.Request) { a.answerList(w, "") }))
+	mux.HandleFunc("/v1/who", a.only(http.MethodGet, a.answerAll))
 	mux.HandleFunc("/", func(w http.ResponseWriter, r *http.Request) {
 		a.refuse(w, fmt.Errorf("%w: %s", errUnknownPath, r.URL.Path))
 	})
+	byName := map[string]func(w http.ResponseWriter, r *http.Request, name string){"/v1/locks/": a.answerLock,
+		"/v1/who/": a.onlyGet(a.answerWho), "/v1/watch/": a.onlyGet(a.watchHolder)}
 	return http.HandlerFunc(func(w http.ResponseWriter, r *http.Request) {
-		name := strings.TrimPrefix(r.URL.Path, "/v1/locks/")
-		if name == r.URL.Path {
-			mux.ServeHTTP(w, r)
-			return
+		for prefix, f := range byName { // a mux would lead to another path for a name with dots
+			if name := strings.TrimPrefix(r.URL.Path, prefix); name != r.URL.Path {
+				f(w, r, name)
+				return
+			}
 		}
-		switch r.Method { // a mux would lead to another path for a name with dots
-		case http.MethodPost:
-			a.lock(w, r, name)
-		case http.MethodGet:
-			a.answerList(w, name)
-		case http.MethodDelete:
-			a.delete(w, r, name)
-		default:
-			a.refuse(w, fmt.Errorf("%w: %s", errMethod, r.Method))
-		}
+		mux.ServeHTTP(w, r)
 	})
+}
+
+// answerLock answers what is about one lock of this agent.
+func (a *Agent) answerLock(w http.ResponseWriter, r *http.Request, name string) {
+	switch r.Method {
+	case http.MethodPost:
+		a.lock(w, r, name)
+	case http.MethodGet:
+		a.answerList(w, name)
+	case http.MethodDelete:
+		a.delete(w, r, name)
+	default:
+		a.refuse(w, fmt.Errorf("%w: %s", errMethod, r.Method))
+	}
+}
+
+// onlyGet answers the method GET of a path with a name.
+func (a *Agent) onlyGet(f func(w http.ResponseWriter, r *http.Request, name string)) func(http.ResponseWriter, *http.Request, string) {
+	return func(w http.ResponseWriter, r *http.Request, name string) {
+		a.only(http.MethodGet, func(w http.ResponseWriter, r *http.Request) { f(w, r, name) })(w, r)
+	}
 }
 
 func (a *Agent) answerList(w http.ResponseWriter, name string) {
@@ -188,8 +220,50 @@ type asked struct {
 	whom  locks.For     // what others see of who has the lock
 }
 
-// readAsked reads a request. A word that nothing reads is refused.
-func readAsked(r *http.Request, name string) (asked, error) {
+// readWait reads for how long to wait.
+func readWait(text string) (time.Duration, error) {
+	wait, err := time.ParseDuration(text)
+	if err != nil || wait <= 0 {
+		return 0, fmt.Errorf("%w: wait is %q, and has to be a time above 0, as 10s", errRequest, text)
+	}
+	return wait, nil
+}
+
+// readNote reads the body of a request for a lock, and whether it has a note. It may be empty.
+func readNote(body []byte) (note string, isThere bool, err error) {
+	if len(body) == 0 {
+		return "", false, nil
+	}
+	words := json.NewDecoder(bytes.NewReader(body))
+	if begin, err := words.Token(); err != nil || begin != json.Delim('{') {
+		return "", false, fmt.Errorf("%w: the body is no object of JSON", errRequest)
+	}
+	for words.More() {
+		key, _ := words.Token()
+		if key != "note" {
+			return "", false, fmt.Errorf("%w: there is no %q in a body", errRequest, key)
+		} else if isThere {
+			return "", false, errTwice
+		}
+		value, _ := words.Token()
+		if note, isThere = value.(string); !isThere {
+			return "", false, fmt.Errorf("%w: the note in the body is no text", errRequest)
+		}
+	}
+	if end, err := words.Token(); err != nil || end != json.Delim('}') {
+		return "", false, fmt.Errorf("%w: the body is no object of JSON", errRequest)
+	}
+	if _, err := words.Token(); err != io.EOF {
+		return "", false, fmt.Errorf("%w: something is behind the object in the body", errRequest)
+	}
+	return note, isThere, nil
+}
+
+// errTwice is returned if a request has two notes.
+var errTwice = fmt.Errorf("%w: there is a note twice", errRequest)
+
+// readAsked reads a request, and its body. A word that nothing reads is refused.
+func readAsked(r *http.Request, body []byte, name string) (asked, error) {
 	of := asked{name: name}
 	query, err := url.ParseQuery(r.URL.RawQuery)
 	if err != nil {
@@ -198,8 +272,8 @@ func readAsked(r *http.Request, name string) (asked, error) {
 	for key, values := range query {
 		switch value := values[len(values)-1]; key {
 		case "wait":
-			if of.wait, err = time.ParseDuration(value); err != nil || of.wait <= 0 {
-				return of, fmt.Errorf("%w: wait is %q, and has to be a time above 0, as 10s", errRequest, value)
+			if of.wait, err = readWait(value); err != nil {
+				return of, err
 			}
 		case "try":
 			if of.tries = value == "1"; !of.tries && value != "0" {
@@ -218,23 +292,27 @@ func readAsked(r *http.Request, name string) (asked, error) {
 	if of.tries && of.wait == 0 {
 		of.wait = tryFor
 	}
-	return of, nil
+	note, isThere, err := readNote(body)
+	if count := len(query["note"]); err == nil && (count > 1 || count == 1 && isThere) {
+		err = errTwice
+	}
+	if isThere {
+		of.whom.Note = note
+	}
+	return of, err
 }
 
-// within returns the context of a request for a lock: it ends with the connection, the time to wait, or the agent.
-func (a *Agent) within(connection context.Context, of asked) (context.Context, context.CancelFunc) {
-	ctx, cancel := context.WithCancel(connection)
-	var late <-chan time.Time // never, if nobody says for how long to wait
-	timer := time.NewTimer(of.wait)
-	if of.wait > 0 {
-		late = timer.C
+// within returns the context of a request: it ends with the connection, the time to wait if that is not 0, or the agent.
+func (a *Agent) within(connection context.Context, wait time.Duration) (ctx context.Context, cancel context.CancelFunc) {
+	if wait > 0 {
+		ctx, cancel = context.WithTimeout(connection, wait)
+	} else {
+		ctx, cancel = context.WithCancel(connection)
 	}
 	go func() {
-		defer timer.Stop()
 		defer cancel()
 		select {
 		case <-a.closing:
-		case <-late:
 		case <-ctx.Done():
 		}
 	}()
@@ -244,11 +322,12 @@ func (a *Agent) within(connection context.Context, of asked) (context.Context, c
 // lock takes a lock, and keeps it as long as the connection lasts.
 func (a *Agent) lock(w http.ResponseWriter, r *http.Request, name string) {
 	// a connection's end is seen once the body was read
-	if _, err := io.Copy(io.Discard, http.MaxBytesReader(w, r.Body, mostBody)); err != nil {
+	body, err := io.ReadAll(http.MaxBytesReader(w, r.Body, mostBody))
+	if err != nil {
 		a.refuse(w, fmt.Errorf("%w: %v", errRequest, err))
 		return
 	}
-	of, err := readAsked(r, name)
+	of, err := readAsked(r, body, name)
 	if err != nil {
 		a.refuse(w, err)
 		return
@@ -263,14 +342,18 @@ func (a *Agent) lock(w http.ResponseWriter, r *http.Request, name string) {
 	if of.whom.Note == "" {
 		of.whom.Note = p.peer.Command
 	}
+	p.note = of.whom.Note
 	connection, ignore := attend(r.Context())
 	defer ignore()
-	ctx, cancel := a.within(connection, of)
+	ctx, cancel := a.within(connection, of.wait)
 	s, err := a.take(ctx, p, of)
 	if err != nil && ctx.Err() != nil {
 		err = a.explain(connection, s, of, err)
 	}
 	cancel()
+	if errors.Is(err, locks.ErrHeld) {
+		err = a.heldHere(name, err)
+	}
 	if err != nil {
 		a.refuse(w, err)
 		return
@@ -281,13 +364,14 @@ func (a *Agent) lock(w http.ResponseWriter, r *http.Request, name string) {
 
 // explain says why the time of a request ended before it got its lock.
 func (a *Agent) explain(connection context.Context, s *session, of asked, err error) error {
-	switch {
-	case connection.Err() != nil:
-		return errGone
-	case isClosed(a.closing):
-		return errClosing
-	case s == nil:
+	if ended := a.hasEnded(connection); ended != nil {
+		return ended
+	}
+	if s == nil {
 		return err
+	}
+	if errors.Is(err, locks.ErrNumbers) {
+		return fmt.Errorf("%s: %w", of.name, err)
 	}
 	silent := ""
 	if names := s.Silent(); len(names) > 0 {
@@ -298,6 +382,12 @@ func (a *Agent) explain(connection context.Context, s *session, of asked, err er
 	}
 	if errors.Is(err, errNoTurn) {
 		return fmt.Errorf("%s: %w, for %v%s", of.name, errNoTurn, of.wait, silent)
+	}
+	if errors.Is(err, locks.ErrNoQuorum) {
+		return fmt.Errorf("%s: %w, for %v%s", of.name, locks.ErrNoQuorum, of.wait, silent)
+	}
+	if !s.HasNumber(of.name) {
+		return fmt.Errorf("%s: %w, for %v%s", of.name, errNoNumber, of.wait, silent)
 	}
 	return fmt.Errorf("%s: %w, for %v%s", of.name, errTimeout, of.wait, silent)
 }
@@ -350,19 +440,24 @@ const (
 	agentEnds    = "closing"
 )
 
-// stream writes a line when the lock is held, then at intervals for how long it lasts, and a last one. The lock is given
-// back once the connection ends, or half of it.
-func (a *Agent) stream(w http.ResponseWriter, ctx context.Context, p *place) {
+// linesTo begins a reply of lines, and returns what writes one, at once, and says whether it could.
+func linesTo(w http.ResponseWriter) func(line interface{}) bool {
 	w.Header().Set("Content-Type", "application/x-ndjson")
 	w.Header().Set("Cache-Control", "no-store")
 	flusher, _ := w.(http.Flusher)
-	say := func(line interface{}) bool {
+	return func(line interface{}) bool {
 		if json.NewEncoder(w).Encode(line) != nil {
 			return false
 		}
 		flusher.Flush()
 		return true
 	}
+}
+
+// stream writes a line when the lock is held, then at intervals for how long it lasts, and a last one. The lock is given
+// back once the connection ends, or half of it.
+func (a *Agent) stream(w http.ResponseWriter, ctx context.Context, p *place) {
+	say := linesTo(w)
 	ticker := time.NewTicker(p.session.ttl() / 4)
 	defer ticker.Stop()
 	line := interface{}(first{true, p.name, p.id, hex.EncodeToString(p.held.Token()), p.turn, p.session.ttl().Milliseconds(), leftOf(p.held)})

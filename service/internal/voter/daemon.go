@@ -503,7 +503,7 @@ func (d *Daemon) control(l *letter, speaker qlock.Standing, line []byte, now tim
 // hello says which numbers are free, and which of these may be had now: who came first goes first.
 func (d *Daemon) hello(l *letter, now time.Time) bool {
 	states := l.shard.states()
-	ahead := l.shard.waiting.ask(l.Name, l.lock, states, l.shard.shares(states), now, d.leases.ttl)
+	ahead := l.shard.waiting.ask(l.Name, l.lock, states, l.shard.shares(states, l.Name), now, d.leases.ttl)
 	for number, row := range l.shard.rows {
 		d.say(l.Name, qlock.VoterSays{Kind: qlock.NumberIs, Number: number, First: row.Epoch, Second: uint64(states[number])})
 	}

@@ -1,31 +1,36 @@
 package voter
 
 import (
+	"sort"
 	"time"
 
 	"calvundek.example/service/internal/wire"
 )
 
-// Who gets a number where there are fewer than are wanted.
+// Who gets a number where there are fewer than are wanted, or than one lock may have.
 //
-// Who says hello and gets none waits. First come, first served: of those who wait, the first k see the k numbers that are free, and the
-// others see none. Users and locks that have their share come behind others (shares.go). Who does not say hello again for half a TTL
-// waits no more. Once a number is free the first ones hear so (`free`). While somebody waits, sessions hear that (`wanted`), and those
-// that want nothing give their numbers back. Nothing of this decides who has a vote, and it is in memory alone.
+// Who says hello and gets none waits. Of one lock who came first goes first, and locks take turns: of those who wait, the first k see the
+// k numbers that are free, and the others see none. Who wants a lock that has as many as it may have sees none, and users that have their
+// share come behind others (shares.go). Who does not say hello again for half a TTL waits no more. Once a number is free the first ones
+// hear so (`free`). While somebody waits, sessions whose numbers would help hear that (`wanted`), and those that want nothing give theirs
+// back. Nothing of this decides who has a vote, and it is in memory alone.
 
-// mostQueued is how many sessions wait in order, of each shard. Others see no free number until there is room.
+// mostQueued is how many sessions wait in order, of each shard. Others take the last place from each other until there is room.
 const mostQueued = 4096
 
-// mostUnclaimed is for how long numbers are shown to the first ones alone. If none of them claims one, all see them: the first ones may be
-// gone, or wait in another order at other voters.
+// mostUnclaimed is for how long numbers are shown to the first ones alone. If none of them claims one, all see them, but of each lock no more
+// than it may have: the first ones may be gone, or wait in another order at other voters.
 const mostUnclaimed = 2 * time.Second
 
 // numberQueue has the sessions that wait for a number.
 type numberQueue struct {
-	all       []queued  // the first one first
+	all       []queued  // by their turns, and of one turn the first one first
+	turn      uint64    // the highest one of those that got a number
 	short     time.Time // when somebody waited last
+	scarce    time.Time // when somebody waited last who may have any number
+	hot       string    // the lock of who waited last and may not: as this lock has too many
 	told      time.Time // when sessions that want nothing were told so last
-	unclaimed time.Time // since when numbers are free, and none was claimed; zero if none is free
+	unclaimed time.Time // since when the first ones may claim a number, and none did; zero if nobody may
 }
 
 // queued is a session that waits for a number.
@@ -33,6 +38,7 @@ type queued struct {
 	session string
 	user    string // of the session
 	lock    string // for which it wants a number, "" if it did not say so
+	turn    uint64 // above those of the same lock that came before
 	heard   time.Time
 	isFirst bool // it sees the numbers that are free, since those were given out last
 }
@@ -40,28 +46,44 @@ type queued struct {
 // ask notes that a session wants a number for a lock. These are the states of the numbers, and the shares of those that are taken. If
 // the session can have no number now, it sees none that is free, and ask returns how many come before it.
 func (q *numberQueue) ask(session, lock string, states []int, taken shares, now time.Time, ttl time.Duration) (ahead int) {
-	place := q.enter(session, lock, now, ttl)
-	free := freeOf(states)
-	q.giveOut(free, &taken)
-	if q.isUnclaimed(free, now) || place < len(q.all) && q.all[place].isFirst {
+	place, room := q.enter(session, lock, now, ttl), taken.locks.room(lock)
+	isUnclaimed := q.isUnclaimed(q.giveOut(freeOf(states), &taken), now)
+	switch {
+	case q.all[place].isFirst:
+		return 0
+	case isUnclaimed && room > 0:
+		show(states, room)
 		return 0
 	}
-	q.short = now
-	for number := range states {
-		states[number] = 0
+	if q.short = now; taken.locks.isFull(lock) {
+		q.hot = lock
+	} else {
+		q.scarce = now
 	}
+	show(states, 0)
 	return q.ahead(place, &taken)
 }
 
-// isUnclaimed returns whether numbers are free that nobody has claimed for long.
-func (q *numberQueue) isUnclaimed(free int, now time.Time) bool {
+// show hides the numbers that are free but so many.
+func show(states []int, most int) {
+	for number, state := range states {
+		if state != 0 && most == 0 {
+			states[number] = 0
+		} else if state != 0 {
+			most--
+		}
+	}
+}
+
+// isUnclaimed returns whether some may claim a number, and none of them did for long.
+func (q *numberQueue) isUnclaimed(first int, now time.Time) bool {
 	switch {
-	case free == 0:
+	case first == 0:
 		q.unclaimed = time.Time{}
 	case q.unclaimed.IsZero():
 		q.unclaimed = now
 	}
-	return free > 0 && now.Sub(q.unclaimed) > mostUnclaimed
+	return first > 0 && now.Sub(q.unclaimed) > mostUnclaimed
 }
 
 // freeOf returns how many numbers are free, by their states.
@@ -74,11 +96,12 @@ func freeOf(states []int) (free int) {
 	return free
 }
 
-// enter puts a session behind the others, unless it waits already, and takes those out that are gone. It returns the place of the
-// session, which is behind the last one if there is no room.
+// enter puts a session behind those of its turn, unless it waits already, and takes those out that are gone. So locks take turns, and who
+// comes for a lock for which many wait comes after one for each other lock. If there is no room it takes the place of the last one, which
+// has none until it asks again. It returns the place of the session.
 func (q *numberQueue) enter(session, lock string, now time.Time, ttl time.Duration) (place int) {
 	place = -1
-	kept := q.all[:0]
+	kept, turn := q.all[:0], q.turn+1
 	for _, one := range q.all {
 		if one.session == session {
 			one.heard, one.lock = now, lock
@@ -88,43 +111,53 @@ func (q *numberQueue) enter(session, lock string, now time.Time, ttl time.Durati
 		if one.session == session {
 			place = len(kept)
 		}
+		if one.lock == lock && one.turn >= turn {
+			turn = one.turn + 1
+		}
 		kept = append(kept, one)
 	}
-	if q.all = kept; place < 0 {
-		if place = len(q.all); place < mostQueued {
-			q.all = append(q.all, queued{session: session, user: userOf(session), lock: lock, heard: now})
-		}
+	if q.all = kept; place >= 0 {
+		return place
+	}
+	if place = sort.Search(len(q.all), func(i int) bool { return q.all[i].turn > turn }); place == mostQueued {
+		place--
+	}
+	q.all = append(q.all, queued{})
+	copy(q.all[place+1:], q.all[place:])
+	q.all[place] = queued{session: session, user: userOf(session), lock: lock, turn: turn, heard: now}
+	if len(q.all) > mostQueued {
+		q.all = q.all[:mostQueued]
 	}
 	return place
 }
 
-// giveOut chooses those that see the numbers that are free, as many as there are, and adds them to the shares. First come those that are
-// over no bound, then those that are over one, then the rest. Who is over a bound sees none while another one waits (yields).
-func (q *numberQueue) giveOut(free int, taken *shares) {
+// giveOut chooses those that see the numbers that are free, as many as there are, adds them to the shares, and returns how many these are.
+// Who wants a lock that has all that it may have is never one of them. First come those whose user is below its bound, then the rest.
+// Whose user is at it sees none while another one comes first.
+func (q *numberQueue) giveOut(free int, taken *shares) (first int) {
 	for i := range q.all {
 		q.all[i].isFirst = false
 	}
-	var chosen company
-	for bounds := 0; bounds <= 2; bounds++ {
+	var chosen variety
+	for _, isRest := range []bool{false, true} {
 		before := chosen
-		for i := 0; i < len(q.all) && free > 0; i++ {
+		for i := 0; i < len(q.all) && first < free; i++ {
 			one := &q.all[i]
-			if one.isFirst || taken.over(one) > bounds || taken.yields(one, before) {
+			if one.isFirst || taken.claims[one.session] || taken.locks.isFull(one.lock) ||
+				taken.users.isFull(one.user) && (!isRest || before.hasOther(one.user)) {
 				continue
 			}
 			one.isFirst = true
-			free--
+			first++
 			taken.add(one.user, one.lock)
-			chosen.add(one)
+			chosen.add(one.user)
 		}
 	}
+	return first
 }
 
 // ahead returns how many come before the one at a place, which sees no number.
 func (q *numberQueue) ahead(place int, taken *shares) (count int) {
-	if place == len(q.all) {
-		return place
-	}
 	own := taken.over(&q.all[place])
 	for i := range q.all {
 		one := &q.all[i]
@@ -145,10 +178,11 @@ func (q *numberQueue) lockOf(session string) string {
 	return ""
 }
 
-// leave takes a session out that has a number, or wants none any more. It returns whether the session waited.
+// leave takes a session out that has a number. It returns whether the session waited.
 func (q *numberQueue) leave(session string) bool {
 	for i, one := range q.all {
 		if one.session == session {
+			q.turn = greatest(q.turn, one.turn)
 			q.all = append(q.all[:i], q.all[i+1:]...)
 			return true
 		}
@@ -161,13 +195,18 @@ func (q *numberQueue) isShort(now time.Time, ttl time.Duration) bool {
 	return len(q.all) > 0 && now.Sub(q.short) <= ttl/2
 }
 
+// needs returns whether somebody waited a moment ago who may have a number that is for a lock now.
+func (q *numberQueue) needs(lock string, now time.Time, ttl time.Duration) bool {
+	return q.isShort(now, ttl) && (now.Sub(q.scarce) <= ttl/2 || lock == q.hot)
+}
+
 // tellFree tells those who come first that numbers are free.
 func (d *Daemon) tellFree(s *shard, now time.Time) {
 	if !s.waiting.isShort(now, d.leases.ttl) {
 		return
 	}
 	states := s.states()
-	taken := s.shares(states)
+	taken := s.shares(states, "")
 	s.waiting.giveOut(freeOf(states), &taken)
 	for _, one := range s.waiting.all {
 		if one.isFirst {
@@ -183,22 +222,23 @@ func (d *Daemon) hasNumber(l *letter, now time.Time) {
 	}
 }
 
-// tellIdle tells the sessions of a shard that want nothing that others wait for a number.
+// tellIdle tells the sessions of a shard that want nothing that others wait for a number that they have.
 func (d *Daemon) tellIdle(s *shard, now time.Time) {
 	if !s.waiting.isShort(now, d.leases.ttl) || now.Sub(s.waiting.told) < d.leases.ttl/64 {
 		return
 	}
 	s.waiting.told = now
 	for number, row := range s.rows {
-		if name := s.names[number]; row.Open && row.Used && s.requests[number] == 0 && name != "" {
+		if name := s.names[number]; row.Open && row.Used && s.requests[number] == 0 && name != "" &&
+			s.waiting.needs(s.locks[number], now, d.leases.ttl) {
 			d.put(name, wire.Told{Kind: wire.Wanted}.Append(d.out[name]))
 		}
 	}
 }
 
-// tellWanted tells a session that others wait for a number.
+// tellWanted tells a session that others wait for a number that it has.
 func (d *Daemon) tellWanted(l *letter, now time.Time) {
-	if l.shard.waiting.isShort(now, d.leases.ttl) {
+	if l.shard.waiting.needs(l.shard.locks[l.Number], now, d.leases.ttl) {
 		d.put(l.Name, wire.Told{Kind: wire.Wanted}.Append(d.out[l.Name]))
 	}
 }

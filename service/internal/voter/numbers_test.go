@@ -3,6 +3,7 @@ package voter
 import (
 	"fmt"
 	"math/rand"
+	"strings"
 	"testing"
 	"time"
 )
@@ -107,8 +108,119 @@ func TestQueueIsBounded(t *testing.T) {
 	}
 	states := make([]int, 64)
 	states[7] = 1
-	if q.ask("another", "", states, newShares(), time.Unix(1000, 0), time.Hour); states[7] != 0 {
-		t.Error("who has no place sees a free number before those that wait")
+	if ahead := q.ask("another", "", states, newShares(), time.Unix(1000, 0), time.Hour); states[7] != 0 || ahead != mostQueued-1 {
+		t.Errorf("who has the last place sees a free number before the %d that wait", ahead)
+	}
+	states[7] = 1
+	if q.ask("neighbour", "cold", states, newShares(), time.Unix(1000, 0), time.Hour); states[7] != 0 || len(q.all) != mostQueued ||
+		q.all[1].lock != "cold" {
+		t.Errorf("%d wait, and of another lock nobody does: %+v", len(q.all), q.all[:3])
+	}
+}
+
+// Numbers that the first ones do not claim are shown to all, but no more than a lock may have.
+func TestUnclaimedNumbersWithinTheBound(t *testing.T) {
+	for used := 50; used <= 58; used++ {
+		var q numberQueue
+		now := time.Unix(1000, 0)
+		ahead := 0
+		sees := func(name, lock string) int {
+			states, taken := make([]int, 64), newShares()
+			for i := range states {
+				if states[i] = 1; i < used {
+					states[i] = 0
+					taken.add("jobs", "hot")
+				}
+			}
+			ahead = q.ask(name, lock, states, taken, now, time.Hour)
+			return freeOf(states)
+		}
+		most := 56 - used
+		if most < 0 {
+			most = 0
+		}
+		for i := 0; i < 20; i++ {
+			want := 64 - used
+			if i >= most {
+				want = 0
+			}
+			if seen := sees(fmt.Sprint(i), "hot"); seen != want {
+				t.Errorf("session %d of a lock with %d numbers sees %d", i, used, seen)
+			}
+		}
+		now = now.Add(mostUnclaimed + 1)
+		for i := most; i < 20; i++ {
+			if seen := sees(fmt.Sprint(i), "hot"); seen != most {
+				t.Errorf("nobody claims one for long: session %d of a lock with %d numbers sees %d", i, used, seen)
+			}
+		}
+		if seen := sees("neighbour", "cold"); seen != 64-used || most == 0 && !q.unclaimed.Equal(now) {
+			t.Errorf("a neighbour sees %d, and they are shown to nobody since %v", seen, q.unclaimed)
+		}
+		now = now.Add(mostUnclaimed + 1)
+		if seen := sees("19", "hot"); seen != most || (ahead > 0) != (most == 0) {
+			t.Errorf("the neighbour claims none: one of a lock with %d numbers sees %d, and hears of %d before it", used, seen, ahead)
+		}
+	}
+}
+
+// Locks take turns: of twenty sessions of one lock one gets a number, and then one of each other lock, and so on. Those that come later come
+// in turn, too, and locks whose sessions come again and again do not hold the others up.
+func TestLocksTakeTurns(t *testing.T) {
+	var q numberQueue
+	next := func() string {
+		states := make([]int, 64)
+		states[0] = 1
+		for _, one := range append([]queued(nil), q.all...) {
+			all := append([]int(nil), states...)
+			if q.ask(one.session, one.lock, all, newShares(), time.Unix(1000, 0), time.Hour); freeOf(all) > 0 {
+				q.leave(one.session)
+				return one.session
+			}
+		}
+		return ""
+	}
+	comes := func(sessions ...string) {
+		for _, session := range sessions {
+			q.ask(session, strings.TrimRight(session, "0123456789"), make([]int, 64), newShares(), time.Unix(1000, 0), time.Hour)
+		}
+	}
+	comes("hot1", "hot2", "hot3", "hot4", "hot5", "hot6", "cold1", "cold2", "warm1", "1", "2")
+	for i, want := range []string{"hot1", "cold1", "warm1", "1", "hot2", "cold2", "", "2", "hot3", "late1", "hot4", "late2", "hot5", "hot6", ""} {
+		if i == 6 {
+			comes("late1", "late2")
+			continue
+		}
+		if got := next(); got != want {
+			t.Errorf("%d: %q gets a number, and not %q", i, got, want)
+		}
+	}
+	comes("hot1", "hot2", "hot3", "hot4", "hot5", "hot6", "a1", "b1")
+	order := ""
+	for i := 0; i < 18; i++ {
+		got := next()
+		if order += got + " "; got == "a1" || got == "b1" {
+			comes(got)
+		}
+	}
+	if order != "hot1 a1 b1 hot2 a1 b1 hot3 a1 b1 hot4 a1 b1 hot5 a1 b1 hot6 a1 b1 " {
+		t.Error(order)
+	}
+}
+
+// Who claimed a number, and did not use it yet, needs no other one: the next one sees that.
+func TestWhoClaimedNeedsNoOther(t *testing.T) {
+	var q numberQueue
+	sees := func(name string, taken shares) bool {
+		states := make([]int, 64)
+		states[9] = 1
+		q.ask(name, "hot", states, taken, time.Unix(1000, 0), time.Hour)
+		return freeOf(states) > 0
+	}
+	claimed := newShares()
+	claimed.claims["first"] = true
+	if !sees("first", newShares()) || sees("second", newShares()) || !sees("second", claimed) || !sees("first", newShares()) {
+		t.Error("the number that is left is nobody's")
 	}
 }
 
@@ -149,15 +261,15 @@ func (c *crowd) see(t *testing.T, what string, want ...string) {
 	}
 }
 
-// A user with 47 numbers gets one more before another one that came later, and a user with 48 does not. Of a lock this holds of 55 and 56.
+// A user with 47 numbers gets one more before another one that came later, and a user with 48 does not. A lock with 55 numbers gets one more,
+// and one with 56 does not, whoever else waits.
 func TestSharesAreExact(t *testing.T) {
 	for taken := 40; taken <= 63; taken++ {
-		users := crowd{taken: map[[2]string]int{{"big", "x"}: taken}}
+		users := crowd{taken: map[[2]string]int{{"big", "x"}: taken / 2, {"big", "y"}: taken - taken/2}}
 		users.asks("big", "1", "x")
 		users.asks("small", "1", "x")
 		locks := crowd{taken: map[[2]string]int{{"jobs", "hot"}: taken}}
 		locks.asks("jobs", "1", "hot")
-		locks.asks("jobs", "2", "cold")
 		for _, free := range []int{1, 64 - taken} {
 			users.free, locks.free = free, free
 			switch {
@@ -166,12 +278,18 @@ func TestSharesAreExact(t *testing.T) {
 			case free == 1:
 				users.see(t, fmt.Sprint("a user with ", taken, ", and one free"), "big.1")
 			}
-			switch {
-			case taken >= 56:
-				locks.see(t, fmt.Sprint("a lock with ", taken, ", and free ", free), "jobs.2")
-			case free == 1:
-				locks.see(t, fmt.Sprint("a lock with ", taken, ", and one free"), "jobs.1")
+			if taken >= 56 {
+				locks.see(t, fmt.Sprint("a lock with ", taken, ", and free ", free))
+			} else {
+				locks.see(t, fmt.Sprint("a lock with ", taken, ", and free ", free), "jobs.1")
 			}
+		}
+		locks.asks("jobs", "2", "cold")
+		locks.free = 1
+		if taken >= 56 {
+			locks.see(t, fmt.Sprint("a lock with ", taken, ", and another waits"), "jobs.2")
+		} else {
+			locks.see(t, fmt.Sprint("a lock with ", taken, ", and another waits"), "jobs.1")
 		}
 	}
 }
@@ -179,32 +297,40 @@ func TestSharesAreExact(t *testing.T) {
 // Sixty sessions of one user wait for numbers, for one lock, and one of another user, or for another lock, comes late. It comes first.
 func TestLateOneOfAnotherShare(t *testing.T) {
 	for _, late := range []struct{ user, lock string }{{"small", "hot"}, {"big", "cold"}} {
-		c := crowd{taken: map[[2]string]int{{"big", "hot"}: 64}}
+		c := crowd{taken: map[[2]string]int{{"big", "hot"}: 56, {"big", "warm"}: 8}}
 		for i := 0; i < 60; i++ {
 			c.asks("big", fmt.Sprint(i), "hot")
 		}
 		if sees, ahead := c.asks(late.user, "late", late.lock); sees || ahead != 0 {
 			t.Errorf("%v: no number is free, and %d come before the late one: it sees one, %v", late, ahead, sees)
 		}
-		c.taken, c.free = map[[2]string]int{{"big", "hot"}: 63}, 1
+		given := [2]string{"big", "hot"}
+		if late.lock == "cold" {
+			given = [2]string{"big", "warm"}
+		}
+		c.taken[given]--
+		c.free = 1
 		c.see(t, fmt.Sprint(late), late.user+".late")
 		if _, ahead := c.asks("big", "7", "hot"); ahead != 8 {
 			t.Errorf("%v: %d come before the eighth of the others", late, ahead)
 		}
-		c.leave(late.user + ".late")
+		if c.leave(late.user + ".late"); late.lock == "cold" {
+			c.see(t, "the lock has all that it may have")
+			continue
+		}
 		c.see(t, "once the late one has its number", "big.0")
 	}
 }
 
 // Those that come before count, too: of twenty sessions of a user with forty numbers eight see one while another user waits, and all do
-// where nobody else waits. Of a lock with 48 numbers eight do.
+// where nobody else waits. Of a lock with 48 numbers eight do, whoever waits.
 func TestSharesOfThoseThatComeFirst(t *testing.T) {
 	for _, one := range []struct {
-		taken      int
+		taken      map[[2]string]int
 		user, lock string // of who comes late
-	}{{40, "small", "hot"}, {48, "big", "cold"}} {
+	}{{map[[2]string]int{{"big", "hot"}: 20, {"big", "warm"}: 20}, "small", "hot"}, {map[[2]string]int{{"big", "hot"}: 48}, "big", "cold"}} {
 		first, all := []string{}, []string{}
-		c := crowd{taken: map[[2]string]int{{"big", "hot"}: one.taken}, free: 16}
+		c := crowd{taken: one.taken, free: 16}
 		for i := 0; i < 12; i++ {
 			name := fmt.Sprintf("big.%d", i)
 			if all = append(all, name); i < 8 {
@@ -212,34 +338,43 @@ func TestSharesOfThoseThatComeFirst(t *testing.T) {
 			}
 			c.asks("big", fmt.Sprint(i), "hot")
 		}
-		c.see(t, "nobody else waits", all...)
 		late := one.user + ".late"
-		c.asks(one.user, "late", one.lock)
-		c.see(t, fmt.Sprint(one, " waits"), append(first, late)...)
+		if one.lock == "cold" {
+			c.see(t, "nobody else waits", first...)
+			c.asks(one.user, "late", one.lock)
+			c.see(t, fmt.Sprint(one, " waits"), append([]string{first[0], late}, first[1:]...)...)
+		} else {
+			c.see(t, "nobody else waits", all...)
+			c.asks(one.user, "late", one.lock)
+			c.see(t, fmt.Sprint(one, " waits"), append(first, late)...)
+		}
 		if sees, ahead := c.asks("big", "9", "hot"); sees || ahead != 10 {
 			t.Errorf("%v: %d come before the tenth, which sees a number: %v", one, ahead, sees)
 		}
 	}
 }
 
-// Nobody is over a bound for ever: who is over fewer bounds comes first, and where all are over as many, who came first.
+// A lock that has all that it may have gets no more until it has fewer. A user is over its bound for as long only as others may have
+// numbers that want some.
 func TestSharesStopNobody(t *testing.T) {
-	all := map[[2]string]int{{"big", "hot"}: 60}
-	c := crowd{taken: all, free: 4}
+	c := crowd{taken: map[[2]string]int{{"big", "hot"}: 60}, free: 4}
 	for i, one := range [][2]string{{"big", "hot"}, {"small", "hot"}, {"big", "cold"}} {
 		c.asks(one[0], fmt.Sprint(i), one[1])
 	}
-	c.see(t, "who is over both bounds is last", "small.1", "big.2")
+	c.see(t, "who wants another lock", "big.2")
 	if _, ahead := c.asks("big", "0", "hot"); ahead != 2 {
 		t.Errorf("%d come before who is over both bounds", ahead)
 	}
-	if c.free = 1; len(c.all) != 3 {
-		t.Fatal(c.all)
-	}
+	c.taken = map[[2]string]int{{"big", "hot"}: 55, {"big", "cold"}: 8}
+	c.free = 1
 	c.see(t, "one is free", "small.1")
 	c.asks("small", "3", "cold")
-	c.see(t, "who is over no bound is first", "small.3")
-	alone := crowd{taken: all, free: 2}
+	c.see(t, "who came first", "small.1")
+	c.leave("small.1")
+	c.see(t, "of the other user", "small.3")
+	c.leave("small.3")
+	c.see(t, "nobody of another user waits", "big.0")
+	alone := crowd{taken: map[[2]string]int{{"big", "hot"}: 31, {"big", "cold"}: 31}, free: 2}
 	alone.asks("big", "0", "hot")
 	alone.asks("big", "1", "hot")
 	alone.see(t, "nobody else waits", "big.0", "big.1")
@@ -250,17 +385,19 @@ func TestSharesStopNobody(t *testing.T) {
 		t.Error("who waits does not leave, or does twice")
 	}
 	alone.free = 1
+	alone.taken = map[[2]string]int{{"big", "hot"}: 58}
 	alone.see(t, "no bound holds of a lock that is not named", "big.3")
 	alone.free = 2
-	alone.see(t, "a lock that is not named is no other lock", "big.1", "big.3")
-	unnamed := crowd{free: 1}
+	alone.see(t, "nor does one of others where it is not named", "big.3")
+	unnamed := crowd{taken: map[[2]string]int{{"big", ""}: 60}, free: 1}
 	unnamed.asks("big", "0", "")
+	unnamed.see(t, "who names no lock has no bound", "big.0")
 	unnamed.asks("small", "1", "cold")
-	unnamed.see(t, "who names no lock comes first", "big.0")
+	unnamed.see(t, "one of another user comes first", "small.1")
 }
 
-// Of any queue somebody sees the numbers that are free. A user goes above 48 only if all others that wait want the lock that has 56, and
-// a lock above 56 only if all that want another one are of the user that has 48.
+// Of any queue somebody sees the numbers that are free, unless all want the lock that has 56. No lock goes above 56, and a user goes above 48
+// only if nobody of another one waits that may have a number.
 func TestSharesOfAnyQueue(t *testing.T) {
 	random := rand.New(rand.NewSource(1))
 	users, locks := []string{"a", "b", "c"}, []string{"", "x", "y", "z"}
@@ -270,6 +407,7 @@ func TestSharesOfAnyQueue(t *testing.T) {
 		}
 		return names[random.Intn(len(names))]
 	}
+	bound := 0
 	for run := 0; run < 5000; run++ {
 		c := crowd{taken: map[[2]string]int{}, free: 1 + random.Intn(20)}
 		for i := 0; i < 64-c.free; i++ {
@@ -278,13 +416,14 @@ func TestSharesOfAnyQueue(t *testing.T) {
 		for i := 1 + random.Intn(12); i > 0; i-- {
 			c.asks(users[random.Intn(3)], fmt.Sprint(i), locks[random.Intn(4)])
 		}
-		after := newShares()
+		before, after := newShares(), newShares()
 		for of, count := range c.taken {
 			for ; count > 0; count-- {
+				before.add(of[0], of[1])
 				after.add(of[0], of[1])
 			}
 		}
-		seen, user, lock := 0, "", ""
+		seen, user := 0, ""
 		for _, one := range c.all {
 			if !one.isFirst {
 				continue
@@ -293,20 +432,25 @@ func TestSharesOfAnyQueue(t *testing.T) {
 			if after.add(one.user, one.lock); after.users.counts[one.user] > mostOfUser {
 				user = one.user
 			}
-			if one.lock != "" && after.locks.counts[one.lock] > mostOfLock {
-				lock = one.lock
+			if n := after.locks.counts[one.lock]; one.lock != "" && n > mostOfLock {
+				t.Fatalf("%s goes to %d: %v, %d free, %+v", one.lock, n, c.taken, c.free, c.all)
 			}
 		}
-		if seen == 0 || seen > c.free {
-			t.Fatalf("%d see the %d numbers that are free: %+v", seen, c.free, c.all)
-		}
+		isStopped := true
 		for _, one := range c.all {
-			if user != "" && one.user != user && !after.locks.isFull(one.lock) {
+			isStopped = isStopped && before.locks.isFull(one.lock)
+			if user != "" && one.user != user && !one.isFirst && !after.locks.isFull(one.lock) {
 				t.Fatalf("%s goes above its share: %v, %d free, %+v", user, c.taken, c.free, c.all)
 			}
-			if lock != "" && one.lock != "" && one.lock != lock && !after.users.isFull(one.user) {
-				t.Fatalf("%s goes above its share: %v, %d free, %+v", lock, c.taken, c.free, c.all)
-			}
 		}
+		if isStopped {
+			bound++
+		}
+		if seen > c.free || seen == 0 != isStopped {
+			t.Fatalf("%d see the %d numbers that are free: %v, %+v", seen, c.free, c.taken, c.all)
+		}
+	}
+	if bound == 0 {
+		t.Error("no lock was at its bound")
 	}
 }

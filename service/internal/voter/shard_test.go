@@ -153,9 +153,10 @@ func TestPagesOfRows(t *testing.T) {
 	}
 }
 
-// hotShard returns a daemon whose shard 1 has the hot lock: 64 sessions have numbers for it, and as many more wait for one. It returns the hot
-// lock, another lock of the shard, and a function with which a session of a user says something in the shard.
-func hotShard(t *testing.T, more int) (d *Daemon, hot, cold string, says func(user, name string, number int, epoch uint64, lines string) string) {
+// hotShard returns a daemon whose shard 1 has the hot lock: 56 sessions have numbers for it, and so many have numbers for another one. As many
+// more wait for one for the hot lock. It returns that, another lock of the shard, and a function with which a session of a user says
+// something in the shard.
+func hotShard(t *testing.T, others, more int) (d *Daemon, hot, cold string, says func(user, name string, number int, epoch uint64, lines string) string) {
 	t.Helper()
 	d, _ = sharded(t, 4)
 	d.leases.ttl = time.Hour // who waits is not gone before the test ends
@@ -174,9 +175,12 @@ func hotShard(t *testing.T, more int) (d *Daemon, hot, cold string, says func(us
 		delete(d.out, session)
 		return reply
 	}
-	for i := 0; i < 64; i++ {
-		name := fmt.Sprint("has-", i)
-		if reply := says("jobs", name, 0, 0, ". for "+hot+"\n. hello\n"); !strings.Contains(reply, fmt.Sprintf(". number %d 0 1\n", i)) {
+	for i := 0; i < 56+others; i++ {
+		name, lock := fmt.Sprint("has-", i), hot
+		if i >= 56 {
+			lock = cold
+		}
+		if reply := says("jobs", name, 0, 0, ". for "+lock+"\n. hello\n"); !strings.Contains(reply, fmt.Sprintf(". number %d 0 1\n", i)) {
 			t.Fatalf("session %d: %q", i, reply)
 		}
 		says("jobs", name, 0, 0, fmt.Sprintf(". claim %d 1 64\n", i))
@@ -200,32 +204,42 @@ func isFree(reply string) bool {
 	return false
 }
 
-// A lock has all numbers of its shard, and sixty more sessions wait for it. One that wants another lock, and comes late, gets the number
-// that is free next, and so does one of another user. Once it has it, those that yielded hear that others are free.
+// All numbers of a shard are taken, 56 of them for one lock, and sixty more sessions wait for that. One that wants another lock, and comes
+// late, gets the number that is free next. One of another user gets the next one of the same lock. Once it has it, those that yielded hear
+// that others are free.
 func TestHotLockLeavesNumbers(t *testing.T) {
-	for _, late := range []struct{ user, lock string }{{"jobs", "cold"}, {"web", "hot"}} {
-		d, hot, cold, says := hotShard(t, 60)
+	for _, late := range []struct {
+		user, lock string
+		given      [2]int
+	}{{"jobs", "cold", [2]int{58, 59}}, {"web", "hot", [2]int{5, 6}}} {
+		d, hot, cold, says := hotShard(t, 8, 60)
 		if late.lock = hot; late.user == "jobs" {
 			late.lock = cold
 		}
+		closes := func(number int) { says("jobs", fmt.Sprint("has-", number), number, 1, ". close\n") }
 		hello := ". for " + late.lock + "\n. hello\n"
 		if isFree(says(late.user, "late", 0, 0, hello)) {
 			t.Fatal("a number is free")
 		}
-		says("jobs", "has-5", 5, 1, ". close\n")
+		closes(late.given[0])
 		if told := string(d.out[late.user+".1-late"]); !strings.Contains(told, ". free\n") || strings.Contains(string(d.out["jobs.1-waits-0"]), ". free\n") {
 			t.Errorf("%v: who waits hears %q, and the first of the others %q", late, told, d.out["jobs.1-waits-0"])
 		}
-		says("jobs", "has-6", 6, 1, ". close\n")
+		closes(late.given[1])
 		if isFree(says("jobs", "waits-0", 0, 0, ". for "+hot+"\n. hello\n")) {
 			t.Errorf("%v: another one of the hot lock comes first", late)
 		}
 		if reply := says(late.user, "late", 0, 0, hello); !isFree(reply) {
 			t.Errorf("%v: the late one sees no number: %q", late, reply)
 		}
-		says(late.user, "late", 0, 0, ". claim 5 2 64\n")
+		says(late.user, "late", 0, 0, fmt.Sprintf(". claim %d 2 64\n", late.given[0]))
 		d.out = map[string][]byte{}
-		says(late.user, "late", 5, 2, ". open 0\n")
+		if says(late.user, "late", late.given[0], 2, ". open 0\n"); late.lock == cold {
+			if isFree(says("jobs", "waits-0", 0, 0, ". for "+hot+"\n. hello\n")) {
+				t.Error("a lock has a 57th number")
+			}
+			closes(5)
+		}
 		if told := string(d.out["jobs.1-waits-0"]); !strings.Contains(told, ". free\n") {
 			t.Errorf("%v: who yielded hears %q", late, told)
 		}
@@ -235,12 +249,46 @@ func TestHotLockLeavesNumbers(t *testing.T) {
 	}
 }
 
+// While those that wait may have no number as their lock has too many, only sessions of this lock are asked for theirs. If somebody waits
+// who may have any number, all are.
+func TestWhoIsAskedForANumber(t *testing.T) {
+	d, hot, cold, says := hotShard(t, 4, 1)
+	asked := func() (ofHot, ofCold int) {
+		for number := 0; number < 60; number++ {
+			heard := says("jobs", fmt.Sprint("has-", number), number, 1, ". open 0\n") // and what was told before
+			switch n := strings.Count(heard, ". wanted\n"); {
+			case number < 56:
+				ofHot += n
+			default:
+				ofCold += n
+			}
+		}
+		d.shard(1).waiting.told, d.out = time.Time{}, map[string][]byte{}
+		return ofHot, ofCold
+	}
+	d.shard(1).waiting.told, d.out = time.Time{}, map[string][]byte{}
+	says("jobs", "waits-0", 0, 0, ". for "+hot+"\n. hello\n")
+	if ofHot, ofCold := asked(); ofHot != 2*56 || ofCold != 0 {
+		t.Errorf("four are free, and the hot lock has 56: %d and %d words", ofHot, ofCold)
+	}
+	for i := 0; i < 4; i++ {
+		name, number := fmt.Sprint("more-", i), 60+i
+		says("jobs", name, 0, 0, fmt.Sprintf(". for %s\n. hello\n. claim %d 1 64\n", cold, number))
+		says("jobs", name, number, 1, ". open 0\n")
+	}
+	d.shard(1).waiting.told, d.out = time.Time{}, map[string][]byte{}
+	says("jobs", "late", 0, 0, ". for "+cold+"\n. hello\n")
+	if ofHot, ofCold := asked(); ofHot != 2*56 || ofCold != 2*4 {
+		t.Errorf("none is free: %d and %d words", ofHot, ofCold)
+	}
+}
+
 // Which lock a number is for: what its session said with its hello, until it asks for another lock. The next session of a number does not
 // have it from the one before, and no session names a lock of another shard.
 func TestLocksOfNumbers(t *testing.T) {
-	d, hot, cold, says := hotShard(t, 0)
+	d, hot, cold, says := hotShard(t, 0, 0)
 	s := d.shard(1)
-	if shares := s.shares(s.states()); shares.locks.counts[hot] != 64 || shares.users.counts["jobs"] != 64 {
+	if shares := s.shares(s.states(), ""); shares.locks.counts[hot] != 56 || shares.users.counts["jobs"] != 56 {
 		t.Errorf("%+v", shares)
 	}
 	says("jobs", "has-1", 1, 1, cold+" request 1 0 70\n")
@@ -254,7 +302,7 @@ func TestLocksOfNumbers(t *testing.T) {
 	for number := 1; number <= 3; number++ {
 		says("jobs", fmt.Sprint("has-", number), number, 1, ". close\n")
 	}
-	if shares := s.shares(s.states()); shares.locks.counts[hot] != 61 {
+	if shares := s.shares(s.states(), ""); shares.locks.counts[hot] != 53 {
 		t.Errorf("%+v", shares)
 	}
 	says("jobs", "older", 0, 0, ". hello\n. claim 1 2 64\n") // of an older program
@@ -263,8 +311,13 @@ func TestLocksOfNumbers(t *testing.T) {
 	if s.locks[1] != "" || s.locks[2] != "" {
 		t.Errorf("the next sessions: %q, %q", s.locks[1], s.locks[2])
 	}
-	if shares := s.shares(s.states()); shares.users.counts["jobs"] != 62 {
-		t.Errorf("a number that was only claimed is in use: %+v", shares)
+	says("jobs", "claims", 0, 0, ". for "+hot+"\n. hello\n. claim 3 2 64\n")
+	if shares := s.shares(s.states(), ""); shares.users.counts["jobs"] != 56 || shares.locks.counts[hot] != 54 || !shares.claims["jobs.1-claims"] ||
+		shares.claims["jobs.1-has-5"] {
+		t.Errorf("with a number that was claimed: %+v", shares)
+	}
+	if shares := s.shares(s.states(), "jobs.1-claims"); shares.users.counts["jobs"] != 55 || shares.locks.counts[hot] != 53 {
+		t.Errorf("its session asks again: %+v", shares)
 	}
 	if says("jobs", "stray", 2, 2, ". open 0\n"); s.waiting.lockOf("jobs.1-stray") != "" {
 		t.Error("who has a number waits")

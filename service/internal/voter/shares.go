@@ -1,20 +1,26 @@
 package voter
 
-// How many numbers of a shard one user may have, and how many one lock, while others wait. So a hot lock does not stop its neighbours.
-//
-// A user with 48 numbers or more gets no other one while a session of another user waits. A lock with 56 or more gets no other one while a
-// session waits that wants another lock. A number is for the lock that its session asked for last, or else for the one that it named as it
-// wanted the number. A session that names no lock is bounded only once it asks for one. Nobody loses a number by
-// this, and no claim is refused: it is for clients that ask which numbers are free before they claim one.
+import "calvundek.example/service/qlock"
 
-// The shares: of one shard, while another one waits.
+// How many numbers of a shard one lock may have, and how many one user while others wait. So a hot lock does not stop its neighbours.
+//
+// A lock has at most 56: who wants a 57th for it sees none, also if numbers are free and nobody else waits. A user with 48 numbers or more
+// gets no other one while a session of another user waits that may have one. A number is for the lock that its session asked for last, or
+// else for the one that it named as it wanted the number. A session that names no lock, or another one, is bounded by what it named, and
+// its number counts for a lock once it asks for that. Nobody loses a number by this, and no claim is refused: it is for clients that ask
+// which numbers are free before they claim one. Each voter goes by what it heard, so where many come at once one lock may have more.
+
+// The shares of one shard.
 const (
-	mostOfUser = 48
+	mostOfUser = 48 // while another one waits
 	mostOfLock = 56
 )
 
 // shares says how many numbers users and locks have.
-type shares struct{ users, locks bound }
+type shares struct {
+	users, locks bound
+	claims       map[string]bool // the sessions that have a number of these which they have not used yet
+}
 
 // bound counts the numbers of users, or of locks. It is more than half of all numbers, so at most one name is at it.
 type bound struct {
@@ -25,7 +31,7 @@ type bound struct {
 
 // newShares returns the shares of a shard of which no number is taken.
 func newShares() shares {
-	return shares{bound{most: mostOfUser, counts: map[string]int{}}, bound{most: mostOfLock, counts: map[string]int{}}}
+	return shares{bound{most: mostOfUser, counts: map[string]int{}}, bound{most: mostOfLock, counts: map[string]int{}}, map[string]bool{}}
 }
 
 // add counts a number of a user, for a lock.
@@ -45,11 +51,6 @@ func (s *shares) over(one *queued) (bounds int) {
 	return bounds
 }
 
-// yields returns whether somebody sees no number, as another one comes first: one of another user, or one that wants another lock.
-func (s *shares) yields(one *queued, others company) bool {
-	return s.users.isFull(one.user) && others.users.hasOther(one.user) || s.locks.isFull(one.lock) && others.locks.hasOther(one.lock)
-}
-
 // add counts a number of a name.
 func (b *bound) add(name string) {
 	if b.counts[name]++; b.counts[name] >= b.most {
@@ -60,13 +61,14 @@ func (b *bound) add(name string) {
 // isFull returns whether a name is at the bound. No bound holds of "", a lock that is not known.
 func (b *bound) isFull(name string) bool { return name != "" && name == b.full }
 
-// company says of which users some sessions are, and which locks they want, as far as it matters to another one.
-type company struct{ users, locks variety }
-
-// add adds a session.
-func (c *company) add(one *queued) {
-	c.users.add(one.user)
-	c.locks.add(one.lock)
+// room returns how many more numbers a name may have.
+func (b *bound) room(name string) int {
+	if has := b.counts[name]; name != "" && has < b.most {
+		return b.most - has
+	} else if name != "" {
+		return 0
+	}
+	return qlock.MaxClients
 }
 
 // variety has two different names, "" where there is none.
@@ -85,13 +87,18 @@ func (v *variety) add(name string) {
 // hasOther returns whether a name was added that is another one than this.
 func (v variety) hasOther(name string) bool { return v.one != "" && v.one != name || v.two != "" }
 
-// shares returns the shares of the numbers that are in use, by the states of all. A number that was only claimed is not in use: its session
-// still waits.
-func (s *shard) shares(states []int) shares {
+// shares returns the shares of the numbers that are taken, by the states of all. A number that was claimed, and is not used yet, counts for
+// the session that claimed it, unless that asks again: then it did not get the number.
+func (s *shard) shares(states []int, asks string) shares {
 	taken := newShares()
 	for number, row := range s.rows {
-		if row.Open && row.Used && states[number] == 0 {
-			taken.add(userOf(row.Hash), s.locks[number])
+		name := s.names[number]
+		if !row.Open || states[number] != 0 || !row.Used && name != "" && name == asks {
+			continue
+		}
+		taken.add(userOf(row.Hash), s.locks[number])
+		if !row.Used {
+			taken.claims[name] = true
 		}
 	}
 	return taken
