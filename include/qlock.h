@@ -61,6 +61,7 @@ uint32_t qlock_version(void);
 #define QLOCK_CALLS_BYTES 56 /* the calls of a process for a lock */
 #define QLOCK_VOTES_BYTES 4608  /* a vote of each of 64 voters for a lock, one after the other */
 #define QLOCK_LEASES_BYTES 2560 /* a lease of each of 64 voters, one after the other */
+#define QLOCK_ALL_STAMPS_BYTES 1536 /* a session's stamps at each of 64 voters, one after the other */
 
 /* How many bytes the pass has that a client shows to a guard. */
 #define QLOCK_PASS_BYTES 512
@@ -807,11 +808,11 @@ int32_t qlock_vote_ends(uint8_t *vote, size_t n, uint64_t request);
    QLOCK_BAD_STATE  the bytes are no vote, or no lease */
 int32_t qlock_vote_until(const uint8_t *vote, size_t n, const uint8_t *lease, size_t m, uint64_t span, uint64_t *end);
 
-/* ---- Under which stamps a session may ask. `n` is always QLOCK_STAMPS_BYTES.
+/* ---- Under which stamps a session may ask. `n` is always QLOCK_STAMPS_BYTES, but for qlock_stamps_owners.
 
    A voter tells a session the base of its stamps, and up to which stamp it reserved them (qlock_row_shows). A session asks a quorum only
-   under a stamp that is its own at each voter of it. Then no stamp is used by two sessions, whatever is lost, late or repeated, and
-   whenever voters crash. Where a voter lost its state, the session makes the stamps anew. */
+   under a stamp that is its own at each voter of it: `(quorum & ~voters) == 0` by qlock_stamps_owners. Then no stamp is used by two
+   sessions, whatever is lost, late or repeated, and whenever voters crash. Where a voter lost its state, the session makes the stamps anew. */
 
 /* Makes what a session keeps of its stamps at a voter that told nothing.
 
@@ -828,6 +829,13 @@ int32_t qlock_stamps_hear(uint8_t *stamps, size_t n, uint64_t base, uint64_t res
 
    QLOCK_BAD_STATE  the bytes are no stamps */
 int32_t qlock_stamps_have(const uint8_t *stamps, size_t n, uint64_t stamp, uint32_t *yes);
+
+/* Writes to `*voters` the voters at which the stamp is the session's own, as a mask: those that it may ask under the stamp
+   (qlock_stamps_have). `stamps` are its stamps at all 64 voters, one after the other, QLOCK_ALL_STAMPS_BYTES in all. For a voter that there
+   is not they are as new.
+
+   QLOCK_BAD_STATE  the bytes are no stamps at 64 voters */
+int32_t qlock_stamps_owners(const uint8_t *stamps, size_t n, uint64_t stamp, uint64_t *voters);
 
 /* ---- Claims of a number by a session. `n` is always QLOCK_CLAIM_BYTES.
 

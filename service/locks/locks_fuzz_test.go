@@ -99,7 +99,7 @@ func (s *scene) view(sender int) view {
 		if i == sender {
 			known = &v.sender
 		}
-		known[i] = fmt.Sprint(p.identity, p.run, p.start, p.mark, s.leases.Of[i], p.stamps, p.requests, p.closed, p.noted,
+		known[i] = fmt.Sprint(p.identity, p.run, p.start, p.mark, s.leases.Of[i], s.stamps[i], p.requests, p.closed, p.noted,
 			*s.asked[0].of(i), *s.asked[1].of(i), s.asked[0].said["x"][i], s.asked[1].said["x"][i])
 	}
 	return v

@@ -77,7 +77,6 @@ type peer struct {
 	answers  bool                     // it acknowledged a heartbeat, or the claim, since then
 	sent     map[uint64]time.Duration // when heartbeats left that it did not acknowledge, by uptime
 	accepts  bool                     // it accepted this session's claim of its number
-	stamps   qlock.Stamps             // under which stamps this session may ask it
 	base     uint64                   // all stamps of this session are above it there
 	claimed  uint64                   // with which heartbeat the number was claimed there again
 	taken    bool                     // it said that this session is over
@@ -104,7 +103,8 @@ type brought struct {
 type session struct {
 	header wire.Header // also what is to be reserved
 	peers  []peer
-	leases qlock.Leases // the leases of the voters, and since when their incarnations are known, by uptime
+	leases qlock.Leases    // the leases of the voters, and since when their incarnations are known, by uptime
+	stamps qlock.AllStamps // under which stamps this session may ask each voter
 
 	renewed  uint64    // the voters that acknowledged something since the last round
 	beat     time.Time // when the last heartbeat left
@@ -142,7 +142,7 @@ type session struct {
 
 func newSession(cluster *config.Cluster, name string, own *claims.Numbers) session {
 	s := session{asked: -1, failed: -1, claims: own, short: &atomic.Pointer[wire.Told]{}, unused: time.Now(), drained: make(chan struct{}), leases: qlock.NewLeases(leaseOf(cluster.TTL.Duration)),
-		header: wire.Header{Cluster: cluster.ID, Kind: wire.FromClient, Name: name, Level: level.Newest}}
+		stamps: qlock.NewAllStamps(), header: wire.Header{Cluster: cluster.ID, Kind: wire.FromClient, Name: name, Level: level.Newest}}
 	s.meet(len(cluster.Names()))
 	return s
 }
@@ -151,7 +151,7 @@ func newSession(cluster *config.Cluster, name string, own *claims.Numbers) sessi
 func (s *session) meet(voters int) {
 	for len(s.peers) < voters {
 		s.leases.Since[len(s.peers)] = uptime()
-		s.peers = append(s.peers, peer{sent: map[uint64]time.Duration{}, heard: time.Now(), stamps: qlock.NewStamps()})
+		s.peers = append(s.peers, peer{sent: map[uint64]time.Duration{}, heard: time.Now()})
 	}
 }
 
@@ -240,7 +240,7 @@ func (c *Client) abandon() {
 	epoch := c.claimed()
 	for v := range c.peers {
 		c.peers[v].sent = map[uint64]time.Duration{}
-		c.peers[v].forget()
+		c.forgetSaid(v)
 		c.forgetLease(v)
 		c.out[v] = c.out[v][:0]
 		c.tell(v, qlock.ClientSays{Kind: qlock.Drop, Number: c.asked, First: epoch})
@@ -557,9 +557,11 @@ func (c *Client) rounds(ctx context.Context, say func(), done func() bool) error
 	}
 }
 
-// forget forgets what a voter said of a number.
-func (p *peer) forget() {
-	p.accepts, p.taken, p.stamps, p.base, p.claimed = false, false, qlock.NewStamps(), 0, 0
+// forgetSaid forgets what a voter said of a number.
+func (s *session) forgetSaid(voter int) {
+	p := &s.peers[voter]
+	s.stamps[voter] = qlock.NewStamps()
+	p.accepts, p.taken, p.base, p.claimed = false, false, 0, 0
 	p.noted, p.notes = false, 0
 	p.bundles, p.processes = false, 0
 	p.brought = brought{}
@@ -568,7 +570,7 @@ func (p *peer) forget() {
 // forgetAll forgets what voters said of numbers, and to sessions before.
 func (c *Client) forgetAll() {
 	for v := range c.peers {
-		c.peers[v].forget()
+		c.forgetSaid(v)
 		c.forgetLease(v)
 	}
 }
@@ -608,9 +610,9 @@ func (c *Client) noteStamps(voter int, base, reserved uint64) {
 		c.stats.Refused++
 		return
 	}
-	before := *p
+	accepted, before := p.accepts, c.stamps[voter]
 	p.accepts, p.taken, p.base = true, false, greatest(p.base, base)
-	if p.stamps.Hear(base, reserved); p.accepts == before.accepts && p.stamps == before.stamps {
+	if c.stamps[voter].Hear(base, reserved); accepted && c.stamps[voter] == before {
 		return
 	}
 	for l := range c.busy {
@@ -640,11 +642,11 @@ func greatest(a, b uint64) uint64 {
 // for that holds up others by the votes that it has.
 func (c *Client) owners(stamp uint64) (mask uint64) {
 	for v := range c.peers {
-		if p := &c.peers[v]; p.answers && p.stamps.Have(stamp) {
+		if c.peers[v].answers {
 			mask |= 1 << v
 		}
 	}
-	return mask
+	return mask & c.stamps.Owners(stamp)
 }
 
 // floor returns the highest base that a voter told this session.
@@ -839,7 +841,7 @@ func (c *Client) recognise(h wire.Header) bool {
 	case before.identity == "":
 	case before.identity != h.Name:
 		c.refused = c.refused || c.opening && p.accepts // it may have accepted another claim of the epoch since
-		p.forget()
+		c.forgetSaid(h.Number)
 		c.spoilAll(1 << h.Number)
 	default:
 		c.restarted(h.Number)
@@ -1102,7 +1104,7 @@ func (c *Client) over(voter int) {
 		c.finish()
 		return
 	}
-	p.accepts, p.taken, p.stamps = false, true, qlock.NewStamps()
+	p.accepts, p.taken, c.stamps[voter] = false, true, qlock.NewStamps()
 	c.spoilAll(1 << voter)
 	switch others := ^c.takers(); {
 	case c.opening: // it waits for no silent voter, as it may take another number

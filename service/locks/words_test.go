@@ -475,6 +475,27 @@ func TestNumberWithoutStampsIsFree(t *testing.T) {
 	soon(t, "the number stays taken", func() bool { return opens().states[number] == 1 })
 }
 
+// What voters said of the stamps of a number counts no more once that was given back: it was said under another epoch.
+func TestNumberLeavesNoStamps(t *testing.T) {
+	c := alone(t)
+	acknowledge := func() {
+		for v := range c.peers {
+			c.acknowledge(v, uptime())
+		}
+	}
+	acknowledge()
+	for v := range c.peers {
+		c.says(v, ". opened 3 5 10 100 1 0\n")
+	}
+	if owners := c.owners(50); owners != 7 {
+		t.Fatalf("the stamp is the session's own at %b", owners)
+	}
+	c.abandon()
+	if acknowledge(); c.owners(50) != 0 {
+		t.Errorf("the stamp is still its own at %b", c.owners(50))
+	}
+}
+
 // The stamps of a session are above each base that the voters told which gave it the number.
 func TestSessionBeginsAboveItsBases(t *testing.T) {
 	c := alone(t)

@@ -23,3 +23,21 @@ func (s *Stamps) Have(stamp uint64) bool {
 	mustBeDone(C.qlock_stamps_have(at(s.state[:]), StampsBytes, C.uint64_t(stamp), &yes))
 	return yes != 0
 }
+
+// AllStamps is what a session keeps of its stamps at its voters, by their places. At a voter that there is not they are as new.
+type AllStamps [MaxVoters]Stamps
+
+// NewAllStamps makes the stamps of a session to which no voter told anything.
+func NewAllStamps() (all AllStamps) {
+	for v := range all {
+		all[v] = NewStamps()
+	}
+	return all
+}
+
+// Owners returns the voters at which a stamp is the session's own. It may ask a quorum under the stamp if that has no voter but these.
+func (all *AllStamps) Owners(stamp uint64) uint64 {
+	var voters C.uint64_t
+	mustBeDone(C.qlock_stamps_owners(at(all[0].state[:]), C.QLOCK_ALL_STAMPS_BYTES, C.uint64_t(stamp), &voters))
+	return uint64(voters)
+}

@@ -60,7 +60,6 @@ type peer struct {
 	answers  bool                     // it acknowledged a heartbeat, or the claim, since then
 	sent     map[uint64]time.Duration // when heartbeats left that it did not acknowledge
 	accepts  bool                     // it accepted this session's claim of its number
-	stamps   qlock.Stamps             // under which stamps this session may ask it
 	base     uint64                   // all stamps of this session are above it there
 	claimed  uint64                   // with which heartbeat the number was claimed there again
 	taken    bool                     // it said that this session is over
@@ -96,7 +95,8 @@ type client struct {
 	tries    int    // how many sessions it began to open
 	header   wire.Header
 	peers    []peer
-	leases   qlock.Leases // of the voters
+	leases   qlock.Leases    // of the voters
+	stamps   qlock.AllStamps // under which stamps this session may ask each voter
 	stage    stage
 	replied  uint64 // the voters that replied to what is asked now
 	claims   *claims.Numbers
@@ -154,10 +154,10 @@ func (c *client) open() {
 	c.tries++
 	_, name, _ := strings.Cut(c.name, ".")
 	c.header = wire.Header{Cluster: c.cluster.ID, Coterie: c.cluster.Marks()[0], Kind: wire.FromClient, Name: name, Level: level.Newest, Seq: seq}
-	c.peers, c.leases = make([]peer, len(c.cluster.Names())), qlock.NewLeases(leaseOf(c.ttl))
+	c.peers, c.leases, c.stamps = make([]peer, len(c.cluster.Names())), qlock.NewLeases(leaseOf(c.ttl)), qlock.NewAllStamps()
 	now := c.shows()
 	for v := range c.peers {
-		c.peers[v] = peer{sent: map[uint64]time.Duration{}, heard: now, stamps: qlock.NewStamps()}
+		c.peers[v] = peer{sent: map[uint64]time.Duration{}, heard: now}
 		c.leases.Since[v] = now
 	}
 	c.asked, c.failed, c.draining, c.idle, c.beat = -1, -1, false, 0, 0
@@ -598,7 +598,7 @@ func (c *client) takeBack() {
 	epoch := c.claims.Claimed(c.asked)
 	for v := range c.peers {
 		c.peers[v].sent = map[uint64]time.Duration{}
-		c.peers[v].forget()
+		c.forgetSaid(v)
 		c.forgetLease(v)
 		c.out[v] = c.out[v][:0]
 		c.tell(v, qlock.ClientSays{Kind: qlock.Drop, Number: c.asked, First: epoch})
@@ -625,16 +625,18 @@ func (c *client) tell(v int, says qlock.ClientSays) {
 	c.out[v] = out
 }
 
-// forget forgets what a voter said of a number.
-func (p *peer) forget() {
-	p.accepts, p.taken, p.stamps, p.base, p.claimed = false, false, qlock.NewStamps(), 0, 0
+// forgetSaid forgets what a voter said of a number.
+func (c *client) forgetSaid(v int) {
+	p := &c.peers[v]
+	c.stamps[v] = qlock.NewStamps()
+	p.accepts, p.taken, p.base, p.claimed = false, false, 0, 0
 	p.brought = brought{}
 }
 
 // forgetAll forgets what voters said of numbers, and to sessions before.
 func (c *client) forgetAll() {
 	for v := range c.peers {
-		c.peers[v].forget()
+		c.forgetSaid(v)
 		c.forgetLease(v)
 	}
 }
@@ -671,9 +673,9 @@ func (c *client) noteStamps(v int, base, reserved uint64) {
 	if reserved > qlock.MaxStamp || base > reserved {
 		return
 	}
-	before := *p
+	accepted, before := p.accepts, c.stamps[v]
 	p.accepts, p.taken, p.base = true, false, greatest(p.base, base)
-	if p.stamps.Hear(base, reserved); p.accepts == before.accepts && p.stamps == before.stamps {
+	if c.stamps[v].Hear(base, reserved); accepted && c.stamps[v] == before {
 		return
 	}
 	for _, l := range c.locks {
@@ -701,11 +703,11 @@ func greatest(a, b uint64) uint64 {
 // owners returns the voters that said that a stamp is this session's.
 func (c *client) owners(stamp uint64) (mask uint64) {
 	for v := range c.peers {
-		if p := &c.peers[v]; p.answers && p.stamps.Have(stamp) {
+		if c.peers[v].answers {
 			mask |= 1 << v
 		}
 	}
-	return mask
+	return mask & c.stamps.Owners(stamp)
 }
 
 // floor returns the highest base that a voter told this session.
@@ -850,7 +852,7 @@ func (c *client) recognise(h wire.Header) bool {
 	case before.identity == "":
 	case before.identity != h.Name:
 		c.refused = c.refused || (c.stage == claiming || c.stage == reserving) && p.accepts
-		p.forget()
+		c.forgetSaid(h.Number)
 		c.spoilAll(1 << h.Number)
 	default:
 		c.restarted(h.Number)
@@ -1075,7 +1077,7 @@ func (c *client) isOverAt(v int) {
 		c.finish()
 		return
 	}
-	p.accepts, p.taken, p.stamps = false, true, qlock.NewStamps()
+	p.accepts, p.taken, c.stamps[v] = false, true, qlock.NewStamps()
 	c.spoilAll(1 << v)
 	switch others := ^c.takers(); {
 	case c.stage == reserving:

@@ -10,7 +10,9 @@ use Rattle.vote_leases.specs.Saved.{lease_words, option_words, taken_words, vote
 use Rattle.vote_leases.specs.declared.lease.VoterLease.{VoterLease}
 use Rattle.vote_leases.specs.declared.vote.Taken.{Taken}
 use Rattle.vote_leases.specs.declared.vote.Vote.{Vote}
-use Rattle.client_blocks.specs.Bytes.{AreLeases, AreVotes, leases_words, votes_words}
+use Rattle.own_stamps.specs.Stamps as stamps
+use Rattle.own_stamps.specs.declared.stamps.OwnStamps.{OwnStamps}
+use Rattle.client_blocks.specs.Bytes.{AreAllStamps, AreLeases, AreVotes, leases_words, stamps_words, votes_words}
 
 -- ---- how long they are
 
@@ -44,6 +46,13 @@ length_leases (l ∷ ls) =
     let both = length-append (lease_words l) (leases_words ls) in
     omega arith
 
+pub length_all_stamps : (ss : List OwnStamps) → length (stamps_words ss) ≡ 3 * length ss
+length_all_stamps [] = refl
+length_all_stamps (s ∷ ss) =
+    let rest = length_all_stamps ss in
+    let both = length-append (stamps.words_of s) (stamps_words ss) in
+    omega arith
+
 length_words : (bytes words : List ℕ) → bytes ≡ bytes_of words → length bytes ≡ 8 * length words
 length_words bytes words is = ap (λ (l : List ℕ). length l) is ∙ length-bytes_of words
 
@@ -58,6 +67,13 @@ pub leases_len : (bytes : List ℕ) (ls : List VoterLease) → AreLeases bytes l
 leases_len bytes ls are =
     let long = length_words bytes (leases_words ls) are.bytes_are in
     let many = length_leases ls in
+    let places = are.places in
+    omega arith
+
+pub all_stamps_len : (bytes : List ℕ) (ss : List OwnStamps) → AreAllStamps bytes ss → length bytes ≡ 1536
+all_stamps_len bytes ss are =
+    let long = length_words bytes (stamps_words ss) are.bytes_are in
+    let many = length_all_stamps ss in
     let places = are.places in
     omega arith
 
@@ -106,12 +122,22 @@ lease_there words ls i less is m =
     let n : 5 * i ≡ length (leases_words (take i ls)) = omega (arith, few, many) in
     ap (λ (ws : List ℕ). take 5 (drop (5 * i) ws)) is ∙ at_place lease_words 5 length_lease ls i (5 * i) n m
 
+pub stamps_there : (words : List ℕ) (ss : List OwnStamps) (i : ℕ) → i < length ss → words ≡ stamps_words ss → (m : Member ss i) → take 3 (drop (3 * i) words) ≡ stamps.words_of m.item
+stamps_there words ss i less is m =
+    let few : length (take i ss) ≡ i = length-take-le i ss (omega (arith, less)) in
+    let many = length_all_stamps (take i ss) in
+    let n : 3 * i ≡ length (stamps_words (take i ss)) = omega (arith, few, many) in
+    ap (λ (ws : List ℕ). take 3 (drop (3 * i) ws)) is ∙ at_place stamps.words_of 3 (λ s. refl) ss i (3 * i) n m
+
 -- the numbers at a place, as code takes them
 pub wide_9 : (words : List ℕ) (i : ℕ) → take ((9 * i + 9) - 9 * i) (drop (9 * i) words) ≡ take 9 (drop (9 * i) words)
 wide_9 words i = ap (λ (n : ℕ). take n (drop (9 * i) words)) (let n : (9 * i + 9) - 9 * i ≡ 9 = omega arith in n)
 
 pub wide_5 : (words : List ℕ) (i : ℕ) → take ((5 * i + 5) - 5 * i) (drop (5 * i) words) ≡ take 5 (drop (5 * i) words)
 wide_5 words i = ap (λ (n : ℕ). take n (drop (5 * i) words)) (let n : (5 * i + 5) - 5 * i ≡ 5 = omega arith in n)
+
+pub wide_3 : (words : List ℕ) (i : ℕ) → take ((3 * i + 3) - 3 * i) (drop (3 * i) words) ≡ take 3 (drop (3 * i) words)
+wide_3 words i = ap (λ (n : ℕ). take n (drop (3 * i) words)) (let n : (3 * i + 3) - 3 * i ≡ 3 = omega arith in n)
 
 -- ---- one member more
 

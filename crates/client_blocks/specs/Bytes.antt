@@ -1,8 +1,10 @@
--- One lock of a session, as C sees it: three blocks of bytes, and the leases of all voters.
+-- One lock of a session, as C sees it: three blocks of bytes, and the leases of all voters. And a session's stamps at all voters.
 use Rattle.std.specs.Prelude.{ℕ, ◌≡◌, List, length}
 use Rattle.std.specs.List.{flat_map}
 use Rattle.numbers.specs.Bounds.{max_voters}
 use Rattle.words.specs.WordBytes.{FitIn64Bits, bytes_of}
+use Rattle.own_stamps.specs.Stamps as stamps
+use Rattle.own_stamps.specs.declared.stamps.OwnStamps.{OwnStamps}
 use Rattle.vote_leases.specs.Saved.{lease_words, vote_words}
 use Rattle.vote_leases.specs.declared.lease.VoterLease.{VoterLease}
 use Rattle.vote_leases.specs.declared.vote.Vote.{Vote}
@@ -37,6 +39,20 @@ pub record AreLeases (bytes : List ℕ) (leases : List VoterLease) : Type 0 wher
 -- the bytes are those of no leases
 abbrev pub AreNoLeases : List ℕ → Type 0
 AreNoLeases bytes = (leases : List VoterLease) → AreLeases bytes leases → ⊥
+
+-- the numbers of these stamps, those at one voter after those at the other
+abbrev pub stamps_words : List OwnStamps → List ℕ
+stamps_words kept = flat_map stamps.words_of kept
+
+-- the bytes are those of these stamps, of each voter: each of their numbers fits in 64 bits
+pub record AreAllStamps (bytes : List ℕ) (kept : List OwnStamps) : Type 0 where
+  pub places : length kept ≡ max_voters
+  pub fit : FitIn64Bits (stamps_words kept)
+  pub bytes_are : bytes ≡ bytes_of (stamps_words kept)
+
+-- the bytes are those of no stamps at all voters
+abbrev pub AreNotAllStamps : List ℕ → Type 0
+AreNotAllStamps bytes = (kept : List OwnStamps) → AreAllStamps bytes kept → ⊥
 
 -- The blocks are those of this lock. If a call has it, the client is inside by the request under which the call has it.
 pub record IsLock (client votes calls : List ℕ) (lock : Lock) : Type 0 where

@@ -1,15 +1,18 @@
-//! The votes of all voters, and the leases of all voters, as bytes.
+//! The votes of all voters, their leases, and a session's stamps at all voters, as bytes.
 ghost use Rattle.std.specs.Prelude.{◌≡◌, [], IfErr, IfOk, IfSome, List, Some, length};
 ghost use Rattle.arrayvec.specs.ArrayVec.{array_vec_len};
 ghost use Rattle.numbers.specs.Bounds.{max_voters};
 ghost use Rattle.vote_leases.specs.declared.lease.VoterLease.{VoterLease};
 ghost use Rattle.vote_leases.specs.declared.vote.Vote.{Vote};
-ghost use Rattle.client_blocks.specs.Bytes.{AreLeases, AreNoLeases, AreNoVotes, AreVotes, leases_words, votes_words};
+ghost use Rattle.own_stamps.specs.declared.stamps.OwnStamps.{OwnStamps};
+ghost use Rattle.client_blocks.specs.Bytes.{AreAllStamps, AreLeases, AreNoLeases, AreNoVotes, AreNotAllStamps, AreVotes, leases_words, stamps_words, votes_words};
 
 use arrayvec::ArrayVec;
 use blocks::Refusal;
 use numbers::MAX_VOTERS;
+use own_stamps::OwnStamps;
 use session_blocks::leases::lease_of;
+use session_blocks::stamps::stamps_of;
 use session_blocks::votes::vote_of;
 use vote_leases::{Vote, VoterLease};
 use words::{read_words, write_words};
@@ -19,6 +22,9 @@ pub const VOTES_BYTES: usize = 4608;
 
 /// How many bytes the leases of all voters have.
 pub const LEASES_BYTES: usize = 2560;
+
+/// How many bytes a session's stamps at all voters have.
+pub const ALL_STAMPS_BYTES: usize = 1536;
 
 /// Returns the votes with these numbers. `None` if they are not those of any.
 fn votes_of(words: &[u64]) -> Option<[Vote; MAX_VOTERS]>
@@ -103,6 +109,38 @@ pub fn load_leases(bytes: &[u8]) -> Result<[VoterLease; MAX_VOTERS], Refusal>
     read_words(bytes, &mut words);
     match leases_of(words.as_slice()) {
         Some(leases) => Ok(leases),
+        None => Err(Refusal::BadState),
+    }
+}
+
+/// Returns the stamps at all voters with these numbers. `None` if they are not those of any.
+fn all_stamps_of(words: &[u64]) -> Option<[OwnStamps; MAX_VOTERS]>
+    requires { length words.now ≡ 192 }
+    ensures text { IfSome result (λ ss. words.now ≡ stamps_words ss) }
+    ensures places { IfSome result (λ ss. length ss ≡ max_voters) }
+    ensures read { (ss : List OwnStamps) → length ss ≡ max_voters → words.now ≡ stamps_words ss → result ≡ Some ss }
+{
+    let mut kept = [OwnStamps::new(); MAX_VOTERS];
+    for place in 0..MAX_VOTERS {
+        kept[place] = stamps_of(&words[3 * place..3 * place + 3])?;
+    }
+    Some(kept)
+}
+
+/// Returns the stamps at all voters that were saved as these bytes. Fails with `BadState` if there are none.
+pub fn load_all_stamps(bytes: &[u8]) -> Result<[OwnStamps; MAX_VOTERS], Refusal>
+    ensures loaded { IfOk result (AreAllStamps bytes.now) }
+    // They are the only ones.
+    ensures only { IfOk result (λ ss. (ts : List OwnStamps) → AreAllStamps bytes.now ts → ts ≡ ss) }
+    ensures refused { IfErr result (λ r. (r ≡ Refusal.BadState) × AreNotAllStamps bytes.now) }
+{
+    if bytes.len() != ALL_STAMPS_BYTES {
+        return Err(Refusal::BadState);
+    }
+    let mut words = ArrayVec::<u64, 192>::new();
+    read_words(bytes, &mut words);
+    match all_stamps_of(words.as_slice()) {
+        Some(kept) => Ok(kept),
         None => Err(Refusal::BadState),
     }
 }

@@ -8,8 +8,8 @@ ghost use Rattle.fail_over.specs.Choices.{avoided_voters, is_avoided, is_quiet, 
 use numbers::MAX_VOTERS;
 use quorum_set::QSet;
 
-/// Returns the voters that pass the test.
-fn voters_where<F: Fn(u8) -> bool>(passes: F) -> QSet
+/// Returns the voters that pass the test, of those below 64.
+pub fn voters_where<F: Fn(u8) -> bool>(passes: F) -> QSet
     requires { F.IsAlwaysCallable passes }
     ensures { (p : ℕ → Bool) → ((v : ℕ) (b : Bool) → v < max_voters → F.post passes v b → b ≡ p v) → result ≡ set_where p }
 {

@@ -6,7 +6,7 @@
 //! states may run at once.
 //!
 //! - `src/session_calls.rt`: what a session keeps of its votes, its stamps and its claims, and the
-//!   calls for a lock, over `session_blocks`.
+//!   calls for a lock, over `session_blocks`; its stamps at all voters over `client_blocks`.
 //! - `src/held_calls.rt`: a session's lock, whole, over `client_blocks`.
 //! - `src/choice_calls.rt`: which quorum a session asks, and when it gives up a request that waits,
 //!   over `fail_over` and `session_blocks`.

@@ -3,10 +3,12 @@ ghost use Rattle.std.specs.Prelude.{◌≡◌, ◌≢◌};
 ghost use Rattle.claims.specs.Claims.{given_up, saw};
 ghost use Rattle.vote_leases.specs.Leases.{ended, given_back, renewed};
 ghost use Rattle.session_blocks.specs.SessionSteps.{CallComes, CallGoes, CallUnlocks, CallsAreMade, CallsEnd, CallsShowEnd, CallsShowNext, CallsShowSpoiled, ClaimBecomes, ClaimIsAccepted, ClaimIsMade, ClaimShows, ClaimsNext, LeaseBecomes, LeaseHears, LeaseIsMade, LockIsHanded, LockMayBeLost, StampsAreMade, StampsAreOwn, StampsHear, TriesAreRefused, VoteAsks, VoteBecomes, VoteIsMade, VoteKeeps, VoteShowsEnd, VoteTakes};
+ghost use Rattle.client_blocks.specs.OwnerSteps.{StampsShowOwners};
 ghost use Rattle.blocks.specs.Numbers.{done};
 ghost use Rattle.blocks.specs.RowSteps.{is_yes};
 
 use blocks::number_of;
+use client_blocks::owners;
 use session_blocks::{leases, own_calls, own_claims, stamps, votes};
 use vote_leases::{Incarnation, Locked};
 
@@ -159,6 +161,15 @@ pub extern "C" fn qlock_stamps_have(stamps: &[u8], stamp: u64, yes: &mut u32) ->
     ensures have { StampsAreOwn stamps.now stamp yes.new result }
 {
     number_of(stamps::have(stamps, stamp, yes))
+}
+
+/// Writes the voters at which a stamp is the session's own, as a mask, by its stamps at 64 voters, one after the other.
+#[unsafe(no_mangle)]
+pub extern "C" fn qlock_stamps_owners(stamps: &[u8], stamp: u64, voters: &mut u64) -> i32
+    ensures refused { result ≢ done → voters.new ≡ voters.old }
+    ensures shows { StampsShowOwners stamps.now stamp voters.new result }
+{
+    number_of(owners::owners(stamps, stamp, voters))
 }
 
 /// Makes what a session keeps of its claims of a number of which nothing was heard, in 40 bytes.

@@ -34,7 +34,7 @@ fn load_stamps(bytes: &[u8]) -> Result<OwnStamps, Refusal>
 }
 
 /// Returns the stamps with these numbers. `None` if they are not those of any.
-fn stamps_of(words: &[u64]) -> Option<OwnStamps>
+pub fn stamps_of(words: &[u64]) -> Option<OwnStamps>
     requires { length words.now ≡ 3 }
     ensures text { IfSome result (λ s. words.now ≡ words_of s) }
     ensures read { (s : OwnStamps) → words.now ≡ words_of s → result ≡ Some s }
