@@ -136,6 +136,16 @@ func TestOnlyOwnStampsAreAsked(t *testing.T) {
 	}
 }
 
+// Which numbers are free is known once a quorum said so: another voter may know better than one alone.
+func TestOneVoterSaysNotWhichNumbersAreFree(t *testing.T) {
+	c := alone(t)
+	for replied, want := range map[uint64]bool{0: false, 0b001: false, 0b100: false, 0b101: true, 0b111: true} {
+		if c.replied = replied; c.isAnswered() != want {
+			t.Errorf("the voters %b replied: %v", replied, !want)
+		}
+	}
+}
+
 // A claim with the reply of one voter is not done.
 func TestOneVoterGivesNoNumber(t *testing.T) {
 	c := alone(t)
