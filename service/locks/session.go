@@ -141,8 +141,9 @@ type session struct {
 }
 
 func newSession(cluster *config.Cluster, name string, own *claims.Numbers) session {
-	s := session{asked: -1, failed: -1, claims: own, short: &atomic.Pointer[wire.Told]{}, unused: time.Now(), drained: make(chan struct{}), leases: qlock.NewLeases(leaseOf(cluster.TTL.Duration)),
-		stamps: qlock.NewAllStamps(), header: wire.Header{Cluster: cluster.ID, Kind: wire.FromClient, Name: name, Level: level.Newest}}
+	s := session{asked: -1, failed: -1, claims: own, short: &atomic.Pointer[wire.Told]{}, unused: time.Now(),
+		drained: make(chan struct{}), leases: qlock.NewLeases(leaseOf(cluster.TTL.Duration)), stamps: qlock.NewAllStamps(),
+		header: wire.Header{Cluster: cluster.ID, Kind: wire.FromClient, Name: name, Level: level.Newest}}
 	s.meet(len(cluster.Names()))
 	return s
 }

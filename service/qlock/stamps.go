@@ -17,13 +17,6 @@ func (s *Stamps) Hear(base, reserved uint64) {
 	mustBeDone(C.qlock_stamps_hear(at(s.state[:]), StampsBytes, C.uint64_t(base), C.uint64_t(reserved)))
 }
 
-// Have returns whether the session may ask the voter under this stamp.
-func (s *Stamps) Have(stamp uint64) bool {
-	var yes C.uint32_t
-	mustBeDone(C.qlock_stamps_have(at(s.state[:]), StampsBytes, C.uint64_t(stamp), &yes))
-	return yes != 0
-}
-
 // AllStamps is what a session keeps of its stamps at its voters, by their places. At a voter that there is not they are as new.
 type AllStamps [MaxVoters]Stamps
 

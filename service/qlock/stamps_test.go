@@ -28,11 +28,7 @@ func TestOwners(t *testing.T) {
 		}
 		stamp, want := uint64(random.Intn(102)), uint64(0)
 		for v := range told {
-			own := told[v][0] < stamp && stamp <= told[v][1]
-			if all[v].Have(stamp) != own {
-				t.Fatalf("turn %d: whether voter %d owns stamp %d is %v, and it told %v", n, v, stamp, !own, told[v])
-			}
-			if own {
+			if told[v][0] < stamp && stamp <= told[v][1] {
 				want |= 1 << v
 			}
 		}

@@ -13,8 +13,8 @@ import (
 // shows it as free, the first one at or behind the first byte of the session's hash, mod 64, under the epoch after the row's. Voters that
 // know the same choose the same. It is the same claim else, by the same proved call, and the reply leaves after the same save.
 //
-// While sessions wait that may have the number, too, a want brings none. Numbers come and go then, and which ones are free differs from voter to voter for a
-// moment: they would choose different ones, and each would be nobody's until it is given back.
+// While sessions wait that may have the number, too, a want brings none. Numbers come and go then, and for moments not the same ones are free
+// at all voters: they would choose different ones, and each would be nobody's until it is given back.
 //
 // A session has one number by that. Asked again, the voter says that again. What nobody uses goes as with any claim: the session takes it
 // back (`drop`), or is silent for a TTL. A session that did not hear what it got says `want 0`: this voter ends that as a session that
