@@ -56,12 +56,12 @@ uint32_t qlock_version(void);
 #define QLOCK_START_BYTES 80 /* the start of a voter */
 #define QLOCK_LEASE_BYTES 40 /* what a session knows of a voter */
 #define QLOCK_VOTE_BYTES 72  /* what a session has of a voter for a lock */
-#define QLOCK_STAMPS_BYTES 24 /* under which stamps a session may ask a voter */
+#define QLOCK_STAMPS_BYTES 32 /* under which stamps a session may ask a voter */
 #define QLOCK_CLAIM_BYTES 40 /* what a session keeps of its claims of a number */
 #define QLOCK_CALLS_BYTES 56 /* the calls of a process for a lock */
 #define QLOCK_VOTES_BYTES 4608  /* a vote of each of 64 voters for a lock, one after the other */
 #define QLOCK_LEASES_BYTES 2560 /* a lease of each of 64 voters, one after the other */
-#define QLOCK_ALL_STAMPS_BYTES 1536 /* a session's stamps at each of 64 voters, one after the other */
+#define QLOCK_ALL_STAMPS_BYTES 2048 /* a session's stamps at each of 64 voters, one after the other */
 
 /* How many bytes the pass has that a client shows to a guard. */
 #define QLOCK_PASS_BYTES 512
@@ -159,7 +159,8 @@ enum {
     QLOCK_GREET = 8         /* greet */
 };
 
-/* What a voter says in a line of control: its kind, the number of a client, and five words. FIRST is an epoch, except of `quiet`. */
+/* What a voter says in a line of control: its kind, the number of a client, or of a voter for `run`, and five words. FIRST is an epoch, except
+   of `quiet` and `run`. */
 enum {
     QLOCK_NUMBER = 1,   /* number NUMBER FIRST SECOND: 0 taken, 1 free, 2 silent */
     QLOCK_CLAIMED = 2,  /* claimed NUMBER FIRST SECOND THIRD: the base, and what is reserved */
@@ -170,7 +171,8 @@ enum {
     QLOCK_UNKNOWN = 7,  /* unknown NUMBER FIRST */
     QLOCK_QUIET = 8,    /* quiet FIRST: for how many milliseconds */
     QLOCK_LEAVING = 9,  /* leaving */
-    QLOCK_GREETED = 10  /* greeted */
+    QLOCK_GREETED = 10, /* greeted */
+    QLOCK_RUN = 11      /* run NUMBER FIRST: the newest run of a voter that is known, which was made again after it lost its state */
 };
 
 /* What a voter says of a lock, in the form of its line. */
@@ -537,6 +539,18 @@ int32_t qlock_row_drop(uint8_t *row, size_t n, uint64_t epoch, uint64_t stamp);
    QLOCK_BAD_STATE  the bytes are no row, or the other ones are none */
 int32_t qlock_row_learn(uint8_t *row, size_t n, const uint8_t *other, size_t len, uint32_t heard_here, uint32_t heard_there);
 
+/* Learns the row that another voter has of the number, after the state of this voter was lost and before it serves again: as qlock_row_learn, but
+   that all stamps which may be used by the other row stay used.
+
+   - If one session has the number in both rows, under one epoch, its stamps here are above both bases.
+   - If the row stays another session's, or nobody's, all stamps here are above what is reserved there.
+
+   Such a voter begins with rows of numbers that nobody had (qlock_row_new), and learns the rows of so many others as the page of its service
+   says. Each of these saves before that a later run of it begins (qlock_stamps_renew).
+
+   QLOCK_BAD_STATE  the bytes are no row, or the other ones are none */
+int32_t qlock_row_relearn(uint8_t *row, size_t n, const uint8_t *other, size_t len, uint32_t heard_here, uint32_t heard_there);
+
 /* Writes 1 to `*yes` if the voter takes a REQUEST of this session, under this epoch and stamp, and 0 if not.
 
    QLOCK_BAD_STATE  the bytes are no row */
@@ -812,17 +826,32 @@ int32_t qlock_vote_until(const uint8_t *vote, size_t n, const uint8_t *lease, si
 
    A voter tells a session the base of its stamps, and up to which stamp it reserved them (qlock_row_shows). A session asks a quorum only
    under a stamp that is its own at each voter of it: `(quorum & ~voters) == 0` by qlock_stamps_owners. Then no stamp is used by two
-   sessions, whatever is lost, late or repeated, and whenever voters crash. Where a voter lost its state, the session makes the stamps anew. */
+   sessions, whatever is lost, late or repeated, and whenever voters crash.
+
+   A voter counts its *runs*: one ends when its state is lost, and a later one begins when it is made again by what others tell it (qlock_row_relearn).
+   Each of these saves first that there is a later run, and says so from then on. A session takes all runs that a message tells
+   (qlock_stamps_renew) before it takes anything else in it. Then no stamp is used by two sessions while voters lose their states, either. */
 
 /* Makes what a session keeps of its stamps at a voter that told nothing.
 
    QLOCK_BAD_STATE  `n` is not QLOCK_STAMPS_BYTES */
 int32_t qlock_stamps_new(uint8_t *stamps, size_t n);
 
-/* Takes what the voter tells, for the session under its epoch: late, in any order, or again.
+/* Takes a run of the voter, of which any voter says that it began. Nothing counts any more that the voter told in an earlier run.
 
    QLOCK_BAD_STATE  the bytes are no stamps */
-int32_t qlock_stamps_hear(uint8_t *stamps, size_t n, uint64_t base, uint64_t reserved);
+int32_t qlock_stamps_renew(uint8_t *stamps, size_t n, uint64_t run);
+
+/* Forgets what the voter told, and not its run: for another number, or another epoch.
+
+   QLOCK_BAD_STATE  the bytes are no stamps */
+int32_t qlock_stamps_forget(uint8_t *stamps, size_t n);
+
+/* Takes what the voter tells in this run, for the session under its epoch: late, in any order, or again. If a later run is known, nothing
+   changes.
+
+   QLOCK_BAD_STATE  the bytes are no stamps */
+int32_t qlock_stamps_hear(uint8_t *stamps, size_t n, uint64_t run, uint64_t base, uint64_t reserved);
 
 /* Writes 1 to `*yes` if the session may ask the voter under this stamp, and 0 if not: the voter told that the session has its number, the
    stamp is above each base that it told, and at most the greatest stamp that it told as reserved.

@@ -501,7 +501,7 @@ func (c *Client) flush() {
 		}
 		header := c.header
 		header.Coterie = c.speaks(voter)
-		header.Split(c.out[voter], func(message []byte) { c.post(voter, message) })
+		header.Split(nil, c.out[voter], func(message []byte) { c.post(voter, message) })
 		c.out[voter] = c.out[voter][:0]
 	}
 	c.sent, c.mayWait = [qlock.MaxVoters]int{}, false

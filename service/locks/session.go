@@ -561,7 +561,7 @@ func (c *Client) rounds(ctx context.Context, say func(), done func() bool) error
 // forgetSaid forgets what a voter said of a number.
 func (s *session) forgetSaid(voter int) {
 	p := &s.peers[voter]
-	s.stamps[voter] = qlock.NewStamps()
+	s.stamps[voter].Forget()
 	p.accepts, p.taken, p.base, p.claimed = false, false, 0, 0
 	p.noted, p.notes = false, 0
 	p.bundles, p.processes = false, 0
@@ -613,7 +613,7 @@ func (c *Client) noteStamps(voter int, base, reserved uint64) {
 	}
 	accepted, before := p.accepts, c.stamps[voter]
 	p.accepts, p.taken, p.base = true, false, greatest(p.base, base)
-	if c.stamps[voter].Hear(base, reserved); accepted && c.stamps[voter] == before {
+	if c.stamps[voter].Hear(p.run, base, reserved); accepted && c.stamps[voter] == before {
 		return
 	}
 	for l := range c.busy {
@@ -833,6 +833,7 @@ func (c *Client) recognise(h wire.Header) bool {
 		return true
 	case p.identity == "" || h.Name != p.identity && h.Run > p.run || h.Name == p.identity && h.Start > p.start:
 		p.voterStart = voterStart{h.Name, h.Run, h.Start}
+		c.noteRun(h.Number, h.Run)
 	default:
 		return false
 	}
@@ -841,13 +842,24 @@ func (c *Client) recognise(h wire.Header) bool {
 	switch {
 	case before.identity == "":
 	case before.identity != h.Name:
-		c.refused = c.refused || c.opening && p.accepts // it may have accepted another claim of the epoch since
 		c.forgetSaid(h.Number)
 		c.spoilAll(1 << h.Number)
 	default:
 		c.restarted(h.Number)
 	}
 	return true
+}
+
+// noteRun notes how often a voter was made again after its state was lost, as some voter says. What it said of stamps before that counts no
+// more: it may not know them.
+func (c *Client) noteRun(voter int, run uint64) {
+	if voter >= len(c.peers) {
+		return
+	}
+	before := c.stamps[voter]
+	if c.stamps[voter].Renew(run); c.stamps[voter] != before {
+		c.refused = c.refused || c.opening && c.peers[voter].accepts // it may have accepted another claim of the epoch since
+	}
 }
 
 // restarted tells a voter that started again which requests are over, and lets it say again that it has those that are inside by its
@@ -965,6 +977,8 @@ func (c *Client) hear(voter int, says qlock.VoterSays) {
 		c.leaves(voter)
 	case qlock.Quiet:
 		c.isQuiet(voter, says.First)
+	case qlock.RunIs:
+		c.noteRun(says.Number, says.First)
 	case qlock.NumberIs:
 		if c.claimed() > 0 {
 			return // a late reply, which says nothing of the claim
@@ -1105,7 +1119,8 @@ func (c *Client) over(voter int) {
 		c.finish()
 		return
 	}
-	p.accepts, p.taken, c.stamps[voter] = false, true, qlock.NewStamps()
+	p.accepts, p.taken = false, true
+	c.stamps[voter].Forget()
 	c.spoilAll(1 << voter)
 	switch others := ^c.takers(); {
 	case c.opening: // it waits for no silent voter, as it may take another number

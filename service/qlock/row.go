@@ -116,6 +116,12 @@ func (r *Row) Learn(other *Row, heardHere, heardThere bool) error {
 	return refusal(C.qlock_row_learn(at(r.state[:]), RowBytes, at(there[:]), RowBytes, truth(heardHere), truth(heardThere)))
 }
 
+// Relearn is Learn for the row of a voter whose state was lost, before it serves again: stamps that may be used by the other row stay used.
+func (r *Row) Relearn(other *Row, heardHere, heardThere bool) error {
+	there := other.state
+	return refusal(C.qlock_row_relearn(at(r.state[:]), RowBytes, at(there[:]), RowBytes, truth(heardHere), truth(heardThere)))
+}
+
 // Takes returns whether the voter takes a REQUEST of this session, under this epoch and stamp.
 func (r *Row) Takes(session Session, epoch, stamp uint64) (bool, error) {
 	var yes C.uint32_t

@@ -70,6 +70,19 @@ func (t *tableRow) learn(other tableRow) {
 	t.reserved = greatest(before.reserved, greatest(other.reserved, t.base))
 }
 
+// relearn takes another voter's row after this voter lost its state: a session that stays goes on above both bases, and any other one above
+// all that is reserved there.
+func (t *tableRow) relearn(other tableRow) {
+	before := *t
+	if t.learn(other); t.isOpen && t.session == before.session && t.epoch == before.epoch {
+		if other.isOpen && other.session == t.session && other.epoch == t.epoch {
+			t.base = greatest(before.base, other.base)
+		} else {
+			t.base = greatest(before.base, other.reserved)
+		}
+	}
+}
+
 func greatest(a, b uint64) uint64 {
 	if a > b {
 		return a
@@ -207,6 +220,10 @@ func (p *pair) step(t *testing.T, random *rand.Rand, session Session, epoch, sta
 		return same("evict", p.row.Evict(), true)
 	}
 	here, there := m.isUsed, other.model.isUsed
+	if random.Intn(2) == 0 {
+		m.relearn(other.model)
+		return same("relearn", p.row.Relearn(other.row, here, there), true)
+	}
 	m.learn(other.model)
 	return same("learn", p.row.Learn(other.row, here, there), true)
 }

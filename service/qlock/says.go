@@ -86,8 +86,8 @@ func (s ClientSays) Append(out []byte) ([]byte, error) {
 // VoterSays is what a voter says in a line of control that has numbers only: its kind, and the numbers that such a line has.
 type VoterSays struct {
 	Kind          VoterKind
-	Number        int    // of the client
-	First         uint64 // the epoch; of quiet: milliseconds
+	Number        int    // of the client; of run: the place of a voter
+	First         uint64 // the epoch; of quiet: milliseconds; of run: how often that voter was made again
 	Second        uint64 // of number: 0 taken, 1 free, 2 silent; of claimed and opened: the base
 	Third         uint64 // of claimed and opened: what is reserved
 	Fourth, Fifth uint64 // of opened: which heartbeat, and how many requests
@@ -108,6 +108,7 @@ const (
 	Quiet    VoterKind = C.QLOCK_QUIET
 	Leaving  VoterKind = C.QLOCK_LEAVING
 	Greeted  VoterKind = C.QLOCK_GREETED
+	RunIs    VoterKind = C.QLOCK_RUN
 )
 
 // ReadVoterSays reads a line of control of a voter, without the dot in front. It returns BadMessage if it is none with numbers only.

@@ -12,9 +12,18 @@ func NewStamps() (s Stamps) {
 	return s
 }
 
-// Hear takes what the voter tells: the base of the session's stamps, and up to which they are reserved.
-func (s *Stamps) Hear(base, reserved uint64) {
-	mustBeDone(C.qlock_stamps_hear(at(s.state[:]), StampsBytes, C.uint64_t(base), C.uint64_t(reserved)))
+// Renew takes how often the voter was made again, after it lost its state, as any voter says. What it told before that counts no more.
+func (s *Stamps) Renew(run uint64) {
+	mustBeDone(C.qlock_stamps_renew(at(s.state[:]), StampsBytes, C.uint64_t(run)))
+}
+
+// Forget forgets what the voter told, and not how often it was made again: for another number, or another epoch.
+func (s *Stamps) Forget() { mustBeDone(C.qlock_stamps_forget(at(s.state[:]), StampsBytes)) }
+
+// Hear takes what the voter tells in this run: the base of the session's stamps, and up to which they are reserved. If it was made again
+// since, nothing changes.
+func (s *Stamps) Hear(run, base, reserved uint64) {
+	mustBeDone(C.qlock_stamps_hear(at(s.state[:]), StampsBytes, C.uint64_t(run), C.uint64_t(base), C.uint64_t(reserved)))
 }
 
 // AllStamps is what a session keeps of its stamps at its voters, by their places. At a voter that there is not they are as new.

@@ -628,7 +628,7 @@ func (c *client) tell(v int, says qlock.ClientSays) {
 // forgetSaid forgets what a voter said of a number.
 func (c *client) forgetSaid(v int) {
 	p := &c.peers[v]
-	c.stamps[v] = qlock.NewStamps()
+	c.stamps[v].Forget()
 	p.accepts, p.taken, p.base, p.claimed = false, false, 0, 0
 	p.brought = brought{}
 }
@@ -675,7 +675,7 @@ func (c *client) noteStamps(v int, base, reserved uint64) {
 	}
 	accepted, before := p.accepts, c.stamps[v]
 	p.accepts, p.taken, p.base = true, false, greatest(p.base, base)
-	if c.stamps[v].Hear(base, reserved); accepted && c.stamps[v] == before {
+	if c.stamps[v].Hear(p.run, base, reserved); accepted && c.stamps[v] == before {
 		return
 	}
 	for _, l := range c.locks {
@@ -845,19 +845,30 @@ func (c *client) recognise(h wire.Header) bool {
 		return true
 	case p.identity == "" || h.Name != p.identity && h.Run > p.run || h.Name == p.identity && h.Start > p.start:
 		p.identity, p.run, p.start = h.Name, h.Run, h.Start
+		c.noteRun(h.Number, h.Run)
 	default:
 		return false
 	}
 	switch {
 	case before.identity == "":
 	case before.identity != h.Name:
-		c.refused = c.refused || (c.stage == claiming || c.stage == reserving) && p.accepts
 		c.forgetSaid(h.Number)
 		c.spoilAll(1 << h.Number)
 	default:
 		c.restarted(h.Number)
 	}
 	return true
+}
+
+// noteRun notes how often a voter was made again after its state was lost, as some voter says.
+func (c *client) noteRun(v int, run uint64) {
+	if v >= len(c.peers) {
+		return
+	}
+	before := c.stamps[v]
+	if c.stamps[v].Renew(run); c.stamps[v] != before {
+		c.refused = c.refused || (c.stage == claiming || c.stage == reserving) && c.peers[v].accepts
+	}
 }
 
 // restarted lets a voter that started again say again that it has the requests that are inside by its vote. Others that have it are given
@@ -950,6 +961,8 @@ func (c *client) hear(v int, says qlock.VoterSays) {
 		c.avoid()
 	case qlock.Quiet:
 		c.isQuiet(v, says.First)
+	case qlock.RunIs:
+		c.noteRun(says.Number, says.First)
 	case qlock.NumberIs:
 		if c.stage == choosing {
 			c.noteNumber(v, says.Number, says.First, int(says.Second))
@@ -1077,7 +1090,8 @@ func (c *client) isOverAt(v int) {
 		c.finish()
 		return
 	}
-	p.accepts, p.taken, c.stamps[v] = false, true, qlock.NewStamps()
+	p.accepts, p.taken = false, true
+	c.stamps[v].Forget()
 	c.spoilAll(1 << v)
 	switch others := ^c.takers(); {
 	case c.stage == reserving:
@@ -1175,7 +1189,7 @@ func (c *client) flush() {
 			continue
 		}
 		box := wire.VoterBox(c.cluster.ID, v, wire.NoUser)
-		c.header.Split(c.out[v], func(message []byte) {
+		c.header.Split(nil, c.out[v], func(message []byte) {
 			if !c.cut {
 				c.broker.send(c.now, box, message)
 			}

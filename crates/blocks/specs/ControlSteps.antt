@@ -64,6 +64,7 @@ words_of_voter (says.Word (voter.Unknown number epoch)) = 7 ∷ number ∷ epoch
 words_of_voter (says.Word (voter.Quiet milliseconds)) = 8 ∷ 0 ∷ milliseconds ∷ 0 ∷ 0 ∷ 0 ∷ 0 ∷ []
 words_of_voter (says.Word voter.Leaving) = 9 ∷ 0 ∷ 0 ∷ 0 ∷ 0 ∷ 0 ∷ 0 ∷ []
 words_of_voter (says.Word voter.Greeted) = 10 ∷ 0 ∷ 0 ∷ 0 ∷ 0 ∷ 0 ∷ 0 ∷ []
+words_of_voter (says.Word (voter.Run v run)) = 11 ∷ v ∷ run ∷ 0 ∷ 0 ∷ 0 ∷ 0 ∷ []
 
 -- what has these words, if anything does
 abbrev pub says_of : ℕ → ℕ → ℕ → ℕ → ℕ → ℕ → ℕ → Option VoterSays
@@ -77,7 +78,8 @@ says_of kind id first second third fourth fifth =
     if kind == 7 then Some (says.Word (voter.Unknown id first)) else
     if kind == 8 then Some (says.Word (voter.Quiet first)) else
     if kind == 9 then Some (says.Word voter.Leaving) else
-    if kind == 10 then Some (says.Word voter.Greeted) else None
+    if kind == 10 then Some (says.Word voter.Greeted) else
+    if kind == 11 then Some (says.Word (voter.Run id first)) else None
 
 -- what a voter says is read
 pub record VoterSaysIsRead (line before after : List ℕ) (result : ℤ) : Type 0 where

@@ -2,6 +2,7 @@
 use Rattle.std.specs.Prelude.{ℕ, ℤ, ◌≡◌, ◌≢◌, ◌≤◌, ◌+◌, ◌*◌, ◌^◌, ◌==◌, Bool, not, List, [], ◌∷◌, length, Result, Ok, Err, if◌then◌else◌}
 use Rattle.numbers.specs.Bounds.{max_limit}
 use Rattle.sessions.specs.Rows.{Row, dropped, is_taken}
+use Rattle.lost_rows.specs.Relearned.{relearned}
 use Rattle.session_rows.specs.Calls.{claim_of, close_of, evict_of, floor_row, learn_of, reserve_of, take_back_of}
 use Rattle.session_rows.specs.Saved.{words_of}
 use Rattle.session_rows.specs.declared.claim.Bounds.{Bounds}
@@ -71,6 +72,12 @@ pub record RowLearns (before other : List ℕ) (heard : Heard) (after : List ℕ
   pub no_row : IsNoRow before → result ≡ refused BadState
   pub no_other : (row : Row) → IsRow before row → IsNoRow other → result ≡ refused BadState
   pub learns : (row there : Row) → IsRow before row → IsRow other there → (result ≡ done) × IsRow after (learn_of row there heard)
+
+-- the row of a voter whose state was lost learns another voter's
+pub record RowRelearns (before other : List ℕ) (heard : Heard) (after : List ℕ) (result : ℤ) : Type 0 where
+  pub no_row : IsNoRow before → result ≡ refused BadState
+  pub no_other : (row : Row) → IsRow before row → IsNoRow other → result ≡ refused BadState
+  pub relearns : (row there : Row) → IsRow before row → IsRow other there → (result ≡ done) × IsRow after (relearned row there heard)
 
 -- whether the voter takes a REQUEST of the session: 1 if it does, and 0 if not
 pub record RowTakes (bytes : List ℕ) (session epoch stamp yes : ℕ) (result : ℤ) : Type 0 where

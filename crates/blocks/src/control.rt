@@ -122,6 +122,7 @@ fn words_of_voter_word(word: VoterWord) -> [u64; VOTER_WORDS]
         VoterWord::Taken { number, epoch } => [6, u64::from(number), epoch, 0, 0, 0, 0],
         VoterWord::Unknown { number, epoch } => [7, u64::from(number), epoch, 0, 0, 0, 0],
         VoterWord::Quiet { milliseconds } => [8, 0, milliseconds, 0, 0, 0, 0],
+        VoterWord::Run { voter, run } => [11, u64::from(voter), run, 0, 0, 0, 0],
         VoterWord::Leaving => [9, 0, 0, 0, 0, 0, 0],
         VoterWord::Greeted => [10, 0, 0, 0, 0, 0, 0],
     }
@@ -171,6 +172,10 @@ pub fn says_of(
         },
         9 => VoterWord::Leaving,
         10 => VoterWord::Greeted,
+        11 => VoterWord::Run {
+            voter: number,
+            run: first,
+        },
         _ => return None,
     };
     Some(VoterSays::Word(word))

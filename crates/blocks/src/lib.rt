@@ -4,7 +4,7 @@
 //! A *block* is a state as bytes, which are the caller's. A call reads it, makes the step of the
 //! state, and writes it in place. A call that is refused writes nothing. No call takes memory.
 //!
-//! - [`rows`]: the row of a client's number. Each call is a step of `session_rows`
+//! - [`rows`]: the row of a client's number. Each call is a step of `session_rows` or of `lost_rows`
 //!   (`specs/RowSteps.antt`). [`rows::row_in`] reads the row of a number in a table of all
 //!   (`specs/Tables.antt`).
 //! - [`clocks`]: the lease clock of a voter. Each call is a step of `lease_clock`
@@ -20,7 +20,7 @@
 //!   (`specs/StartSteps.antt`).
 //! - [`Refusal`]: why a call was refused, and the number that C sees ([`number_of`]).
 //!
-//! Depends on `envelope`, `session_lines`, `line_words`, `session_rows`, `sessions`, `lease_clock`, `token_bucket`, `starts`, `fence`, `requester`, `voter`,
+//! Depends on `envelope`, `session_lines`, `line_words`, `lost_rows`, `session_rows`, `sessions`, `lease_clock`, `token_bucket`, `starts`, `fence`, `requester`, `voter`,
 //! `words` and `numbers`.
 #![tactic(auto)]
 

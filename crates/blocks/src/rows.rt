@@ -5,10 +5,11 @@ ghost use Rattle.sessions.specs.Rows.{Row};
 ghost use Rattle.blocks.specs.Bytes.{IsNoRow, IsRow};
 ghost use Rattle.blocks.specs.Numbers.{returned};
 ghost use Rattle.blocks.specs.Tables.{AreRows, IsReadAs, row_at};
-ghost use Rattle.blocks.specs.RowSteps.{RowClaims, RowCloses, RowDrops, RowEvicts, RowIsMade, RowLearns, RowReserves, RowShows, RowTakes, RowTakesBack};
+ghost use Rattle.blocks.specs.RowSteps.{RowClaims, RowCloses, RowDrops, RowEvicts, RowIsMade, RowLearns, RowRelearns, RowReserves, RowShows, RowTakes, RowTakesBack};
 
 use crate::refusal::Refusal;
 use arrayvec::ArrayVec;
+use lost_rows::relearn;
 use numbers::MAX_LIMIT;
 use session_rows::{Bounds, Claim, Heard, SAVED_WORDS, SessionRow};
 use words::{read_words, write_words};
@@ -170,6 +171,18 @@ pub fn learn(row: &mut [u8], other: &[u8], heard: Heard) -> Result<(), Refusal>
     let mut it = load_row(row)?;
     let there = load_row(other)?;
     it.learn(&there, heard);
+    store_row(&it, row);
+    Ok(())
+}
+
+/// Learns another voter's row of the number, after the state of this voter was lost.
+pub fn relearns(row: &mut [u8], other: &[u8], heard: Heard) -> Result<(), Refusal>
+    ensures relearns { RowRelearns row.old other.now heard row.new (returned result) }
+    ensures refused { OnErr result (row.new ≡ row.old) }
+{
+    let mut it = load_row(row)?;
+    let there = load_row(other)?;
+    relearn(&mut it, &there, heard);
     store_row(&it, row);
     Ok(())
 }

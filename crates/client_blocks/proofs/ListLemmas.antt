@@ -46,7 +46,7 @@ length_leases (l ∷ ls) =
     let both = length-append (lease_words l) (leases_words ls) in
     omega arith
 
-pub length_all_stamps : (ss : List OwnStamps) → length (stamps_words ss) ≡ 3 * length ss
+pub length_all_stamps : (ss : List OwnStamps) → length (stamps_words ss) ≡ 4 * length ss
 length_all_stamps [] = refl
 length_all_stamps (s ∷ ss) =
     let rest = length_all_stamps ss in
@@ -70,7 +70,7 @@ leases_len bytes ls are =
     let places = are.places in
     omega arith
 
-pub all_stamps_len : (bytes : List ℕ) (ss : List OwnStamps) → AreAllStamps bytes ss → length bytes ≡ 1536
+pub all_stamps_len : (bytes : List ℕ) (ss : List OwnStamps) → AreAllStamps bytes ss → length bytes ≡ 2048
 all_stamps_len bytes ss are =
     let long = length_words bytes (stamps_words ss) are.bytes_are in
     let many = length_all_stamps ss in
@@ -122,12 +122,12 @@ lease_there words ls i less is m =
     let n : 5 * i ≡ length (leases_words (take i ls)) = omega (arith, few, many) in
     ap (λ (ws : List ℕ). take 5 (drop (5 * i) ws)) is ∙ at_place lease_words 5 length_lease ls i (5 * i) n m
 
-pub stamps_there : (words : List ℕ) (ss : List OwnStamps) (i : ℕ) → i < length ss → words ≡ stamps_words ss → (m : Member ss i) → take 3 (drop (3 * i) words) ≡ stamps.words_of m.item
+pub stamps_there : (words : List ℕ) (ss : List OwnStamps) (i : ℕ) → i < length ss → words ≡ stamps_words ss → (m : Member ss i) → take 4 (drop (4 * i) words) ≡ stamps.words_of m.item
 stamps_there words ss i less is m =
     let few : length (take i ss) ≡ i = length-take-le i ss (omega (arith, less)) in
     let many = length_all_stamps (take i ss) in
-    let n : 3 * i ≡ length (stamps_words (take i ss)) = omega (arith, few, many) in
-    ap (λ (ws : List ℕ). take 3 (drop (3 * i) ws)) is ∙ at_place stamps.words_of 3 (λ s. refl) ss i (3 * i) n m
+    let n : 4 * i ≡ length (stamps_words (take i ss)) = omega (arith, few, many) in
+    ap (λ (ws : List ℕ). take 4 (drop (4 * i) ws)) is ∙ at_place stamps.words_of 4 (λ s. refl) ss i (4 * i) n m
 
 -- the numbers at a place, as code takes them
 pub wide_9 : (words : List ℕ) (i : ℕ) → take ((9 * i + 9) - 9 * i) (drop (9 * i) words) ≡ take 9 (drop (9 * i) words)
@@ -136,8 +136,8 @@ wide_9 words i = ap (λ (n : ℕ). take n (drop (9 * i) words)) (let n : (9 * i 
 pub wide_5 : (words : List ℕ) (i : ℕ) → take ((5 * i + 5) - 5 * i) (drop (5 * i) words) ≡ take 5 (drop (5 * i) words)
 wide_5 words i = ap (λ (n : ℕ). take n (drop (5 * i) words)) (let n : (5 * i + 5) - 5 * i ≡ 5 = omega arith in n)
 
-pub wide_3 : (words : List ℕ) (i : ℕ) → take ((3 * i + 3) - 3 * i) (drop (3 * i) words) ≡ take 3 (drop (3 * i) words)
-wide_3 words i = ap (λ (n : ℕ). take n (drop (3 * i) words)) (let n : (3 * i + 3) - 3 * i ≡ 3 = omega arith in n)
+pub wide_4 : (words : List ℕ) (i : ℕ) → take ((4 * i + 4) - 4 * i) (drop (4 * i) words) ≡ take 4 (drop (4 * i) words)
+wide_4 words i = ap (λ (n : ℕ). take n (drop (4 * i) words)) (let n : (4 * i + 4) - 4 * i ≡ 4 = omega arith in n)
 
 -- ---- one member more
 

@@ -24,7 +24,7 @@ pub const VOTES_BYTES: usize = 4608;
 pub const LEASES_BYTES: usize = 2560;
 
 /// How many bytes a session's stamps at all voters have.
-pub const ALL_STAMPS_BYTES: usize = 1536;
+pub const ALL_STAMPS_BYTES: usize = 2048;
 
 /// Returns the votes with these numbers. `None` if they are not those of any.
 fn votes_of(words: &[u64]) -> Option<[Vote; MAX_VOTERS]>
@@ -115,14 +115,14 @@ pub fn load_leases(bytes: &[u8]) -> Result<[VoterLease; MAX_VOTERS], Refusal>
 
 /// Returns the stamps at all voters with these numbers. `None` if they are not those of any.
 fn all_stamps_of(words: &[u64]) -> Option<[OwnStamps; MAX_VOTERS]>
-    requires { length words.now ≡ 192 }
+    requires { length words.now ≡ 256 }
     ensures text { IfSome result (λ ss. words.now ≡ stamps_words ss) }
     ensures places { IfSome result (λ ss. length ss ≡ max_voters) }
     ensures read { (ss : List OwnStamps) → length ss ≡ max_voters → words.now ≡ stamps_words ss → result ≡ Some ss }
 {
     let mut kept = [OwnStamps::new(); MAX_VOTERS];
     for place in 0..MAX_VOTERS {
-        kept[place] = stamps_of(&words[3 * place..3 * place + 3])?;
+        kept[place] = stamps_of(&words[4 * place..4 * place + 4])?;
     }
     Some(kept)
 }
@@ -137,7 +137,7 @@ pub fn load_all_stamps(bytes: &[u8]) -> Result<[OwnStamps; MAX_VOTERS], Refusal>
     if bytes.len() != ALL_STAMPS_BYTES {
         return Err(Refusal::BadState);
     }
-    let mut words = ArrayVec::<u64, 192>::new();
+    let mut words = ArrayVec::<u64, 256>::new();
     read_words(bytes, &mut words);
     match all_stamps_of(words.as_slice()) {
         Some(kept) => Ok(kept),

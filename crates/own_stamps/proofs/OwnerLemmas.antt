@@ -1,19 +1,20 @@
 -- at which voters a stamp is a session's own, and that those told it so
-use Rattle.std.proofs.Common.{w64, ◌^◌, ◌<◌, ◌≡◌, ℕ, ◌+◌, Bool, true, false, ◌&&◌, List, [], ◌∷◌, Option, None, Some, refl, replicate, sym, subst, ap, ap₂, ◌∙◌, inl, inr, arith}
-use Rattle.std.specs.Prelude.{bit_and, ◌==◌, slice_set}
+use Rattle.std.proofs.Common.{w64, ◌^◌, ◌<◌, ◌≤◌, ◌≡◌, ℕ, ◌+◌, if◌then◌else◌, Bool, true, false, ◌&&◌, List, [], ◌∷◌, Option, None, Some, refl, replicate, sym, subst, ap, ap₂, ◌∙◌, inl, inr, arith}
+use Rattle.std.specs.Prelude.{bit_and, ◌==◌, nat_lt, slice_set}
 use Rattle.std.specs.Int.{bit_not}
 use Rattle.std.specs.List.{AllByRecursion, list_all, slice_get}
 use Rattle.std.proofs.lemmas.Bool.{cases_eq, false≢true}
+use Rattle.std.proofs.lemmas.Bool.Decides.{nat_tests}
 use Rattle.std.proofs.lemmas.List.{get_or-replicate, get_or-set_other, get_or-set_same, length-replicate, length-set}
 use Rattle.std.proofs.lemmas.Option.{get_or_from_slice_get, slice_get-get_or, slice_get_within}
 use Rattle.numbers.specs.Sets.{Ascends, has, members_of, set_where, within}
 use Rattle.numbers.proofs.SetLemmas.{has-set_where}
 use Rattle.quorum_set.proofs.MaskLemmas.{IsSet-members_of, within-members_of}
-use Rattle.sessions.specs.Rows.{AreOnce, Row}
-use Rattle.sessions.specs.Tables.{Answer, Answers, Asks, Claims, Closes, Crashes, DoMeet, Drops, Event, MayAllCome, MayCome, Reserves, TakesBack, Told, World, all_happen, happens, start}
-use Rattle.sessions.proofs.Tables.{used_once}
-use Rattle.own_stamps.specs.Asking.{IsFromAnswers, KeepsWhatItHeard, MayAllComeByStamps, MayComeByStamps}
-use Rattle.own_stamps.specs.Stamps.{IsOf, is_own, is_own_there, is_owner, may_ask, owners, told, untold}
+use Rattle.sessions.specs.Rows.{IsOneOf, Row}
+use Rattle.sessions.specs.Tables.{no_row}
+use Rattle.lost_rows.specs.Voters.{Answer, Answers, Asks, Claims, Closes, Crashes, Drops, Event, IsMadeAgain, IsTold, Loses, MayAllCome, MayAsk, MayCome, Recoveries, Replies, Reserves, TakesBack, World, happens, start}
+use Rattle.own_stamps.specs.Asking.{IsFromAnswers, IsKnown, KeepsWhatItHeard, MayAllComeByStamps, MayComeByStamps}
+use Rattle.own_stamps.specs.Stamps.{IsOf, all_told, forgotten, is_own, is_own_there, is_owner, may_ask, noted, owners, renewed, told, untold}
 use Rattle.own_stamps.specs.declared.stamps.OwnStamps.{OwnStamps}
 use Rattle.own_stamps.proofs.StampLemmas.{were_told}
 
@@ -34,27 +35,91 @@ may_ask_by_bits kept quorum stamp voters fits few are =
 
 -- ---- who may ask was told
 
-there : (answers : List Answer) (session epoch stamp voter : ℕ) (s : Option OwnStamps)
-    → ((t : OwnStamps) → s ≡ Some t → IsFromAnswers answers session epoch voter t) → is_own_there s stamp ≡ true → Told answers session epoch stamp voter
-there answers session epoch stamp voter None keeps own = absurd (false≢true own)
-there answers session epoch stamp voter (Some s) keeps own =
+-- of a voter that told the session that the stamp is its own: an answer that says so, from the run that is kept
+record IsFound (answers : List Answer) (session epoch stamp : ℕ) (kept : List OwnStamps) (voter : ℕ) : Type 0 where
+  s : OwnStamps
+  there : slice_get kept voter ≡ Some s
+  answer : Answer
+  told : IsTold answers session epoch stamp voter answer
+  run : answer.run ≡ s.run
+  known : IsKnown kept answer
+
+-- what holds of all holds of one
+one_of : {A : Type 0} (P : A → Type 0) (xs : List A) (x : A) → AllByRecursion P xs → IsOneOf x xs → P x
+one_of P [] x all among = absurd among
+one_of P (y ∷ ys) x all among = elim among [
+  | inl e ↦ subst P (sym e) all.0
+  | inr rest ↦ one_of P ys x all.1 rest
+]
+
+found_by : (answers : List Answer) (session epoch stamp : ℕ) (kept : List OwnStamps) (voter : ℕ) (s : Option OwnStamps) → slice_get kept voter ≡ s
+    → ((t : OwnStamps) → s ≡ Some t → IsFromAnswers answers session epoch kept voter t) → is_own_there s stamp ≡ true
+    → IsFound answers session epoch stamp kept voter
+found_by answers session epoch stamp kept voter None there keeps own = absurd (false≢true own)
+found_by answers session epoch stamp kept voter (Some s) there keeps own =
     let from = keeps s refl in
-    were_told answers from.heard session epoch stamp voter from.of (subst (λ (t : OwnStamps). is_own t stamp ≡ true) from.kept own)
+    let gives = were_told answers from.heard session epoch stamp voter s.run from.of (subst (λ (t : OwnStamps). is_own t stamp ≡ true) from.is own) in
+    record {
+      s = s;
+      there = there;
+      answer = gives.0;
+      told = gives.2;
+      run = (one_of (IsOf answers session epoch voter s.run) from.heard gives.0 from.of gives.1).4;
+      known = one_of (IsKnown kept) from.heard gives.0 from.known gives.1;
+    }
+
+found : (answers : List Answer) (session epoch stamp : ℕ) (kept : List OwnStamps) (voter : ℕ) → KeepsWhatItHeard answers session epoch kept
+    → is_owner kept stamp voter ≡ true → IsFound answers session epoch stamp kept voter
+found answers session epoch stamp kept voter keeps own =
+    found_by answers session epoch stamp kept voter (slice_get kept voter) refl (keeps voter) own
 
 both : (a b : Bool) → (a && b) ≡ true → (a ≡ true) × (b ≡ true)
 both true b is = (refl, is)
 both false b is = absurd (false≢true is)
 
-each_told : (answers : List Answer) (session epoch stamp : ℕ) (kept : List OwnStamps) (s : List ℕ) → KeepsWhatItHeard answers session epoch kept
-    → list_all (is_owner kept stamp) s ≡ true → AllByRecursion (Told answers session epoch stamp) s
-each_told answers session epoch stamp kept [] is own = tt
-each_told answers session epoch stamp kept (v ∷ s) is own =
-    let parts = both (is_owner kept stamp v) (list_all (is_owner kept stamp) s) own in
-    (there answers session epoch stamp v (slice_get kept v) (is v) parts.0, each_told answers session epoch stamp kept s is parts.1)
+all_own : (p : ℕ → Bool) (s : List ℕ) → list_all p s ≡ true → (v : ℕ) → IsOneOf v s → p v ≡ true
+all_own p [] own v among = absurd among
+all_own p (u ∷ s) own v among =
+    let parts = both (p u) (list_all p s) own in
+    elim among [
+      | inl e ↦ subst (λ (w : ℕ). p w ≡ true) (sym e) parts.0
+      | inr rest ↦ all_own p s parts.1 v rest
+    ]
+
+-- of a voter at which the stamp is not the session's own no answer is asked for
+no_answer : Answer
+no_answer = record { voter = 0; row = no_row; run = 0; knows = λ u. 0 }
+
+answer_by : (answers : List Answer) (session epoch stamp : ℕ) (kept : List OwnStamps) (keeps : KeepsWhatItHeard answers session epoch kept) (v : ℕ) (b : Bool)
+    → is_owner kept stamp v ≡ b → Answer
+answer_by answers session epoch stamp kept keeps v true own = (found answers session epoch stamp kept v keeps own).answer
+answer_by answers session epoch stamp kept keeps v false own = no_answer
+
+-- the answer that is taken is the one that is found
+abbrev IsThat : List Answer → ℕ → ℕ → ℕ → List OwnStamps → ℕ → Answer → Type 0
+IsThat answers session epoch stamp kept v a = (f : IsFound answers session epoch stamp kept v) × (f.answer ≡ a)
+
+that : (answers : List Answer) (session epoch stamp : ℕ) (kept : List OwnStamps) (keeps : KeepsWhatItHeard answers session epoch kept) (v : ℕ) (b : Bool)
+    (own : is_owner kept stamp v ≡ b) → b ≡ true → IsThat answers session epoch stamp kept v (answer_by answers session epoch stamp kept keeps v b own)
+unfolding answer_by
+that answers session epoch stamp kept keeps v true own is = (found answers session epoch stamp kept v keeps own, refl)
+that answers session epoch stamp kept keeps v false own is = absurd (false≢true is)
 
 pub quorum_told : (answers : List Answer) (kept : List OwnStamps) (session epoch quorum stamp : ℕ) → KeepsWhatItHeard answers session epoch kept
-    → may_ask kept quorum stamp ≡ true → AllByRecursion (Told answers session epoch stamp) (members_of quorum)
-quorum_told answers kept session epoch quorum stamp is may = each_told answers session epoch stamp kept (members_of quorum) is may
+    → may_ask kept quorum stamp ≡ true → MayAsk answers session epoch stamp (members_of quorum)
+quorum_told answers kept session epoch quorum stamp keeps may =
+    let answer : ℕ → Answer = λ v. answer_by answers session epoch stamp kept keeps v (is_owner kept stamp v) refl in
+    let is : (v : ℕ) → IsOneOf v (members_of quorum) → IsThat answers session epoch stamp kept v (answer v) = λ v among. that answers session epoch stamp kept keeps v (is_owner kept stamp v) refl (all_own (is_owner kept stamp) (members_of quorum) may v among) in
+    record {
+      answer = answer;
+      told = λ v among. subst (IsTold answers session epoch stamp v) (is v among).1 (is v among).0.told;
+      newest = λ u v in_u in_v.
+          let one = is u in_u in
+          let other = is v in_v in
+          let few : one.0.answer.knows v ≤ other.0.s.run = one.0.known v other.0.s other.0.there in
+          subst (λ (a : Answer). a.knows v ≤ (answer v).run) one.1
+          (subst (λ (a : Answer). one.0.answer.knows v ≤ a.run) other.1 (subst (λ (n : ℕ). one.0.answer.knows v ≤ n) (sym other.0.run) few));
+    }
 
 -- ---- what is kept is what was heard
 
@@ -71,68 +136,139 @@ got_other xs i j y x off is =
     slice_get-get_or xs j x (omega arith)
     ∙ ap (λ (z : OwnStamps). Some z) (sym (get_or-set_other xs i j y x off) ∙ get_or_from_slice_get (slice_set xs i y) j x x is)
 
-pub keeps_new : (answers : List Answer) (session epoch n : ℕ) → KeepsWhatItHeard answers session epoch (replicate n untold)
+pub keeps_new : (answers : List Answer) (session epoch n : ℕ) → KeepsWhatItHeard answers session epoch (replicate n (untold 0))
 keeps_new answers session epoch n voter s is =
-    let within = slice_get_within (replicate n untold) voter s is in
-    let long = length-replicate n untold in
-    record { heard = []; of = tt; kept = sym (get_or_from_slice_get (replicate n untold) voter s untold is) ∙ get_or-replicate n voter untold untold (omega arith) }
+    let within = slice_get_within (replicate n (untold 0)) voter s is in
+    let long = length-replicate n (untold 0) in
+    let same : s ≡ untold 0 = sym (get_or_from_slice_get (replicate n (untold 0)) voter s (untold 0) is) ∙ get_or-replicate n voter (untold 0) (untold 0) (omega arith) in
+    record { heard = []; of = tt; known = tt; is = same ∙ ap (λ (t : OwnStamps). untold t.run) (sym same) }
 
-pub keeps_one : (answers : List Answer) (kept : List OwnStamps) (session epoch voter : ℕ) (s : OwnStamps) → KeepsWhatItHeard answers session epoch kept
-    → IsFromAnswers answers session epoch voter s → KeepsWhatItHeard answers session epoch (slice_set kept voter s)
-keeps_one answers kept session epoch voter s keeps from v t is = elim (cases_eq v voter) [
+-- no run falls where one member is another one, with a run that is no earlier
+no_earlier : (kept : List OwnStamps) (voter : ℕ) (s t : OwnStamps) → slice_get kept voter ≡ Some s → s.run ≤ t.run → (a : Answer) → IsKnown kept a
+    → IsKnown (slice_set kept voter t) a
+no_earlier kept voter s t there more a known v u is = elim (cases_eq v voter) [
   | inl at ↦
-      let same : t ≡ s = got_same kept voter s t (subst (λ (i : ℕ). slice_get (slice_set kept voter s) i ≡ Some t) at is) in
-      subst (λ (i : ℕ). IsFromAnswers answers session epoch i t) (sym at) (record { heard = from.heard; of = from.of; kept = same ∙ from.kept })
-  | inr off ↦ keeps v t (got_other kept voter v s t off is)
+      let same : u ≡ t = got_same kept voter t u (subst (λ (i : ℕ). slice_get (slice_set kept voter t) i ≡ Some u) at is) in
+      let before = known voter s there in
+      let now : a.knows voter ≤ t.run = omega arith in
+      subst (λ (i : ℕ). a.knows i ≤ u.run) (sym at) (subst (λ (x : OwnStamps). a.knows voter ≤ x.run) (sym same) now)
+  | inr off ↦ known v u (got_other kept voter v t u off is)
 ]
 
+each : {A : Type 0} (P Q : A → Type 0) → ((x : A) → P x → Q x) → (xs : List A) → AllByRecursion P xs → AllByRecursion Q xs
+each P Q f [] h = tt
+each P Q f (x ∷ xs) h = (f x h.0, each P Q f xs h.1)
+
+-- one member is another one, of no earlier run, which stands for what was heard as well
+keeps_one : (answers : List Answer) (kept : List OwnStamps) (session epoch voter : ℕ) (s t : OwnStamps) → KeepsWhatItHeard answers session epoch kept
+    → slice_get kept voter ≡ Some s → s.run ≤ t.run → IsFromAnswers answers session epoch kept voter t → KeepsWhatItHeard answers session epoch (slice_set kept voter t)
+keeps_one answers kept session epoch voter s t keeps there more from v u is =
+    let later : (heard : List Answer) → AllByRecursion (IsKnown kept) heard → AllByRecursion (IsKnown (slice_set kept voter t)) heard =
+    each (IsKnown kept) (IsKnown (slice_set kept voter t)) (no_earlier kept voter s t there more) in
+    elim (cases_eq v voter) [
+      | inl at ↦
+          let same : u ≡ t = got_same kept voter t u (subst (λ (i : ℕ). slice_get (slice_set kept voter t) i ≡ Some u) at is) in
+          subst (λ (i : ℕ). IsFromAnswers answers session epoch (slice_set kept voter t) i u) (sym at)
+          (subst (λ (x : OwnStamps). IsFromAnswers answers session epoch (slice_set kept voter t) voter x) (sym same)
+          (record { heard = from.heard; of = from.of; known = later from.heard from.known; is = from.is }))
+      | inr off ↦
+          let old = keeps v u (got_other kept voter v t u off is) in
+          record { heard = old.heard; of = old.of; known = later old.heard old.known; is = old.is }
+    ]
+
+-- what nothing was told of, whichever the run is
+from_none : (answers : List Answer) (session epoch : ℕ) (kept : List OwnStamps) (voter run : ℕ) → IsFromAnswers answers session epoch kept voter (untold run)
+from_none answers session epoch kept voter run = record { heard = []; of = tt; known = tt; is = refl }
+
+from_renewed : (answers : List Answer) (session epoch : ℕ) (kept : List OwnStamps) (voter : ℕ) (s : OwnStamps) (run : ℕ) (b : Bool)
+    → IsFromAnswers answers session epoch kept voter s → IsFromAnswers answers session epoch kept voter (if b then untold run else s)
+from_renewed answers session epoch kept voter s run true from = from_none answers session epoch kept voter run
+from_renewed answers session epoch kept voter s run false from = from
+
+renewed_run : (s : OwnStamps) (run : ℕ) → (s.run ≤ (renewed s run).run) × (run ≤ (renewed s run).run)
+renewed_run s run =
+    elim (nat_lt s.run run) as (λ b. nat_lt s.run run ≡ b → (s.run ≤ (if b then untold run else s).run) × (run ≤ (if b then untold run else s).run)) [
+      | true ↦ λ e. (let less : s.run < run = grind (arith, nat_tests) in omega arith, omega arith)
+      | false ↦ λ e. (omega arith, grind (arith, nat_tests))
+    ] refl
+
+pub keeps_renewed : (answers : List Answer) (kept : List OwnStamps) (session epoch voter run : ℕ) (s : OwnStamps) → KeepsWhatItHeard answers session epoch kept
+    → slice_get kept voter ≡ Some s → KeepsWhatItHeard answers session epoch (slice_set kept voter (renewed s run))
+keeps_renewed answers kept session epoch voter run s keeps there =
+    keeps_one answers kept session epoch voter s (renewed s run) keeps there (renewed_run s run).0
+    (from_renewed answers session epoch kept voter s run (nat_lt s.run run) (keeps voter s there))
+
+pub keeps_forgotten : (answers : List Answer) (kept : List OwnStamps) (session epoch voter : ℕ) (s : OwnStamps) → KeepsWhatItHeard answers session epoch kept
+    → slice_get kept voter ≡ Some s → KeepsWhatItHeard answers session epoch (slice_set kept voter (forgotten s))
+keeps_forgotten answers kept session epoch voter s keeps there =
+    keeps_one answers kept session epoch voter s (forgotten s) keeps there (omega arith) (from_none answers session epoch kept voter s.run)
+
+-- an answer of the run that is kept is heard
+from_noted : (answers : List Answer) (session epoch : ℕ) (kept : List OwnStamps) (voter : ℕ) (t : OwnStamps) (a : Answer)
+    → IsFromAnswers answers session epoch kept voter t → IsOf answers session epoch voter t.run a → IsKnown kept a
+    → IsFromAnswers answers session epoch kept voter (noted t a.row.base a.row.reserved)
+from_noted answers session epoch kept voter t a from of known =
+    record { heard = a ∷ from.heard; of = (of, from.of); known = (known, from.known); is = ap (λ (x : OwnStamps). noted x a.row.base a.row.reserved) from.is }
+
+-- the run after a later one is known, or the same one
+run_is : (s : OwnStamps) (run : ℕ) → nat_lt run s.run ≡ false → run ≡ (renewed s run).run
+run_is s run late =
+    elim (nat_lt s.run run) as (λ b. nat_lt s.run run ≡ b → run ≡ (if b then untold run else s).run) [
+      | true ↦ λ e. refl
+      | false ↦ λ e. grind (arith, nat_tests)
+    ] refl
+
+heard_by : (answers : List Answer) (kept : List OwnStamps) (session epoch voter : ℕ) (s : OwnStamps) (a : Answer) → KeepsWhatItHeard answers session epoch kept
+    → slice_get kept voter ≡ Some s → IsOf answers session epoch voter a.run a → IsKnown kept a → (b : Bool) → nat_lt a.run s.run ≡ b
+    → KeepsWhatItHeard answers session epoch (slice_set kept voter (if b then s else noted (renewed s a.run) a.row.base a.row.reserved))
+heard_by answers kept session epoch voter s a keeps there of known true late =
+    keeps_one answers kept session epoch voter s s keeps there (omega arith) (keeps voter s there)
+heard_by answers kept session epoch voter s a keeps there of known false late =
+    let t = renewed s a.run in
+    let from = from_renewed answers session epoch kept voter s a.run (nat_lt s.run a.run) (keeps voter s there) in
+    keeps_one answers kept session epoch voter s (noted t a.row.base a.row.reserved) keeps there (renewed_run s a.run).0
+    (from_noted answers session epoch kept voter t a from (of.0, of.1, of.2, of.3, run_is s a.run late) known)
+
 pub keeps_heard : (answers : List Answer) (kept : List OwnStamps) (session epoch voter : ℕ) (s : OwnStamps) (a : Answer) → KeepsWhatItHeard answers session epoch kept
-    → slice_get kept voter ≡ Some s → IsOf answers session epoch voter a
-    → KeepsWhatItHeard answers session epoch (slice_set kept voter (told s a.row.base a.row.reserved))
-keeps_heard answers kept session epoch voter s a keeps there of =
-    let from = keeps voter s there in
-    keeps_one answers kept session epoch voter (told s a.row.base a.row.reserved) keeps
-    (record { heard = a ∷ from.heard; of = (of, from.of); kept = ap (λ (t : OwnStamps). told t a.row.base a.row.reserved) from.kept })
+    → slice_get kept voter ≡ Some s → IsOf answers session epoch voter a.run a → IsKnown kept a
+    → KeepsWhatItHeard answers session epoch (slice_set kept voter (told s a.run a.row.base a.row.reserved))
+keeps_heard answers kept session epoch voter s a keeps there of known =
+    heard_by answers kept session epoch voter s a keeps there of known (nat_lt a.run s.run) refl
 
-pub keeps_anew : (answers : List Answer) (kept : List OwnStamps) (session epoch voter : ℕ) → KeepsWhatItHeard answers session epoch kept
-    → KeepsWhatItHeard answers session epoch (slice_set kept voter untold)
-keeps_anew answers kept session epoch voter keeps = keeps_one answers kept session epoch voter untold keeps (record { heard = []; of = tt; kept = refl })
-
-of_more : (answers heard : List Answer) (session epoch voter : ℕ) (a : Answer) → AllByRecursion (IsOf answers session epoch voter) heard
-    → AllByRecursion (IsOf (a ∷ answers) session epoch voter) heard
-of_more answers [] session epoch voter a of = tt
-of_more answers (b ∷ heard) session epoch voter a of = ((inr of.0.0, of.0.1, of.0.2, of.0.3), of_more answers heard session epoch voter a of.1)
+of_more : (answers heard : List Answer) (session epoch voter run : ℕ) (a : Answer) → AllByRecursion (IsOf answers session epoch voter run) heard
+    → AllByRecursion (IsOf (a ∷ answers) session epoch voter run) heard
+of_more answers [] session epoch voter run a of = tt
+of_more answers (b ∷ heard) session epoch voter run a of = ((inr of.0.0, of.0.1, of.0.2, of.0.3, of.0.4), of_more answers heard session epoch voter run a of.1)
 
 pub keeps_later : (answers : List Answer) (kept : List OwnStamps) (session epoch : ℕ) (a : Answer) → KeepsWhatItHeard answers session epoch kept
     → KeepsWhatItHeard (a ∷ answers) session epoch kept
 keeps_later answers kept session epoch a keeps voter s is =
     let from = keeps voter s is in
-    record { heard = from.heard; of = of_more answers from.heard session epoch voter a from.of; kept = from.kept }
+    record { heard = from.heard; of = of_more answers from.heard session epoch voter s.run a from.of; known = from.known; is = from.is }
 
 -- ---- no stamp is used twice
 
-may_come : (quorums : List (List ℕ)) (w : World) (e : Event) → MayComeByStamps quorums w e → MayCome quorums w e
-may_come quorums w (Claims v session epoch) by = tt
-may_come quorums w (Reserves v session epoch stamp) by = tt
-may_come quorums w (Closes v session epoch) by = tt
-may_come quorums w (TakesBack v session epoch) by = tt
-may_come quorums w (Drops v epoch stamp) by = tt
-may_come quorums w (Answers v) by = tt
-may_come quorums w (Crashes v) by = tt
-may_come quorums w (Asks session epoch stamp voters) by = (
+may_come : (quorums : List (List ℕ)) (recoveries : Recoveries) (w : World) (e : Event) → MayComeByStamps quorums recoveries w e → MayCome quorums recoveries w e
+may_come quorums recoveries w (Claims v session epoch) by = tt
+may_come quorums recoveries w (Reserves v session epoch stamp) by = tt
+may_come quorums recoveries w (Closes v session epoch) by = tt
+may_come quorums recoveries w (TakesBack v session epoch) by = tt
+may_come quorums recoveries w (Drops v epoch stamp) by = tt
+may_come quorums recoveries w (Answers v) by = tt
+may_come quorums recoveries w (Crashes v) by = tt
+may_come quorums recoveries w (Loses v) by = tt
+may_come quorums recoveries w (Replies v to run) by = tt
+may_come quorums recoveries w (IsMadeAgain v run row replies) by = by
+may_come quorums recoveries w (Asks session epoch stamp voters) by = (
   by.among,
-  subst (AllByRecursion (Told w.answers session epoch stamp)) (sym by.members)
-      (quorum_told w.answers by.kept session epoch by.quorum stamp by.keeps by.may),
+  subst (MayAsk w.answers session epoch stamp) (sym by.members) (quorum_told w.answers by.kept session epoch by.quorum stamp by.keeps by.may),
 )
 
-all_may_come : (quorums : List (List ℕ)) (w : World) (es : List Event) → MayAllComeByStamps quorums w es → MayAllCome quorums w es
-all_may_come quorums w [] by = tt
-all_may_come quorums w (e ∷ es) by = (may_come quorums w e by.0, all_may_come quorums (happens w e) es by.1)
+all_may_come : (quorums : List (List ℕ)) (recoveries : Recoveries) (w : World) (es : List Event) → MayAllComeByStamps quorums recoveries w es
+    → MayAllCome quorums recoveries w es
+all_may_come quorums recoveries w [] by = tt
+all_may_come quorums recoveries w (e ∷ es) by = (may_come quorums recoveries w e by.0, all_may_come quorums recoveries (happens w e) es by.1)
 
-pub come_from_start : (rows : List Row) (quorums : List (List ℕ)) (events : List Event) → MayAllComeByStamps quorums (start rows) events
-    → MayAllCome quorums (start rows) events
-come_from_start rows quorums events by = all_may_come quorums (start rows) events by
-
-pub asked_once : (rows : List Row) (quorums : List (List ℕ)) (events : List Event) → DoMeet quorums → MayAllComeByStamps quorums (start rows) events
-    → AreOnce (all_happen (start rows) events).uses
-asked_once rows quorums events meet by = used_once rows quorums events meet (come_from_start rows quorums events by)
+pub come_from_start : (rows : ℕ → Row) (quorums : List (List ℕ)) (recoveries : Recoveries) (events : List Event) → MayAllComeByStamps quorums recoveries (start rows) events
+    → MayAllCome quorums recoveries (start rows) events
+come_from_start rows quorums recoveries events by = all_may_come quorums recoveries (start rows) events by

@@ -1,18 +1,30 @@
 -- What a session keeps of what a voter told it of its stamps.
-use Rattle.std.specs.Prelude.{ℕ, ◌≡◌, ◌<◌, max, nat_le, nat_lt, Bool, true, false, ◌&&◌, List, [], ◌∷◌, Option, None, Some}
+use Rattle.std.specs.Prelude.{ℕ, ◌≡◌, ◌<◌, max, nat_le, nat_lt, Bool, true, false, ◌&&◌, List, [], ◌∷◌, Option, None, Some, if◌then◌else◌}
 use Rattle.std.specs.List.{list_all, slice_get}
 use Rattle.numbers.specs.Sets.{members_of, set_where}
 use Rattle.sessions.specs.Rows.{IsOneOf}
-use Rattle.sessions.specs.Tables.{Answer}
+use Rattle.lost_rows.specs.Voters.{Answer}
 use Rattle.own_stamps.specs.declared.stamps.OwnStamps.{OwnStamps}
 
--- nothing was told
-abbrev pub untold : OwnStamps
-untold = record { is_told = false; base = 0; reserved = 0 }
+-- of a voter that has this run, and told nothing in it
+abbrev pub untold : ℕ → OwnStamps
+untold run = record { run = run; is_told = false; base = 0; reserved = 0 }
 
--- the voter tells the base of the session's stamps, and up to which they are reserved
-abbrev pub told : OwnStamps → ℕ → ℕ → OwnStamps
-told s base reserved = record { is_told = true; base = max s.base base; reserved = max s.reserved reserved }
+-- somebody says that the voter has this run: of an earlier one nothing counts
+abbrev pub renewed : OwnStamps → ℕ → OwnStamps
+renewed s run = if nat_lt s.run run then untold run else s
+
+-- what the voter told is forgotten, and not its run
+abbrev pub forgotten : OwnStamps → OwnStamps
+forgotten s = untold s.run
+
+-- in the run that is known the voter tells the base of the session's stamps, and up to which they are reserved
+abbrev pub noted : OwnStamps → ℕ → ℕ → OwnStamps
+noted s base reserved = record { run = s.run; is_told = true; base = max s.base base; reserved = max s.reserved reserved }
+
+-- the voter tells so in this run
+abbrev pub told : OwnStamps → ℕ → ℕ → ℕ → OwnStamps
+told s run base reserved = if nat_lt run s.run then s else noted (renewed s run) base reserved
 
 -- the session may ask under this stamp
 abbrev pub is_own : OwnStamps → ℕ → Bool
@@ -39,15 +51,15 @@ may_ask kept quorum stamp = list_all (is_owner kept stamp) (members_of quorum)
 
 -- ---- answers
 
--- what is kept of these answers, the newest first
-abbrev pub all_told : List Answer → OwnStamps
-all_told [] = untold
-all_told (a ∷ answers) = told (all_told answers) a.row.base a.row.reserved
+-- what is kept of these answers of one run, the newest first
+abbrev pub all_told : ℕ → List Answer → OwnStamps
+all_told run [] = untold run
+all_told run (a ∷ answers) = noted (all_told run answers) a.row.base a.row.reserved
 
--- an answer of these, of this voter, for the session under its epoch
-abbrev pub IsOf : List Answer → ℕ → ℕ → ℕ → Answer → Type 0
-IsOf answers session epoch voter a =
-    IsOneOf a answers × (a.voter ≡ voter) × (a.row.session ≡ Some session) × (a.row.epoch ≡ epoch)
+-- an answer of these, of this voter in this run, for the session under its epoch
+abbrev pub IsOf : List Answer → ℕ → ℕ → ℕ → ℕ → Answer → Type 0
+IsOf answers session epoch voter run a =
+    IsOneOf a answers × (a.voter ≡ voter) × (a.row.session ≡ Some session) × (a.row.epoch ≡ epoch) × (a.run ≡ run)
 
 -- the base of an answer is below a stamp
 abbrev pub AreBelow : ℕ → Answer → Type 0
@@ -60,4 +72,4 @@ bool_word true = 1
 
 -- the numbers of what is kept
 abbrev pub words_of : OwnStamps → List ℕ
-words_of s = bool_word s.is_told ∷ s.base ∷ s.reserved ∷ []
+words_of s = s.run ∷ bool_word s.is_told ∷ s.base ∷ s.reserved ∷ []

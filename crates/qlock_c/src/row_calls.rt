@@ -1,7 +1,7 @@
 //! The calls of the row of a client number.
 ghost use Rattle.std.specs.Prelude.{◌≡◌, ◌≢◌};
 ghost use Rattle.blocks.specs.Numbers.{done};
-ghost use Rattle.blocks.specs.RowSteps.{RowClaims, RowCloses, RowDrops, RowEvicts, RowIsMade, RowLearns, RowReserves, RowShows, RowTakes, RowTakesBack, is_yes, named};
+ghost use Rattle.blocks.specs.RowSteps.{RowClaims, RowCloses, RowDrops, RowEvicts, RowIsMade, RowLearns, RowRelearns, RowReserves, RowShows, RowTakes, RowTakesBack, is_yes, named};
 
 use blocks::{number_of, rows};
 use session_rows::{Bounds, Claim, Heard, joined};
@@ -99,6 +99,16 @@ pub extern "C" fn qlock_row_drop(row: &mut [u8], epoch: u64, stamp: u64) -> i32
     number_of(rows::drop_to(row, epoch, stamp))
 }
 
+/// Returns whose messages were heard.
+fn heard_of(here: u32, there: u32) -> Heard
+    ensures { result ≡ record { here = is_yes here; there = is_yes there } }
+{
+    Heard {
+        here: here != 0,
+        there: there != 0,
+    }
+}
+
 /// Learns another voter's row of the number.
 #[unsafe(no_mangle)]
 pub extern "C" fn qlock_row_learn(
@@ -110,11 +120,21 @@ pub extern "C" fn qlock_row_learn(
     ensures refused { result ≢ done → row.new ≡ row.old }
     ensures learns { RowLearns row.old other.now (record { here = is_yes heard_here; there = is_yes heard_there }) row.new result }
 {
-    let heard = Heard {
-        here: heard_here != 0,
-        there: heard_there != 0,
-    };
-    number_of(rows::learn(row, other, heard))
+    number_of(rows::learn(row, other, heard_of(heard_here, heard_there)))
+}
+
+/// Learns another voter's row of the number, after the state of this voter was lost.
+#[unsafe(no_mangle)]
+pub extern "C" fn qlock_row_relearn(
+    row: &mut [u8],
+    other: &[u8],
+    heard_here: u32,
+    heard_there: u32,
+) -> i32
+    ensures refused { result ≢ done → row.new ≡ row.old }
+    ensures relearns { RowRelearns row.old other.now (record { here = is_yes heard_here; there = is_yes heard_there }) row.new result }
+{
+    number_of(rows::relearns(row, other, heard_of(heard_here, heard_there)))
 }
 
 /// Writes 1 if the voter takes a REQUEST of the session, under this epoch and stamp, and 0 if not.

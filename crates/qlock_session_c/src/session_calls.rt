@@ -2,7 +2,7 @@
 ghost use Rattle.std.specs.Prelude.{◌≡◌, ◌≢◌};
 ghost use Rattle.claims.specs.Claims.{given_up, saw};
 ghost use Rattle.vote_leases.specs.Leases.{ended, given_back, renewed};
-ghost use Rattle.session_blocks.specs.SessionSteps.{CallComes, CallGoes, CallUnlocks, CallsAreMade, CallsEnd, CallsShowEnd, CallsShowNext, CallsShowSpoiled, ClaimBecomes, ClaimIsAccepted, ClaimIsMade, ClaimShows, ClaimsNext, LeaseBecomes, LeaseHears, LeaseIsMade, LockIsHanded, LockMayBeLost, StampsAreMade, StampsAreOwn, StampsHear, TriesAreRefused, VoteAsks, VoteBecomes, VoteIsMade, VoteKeeps, VoteShowsEnd, VoteTakes};
+ghost use Rattle.session_blocks.specs.SessionSteps.{CallComes, CallGoes, CallUnlocks, CallsAreMade, CallsEnd, CallsShowEnd, CallsShowNext, CallsShowSpoiled, ClaimBecomes, ClaimIsAccepted, ClaimIsMade, ClaimShows, ClaimsNext, LeaseBecomes, LeaseHears, LeaseIsMade, LockIsHanded, LockMayBeLost, StampsAreForgotten, StampsAreMade, StampsAreOwn, StampsAreRenewed, StampsHear, TriesAreRefused, VoteAsks, VoteBecomes, VoteIsMade, VoteKeeps, VoteShowsEnd, VoteTakes};
 ghost use Rattle.client_blocks.specs.OwnerSteps.{StampsShowOwners};
 ghost use Rattle.blocks.specs.Numbers.{done};
 ghost use Rattle.blocks.specs.RowSteps.{is_yes};
@@ -136,7 +136,7 @@ pub extern "C" fn qlock_vote_until(vote: &[u8], lease: &[u8], span: u64, end: &m
     number_of(votes::until(vote, lease, span, end))
 }
 
-/// Makes what a session keeps of its stamps at a voter that told nothing, in 24 bytes.
+/// Makes what a session keeps of its stamps at a voter that told nothing, in 32 bytes.
 #[unsafe(no_mangle)]
 pub extern "C" fn qlock_stamps_new(stamps: &mut [u8]) -> i32
     ensures refused { result ≢ done → stamps.new ≡ stamps.old }
@@ -145,13 +145,31 @@ pub extern "C" fn qlock_stamps_new(stamps: &mut [u8]) -> i32
     number_of(stamps::new(stamps))
 }
 
-/// Takes what the voter tells: the base of the session's stamps, and up to which they are reserved.
+/// Takes a run of the voter, of which any voter says that it began.
 #[unsafe(no_mangle)]
-pub extern "C" fn qlock_stamps_hear(stamps: &mut [u8], base: u64, reserved: u64) -> i32
+pub extern "C" fn qlock_stamps_renew(stamps: &mut [u8], run: u64) -> i32
     ensures refused { result ≢ done → stamps.new ≡ stamps.old }
-    ensures hear { StampsHear base reserved stamps.old stamps.new result }
+    ensures renewed { StampsAreRenewed run stamps.old stamps.new result }
 {
-    number_of(stamps::hears(stamps, base, reserved))
+    number_of(stamps::renew(stamps, run))
+}
+
+/// Forgets what the voter told, and not its run.
+#[unsafe(no_mangle)]
+pub extern "C" fn qlock_stamps_forget(stamps: &mut [u8]) -> i32
+    ensures refused { result ≢ done → stamps.new ≡ stamps.old }
+    ensures forgotten { StampsAreForgotten stamps.old stamps.new result }
+{
+    number_of(stamps::forget(stamps))
+}
+
+/// Takes what the voter tells in this run: the base of the session's stamps, and up to which they are reserved.
+#[unsafe(no_mangle)]
+pub extern "C" fn qlock_stamps_hear(stamps: &mut [u8], run: u64, base: u64, reserved: u64) -> i32
+    ensures refused { result ≢ done → stamps.new ≡ stamps.old }
+    ensures hear { StampsHear run base reserved stamps.old stamps.new result }
+{
+    number_of(stamps::hears(stamps, run, base, reserved))
 }
 
 /// Writes 1 if the session may ask the voter under this stamp, and 0 if not.

@@ -33,8 +33,8 @@ length-lease bytes l is = length-words bytes (lease_words l) 5 is.bytes_are (ap 
 pub length-vote : (bytes : List ℕ) (v : Vote) → IsVote bytes v → length bytes ≡ 72
 length-vote bytes v is = length-words bytes (vote_words v) 9 is.bytes_are (ap (λ n. suc (suc (suc n))) (length-taken v.taken))
 
-pub length-stamps : (bytes : List ℕ) (s : OwnStamps) → AreStamps bytes s → length bytes ≡ 24
-length-stamps bytes s is = length-words bytes (words_of s) 3 is.bytes_are refl
+pub length-stamps : (bytes : List ℕ) (s : OwnStamps) → AreStamps bytes s → length bytes ≡ 32
+length-stamps bytes s is = length-words bytes (words_of s) 4 is.bytes_are refl
 
 length-epoch : (o : Option ℕ) (accepted base : ℕ) → length (claims.epoch_words o ++ accepted ∷ base ∷ []) ≡ 4
 length-epoch None accepted base = refl

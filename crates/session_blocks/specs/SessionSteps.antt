@@ -13,7 +13,7 @@ use Rattle.callers.specs.declared.calls.Phase.{Phase}
 use Rattle.callers.specs.declared.calls.Phase.TheVariants.{Idle, Asking, Inside}
 use Rattle.callers.specs.declared.fault.CallFault.{CallFault}
 use Rattle.callers.specs.declared.fault.CallFault.TheVariants.{Closed, Held, TooMany}
-use Rattle.own_stamps.specs.Stamps.{is_own, told, untold}
+use Rattle.own_stamps.specs.Stamps.{forgotten, is_own, renewed, told, untold}
 use Rattle.own_stamps.specs.declared.stamps.OwnStamps.{OwnStamps}
 use Rattle.vote_leases.specs.Leases.{asked, begun_lease, begun_vote, heard, is_same, is_taken, kept, taken, until}
 use Rattle.vote_leases.specs.declared.incarnation.Incarnation.{Incarnation}
@@ -32,7 +32,7 @@ abbrev pub vote_bytes : ℕ
 vote_bytes = 72
 
 abbrev pub stamps_bytes : ℕ
-stamps_bytes = 24
+stamps_bytes = 32
 
 abbrev pub claim_bytes : ℕ
 claim_bytes = 40
@@ -108,12 +108,22 @@ pub record VoteShowsEnd (span : ℕ) (lease vote : List ℕ) (end : ℕ) (result
 -- the stamps are made at a voter that told nothing
 pub record StampsAreMade (before after : List ℕ) (result : ℤ) : Type 0 where
   pub bad_state : length before ≢ stamps_bytes → result ≡ refused BadState
-  pub made : length before ≡ stamps_bytes → (result ≡ done) × AreStamps after untold
+  pub made : length before ≡ stamps_bytes → (result ≡ done) × AreStamps after (untold 0)
 
--- the voter tells this
-pub record StampsHear (base reserved : ℕ) (before after : List ℕ) (result : ℤ) : Type 0 where
+-- some voter says that the voter has this run
+pub record StampsAreRenewed (run : ℕ) (before after : List ℕ) (result : ℤ) : Type 0 where
   pub no_stamps : AreNoStamps before → result ≡ refused BadState
-  pub hear : (s : OwnStamps) → AreStamps before s → (result ≡ done) × AreStamps after (told s base reserved)
+  pub renews : (s : OwnStamps) → AreStamps before s → (result ≡ done) × AreStamps after (renewed s run)
+
+-- what the voter told is forgotten
+pub record StampsAreForgotten (before after : List ℕ) (result : ℤ) : Type 0 where
+  pub no_stamps : AreNoStamps before → result ≡ refused BadState
+  pub forgets : (s : OwnStamps) → AreStamps before s → (result ≡ done) × AreStamps after (forgotten s)
+
+-- the voter tells this in a run
+pub record StampsHear (run base reserved : ℕ) (before after : List ℕ) (result : ℤ) : Type 0 where
+  pub no_stamps : AreNoStamps before → result ≡ refused BadState
+  pub hear : (s : OwnStamps) → AreStamps before s → (result ≡ done) × AreStamps after (told s run base reserved)
 
 -- whether the session may ask under this stamp: 1 if it may, and 0 if not
 pub record StampsAreOwn (bytes : List ℕ) (stamp yes : ℕ) (result : ℤ) : Type 0 where

@@ -1,9 +1,9 @@
 //! What a session keeps of its stamps at a voter as bytes, and what its calls do.
 ghost use Rattle.std.specs.Prelude.{◌≡◌, IfErr, IfOk, IfSome, OnErr, Some, length};
-ghost use Rattle.own_stamps.specs.Stamps.{is_own, told, words_of};
+ghost use Rattle.own_stamps.specs.Stamps.{forgotten, is_own, renewed, told, words_of};
 ghost use Rattle.own_stamps.specs.declared.stamps.OwnStamps.{OwnStamps};
 ghost use Rattle.session_blocks.specs.Bytes.{AreNoStamps, AreStamps};
-ghost use Rattle.session_blocks.specs.SessionSteps.{StampsAreMade, StampsAreOwn, StampsHear};
+ghost use Rattle.session_blocks.specs.SessionSteps.{StampsAreForgotten, StampsAreMade, StampsAreOwn, StampsAreRenewed, StampsHear};
 ghost use Rattle.blocks.specs.Numbers.{returned};
 
 use arrayvec::ArrayVec;
@@ -12,14 +12,14 @@ use own_stamps::{OwnStamps, SAVED_WORDS};
 use words::{read_words, write_words};
 
 /// How many bytes the stamps have.
-pub const STAMPS_BYTES: usize = 24;
+pub const STAMPS_BYTES: usize = 32;
 
 /// Returns the stamps that were saved as these bytes. Fails with `BadState` if there are none.
 fn load_stamps(bytes: &[u8]) -> Result<OwnStamps, Refusal>
     ensures loaded { IfOk result (AreStamps bytes.now) }
     // They are the only ones.
     ensures only { IfOk result (λ s. (d : OwnStamps) → AreStamps bytes.now d → d ≡ s) }
-    ensures len { IfOk result (λ _. length bytes.now ≡ 24) }
+    ensures len { IfOk result (λ _. length bytes.now ≡ 32) }
     ensures refused { IfErr result (λ r. (r ≡ Refusal.BadState) × AreNoStamps bytes.now) }
 {
     if bytes.len() != STAMPS_BYTES {
@@ -35,7 +35,7 @@ fn load_stamps(bytes: &[u8]) -> Result<OwnStamps, Refusal>
 
 /// Returns the stamps with these numbers. `None` if they are not those of any.
 pub fn stamps_of(words: &[u64]) -> Option<OwnStamps>
-    requires { length words.now ≡ 3 }
+    requires { length words.now ≡ 4 }
     ensures text { IfSome result (λ s. words.now ≡ words_of s) }
     ensures read { (s : OwnStamps) → words.now ≡ words_of s → result ≡ Some s }
 {
@@ -46,7 +46,7 @@ pub fn stamps_of(words: &[u64]) -> Option<OwnStamps>
 
 /// Writes the bytes of stamps.
 fn store_stamps(stamps: &OwnStamps, bytes: &mut [u8])
-    requires { length bytes.old ≡ 24 }
+    requires { length bytes.old ≡ 32 }
     ensures { AreStamps bytes.new stamps.now }
 {
     write_words(&stamps.save(), bytes);
@@ -64,13 +64,35 @@ pub fn new(stamps: &mut [u8]) -> Result<(), Refusal>
     Ok(())
 }
 
-/// Takes what the voter tells: the base of the session's stamps, and up to which they are reserved.
-pub fn hears(stamps: &mut [u8], base: u64, reserved: u64) -> Result<(), Refusal>
-    ensures hears { StampsHear base reserved stamps.old stamps.new (returned result) }
+/// Takes a run of the voter, of which any voter says that it began.
+pub fn renew(stamps: &mut [u8], run: u64) -> Result<(), Refusal>
+    ensures renewed { StampsAreRenewed run stamps.old stamps.new (returned result) }
     ensures refused { OnErr result (stamps.new ≡ stamps.old) }
 {
     let mut it = load_stamps(stamps)?;
-    it.hears(base, reserved);
+    it.renew(run);
+    store_stamps(&it, stamps);
+    Ok(())
+}
+
+/// Forgets what the voter told, and not its run.
+pub fn forget(stamps: &mut [u8]) -> Result<(), Refusal>
+    ensures forgotten { StampsAreForgotten stamps.old stamps.new (returned result) }
+    ensures refused { OnErr result (stamps.new ≡ stamps.old) }
+{
+    let mut it = load_stamps(stamps)?;
+    it.forget();
+    store_stamps(&it, stamps);
+    Ok(())
+}
+
+/// Takes what the voter tells in this run: the base of the session's stamps, and up to which they are reserved.
+pub fn hears(stamps: &mut [u8], run: u64, base: u64, reserved: u64) -> Result<(), Refusal>
+    ensures hears { StampsHear run base reserved stamps.old stamps.new (returned result) }
+    ensures refused { OnErr result (stamps.new ≡ stamps.old) }
+{
+    let mut it = load_stamps(stamps)?;
+    it.hears(run, base, reserved);
     store_stamps(&it, stamps);
     Ok(())
 }

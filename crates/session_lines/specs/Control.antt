@@ -72,6 +72,7 @@ voter_word (voter.Refused number epoch) = codes "refused"
 voter_word (voter.Closed number epoch) = codes "closed"
 voter_word (voter.Taken number epoch) = codes "taken"
 voter_word (voter.Unknown number epoch) = codes "unknown"
+voter_word (voter.Run voter run) = codes "run"
 voter_word (voter.Quiet milliseconds) = codes "quiet"
 voter_word voter.Leaving = codes "leaving"
 voter_word voter.Greeted = codes "greeted"
@@ -83,11 +84,12 @@ voter_numbers (voter.Refused number epoch) = number ∷ epoch ∷ []
 voter_numbers (voter.Closed number epoch) = number ∷ epoch ∷ []
 voter_numbers (voter.Taken number epoch) = number ∷ epoch ∷ []
 voter_numbers (voter.Unknown number epoch) = number ∷ epoch ∷ []
+voter_numbers (voter.Run voter run) = voter ∷ run ∷ []
 voter_numbers (voter.Quiet milliseconds) = milliseconds ∷ []
 voter_numbers voter.Leaving = []
 voter_numbers voter.Greeted = []
 
--- the number of a client is at most 63, a state at most 2, and all numbers are below 2^64
+-- the number of a client or of a voter is at most 63, a state at most 2, and all numbers are below 2^64
 abbrev pub VoterWordFits : VoterWord → Type 0
 VoterWordFits (voter.Number number epoch state) = (number ≤ 63) × (epoch < 2 ^ 64) × (state ≤ 2)
 VoterWordFits (voter.Claimed number epoch base reserved) = (number ≤ 63) × (epoch < 2 ^ 64) × (base < 2 ^ 64) × (reserved < 2 ^ 64)
@@ -95,6 +97,7 @@ VoterWordFits (voter.Refused number epoch) = (number ≤ 63) × (epoch < 2 ^ 64)
 VoterWordFits (voter.Closed number epoch) = (number ≤ 63) × (epoch < 2 ^ 64)
 VoterWordFits (voter.Taken number epoch) = (number ≤ 63) × (epoch < 2 ^ 64)
 VoterWordFits (voter.Unknown number epoch) = (number ≤ 63) × (epoch < 2 ^ 64)
+VoterWordFits (voter.Run voter run) = (voter ≤ 63) × (run < 2 ^ 64)
 VoterWordFits (voter.Quiet milliseconds) = milliseconds < 2 ^ 64
 VoterWordFits voter.Leaving = Unit {0}
 VoterWordFits voter.Greeted = Unit {0}
@@ -197,6 +200,7 @@ voter_by word ns =
     if bytes_eq word (codes "closed") then Some (voter.Closed (get_or ns 0 0) (get_or ns 1 0)) else
     if bytes_eq word (codes "taken") then Some (voter.Taken (get_or ns 0 0) (get_or ns 1 0)) else
     if bytes_eq word (codes "unknown") then Some (voter.Unknown (get_or ns 0 0) (get_or ns 1 0)) else
+    if bytes_eq word (codes "run") then Some (voter.Run (get_or ns 0 0) (get_or ns 1 0)) else
     if bytes_eq word (codes "quiet") then Some (voter.Quiet (get_or ns 0 0)) else
     if bytes_eq word (codes "leaving") then Some voter.Leaving else
     if bytes_eq word (codes "greeted") then Some voter.Greeted else None
@@ -209,6 +213,7 @@ voter_by-line (voter.Refused number epoch) = refl
 voter_by-line (voter.Closed number epoch) = refl
 voter_by-line (voter.Taken number epoch) = refl
 voter_by-line (voter.Unknown number epoch) = refl
+voter_by-line (voter.Run voter run) = refl
 voter_by-line (voter.Quiet milliseconds) = refl
 voter_by-line voter.Leaving = refl
 voter_by-line voter.Greeted = refl
@@ -220,6 +225,7 @@ voter_words (voter.Refused number epoch) = search rules
 voter_words (voter.Closed number epoch) = search rules
 voter_words (voter.Taken number epoch) = search rules
 voter_words (voter.Unknown number epoch) = search rules
+voter_words (voter.Run voter run) = search rules
 voter_words (voter.Quiet milliseconds) = search rules
 voter_words voter.Leaving = search rules
 voter_words voter.Greeted = search rules
@@ -231,6 +237,7 @@ voter_numbers_fit (voter.Refused number epoch) h = (omega (arith, h.0), (h.1, tt
 voter_numbers_fit (voter.Closed number epoch) h = (omega (arith, h.0), (h.1, tt))
 voter_numbers_fit (voter.Taken number epoch) h = (omega (arith, h.0), (h.1, tt))
 voter_numbers_fit (voter.Unknown number epoch) h = (omega (arith, h.0), (h.1, tt))
+voter_numbers_fit (voter.Run voter run) h = (omega (arith, h.0), (h.1, tt))
 voter_numbers_fit (voter.Quiet milliseconds) h = (h, tt)
 voter_numbers_fit voter.Leaving h = tt
 voter_numbers_fit voter.Greeted h = tt
@@ -242,6 +249,7 @@ voter_numbers_few (voter.Refused number epoch) = omega arith
 voter_numbers_few (voter.Closed number epoch) = omega arith
 voter_numbers_few (voter.Taken number epoch) = omega arith
 voter_numbers_few (voter.Unknown number epoch) = omega arith
+voter_numbers_few (voter.Run voter run) = omega arith
 voter_numbers_few (voter.Quiet milliseconds) = omega arith
 voter_numbers_few voter.Leaving = omega arith
 voter_numbers_few voter.Greeted = omega arith

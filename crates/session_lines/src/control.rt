@@ -94,6 +94,13 @@ pub enum VoterWord {
         /// The epoch.
         epoch: u64,
     },
+    /// `run VOTER RUN`: a voter lost its state, and was made again; it counts its runs from 0.
+    Run {
+        /// The voter, at most 63.
+        voter: u8,
+        /// The newest run of it that is known.
+        run: u64,
+    },
     /// `quiet MS`: the voter takes no new request for so many milliseconds.
     Quiet {
         /// How many.
@@ -160,6 +167,7 @@ impl VoterWord {
             | VoterWord::Closed { number, .. }
             | VoterWord::Taken { number, .. }
             | VoterWord::Unknown { number, .. } => number <= 63,
+            VoterWord::Run { voter, .. } => voter <= 63,
             VoterWord::Quiet { .. } | VoterWord::Leaving | VoterWord::Greeted => true,
         }
     }

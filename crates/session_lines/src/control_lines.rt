@@ -75,6 +75,7 @@ fn voter_word(word: VoterWord) -> &'static [u8]
         VoterWord::Taken { .. } => b"taken",
         VoterWord::Unknown { .. } => b"unknown",
         VoterWord::Quiet { .. } => b"quiet",
+        VoterWord::Run { .. } => b"run",
         VoterWord::Leaving => b"leaving",
         VoterWord::Greeted => b"greeted",
     }
@@ -115,6 +116,10 @@ fn push_voter_numbers(text: &mut Room, word: VoterWord)
             push_number(text, epoch);
         }
         VoterWord::Quiet { milliseconds } => push_number(text, milliseconds),
+        VoterWord::Run { voter, run } => {
+            push_number(text, u64::from(voter));
+            push_number(text, run);
+        }
         VoterWord::Leaving | VoterWord::Greeted => {}
     }
 }

@@ -37,7 +37,7 @@ fn with_time(word: &[u8], milliseconds: u64) -> Option<VoterWord>
     }
 }
 
-/// Returns what has a number and an epoch: `refused`, `closed`, `taken` or `unknown`.
+/// Returns what has a number and an epoch: `refused`, `closed`, `taken` or `unknown`. Or a voter and its run: `run`.
 fn with_epoch(word: &[u8], number: u64, epoch: u64) -> Option<VoterWord>
     ensures written { IfSome result (λ w. IsLineOf voter_form w word.now (number ∷ epoch ∷ [])) }
     ensures read { (w : VoterWord) → IsLineOf voter_form w word.now (number ∷ epoch ∷ []) → result ≡ Some w }
@@ -51,6 +51,10 @@ fn with_epoch(word: &[u8], number: u64, epoch: u64) -> Option<VoterWord>
         b"closed" => Some(VoterWord::Closed { number, epoch }),
         b"taken" => Some(VoterWord::Taken { number, epoch }),
         b"unknown" => Some(VoterWord::Unknown { number, epoch }),
+        b"run" => Some(VoterWord::Run {
+            voter: number,
+            run: epoch,
+        }),
         _ => None,
     }
 }

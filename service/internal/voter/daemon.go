@@ -437,11 +437,16 @@ func (d *Daemon) tell(name, text string, words ...interface{}) {
 
 // say puts a control line that has numbers only with those that leave after the save.
 func (d *Daemon) say(name string, says qlock.VoterSays) {
-	out, err := says.Append(d.out[name])
+	d.put(name, mustAppend(says, d.out[name]))
+}
+
+// mustAppend appends a control line that has numbers only.
+func mustAppend(says qlock.VoterSays, out []byte) []byte {
+	out, err := says.Append(out)
 	if err != nil {
 		panic(fmt.Sprintf("%+v has no line: %v", says, err))
 	}
-	d.put(name, out)
+	return out
 }
 
 // sayOf puts a control line with the name of a lock with those that leave after the save. A session without a name was not heard in

@@ -156,8 +156,8 @@ func (d *Daemon) learnFloor(shard int, floor Floor, now time.Time) {
 		}
 		return
 	}
-	for number, epoch := range floor.Epochs {
-		if epoch > 0 && s.learn(number, floor.row(number), now) {
+	for number := range s.rows {
+		if row := floor.row(number); (row.Epoch > 0 || d.isLost()) && d.learnRow(s, number, row, now) {
 			d.recount(s, number)
 		}
 	}

@@ -232,11 +232,11 @@ func (d *Daemon) save(now time.Time) error {
 
 // deliver sends what may leave.
 func (d *Daemon) deliver() {
-	header := d.header()
+	header, runs := d.header(), d.runs()
 	d.outBytes = 0
 	d.deliverLetters()
 	for _, s := range d.sealed {
-		d.deliverTo(header, s.session, s.lines, s.lapses)
+		d.deliverTo(header, s.session, runs, s.lines, s.lapses)
 	}
 	d.sealed = d.sealed[:0]
 	d.order = d.order[:0]
@@ -249,7 +249,7 @@ func (d *Daemon) deliver() {
 		if s := d.shardOfSession(session); s != nil {
 			lapses = s.lapses(session)
 		}
-		d.deliverTo(header, session, d.out[session], lapses)
+		d.deliverTo(header, session, runs, d.out[session], lapses)
 		delete(d.out, session)
 	}
 	d.deliverBundles()
@@ -279,10 +279,10 @@ type sealed struct {
 
 // deliverTo sends lines to a session, with this count of its lapses. What goes to a session of a process that takes bundles waits for the
 // others of this turn.
-func (d *Daemon) deliverTo(header wire.Header, session string, lines []byte, lapses uint64) {
+func (d *Daemon) deliverTo(header wire.Header, session string, runs, lines []byte, lapses uint64) {
 	header.Coterie, header.Lapses = d.speaks(session), lapses
 	box, to := wire.SessionBox(header.Cluster, session, header.Number), d.processOf(session)
-	header.Split(lines, func(message []byte) {
+	header.Split(runs, lines, func(message []byte) {
 		if to == "" {
 			d.post(box, message)
 			return

@@ -57,20 +57,25 @@ func InitLost(ctx context.Context, own *config.Voter, cluster *config.Cluster, c
 }
 
 // MakeAgain makes the state of a voter in place of one that was lost, of what other voters replied that were asked what they
-// know. Whatever a quorum with this voter keeps, one of those that replied keeps, if the others are no quorum with it. Else it
-// returns ErrFewer.
+// know: of a quorum of each plan, or of all others. One of those that replied keeps whatever a quorum with this voter keeps, and knows how often it
+// was made again. Else it returns ErrFewer.
 func MakeAgain(around Surroundings, own *config.Voter, cluster *config.Cluster, replies []operator.Reply) (Meta, error) {
 	known, heard, err := Merge(replies)
 	place := cluster.Number(own.Voter)
 	switch {
 	case err != nil:
 		return Meta{}, err
-	case cluster.HasAny(^heard):
+	case cluster.HasAny(^heard), !cluster.HasQuorums(heard) && heard != others(cluster, place):
 		return Meta{}, fmt.Errorf("%w: %s did not", ErrFewer, silent(replies))
 	case known.Peers[place].Identity == "":
 		return Meta{}, ErrNew
 	}
 	return create(around, own, cluster, known, known.Peers[place].Run+1)
+}
+
+// others returns the voters of a cluster without one of them.
+func others(cluster *config.Cluster, place int) uint64 {
+	return (uint64(1)<<len(cluster.Names()) - 1) &^ (1 << place)
 }
 
 // AskKnown asks voters for all that they know. One that did not tell all of it did not reply.

@@ -162,6 +162,8 @@ func (d *Daemon) obey(words []string, by string, now time.Time) interface{} {
 	switch {
 	case len(words) == 1 && words[0] == "status":
 		return d.status(now)
+	case len(words) > 0 && words[0] == "knows" && d.isLost():
+		return Refused{"the voter lost its state, and waits for what other voters know"}
 	case len(words) == 1 && words[0] == "knows":
 		return d.knows(0)
 	case len(words) == 2 && words[0] == "knows":

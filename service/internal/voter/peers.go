@@ -32,7 +32,8 @@ import (
 //     with just these saves, it is quiet for a TTL. A vote stays quiet while one waits for it who said then that he is inside.
 //  4. Before half of what is left below the ceiling is used, it asks for the next one.
 //
-// A new voter, which never served, needs more answers: the silent ones and it may contain no quorum.
+// A new voter, which never served, needs more answers: the silent ones and it may contain no quorum. One that was made again after it lost
+// its state needs those of a quorum, or of all others.
 // One that is refused notes so in its file, and never starts with it again. One that hears that a
 // later process of this voter was accepted ends. start.go has what a voter does for itself.
 //
@@ -163,8 +164,12 @@ func (p Peer) isClean(identity string, saves uint64) bool {
 	return err == nil && wrong == nil && known.IsClean(who, saves)
 }
 
-// meet judges another voter that starts, or asks for a ceiling, and answers.
+// meet judges another voter that starts, or asks for a ceiling, and answers. A voter that lost its state replies to no start before it
+// serves: it can't say what the other one forgot.
 func (d *Daemon) meet(h wire.Header, w word) {
+	if w.Word == "start" && d.isLost() {
+		return
+	}
 	known := d.peers[h.Number]
 	if !d.join.done && known.Identity != h.Name {
 		known = d.loaded[h.Number] // what it heard since may be of another cluster with the same name

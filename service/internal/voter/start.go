@@ -79,7 +79,8 @@ func (d *Daemon) begins(now time.Time) {
 	if shown.Asked > 0 {
 		return
 	}
-	j.start.Begins(qlock.Answers{Others: d.others(), HaveSilentQuorum: d.inUse.haveAny(^shown.Answered),
+	isShort := d.inUse.haveAny(^shown.Answered) || d.isLost() && !d.inUse.haveQuorums(shown.Answered)
+	j.start.Begins(qlock.Answers{Others: d.others(), HaveSilentQuorum: isShort,
 		HaveQuorums: d.inUse.haveQuorums(shown.Answered | d.bit()), IsPatient: now.Sub(j.began) > mostPatience})
 	if j.start.Shows().Asked > 0 {
 		d.asksOthers(now)
@@ -311,7 +312,7 @@ func (d *Daemon) learnAll(known Knows, now time.Time) {
 			continue
 		}
 		s, number := d.shardOfKey(key)
-		if row.Lapses = 0; s.learn(number, row, now) {
+		if row.Lapses = 0; d.learnRow(s, number, row, now) {
 			d.recount(s, number)
 		}
 	}
@@ -330,6 +331,14 @@ func (d *Daemon) learnAll(known Knows, now time.Time) {
 	}
 }
 
+// learnRow takes what another voter knows of a number of a shard, and returns whether it has another session now.
+func (d *Daemon) learnRow(s *shard, number int, row Session, now time.Time) bool {
+	if d.isLost() {
+		return s.relearn(number, row, now)
+	}
+	return s.learn(number, row, now)
+}
+
 // refusalOf returns why a voter is refused of which another one knows this.
 func refusalOf(known, self Peer) error {
 	if _, err := known.meets(self); err != nil {
@@ -341,6 +350,22 @@ func refusalOf(known, self Peer) error {
 // self returns what this voter is to the others.
 func (d *Daemon) self() Peer {
 	return Peer{Identity: d.store.meta.Identity, Run: d.store.meta.Run, Start: d.store.own.Start, Process: d.join.process}
+}
+
+// isLost returns whether this voter lost its state, and did not serve since it was made again. Then it knows only what others told it.
+func (d *Daemon) isLost() bool {
+	return d.store.meta.Run > 0 && d.store.own.Ceiling == 0 && !d.join.done
+}
+
+// runs returns the lines by which a session hears which of the other voters were made again, and how often: what they told it before that
+// counts no more. What is said there was saved before.
+func (d *Daemon) runs() (lines []byte) {
+	for place := 0; place < places; place++ {
+		if p := d.peers[place]; p.Run > 0 && place != d.store.meta.Voter {
+			lines = mustAppend(qlock.VoterSays{Kind: qlock.RunIs, Number: place, First: p.Run}, lines)
+		}
+	}
+	return lines
 }
 
 // header begins a message of this voter.

@@ -401,12 +401,22 @@ func (t *table) speaker(number int, name string, epoch uint64) qlock.Speaker {
 // session that is in use gives way to no claim alone. What was reserved here is below the stamps of
 // another session.
 func (t *table) learn(number int, there Session, now time.Time) bool {
+	return t.learnBy((*qlock.Row).Learn, number, there, now)
+}
+
+// relearn is learn for a voter that lost its state: stamps that another voter's row lets a session use stay used.
+func (t *table) relearn(number int, there Session, now time.Time) bool {
+	return t.learnBy((*qlock.Row).Relearn, number, there, now)
+}
+
+// learnBy takes what another voter knows of a number by a call of its row.
+func (t *table) learnBy(call func(row, other *qlock.Row, here, there bool) error, number int, there Session, now time.Time) bool {
 	before := t.rows[number]
 	other, err := there.proved()
 	if err != nil {
 		return false // it is no row
 	}
-	row, err := before.after(func(r *qlock.Row) error { return r.Learn(other, before.Used, there.Used) })
+	row, err := before.after(func(r *qlock.Row) error { return call(r, other, before.Used, there.Used) })
 	if err != nil {
 		return false
 	}

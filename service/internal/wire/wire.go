@@ -166,9 +166,9 @@ func Read(message []byte) (h Header, lines []byte, err error) {
 // there is none, and if the first one can't be right.
 func Next(lines []byte) (lock, line, rest []byte, found bool) { return qlock.CutLine(lines) }
 
-// Split hands lines to a function as messages with this header, none of them much longer than MostBytes. A line that is longer
-// by itself has a message of its own.
-func (h Header) Split(lines []byte, send func(message []byte)) {
+// Split hands lines to a function as messages with this header, none of them much longer than MostBytes. Each begins with the first lines. A
+// line that is longer by itself has a message of its own.
+func (h Header) Split(first, lines []byte, send func(message []byte)) {
 	for len(lines) > 0 {
 		end := len(lines)
 		if end > MostBytes {
@@ -180,7 +180,8 @@ func (h Header) Split(lines []byte, send func(message []byte)) {
 		if end == 0 {
 			end = len(lines)
 		}
-		send(append(h.Append(make([]byte, 0, qlock.LineRoom+end)), lines[:end]...))
+		message := append(h.Append(make([]byte, 0, qlock.LineRoom+len(first)+end)), first...)
+		send(append(message, lines[:end]...))
 		lines = lines[end:]
 	}
 }

@@ -106,7 +106,7 @@ func FuzzSplit(f *testing.F) {
 		all := bytes.Repeat(lines, int(times))
 		var got []byte
 		messages := 0
-		h.Split(all, func(message []byte) {
+		h.Split(nil, all, func(message []byte) {
 			again, part, err := Read(message)
 			if err != nil || again != h || len(part) == 0 {
 				t.Fatalf("%+v, %v", again, err)

@@ -74,7 +74,7 @@ func TestSplit(t *testing.T) {
 	line := "orders " + strings.Repeat("x", 99) + "\n"
 	lines := bytes.Repeat([]byte(line), 2*MostBytes/len(line))
 	h, count, total := Header{Cluster: "a", Coterie: "b", Kind: FromOperator, Name: "n"}, 0, 0
-	h.Split(lines, func(message []byte) {
+	h.Split(nil, lines, func(message []byte) {
 		_, rest, err := Read(message)
 		if err != nil || len(message) > MostBytes+qlock.LineRoom || !bytes.HasSuffix(rest, []byte(line)) || len(rest)%len(line) != 0 {
 			t.Error(len(message), err)
@@ -90,7 +90,7 @@ func TestSplit(t *testing.T) {
 func TestSplitOfLongLines(t *testing.T) {
 	short, long := "orders x\n", "orders "+strings.Repeat("x", 2*MostBytes)+"\n"
 	var got []string
-	(Header{Cluster: "a", Coterie: "b", Kind: FromOperator, Name: "n"}).Split([]byte(short+long+short+long[:2*MostBytes]), func(message []byte) {
+	(Header{Cluster: "a", Coterie: "b", Kind: FromOperator, Name: "n"}).Split(nil, []byte(short+long+short+long[:2*MostBytes]), func(message []byte) {
 		_, rest, err := Read(message)
 		if err != nil {
 			t.Error(err)

@@ -1,0 +1,9 @@
+pub mod Example
+pub mod Families
+pub mod Learning
+pub mod LiftLemmas
+pub mod Losses
+pub mod Once
+pub mod SameWorlds
+pub mod SpentLemmas
+pub mod Steps

@@ -1,0 +1,5 @@
+pub mod Example
+pub mod Relearned
+pub mod SameEvents
+pub mod Spent
+pub mod Voters
