@@ -19,7 +19,7 @@ use Rattle.requester.specs.RequesterContract.{Accepts, AllInRange, AllRepeat, Al
 use Rattle.requester.specs.Steps as client
 use Rattle.requester.specs.Words.{is_member, members, holds_under, last_of}
 use Rattle.world.specs.Ranges.{AreInRange, IsInRange, IsWithin}
-use Rattle.world.specs.Visible.{DoMeet, IsAmong}
+use Rattle.world.specs.Visible.{AreQuorums, IsAmong}
 use Rattle.world.specs.Rules.{ClientLaws}
 use Rattle.world.proofs.Claims.{Bounds, Names, AskOk, MessageOk, ClientOk, IsClient, VoterOk, WorldOk, IsAfter, IsAfter-later, IsAfter-self, IsLive-before, VoterOk-later}
 use Rattle.world.proofs.Claims.{MessageOk-later, put, put-each, put-same}
@@ -85,16 +85,16 @@ has_below n (x ∷ xs) v all is = elim (eqb x v) as (λ b. eqb x v ≡ b → (b 
   | false ↦ λ _ rest. has_below n xs v all.1 rest
 ] refl is
 
-pub member_below : (b : Bounds) → DoMeet b.voters b.quorums → (x : ClientState) → (members x ≡ []) ⊎ IsAmong b.quorums (members x) → (v : ℕ) → is_member x v ≡ true → v < b.voters
-member_below b meet x quorum v is = elim quorum [
+pub member_below : (b : Bounds) → AreQuorums b.voters b.quorums → (x : ClientState) → (members x ≡ []) ⊎ IsAmong b.quorums (members x) → (v : ℕ) → is_member x v ≡ true → v < b.voters
+member_below b are x quorum v is = elim quorum [
   | inl none ↦ absurd (false≢true (ap (λ (q : List ℕ). has q v) (sym none) ∙ is))
-  | inr j ↦ has_below b.voters (members x) v (recursion_from_All (λ i. i < b.voters) (members x) (subst (λ (q : List ℕ). All (λ i. i < b.voters) q) (sym j.2) (meet.in_range j.0 [] j.1))) is
+  | inr j ↦ has_below b.voters (members x) v (recursion_from_All (λ i. i < b.voters) (members x) (subst (λ (q : List ℕ). All (λ i. i < b.voters) q) (sym j.2) (are.in_range j.0 [] j.1))) is
 ]
 
-reached_below : (b : Bounds) → DoMeet b.voters b.quorums → (x y : ClientState) (Y : ℕ → VoterState) (c : ℕ) (cause : client.Cause) → CameTrue b x Y c cause
+reached_below : (b : Bounds) → AreQuorums b.voters b.quorums → (x y : ClientState) (Y : ℕ → VoterState) (c : ℕ) (cause : client.Cause) → CameTrue b x Y c cause
     → (members y ≡ []) ⊎ IsAmong b.quorums (members y) → (v : ℕ) → IsReached cause y v → v < b.voters
-reached_below b meet x y Y c cause came quorum v reached = elim reached [
-  | inl member ↦ member_below b meet y quorum v member
+reached_below b are x y Y c cause came quorum v reached = elim reached [
+  | inl member ↦ member_below b are y quorum v member
   | inr locked ↦ (came v locked.0 locked.1.0 locked.1.1).0
 ]
 
@@ -125,19 +125,19 @@ asks_range : (b : Bounds) (c : ℕ) (y : ClientState) (Y : ℕ → VoterState) �
 asks_range b c y Y within [] h = tt
 asks_range b c y Y within (m ∷ ms) h = ((subst (λ n. n < b.clients) (sym h.0.client) within, h.0.voter, h.0.number), asks_range b c y Y within ms h.1)
 
-all_sent : (b : Bounds) → DoMeet b.voters b.quorums → (X : ℕ → ClientState) (Y : ℕ → VoterState) → ((v : ℕ) → VoterOk b X (Y v)) → (c : ℕ) (x y : ClientState) (cause : client.Cause) → x.id ≡ c
+all_sent : (b : Bounds) → AreQuorums b.voters b.quorums → (X : ℕ → ClientState) (Y : ℕ → VoterState) → ((v : ℕ) → VoterOk b X (Y v)) → (c : ℕ) (x y : ClientState) (cause : client.Cause) → x.id ≡ c
     → ((v g : ℕ) → holds_under x v g ≡ true → Names (Y v).held c x.stamp g) → y.limit ≡ b.limit → IsLater x y
     → (members y ≡ []) ⊎ IsAmong b.quorums (members y) → CameTrue b x Y c cause
     → (out : List ToVoter) → AllSay x cause y out → AllInRange cause y out → AllByRecursion (SentByClient b c y Y) out
-all_sent b meet X Y voters c x y cause id held limit later quorum came [] say range = tt
-all_sent b meet X Y voters c x y cause id held limit later quorum came (m ∷ ms) say range = (
+all_sent b are X Y voters c x y cause id held limit later quorum came [] say range = tt
+all_sent b are X Y voters c x y cause id held limit later quorum came (m ∷ ms) say range = (
   record {
     client = say.0.0 ∙ id;
-    voter = reached_below b meet x y Y c cause came quorum m.voter range.0.0;
+    voter = reached_below b are x y Y c cause came quorum m.voter range.0.0;
     number = number_within b x y X Y cause c voters held limit m.voter m.body say.0.1 range.0.2;
     ok = says_ok b x y X Y c cause voters held came later m.voter m.body say.0.1;
   },
-  all_sent b meet X Y voters c x y cause id held limit later quorum came ms say.1 range.1,
+  all_sent b are X Y voters c x y cause id held limit later quorum came ms say.1 range.1,
 )
 
 -- ---- a client takes a step
@@ -145,10 +145,10 @@ all_sent b meet X Y voters c x y cause id held limit later quorum came (m ∷ ms
 comes_in_range : (b : Bounds) (x : ClientState) (Y : ℕ → VoterState) (c : ℕ) (cause : client.Cause) → x.limit ≡ b.limit → CameTrue b x Y c cause → ComesInRange x.limit cause
 comes_in_range b x Y c cause limit came = λ v s g locked. let within = (came v s g locked).1 in let most = within.1 in (within.0, omega arith)
 
-pub client_moves : ClientLaws → (b : Bounds) → DoMeet b.voters b.quorums → (X : ℕ → ClientState) (Y : ℕ → VoterState) (sent : List Message) → WorldOk b X Y sent → (c : ℕ) → c < b.clients
+pub client_moves : ClientLaws → (b : Bounds) → AreQuorums b.voters b.quorums → (X : ℕ → ClientState) (Y : ℕ → VoterState) (sent : List Message) → WorldOk b X Y sent → (c : ℕ) → c < b.clients
     → (cause : client.Cause) (o : client.Outcome) → Accepts (X c) cause → client.step (X c) cause ≡ Ok o → CameTrue b (X c) Y c cause → Draws b cause
     → WorldOk b (put X c o.state) Y (sent ++ map kinds.ToVoter o.out)
-client_moves laws b meet X Y sent ok c within cause o accepts step came draws =
+client_moves laws b are X Y sent ok c within cause o accepts step came draws =
     let x = X c in
     let is = ok.client_ids c within in
     let here = ok.clients c in
@@ -158,7 +158,7 @@ client_moves laws b meet X Y sent ok c within cause o accepts step came draws =
     let later : (q : ℕ) → IsAfter (X q) (W q) = put-each (λ q y. IsAfter (X q) y) X c o.state (IsAfter-later x o.state move.later) (λ q. IsAfter-self (X q)) in
     let quorum = quorum_after b x o.state cause draws move.quorum here.quorum in
     let held : (v g : ℕ) → holds_under x v g ≡ true → Names (Y v).held c x.stamp g = ok.held c in
-    let sent_now = all_sent b meet X Y ok.voters c x o.state cause is.id held (move.limit ∙ is.limit) move.later quorum came o.out move.out range in
+    let sent_now = all_sent b are X Y ok.voters c x o.state cause is.id held (move.limit ∙ is.limit) move.later quorum came o.out move.out range in
     record {
       messages = AllByRecursion-append (MessageOk W Y) sent _ (MessageOk-later b X W Y later ok.voters sent ok.messages) (asks_ok b W Y c o.state (put-same X c o.state) o.out sent_now);
       ranges = AllByRecursion-append (IsInRange b.voters b.clients b.limit) sent _ ok.ranges (asks_range b c o.state Y within o.out sent_now);
@@ -196,27 +196,27 @@ repeat_within b X x y ok limit v (asks.Relinquish g) last says within =
     (least, omega arith)
 repeat_within b X x y ok limit v (asks.Release s) last says within = absurd says
 
-all_repeated : (b : Bounds) → DoMeet b.voters b.quorums → (X : ℕ → ClientState) (Y : ℕ → VoterState) → ((v : ℕ) → VoterOk b X (Y v)) → (c : ℕ) (x : ClientState) → ClientOk b x → x.id ≡ c → x.limit ≡ b.limit
+all_repeated : (b : Bounds) → AreQuorums b.voters b.quorums → (X : ℕ → ClientState) (Y : ℕ → VoterState) → ((v : ℕ) → VoterOk b X (Y v)) → (c : ℕ) (x : ClientState) → ClientOk b x → x.id ≡ c → x.limit ≡ b.limit
     → ((v : ℕ) → last_of x v ≤ (Y v).granted) → (out : List ToVoter) → AllRepeat x out → RemindersInRange x out → AllByRecursion (SentByClient b c x Y) out
-all_repeated b meet X Y voters c x ok id limit last [] say range = tt
-all_repeated b meet X Y voters c x ok id limit last (m ∷ ms) say range = (
+all_repeated b are X Y voters c x ok id limit last [] say range = tt
+all_repeated b are X Y voters c x ok id limit last (m ∷ ms) say range = (
   record {
     client = say.0.0 ∙ id;
-    voter = member_below b meet x ok.quorum m.voter range.0.0;
+    voter = member_below b are x ok.quorum m.voter range.0.0;
     number = repeat_within b X x (Y m.voter) (voters m.voter) limit m.voter m.body (last m.voter) say.0.1 range.0.2;
     ok = repeats_ok x (Y m.voter) m.voter c m.body (last m.voter) say.0.1;
   },
-  all_repeated b meet X Y voters c x ok id limit last ms say.1 range.1,
+  all_repeated b are X Y voters c x ok id limit last ms say.1 range.1,
 )
 
-pub client_reminds : ClientLaws → (b : Bounds) → DoMeet b.voters b.quorums → (X : ℕ → ClientState) (Y : ℕ → VoterState) (sent : List Message) → WorldOk b X Y sent → (c : ℕ) → c < b.clients
+pub client_reminds : ClientLaws → (b : Bounds) → AreQuorums b.voters b.quorums → (X : ℕ → ClientState) (Y : ℕ → VoterState) (sent : List Message) → WorldOk b X Y sent → (c : ℕ) → c < b.clients
     → WorldOk b X Y (sent ++ map kinds.ToVoter (client.remind (X c)))
-client_reminds laws b meet X Y sent ok c within =
+client_reminds laws b are X Y sent ok c within =
     let x = X c in
     let is = ok.client_ids c within in
     let out = client.remind x in
     let here = ok.clients c in
-    let sent_now = all_repeated b meet X Y ok.voters c x here is.id is.limit (ok.last c) out (laws.repeats x) (laws.reminders x here.sound) in
+    let sent_now = all_repeated b are X Y ok.voters c x here is.id is.limit (ok.last c) out (laws.repeats x) (laws.reminders x here.sound) in
     record {
       messages = AllByRecursion-append (MessageOk X Y) sent _ ok.messages (asks_ok b X Y c x refl out sent_now);
       ranges = AllByRecursion-append (IsInRange b.voters b.clients b.limit) sent _ ok.ranges (asks_range b c x Y within out sent_now);

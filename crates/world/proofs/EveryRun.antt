@@ -18,7 +18,7 @@ use Rattle.world.proofs.Added.{AreDrawn-run}
 use Rattle.world.proofs.Claims.{Bounds}
 use Rattle.world.proofs.ClientMoves.{member_below}
 use Rattle.world.proofs.Exclusion.{quorum_busy}
-use Rattle.world.proofs.Reached.{RunPremises, RunOk, start_ok}
+use Rattle.world.proofs.Reached.{RunPremises, RunOk, are_quorums, start_ok}
 use Rattle.world.proofs.Restarts.{all_ok, live_ok, saved_now}
 
 -- ---- the live world
@@ -91,7 +91,7 @@ coherent_by b given w ok = record {
   made = λ v c s is.
       let e = (ok.world.voters v).entries c s is in
       record { client = subst (λ n. c < n) (sym ok.clients) e.client; some = e.stamp.0; reached = e.reached };
-  members = λ c v is. subst (λ n. v < n) (sym ok.voters) (member_below b given.meet (client_at w.clients c) (ok.world.clients c).quorum v is);
+  members = λ c v is. subst (λ n. v < n) (sym ok.voters) (member_below b (are_quorums b given.meet) (client_at w.clients c) (ok.world.clients c).quorum v is);
   common = λ c d busy_c busy_d.
       let j = quorum_busy b (client_at w.clients c) (ok.world.clients c) busy_c in
       let k = quorum_busy b (client_at w.clients d) (ok.world.clients d) busy_d in

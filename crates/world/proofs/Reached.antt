@@ -1,12 +1,13 @@
 -- what every run rests on, and the world that it begins with
 use Rattle.std.proofs.Common.{◌≡◌, ℕ, ◌<◌, ◌≤◌, ◌^◌, true, false, List, [], ◌∷◌, map, length, None, refl, sym, ap, subst, ◌∙◌, inl, inr, arith}
+use Rattle.std.specs.Prelude.{slice_index_or}
 use Rattle.std.specs.List.{range_with_len}
 use Rattle.std.specs.FinMap as fin
 use Rattle.std.specs.Ordering.{nat_cmp}
 use Rattle.std.proofs.lemmas.Bool.{false≢true, cases_lt}
 use Rattle.std.proofs.lemmas.Bool.Decides.{nat_tests}
 use Rattle.std.proofs.lemmas.Option.{none-some}
-use Rattle.std.proofs.lemmas.List.{get_or_past}
+use Rattle.std.proofs.lemmas.List.{get_or_default, get_or_past}
 use Rattle.std.proofs.lemmas.List.FromFn.{get_or-map-range_with_len, length-map-range_with_len}
 use Rattle.numbers.proofs.Lists.{slice_index-replicate_zero}
 use Rattle.numbers.specs.Sets.{has, IsSet}
@@ -22,7 +23,7 @@ use Rattle.requester.specs.Words.{is_inside, held_of, holds_under, last_of}
 use Rattle.world.specs.Ranges.{IsWithin, ReportsWithin}
 use Rattle.world.specs.Runs.{AreLimits, start}
 use Rattle.world_state.specs.Steps.{WorldState, client_at, voter_at}
-use Rattle.world.specs.Visible.{DoMeet, IsAmong}
+use Rattle.world.specs.Visible.{AreQuorums, DoMeet, IsAmong}
 use Rattle.world.specs.Rules.{ClientLaws, VoterLaws}
 use Rattle.world.proofs.Claims.{Bounds, Names, ReportOk, ClientOk, IsClient, VoterOk, WorldOk}
 use Rattle.world.proofs.Exclusion.{Walked}
@@ -33,6 +34,13 @@ pub record RunPremises (b : Bounds) : Type 0 where
   pub voter : VoterLaws
   pub limits : AreLimits b.voters b.clients b.limit
   pub meet : DoMeet b.voters b.quorums
+
+-- the same, where two quorums need not meet
+pub record Grounds (b : Bounds) : Type 0 where
+  pub client : ClientLaws
+  pub voter : VoterLaws
+  pub limits : AreLimits b.voters b.clients b.limit
+  pub quorums : AreQuorums b.voters b.quorums
 
 pub record RunOk (b : Bounds) (w : WorldState) : Type 0 where
   pub clients : length w.clients ≡ b.clients
@@ -46,10 +54,25 @@ not_empty : (q : List ℕ) (v : ℕ) → has q v ≡ true → 1 ≤ length q
 not_empty [] v is = absurd (false≢true is)
 not_empty (x ∷ xs) v is = omega arith
 
+-- each has a common member with itself
+pub are_quorums : (b : Bounds) → DoMeet b.voters b.quorums → AreQuorums b.voters b.quorums
+are_quorums b meet = record {
+  sets = meet.sets;
+  in_range = meet.in_range;
+  some = λ j d within.
+      let self = meet.meets j j within within in
+      subst (λ (q : List ℕ). 1 ≤ length q) (get_or_default b.quorums j [] d within) (not_empty (slice_index_or b.quorums j []) self.0 self.2);
+}
+
+pub grounds : (b : Bounds) → RunPremises b → Grounds b
+grounds b given = record { client = given.client; voter = given.voter; limits = given.limits; quorums = are_quorums b given.meet }
+
+pub one_accepted : (b : Bounds) → AreQuorums b.voters b.quorums → (q : List ℕ) → IsAmong b.quorums q → IsSet q × (1 ≤ length q)
+one_accepted b are q among =
+    subst (λ (s : List ℕ). IsSet s × (1 ≤ length s)) (sym among.2) (are.sets among.0 [] among.1, are.some among.0 [] among.1)
+
 pub accepts_among : (b : Bounds) → DoMeet b.voters b.quorums → (q : List ℕ) → IsAmong b.quorums q → IsSet q × (1 ≤ length q)
-accepts_among b meets q among =
-    let self = meets.meets among.0 among.0 among.1 among.1 in
-    subst (λ (s : List ℕ). IsSet s × (1 ≤ length s)) (sym among.2) (meets.sets among.0 [] among.1, not_empty _ self.0 self.2)
+accepts_among b meet = one_accepted b (are_quorums b meet)
 
 pub came_by : (b : Bounds) (x : ClientState) (Y : ℕ → VoterState) (sender c : ℕ) (body : ClientBody) → sender < b.voters → ReportsWithin b.limit body → ReportOk x (Y sender).held sender c body
     → (v s g : ℕ) → Locks sender body v s g → (v < b.voters) × IsWithin b.limit s × (s ≤ x.stamp) × (IsLive x v s g → Names (Y v).held c s g)
@@ -73,7 +96,7 @@ record Fresh (b : Bounds) (x : ClientState) : Type 0 where
   held : (v : ℕ) → held_of x v ≡ 0
   last : (v : ℕ) → last_of x v ≡ 0
 
-Fresh-start : (b : Bounds) → RunPremises b → (id limit : ℕ) → id < 64 → 1 ≤ limit → limit ≤ 2 ^ 62 → Fresh b (client.start id limit)
+Fresh-start : (b : Bounds) → Grounds b → (id limit : ℕ) → id < 64 → 1 ≤ limit → limit ≤ 2 ^ 62 → Fresh b (client.start id limit)
 Fresh-start b given id limit few least most = record {
   ok = record { sound = given.client.first id limit few least most; quorum = inl refl };
   idle = refl;
@@ -89,7 +112,7 @@ pub record Unused (b : Bounds) (y : VoterState) : Type 0 where
   pub limit : y.limit ≤ b.limit
   pub seen : y.seen ≤ b.limit
 
-Unused-start : (b : Bounds) → RunPremises b → (id limit : ℕ) → limit ≤ 2 ^ 62 → limit ≤ b.limit → Unused b (voter.start id limit)
+Unused-start : (b : Bounds) → Grounds b → (id limit : ℕ) → limit ≤ 2 ^ 62 → limit ≤ b.limit → Unused b (voter.start id limit)
 Unused-start b given id limit most below = record {
   sound = given.voter.first id limit most;
   held = refl;
@@ -135,7 +158,7 @@ pub voter_past : (n limit v : ℕ) → n ≤ v → voter_at (new_voters n limit)
 unfolding voter_at new_voters
 voter_past n limit v beyond = get_or_past (new_voters n limit) v (voter.start 0 1) (let len = length-map-range_with_len (λ i. voter.start i limit) 0 n in omega arith)
 
-fresh_at : (b : Bounds) → RunPremises b → (c : ℕ) → Fresh b (client_at (new_clients b.clients b.limit) c)
+fresh_at : (b : Bounds) → Grounds b → (c : ℕ) → Fresh b (client_at (new_clients b.clients b.limit) c)
 fresh_at b given c =
     let few = given.limits.few_clients in
     elim (cases_lt c b.clients) [
@@ -143,7 +166,7 @@ fresh_at b given c =
       | inr beyond ↦ subst (λ (x : ClientState). Fresh b x) (sym (client_past b.clients b.limit c beyond)) (Fresh-start b given 0 1 (omega arith) (omega arith) (omega arith))
     ]
 
-unused_at : (b : Bounds) → RunPremises b → (v : ℕ) → Unused b (voter_at (new_voters b.voters b.limit) v)
+unused_at : (b : Bounds) → Grounds b → (v : ℕ) → Unused b (voter_at (new_voters b.voters b.limit) v)
 unused_at b given v = elim (cases_lt v b.voters) [
   | inl within ↦ subst (λ (y : VoterState). Unused b y) (sym (voter_new b.voters b.limit v within)) (Unused-start b given v b.limit given.limits.few_stamps (omega arith))
   | inr beyond ↦ subst (λ (y : VoterState). Unused b y) (sym (voter_past b.voters b.limit v beyond)) (Unused-start b given 0 1 (omega arith) given.limits.some_stamp)
@@ -152,14 +175,14 @@ unused_at b given v = elim (cases_lt v b.voters) [
 -- no voter of the first world received anything
 pub start_unused : (b : Bounds) → RunPremises b → (v : ℕ) → Unused b (voter_at (start b.voters b.clients b.limit).voters v)
 unfolding new_voters
-start_unused b given v = unused_at b given v
+start_unused b given v = unused_at b (grounds b given) v
 
 none_held : (x : ClientState) (v g : ℕ) → held_of x v ≡ 0 → holds_under x v g ≡ true → ⊥
 none_held x v g none is = grind (arith, nat_tests)
 
-pub start_ok : (b : Bounds) → RunPremises b → RunOk b (start b.voters b.clients b.limit)
+pub first_ok : (b : Bounds) → Grounds b → RunOk b (start b.voters b.clients b.limit)
 unfolding new_clients new_voters
-start_ok b given = record {
+first_ok b given = record {
   clients = length-map-range_with_len (λ c. client.start c b.limit) 0 b.clients;
   voters = length-map-range_with_len (λ v. voter.start v b.limit) 0 b.voters;
   world = record {
@@ -174,3 +197,6 @@ start_ok b given = record {
   };
   walked = record { list = tt; inside = λ c. (fresh_at b given c).idle };
 }
+
+pub start_ok : (b : Bounds) → RunPremises b → RunOk b (start b.voters b.clients b.limit)
+start_ok b given = first_ok b (grounds b given)

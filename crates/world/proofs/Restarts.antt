@@ -65,6 +65,7 @@ use Rattle.requester.specs.Words.{is_idle, is_inside, holds_under, last_of, memb
 use Rattle.quorum_set.specs.declared.bridge.Side.{Side}
 use Rattle.quorum_set.specs.declared.bridge.Side.TheVariants.{First, Second}
 use Rattle.world_state.specs.declared.fault.WorldFault.{WorldFault}
+use Rattle.world_state.specs.declared.step.Event.{Event}
 use Rattle.world_state.specs.declared.step.Step.TheVariants.{Ask, Deliver, Leave, GiveUp, RemindClient, RemindVoter, Exchange}
 use Rattle.world.specs.Ranges.{IsInRange}
 use Rattle.world.specs.Restarts.{Node, OneClient, OneVoter, Nobody, Saved, Happening, Goes, Saves, Forgets, Restarts, forget, crash_seen, come_back, if_there, receiver, save}
@@ -73,7 +74,7 @@ use Rattle.world_state.specs.Steps.{is_silent}
 use Rattle.world.specs.Runs.{AreLimits, start}
 use Rattle.world_state.specs.Steps.{Dealing, Outcome, WorldState, after_client, after_voter, client_at, client_did, come, draw_of, events, exchange, if_client, if_voter, next_ticket, quorum_dealt}
 use Rattle.world_state.specs.Steps.{say, step, voter_at, voter_did}
-use Rattle.world.specs.Visible.{DealsFrom, DoMeet, IsExclusive}
+use Rattle.world.specs.Visible.{AreQuorums, DealsFrom, DoMeet, IsExclusive}
 use Rattle.world.specs.Rules.{ClientLaws, VoterLaws}
 use Rattle.world.proofs.Claims.{Bounds, Names, AskOk, ReportOk, MessageOk, ClientOk, IsClient, VoterOk, WorldOk, IsAfter, IsAfter-idle, IsAfter-self, VoterOk-later}
 use Rattle.world.proofs.Claims.{MessageOk-later, put, put-each, put-same}
@@ -81,7 +82,7 @@ use Rattle.world.proofs.ClientMoves.{CameTrue, Draws, client_moves, client_remin
 use Rattle.world.proofs.VoterMoves.{voter_moves, voter_reminds}
 use Rattle.world.proofs.Exclusion.{Walked, one_inside, Walked-step}
 use Rattle.world.proofs.Places.{client_at-set, voter_at-set}
-use Rattle.world.proofs.Reached.{RunPremises, RunOk, start_ok, came_by, accepts_among}
+use Rattle.world.proofs.Reached.{Grounds, RunPremises, RunOk, start_ok, came_by, grounds, one_accepted}
 
 -- ---- mixes
 
@@ -145,28 +146,28 @@ record ClientActs (b : Bounds) (L K : ℕ → ClientState) (M N : ℕ → VoterS
   came : CameAll b L sent c cause
   draws : Draws b cause
 
-client_mix : ClientLaws → (b : Bounds) → DoMeet b.voters b.quorums → (L K : ℕ → ClientState) (M N : ℕ → VoterState) (sent : List Message) → Mixes b L K M N sent
+client_mix : ClientLaws → (b : Bounds) → AreQuorums b.voters b.quorums → (L K : ℕ → ClientState) (M N : ℕ → VoterState) (sent : List Message) → Mixes b L K M N sent
     → (c : ℕ) (cause : client.Cause) (o : client.Outcome) → ClientActs b L K M N sent c cause o
     → (X : ℕ → ClientState) (Y : ℕ → VoterState) → X c ≡ o.state → MixBut c L K X → Mix M N Y → WorldOk b X Y (sent ++ map kinds.ToVoter o.out)
-client_mix laws b meet L K M N sent all c cause o act X Y here others mix =
+client_mix laws b are L K M N sent all c cause o act X Y here others mix =
     let Z = put X c (L c) in
     let at : L c ≡ Z c = sym (put-same X c (L c)) in
     let world = all Z Y (Mix-back L K X c others) mix in
     subst (λ (W : ℕ → ClientState). WorldOk b W Y (sent ++ map kinds.ToVoter o.out)) (unput X c (L c) o.state here)
-    (client_moves laws b meet Z Y sent world c act.within cause o (subst (λ (x : ClientState). Accepts x cause) at act.accepts)
+    (client_moves laws b are Z Y sent world c act.within cause o (subst (λ (x : ClientState). Accepts x cause) at act.accepts)
     (subst (λ (x : ClientState). client.step x cause ≡ Ok o) at act.step) (act.came Z Y world) act.draws)
 
-client_loud : ClientLaws → (b : Bounds) → DoMeet b.voters b.quorums → (L K : ℕ → ClientState) (M N : ℕ → VoterState) (sent : List Message) → Mixes b L K M N sent
+client_loud : ClientLaws → (b : Bounds) → AreQuorums b.voters b.quorums → (L K : ℕ → ClientState) (M N : ℕ → VoterState) (sent : List Message) → Mixes b L K M N sent
     → (c : ℕ) (cause : client.Cause) (o : client.Outcome) → ClientActs b L K M N sent c cause o
     → Mixes b (put L c o.state) (put K c o.state) M N (sent ++ map kinds.ToVoter o.out)
-client_loud laws b meet L K M N sent all c cause o act X Y mix other =
-    client_mix laws b meet L K M N sent all c cause o act X Y (put-both L K X c o.state mix) (MixBut-put L K X c o.state o.state mix) other
+client_loud laws b are L K M N sent all c cause o act X Y mix other =
+    client_mix laws b are L K M N sent all c cause o act X Y (put-both L K X c o.state mix) (MixBut-put L K X c o.state o.state mix) other
 
-client_quiet : ClientLaws → (b : Bounds) → DoMeet b.voters b.quorums → (L K : ℕ → ClientState) (M N : ℕ → VoterState) (sent : List Message) → Mixes b L K M N sent
+client_quiet : ClientLaws → (b : Bounds) → AreQuorums b.voters b.quorums → (L K : ℕ → ClientState) (M N : ℕ → VoterState) (sent : List Message) → Mixes b L K M N sent
     → (c : ℕ) (cause : client.Cause) (o : client.Outcome) → ClientActs b L K M N sent c cause o → sent ≡ sent ++ map kinds.ToVoter o.out
     → Mixes b (put L c o.state) K M N (sent ++ map kinds.ToVoter o.out)
-client_quiet laws b meet L K M N sent all c cause o act none X Y mix other = elim (mix c) [
-  | inl e ↦ client_mix laws b meet L K M N sent all c cause o act X Y (e ∙ put-same L c o.state) (MixBut-put_left L K X c o.state mix) other
+client_quiet laws b are L K M N sent all c cause o act none X Y mix other = elim (mix c) [
+  | inl e ↦ client_mix laws b are L K M N sent all c cause o act X Y (e ∙ put-same L c o.state) (MixBut-put_left L K X c o.state mix) other
   | inr e ↦ subst (λ (ms : List Message). WorldOk b X Y ms) none (all X Y (Mix-with L K X c (MixBut-put_left L K X c o.state mix) (inr e)) other)
 ]
 
@@ -223,31 +224,60 @@ Mix-restarted L K c X mix = Mix-with L K X c (MixBut-put_left L K X c (K c) mix)
 abbrev pub AreAll : Bounds → ℕ → ℕ → ℕ → ℕ → Type 0
 AreAll b live_clients live_voters clients voters = (live_clients ≡ b.clients) × (live_voters ≡ b.voters) × (clients ≡ b.clients) × (voters ≡ b.voters)
 
-pub record SavedOk (b : Bounds) (s : Saved) : Type 0 where
+-- any live or saved client fits any live or saved voter
+pub record MixedOk (b : Bounds) (s : Saved) : Type 0 where
   pub sizes : AreAll b (length s.live.clients) (length s.live.voters) (length s.clients) (length s.voters)
   pub mixes : Mixes b (client_at s.live.clients) (client_at s.clients) (voter_at s.live.voters) (voter_at s.voters) s.live.sent
-  pub walked : Walked s.live.visible (client_at s.live.clients)
-  pub insides : (c : ℕ) → is_inside (client_at s.clients c).phase ≡ true → is_inside (client_at s.live.clients c).phase ≡ true
 
 -- the live world is one of the mixes
-pub live_ok : (b : Bounds) (s : Saved) → SavedOk b s → WorldOk b (client_at s.live.clients) (voter_at s.live.voters) s.live.sent
-live_ok b s ok = ok.mixes (client_at s.live.clients) (voter_at s.live.voters) (λ q. inl refl) (λ q. inl refl)
+pub live_fits : (b : Bounds) (s : Saved) → MixedOk b s → WorldOk b (client_at s.live.clients) (voter_at s.live.voters) s.live.sent
+live_fits b s ok = ok.mixes (client_at s.live.clients) (voter_at s.live.voters) (λ q. inl refl) (λ q. inl refl)
 
--- who was saved inside is inside
-abbrev SavedInside : (ℕ → ClientState) → (ℕ → ClientState) → Type 0
-SavedInside K L = (q : ℕ) → is_inside (K q).phase ≡ true → is_inside (L q).phase ≡ true
+-- at most one live client changes, and what is seen of it is what it did
+pub record Shows (s t : Saved) : Type 0 where
+  pub client : ℕ
+  pub after : ClientState
+  pub seen : Seen
+  pub visible : s.live.visible ++ events client seen ≡ t.live.visible
+  pub clients : put (client_at s.live.clients) client after ≡ client_at t.live.clients
+  pub sees : Sees (client_at s.live.clients client).phase seen after.phase
 
-Behind-both : (K L : ℕ → ClientState) (c : ℕ) (x : ClientState) → SavedInside K L → SavedInside (put K c x) (put L c x)
-Behind-both K L c x behind q = elim (eqb q c) as (λ b. is_inside (cond b x (K q)).phase ≡ true → is_inside (cond b x (L q)).phase ≡ true) [ true ↦ λ e. e | false ↦ behind q ]
+-- what comes after a world
+pub record Follows (b : Bounds) (s t : Saved) : Type 0 where
+  pub mixed : MixedOk b t
+  pub shows : Shows s t
 
-Behind-live : (K L : ℕ → ClientState) (c : ℕ) (x : ClientState) → SavedInside K L → (is_inside (K c).phase ≡ true → is_inside x.phase ≡ true) → SavedInside K (put L c x)
-Behind-live K L c x behind here q = by_number (λ y. is_inside (K q).phase ≡ true → is_inside y.phase ≡ true) L c x q (λ same e. here (ap (λ n. is_inside (K n).phase) (sym same) ∙ e)) (λ _. behind q)
+put_own : {A : Type 0} (X : ℕ → A) (c : ℕ) → put X c (X c) ≡ X
+put_own X c = λ i q. by_number (λ z. z ≡ X q) X c (X c) q (λ same. ap X (sym same)) (λ _. refl) i
 
-Behind-kept : (K L : ℕ → ClientState) (c : ℕ) → SavedInside K L → SavedInside (put K c (L c)) L
-Behind-kept K L c behind q = by_number (λ y. is_inside y.phase ≡ true → is_inside (L q).phase ≡ true) K c (L c) q (λ same e. ap (λ n. is_inside (L n).phase) same ∙ e) (λ _. behind q)
+-- no live client changes
+still : (s t : Saved) → s.live.clients ≡ t.live.clients → s.live.visible ≡ t.live.visible → Shows s t
+still s t clients visible = record {
+  client = 0;
+  after = client_at s.live.clients 0;
+  seen = Nothing;
+  visible = append-nil s.live.visible ∙ visible;
+  clients = put_own (client_at s.live.clients) 0 ∙ ap (λ (cs : List ClientState). client_at cs) clients;
+  sees = refl;
+}
 
-Behind-out : (K L : ℕ → ClientState) (c : ℕ) (x : ClientState) → is_inside x.phase ≡ false → SavedInside K L → SavedInside (put K c x) L
-Behind-out K L c x out behind q = by_number (λ y. is_inside y.phase ≡ true → is_inside (L q).phase ≡ true) K c x q (λ same e. absurd (false≢true (sym out ∙ e))) (λ _. behind q)
+pub unmoved : (b : Bounds) (s t : Saved) → s.live.clients ≡ t.live.clients → s.live.visible ≡ t.live.visible → MixedOk b t → Follows b s t
+unmoved b s t clients visible ok = record { mixed = ok; shows = still s t clients visible }
+
+-- nothing changes
+pub stays : (b : Bounds) (s : Saved) → MixedOk b s → Follows b s s
+stays b s ok = unmoved b s s refl refl ok
+
+-- nobody is inside together with another
+abbrev pub IsAlone : (ℕ → ClientState) → Type 0
+IsAlone X = (c d : ℕ) → is_inside (X c).phase ≡ true → is_inside (X d).phase ≡ true → c ≡ d
+
+pub walks_on : (s t : Saved) → Walked s.live.visible (client_at s.live.clients) → Shows s t → IsAlone (client_at t.live.clients) → Walked t.live.visible (client_at t.live.clients)
+walks_on s t walked shows alone =
+    subst (λ (es : List Event). Walked es (client_at t.live.clients)) shows.visible
+    (subst (λ (X : ℕ → ClientState). Walked (s.live.visible ++ events shows.client shows.seen) X) shows.clients
+    (Walked-step s.live.visible (client_at s.live.clients) shows.client shows.after shows.seen walked shows.sees
+    (λ d. subst (λ (X : ℕ → ClientState). is_inside (X shows.client).phase ≡ true → is_inside (X d).phase ≡ true → shows.client ≡ d) (sym shows.clients) (alone shows.client d))))
 
 pub silent_parts : (n : ℕ) (seen : Seen) → is_silent n seen ≡ true → (n ≡ 0) × (seen ≡ Nothing)
 silent_parts n Nothing e = (grind (arith, nat_tests), refl)
@@ -264,20 +294,22 @@ nothing_more sent (x ∷ xs) e = absurd (omega arith)
 
 -- ---- a client's step, in the lists
 
-client_walks : (b : Bounds) → RunPremises b → (s : Saved) → SavedOk b s → (c : ℕ) (cause : client.Cause) (o : client.Outcome)
+client_shows : (b : Bounds) → Grounds b → (s : Saved) → MixedOk b s → (c : ℕ) (cause : client.Cause) (o : client.Outcome)
     → ClientActs b (client_at s.live.clients) (client_at s.clients) (voter_at s.live.voters) (voter_at s.voters) s.live.sent c cause o
-    → Walked (s.live.visible ++ events c o.seen) (put (client_at s.live.clients) c o.state)
-client_walks b given s ok c cause o act =
-    let L = client_at s.live.clients in
-    let M = voter_at s.live.voters in
-    let world = client_moves given.client b given.meet L M s.live.sent (live_ok b s ok) c act.within cause o act.accepts act.step (act.came L M (live_ok b s ok)) act.draws in
-    let sees = (given.client.meets (L c) cause o ((live_ok b s ok).clients c).sound act.accepts act.step).seen in
-    Walked-step s.live.visible L c o.state o.seen ok.walked sees (λ d in_c in_d. one_inside b given.meet (put L c o.state) M _ world c d in_c in_d)
+    → (t : Saved) → slice_set s.live.clients c o.state ≡ t.live.clients → s.live.visible ++ events c o.seen ≡ t.live.visible → Shows s t
+client_shows b given s ok c cause o act t clients visible = record {
+  client = c;
+  after = o.state;
+  seen = o.seen;
+  visible = visible;
+  clients = sym (client_at-set s.live.clients c o.state (subst (λ n. c < n) (sym ok.sizes.0) act.within)) ∙ ap (λ (cs : List ClientState). client_at cs) clients;
+  sees = (given.client.meets (client_at s.live.clients c) cause o ((live_fits b s ok).clients c).sound act.accepts act.step).seen;
+}
 
 -- what a client did, saved or not
-client_gone : (b : Bounds) → RunPremises b → (s : Saved) → SavedOk b s → (c : ℕ) (cause : client.Cause) (o : client.Outcome)
+client_gone : (b : Bounds) → Grounds b → (s : Saved) → MixedOk b s → (c : ℕ) (cause : client.Cause) (o : client.Outcome)
     → ClientActs b (client_at s.live.clients) (client_at s.clients) (voter_at s.live.voters) (voter_at s.voters) s.live.sent c cause o
-    → (silent : Bool) → is_silent (length o.out) o.seen ≡ silent → SavedOk b (save_unless silent (OneClient c) (record s { live = (client_did s.live c o).state }))
+    → (silent : Bool) → is_silent (length o.out) o.seen ≡ silent → Follows b s (save_unless silent (OneClient c) (record s { live = (client_did s.live c o).state }))
 client_gone b given s ok c cause o act false is =
     let L = client_at s.live.clients in
     let K = client_at s.clients in
@@ -288,14 +320,14 @@ client_gone b given s ok c cause o act false is =
     let there : client_at now c ≡ o.state = ap (λ (f : ℕ → ClientState). f c) (sym same) ∙ put-same L c o.state in
     let kept : put K c o.state ≡ client_at (slice_set s.clients c (client_at now c)) = sym (client_at-set s.clients c (client_at now c) within_saved ∙ ap (λ x. put K c x) there) in
     record {
-      sizes = (length-set s.live.clients c o.state ∙ ok.sizes.0, ok.sizes.1, length-set s.clients c (client_at now c) ∙ ok.sizes.2, ok.sizes.3);
-      mixes =
-          subst (λ (W : ℕ → ClientState). Mixes b W (client_at (slice_set s.clients c (client_at now c))) (voter_at s.live.voters) (voter_at s.voters) (s.live.sent ++ map kinds.ToVoter o.out)) same
-          (subst (λ (W : ℕ → ClientState). Mixes b (put L c o.state) W (voter_at s.live.voters) (voter_at s.voters) (s.live.sent ++ map kinds.ToVoter o.out)) kept
-          (client_loud given.client b given.meet L K (voter_at s.live.voters) (voter_at s.voters) s.live.sent ok.mixes c cause o act));
-      walked = subst (λ (W : ℕ → ClientState). Walked (s.live.visible ++ events c o.seen) W) same (client_walks b given s ok c cause o act);
-      insides = subst (λ (W : ℕ → ClientState). SavedInside (client_at (slice_set s.clients c (client_at now c))) W) same
-          (subst (λ (W : ℕ → ClientState). SavedInside W (put L c o.state)) kept (Behind-both K L c o.state ok.insides));
+      mixed = record {
+        sizes = (length-set s.live.clients c o.state ∙ ok.sizes.0, ok.sizes.1, length-set s.clients c (client_at now c) ∙ ok.sizes.2, ok.sizes.3);
+        mixes =
+            subst (λ (W : ℕ → ClientState). Mixes b W (client_at (slice_set s.clients c (client_at now c))) (voter_at s.live.voters) (voter_at s.voters) (s.live.sent ++ map kinds.ToVoter o.out)) same
+            (subst (λ (W : ℕ → ClientState). Mixes b (put L c o.state) W (voter_at s.live.voters) (voter_at s.voters) (s.live.sent ++ map kinds.ToVoter o.out)) kept
+            (client_loud given.client b given.quorums L K (voter_at s.live.voters) (voter_at s.voters) s.live.sent ok.mixes c cause o act));
+      };
+      shows = client_shows b given s ok c cause o act _ refl refl;
     }
 client_gone b given s ok c cause o act true is =
     let L = client_at s.live.clients in
@@ -303,42 +335,46 @@ client_gone b given s ok c cause o act true is =
     let within : c < length s.live.clients = subst (λ n. c < n) (sym ok.sizes.0) act.within in
     let same : put L c o.state ≡ client_at (slice_set s.live.clients c o.state) = sym (client_at-set s.live.clients c o.state within) in
     let parts = silent_parts (length o.out) o.seen is in
-    let sees = (given.client.meets (L c) cause o ((live_ok b s ok).clients c).sound act.accepts act.step).seen in
-    let alike : is_inside (L c).phase ≡ is_inside o.state.phase = subst (λ (seen : Seen). Sees (L c).phase seen o.state.phase) parts.1 sees in
     record {
-      sizes = (length-set s.live.clients c o.state ∙ ok.sizes.0, ok.sizes.1, ok.sizes.2, ok.sizes.3);
-      mixes = subst (λ (W : ℕ → ClientState). Mixes b W K (voter_at s.live.voters) (voter_at s.voters) (s.live.sent ++ map kinds.ToVoter o.out)) same
-          (client_quiet given.client b given.meet L K (voter_at s.live.voters) (voter_at s.voters) s.live.sent ok.mixes c cause o act (none_of kinds.ToVoter s.live.sent o.out parts.0));
-      walked = subst (λ (W : ℕ → ClientState). Walked (s.live.visible ++ events c o.seen) W) same (client_walks b given s ok c cause o act);
-      insides = subst (λ (W : ℕ → ClientState). SavedInside K W) same (Behind-live K L c o.state ok.insides (λ e. sym alike ∙ ok.insides c e));
+      mixed = record {
+        sizes = (length-set s.live.clients c o.state ∙ ok.sizes.0, ok.sizes.1, ok.sizes.2, ok.sizes.3);
+        mixes = subst (λ (W : ℕ → ClientState). Mixes b W K (voter_at s.live.voters) (voter_at s.voters) (s.live.sent ++ map kinds.ToVoter o.out)) same
+            (client_quiet given.client b given.quorums L K (voter_at s.live.voters) (voter_at s.voters) s.live.sent ok.mixes c cause o act (none_of kinds.ToVoter s.live.sent o.out parts.0));
+      };
+      shows = client_shows b given s ok c cause o act _ refl refl;
     }
 
-pub client_tried : (b : Bounds) → RunPremises b → (s : Saved) → SavedOk b s → (c : ℕ) → c < length s.live.clients → (cause : client.Cause)
+pub client_tried : (b : Bounds) → Grounds b → (s : Saved) → MixedOk b s → (c : ℕ) → c < length s.live.clients → (cause : client.Cause)
     → Accepts (client_at s.live.clients c) cause → CameAll b (client_at s.live.clients) s.live.sent c cause → Draws b cause
-    → (r : Result client.Outcome ClientFault) → client.step (client_at s.live.clients c) cause ≡ r → SavedOk b (save_and_send s (OneClient c) (after_client s.live c r))
+    → (r : Result client.Outcome ClientFault) → client.step (client_at s.live.clients c) cause ≡ r → Follows b s (save_and_send s (OneClient c) (after_client s.live c r))
 client_tried b given s ok c within cause accepts came draws (Ok o) is =
     client_gone b given s ok c cause o (record { within = subst (λ n. c < n) ok.sizes.0 within; accepts = accepts; step = is; came = came; draws = draws }) _ refl
-client_tried b given s ok c within cause accepts came draws (Err fault) is = ok
+client_tried b given s ok c within cause accepts came draws (Err fault) is = stays b s ok
+
+-- a ticket is drawn, and no client changes by that
+as_drawn : (s : Saved) (side : Side) (c : ℕ) (t : Saved) → Shows (record s { live = draw_of side s.live c }) t → Shows s t
+as_drawn s First c t shows = record { client = shows.client; after = shows.after; seen = shows.seen; visible = shows.visible; clients = shows.clients; sees = shows.sees }
+as_drawn s Second c t shows = record { client = shows.client; after = shows.after; seen = shows.seen; visible = shows.visible; clients = shows.clients; sees = shows.sees }
 
 -- the same with a ticket that is drawn
-client_drew : (b : Bounds) → RunPremises b → (s : Saved) → SavedOk b s → (c : ℕ) → c < length s.live.clients → (cause : client.Cause)
+client_drew : (b : Bounds) → Grounds b → (s : Saved) → MixedOk b s → (c : ℕ) → c < length s.live.clients → (cause : client.Cause)
     → Accepts (client_at s.live.clients c) cause → CameAll b (client_at s.live.clients) s.live.sent c cause → Draws b cause
-    → (side : Side) (r : Result client.Outcome ClientFault) → client.step (client_at s.live.clients c) cause ≡ r → SavedOk b (save_and_send s (OneClient c) (after_client (draw_of side s.live c) c r))
+    → (side : Side) (r : Result client.Outcome ClientFault) → client.step (client_at s.live.clients c) cause ≡ r → Follows b s (save_and_send s (OneClient c) (after_client (draw_of side s.live c) c r))
 client_drew b given s ok c within cause accepts came draws First (Ok o) is =
-    client_gone b given (record s { live = draw_of First s.live c })
-    (record { sizes = ok.sizes; mixes = ok.mixes; walked = ok.walked; insides = ok.insides }) c cause o
-    (record { within = subst (λ n. c < n) ok.sizes.0 within; accepts = accepts; step = is; came = came; draws = draws }) _ refl
+    let next = client_gone b given (record s { live = draw_of First s.live c }) (record { sizes = ok.sizes; mixes = ok.mixes }) c cause o
+    (record { within = subst (λ n. c < n) ok.sizes.0 within; accepts = accepts; step = is; came = came; draws = draws }) _ refl in
+    record { mixed = next.mixed; shows = as_drawn s First c _ next.shows }
 client_drew b given s ok c within cause accepts came draws Second (Ok o) is =
-    client_gone b given (record s { live = draw_of Second s.live c })
-    (record { sizes = ok.sizes; mixes = ok.mixes; walked = ok.walked; insides = ok.insides }) c cause o
-    (record { within = subst (λ n. c < n) ok.sizes.0 within; accepts = accepts; step = is; came = came; draws = draws }) _ refl
-client_drew b given s ok c within cause accepts came draws side (Err fault) is = ok
+    let next = client_gone b given (record s { live = draw_of Second s.live c }) (record { sizes = ok.sizes; mixes = ok.mixes }) c cause o
+    (record { within = subst (λ n. c < n) ok.sizes.0 within; accepts = accepts; step = is; came = came; draws = draws }) _ refl in
+    record { mixed = next.mixed; shows = as_drawn s Second c _ next.shows }
+client_drew b given s ok c within cause accepts came draws side (Err fault) is = stays b s ok
 
 -- ---- a voter's step, in the lists
 
-voter_gone : (b : Bounds) → RunPremises b → (s : Saved) → SavedOk b s → (m : ToVoter) (o : voter.Outcome)
+voter_gone : (b : Bounds) → Grounds b → (s : Saved) → MixedOk b s → (m : ToVoter) (o : voter.Outcome)
     → VoterActs b (client_at s.live.clients) (client_at s.clients) (voter_at s.live.voters) s.live.sent m o
-    → (silent : Bool) → is_silent (length o.replies) Nothing ≡ silent → SavedOk b (save_unless silent (OneVoter m.voter) (record s { live = (voter_did s.live m.voter o).state }))
+    → (silent : Bool) → is_silent (length o.replies) Nothing ≡ silent → Follows b s (save_unless silent (OneVoter m.voter) (record s { live = (voter_did s.live m.voter o).state }))
 voter_gone b given s ok m o act false is =
     let M = voter_at s.live.voters in
     let N = voter_at s.voters in
@@ -349,36 +385,32 @@ voter_gone b given s ok m o act false is =
     let same : put M v o.state ≡ voter_at now = sym (voter_at-set s.live.voters v o.state within) in
     let there : voter_at now v ≡ o.state = ap (λ (f : ℕ → VoterState). f v) (sym same) ∙ put-same M v o.state in
     let kept : put N v o.state ≡ voter_at (slice_set s.voters v (voter_at now v)) = sym (voter_at-set s.voters v (voter_at now v) within_saved ∙ ap (λ x. put N v x) there) in
-    record {
+    unmoved b s _ refl refl (record {
       sizes = (ok.sizes.0, length-set s.live.voters v o.state ∙ ok.sizes.1, ok.sizes.2, length-set s.voters v (voter_at now v) ∙ ok.sizes.3);
       mixes =
           subst (λ (W : ℕ → VoterState). Mixes b (client_at s.live.clients) (client_at s.clients) W (voter_at (slice_set s.voters v (voter_at now v)))
           (s.live.sent ++ map kinds.ToClient o.replies)) same
           (subst (λ (W : ℕ → VoterState). Mixes b (client_at s.live.clients) (client_at s.clients) (put M v o.state) W (s.live.sent ++ map kinds.ToClient o.replies)) kept
           (voter_loud given.voter b (client_at s.live.clients) (client_at s.clients) M N s.live.sent ok.mixes m o act));
-      walked = ok.walked;
-      insides = ok.insides;
-    }
+    })
 voter_gone b given s ok m o act true is =
     let M = voter_at s.live.voters in
     let N = voter_at s.voters in
     let v = m.voter in
     let within : v < length s.live.voters = subst (λ n. v < n) (sym ok.sizes.1) act.range.1 in
     let same : put M v o.state ≡ voter_at (slice_set s.live.voters v o.state) = sym (voter_at-set s.live.voters v o.state within) in
-    record {
+    unmoved b s _ refl refl (record {
       sizes = (ok.sizes.0, length-set s.live.voters v o.state ∙ ok.sizes.1, ok.sizes.2, ok.sizes.3);
       mixes = subst (λ (W : ℕ → VoterState). Mixes b (client_at s.live.clients) (client_at s.clients) W N (s.live.sent ++ map kinds.ToClient o.replies)) same
           (voter_quiet given.voter b (client_at s.live.clients) (client_at s.clients) M N s.live.sent ok.mixes m o act
           (none_of kinds.ToClient s.live.sent o.replies (silent_parts (length o.replies) Nothing is).0));
-      walked = ok.walked;
-      insides = ok.insides;
-    }
+    })
 
-pub voter_tried : (b : Bounds) → RunPremises b → (s : Saved) → SavedOk b s → (m : ToVoter) → IsInRange b.voters b.clients b.limit (kinds.ToVoter m)
+pub voter_tried : (b : Bounds) → Grounds b → (s : Saved) → MixedOk b s → (m : ToVoter) → IsInRange b.voters b.clients b.limit (kinds.ToVoter m)
     → IsAskedInMix b (client_at s.live.clients) (client_at s.clients) s.live.sent m
-    → (r : Option voter.Outcome) → voter.step (voter_at s.live.voters m.voter) m ≡ r → SavedOk b (save_and_send s (OneVoter m.voter) (after_voter s.live m.voter r))
+    → (r : Option voter.Outcome) → voter.step (voter_at s.live.voters m.voter) m ≡ r → Follows b s (save_and_send s (OneVoter m.voter) (after_voter s.live m.voter r))
 voter_tried b given s ok m range asked (Some o) is = voter_gone b given s ok m o (record { range = range; asked = asked; step = is }) _ refl
-voter_tried b given s ok m range asked None is = ok
+voter_tried b given s ok m range asked None is = stays b s ok
 
 -- ---- saves and restarts
 
@@ -388,7 +420,7 @@ within_or xs n = elim (ltb n (length xs)) as (λ t. ltb n (length xs) ≡ t → 
   | false ↦ λ t. inr (grind (arith, nat_tests))
 ] refl
 
-save_ok : (b : Bounds) (who : Node) (s : Saved) → SavedOk b s → SavedOk b (save who s)
+save_ok : (b : Bounds) (who : Node) (s : Saved) → MixedOk b s → MixedOk b (save who s)
 save_ok b Nobody s ok = ok
 save_ok b (OneClient c) s ok = elim (within_or s.clients c) [
   | inl within ↦
@@ -400,10 +432,8 @@ save_ok b (OneClient c) s ok = elim (within_or s.clients c) [
         mixes = subst (λ (W : ℕ → ClientState). Mixes b L W (voter_at s.live.voters) (voter_at s.voters) s.live.sent) kept
             (Mixes-fewer b L K L (put K c (L c)) (voter_at s.live.voters) (voter_at s.voters) (voter_at s.live.voters) (voter_at s.voters) s.live.sent ok.mixes
             (λ X mix. Mix-saved L K c X mix) (λ Y mix. mix));
-        walked = ok.walked;
-        insides = subst (λ (W : ℕ → ClientState). SavedInside W L) kept (Behind-kept K L c ok.insides);
       }
-  | inr past ↦ subst (λ (l : List ClientState). SavedOk b (record s { clients = l })) (sym (set_past s.clients c (client_at s.live.clients c) past)) ok
+  | inr past ↦ subst (λ (l : List ClientState). MixedOk b (record s { clients = l })) (sym (set_past s.clients c (client_at s.live.clients c) past)) ok
 ]
 save_ok b (OneVoter v) s ok = elim (within_or s.voters v) [
   | inl within ↦
@@ -415,65 +445,62 @@ save_ok b (OneVoter v) s ok = elim (within_or s.voters v) [
         mixes = subst (λ (W : ℕ → VoterState). Mixes b (client_at s.live.clients) (client_at s.clients) M W s.live.sent) kept
             (Mixes-fewer b (client_at s.live.clients) (client_at s.clients) (client_at s.live.clients) (client_at s.clients) M N M (put N v (M v)) s.live.sent ok.mixes
             (λ X mix. mix) (λ Y mix. Mix-saved M N v Y mix));
-        walked = ok.walked;
-        insides = ok.insides;
       }
-  | inr past ↦ subst (λ (l : List VoterState). SavedOk b (record s { voters = l })) (sym (set_past s.voters v (voter_at s.live.voters v) past)) ok
+  | inr past ↦ subst (λ (l : List VoterState). MixedOk b (record s { voters = l })) (sym (set_past s.voters v (voter_at s.live.voters v) past)) ok
 ]
 
-sees_crash : (p q : Phase) → (is_inside q ≡ true → is_inside p ≡ true) → Sees p (crash_seen (is_inside p) (is_inside q)) q
-sees_crash Idle Idle h = refl
-sees_crash Idle Asking h = refl
-sees_crash Idle Inside h = (refl, refl)
-sees_crash Asking Idle h = refl
-sees_crash Asking Asking h = refl
-sees_crash Asking Inside h = (refl, refl)
-sees_crash Inside Idle h = (refl, refl)
-sees_crash Inside Asking h = (refl, refl)
-sees_crash Inside Inside h = refl
+sees_crash : (p q : Phase) → Sees p (crash_seen (is_inside p) (is_inside q)) q
+sees_crash Idle Idle = refl
+sees_crash Idle Asking = refl
+sees_crash Idle Inside = (refl, refl)
+sees_crash Asking Idle = refl
+sees_crash Asking Asking = refl
+sees_crash Asking Inside = (refl, refl)
+sees_crash Inside Idle = (refl, refl)
+sees_crash Inside Asking = (refl, refl)
+sees_crash Inside Inside = refl
 
-Mix-one : {A : Type 0} (L K : ℕ → A) (c : ℕ) → Mix L K (put L c (K c))
-Mix-one L K c q = by_number (λ z. (z ≡ L q) ⊎ (z ≡ K q)) L c (K c) q (λ same. inr (ap K (sym same))) (λ _. inl refl)
-
-come_back_ok : (b : Bounds) → RunPremises b → (s : Saved) → SavedOk b s → (c : ℕ) → c < length s.live.clients → SavedOk b (come_back s c (client_at s.clients c))
-come_back_ok b given s ok c within =
+come_back_ok : (b : Bounds) (s : Saved) → MixedOk b s → (c : ℕ) → c < length s.live.clients → Follows b s (come_back s c (client_at s.clients c))
+come_back_ok b s ok c within =
     let L = client_at s.live.clients in
     let K = client_at s.clients in
-    let seen = crash_seen (is_inside (L c).phase) (is_inside (K c).phase) in
     let same : put L c (K c) ≡ client_at (slice_set s.live.clients c (K c)) = sym (client_at-set s.live.clients c (K c) within) in
-    let world = ok.mixes (put L c (K c)) (voter_at s.live.voters) (Mix-one L K c) (λ q. inl refl) in
     record {
-      sizes = (length-set s.live.clients c (K c) ∙ ok.sizes.0, ok.sizes.1, ok.sizes.2, ok.sizes.3);
-      mixes = subst (λ (W : ℕ → ClientState). Mixes b W K (voter_at s.live.voters) (voter_at s.voters) s.live.sent) same
-          (Mixes-fewer b L K (put L c (K c)) K (voter_at s.live.voters) (voter_at s.voters) (voter_at s.live.voters) (voter_at s.voters) s.live.sent ok.mixes
-          (λ X mix. Mix-restarted L K c X mix) (λ Y mix. mix));
-      walked = subst (λ (W : ℕ → ClientState). Walked (s.live.visible ++ events c seen) W) same
-          (Walked-step s.live.visible L c (K c) seen ok.walked (sees_crash (L c).phase (K c).phase (ok.insides c))
-          (λ d in_c in_d. one_inside b given.meet (put L c (K c)) (voter_at s.live.voters) _ world c d in_c in_d));
-      insides = subst (λ (W : ℕ → ClientState). SavedInside K W) same (Behind-live K L c (K c) ok.insides (λ e. e));
+      mixed = record {
+        sizes = (length-set s.live.clients c (K c) ∙ ok.sizes.0, ok.sizes.1, ok.sizes.2, ok.sizes.3);
+        mixes = subst (λ (W : ℕ → ClientState). Mixes b W K (voter_at s.live.voters) (voter_at s.voters) s.live.sent) same
+            (Mixes-fewer b L K (put L c (K c)) K (voter_at s.live.voters) (voter_at s.voters) (voter_at s.live.voters) (voter_at s.voters) s.live.sent ok.mixes
+            (λ X mix. Mix-restarted L K c X mix) (λ Y mix. mix));
+      };
+      shows = record {
+        client = c;
+        after = K c;
+        seen = crash_seen (is_inside (L c).phase) (is_inside (K c).phase);
+        visible = refl;
+        clients = same;
+        sees = sees_crash (L c).phase (K c).phase;
+      };
     }
 
-there : (b : Bounds) (s : Saved) → SavedOk b s → (t : Bool) (u : Saved) → (t ≡ true → SavedOk b u) → SavedOk b (if_there t u s)
+there : (b : Bounds) (s : Saved) → MixedOk b s → (t : Bool) (u : Saved) → (t ≡ true → Follows b s u) → Follows b s (if_there t u s)
 there b s ok true u then = then refl
-there b s ok false u then = ok
+there b s ok false u then = stays b s ok
 
-restart_ok : (b : Bounds) → RunPremises b → (who : Node) (s : Saved) → SavedOk b s → SavedOk b (restart who s)
-restart_ok b given Nobody s ok = ok
-restart_ok b given (OneClient c) s ok = there b s ok _ _ (λ t. come_back_ok b given s ok c (ltb-true _ _ t))
-restart_ok b given (OneVoter v) s ok = elim (within_or s.live.voters v) [
+restart_ok : (b : Bounds) (who : Node) (s : Saved) → MixedOk b s → Follows b s (restart who s)
+restart_ok b Nobody s ok = stays b s ok
+restart_ok b (OneClient c) s ok = there b s ok _ _ (λ t. come_back_ok b s ok c (ltb-true _ _ t))
+restart_ok b (OneVoter v) s ok = elim (within_or s.live.voters v) [
   | inl within ↦
       let M = voter_at s.live.voters in
       let N = voter_at s.voters in
       let same : put M v (N v) ≡ voter_at (slice_set s.live.voters v (N v)) = sym (voter_at-set s.live.voters v (N v) within) in
-      record {
+      unmoved b s _ refl refl (record {
         sizes = (ok.sizes.0, length-set s.live.voters v (N v) ∙ ok.sizes.1, ok.sizes.2, ok.sizes.3);
         mixes = subst (λ (W : ℕ → VoterState). Mixes b (client_at s.live.clients) (client_at s.clients) W N s.live.sent) same
             (Mixes-fewer b (client_at s.live.clients) (client_at s.clients) (client_at s.live.clients) (client_at s.clients) M N (put M v (N v)) N s.live.sent ok.mixes
             (λ X mix. mix) (λ Y mix. Mix-restarted M N v Y mix));
-        walked = ok.walked;
-        insides = ok.insides;
-      }
-  | inr past ↦ subst (λ (l : List VoterState). SavedOk b (record s { live = record s.live { voters = l } })) (sym (set_past s.live.voters v (voter_at s.voters v) past)) ok
+      })
+  | inr past ↦ subst (λ (l : List VoterState). Follows b s (record s { live = record s.live { voters = l } })) (sym (set_past s.live.voters v (voter_at s.voters v) past)) (stays b s ok)
 ]
 
 -- ---- all but the least is lost
@@ -586,7 +613,7 @@ voter_forgets b L K M N sent v all X Y other mix =
           (voter_less b X Z sent v (all X Z other (Mix-other M N Y v others)))
     ]
 
-forget_ok : (b : Bounds) (who : Node) (s : Saved) → SavedOk b s → SavedOk b (forget who s)
+forget_ok : (b : Bounds) (who : Node) (s : Saved) → MixedOk b s → MixedOk b (forget who s)
 forget_ok b Nobody s ok = ok
 forget_ok b (OneClient c) s ok = elim (within_or s.clients c) [
   | inl within ↦
@@ -597,10 +624,8 @@ forget_ok b (OneClient c) s ok = elim (within_or s.clients c) [
         sizes = (ok.sizes.0, ok.sizes.1, length-set s.clients c (least_client (K c)) ∙ ok.sizes.2, ok.sizes.3);
         mixes = subst (λ (W : ℕ → ClientState). Mixes b L W (voter_at s.live.voters) (voter_at s.voters) s.live.sent) kept
             (client_forgets b L K (voter_at s.live.voters) (voter_at s.voters) s.live.sent c ok.mixes);
-        walked = ok.walked;
-        insides = subst (λ (W : ℕ → ClientState). SavedInside W L) kept (Behind-out K L c (least_client (K c)) refl ok.insides);
       }
-  | inr past ↦ subst (λ (l : List ClientState). SavedOk b (record s { clients = l })) (sym (set_past s.clients c (least_client (client_at s.clients c)) past)) ok
+  | inr past ↦ subst (λ (l : List ClientState). MixedOk b (record s { clients = l })) (sym (set_past s.clients c (least_client (client_at s.clients c)) past)) ok
 ]
 forget_ok b (OneVoter v) s ok = elim (within_or s.voters v) [
   | inl within ↦
@@ -611,17 +636,15 @@ forget_ok b (OneVoter v) s ok = elim (within_or s.voters v) [
         sizes = (ok.sizes.0, ok.sizes.1, ok.sizes.2, length-set s.voters v (least_voter (N v)) ∙ ok.sizes.3);
         mixes = subst (λ (W : ℕ → VoterState). Mixes b (client_at s.live.clients) (client_at s.clients) M W s.live.sent) kept
             (voter_forgets b (client_at s.live.clients) (client_at s.clients) M N s.live.sent v ok.mixes);
-        walked = ok.walked;
-        insides = ok.insides;
       }
-  | inr past ↦ subst (λ (l : List VoterState). SavedOk b (record s { voters = l })) (sym (set_past s.voters v (least_voter (voter_at s.voters v)) past)) ok
+  | inr past ↦ subst (λ (l : List VoterState). MixedOk b (record s { voters = l })) (sym (set_past s.voters v (least_voter (voter_at s.voters v)) past)) ok
 ]
 
 -- ---- reminders
 
-client_said : (b : Bounds) → RunPremises b → (s : Saved) → SavedOk b s → (c : ℕ) → c < length s.live.clients
+client_said : (b : Bounds) → Grounds b → (s : Saved) → MixedOk b s → (c : ℕ) → c < length s.live.clients
     → (silent : Bool) → is_silent (length (map kinds.ToVoter (client.remind (client_at s.live.clients c)))) Nothing ≡ silent
-    → SavedOk b (save_unless silent (OneClient c) (record s { live = (say s.live (map kinds.ToVoter (client.remind (client_at s.live.clients c)))).state }))
+    → Follows b s (save_unless silent (OneClient c) (record s { live = (say s.live (map kinds.ToVoter (client.remind (client_at s.live.clients c)))).state }))
 client_said b given s ok c within false is =
     let L = client_at s.live.clients in
     let kept = save_ok b (OneClient c) s ok in
@@ -632,20 +655,18 @@ client_said b given s ok c within false is =
       | inl e ↦ e
       | inr e ↦ e ∙ ap (λ (f : ℕ → ClientState). f c) (client_at-set s.clients c (L c) (subst (λ n. c < n) (sym ok.sizes.2) number)) ∙ put-same (client_at s.clients) c (L c)
     ] in
-    record {
+    unmoved b s _ refl refl (record {
       sizes = kept.sizes;
       mixes = λ X Y mix other. subst (λ (x : ClientState). WorldOk b X Y (s.live.sent ++ map kinds.ToVoter (client.remind x))) (here X mix)
-          (client_reminds given.client b given.meet X Y s.live.sent (kept.mixes X Y mix other) c number);
-      walked = kept.walked;
-      insides = kept.insides;
-    }
+          (client_reminds given.client b given.quorums X Y s.live.sent (kept.mixes X Y mix other) c number);
+    })
 client_said b given s ok c within true is =
-    subst (λ (ms : List Message). SavedOk b (record s { live = record s.live { sent = ms } }))
-    (nothing_more s.live.sent (map kinds.ToVoter (client.remind (client_at s.live.clients c))) (silent_parts _ Nothing is).0) ok
+    subst (λ (ms : List Message). Follows b s (record s { live = record s.live { sent = ms } }))
+    (nothing_more s.live.sent (map kinds.ToVoter (client.remind (client_at s.live.clients c))) (silent_parts _ Nothing is).0) (stays b s ok)
 
-voter_said : (b : Bounds) → RunPremises b → (s : Saved) → SavedOk b s → (v : ℕ) → v < length s.live.voters
+voter_said : (b : Bounds) → Grounds b → (s : Saved) → MixedOk b s → (v : ℕ) → v < length s.live.voters
     → (silent : Bool) → is_silent (length (map kinds.ToClient (voter.remind (voter_at s.live.voters v)))) Nothing ≡ silent
-    → SavedOk b (save_unless silent (OneVoter v) (record s { live = (say s.live (map kinds.ToClient (voter.remind (voter_at s.live.voters v)))).state }))
+    → Follows b s (save_unless silent (OneVoter v) (record s { live = (say s.live (map kinds.ToClient (voter.remind (voter_at s.live.voters v)))).state }))
 voter_said b given s ok v within false is =
     let M = voter_at s.live.voters in
     let kept = save_ok b (OneVoter v) s ok in
@@ -655,43 +676,36 @@ voter_said b given s ok v within false is =
       | inl e ↦ e
       | inr e ↦ e ∙ ap (λ (f : ℕ → VoterState). f v) (voter_at-set s.voters v (M v) (subst (λ n. v < n) (sym ok.sizes.3) number)) ∙ put-same (voter_at s.voters) v (M v)
     ] in
-    record {
+    unmoved b s _ refl refl (record {
       sizes = kept.sizes;
       mixes = λ X Y other mix. subst (λ (y : VoterState). WorldOk b X Y (s.live.sent ++ map kinds.ToClient (voter.remind y))) (here Y mix)
           (voter_reminds given.voter b X Y s.live.sent (kept.mixes X Y other mix) v number);
-      walked = kept.walked;
-      insides = kept.insides;
-    }
+    })
 voter_said b given s ok v within true is =
-    subst (λ (ms : List Message). SavedOk b (record s { live = record s.live { sent = ms } }))
-    (nothing_more s.live.sent (map kinds.ToClient (voter.remind (voter_at s.live.voters v))) (silent_parts _ Nothing is).0) ok
+    subst (λ (ms : List Message). Follows b s (record s { live = record s.live { sent = ms } }))
+    (nothing_more s.live.sent (map kinds.ToClient (voter.remind (voter_at s.live.voters v))) (silent_parts _ Nothing is).0) (stays b s ok)
 
 -- ---- all that may happen
 
-pub if_one : (b : Bounds) (s : Saved) → SavedOk b s → (who : Node) (t : Bool) (c : ℕ) (next : Result Outcome WorldFault) → (t ≡ true → SavedOk b (save_and_send s who next)) → SavedOk b
+pub if_one : (b : Bounds) (s : Saved) → MixedOk b s → (who : Node) (t : Bool) (c : ℕ) (next : Result Outcome WorldFault) → (t ≡ true → Follows b s (save_and_send s who next)) → Follows b s
     (save_and_send s who (if_client t c next))
 if_one b s ok who true c next then = then refl
-if_one b s ok who false c next then = ok
+if_one b s ok who false c next then = stays b s ok
 
-pub if_voter_one : (b : Bounds) (s : Saved) → SavedOk b s → (who : Node) (t : Bool) (v : ℕ) (next : Result Outcome WorldFault) → (t ≡ true → SavedOk b (save_and_send s who next)) → SavedOk b
+pub if_voter_one : (b : Bounds) (s : Saved) → MixedOk b s → (who : Node) (t : Bool) (v : ℕ) (next : Result Outcome WorldFault) → (t ≡ true → Follows b s (save_and_send s who next)) → Follows b s
     (save_and_send s who (if_voter t v next))
 if_voter_one b s ok who true v next then = then refl
-if_voter_one b s ok who false v next then = ok
+if_voter_one b s ok who false v next then = stays b s ok
 
-exchange_ok : (b : Bounds) (s : Saved) → SavedOk b s → (are_two : Bool) (side : Side) → SavedOk b (save_and_send s Nobody (exchange are_two side s.live))
-exchange_ok b s ok true First = record {
-  sizes = ok.sizes;
-  mixes = ok.mixes;
-  walked = ok.walked;
-  insides = ok.insides;
-}
-exchange_ok b s ok true Second = ok
-exchange_ok b s ok false side = ok
+exchange_ok : (b : Bounds) (s : Saved) → MixedOk b s → (are_two : Bool) (side : Side) → Follows b s (save_and_send s Nobody (exchange are_two side s.live))
+exchange_ok b s ok true First = unmoved b s _ refl refl (record { sizes = ok.sizes; mixes = ok.mixes })
+exchange_ok b s ok true Second = stays b s ok
+exchange_ok b s ok false side = stays b s ok
 
-comes_ok : (b : Bounds) → RunPremises b → (s : Saved) → SavedOk b s → (k : ℕ) (o : Option Message)
+comes_ok : (b : Bounds) → Grounds b → (s : Saved) → MixedOk b s → (k : ℕ) (o : Option Message)
     → ((X : ℕ → ClientState) (Y : ℕ → VoterState) → WorldOk b X Y s.live.sent → (m : Message) → o ≡ Some m → MessageOk X Y m)
-    → ((m : Message) → o ≡ Some m → IsInRange b.voters b.clients b.limit m) → SavedOk b (save_and_send s (receiver o) (come s.live k o))
-comes_ok b given s ok k None known range = ok
+    → ((m : Message) → o ≡ Some m → IsInRange b.voters b.clients b.limit m) → Follows b s (save_and_send s (receiver o) (come s.live k o))
+comes_ok b given s ok k None known range = stays b s ok
 comes_ok b given s ok k (Some (kinds.ToVoter m)) known range =
     voter_tried b given s ok m (range (kinds.ToVoter m) refl) (λ X Y mix world. known X Y world (kinds.ToVoter m) refl) _ refl
 comes_ok b given s ok k (Some (kinds.ToClient m)) known range =
@@ -699,29 +713,66 @@ comes_ok b given s ok k (Some (kinds.ToClient m)) known range =
     let few = given.limits.few_voters in
     let least = within.1 in
     client_tried b given s ok m.client (subst (λ n. m.client < n) (sym ok.sizes.0) within.0) (client.Takes m)
-    (sym ((live_ok b s ok).client_ids m.client within.0).id, omega arith)
+    (sym ((live_fits b s ok).client_ids m.client within.0).id, omega arith)
     (λ X Y world. came_by b (X m.client) Y m.voter m.client m.body within.1 within.3 (known X Y world (kinds.ToClient m) refl))
     tt _ refl
 
-pub happens_ok : (b : Bounds) → RunPremises b → (deal : Dealing) → DealsFrom b.quorums deal → (s : Saved) → SavedOk b s → (h : Happening) → SavedOk b (happens deal s h)
+same_live : (b : Bounds) (s t : Saved) → s.live ≡ t.live → MixedOk b t → Follows b s t
+same_live b s t live = unmoved b s t (ap (λ (w : WorldState). w.clients) live) (ap (λ (w : WorldState). w.visible) live)
+
+save_live : (who : Node) (s : Saved) → s.live ≡ (save who s).live
+save_live Nobody s = refl
+save_live (OneClient c) s = refl
+save_live (OneVoter v) s = refl
+
+forget_live : (who : Node) (s : Saved) → s.live ≡ (forget who s).live
+forget_live Nobody s = refl
+forget_live (OneClient c) s = refl
+forget_live (OneVoter v) s = refl
+
+pub happens_mixed : (b : Bounds) → Grounds b → (deal : Dealing) → DealsFrom b.quorums deal → (s : Saved) → MixedOk b s → (h : Happening) → Follows b s (happens deal s h)
 unfolding step
-happens_ok b given deal deals s ok (Goes (Ask c)) = if_one b s ok (OneClient c) _ c _ (λ t.
+happens_mixed b given deal deals s ok (Goes (Ask c)) = if_one b s ok (OneClient c) _ c _ (λ t.
     let among = deals s.live.side (next_ticket s.live) in
     client_drew b given s ok c (ltb-true _ _ t) (client.Asks (quorum_dealt deal s.live.side (next_ticket s.live)))
-    (accepts_among b given.meet (quorum_dealt deal s.live.side (next_ticket s.live)) among) (λ X Y world v t g never. absurd never) among s.live.side _ refl)
-happens_ok b given deal deals s ok (Goes (Deliver k)) = comes_ok b given s ok k (slice_get s.live.sent k)
+    (one_accepted b given.quorums (quorum_dealt deal s.live.side (next_ticket s.live)) among) (λ X Y world v t g never. absurd never) among s.live.side _ refl)
+happens_mixed b given deal deals s ok (Goes (Deliver k)) = comes_ok b given s ok k (slice_get s.live.sent k)
     (λ X Y world m is. AllByRecursion-get (MessageOk X Y) s.live.sent k m world.messages is)
-    (λ m is. AllByRecursion-get (IsInRange b.voters b.clients b.limit) s.live.sent k m (live_ok b s ok).ranges is)
-happens_ok b given deal deals s ok (Goes (Leave c)) = if_one b s ok (OneClient c) _ c _
+    (λ m is. AllByRecursion-get (IsInRange b.voters b.clients b.limit) s.live.sent k m (live_fits b s ok).ranges is)
+happens_mixed b given deal deals s ok (Goes (Leave c)) = if_one b s ok (OneClient c) _ c _
     (λ t. client_tried b given s ok c (ltb-true _ _ t) client.Leaves tt (λ X Y world v t g never. absurd never) tt _ refl)
-happens_ok b given deal deals s ok (Goes (GiveUp c)) = if_one b s ok (OneClient c) _ c _
+happens_mixed b given deal deals s ok (Goes (GiveUp c)) = if_one b s ok (OneClient c) _ c _
     (λ t. client_tried b given s ok c (ltb-true _ _ t) client.GivesUp tt (λ X Y world v t g never. absurd never) tt _ refl)
-happens_ok b given deal deals s ok (Goes (RemindClient c)) = if_one b s ok (OneClient c) _ c _ (λ t. client_said b given s ok c (ltb-true _ _ t) _ refl)
-happens_ok b given deal deals s ok (Goes (RemindVoter v)) = if_voter_one b s ok (OneVoter v) _ v _ (λ t. voter_said b given s ok v (ltb-true _ _ t) _ refl)
-happens_ok b given deal deals s ok (Goes Exchange) = exchange_ok b s ok _ s.live.side
-happens_ok b given deal deals s ok (Saves who) = save_ok b who s ok
-happens_ok b given deal deals s ok (Forgets who) = forget_ok b who s ok
-happens_ok b given deal deals s ok (Restarts who) = restart_ok b given who s ok
+happens_mixed b given deal deals s ok (Goes (RemindClient c)) = if_one b s ok (OneClient c) _ c _ (λ t. client_said b given s ok c (ltb-true _ _ t) _ refl)
+happens_mixed b given deal deals s ok (Goes (RemindVoter v)) = if_voter_one b s ok (OneVoter v) _ v _ (λ t. voter_said b given s ok v (ltb-true _ _ t) _ refl)
+happens_mixed b given deal deals s ok (Goes Exchange) = exchange_ok b s ok _ s.live.side
+happens_mixed b given deal deals s ok (Saves who) = same_live b s _ (save_live who s) (save_ok b who s ok)
+happens_mixed b given deal deals s ok (Forgets who) = same_live b s _ (forget_live who s) (forget_ok b who s ok)
+happens_mixed b given deal deals s ok (Restarts who) = restart_ok b who s ok
+
+-- ---- quorums that meet
+
+pub record SavedOk (b : Bounds) (s : Saved) : Type 0 where
+  pub sizes : AreAll b (length s.live.clients) (length s.live.voters) (length s.clients) (length s.voters)
+  pub mixes : Mixes b (client_at s.live.clients) (client_at s.clients) (voter_at s.live.voters) (voter_at s.voters) s.live.sent
+  pub walked : Walked s.live.visible (client_at s.live.clients)
+
+pub mixed_of : (b : Bounds) (s : Saved) → SavedOk b s → MixedOk b s
+mixed_of b s ok = record { sizes = ok.sizes; mixes = ok.mixes }
+
+pub live_ok : (b : Bounds) (s : Saved) → SavedOk b s → WorldOk b (client_at s.live.clients) (voter_at s.live.voters) s.live.sent
+live_ok b s ok = live_fits b s (mixed_of b s ok)
+
+-- with quorums that meet nobody is inside together with another
+pub follows_ok : (b : Bounds) → DoMeet b.voters b.quorums → (s t : Saved) → SavedOk b s → Follows b s t → SavedOk b t
+follows_ok b meet s t ok next = record {
+  sizes = next.mixed.sizes;
+  mixes = next.mixed.mixes;
+  walked = walks_on s t ok.walked next.shows (one_inside b meet (client_at t.live.clients) (voter_at t.live.voters) t.live.sent (live_fits b t next.mixed));
+}
+
+pub happens_ok : (b : Bounds) → RunPremises b → (deal : Dealing) → DealsFrom b.quorums deal → (s : Saved) → SavedOk b s → (h : Happening) → SavedOk b (happens deal s h)
+happens_ok b given deal deals s ok h = follows_ok b given.meet s (happens deal s h) ok (happens_mixed b (grounds b given) deal deals s (mixed_of b s ok) h)
 
 pub all_ok : (b : Bounds) → RunPremises b → (deal : Dealing) → DealsFrom b.quorums deal → (hs : List Happening) (s : Saved) → SavedOk b s → SavedOk b (all_happen deal hs s)
 all_ok b given deal deals [] s ok = ok
@@ -739,7 +790,6 @@ saved_now b w ok = record {
   mixes = λ X Y mix other. subst (λ (V : ℕ → ClientState). WorldOk b V Y w.sent) (Mix-same (client_at w.clients) X mix)
       (subst (λ (V : ℕ → VoterState). WorldOk b (client_at w.clients) V w.sent) (Mix-same (voter_at w.voters) Y other) ok.world);
   walked = ok.walked;
-  insides = λ c e. e;
 }
 
 pub begin_ok : (b : Bounds) → RunPremises b → SavedOk b (begin b.voters b.clients b.limit)

@@ -1,5 +1,5 @@
 -- What can be seen of a run: who enters and who leaves.
-use Rattle.std.specs.Prelude.{ℕ, ◌≡◌, ◌==◌, ◌<◌, ◌&&◌, true, false, List, [], ◌∷◌, length, Option, Some, None, slice_index_or}
+use Rattle.std.specs.Prelude.{ℕ, ◌≡◌, ◌==◌, ◌<◌, ◌≤◌, ◌&&◌, true, false, List, [], ◌∷◌, length, Option, Some, None, slice_index_or}
 use Rattle.std.specs.List.{All, count_by}
 use Rattle.numbers.specs.Sets.{IsSet}
 use Rattle.quorum_set.specs.Meetings.{AllMeet}
@@ -27,6 +27,12 @@ pub record DoMeet (voters : ℕ) (quorums : List (List ℕ)) : Type 0 where
   pub sets : All IsSet quorums
   pub in_range : All (λ q. All (λ v. v < voters) q) quorums
   pub meets : AllMeet voters quorums
+
+-- Quorums over these voters: each is a set with a member. Two of them need not have a common one.
+pub record AreQuorums (voters : ℕ) (quorums : List (List ℕ)) : Type 0 where
+  pub sets : All IsSet quorums
+  pub in_range : All (λ q. All (λ v. v < voters) q) quorums
+  pub some : All (λ q. 1 ≤ length q) quorums
 
 -- the list is one of these quorums
 abbrev pub IsAmong : List (List ℕ) → List ℕ → Type 0
