@@ -35,7 +35,7 @@ use Rattle.world.proofs.ClientMoves.{member_below}
 use Rattle.world.proofs.Exclusion.{under_grant}
 use Rattle.world.proofs.Places.{set_client, set_voter}
 use Rattle.world.proofs.Plans.{plans_deal, plans_meet, quorums_of}
-use Rattle.world.proofs.Reached.{RunPremises, start_ok, start_unused}
+use Rattle.world.proofs.Reached.{RunPremises, are_quorums, start_ok, start_unused}
 use Rattle.world.proofs.SavedWorlds.{SavedLaws}
 use Rattle.world.specs.Incidents.{Incident, anew, befalls, limited, reborn, skipped}
 use Rattle.incidents.specs.Calls.{befalls_by}
@@ -133,7 +133,7 @@ fit_keeps b given s fit =
     let Y = voter_at s.live.voters in
     let Z = voter_at s.voters in
     let after = λ (c : ℕ) (cause : client.Cause) (o : client.Outcome) (act : Acts b (scene_of s) c cause) (is : client.step (X c) cause ≡ Ok o).
-    client_after given.client b given.meet c (X c) cause o (fit.clients_are c act.within) act.accepts act.draws (comes_of b s fit c cause act) is in
+    client_after given.client b (are_quorums b given.meet) c (X c) cause o (fit.clients_are c act.within) act.accepts act.draws (comes_of b s fit c cause act) is in
     record {
       known = known_of b s fit;
       stays = fit;
@@ -197,7 +197,7 @@ begin_client b given c within =
       id = (ok.world.client_ids c within).id;
       limit = (ok.world.client_ids c within).limit;
       sound = (ok.world.clients c).sound;
-      quorum = λ v is. member_below b given.meet x (ok.world.clients c).quorum v is;
+      quorum = λ v is. member_below b (are_quorums b given.meet) x (ok.world.clients c).quorum v is;
       held = λ v. elim (cases_lt 0 (held_of x v)) [
         | inl some ↦ absurd (none-some _ (sym (start_unused b given v).held ∙ ok.world.held c v (held_of x v) (under_grant x v some)))
         | inr none ↦ omega arith

@@ -35,7 +35,7 @@ use Rattle.requester.specs.Steps as client
 use Rattle.requester.specs.Words.{held_of, holds_under, is_member, last_of, members}
 use Rattle.world.specs.Ranges.{IsWithin, ReportsWithin}
 use Rattle.world.specs.Rules.{ClientLaws, VoterLaws}
-use Rattle.world.specs.Visible.{DoMeet, IsAmong}
+use Rattle.world.specs.Visible.{AreQuorums, IsAmong}
 use Rattle.world.proofs.Claims.{Bounds}
 use Rattle.world.proofs.ClientMoves.{Draws, member_below}
 use Rattle.world.proofs.Exclusion.{under_grant}
@@ -62,12 +62,12 @@ ComesOfWorld b cause = (v s g : ℕ) → IsLocked cause v s g → (v < b.voters)
 under_same : (x : ClientState) (v g : ℕ) → holds_under x v g ≡ true → held_of x v ≡ g
 under_same x v g is = grind (arith, nat_tests)
 
-quorum_on : (b : Bounds) → DoMeet b.voters b.quorums → (x y : ClientState) (cause : client.Cause) → Draws b cause → KeepsQuorum x cause y
+quorum_on : (b : Bounds) → AreQuorums b.voters b.quorums → (x y : ClientState) (cause : client.Cause) → Draws b cause → KeepsQuorum x cause y
     → ((v : ℕ) → is_member x v ≡ true → v < b.voters) → (v : ℕ) → is_member y v ≡ true → v < b.voters
-quorum_on b meet x y (client.Asks q) draws keeps was v is = member_below b meet y (inr (subst (λ (l : List ℕ). IsAmong b.quorums l) (sym keeps) draws)) v is
-quorum_on b meet x y (client.Takes m) draws keeps was v is = was v (subst (λ (l : List ℕ). has l v ≡ true) keeps.0 is)
-quorum_on b meet x y client.Leaves draws keeps was v is = was v (subst (λ (l : List ℕ). has l v ≡ true) keeps.0 is)
-quorum_on b meet x y client.GivesUp draws keeps was v is = was v (subst (λ (l : List ℕ). has l v ≡ true) keeps.0 is)
+quorum_on b are x y (client.Asks q) draws keeps was v is = member_below b are y (inr (subst (λ (l : List ℕ). IsAmong b.quorums l) (sym keeps) draws)) v is
+quorum_on b are x y (client.Takes m) draws keeps was v is = was v (subst (λ (l : List ℕ). has l v ≡ true) keeps.0 is)
+quorum_on b are x y client.Leaves draws keeps was v is = was v (subst (λ (l : List ℕ). has l v ≡ true) keeps.0 is)
+quorum_on b are x y client.GivesUp draws keeps was v is = was v (subst (λ (l : List ℕ). has l v ≡ true) keeps.0 is)
 
 pub comes_in_range : (b : Bounds) (x : ClientState) (cause : client.Cause) → x.limit ≡ b.limit → ComesOfWorld b cause → ComesInRange x.limit cause
 comes_in_range b x cause limit comes v s g locks =
@@ -75,16 +75,16 @@ comes_in_range b x cause limit comes v s g locks =
     let most = within.1 in
     (within.0, omega arith)
 
-pub client_after : ClientLaws → (b : Bounds) → DoMeet b.voters b.quorums → (c : ℕ) (x : ClientState) (cause : client.Cause) (o : client.Outcome) → FitClient b c x → Accepts x cause → Draws b cause
+pub client_after : ClientLaws → (b : Bounds) → AreQuorums b.voters b.quorums → (c : ℕ) (x : ClientState) (cause : client.Cause) (o : client.Outcome) → FitClient b c x → Accepts x cause → Draws b cause
     → ComesOfWorld b cause → client.step x cause ≡ Ok o → FitClient b c o.state
-client_after laws b meet c x cause o fit accepts draws comes is =
+client_after laws b are c x cause o fit accepts draws comes is =
     let y = o.state in
     let move = laws.meets x cause o fit.sound accepts is in
     record {
       id = move.id ∙ fit.id;
       limit = move.limit ∙ fit.limit;
       sound = laws.stays x cause o fit.sound accepts is;
-      quorum = quorum_on b meet x y cause draws move.quorum fit.quorum;
+      quorum = quorum_on b are x y cause draws move.quorum fit.quorum;
       held = λ v. elim (cases_lt 0 (held_of y v)) [
         | inl some ↦ elim (move.held v (held_of y v) (under_grant y v some)) [
           | inl before ↦ let same = under_same x v (held_of y v) before.0 in let most = fit.held v in omega arith

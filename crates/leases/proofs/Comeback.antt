@@ -645,7 +645,6 @@ idle_ok b G s num st idle =
             | inr e ↦ subst (λ (y : VoterState). SoundVoter b v y × VoterFits b s.clients y × (N v ≤ y.granted)) (sym e) (num.voters v, st.voters v, as_many N v)
           ]);
       walked = record { list = tt; inside = λ c. idle_out (client_at s.live.clients c).phase (idle c).0 };
-      insides = λ c in_saved. absurd (false≢true (sym (idle_out (client_at s.clients c).phase (idle c).1) ∙ in_saved));
     }
 
 pub comes_back : ClientLaws → VoterLaws → EndLaws → (voters clients limit : ℕ) (quorums : List (List ℕ)) (deal : Dealing) (incidents : List Incident) (hs : List Happening)

@@ -35,7 +35,7 @@ use Rattle.requester.specs.Words.{holds_under, is_inside, members}
 use Rattle.world.specs.Restarts.{Saved, begin}
 use Rattle.world.specs.Runs.{start}
 use Rattle.world_state.specs.Steps.{Dealing, client_at, say, voter_at}
-use Rattle.world.specs.Visible.{DealsFrom, DoMeet, IsAmong}
+use Rattle.world.specs.Visible.{AreQuorums, DealsFrom, IsAmong}
 use Rattle.world.specs.Rules.{ClientLaws, VoterLaws}
 use Rattle.world.proofs.Claims.{Bounds, put}
 use Rattle.world.specs.Ranges.{IsWithin}
@@ -44,7 +44,7 @@ use Rattle.world.proofs.Exclusion.{inside_busy}
 use Rattle.world.proofs.IncidentLemmas.{AsksInRange, anew_sound, brought, counted, reborn_sound}
 use Rattle.world.proofs.Places.{set_client, set_voter, voter_here, voter_others}
 use Rattle.world.proofs.VoterMoves.{more_granted}
-use Rattle.world.proofs.Reached.{RunPremises, new_voters, start_ok, start_unused, voter_new}
+use Rattle.world.proofs.Reached.{RunPremises, are_quorums, new_voters, start_ok, start_unused, voter_new}
 use Rattle.world.proofs.Restarts.{AreAll}
 use Rattle.passes.specs.Grants.{Gave, IsGiven, Voters}
 use Rattle.passes.specs.Grants as grants
@@ -188,10 +188,10 @@ replies_told b M v seen z within votes most (r ∷ rs) report place carry = (
   replies_told b M v seen z within votes most rs report.1 place.1 carry.1,
 )
 
-reached : (b : Bounds) → DoMeet b.voters b.quorums → (y : ClientState) (G : VoterLives) (c : ℕ) (cause : client.Cause) → CameNamed b G c cause
+reached : (b : Bounds) → AreQuorums b.voters b.quorums → (y : ClientState) (G : VoterLives) (c : ℕ) (cause : client.Cause) → CameNamed b G c cause
     → (members y ≡ []) ⊎ IsAmong b.quorums (members y) → (v : ℕ) → IsReached cause y v → v < b.voters
-reached b meet y G c cause came quorum v is = elim is [
-  | inl member ↦ member_below b meet y quorum v member
+reached b are y G c cause came quorum v is = elim is [
+  | inl member ↦ member_below b are y quorum v member
   | inr locked ↦ (came v locked.0 locked.1.0 locked.1.1).0.1
 ]
 
@@ -200,29 +200,29 @@ asks_range b limit is (asks.Request s) says = let most = says.1 in (says.0, omeg
 asks_range b limit is (asks.Relinquish g) says = tt
 asks_range b limit is (asks.Release s) says = tt
 
-asks_told : (b : Bounds) → DoMeet b.voters b.quorums → (G : VoterLives) (N : ℕ → ℕ) (c : ℕ) → c < b.clients → (x y : ClientState) (cause : client.Cause) → x.id ≡ c → y.limit ≡ b.limit
+asks_told : (b : Bounds) → AreQuorums b.voters b.quorums → (G : VoterLives) (N : ℕ → ℕ) (c : ℕ) → c < b.clients → (x y : ClientState) (cause : client.Cause) → x.id ≡ c → y.limit ≡ b.limit
     → (members y ≡ []) ⊎ IsAmong b.quorums (members y) → CameNamed b G c cause → (out : List ToVoter) → AllSay x cause y out → AllInRange cause y out
     → AllByRecursion (ToldSaved b N) (map kinds.ToVoter out)
-asks_told b meet G N c within x y cause id limit quorum came [] say range = tt
-asks_told b meet G N c within x y cause id limit quorum came (m ∷ ms) say range = (
+asks_told b are G N c within x y cause id limit quorum came [] say range = tt
+asks_told b are G N c within x y cause id limit quorum came (m ∷ ms) say range = (
   (
     subst (λ n. n < b.clients) (sym (say.0.0 ∙ id)) within,
-    reached b meet y G c cause came quorum m.voter range.0.0,
+    reached b are y G c cause came quorum m.voter range.0.0,
     asks_range b y.limit limit m.body range.0.2,
   ),
-  asks_told b meet G N c within x y cause id limit quorum came ms say.1 range.1,
+  asks_told b are G N c within x y cause id limit quorum came ms say.1 range.1,
 )
 
-reminders_told : (b : Bounds) → DoMeet b.voters b.quorums → (G : VoterLives) (N : ℕ → ℕ) (c : ℕ) → c < b.clients → (x : ClientState) → HoldsByGrants b G c x
+reminders_told : (b : Bounds) → AreQuorums b.voters b.quorums → (G : VoterLives) (N : ℕ → ℕ) (c : ℕ) → c < b.clients → (x : ClientState) → HoldsByGrants b G c x
     → (out : List ToVoter) → AllRepeat x out → RemindersInRange x out → AllByRecursion (ToldSaved b N) (map kinds.ToVoter out)
-reminders_told b meet G N c within x knows [] say range = tt
-reminders_told b meet G N c within x knows (m ∷ ms) say range = (
+reminders_told b are G N c within x knows [] say range = tt
+reminders_told b are G N c within x knows (m ∷ ms) say range = (
   (
     subst (λ n. n < b.clients) (sym (say.0.0 ∙ knows.id within)) within,
-    member_below b meet x knows.quorum m.voter range.0.0,
+    member_below b are x knows.quorum m.voter range.0.0,
     asks_range b x.limit (knows.limit within) m.body range.0.2,
   ),
-  reminders_told b meet G N c within x knows ms say.1 range.1,
+  reminders_told b are G N c within x knows ms say.1 range.1,
 )
 
 -- ---- the world
@@ -311,7 +311,7 @@ client_out b given G w ok c cause o act is =
     let knows = knows_after given.client b G c x cause o was act.accepts act.draws came is in
     let comes : ComesInRange x.limit cause = λ v t g locks. subst (λ n. IsWithin n t) (sym (was.limit act.within)) (came v t g locks).1 in (
       knows,
-      asks_told b given.meet G (count w.voters) c act.within x o.state cause (was.id act.within) (knows.limit act.within) knows.quorum came o.out
+      asks_told b (are_quorums b given.meet) G (count w.voters) c act.within x o.state cause (was.id act.within) (knows.limit act.within) knows.quorum came o.out
           (given.client.meets x cause o was.sound act.accepts is).out (given.client.ranges x cause o was.sound act.accepts comes is),
     )
 
@@ -535,7 +535,7 @@ numbered_keeps b given G w ok =
       client_reminds = λ c within.
           let was = ok.live_clients c in
           client_on b G w ok c (X c) (X c) (client.remind (X c)) was was
-          (reminders_told b given.meet G (count w.voters) c within (X c) was (client.remind (X c)) (given.client.repeats (X c)) (given.client.reminders (X c) was.sound));
+          (reminders_told b (are_quorums b given.meet) G (count w.voters) c within (X c) was (client.remind (X c)) (given.client.repeats (X c)) (given.client.reminders (X c) was.sound));
       client_saves = λ c within. client_on b G w ok c (X c) (X c) [] (ok.live_clients c) (ok.live_clients c) tt;
       client_forgets = λ c within. client_on b G w ok c (X c) (least_client (client_at w.clients c)) [] (ok.live_clients c) (least_client_on b G c (client_at w.clients c) (ok.clients c)) tt;
       client_restarts = λ c within. client_on b G w ok c (client_at w.clients c) (client_at w.clients c) [] (ok.clients c) (ok.clients c) tt;

@@ -34,13 +34,13 @@ use Rattle.world_state.specs.Steps.{Dealing, client_at, events, voter_at}
 use Rattle.world.specs.Visible.{DealsFrom, DoMeet, IsExclusive}
 use Rattle.world.specs.Rules.{ClientLaws, VoterLaws}
 use Rattle.world.proofs.Claims.{AskOk, Bounds, ReportOk, MessageOk, VoterOk, WorldOk, put, put-same}
-use Rattle.world.proofs.Exclusion.{Walked, Walked-step}
-use Rattle.world.proofs.IncidentLemmas.{anew_sound, counted, may_count, may_have, reborn_sound}
+use Rattle.world.proofs.Exclusion.{Walked-step}
+use Rattle.world.proofs.IncidentLemmas.{anew_by, counted, may_count, may_have, reborn_sound}
 use Rattle.world.proofs.Places.{client_at-set, voter_at-set, voter_here}
-use Rattle.world.proofs.Reached.{RunPremises}
-use Rattle.world.proofs.Restarts.{ClientReturns, Mix, SavedOk, begin_ok, client_less, client_tried, happens_ok, if_one, if_voter_one, live_ok, voter_tried}
+use Rattle.world.proofs.Reached.{Grounds, RunPremises, grounds}
+use Rattle.world.proofs.Restarts.{ClientReturns, Follows, Mix, MixedOk, SavedOk, begin_ok, client_less, client_tried, follows_ok, happens_mixed, if_one, if_voter_one, live_fits, mixed_of, stays, unmoved, voter_tried}
 use Rattle.world.specs.Incidents.{Incident, Happens, Hears, IsReborn, StartsAnew, HasLimit, IsRaised, IsSkipped, all_befall, anew, be_raised, be_reborn, be_skipped, befalls, have_limit, hear, is_above, is_ahead, is_limit, is_message, is_request_within, reborn, start_anew}
-use Rattle.leases.specs.Orderly.{AreDone, AreOrderly, CountsNoMore, EndsOld, IsOver, IsStale}
+use Rattle.leases.specs.Orderly.{AreDone, AreOrderly, CountsNoMore, EndsOld, IsOrderly, IsOver, IsStale}
 use Rattle.world.proofs.Raises.{no_inquiry, raised_by_step}
 use Rattle.leases.proofs.LifeLemmas.{put_at}
 
@@ -142,22 +142,22 @@ free_done b clients Y sent v ok free = record {
 }
 
 -- the live voter beside the live clients, and beside the saved ones
-free_over : (b : Bounds) (s : Saved) → SavedOk b s → (v : ℕ) → (voter_at s.live.voters v).held ≡ None → IsOver s v
+free_over : (b : Bounds) (s : Saved) → MixedOk b s → (v : ℕ) → (voter_at s.live.voters v).held ≡ None → IsOver s v
 free_over b s ok v free =
     let M = voter_at s.live.voters in (
-      free_done b s.live.clients M s.live.sent v (live_ok b s ok) free,
+      free_done b s.live.clients M s.live.sent v (live_fits b s ok) free,
       free_done b s.clients M s.live.sent v (ok.mixes (client_at s.clients) M (λ q. inr refl) (λ q. inl refl)) free,
     )
 
-over_or_free : (b : Bounds) (s : Saved) → SavedOk b s → (v : ℕ) → IsOver s v ⊎ ((voter_at s.live.voters v).held ≡ None) → IsOver s v
+over_or_free : (b : Bounds) (s : Saved) → MixedOk b s → (v : ℕ) → IsOver s v ⊎ ((voter_at s.live.voters v).held ≡ None) → IsOver s v
 over_or_free b s ok v is = elim is [ inl over ↦ over | inr free ↦ free_over b s ok v free ]
 
 -- ---- a voter that is reborn
 
-rebirth_ok : (b : Bounds) → RunPremises b → (s : Saved) → SavedOk b s → (v above : ℕ) → IsOver s v → (t : Bool) → (nat_lt v (length s.live.voters) && is_above (voter_at s.live.voters v) above) ≡ t
-    → SavedOk b (be_reborn t s v above)
-rebirth_ok b given s ok v above over false is = ok
-rebirth_ok b given s ok v above over true is =
+rebirth_ok : (b : Bounds) (s : Saved) → MixedOk b s → (v above : ℕ) → IsOver s v → (t : Bool) → (nat_lt v (length s.live.voters) && is_above (voter_at s.live.voters v) above) ≡ t
+    → Follows b s (be_reborn t s v above)
+rebirth_ok b s ok v above over false is = stays b s ok
+rebirth_ok b s ok v above over true is =
     let M = voter_at s.live.voters in
     let N = voter_at s.voters in
     let L = client_at s.live.clients in
@@ -168,8 +168,8 @@ rebirth_ok b given s ok v above over true is =
     let within = may.within in
     let within_b : v < b.voters = subst (λ n. v < n) ok.sizes.1 within in
     let within_saved : v < length s.voters = subst (λ n. v < n) (sym ok.sizes.3) within_b in
-    let live = live_ok b s ok in
-    record {
+    let live = live_fits b s ok in
+    unmoved b s _ refl refl (record {
       sizes = (ok.sizes.0, length-set s.live.voters v z ∙ ok.sizes.1, ok.sizes.2, length-set s.voters v z ∙ ok.sizes.3);
       mixes = λ X Y mix other.
           let at : Y v ≡ z = elim (other v) [
@@ -191,15 +191,13 @@ rebirth_ok b given s ok v above over true is =
           let old : VoterOk b X y = subst (λ (a : VoterState). VoterOk b X a) (put-same Y v y) (world.voters v) in
           subst (λ (W : ℕ → VoterState). WorldOk b X W s.live.sent) (put_back Y v y z at)
           (reborn_world b X Z s.live.sent v z world (reborn_ok b X y above old may.most) (λ w. live.voter_ids v w) refl (subst (λ (a : VoterState). a.granted ≤ above) (sym (put-same Y v y)) may.least) none past);
-      walked = ok.walked;
-      insides = ok.insides;
-    }
+    })
 
 -- ---- a client that starts anew
 
-anew_comes : (b : Bounds) → RunPremises b → (x : ClientState) (clock : ℕ) → sound.IsSound x → x.stamp ≤ clock → clock ≤ x.limit → ClientReturns x (anew x clock)
-anew_comes b given x clock ok least most = record {
-  sound = anew_sound b given x clock ok most;
+anew_comes : ClientLaws → (x : ClientState) (clock : ℕ) → sound.IsSound x → x.stamp ≤ clock → clock ≤ x.limit → ClientReturns x (anew x clock)
+anew_comes laws x clock ok least most = record {
+  sound = anew_by laws x clock ok most;
   id = refl;
   limit = refl;
   stamp = least;
@@ -214,13 +212,9 @@ left_by Idle = refl
 left_by Asking = refl
 left_by Inside = (refl, refl)
 
-inside_both : (L K : ℕ → ClientState) (c : ℕ) (z : ClientState) → ((q : ℕ) → is_inside (K q).phase ≡ true → is_inside (L q).phase ≡ true) → (q : ℕ) → is_inside (put K c z q).phase ≡ true
-    → is_inside (put L c z q).phase ≡ true
-inside_both L K c z behind q = elim (eqb q c) as (λ t. is_inside (cond t z (K q)).phase ≡ true → is_inside (cond t z (L q)).phase ≡ true) [ true ↦ λ e. e | false ↦ behind q ]
-
-anew_ok : (b : Bounds) → RunPremises b → (s : Saved) → SavedOk b s → (c clock : ℕ) (t : Bool) → (nat_lt c (length s.live.clients) && is_ahead (client_at s.live.clients c) clock) ≡ t
-    → SavedOk b (start_anew t s c clock)
-anew_ok b given s ok c clock false is = ok
+anew_ok : (b : Bounds) → Grounds b → (s : Saved) → MixedOk b s → (c clock : ℕ) (t : Bool) → (nat_lt c (length s.live.clients) && is_ahead (client_at s.live.clients c) clock) ≡ t
+    → Follows b s (start_anew t s c clock)
+anew_ok b given s ok c clock false is = stays b s ok
 anew_ok b given s ok c clock true is =
     let L = client_at s.live.clients in
     let K = client_at s.clients in
@@ -233,29 +227,34 @@ anew_ok b given s ok c clock true is =
     let most : clock ≤ x.limit = (let h = ends.1 in grind (arith, nat_tests)) in
     let within : c < length s.live.clients = ltb-true _ _ parts.0 in
     let within_saved : c < length s.clients = subst (λ n. c < n) (sym ok.sizes.2) (subst (λ n. c < n) ok.sizes.0 within) in
-    let comes = anew_comes b given x clock ((live_ok b s ok).clients c).sound least most in
+    let comes = anew_comes given.client x clock ((live_fits b s ok).clients c).sound least most in
     let live : put L c z ≡ client_at (slice_set s.live.clients c z) = sym (client_at-set s.live.clients c z within) in
     let saved : put K c z ≡ client_at (slice_set s.clients c z) = sym (client_at-set s.clients c z within_saved) in
     record {
-      sizes = (length-set s.live.clients c z ∙ ok.sizes.0, ok.sizes.1, length-set s.clients c z ∙ ok.sizes.2, ok.sizes.3);
-      mixes = λ X Y mix other.
-          let at : X c ≡ z = elim (mix c) [
-            | inl e ↦ e ∙ ap (λ (f : ℕ → ClientState). f c) (sym live) ∙ put-same L c z
-            | inr e ↦ e ∙ ap (λ (f : ℕ → ClientState). f c) (sym saved) ∙ put-same K c z
-          ] in
-          let Z = put X c x in
-          let before : Mix L K Z = λ q. put_at (λ (a : ClientState). (a ≡ L q) ⊎ (a ≡ K q)) X c x q (λ same. inl (ap L (sym same)))
-          (λ apart. elim (mix q) [
-            | inl e ↦ inl (e ∙ ap (λ (f : ℕ → ClientState). f q) (sym live) ∙ put_at (λ (a : ClientState). a ≡ L q) L c z q (λ same. absurd (apart same)) (λ _. refl))
-            | inr e ↦ inr (e ∙ ap (λ (f : ℕ → ClientState). f q) (sym saved) ∙ put_at (λ (a : ClientState). a ≡ K q) K c z q (λ same. absurd (apart same)) (λ _. refl))
-          ]) in
-          subst (λ (W : ℕ → ClientState). WorldOk b W Y s.live.sent) (put_back X c x z at)
-          (client_less b Z Y s.live.sent c z (ok.mixes Z Y before other) (subst (λ (a : ClientState). ClientReturns a z) (sym (put-same X c x)) comes));
-      walked = subst (λ (W : ℕ → ClientState). Walked (s.live.visible ++ events c (crash_seen (is_inside x.phase) false)) W) live
-          (Walked-step s.live.visible L c z (crash_seen (is_inside x.phase) false) ok.walked (left_by x.phase)
-          (λ d in_c in_d. absurd (false≢true (sym (ap (λ (a : ClientState). is_inside a.phase) (put-same L c z)) ∙ in_c))));
-      insides = subst (λ (W : ℕ → ClientState). (q : ℕ) → is_inside (client_at (slice_set s.clients c z) q).phase ≡ true → is_inside (W q).phase ≡ true) live
-          (subst (λ (W : ℕ → ClientState). (q : ℕ) → is_inside (W q).phase ≡ true → is_inside (put L c z q).phase ≡ true) saved (inside_both L K c z ok.insides));
+      mixed = record {
+        sizes = (length-set s.live.clients c z ∙ ok.sizes.0, ok.sizes.1, length-set s.clients c z ∙ ok.sizes.2, ok.sizes.3);
+        mixes = λ X Y mix other.
+            let at : X c ≡ z = elim (mix c) [
+              | inl e ↦ e ∙ ap (λ (f : ℕ → ClientState). f c) (sym live) ∙ put-same L c z
+              | inr e ↦ e ∙ ap (λ (f : ℕ → ClientState). f c) (sym saved) ∙ put-same K c z
+            ] in
+            let Z = put X c x in
+            let before : Mix L K Z = λ q. put_at (λ (a : ClientState). (a ≡ L q) ⊎ (a ≡ K q)) X c x q (λ same. inl (ap L (sym same)))
+            (λ apart. elim (mix q) [
+              | inl e ↦ inl (e ∙ ap (λ (f : ℕ → ClientState). f q) (sym live) ∙ put_at (λ (a : ClientState). a ≡ L q) L c z q (λ same. absurd (apart same)) (λ _. refl))
+              | inr e ↦ inr (e ∙ ap (λ (f : ℕ → ClientState). f q) (sym saved) ∙ put_at (λ (a : ClientState). a ≡ K q) K c z q (λ same. absurd (apart same)) (λ _. refl))
+            ]) in
+            subst (λ (W : ℕ → ClientState). WorldOk b W Y s.live.sent) (put_back X c x z at)
+            (client_less b Z Y s.live.sent c z (ok.mixes Z Y before other) (subst (λ (a : ClientState). ClientReturns a z) (sym (put-same X c x)) comes));
+      };
+      shows = record {
+        client = c;
+        after = z;
+        seen = crash_seen (is_inside x.phase) false;
+        visible = refl;
+        clients = live;
+        sees = left_by x.phase;
+      };
     }
 
 -- ---- a voter that skips numbers, or has another limit
@@ -273,7 +272,7 @@ counted_message X Y v granted limit more (kinds.ToClient m) ok = put_at (λ (y :
     (λ same. subst (λ (k : ℕ). ReportOk (X m.client) (Y k).held m.voter m.client m.body) same ok)
     (λ other. ok)
 
-counted_ok : (b : Bounds) → RunPremises b → (X : ℕ → ClientState) (y : VoterState) (granted limit : ℕ) → VoterOk b X y → y.granted ≤ granted → granted ≤ limit → limit ≤ b.limit
+counted_ok : (b : Bounds) → Grounds b → (X : ℕ → ClientState) (y : VoterState) (granted limit : ℕ) → VoterOk b X y → y.granted ≤ granted → granted ≤ limit → limit ≤ b.limit
     → VoterOk b X (counted y granted limit)
 counted_ok b given X y granted limit ok more within most = record {
   sound = IsSound-counted y granted limit ok.sound more within (let few = given.limits.few_stamps in omega arith);
@@ -283,7 +282,7 @@ counted_ok b given X y granted limit ok more within most = record {
   seen = ok.seen;
 }
 
-counted_world : (b : Bounds) → RunPremises b → (X : ℕ → ClientState) (Y : ℕ → VoterState) (sent : List Message) (v granted limit : ℕ) → WorldOk b X Y sent → (Y v).granted ≤ granted → granted ≤ limit
+counted_world : (b : Bounds) → Grounds b → (X : ℕ → ClientState) (Y : ℕ → VoterState) (sent : List Message) (v granted limit : ℕ) → WorldOk b X Y sent → (Y v).granted ≤ granted → granted ≤ limit
     → limit ≤ b.limit → WorldOk b X (put Y v (counted (Y v) granted limit)) sent
 counted_world b given X Y sent v granted limit ok more within most =
     let z = counted (Y v) granted limit in
@@ -314,13 +313,13 @@ mix_saved lives v z within N Y other is q = elim (eqb q v) as (λ t. eqb q v ≡
 ] refl
 
 -- a live voter skips numbers, or has another limit
-recount_ok : (b : Bounds) → RunPremises b → (s : Saved) → SavedOk b s → (v granted limit : ℕ) → v < length s.live.voters → (voter_at s.live.voters v).granted ≤ granted → granted ≤ limit → limit ≤ b.limit
-    → SavedOk b (record s { live = record s.live { voters = slice_set s.live.voters v (counted (voter_at s.live.voters v) granted limit) } })
+recount_ok : (b : Bounds) → Grounds b → (s : Saved) → MixedOk b s → (v granted limit : ℕ) → v < length s.live.voters → (voter_at s.live.voters v).granted ≤ granted → granted ≤ limit → limit ≤ b.limit
+    → Follows b s (record s { live = record s.live { voters = slice_set s.live.voters v (counted (voter_at s.live.voters v) granted limit) } })
 recount_ok b given s ok v granted limit there more within most =
     let M = voter_at s.live.voters in
     let N = voter_at s.voters in
     let z = counted (M v) granted limit in
-    record {
+    unmoved b s _ refl refl (record {
       sizes = (ok.sizes.0, length-set s.live.voters v z ∙ ok.sizes.1, ok.sizes.2, ok.sizes.3);
       mixes = λ X Y mix other. elim (other v) [
         | inl e ↦
@@ -334,28 +333,26 @@ recount_ok b given s ok v granted limit there more within most =
             (subst (λ (a : VoterState). WorldOk b X (put Z v (counted a granted limit)) s.live.sent) here world)
         | inr e ↦ ok.mixes X Y mix (mix_saved s.live.voters v z there N Y other e)
       ];
-      walked = ok.walked;
-      insides = ok.insides;
-    }
+    })
 
-limit_ok : (b : Bounds) → RunPremises b → (s : Saved) → SavedOk b s → (v limit : ℕ) (t : Bool) → (nat_lt v (length s.live.voters) && is_limit s v limit) ≡ t → SavedOk b (have_limit t s v limit)
-limit_ok b given s ok v limit false is = ok
+limit_ok : (b : Bounds) → Grounds b → (s : Saved) → MixedOk b s → (v limit : ℕ) (t : Bool) → (nat_lt v (length s.live.voters) && is_limit s v limit) ≡ t → Follows b s (have_limit t s v limit)
+limit_ok b given s ok v limit false is = stays b s ok
 limit_ok b given s ok v limit true is =
-    let may = may_have b s ok.sizes.0 (λ some. ((live_ok b s ok).client_ids 0 some).limit) v limit is in
+    let may = may_have b s ok.sizes.0 (λ some. ((live_fits b s ok).client_ids 0 some).limit) v limit is in
     recount_ok b given s ok v (voter_at s.live.voters v).granted limit may.within (omega arith) may.least may.most
 
-skip_ok : (b : Bounds) → RunPremises b → (s : Saved) → SavedOk b s → (v above : ℕ) (t : Bool) → (nat_lt v (length s.live.voters) && is_above (voter_at s.live.voters v) above) ≡ t → SavedOk b (be_skipped t s v above)
-skip_ok b given s ok v above false is = ok
+skip_ok : (b : Bounds) → Grounds b → (s : Saved) → MixedOk b s → (v above : ℕ) (t : Bool) → (nat_lt v (length s.live.voters) && is_above (voter_at s.live.voters v) above) ≡ t → Follows b s (be_skipped t s v above)
+skip_ok b given s ok v above false is = stays b s ok
 skip_ok b given s ok v above true is =
     let may = may_count s v above is in
-    recount_ok b given s ok v above (voter_at s.live.voters v).limit may.within may.least may.most ((live_ok b s ok).voters v).limit
+    recount_ok b given s ok v above (voter_at s.live.voters v).limit may.within may.least may.most ((live_fits b s ok).voters v).limit
 
-raise_ok : (b : Bounds) → RunPremises b → (s : Saved) → SavedOk b s → (c clock : ℕ) (t : Bool) → nat_lt c (length s.live.clients) ≡ t → SavedOk b (be_raised t s c clock)
+raise_ok : (b : Bounds) → Grounds b → (s : Saved) → MixedOk b s → (c clock : ℕ) (t : Bool) → nat_lt c (length s.live.clients) ≡ t → Follows b s (be_raised t s c clock)
 unfolding client.step
-raise_ok b given s ok c clock false is = ok
+raise_ok b given s ok c clock false is = stays b s ok
 raise_ok b given s ok c clock true is =
     let x = client_at s.live.clients c in
-    subst (λ (u : Saved). SavedOk b u) (raised_by_step s c clock)
+    subst (λ (u : Saved). Follows b s u) (raised_by_step s c clock)
     (client_tried b given s ok c (ltb-true _ _ is) (client.Takes (no_inquiry x clock)) (refl, omega arith) (λ X Y world v t g never. absurd never) tt (Ok (client.take x (no_inquiry x clock))) refl)
 
 -- ---- a RELEASE of a request that is over
@@ -370,14 +367,14 @@ ends_within limit x (asks.Request t) ends most = absurd ends
 ends_within limit x (asks.Relinquish g) ends most = absurd ends
 ends_within limit x (asks.Release t) ends most = (let low = ends.1 in (ends.0, omega arith))
 
-hear_ok : (b : Bounds) → RunPremises b → (s : Saved) → SavedOk b s → (m : ToVoter) → EndsOld (client_at s.live.clients m.client) m.body × EndsOld (client_at s.clients m.client) m.body → SavedOk b (hear s m)
+hear_ok : (b : Bounds) → Grounds b → (s : Saved) → MixedOk b s → (m : ToVoter) → EndsOld (client_at s.live.clients m.client) m.body × EndsOld (client_at s.clients m.client) m.body → Follows b s (hear s m)
 hear_ok b given s ok m ends = if_voter_one b s ok (OneVoter m.voter) (nat_lt m.voter (length s.live.voters)) m.voter _ (λ t.
     if_one b s ok (OneVoter m.voter) (is_message s m) m.client _ (λ u.
     let parts = and_parts (nat_lt m.client (length s.live.clients)) (is_request_within (client_at s.live.clients m.client).limit m.body) u in
     let within : m.client < b.clients = subst (λ n. m.client < n) ok.sizes.0 (ltb-true _ _ parts.0) in
     let here : m.voter < b.voters = subst (λ n. m.voter < n) ok.sizes.1 (ltb-true _ _ t) in
     let x = client_at s.live.clients m.client in
-    let live = live_ok b s ok in
+    let live = live_fits b s ok in
     let stamp = (live.clients m.client).sound.stamp in
     let limit = (live.client_ids m.client within).limit in
     voter_tried b given s ok m (within, here, ends_within b.limit x m.body ends.0 (omega arith))
@@ -389,15 +386,22 @@ hear_ok b given s ok m ends = if_voter_one b s ok (OneVoter m.voter) (nat_lt m.v
 
 -- ---- all that may befall
 
+-- whichever quorums there are
+pub orderly_follows : (b : Bounds) → Grounds b → (deal : Dealing) → DealsFrom b.quorums deal → (s : Saved) → MixedOk b s → (i : Incident) → IsOrderly s i → Follows b s (befalls deal s i)
+orderly_follows b given deal deals s ok (Happens h) orderly = happens_mixed b given deal deals s ok h
+orderly_follows b given deal deals s ok (Hears m) orderly = hear_ok b given s ok m orderly
+orderly_follows b given deal deals s ok (IsReborn v above) orderly = rebirth_ok b s ok v above (over_or_free b s ok v orderly) _ refl
+orderly_follows b given deal deals s ok (StartsAnew c clock) orderly = anew_ok b given s ok c clock _ refl
+orderly_follows b given deal deals s ok (HasLimit v limit) orderly = limit_ok b given s ok v limit _ refl
+orderly_follows b given deal deals s ok (IsRaised c clock) orderly = raise_ok b given s ok c clock _ refl
+orderly_follows b given deal deals s ok (IsSkipped v above) orderly = skip_ok b given s ok v above _ refl
+
+-- with quorums that meet
 orderly_ok : (b : Bounds) → RunPremises b → (deal : Dealing) → DealsFrom b.quorums deal → (is : List Incident) (s : Saved) → SavedOk b s → AreOrderly deal s is → SavedOk b (all_befall deal is s)
 orderly_ok b given deal deals [] s ok orderly = ok
-orderly_ok b given deal deals (Happens h ∷ is) s ok orderly = orderly_ok b given deal deals is (befalls deal s (Happens h)) (happens_ok b given deal deals s ok h) orderly.1
-orderly_ok b given deal deals (Hears m ∷ is) s ok orderly = orderly_ok b given deal deals is (befalls deal s (Hears m)) (hear_ok b given s ok m orderly.0) orderly.1
-orderly_ok b given deal deals (IsReborn v above ∷ is) s ok orderly = orderly_ok b given deal deals is (befalls deal s (IsReborn v above)) (rebirth_ok b given s ok v above (over_or_free b s ok v orderly.0) _ refl) orderly.1
-orderly_ok b given deal deals (StartsAnew c clock ∷ is) s ok orderly = orderly_ok b given deal deals is (befalls deal s (StartsAnew c clock)) (anew_ok b given s ok c clock _ refl) orderly.1
-orderly_ok b given deal deals (HasLimit v limit ∷ is) s ok orderly = orderly_ok b given deal deals is (befalls deal s (HasLimit v limit)) (limit_ok b given s ok v limit _ refl) orderly.1
-orderly_ok b given deal deals (IsRaised c clock ∷ is) s ok orderly = orderly_ok b given deal deals is (befalls deal s (IsRaised c clock)) (raise_ok b given s ok c clock _ refl) orderly.1
-orderly_ok b given deal deals (IsSkipped v above ∷ is) s ok orderly = orderly_ok b given deal deals is (befalls deal s (IsSkipped v above)) (skip_ok b given s ok v above _ refl) orderly.1
+orderly_ok b given deal deals (i ∷ is) s ok orderly =
+    let next = befalls deal s i in
+    orderly_ok b given deal deals is next (follows_ok b given.meet s next ok (orderly_follows b (grounds b given) deal deals s (mixed_of b s ok) i orderly.0)) orderly.1
 
 every_orderly : ClientLaws → VoterLaws → (voters clients limit : ℕ) (quorums : List (List ℕ)) (deal : Dealing) (is : List Incident)
     → AreLimits voters clients limit → DoMeet voters quorums → DealsFrom quorums deal → AreOrderly deal (begin voters clients limit) is
@@ -416,5 +420,6 @@ pub every_free_vote : ClientLaws → VoterLaws → (voters clients limit : ℕ) 
     → AreLimits voters clients limit → DoMeet voters quorums → DealsFrom quorums deal → AreOrderly deal (begin voters clients limit) is
     → (voter_at (all_befall deal is (begin voters clients limit)).live.voters v).held ≡ None → IsOver (all_befall deal is (begin voters clients limit)) v
 every_free_vote cs vs voters clients limit quorums deal is v limits meets deals orderly free =
-    free_over (record { voters = voters; clients = clients; limit = limit; quorums = quorums }) (all_befall deal is (begin voters clients limit))
-    (every_orderly cs vs voters clients limit quorums deal is limits meets deals orderly) v free
+    let b : Bounds = record { voters = voters; clients = clients; limit = limit; quorums = quorums } in
+    let s = all_befall deal is (begin voters clients limit) in
+    free_over b s (mixed_of b s (every_orderly cs vs voters clients limit quorums deal is limits meets deals orderly)) v free

@@ -19,6 +19,7 @@ use Rattle.world_state.specs.Steps.{client_at, voter_at}
 use Rattle.world.specs.Incidents.{anew, is_above, is_limit, is_request_within, reborn}
 use Rattle.world.specs.Ranges.{IsWithin}
 use Rattle.world.specs.Restarts.{Saved}
+use Rattle.world.specs.Rules.{ClientLaws}
 use Rattle.world.proofs.Claims.{Bounds}
 use Rattle.world.proofs.Reached.{RunPremises}
 
@@ -59,9 +60,12 @@ abbrev pub counted : VoterState → ℕ → ℕ → VoterState
 counted y granted limit = record y { granted = granted; limit = limit }
 
 -- a client that starts anew
+pub anew_by : ClientLaws → (x : ClientState) (clock : ℕ) → sound.IsSound x → clock ≤ x.limit → sound.IsSound (anew x clock)
+anew_by laws x clock was most = IsSound-clear_votes (anew x clock) Idle refl was.id was.some was.limit
+    (laws.first x.id x.limit was.id was.some was.limit).places.last most (omega arith) tt (λ busy. absurd (false≢true (sym busy)))
+
 pub anew_sound : (b : Bounds) → RunPremises b → (x : ClientState) (clock : ℕ) → sound.IsSound x → clock ≤ x.limit → sound.IsSound (anew x clock)
-anew_sound b given x clock was most = IsSound-clear_votes (anew x clock) Idle refl was.id was.some was.limit
-    (given.client.first x.id x.limit was.id was.some was.limit).places.last most (omega arith) tt (λ busy. absurd (false≢true (sym busy)))
+anew_sound b given = anew_by given.client
 
 -- what the condition on a limit says
 pub record MayHave (b : Bounds) (s : Saved) (v limit : ℕ) : Type 0 where
