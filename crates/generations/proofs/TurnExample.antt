@@ -29,33 +29,33 @@ use Rattle.generations.specs.TurnExample.{by_number, ceilings, first_entry, floo
 
 -- ---- a voter takes a REQUEST while its vote is free
 
-abbrev one_waiting : ℕ → ℕ → Waiting
+abbrev pub one_waiting : ℕ → ℕ → Waiting
 one_waiting c s = fin.insert fin.empty c s
 
-abbrev request_of : ℕ → ℕ → Request
+abbrev pub request_of : ℕ → ℕ → Request
 request_of c s = record { stamp = s; client = c }
 
 found : (c s d t : ℕ) (b : Bool) → eqb d c ≡ b → cond b (Some s) None ≡ Some t → request_of d t ≡ request_of c s
 found c s d t true e is = ap (λ (n : ℕ). request_of n t) (eqb-true d c e) ∙ ap (λ (n : ℕ). request_of c n) (sym (same_Some s t is))
 found c s d t false e is = absurd (none-some t is)
 
-one_get : (c s d : ℕ) → fin.get (one_waiting c s) d ≡ cond (eqb d c) (Some s) None
+pub one_get : (c s d : ℕ) → fin.get (one_waiting c s) d ≡ cond (eqb d c) (Some s) None
 one_get c s d = get-insert nat_cmp_total fin.empty c s d ∙ ap (λ (b : Bool). cond b (Some s) (fin.get (fin.empty {R = nat_cmp}) d)) (eq_by_cmp-nat d c)
     ∙ ap (λ (o : Option ℕ). cond (eqb d c) (Some s) o) (get-empty nat_cmp d)
 
-one_waits : (c s : ℕ) → front (one_waiting c s) ≡ Some (request_of c s)
+pub one_waits : (c s : ℕ) → front (one_waiting c s) ≡ Some (request_of c s)
 one_waits c s = front-is (one_waiting c s) (request_of c s) (one_get c s c ∙ ap (λ (b : Bool). cond b (Some s) None) (eq-eqb c c refl))
     (λ d t is. subst (λ (r : Request). precedes r (request_of c s) ≡ false) (sym (found c s d t (eqb d c) refl (sym (one_get c s d) ∙ is))) (precedes-not_self (request_of c s)))
 
 -- a voter that gave or skipped so many grants, and to which nobody asks
-abbrev free_voter : ℕ → ℕ → VoterState
+abbrev pub free_voter : ℕ → ℕ → VoterState
 free_voter id granted = record (voter.start id 10) { granted = granted }
 
 -- it gives its vote to the request
-abbrev asked : ℕ → ℕ → ℕ → ℕ → voter.Outcome
+abbrev pub asked : ℕ → ℕ → ℕ → ℕ → voter.Outcome
 asked id granted c s = voter.grant_to (voter.queue (voter.see (free_voter id granted) s) c s) (Some (request_of c s))
 
-beside : (id granted c s : ℕ) → voter.take_request_beside (voter.see (free_voter id granted) s) c s (fin.get (fin.empty {R = nat_cmp}) c) ≡ asked id granted c s
+pub beside : (id granted c s : ℕ) → voter.take_request_beside (voter.see (free_voter id granted) s) c s (fin.get (fin.empty {R = nat_cmp}) c) ≡ asked id granted c s
 unfolding voter.take_request_beside voter.admit voter.grant_front
 beside id granted c s =
     ap (λ (o : Option ℕ). voter.take_request_beside (voter.see (free_voter id granted) s) c s o) (get-empty nat_cmp c)

@@ -1,11 +1,11 @@
 -- a voter that is reborn once all clients are done with it, and a client that starts anew
-use Rattle.std.proofs.Common.{◌≡◌, ◌≢◌, ℕ, ◌<◌, ◌≤◌, Bool, true, false, cond, List, [], ◌∷◌, ◌++◌, length, None, Some, Ok, refl, sym, ap, subst, ◌∙◌, ◌⊎◌, inl, inr, arith, eqb}
+use Rattle.std.proofs.Common.{◌≡◌, ◌≢◌, ℕ, ◌<◌, ◌≤◌, Bool, true, false, List, [], ◌∷◌, length, None, Some, Ok, refl, sym, ap, subst, ◌∙◌, ◌⊎◌, inl, inr, arith, eqb}
 use Rattle.std.specs.Prelude.{◌&&◌, nat_le, nat_lt, slice_set}
 use Rattle.std.specs.FinMap as fin
 use Rattle.std.specs.Ordering.{nat_cmp}
 use Rattle.std.specs.List.{AllByRecursion}
 use Rattle.std.proofs.lemmas.Option.{none-some}
-use Rattle.std.proofs.lemmas.Bool.{and_parts, false≢true, ltb-true}
+use Rattle.std.proofs.lemmas.Bool.{and_parts, ltb-true}
 use Rattle.std.proofs.lemmas.Bool.Decides.{nat_tests}
 use Rattle.std.proofs.lemmas.List.{length-set}
 use Rattle.numbers.proofs.Lists.{AllByRecursion-weaker, slice_index-replicate_zero}
@@ -30,11 +30,10 @@ use Rattle.voter.proofs.Soundness.{IsSound-counted}
 use Rattle.world.specs.Ranges.{IsWithin}
 use Rattle.world.specs.Restarts.{OneVoter, Saved, begin, crash_seen}
 use Rattle.world.specs.Runs.{AreLimits}
-use Rattle.world_state.specs.Steps.{Dealing, client_at, events, voter_at}
+use Rattle.world_state.specs.Steps.{Dealing, client_at, voter_at}
 use Rattle.world.specs.Visible.{DealsFrom, DoMeet, IsExclusive}
 use Rattle.world.specs.Rules.{ClientLaws, VoterLaws}
 use Rattle.world.proofs.Claims.{AskOk, Bounds, ReportOk, MessageOk, VoterOk, WorldOk, put, put-same}
-use Rattle.world.proofs.Exclusion.{Walked-step}
 use Rattle.world.proofs.IncidentLemmas.{anew_by, counted, may_count, may_have, reborn_sound}
 use Rattle.world.proofs.Places.{client_at-set, voter_at-set, voter_here}
 use Rattle.world.proofs.Reached.{Grounds, RunPremises, grounds}

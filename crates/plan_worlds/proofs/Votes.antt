@@ -1,6 +1,5 @@
 -- who has the votes of which voters, and what they mean for the plans of requests
-use Rattle.std.proofs.Common.{◌≡◌, ℕ, ◌+◌, ◌<◌, ◌≤◌, true, false, cond, List, Some, refl, sym, ap, subst, ◌∙◌, ◌⊎◌, inl, inr, arith, eqb}
-use Rattle.std.specs.List.{AllByRecursion}
+use Rattle.std.proofs.Common.{◌≡◌, ℕ, ◌+◌, ◌<◌, ◌≤◌, true, false, cond, List, Some, refl, sym, ap, subst, ◌∙◌, inl, inr, arith, eqb}
 use Rattle.std.proofs.lemmas.Bool.{cases_lt}
 use Rattle.std.proofs.lemmas.Bool.Decides.{nat_tests}
 use Rattle.std.proofs.lemmas.Option.{same_Some}
@@ -12,7 +11,7 @@ use Rattle.requester.specs.Words.{held_of, is_inside, members}
 use Rattle.quorum_set.specs.Meetings.{Meet}
 use Rattle.message.specs.declared.message.Message.{Message}
 use Rattle.world_state.specs.Steps.{client_at, voter_at}
-use Rattle.world.specs.Restarts.{Saved, stamp_of}
+use Rattle.world.specs.Restarts.{stamp_of}
 use Rattle.world.specs.Visible.{IsAmong}
 use Rattle.world.proofs.Claims.{Bounds, WorldOk}
 use Rattle.world.proofs.Exclusion.{held_under, inside_busy, list_all-holds}

@@ -1,11 +1,11 @@
 -- every world over plans: what holds of the first one, and each event keeps
-use Rattle.std.proofs.Common.{◌≡◌, ℕ, ◌+◌, ◌<◌, ◌≤◌, true, List, [], ◌∷◌, Some, refl, sym, ap, ◌∙◌, ◌⊎◌, inl, inr, arith}
+use Rattle.std.proofs.Common.{◌≡◌, ℕ, ◌+◌, ◌≤◌, true, List, [], ◌∷◌, sym, ap, ◌∙◌, inl, inr, arith}
 use Rattle.std.proofs.lemmas.Bool.{cases_lt, false≢true}
 use Rattle.std.proofs.lemmas.Option.{none-some}
 use Rattle.voter.specs.declared.state.Grant.{Grant}
 use Rattle.requester.specs.declared.state.ClientState.{ClientState}
 use Rattle.requester.specs.Words.{is_idle}
-use Rattle.world_state.specs.Steps.{Dealing, client_at, voter_at}
+use Rattle.world_state.specs.Steps.{Dealing, client_at}
 use Rattle.world.specs.Restarts.{begin}
 use Rattle.world.specs.Incidents.{befalls}
 use Rattle.world.specs.Runs.{AreLimits, start}
@@ -14,12 +14,12 @@ use Rattle.world.specs.Visible.{AreQuorums, DealsFrom, DoMeet, IsExclusive}
 use Rattle.world.specs.Restarts.{IsIn, stamp_of}
 use Rattle.world.proofs.Claims.{Bounds}
 use Rattle.world.proofs.Exclusion.{Walked}
-use Rattle.world.proofs.Reached.{Grounds, RunPremises, client_new, client_past, first_ok, new_clients, start_unused}
+use Rattle.world.proofs.Reached.{Grounds, client_new, client_past, first_ok, new_clients, start_unused}
 use Rattle.world.proofs.Restarts.{MixedOk, live_fits, mixed_of, saved_now, walks_on}
 use Rattle.leases.proofs.Rebirths.{orderly_follows}
 use Rattle.generations.specs.Plans.{IsSuccession, Plans}
 use Rattle.generations.specs.Turns.{AsksBy}
-use Rattle.plan_worlds.specs.Worlds.{AreInOrder, AskByPlan, Befalls, Event, IsVoteOf, MayGive, Retires, World, all_happen, first_world, happens}
+use Rattle.plan_worlds.specs.Worlds.{AreInOrder, AskByPlan, Befalls, Event, IsVoteOf, Retires, World, all_happen, first_world, happens}
 use Rattle.plan_worlds.proofs.Votes.{IsRight, Knows, none_ahead, one_client, right_retires}
 
 -- what holds of every world
