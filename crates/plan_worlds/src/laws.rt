@@ -1,12 +1,14 @@
 //! Laws: who is inside, in worlds with messages, while plans replace one another.
-ghost use Rattle.std.specs.Prelude.{◌≡◌, ◌≤◌, ◌+◌, ℕ, List};
+ghost use Rattle.std.specs.Prelude.{◌≡◌, ◌≤◌, ◌+◌, ◌++◌, ℕ, List};
 ghost use Rattle.voter.specs.declared.state.Grant.{Grant};
 ghost use Rattle.world_state.specs.Steps.{Dealing};
 ghost use Rattle.world.specs.Restarts.{IsIn, stamp_of};
 ghost use Rattle.world.specs.Runs.{AreLimits};
 ghost use Rattle.world.specs.Visible.{AreQuorums, DealsFrom, IsExclusive};
-ghost use Rattle.generations.specs.Plans.{IsSuccession, Plans};
+ghost use Rattle.generations.specs.Example.{three_plans};
+ghost use Rattle.generations.specs.Plans.{HaveCommon, IsSuccession, Plans};
 ghost use Rattle.generations.specs.Turns.{AsksBy};
+ghost use Rattle.plan_worlds.specs.Example.{both_quorums, by_even, first_enters, first_is_in, first_leaves, new_world, one_each, third_enters, third_is_in};
 ghost use Rattle.plan_worlds.specs.Worlds.{AreInOrder, Event, IsVoteOf, IsLeft, IsRetired, World, all_happen, first_world};
 
 use world::parts_keep_their_rules;
@@ -49,4 +51,14 @@ pub fn no_voter_is_two_plans_ahead()
 pub fn plans_that_a_quorum_left_are_retired()
     ensures { (voters : ℕ) (plans : Plans) (oldest : ℕ → ℕ) (plan : ℕ)
         → IsSuccession voters plans → IsLeft plans oldest plan → IsRetired plans oldest plan }
+{}
+
+/// What the laws ask for can be had: of three plans the first and the third one have no common voter, and a client is inside by the
+/// first plan, and later another one by the third. In between a quorum of the second plan retires the first one. One voter never hears
+/// that the first client left.
+pub fn clients_of_far_plans_follow()
+    ensures { IsSuccession 6 three_plans × (HaveCommon 6 (three_plans 0) (three_plans 2) → ⊥)
+        × AreLimits 6 2 10 × AreQuorums 6 both_quorums × DealsFrom both_quorums one_each
+        × AreInOrder three_plans by_even one_each new_world (first_enters ++ (first_leaves ++ third_enters))
+        × IsIn first_is_in.saved 0 × IsIn third_is_in.saved 1 }
 {}
