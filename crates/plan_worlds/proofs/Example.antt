@@ -1,5 +1,5 @@
 -- that what the laws ask for can be had
-use Rattle.std.proofs.Common.{◌≡◌, ℕ, zero, suc, ◌+◌, ◌<◌, ◌≤◌, Bool, true, false, cond, List, [], ◌∷◌, ◌++◌, length, Option, Some, None, Result, Ok, refl, sym, ap, subst, ◌∙◌, ◌⊎◌, inl, inr, arith, eqb}
+use Rattle.std.proofs.Common.{◌≡◌, ℕ, zero, suc, ◌+◌, ◌<◌, ◌≤◌, Bool, true, false, cond, List, [], ◌∷◌, ◌++◌, length, drop, Option, Some, None, refl, sym, ap, subst, ◌∙◌, inl, inr, arith, eqb}
 use Rattle.std.specs.Prelude.{nat_lt, slice_set, replicate}
 use Rattle.std.specs.FinMap as fin
 use Rattle.std.specs.FinMap.{get-empty, get-remove}
@@ -312,7 +312,7 @@ record IsFine (oldest : ℕ → ℕ) (s : Saved) : Type 0 where
 goes_on : (oldest : ℕ → ℕ) (s t : Saved) (h : Happening) (es : List worlds.Event) → happens one_each s h ≡ t → IsFine oldest t → AreInOrder three_plans by_even one_each (record { saved = t; oldest = oldest }) es
     → AreInOrder three_plans by_even one_each (record { saved = s; oldest = oldest }) (Befalls (Happens h) ∷ es)
 goes_on oldest s t h es is fine rest = (
-  record { orderly = tt; votes = λ v grant has. inr (subst (IsFine oldest) (sym is) fine).votes v grant has; asks = (subst (IsFine oldest) (sym is) fine).asks },
+  record { orderly = tt; votes = λ v grant has. inr ((subst (IsFine oldest) (sym is) fine).votes v grant has); asks = (subst (IsFine oldest) (sym is) fine).asks },
   subst (λ (u : Saved). AreInOrder three_plans by_even one_each (record { saved = u; oldest = oldest }) es) (sym is) rest,
 )
 
@@ -425,11 +425,11 @@ third_order : AreInOrder three_plans by_even one_each (record { saved = world_8;
 third_order =
     let q = left 0 0 1 first_quorum in
     let out = idle q first_quorum refl in
-    goes_on four_retired world_8 world_9 (Goes (Ask 1)) _ to_9 (fine four_retired q (asking 1 third_quorum) asks_1 one_freed one_freed sent_4 two_draws seen_out (freed_voted four_retired refl) (freed_voted four_retired refl) out (λ _. refl))
-    (goes_on four_retired world_9 world_10 (Goes (Deliver 6)) _ to_10 (fine four_retired q (asking 1 third_quorum) asks_1 third_one third_one sent_5 two_draws seen_out third_one_voted third_one_voted out (λ _. refl))
-    (goes_on four_retired world_10 world_11 (Goes (Deliver 7)) _ to_11 (fine four_retired q (asking 1 third_quorum) asks_1 third_both third_both sent_6 two_draws seen_out third_both_voted third_both_voted out (λ _. refl))
-    (goes_on four_retired world_11 world_12 (Goes (Deliver 8)) _ to_12 (fine four_retired q (voted 1 4 third_quorum) asks_1 third_both third_both sent_6 two_draws seen_out third_both_voted third_both_voted out (λ _. refl))
-    (goes_on four_retired world_12 world_13 (Goes (Deliver 9)) _ to_13 (fine four_retired q (inside 1 4 5 third_quorum) in_1 third_both third_both sent_6 two_draws seen_third third_both_voted third_both_voted out (λ _. refl))
+    goes_on four_retired world_8 world_9 (Goes (Ask 1)) (drop 1 third_enters) to_9 (fine four_retired q (asking 1 third_quorum) asks_1 one_freed one_freed sent_4 two_draws seen_out (freed_voted four_retired refl) (freed_voted four_retired refl) out (λ _. refl))
+    (goes_on four_retired world_9 world_10 (Goes (Deliver 6)) (drop 2 third_enters) to_10 (fine four_retired q (asking 1 third_quorum) asks_1 third_one third_one sent_5 two_draws seen_out third_one_voted third_one_voted out (λ _. refl))
+    (goes_on four_retired world_10 world_11 (Goes (Deliver 7)) (drop 3 third_enters) to_11 (fine four_retired q (asking 1 third_quorum) asks_1 third_both third_both sent_6 two_draws seen_out third_both_voted third_both_voted out (λ _. refl))
+    (goes_on four_retired world_11 world_12 (Goes (Deliver 8)) (drop 4 third_enters) to_12 (fine four_retired q (voted 1 4 third_quorum) asks_1 third_both third_both sent_6 two_draws seen_out third_both_voted third_both_voted out (λ _. refl))
+    (goes_on four_retired world_12 world_13 (Goes (Deliver 9)) (drop 5 third_enters) to_13 (fine four_retired q (inside 1 4 5 third_quorum) in_1 third_both third_both sent_6 two_draws seen_third third_both_voted third_both_voted out (λ _. refl))
     tt))))
 
 leaves_order : AreInOrder three_plans by_even one_each (record { saved = world_5; oldest = none_retired }) (first_leaves ++ third_enters)
@@ -438,22 +438,22 @@ leaves_order =
     let out = idle q first_quorum refl in
     let off = idle new_1 third_quorum refl in
     let freed_now = freed_voted none_retired refl in
-    goes_on none_retired world_5 world_6 (Goes (Leave 0)) _ to_6 (fine none_retired q new_1 out_0 both_given both_given sent_3 one_draw seen_out both_voted both_voted out off)
-    (goes_on none_retired world_6 world_7 (Goes (Deliver 5)) _ to_7 (fine none_retired q new_1 out_0 one_freed both_given sent_3 one_draw seen_out freed_now both_voted out off)
-    (goes_on none_retired world_7 world_8 (Saves (OneVoter 1)) _ to_8 (fine none_retired q new_1 out_0 one_freed one_freed sent_3 one_draw seen_out freed_now freed_now out off)
-    (retires none_retired world_8 1 _ (no_vote 1 refl)
-    (retires (one_older none_retired 1) world_8 2 _ (no_vote 2 refl)
-    (retires (one_older (one_older none_retired 1) 2) world_8 4 _ (no_vote 4 refl)
-    (retires (one_older (one_older (one_older none_retired 1) 2) 4) world_8 5 _ (no_vote 5 refl) third_order))))))
+    goes_on none_retired world_5 world_6 (Goes (Leave 0)) (drop 1 (first_leaves ++ third_enters)) to_6 (fine none_retired q new_1 out_0 both_given both_given sent_3 one_draw seen_out both_voted both_voted out off)
+    (goes_on none_retired world_6 world_7 (Goes (Deliver 5)) (drop 2 (first_leaves ++ third_enters)) to_7 (fine none_retired q new_1 out_0 one_freed both_given sent_3 one_draw seen_out freed_now both_voted out off)
+    (goes_on none_retired world_7 world_8 (Saves (OneVoter 1)) (drop 3 (first_leaves ++ third_enters)) to_8 (fine none_retired q new_1 out_0 one_freed one_freed sent_3 one_draw seen_out freed_now freed_now out off)
+    (retires none_retired world_8 1 (drop 4 (first_leaves ++ third_enters)) (no_vote 1 refl)
+    (retires (one_older none_retired 1) world_8 2 (drop 5 (first_leaves ++ third_enters)) (no_vote 2 refl)
+    (retires (one_older (one_older none_retired 1) 2) world_8 4 (drop 6 (first_leaves ++ third_enters)) (no_vote 4 refl)
+    (retires (one_older (one_older (one_older none_retired 1) 2) 4) world_8 5 (drop 7 (first_leaves ++ third_enters)) (no_vote 5 refl) third_order))))))
 
 all_order : AreInOrder three_plans by_even one_each (record { saved = world_0; oldest = none_retired }) (first_enters ++ (first_leaves ++ third_enters))
 all_order =
     let off = idle new_1 third_quorum refl in
-    goes_on none_retired world_0 world_1 (Goes (Ask 0)) _ to_1 (fine none_retired (asking 0 first_quorum) new_1 asks_0 new_voters new_voters sent_0 one_draw [] new_voted new_voted (λ _. refl) off)
-    (goes_on none_retired world_1 world_2 (Goes (Deliver 0)) _ to_2 (fine none_retired (asking 0 first_quorum) new_1 asks_0 one_given one_given sent_1 one_draw [] one_voted one_voted (λ _. refl) off)
-    (goes_on none_retired world_2 world_3 (Goes (Deliver 1)) _ to_3 (fine none_retired (asking 0 first_quorum) new_1 asks_0 both_given both_given sent_2 one_draw [] both_voted both_voted (λ _. refl) off)
-    (goes_on none_retired world_3 world_4 (Goes (Deliver 2)) _ to_4 (fine none_retired (voted 0 0 first_quorum) new_1 asks_0 both_given both_given sent_2 one_draw [] both_voted both_voted (λ _. refl) off)
-    (goes_on none_retired world_4 world_5 (Goes (Deliver 3)) _ to_5 (fine none_retired (inside 0 0 1 first_quorum) new_1 in_0 both_given both_given sent_2 one_draw seen_in both_voted both_voted (λ _. refl) off)
+    goes_on none_retired world_0 world_1 (Goes (Ask 0)) (drop 1 (first_enters ++ (first_leaves ++ third_enters))) to_1 (fine none_retired (asking 0 first_quorum) new_1 asks_0 new_voters new_voters sent_0 one_draw [] new_voted new_voted (λ _. refl) off)
+    (goes_on none_retired world_1 world_2 (Goes (Deliver 0)) (drop 2 (first_enters ++ (first_leaves ++ third_enters))) to_2 (fine none_retired (asking 0 first_quorum) new_1 asks_0 one_given one_given sent_1 one_draw [] one_voted one_voted (λ _. refl) off)
+    (goes_on none_retired world_2 world_3 (Goes (Deliver 1)) (drop 3 (first_enters ++ (first_leaves ++ third_enters))) to_3 (fine none_retired (asking 0 first_quorum) new_1 asks_0 both_given both_given sent_2 one_draw [] both_voted both_voted (λ _. refl) off)
+    (goes_on none_retired world_3 world_4 (Goes (Deliver 2)) (drop 4 (first_enters ++ (first_leaves ++ third_enters))) to_4 (fine none_retired (voted 0 0 first_quorum) new_1 asks_0 both_given both_given sent_2 one_draw [] both_voted both_voted (λ _. refl) off)
+    (goes_on none_retired world_4 world_5 (Goes (Deliver 3)) (drop 5 (first_enters ++ (first_leaves ++ third_enters))) to_5 (fine none_retired (inside 0 0 1 first_quorum) new_1 in_0 both_given both_given sent_2 one_draw seen_in both_voted both_voted (λ _. refl) off)
     leaves_order))))
 
 -- ---- where the events lead
@@ -465,27 +465,27 @@ leads oldest s t h es end is rest = ap (λ (u : Saved). all_happen one_each (rec
 to_first : (es : List worlds.Event) (end : World) → all_happen one_each (record { saved = world_5; oldest = none_retired }) es ≡ end
     → all_happen one_each (record { saved = world_0; oldest = none_retired }) (first_enters ++ es) ≡ end
 to_first es end rest =
-    leads none_retired world_0 world_1 (Goes (Ask 0)) _ end to_1
-    (leads none_retired world_1 world_2 (Goes (Deliver 0)) _ end to_2
-    (leads none_retired world_2 world_3 (Goes (Deliver 1)) _ end to_3
-    (leads none_retired world_3 world_4 (Goes (Deliver 2)) _ end to_4
-    (leads none_retired world_4 world_5 (Goes (Deliver 3)) _ end to_5 rest))))
+    leads none_retired world_0 world_1 (Goes (Ask 0)) (drop 1 (first_enters ++ es)) end to_1
+    (leads none_retired world_1 world_2 (Goes (Deliver 0)) (drop 2 (first_enters ++ es)) end to_2
+    (leads none_retired world_2 world_3 (Goes (Deliver 1)) (drop 3 (first_enters ++ es)) end to_3
+    (leads none_retired world_3 world_4 (Goes (Deliver 2)) (drop 4 (first_enters ++ es)) end to_4
+    (leads none_retired world_4 world_5 (Goes (Deliver 3)) (drop 5 (first_enters ++ es)) end to_5 rest))))
 
 to_third : all_happen one_each (record { saved = world_8; oldest = four_retired }) third_enters ≡ record { saved = world_13; oldest = four_retired }
 to_third =
     let end : World = record { saved = world_13; oldest = four_retired } in
-    leads four_retired world_8 world_9 (Goes (Ask 1)) _ end to_9
-    (leads four_retired world_9 world_10 (Goes (Deliver 6)) _ end to_10
-    (leads four_retired world_10 world_11 (Goes (Deliver 7)) _ end to_11
-    (leads four_retired world_11 world_12 (Goes (Deliver 8)) _ end to_12
+    leads four_retired world_8 world_9 (Goes (Ask 1)) (drop 1 third_enters) end to_9
+    (leads four_retired world_9 world_10 (Goes (Deliver 6)) (drop 2 third_enters) end to_10
+    (leads four_retired world_10 world_11 (Goes (Deliver 7)) (drop 3 third_enters) end to_11
+    (leads four_retired world_11 world_12 (Goes (Deliver 8)) (drop 4 third_enters) end to_12
     (leads four_retired world_12 world_13 (Goes (Deliver 9)) [] end to_13 refl))))
 
 to_end : all_happen one_each (record { saved = world_5; oldest = none_retired }) (first_leaves ++ third_enters) ≡ record { saved = world_13; oldest = four_retired }
 to_end =
     let end : World = record { saved = world_13; oldest = four_retired } in
-    leads none_retired world_5 world_6 (Goes (Leave 0)) _ end to_6
-    (leads none_retired world_6 world_7 (Goes (Deliver 5)) _ end to_7
-    (leads none_retired world_7 world_8 (Saves (OneVoter 1)) _ end to_8 to_third))
+    leads none_retired world_5 world_6 (Goes (Leave 0)) (drop 1 (first_leaves ++ third_enters)) end to_6
+    (leads none_retired world_6 world_7 (Goes (Deliver 5)) (drop 2 (first_leaves ++ third_enters)) end to_7
+    (leads none_retired world_7 world_8 (Saves (OneVoter 1)) (drop 3 (first_leaves ++ third_enters)) end to_8 to_third))
 
 inside_at : (s : Saved) (w : World) (c : ℕ) → w.saved ≡ s → IsIn s c → IsIn w.saved c
 inside_at s w c is in_c = subst (λ (u : Saved). IsIn u c) (sym is) in_c

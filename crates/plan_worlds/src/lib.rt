@@ -41,6 +41,6 @@
 mod laws;
 
 pub use laws::{
-    at_most_one_client_is_inside_over_plans, clients_of_far_plans_follow, no_voter_is_two_plans_ahead,
-    plans_that_a_quorum_left_are_retired,
+    at_most_one_client_is_inside_over_plans, clients_of_far_plans_follow,
+    no_voter_is_two_plans_ahead, plans_that_a_quorum_left_are_retired,
 };
