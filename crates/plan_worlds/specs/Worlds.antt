@@ -67,7 +67,7 @@ AskByPlan plans by s = (c : ℕ) → is_idle (client_at s.live.clients c).phase 
     → IsAmong (plans (by c (stamp_of s c))) (members (client_at s.live.clients c))
 
 -- An incident befalls a world, which is this one afterwards.
-pub record IsInPlan (plans : Plans) (by : AsksBy) (w : World) (i : Incident) (s : Saved) : Type 0 where
+pub record BefallsInOrder (plans : Plans) (by : AsksBy) (w : World) (i : Incident) (s : Saved) : Type 0 where
   -- it leaves votes to those that may count on them
   pub orderly : IsOrderly w.saved i
   -- whoever has a voter's vote afterwards had it before, or may be given it
@@ -80,7 +80,7 @@ MayRetire by w v = (grant : Grant) → IsVoteOf w.saved v grant → w.oldest v <
 
 -- the event may happen now
 abbrev pub IsInOrder : Plans → AsksBy → Dealing → World → Event → Type 0
-IsInOrder plans by deal w (Befalls i) = IsInPlan plans by w i (befalls deal w.saved i)
+IsInOrder plans by deal w (Befalls i) = BefallsInOrder plans by w i (befalls deal w.saved i)
 IsInOrder plans by deal w (Retires v) = MayRetire by w v
 
 -- each of these events may happen when it does

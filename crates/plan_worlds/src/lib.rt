@@ -30,9 +30,10 @@
 //! ([`no_voter_is_two_plans_ahead`]). All this can be had: two clients are inside, one after the other, by plans that
 //! have no common voter ([`clients_of_far_plans_follow`]).
 //!
-//! In these laws is not how a voter knows which plan a request is of, nor who tells it that a plan is retired. No plan
-//! is taken back. A voter that lets a grant go while its client may count on it is not in them: for that there are
-//! leases, guards and turns.
+//! The voters are those of `voter`, which know of no plans. The process around a voter keeps these rules: it retires a
+//! plan only once no request of it waits for the vote, and from then on hands no REQUEST of it to the voter. In these
+//! laws is not how a process knows the plan of a request, nor that a plan is retired. No plan is taken back. A voter
+//! that lets a grant go while its client may count on it is not in them: for that there are leases, guards and turns.
 //!
 //! Depends on `generations`, `leases` and `world`, and on definitions of `quorum_set`, `requester`, `voter` and
 //! `world_state`.
