@@ -41,7 +41,7 @@ func TestClaimsOfALostState(t *testing.T) {
 	for accepts, refused := range map[bool]bool{true: true, false: false} {
 		c := alone(t)
 		c.opening, c.peers[2].accepts = true, accepts
-		if c.says(0, ". run 2 1\n"); c.refused != refused {
+		if c.says(0, ". run 63 9\n. run 2 1\n"); c.refused != refused {
 			t.Errorf("the voter accepted the claim %v: it is refused %v", accepts, c.refused)
 		}
 	}

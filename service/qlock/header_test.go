@@ -88,6 +88,7 @@ func TestSaying(t *testing.T) {
 		"opened 1 2 3 4 5 6": {Kind: Opened, Number: 1, First: 2, Second: 3, Third: 4, Fourth: 5, Fifth: 6},
 		"taken 1 2":          {Kind: Taken, Number: 1, First: 2}, "unknown 1 2": {Kind: Unknown, Number: 1, First: 2},
 		"quiet 18446744073709551615": {Kind: Quiet, First: math.MaxUint64}, "leaving": {Kind: Leaving}, "greeted": {Kind: Greeted},
+		"run 63 4": {Kind: RunIs, Number: 63, First: 4},
 	} {
 		if out, err := says.Append([]byte("x")); err != nil || string(out) != "x. "+line+"\n" {
 			t.Errorf("%q is written, %v", out, err)
@@ -112,7 +113,7 @@ func TestWhoSaysSomethingElse(t *testing.T) {
 		}
 	}
 	for _, line := range []string{"", "hello", "gone x 5", "number 1 2 3", "number 64 1 1", "claimed 1 2 3", "opened 1 2 3 4 5", "opened 1 2 3 4 5 6 7",
-		"quiet", "leaving ", "taken 1 02"} {
+		"quiet", "leaving ", "taken 1 02", "run 64 1", "run 1"} {
 		if says, err := ReadVoterSays([]byte(line)); !errors.Is(err, BadMessage) {
 			t.Errorf("%q: %+v, %v", line, says, err)
 		}
@@ -122,7 +123,7 @@ func TestWhoSaysSomethingElse(t *testing.T) {
 			t.Errorf("%+v: %q, %v", says, out, err)
 		}
 	}
-	for _, says := range []VoterSays{{}, {Kind: 11}, {Kind: NumberIs, Second: 3}, {Kind: Taken, Number: 64}} {
+	for _, says := range []VoterSays{{}, {Kind: 12}, {Kind: NumberIs, Second: 3}, {Kind: Taken, Number: 64}, {Kind: RunIs, Number: 64}} {
 		if out, err := says.Append(nil); !errors.Is(err, BadArgument) || len(out) > 0 {
 			t.Errorf("%+v: %q, %v", says, out, err)
 		}
