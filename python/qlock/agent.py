@@ -330,9 +330,8 @@ def _wait(seconds: float) -> str:
 
 
 class Watch:
-    """Who has a lock, one after the other, until `close` or the end of its `with`. The next one raises `Unreachable` if the agent ends. The
-    agent asks voters twice a second, so a holder who has the lock for less than that may be missed. While no quorum of them replies
-    nothing comes. Changes of `since` and `waiting` alone are none. One thread may wait for the next one, and any thread may close it."""
+    """Who has a lock, one after the other, until `close` or the end of its `with`. The next one raises `Unreachable` if the agent ends.
+    Voters say each change at once. A holder who has the lock for a moment may be missed. While no quorum of them replies nothing comes. Changes of `since` and `waiting` alone are none. One thread may wait for the next one, and any thread may close it."""
 
     def __init__(self, connection: _Connection) -> None:
         self._connection = connection

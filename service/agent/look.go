@@ -61,8 +61,8 @@ func (c *Client) List(ctx context.Context, prefix string, each func(lock string,
 }
 
 // Watch returns a channel with who has a lock of the cluster, at first and after each change, until the context ends or the agent does:
-// then it closes the channel. The channel has the newest Holder only. The agent asks voters twice a second, so it misses a holder who has
-// the lock for less than that. While no quorum of them replies it says nothing. Changes of Since and Waiting alone are none.
+// then it closes the channel. The channel has the newest Holder only. Voters say each change at once. A holder who has the lock for a
+// moment may be missed. While no quorum of them replies it says nothing. Changes of Since and Waiting alone are none.
 func (c *Client) Watch(ctx context.Context, lock string) (<-chan Holder, error) {
 	limit, cancel := context.WithTimeout(ctx, replies) // for the first one
 	defer cancel()

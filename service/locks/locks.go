@@ -218,7 +218,7 @@ func newNamed(cluster *config.Cluster, c Config, name string, own *claims.Number
 	client := &Client{cluster: cluster, user: user, watch: newWatch(cluster.TTL.Duration), plans: newPlans(cluster),
 		waits: newWaits(), config: c, carrier: c.Transport, close: func() {},
 		calls: make(chan func()), ended: make(chan struct{}), stopped: make(chan struct{}), locks: map[string]*lock{}, busy: map[*lock]struct{}{},
-		asker: asker{questions: map[uint64]*question{}}, turns: map[*Held]bool{}}
+		asker: asker{questions: map[uint64]*question{}, observers: map[*observer]struct{}{}}, turns: map[*Held]bool{}}
 	client.session = newSession(cluster, name, own)
 	if !c.NoNote {
 		client.ownNote = ownNote(c.Note)
@@ -493,6 +493,7 @@ func (c *Client) end(why error) {
 // flush sends what this turn of the loop made. A client has nothing to save: its stamps are reserved (session.go).
 func (c *Client) flush() {
 	now := time.Now()
+	c.observe(now)
 	c.sendQuestions(now)
 	c.sendTurns(now)
 	for voter := range c.peers {

@@ -136,7 +136,7 @@ func (c *Client) sayNotes(voter int, now time.Time) {
 
 // sayAbout says the note of a lock that is held to a voter, if this turn has room for it. What is left out the next heartbeats say.
 func (c *Client) sayAbout(h *Held, voter int) {
-	if !c.peers[voter].noted || !c.hasRoom(voter) {
+	if !c.peers[voter].noted || !c.hasRoom(voter, 1) {
 		return
 	}
 	again := due{pause: 2 * h.noteDue[voter].pause}
@@ -158,12 +158,12 @@ func (c *Client) sayAboutToAll(h *Held) {
 	}
 }
 
-// hasRoom counts a line that one turn sends to a voter, and returns whether there may be one more.
-func (c *Client) hasRoom(voter int) bool {
-	if c.sent[voter] >= mostAsks {
+// hasRoom counts lines that one turn sends to a voter, and returns whether there may be as many more.
+func (c *Client) hasRoom(voter, lines int) bool {
+	if c.sent[voter]+lines > mostAsks {
 		return false
 	}
-	c.sent[voter]++
+	c.sent[voter] += lines
 	return true
 }
 

@@ -138,7 +138,7 @@ func (c *Client) sendTurns(now time.Time) {
 // askForTurn asks the voters that did not reply, those for which this turn of the loop has room.
 func (c *Client) askForTurn(h *Held, now time.Time) {
 	for voter, asked := range h.turning.awaited {
-		if now.Sub(asked) < repeatAsk || voter >= len(c.peers) || !c.hasRoom(voter) {
+		if now.Sub(asked) < repeatAsk || voter >= len(c.peers) || !c.hasRoom(voter, 1) {
 			continue
 		}
 		h.turning.awaited[voter] = now

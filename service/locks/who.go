@@ -134,6 +134,8 @@ type asker struct {
 	questions map[uint64]*question
 	newest    uint64               // the ID of the last one
 	sent      [qlock.MaxVoters]int // lines of control besides those of the session, in this turn, by voter
+	observers map[*observer]struct{}
+	places    [mostWatched]*observer // those of which voters say each change
 }
 
 // question is one that all voters are asked, until enough replied.
@@ -144,6 +146,8 @@ type question struct {
 	said    map[string]map[int]wire.Told // by lock and voter
 	over    chan struct{}
 	holders map[string]Holder // once it is over
+
+	observer *observer // whose question it is, nil if it is of Who or List
 }
 
 // answer is how far a voter replied to a question.
@@ -195,21 +199,39 @@ func (c *Client) sendQuestions(now time.Time) {
 		if c.isAnsweredBy(q, now) {
 			c.decide(q, now)
 			delete(c.questions, id)
-			close(q.over)
+			if close(q.over); q.observer != nil {
+				q.observer.hearAnswer(q)
+			}
 			continue
 		}
 		for v := range c.peers {
 			a := q.of(v)
-			if a.done || now.Sub(a.asked) < repeatAsk || !c.hasRoom(v) {
+			if a.done || now.Sub(a.asked) < repeatAsk || !c.hasRoom(v, q.lines()) {
 				continue
 			}
 			a.asked = now
-			ask := q.Ask
-			ask.Number = a.place
-			c.out[v] = ask.Append(c.out[v])
+			c.out[v] = q.append(c.out[v], a.place)
 			c.mayWait = false
 		}
 	}
+}
+
+// lines returns how many lines of control the question has.
+func (q *question) lines() int {
+	if q.observer != nil && q.observer.place > 0 {
+		return 2
+	}
+	return 1
+}
+
+// append appends the question, from a page on. What is watched is said in front of it.
+func (q *question) append(out []byte, page uint64) []byte {
+	if q.lines() > 1 {
+		out = wire.Ask{Kind: wire.Watches, ID: uint64(q.observer.place), Lock: q.Lock}.Append(out)
+	}
+	ask := q.Ask
+	ask.Number = page
+	return ask.Append(out)
 }
 
 // of returns how far a voter replied.
@@ -266,6 +288,8 @@ func (c *Client) hearTold(voter int, told wire.Told) {
 		c.isFree = true
 	case told.Kind == wire.Wanted:
 		c.wanted = time.Now()
+	case told.Kind == wire.HasChanged:
+		c.hearChange(voter, told)
 	case told.Kind == wire.HasVote && told.ID == 0:
 		if l := c.locks[told.Lock]; l != nil && l.shown.Phase == qlock.Asking && told.IsHeld {
 			l.holder = c.holderBy(map[int]wire.Told{voter: told}, time.Now())
@@ -356,6 +380,11 @@ func (c *Client) hearHolder(voter int, q *question, told wire.Told) {
 		q.said[told.Lock] = map[int]wire.Told{}
 	}
 	q.said[told.Lock][voter] = told
+	for o := range c.observers {
+		if o.lock == told.Lock {
+			c.hearsOf(o, voter, told)
+		}
+	}
 }
 
 // hasAnyQuorum returns whether a set of voters contains a quorum of some plan that is in use.

@@ -53,8 +53,8 @@ func listCommand(ctx context.Context, s *settings) *cobra.Command {
 
 func watchCommand(ctx context.Context, s *settings) *cobra.Command {
 	return &cobra.Command{Use: "watch LOCK", Args: cobra.ExactArgs(1), Short: "Show who has a lock, and each change",
-		Long: "Shows who has a lock, as `who` does, and again after each change, until a signal comes. It asks twice a second, so it misses " +
-			"who has the lock for less than that. While no quorum of voters replies it shows nothing, and it fails if none does at first.",
+		Long: "Shows who has a lock, as `who` does, and again after each change, until a signal comes. Voters say each change at once. " +
+			"Who has the lock for a moment may be missed. While no quorum of voters replies it shows nothing, and it fails if none does at first.",
 		RunE: func(_ *cobra.Command, args []string) error {
 			if !wire.IsName([]byte(args[0])) {
 				return fmt.Errorf("%w: %q", locks.ErrName, args[0])

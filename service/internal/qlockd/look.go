@@ -15,12 +15,8 @@ import (
 	"calvundek.example/service/locks"
 )
 
-// askFor is for how long voters may take to reply if nobody says, and watchEvery how long it is from one question of who has a lock that
-// is watched to the next.
-const (
-	askFor     = 3 * time.Second
-	watchEvery = 500 * time.Millisecond
-)
+// askFor is for how long voters may take to reply if nobody says.
+const askFor = 3 * time.Second
 
 // looked is a request that asks voters.
 type looked struct {
@@ -135,17 +131,16 @@ func (a *Agent) answerAll(w http.ResponseWriter, r *http.Request) {
 	answer(w, map[string][]view.Holder{"locks": rows})
 }
 
-// watched is a lock that clients watch. Voters are asked once for all of them.
+// watched is a lock that clients watch. The agent watches it once for all of them.
 type watched struct {
 	clients int
 	stop    context.CancelFunc
-	begun   uint64        // questions so far
-	told    uint64        // the last one that a quorum answered, 0 if none did
-	holder  locks.Holder  // what it answered
-	changed chan struct{} // closed with the next answer
+	changes uint64        // how many it saw
+	holder  locks.Holder  // by the last one
+	changed chan struct{} // closed with the next one
 }
 
-// watchToo notes that one client more watches a lock, and which questions began before.
+// watchToo notes that one client more watches a lock, and how many changes came before.
 func (a *Agent) watchToo(name string) (w *watched, before uint64) {
 	a.mutex.Lock()
 	defer a.mutex.Unlock()
@@ -153,13 +148,13 @@ func (a *Agent) watchToo(name string) (w *watched, before uint64) {
 		ctx, stop := context.WithCancel(context.Background())
 		w = &watched{stop: stop, changed: make(chan struct{})}
 		a.watched[name] = w
-		go a.askAgain(ctx, name, w)
+		go a.follow(ctx, name, w)
 	}
 	w.clients++
-	return w, w.begun
+	return w, w.changes
 }
 
-// watchNoMore notes that a client ended that watched a lock. With the last one the questions end.
+// watchNoMore notes that a client ended that watched a lock. With the last one the agent's watch ends.
 func (a *Agent) watchNoMore(name string, w *watched) {
 	a.mutex.Lock()
 	defer a.mutex.Unlock()
@@ -169,36 +164,39 @@ func (a *Agent) watchNoMore(name string, w *watched) {
 	}
 }
 
-// askAgain asks who has a lock, again and again until nobody watches it.
-func (a *Agent) askAgain(ctx context.Context, name string, w *watched) {
-	ticker := time.NewTicker(watchEvery)
-	defer ticker.Stop()
+// follow watches a lock until nobody of this agent does, by one session after the other.
+func (a *Agent) follow(ctx context.Context, name string, w *watched) {
 	for ctx.Err() == nil {
-		a.mutex.Lock()
-		w.begun++
-		a.mutex.Unlock()
-		limit, cancel := context.WithTimeout(ctx, askFor)
-		holder, err := a.who(limit, name)
-		cancel()
-		if err == nil {
-			a.mutex.Lock()
-			w.told, w.holder = w.begun, holder
-			close(w.changed)
-			w.changed = make(chan struct{})
-			a.mutex.Unlock()
-		}
-		select {
-		case <-ticker.C:
-		case <-ctx.Done():
+		err := a.asks(ctx, name, func(s *session) error {
+			holders, err := s.Watch(ctx, name)
+			if err != nil {
+				return err
+			}
+			for holder := range holders {
+				a.see(w, holder)
+			}
+			return s.Err()
+		})
+		if err != nil {
+			sleep(ctx, pause)
 		}
 	}
 }
 
-// newest returns who has a lock by the last answer, by which question, and what is closed with the next answer.
+// see notes who has a lock that is watched.
+func (a *Agent) see(w *watched, holder locks.Holder) {
+	a.mutex.Lock()
+	defer a.mutex.Unlock()
+	w.changes, w.holder = w.changes+1, holder
+	close(w.changed)
+	w.changed = make(chan struct{})
+}
+
+// newest returns who has a lock by the last change, how many came so far, and what is closed with the next one.
 func (a *Agent) newest(w *watched) (locks.Holder, uint64, <-chan struct{}) {
 	a.mutex.Lock()
 	defer a.mutex.Unlock()
-	return w.holder, w.told, w.changed
+	return w.holder, w.changes, w.changed
 }
 
 // watchHolder writes a line for who has a lock, and another one after each change, until the connection or the agent ends. Who reads late
@@ -222,8 +220,8 @@ func (a *Agent) watchHolder(w http.ResponseWriter, r *http.Request, name string)
 	lock, before := a.watchToo(name)
 	defer a.watchNoMore(name, lock)
 	for says := say(view.Of(name, last)); says; {
-		holder, question, changed := a.newest(lock)
-		if question > before && !holder.IsSame(last) {
+		holder, changes, changed := a.newest(lock)
+		if changes > before && !holder.IsSame(last) {
 			last, says = holder, say(view.Of(name, holder))
 			continue
 		}

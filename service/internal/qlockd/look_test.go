@@ -10,6 +10,7 @@ import (
 	"os"
 	"path/filepath"
 	"strings"
+	"sync/atomic"
 	"testing"
 	"time"
 
@@ -211,14 +212,7 @@ func TestWatchOfTheCluster(t *testing.T) {
 // Who begins to watch hears who has the lock now, and no older answer that others heard before.
 func TestWatcherHearsNoOlderAnswer(t *testing.T) {
 	h := start(t, ttl)
-	lock := &watched{clients: 1, begun: 7, told: 7, holder: locks.Holder{Note: "older"}, stop: func() {}, changed: make(chan struct{})}
-	says := func(question uint64, note string) {
-		h.agent.mutex.Lock()
-		defer h.agent.mutex.Unlock()
-		lock.told, lock.holder = question, locks.Holder{Note: note}
-		close(lock.changed)
-		lock.changed = make(chan struct{})
-	}
+	lock := &watched{clients: 1, changes: 7, holder: locks.Holder{Note: "older"}, stop: func() {}, changed: make(chan struct{})}
 	h.agent.mutex.Lock()
 	h.agent.watched["x"] = lock
 	h.agent.mutex.Unlock()
@@ -228,14 +222,14 @@ func TestWatcherHearsNoOlderAnswer(t *testing.T) {
 	}
 	h.until("it watches", func() bool { return h.watches("x") == 2 })
 	time.Sleep(100 * time.Millisecond)
-	says(8, "newer")
+	h.agent.see(lock, locks.Holder{Note: "newer"})
 	if line := s.line(); line["note"] != "newer" {
 		t.Error(line)
 	}
 	_ = s.connection.Close()
 }
 
-// Many who watch one lock ask voters no more often than one.
+// The agent watches a lock once for all who do.
 func TestManyWatchOneLock(t *testing.T) {
 	h := start(t, ttl)
 	var all []*stream
@@ -246,25 +240,15 @@ func TestManyWatchOneLock(t *testing.T) {
 		}
 		all = append(all, s)
 	}
-	asked := func() (count uint64) {
-		h.agent.mutex.Lock()
-		defer h.agent.mutex.Unlock()
-		return h.agent.watched["x"].begun
-	}
-	lines := make(chan string, 1000)
+	var said, asked atomic.Int64
 	h.world.Bus.Watch(func(_ string, message []byte) {
-		if strings.Contains(string(message), " who x") || strings.Contains(string(message), ". who ") {
-			select {
-			case lines <- string(message):
-			default:
-			}
-		}
+		said.Add(int64(strings.Count(string(message), ". watch ")))
+		asked.Add(int64(strings.Count(string(message), ". who ")))
 	})
-	before := asked()
-	time.Sleep(2 * time.Second)
+	time.Sleep(ttl * 6 / 10)
 	h.world.Bus.Watch(nil)
-	if rounds := asked() - before; rounds > 6 || len(lines) == 0 || len(lines) > 30 {
-		t.Errorf("%d rounds, %d questions", rounds, len(lines))
+	if said.Load() == 0 || said.Load() > 6 || asked.Load() > 6 {
+		t.Errorf("it is said %d times that somebody watches, with %d questions", said.Load(), asked.Load())
 	}
 	for _, s := range all {
 		_ = s.connection.Close()

@@ -63,6 +63,8 @@ func (d *Daemon) ask(l *letter, speaker qlock.Standing, line []byte, now time.Ti
 		return true, true
 	case ask.Kind == wire.AskWho:
 		d.put(l.Name, d.holderOf(ask.ID, ask.Lock, d.votes[ask.Lock], now).Append(d.out[l.Name]))
+	case ask.Kind == wire.Watches:
+		d.watchFor(l.Name, ask, now)
 	case ask.Kind == wire.AskNames:
 		if !l.once("list") {
 			return true, false
@@ -71,6 +73,9 @@ func (d *Daemon) ask(l *letter, speaker qlock.Standing, line []byte, now time.Ti
 	case speaker != qlock.SessionKnown:
 		return true, true // it says it again once it has its number here
 	case ask.Kind == wire.SaysNote:
+		if before := l.shard.noteOf(l.Number); before != ask.Text {
+			d.watches.looked = time.Time{} // that is the note of all its locks
+		}
 		l.shard.notes[l.Number] = sessionNote{l.Name, l.Epoch, ask.Text}
 		d.put(l.Name, wire.Told{Kind: wire.Noted}.Append(d.out[l.Name]))
 	case ask.Kind == wire.SaysProcess:
@@ -96,6 +101,7 @@ func (d *Daemon) noteAbout(l *letter, ask wire.Ask) {
 	if one, isAsked := v.asks[l.Number]; isAsked && one.stamp == ask.Number && !v.shard.isEarlier(l.Number, one.stamp) {
 		one.note = ask.Text
 		v.asks[l.Number] = one
+		d.watches.touch(v.name)
 	}
 }
 

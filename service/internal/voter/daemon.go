@@ -82,6 +82,7 @@ type Daemon struct {
 	letters         []posted     // words to other voters that leave after the save
 	skips           []skip       // turns that are told after the save
 	skipsWaiting    []skipWaiting
+	watches         watches      // the locks that sessions watch
 	skippable       qlock.Bucket // how many more numbers may be skipped for turns
 	reach           uint64       // up to which number they may be now
 	voters          <-chan transport.Message

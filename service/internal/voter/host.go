@@ -58,13 +58,14 @@ func (d *Daemon) Turn() (until time.Time, err error) {
 	if d.start(now); d.join.refused != nil {
 		return now, d.endRefused()
 	}
+	d.tellWatchers(now)
 	if err := d.commit(now); err != nil {
 		d.log.Write(event.Error, "save-failed", "why", err)
 		return now, err
 	}
 	d.lively.Store(now.UnixNano())
 	switch until = d.next; {
-	case d.inbox.count > 0:
+	case d.inbox.count > 0 || len(d.watches.due) > 0:
 		until = now // the rest of the last turn waits
 	case !d.join.done:
 		until = earlier(until, d.join.next)

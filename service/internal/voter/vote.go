@@ -148,6 +148,7 @@ func (d *Daemon) recount(s *shard, client int) {
 func (d *Daemon) noteGrant(v *vote, held qlock.Grant, now time.Time) {
 	if held.Number != v.held.Number {
 		v.held, v.granted = held, now
+		d.watches.touch(v.name)
 		if held.Number > 0 {
 			v.highest = greatest(v.highest, held.Number)
 			d.m.grants.Inc()

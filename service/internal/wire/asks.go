@@ -16,7 +16,7 @@ var ErrAsk = errors.New("wire: a line of control is wrong")
 // who gets a vote does not depend on them.
 type Ask struct {
 	Kind   AskKind
-	ID     uint64 // of a question: its replies have it, too
+	ID     uint64 // of a question, or of Watches: what is said to it has it, too
 	Lock   string // a lock's name; of AskNames what names begin with, "" for all; of WantsNumber "" if it is not known
 	Number uint64 // of SaysAbout and WantsTurn the stamp of a request; of AskNames where to go on, 0 to begin; of WantsNumber how many stamps
 	Grant  uint64 // of WantsTurn: the number of the grant that the request has here
@@ -38,16 +38,17 @@ const (
 	WantsFor                   // for LOCK: what a session wants a number for. It is in front of hello, and older voters ignore it
 	WantsNumber                // want STAMPS [LOCK]: a claim whose number and epoch the voter fills in. It is as WantsFor; of 0 stamps it is taken back
 	SaysProcess                // process NAME: bundles of messages to sessions of this process may go to the mailbox of this name
+	Watches                    // watch ID LOCK: for a TTL the voter says each change of who has the lock. Older voters ignore it
 )
 
 // Told is what a voter says to an Ask.
 type Told struct {
 	Kind         ToldKind
-	ID           uint64 // of the question, 0 of HasVote that nobody asked for
+	ID           uint64 // of the question, 0 of HasVote that nobody asked for; of HasChanged that of Watches
 	Lock         string
 	Top          uint64 // of Turned: up to which number the voter skipped
-	Waiting      uint64 // of HasVote: the numbers of those that wait, one bit for each
-	IsHeld       bool   // of HasVote: somebody has the vote. Without that there is nothing of what follows
+	Waiting      uint64 // of HasVote and HasChanged: the numbers of those that wait, one bit for each
+	IsHeld       bool   // of these: somebody has the vote. Without that there is nothing of what follows
 	Number       int    // who has it
 	Stamp        uint64 // of its request; of Turned that of the request that has the vote
 	Milliseconds uint64 // for how long
@@ -66,15 +67,16 @@ type ToldKind byte
 
 // The kinds of Told.
 const (
-	NotTold  ToldKind = iota
-	Noted             // noted: the voter has the session's note
-	HasVote           // has ID LOCK WAITING [NUMBER STAMP MS USER [NOTE]]
-	IsListed          // listed ID FROM NEXT
-	Sessions          // sessions OPEN SILENT WAITS [AHEAD HIGHEST], behind the reply to hello
-	Turned            // turned LOCK STAMP TOP
-	Free              // free: a number is, for who waits for one
-	Wanted            // wanted: somebody waits for a number
-	Bundles           // bundles: the voter reads bundles, and knows the session's process
+	NotTold    ToldKind = iota
+	Noted               // noted: the voter has the session's note
+	HasVote             // has ID LOCK WAITING [NUMBER STAMP MS USER [NOTE]]
+	IsListed            // listed ID FROM NEXT
+	Sessions            // sessions OPEN SILENT WAITS [AHEAD HIGHEST], behind the reply to hello
+	Turned              // turned LOCK STAMP TOP
+	Free                // free: a number is, for who waits for one
+	Wanted              // wanted: somebody waits for a number
+	Bundles             // bundles: the voter reads bundles, and knows the session's process
+	HasChanged          // holder ID LOCK .., as HasVote: another one has the vote, or its note is another one, for who watches the lock
 )
 
 // IsNote returns whether a text may be a note: 1 to 128 printable bytes of ASCII, with no space at either end.
@@ -104,6 +106,8 @@ func (a Ask) Append(out []byte) []byte {
 		out = withText(withNumber(append(out, ". want"...), a.Number), a.Lock)
 	case SaysProcess:
 		out = withText(append(out, ". process"...), a.Text)
+	case Watches:
+		out = withText(withNumber(append(out, ". watch"...), a.ID), a.Lock)
 	case WantsTurn:
 		out = withNumber(withNumber(withNumber(withText(append(out, ". turn"...), a.Lock), a.Number), a.Grant), a.Top)
 	}
@@ -137,6 +141,8 @@ func ReadAsk(line []byte) (a Ask, err error) {
 			a.Lock = w.lock()
 			w.isWrong = w.isWrong || a.Number == 0
 		}
+	case "watch":
+		a = Ask{Kind: Watches, ID: w.number(), Lock: w.lock()}
 	case "process":
 		a = Ask{Kind: SaysProcess, Text: string(w.next())}
 		w.isWrong = w.isWrong || !IsID([]byte(a.Text))
@@ -155,11 +161,9 @@ func (t Told) Append(out []byte) []byte {
 	case Noted:
 		out = append(out, ". noted"...)
 	case HasVote:
-		out = withNumber(withText(withNumber(append(out, ". has"...), t.ID), t.Lock), t.Waiting)
-		if t.IsHeld {
-			out = withNumber(withNumber(withNumber(out, uint64(t.Number)), t.Stamp), t.Milliseconds)
-			out = withText(withText(out, t.User), t.Note)
-		}
+		out = t.appendHolder(append(out, ". has"...))
+	case HasChanged:
+		out = t.appendHolder(append(out, ". holder"...))
 	case IsListed:
 		out = withNumber(withNumber(withNumber(append(out, ". listed"...), t.ID), t.From), t.Next)
 	case Sessions:
@@ -179,6 +183,16 @@ func (t Told) Append(out []byte) []byte {
 	return append(out, '\n')
 }
 
+// appendHolder appends what a line says of who has a vote.
+func (t Told) appendHolder(out []byte) []byte {
+	out = withNumber(withText(withNumber(out, t.ID), t.Lock), t.Waiting)
+	if !t.IsHeld {
+		return out
+	}
+	out = withNumber(withNumber(withNumber(out, uint64(t.Number)), t.Stamp), t.Milliseconds)
+	return withText(withText(out, t.User), t.Note)
+}
+
 // ReadTold reads such a line, without the dot in front, and returns whether it is one.
 func ReadTold(line []byte) (t Told, ok bool) {
 	w := wordsOf(line)
@@ -186,12 +200,9 @@ func ReadTold(line []byte) (t Told, ok bool) {
 	case "noted":
 		t = Told{Kind: Noted}
 	case "has":
-		t = Told{Kind: HasVote, ID: w.number(), Lock: w.lock(), Waiting: w.number()}
-		if t.IsHeld = w.rest != nil; t.IsHeld {
-			number := w.number()
-			t.Number, t.Stamp, t.Milliseconds, t.User, t.Note = int(number&63), w.number(), w.number(), string(w.next()), w.note()
-			w.isWrong = w.isWrong || number > 63 || !isSpeaker(t.User)
-		}
+		t = w.holder(HasVote)
+	case "holder":
+		t = w.holder(HasChanged)
 	case "listed":
 		t = Told{Kind: IsListed, ID: w.number(), From: w.number(), Next: w.number()}
 	case "sessions":
@@ -271,4 +282,15 @@ func (w *words) note() string {
 		w.isWrong = true
 	}
 	return string(text)
+}
+
+// holder reads what a line says of who has a vote.
+func (w *words) holder(kind ToldKind) Told {
+	t := Told{Kind: kind, ID: w.number(), Lock: w.lock(), Waiting: w.number()}
+	if t.IsHeld = w.rest != nil; t.IsHeld {
+		number := w.number()
+		t.Number, t.Stamp, t.Milliseconds, t.User, t.Note = int(number&63), w.number(), w.number(), string(w.next()), w.note()
+		w.isWrong = w.isWrong || number > 63 || !isSpeaker(t.User)
+	}
+	return t
 }

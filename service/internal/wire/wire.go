@@ -40,12 +40,14 @@
 //	who ID LOCK   has ID LOCK WAITING NUMBER STAMP MS USER NOTE: who has the voter's vote, for how long, and
 //	              the numbers that wait, one bit for each. It ends behind WAITING if nobody has it, and behind
 //	              USER if he has no note
+//	watch ID LOCK none, and then for a TTL "holder ID LOCK ..", as has, whenever another one has the voter's vote, or the note is
+//	              another one. It is said again and again
 //	list ID PLACE PREFIX   has ID .. for some locks, and listed ID PLACE NEXT; 0 begins, and is the end
 //	turn LOCK STAMP GRANT TOP  turned LOCK STAMP TOP: the voter skipped the numbers of the lock's grants up to TOP, and saved
 //	              that. None if the request of this stamp does not have the vote by the grant of this number
 //
-// A TEXT is 1 to 128 printable bytes of ASCII. None of the last five words decides who has a vote (asks.go); "turn" decides how the next
-// grants are numbered. Who has no number may ask "who" and "list", too.
+// A TEXT is 1 to 128 printable bytes of ASCII. None of the last six words decides who has a vote (asks.go); "turn" decides how the next
+// grants are numbered. Who has no number may say "who", "watch" and "list", too.
 //
 // A voter also sends "gone LOCK STAMP" when it let a request go, "full LOCK STAMP" if it has no
 // room for the lock of a REQUEST, or for another one of its user, "taken N EPOCH" to a session that is over, and "unknown N EPOCH"
