@@ -253,20 +253,24 @@ class Client:
         self.note = note
 
     def lock(self, name: str, wait: Optional[float] = None, on_lost: Optional[Callable[["Held"], None]] = None,
-             turn: bool = False, note: str = "") -> "Held":
+             turn: bool = False, note: str = "", idle: Optional[float] = None) -> "Held":
         """Waits for a lock, for at most `wait` seconds, and without limit if it is None. `on_lost` is called, in a thread of
         its own, when the lock may be somebody else's. With `turn` the lock has its turn (`Held.turn`): for that all voters of
-        its quorum have to reply. `note` is that of this lock, in place of the client's."""
-        return self._take(name, wait, {"turn": "1"} if turn else {}, on_lost, note)
+        its quorum have to reply. `note` is that of this lock, in place of the client's. With `idle`
+        the lock is lost, as `idle`, once `Held.alive` was not called for so many seconds."""
+        return self._take(name, wait, {"turn": "1"} if turn else {}, on_lost, note, idle)
 
-    def try_lock(self, name: str, on_lost: Optional[Callable[["Held"], None]] = None, turn: bool = False, note: str = "") -> "Held":
+    def try_lock(self, name: str, on_lost: Optional[Callable[["Held"], None]] = None, turn: bool = False, note: str = "",
+                 idle: Optional[float] = None) -> "Held":
         """Takes a lock that nobody has. Raises `HeldElsewhere` if somebody else has it, or asked before, and `NoNumber` if all client
         numbers are in use."""
-        return self._take(name, 10.0, {"try": "1", "turn": "1"} if turn else {"try": "1"}, on_lost, note)
+        return self._take(name, 10.0, {"try": "1", "turn": "1"} if turn else {"try": "1"}, on_lost, note, idle)
 
     def _take(self, name: str, wait: Optional[float], query: Dict[str, str], on_lost: Optional[Callable[["Held"], None]],
-              note: str) -> "Held":
+              note: str, idle: Optional[float]) -> "Held":
         limit = None
+        if idle is not None:
+            query["idle"] = f"{max(idle, 0.001):.6f}s"
         if note or self.note:
             query["note"] = note or self.note
         if wait is not None:
@@ -275,7 +279,7 @@ class Client:
         connection = self._call(f"POST /v1/locks/{quote(name, safe='')}?{urlencode(query)}", limit)
         try:
             connection.reply()
-            return Held(name, connection, connection.json(), on_lost)
+            return Held(name, connection, connection.json(), on_lost, idle is not None)
         except BaseException:
             connection.close()
             raise
@@ -331,7 +335,8 @@ def _wait(seconds: float) -> str:
 
 class Watch:
     """Who has a lock, one after the other, until `close` or the end of its `with`. The next one raises `Unreachable` if the agent ends.
-    Voters say each change at once. A holder who has the lock for a moment may be missed. While no quorum of them replies nothing comes. Changes of `since` and `waiting` alone are none. One thread may wait for the next one, and any thread may close it."""
+    Voters say each change at once. A holder who has the lock for a moment may be missed. While no quorum of them replies nothing comes.
+    Changes of `since` and `waiting` alone are none. One thread may wait for the next one, and any thread may close it."""
 
     def __init__(self, connection: _Connection) -> None:
         self._connection = connection
@@ -369,7 +374,8 @@ class Watch:
 class Held:
     """A lock that is held, until `unlock` or the end of its `with`."""
 
-    def __init__(self, name: str, connection: _Connection, first: Dict[str, Any], on_lost: Optional[Callable[["Held"], None]]) -> None:
+    def __init__(self, name: str, connection: _Connection, first: Dict[str, Any], on_lost: Optional[Callable[["Held"], None]],
+                 may_idle: bool = False) -> None:
         self.name = name
         self.id: str = first["id"]
         self.token = bytes.fromhex(first["pass"])
@@ -384,6 +390,7 @@ class Held:
         self._until: float = first["until_ms"] / 1000
         self._connection = connection
         self._on_lost = on_lost
+        self._may_idle = may_idle
         self._is_over = False
         self._is_unlocked = False
         self._ended = threading.Event()  # the reader knows that the lock is over
@@ -395,6 +402,15 @@ class Held:
     def left(self) -> float:
         """Returns for how many seconds the lock lasts if nothing more is heard of the agent. It is 0 once the lock is lost."""
         return 0.0 if self.lost.is_set() else max(self._until - _uptime(), 0.0)
+
+    def alive(self) -> None:
+        """Says that the work goes on. A lock that was taken with `idle` is lost if that is not said in time, and others need not say it."""
+        if not self._may_idle or self.lost.is_set():
+            return
+        try:
+            self._connection.socket.sendall(b"\n")
+        except OSError:
+            pass  # the connection has ended, and the reader says so
 
     def _read(self) -> None:
         """Reads what the agent says, until the lock is over."""

@@ -124,6 +124,26 @@ class WithMadeUpAgent(unittest.TestCase):
         held, got = self.take(first())
         self.assertEqual((got[0], held.turn), ("POST /v1/locks/orders? HTTP/1.0", None))
 
+    def test_idle(self):
+        held, got = self.take(first(), idle=30)
+        self.assertEqual(got[0], "POST /v1/locks/orders?idle=30.000000s HTTP/1.0")
+        held.alive()
+        got[1].settimeout(20)
+        self.assertEqual(got[1].recv(16), b"\n")
+        got[1].sendall(b'{"lost":true,"why":"idle"}\n')
+        self.assertTrue(held.lost.wait(20))
+        held.alive()
+        self.assertEqual(held.why, "idle")
+        held, got = self.take(first())
+        held.alive()
+        threading.Timer(0.1, lambda: got[1].sendall(b'{"unlocked":true}\n')).start()
+        held.unlock()
+        self.assertEqual(got[1].recv(16), b"")
+        got = self.agent.next(head(409, {"fault": "held", "why": "x"}))
+        with self.assertRaises(HeldElsewhere):
+            self.client.try_lock("x", idle=0)
+        self.assertEqual(got[0], "POST /v1/locks/x?try=1&idle=0.001000s&wait=10.000000s HTTP/1.0")
+
     def test_names_are_quoted(self):
         got = self.agent.next(head(400, {"fault": "name", "why": "x"}))
         with self.assertRaises(BadName):

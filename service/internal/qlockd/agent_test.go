@@ -1087,3 +1087,125 @@ func TestClientOfAnAgentThatIsGone(t *testing.T) {
 		_ = connection.Close()
 	}
 }
+
+// says writes to the agent what a client says that may be idle.
+func (s *stream) says(text string) {
+	s.t.Helper()
+	if _, err := s.connection.Write([]byte(text)); err != nil {
+		s.t.Fatal(err)
+	}
+}
+
+// A client with `idle` keeps its lock as long as it writes lines, whatever is in them. Then it is lost, and given back as other lost ones are.
+func TestIdle(t *testing.T) {
+	h := start(t, ttl)
+	s, line := h.take("x?idle=3s&wait=30s")
+	if line["held"] != true || line["lock"] != "x" || !s.reply.Close || s.reply.Header.Get("Content-Type") != "application/x-ndjson" {
+		t.Error(line, s.reply)
+	}
+	for i, text := range []string{"\n", "any bytes\n", "\n\n", "half of one, ", "and the rest\n", strings.Repeat("x", 1<<16) + "\n", "{}\r\n"} {
+		time.Sleep(time.Second)
+		if s.says(text); fmt.Sprint(h.listed("/v1/locks/x")) != "[x held]" {
+			t.Fatal(i, "it is idle: ", h.listed("/v1/locks/x"))
+		}
+	}
+	began := time.Now()
+	h.until("idle", func() bool {
+		s.says("no line")
+		time.Sleep(100 * time.Millisecond)
+		return fmt.Sprint(h.listed("/v1/locks/x")) == "[x lost]"
+	})
+	if last := s.last(); last["lost"] != true || last["why"] != "idle" {
+		t.Error(last)
+	}
+	if took := time.Since(began); took < 2*time.Second || took > 15*time.Second {
+		t.Error("idle after", took)
+	}
+	if got := fmt.Sprint(h.listed("/v1/locks/x"), h.refused("x?try=1")); got != "[x lost]409 held" {
+		t.Error(got)
+	}
+	s.says("\n")
+	_ = s.connection.Close()
+	h.until("given back", func() bool { return len(h.listed("/v1/locks/x")) == 0 })
+	h.until("no connection", func() bool { return h.agent.connections.Load() == 0 })
+	if !strings.Contains(h.log.text(), "event=lost lock=x") || !strings.Contains(h.log.text(), "why=idle") {
+		t.Error(h.log.text())
+	}
+}
+
+// A line that came while the agent stood still came in time.
+func TestLineOfAStandstill(t *testing.T) {
+	listener, err := net.Listen("unix", filepath.Join(t.TempDir(), "q.sock"))
+	if err != nil {
+		t.Fatal(err)
+	}
+	defer listener.Close()
+	client, err := net.Dial("unix", listener.Addr().String())
+	if err != nil {
+		t.Fatal(err)
+	}
+	defer client.Close()
+	connection, err := listener.Accept()
+	if err != nil {
+		t.Fatal(err)
+	}
+	defer connection.Close()
+	fmt.Fprint(client, "one\nhalf")
+	lines := bufio.NewReader(connection)
+	if err := readLineWithin(connection, lines, -time.Second); err != nil {
+		t.Error(err)
+	}
+	if err := readLineWithin(connection, lines, time.Millisecond); !errors.Is(err, os.ErrDeadlineExceeded) {
+		t.Error(err)
+	}
+	_ = client.Close()
+	if err := readLineWithin(connection, lines, time.Minute); err != io.EOF {
+		t.Error(err)
+	}
+}
+
+// A client that is idle, and keeps its connection, keeps others out for a TTL.
+func TestIdleForLong(t *testing.T) {
+	h := start(t, 2*time.Second)
+	s, _ := h.take("x?idle=100ms&wait=30s")
+	if last := s.last(); last["why"] != "idle" {
+		t.Error(last)
+	}
+	began := time.Now()
+	next, _ := h.take("x?wait=30s")
+	if took := time.Since(began); took < time.Second {
+		t.Error("another one has it after", took)
+	}
+	if line := s.line(); line != nil {
+		t.Error(line)
+	}
+	_ = next.connection.Close()
+}
+
+// What a client says as it waits does no harm, it gives its lock back as others do, and a wrong time is refused.
+func TestIdleOfOneThatWaits(t *testing.T) {
+	h := start(t, ttl)
+	first, _ := h.take("x")
+	s := h.post("x?idle=20s&wait=50s")
+	h.until("waiting", func() bool { return len(h.listed("/v1/locks/x")) == 2 })
+	s.says("\n\n")
+	_ = first.connection.Close()
+	if status, line := s.status(), s.line(); status != http.StatusOK || line["held"] != true {
+		t.Error(status, line)
+	}
+	s.says("\n")
+	_ = s.connection.(*net.UnixConn).CloseWrite()
+	if line := s.last(); line["unlocked"] != true {
+		t.Error(line)
+	}
+	if got := h.refused("x?idle=100ms&try=1&wait=soon"); got != "400 request" {
+		t.Error(got)
+	}
+	for _, idle := range []string{"0s", "-1s", "soon", "", "3"} {
+		s := h.post("x?idle=" + idle)
+		if status, line := s.status(), s.line(); status != http.StatusBadRequest || line["fault"] != "request" ||
+			!strings.Contains(fmt.Sprint(line["why"]), "idle is ") {
+			t.Error(idle, status, line)
+		}
+	}
+}

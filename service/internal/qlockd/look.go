@@ -34,7 +34,7 @@ func readLooked(r *http.Request, hasPrefix bool) (looked, error) {
 	for key, values := range query {
 		switch value := values[len(values)-1]; {
 		case key == "wait":
-			if of.wait, err = readWait(value); err != nil {
+			if of.wait, err = readTime(key, value); err != nil {
 				return of, err
 			}
 		case key == "prefix" && hasPrefix:

@@ -40,6 +40,7 @@ type place struct {
 	session *session      // of held
 	why     string        // why the client has to stop, "" as long as it need not
 	lost    chan struct{} // closed once it has to
+	idles   chan struct{} // closed once it wrote no line in time, nil if it need not
 	freed   atomic.Bool   // somebody gives the lock back
 	ended   chan struct{} // closed once that is done
 	once    sync.Once
@@ -128,6 +129,7 @@ func (p *place) end(ctx context.Context, held *locks.Held, tries bool) error {
 func (a *Agent) watch(p *place) {
 	select {
 	case <-p.held.Lost(): // an unlock closes it, too
+	case <-p.idles:
 	case <-a.closing:
 	case <-p.ended:
 	}
@@ -152,6 +154,8 @@ func (a *Agent) whyLost(p *place) string {
 		return sessionEnded
 	case isClosed(p.held.Lost()):
 		return leaseEnded
+	case isClosed(p.idles):
+		return clientIdle
 	case isClosed(a.closing):
 		return agentEnds
 	}

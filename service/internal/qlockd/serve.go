@@ -1,6 +1,7 @@
 package qlockd
 
 import (
+	"bufio"
 	"bytes"
 	"context"
 	"encoding/hex"
@@ -8,8 +9,10 @@ import (
 	"errors"
 	"fmt"
 	"io"
+	"net"
 	"net/http"
 	"net/url"
+	"os"
 	"strings"
 	"time"
 
@@ -217,16 +220,17 @@ type asked struct {
 	tries bool
 	wait  time.Duration // 0 for as long as the connection lasts
 	turns bool          // it wants the lock's turn, too
+	idle  time.Duration // within which its client has to write a line, again and again, 0 if it need not
 	whom  locks.For     // what others see of who has the lock
 }
 
-// readWait reads for how long to wait.
-func readWait(text string) (time.Duration, error) {
-	wait, err := time.ParseDuration(text)
-	if err != nil || wait <= 0 {
-		return 0, fmt.Errorf("%w: wait is %q, and has to be a time above 0, as 10s", errRequest, text)
+// readTime reads a time of a query, as for how long to wait.
+func readTime(key, text string) (time.Duration, error) {
+	read, err := time.ParseDuration(text)
+	if err != nil || read <= 0 {
+		return 0, fmt.Errorf("%w: %s is %q, and has to be a time above 0, as 10s", errRequest, key, text)
 	}
-	return wait, nil
+	return read, nil
 }
 
 // readNote reads the body of a request for a lock, and whether it has a note. It may be empty.
@@ -272,7 +276,11 @@ func readAsked(r *http.Request, body []byte, name string) (asked, error) {
 	for key, values := range query {
 		switch value := values[len(values)-1]; key {
 		case "wait":
-			if of.wait, err = readWait(value); err != nil {
+			if of.wait, err = readTime(key, value); err != nil {
+				return of, err
+			}
+		case "idle":
+			if of.idle, err = readTime(key, value); err != nil {
 				return of, err
 			}
 		case "try":
@@ -343,6 +351,9 @@ func (a *Agent) lock(w http.ResponseWriter, r *http.Request, name string) {
 		of.whom.Note = p.peer.Command
 	}
 	p.note = of.whom.Note
+	if of.idle > 0 {
+		p.idles = make(chan struct{})
+	}
 	connection, ignore := attend(r.Context())
 	defer ignore()
 	ctx, cancel := a.within(connection, of.wait)
@@ -359,7 +370,11 @@ func (a *Agent) lock(w http.ResponseWriter, r *http.Request, name string) {
 		return
 	}
 	a.counts.add("none")
-	a.stream(w, connection, p)
+	if of.idle > 0 {
+		a.streamWhileAlive(w, connection, ignore, p, of.idle)
+		return
+	}
+	a.stream(linesTo(w), connection, p)
 }
 
 // explain says why the time of a request ended before it got its lock.
@@ -437,6 +452,7 @@ const (
 	leaseEnded   = "lease"    // voters were not heard for 0.8 TTL, or let the lock go
 	sessionEnded = "session"  // the session is over
 	givenBack    = "unlocked" // another process gave it back
+	clientIdle   = "idle"     // its client wrote no line in time
 	agentEnds    = "closing"
 )
 
@@ -454,10 +470,67 @@ func linesTo(w http.ResponseWriter) func(line interface{}) bool {
 	}
 }
 
+// headOfLines is the head of a reply of lines, on a connection that was taken over.
+const headOfLines = "HTTP/1.1 200 OK\r\nContent-Type: application/x-ndjson\r\nCache-Control: no-store\r\nConnection: close\r\n\r\n"
+
+// streamWhileAlive is stream for a client that has to write a line within a time, again and again. Package http does not read while it
+// replies, so the connection is taken over from it. The function that it gets ends the context.
+func (a *Agent) streamWhileAlive(w http.ResponseWriter, ctx context.Context, ends context.CancelFunc, p *place, idle time.Duration) {
+	hijacker, is := w.(http.Hijacker)
+	if !is {
+		a.refuse(w, errors.New("the connection can't be taken over"))
+		return
+	}
+	connection, said, err := hijacker.Hijack()
+	if err != nil {
+		a.refuse(w, err)
+		return
+	}
+	defer a.connections.Add(-1) // package http does not say any more that it ends
+	defer connection.Close()
+	go p.readLines(connection, said.Reader, idle, ends)
+	lines := json.NewEncoder(connection)
+	if _, err := io.WriteString(connection, headOfLines); err == nil {
+		a.stream(func(line interface{}) bool { return lines.Encode(line) == nil }, ctx, p)
+	}
+}
+
+// readLines reads the lines of a client until its connection ends. Once none came in time it is idle.
+func (p *place) readLines(connection net.Conn, lines *bufio.Reader, idle time.Duration, ends func()) {
+	defer ends()
+	for {
+		err := readLineWithin(connection, lines, idle)
+		if errors.Is(err, os.ErrDeadlineExceeded) {
+			close(p.idles)
+			break
+		} else if err != nil {
+			return
+		}
+	}
+	_ = connection.SetReadDeadline(time.Time{})
+	_, _ = io.Copy(io.Discard, lines)
+}
+
+// catchUp is for how long a line may still come as its time is over: it may have come while the agent stood still.
+const catchUp = 100 * time.Millisecond
+
+// readLineWithin reads a line of any length, and fails with os.ErrDeadlineExceeded if none comes in time.
+func readLineWithin(connection net.Conn, lines *bufio.Reader, most time.Duration) (err error) {
+	for _, most := range []time.Duration{most, catchUp} {
+		_ = connection.SetReadDeadline(time.Now().Add(most))
+		for err = bufio.ErrBufferFull; err == bufio.ErrBufferFull; {
+			_, err = lines.ReadSlice('\n')
+		}
+		if !errors.Is(err, os.ErrDeadlineExceeded) {
+			return err
+		}
+	}
+	return err
+}
+
 // stream writes a line when the lock is held, then at intervals for how long it lasts, and a last one. The lock is given
 // back once the connection ends, or half of it.
-func (a *Agent) stream(w http.ResponseWriter, ctx context.Context, p *place) {
-	say := linesTo(w)
+func (a *Agent) stream(say func(line interface{}) bool, ctx context.Context, p *place) {
 	ticker := time.NewTicker(p.session.ttl() / 4)
 	defer ticker.Stop()
 	line := interface{}(first{true, p.name, p.id, hex.EncodeToString(p.held.Token()), p.turn, p.session.ttl().Milliseconds(), leftOf(p.held)})
