@@ -130,7 +130,7 @@ type session struct {
 	wants    string    // the lock for which a number is wanted, "" if that is not known
 	wishes   *wishes   // the locks of all calls for which one is wanted, nil without shards
 
-	short *atomic.Pointer[wire.Told] // of this call: which sessions there were as no number was to be had last, nil before that
+	short *atomic.Pointer[shortage] // of this call, nil before no number was to be had
 
 	wanted  time.Time // when a voter said last that others wait for a number
 	wasUsed bool      // a lock was asked for
@@ -141,7 +141,7 @@ type session struct {
 }
 
 func newSession(cluster *config.Cluster, name string, own *claims.Numbers) session {
-	s := session{asked: -1, failed: -1, claims: own, short: &atomic.Pointer[wire.Told]{}, unused: time.Now(),
+	s := session{asked: -1, failed: -1, claims: own, short: &atomic.Pointer[shortage]{}, unused: time.Now(),
 		drained: make(chan struct{}), leases: qlock.NewLeases(leaseOf(cluster.TTL.Duration)), stamps: qlock.NewAllStamps(),
 		header: wire.Header{Cluster: cluster.ID, Kind: wire.FromClient, Name: name, Level: level.Newest}}
 	s.meet(len(cluster.Names()))
@@ -189,15 +189,21 @@ func (c *Client) begin(ctx context.Context) error {
 
 // notesShort notes that a quorum said that no number is to be had, or others were faster.
 func (c *Client) notesShort() {
-	crowd := c.crowd
-	c.short.Store(&crowd)
+	c.short.Store(&shortage{c.crowd, c.wants, time.Now()})
+}
+
+// shortage is that no number was to be had last.
+type shortage struct {
+	crowd wire.Told // which sessions there were
+	lock  string    // for which it was wanted, "" if that is not known
+	at    time.Time
 }
 
 // withoutNumber returns why a session has no number. If the context ended, and voters had said before that none is to be had, it is that,
 // whatever was asked last.
 func (c *Client) withoutNumber(ctx context.Context, err error) error {
 	if short := c.short.Load(); short != nil && c.why == nil && ctx.Err() != nil {
-		return crowded(*short, ctx.Err())
+		return crowded(short.crowd, ctx.Err())
 	}
 	return err
 }

@@ -51,7 +51,7 @@ type part struct {
 	seq    uint64          // of the last message under that name
 	client *Client         // nil if there is none
 
-	short  atomic.Pointer[wire.Told] // of whoever opens the session (session.short)
+	short  atomic.Pointer[shortage] // of whoever opens the session (session.short)
 	wishes wishes
 }
 
@@ -226,19 +226,10 @@ func (c *Client) sessionFor(ctx context.Context, lock string, tries bool) (*Clie
 	shard := c.cluster.ShardOfLock(lock)
 	p := c.shards.part(shard)
 	defer p.wishes.add(lock)()
-	select {
-	case p.gate <- struct{}{}:
-		defer func() { <-p.gate }()
-	case <-ctx.Done():
-		if short := p.short.Load(); short != nil {
-			return nil, crowded(*short, ctx.Err()) // another call waits for the number, too
-		}
-		return nil, ctx.Err()
-	case <-c.shards.closing:
-		return nil, ErrClosed
-	case <-c.ended:
-		return nil, c.why
+	if err := c.enter(ctx, p, lock, tries); err != nil {
+		return nil, err
 	}
+	defer func() { <-p.gate }()
 	if why := c.whyClosed(); why != nil {
 		return nil, why
 	}
@@ -246,6 +237,38 @@ func (c *Client) sessionFor(ctx context.Context, lock string, tries bool) (*Clie
 		return session, nil
 	}
 	return c.openFor(ctx, p, shard, lock, tries)
+}
+
+// enter waits until the caller is in the gate of a shard. Who only tries does not wait behind a call that waits for a number.
+func (c *Client) enter(ctx context.Context, p *part, lock string, tries bool) error {
+	began := time.Now()
+	ticker := time.NewTicker(aMoment / 4)
+	defer ticker.Stop()
+	for {
+		select {
+		case p.gate <- struct{}{}:
+			return nil
+		case <-ticker.C:
+			if short := p.short.Load(); tries && short.endsTry(lock, began) {
+				return crowded(short.crowd, nil)
+			}
+		case <-ctx.Done():
+			if short := p.short.Load(); short != nil {
+				return crowded(short.crowd, ctx.Err()) // another call waits for the number, too
+			}
+			return ctx.Err()
+		case <-c.shards.closing:
+			return ErrClosed
+		case <-c.ended:
+			return c.why
+		}
+	}
+}
+
+// endsTry returns whether who began to try to get a lock gets no number for it: none was to be had for the lock since then, or none for
+// another one, which has a moment to be asked for, too.
+func (s *shortage) endsTry(lock string, began time.Time) bool {
+	return s != nil && (s.lock == lock && s.at.After(began) || time.Since(began) > aMoment)
 }
 
 // openFor opens the session of a shard, whose gate the caller is in.

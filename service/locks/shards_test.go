@@ -221,6 +221,15 @@ func TestNoNumberOfShard(t *testing.T) {
 		waits <- err
 	}()
 	time.Sleep(2 * time.Second)
+	tried, other := time.Now(), nameOf(w, 0, 71)
+	if _, err := late.TryLock(within(t, 5*time.Second), other); !errors.Is(err, ErrNumbers) || errors.Is(err, context.DeadlineExceeded) {
+		t.Errorf("who only tries waits behind a call that waits for the number: %v", err)
+	} else if none := (&NoNumber{}); !errors.As(err, &none) || none.Open != qlock.MaxClients {
+		t.Errorf("who only tries does not hear which sessions there are: %v", err)
+	}
+	if took := time.Since(tried); took > 2*time.Second {
+		t.Errorf("who only tries waits for %v", took)
+	}
 	if _, err := late.Lock(within(t, time.Second), nameOf(w, 0, 70)); !errors.Is(err, ErrNumbers) || !errors.Is(err, context.DeadlineExceeded) {
 		t.Errorf("who waits behind another call that waits for the number: %v", err)
 	}
@@ -490,12 +499,52 @@ func TestHotLockStopsNoNeighbour(t *testing.T) {
 	if err := <-waits; !errors.Is(err, context.DeadlineExceeded) {
 		t.Errorf("it waits for the hot lock: %v", err)
 	}
+	triesBeside(t, w, hot, cold)
 	if err := held.Unlock(); err != nil {
 		t.Error(err)
 	}
 	group.Wait()
 	if count.met || count.total != crowd-1 {
 		t.Errorf("%d passes, two inside: %v", count.total, count.met)
+	}
+}
+
+// Who only tries hears that there is no number once it was asked for on behalf of its lock, or after a moment.
+func TestWhoTriesHearsOfItsOwnLock(t *testing.T) {
+	now := time.Now()
+	short := &shortage{lock: "a", at: now}
+	for i, one := range []struct {
+		short *shortage
+		lock  string
+		began time.Time
+		ends  bool
+	}{
+		{short, "a", now.Add(-time.Millisecond), true},
+		{short, "a", now.Add(time.Minute), false},
+		{short, "b", now.Add(time.Minute), false},
+		{short, "b", now.Add(-2 * aMoment), true},
+		{nil, "a", now.Add(-time.Hour), false},
+	} {
+		if ends := one.short.endsTry(one.lock, one.began); ends != one.ends {
+			t.Errorf("%d: %v", i, ends)
+		}
+	}
+}
+
+// triesBeside tries to take a lock in a process that waits for a number for a hot one: there is a number for the other lock.
+func triesBeside(t *testing.T, w *worlds.World, hot, cold string) {
+	t.Helper()
+	c := startWith(t, w, Config{NoNote: true})
+	ctx, cancel := context.WithCancel(context.Background())
+	defer cancel()
+	go func() { _, _ = c.Lock(ctx, hot) }()
+	soon(t, "it does not wait", func() bool { return c.shards.part(c.cluster.ShardOfLock(hot)).short.Load() != nil })
+	held, err := c.TryLock(within(t, 5*time.Second), cold)
+	if err != nil {
+		t.Fatalf("who tries gets no number that there is: %v", err)
+	}
+	if err := held.Unlock(); err != nil {
+		t.Error(err)
 	}
 }
 

@@ -63,6 +63,8 @@ type Agent struct {
 	now     *session // nil while there is none
 	why     error    // why there is none
 	changed chan struct{}
+	looking sync.Mutex // for whoever opens or closes looks
+	looks   *session   // asks voters while there is no session, nil if nobody asked, and once there is one
 	places  map[string]*place
 	holders map[string]*place // by the names of locks: who has it, or had it last
 	watched map[string]*watched
@@ -105,6 +107,7 @@ func (a *Agent) Serve(ctx context.Context, listener net.Listener) error {
 	a.drain()
 	stop()
 	<-ended
+	a.looksNoMore()
 	_ = server.Close()
 	return err
 }
@@ -213,27 +216,38 @@ func (a *Agent) haveSessions(ctx context.Context) {
 
 // open opens a session. It reads the cluster's file again: the plan may have been exchanged.
 func (a *Agent) open(ctx context.Context) (*session, error) {
+	limit, cancel := context.WithTimeout(ctx, trial)
+	defer cancel()
+	s, err := a.openedBy(func() (*locks.Client, error) { return locks.Open(limit, a.config.Locks) })
+	if err == nil {
+		a.begun.Add(1)
+	}
+	return s, err
+}
+
+// openedBy returns the session that a function opens, and its cluster.
+func (a *Agent) openedBy(open func() (*locks.Client, error)) (*session, error) {
 	cluster, err := config.ReadCluster(a.config.Locks.Cluster)
 	if err != nil {
 		return nil, err
 	}
-	limit, cancel := context.WithTimeout(ctx, trial)
-	defer cancel()
-	client, err := locks.Open(limit, a.config.Locks)
+	client, err := open()
 	if err != nil {
 		return nil, err
 	}
-	a.begun.Add(1)
 	return &session{client, cluster, time.Now()}, nil
 }
 
 // change notes which session there is, or why there is none.
 func (a *Agent) change(s *session, why error) {
 	a.mutex.Lock()
-	defer a.mutex.Unlock()
 	a.now, a.why = s, why
 	close(a.changed)
 	a.changed = make(chan struct{})
+	a.mutex.Unlock()
+	if s != nil {
+		a.looksNoMore()
+	}
 }
 
 // current returns the session that there is, or why there is none.

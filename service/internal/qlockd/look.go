@@ -13,6 +13,7 @@ import (
 	"calvundek.example/service/internal/view"
 	"calvundek.example/service/internal/wire"
 	"calvundek.example/service/locks"
+	"calvundek.example/service/transport"
 )
 
 // askFor is for how long voters may take to reply if nobody says.
@@ -46,13 +47,47 @@ func readLooked(r *http.Request, hasPrefix bool) (looked, error) {
 	return of, nil
 }
 
+// asker returns a session to ask voters by: that of the agent, or one without a number while there is none. So who asks hears who has a lock
+// also while all numbers are in use.
+func (a *Agent) asker(ctx context.Context) (*session, error) {
+	if _, why, _ := a.current(); errors.Is(why, transport.ErrRefused) {
+		return a.session(ctx, false)
+	}
+	a.looking.Lock()
+	defer a.looking.Unlock()
+	if s, _, _ := a.current(); s != nil {
+		return s, nil
+	}
+	if isClosed(a.closing) {
+		return nil, errClosing
+	}
+	if a.looks == nil || a.looks.Err() != nil {
+		s, err := a.openedBy(func() (*locks.Client, error) { return locks.Look(a.config.Locks) })
+		if err != nil {
+			return nil, noSession(err)
+		}
+		a.looks = s
+	}
+	return a.looks, nil
+}
+
+// looksNoMore closes the session that only looks, if there is one.
+func (a *Agent) looksNoMore() {
+	a.looking.Lock()
+	defer a.looking.Unlock()
+	if a.looks != nil {
+		go a.looks.Close(context.Background()) // it has nothing to give back
+	}
+	a.looks = nil
+}
+
 // asks lets a session ask voters. If the session ends meanwhile the next one asks.
 func (a *Agent) asks(ctx context.Context, name string, ask func(s *session) error) error {
 	if name != "" && !wire.IsName([]byte(name)) {
 		return fmt.Errorf("%w: %q", locks.ErrName, name)
 	}
 	for {
-		s, err := a.session(ctx, false)
+		s, err := a.asker(ctx)
 		if err != nil {
 			return err
 		}

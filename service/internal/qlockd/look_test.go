@@ -549,6 +549,47 @@ func TestNoNumberOfTheAgent(t *testing.T) {
 	}
 }
 
+// An agent that has no number says who has a lock all the same, and goes on by its session once it has one.
+func TestLooksWithoutANumber(t *testing.T) {
+	h := start(t, ttl)
+	held := h.lockBy(h.other("leader"), "x", "leader")
+	h.until("a session", func() bool { s, _, _ := h.agent.current(); return s != nil })
+	s, _, _ := h.agent.current()
+	h.hasNone(&locks.NoNumber{Open: 64, Ahead: 3})
+	if status, said := h.who("/v1/who/x"); status != http.StatusOK || said.Note != "leader" {
+		t.Error(status, said)
+	}
+	if status, body := h.call("GET", "/v1/who?prefix=x"); status != http.StatusOK || !strings.Contains(body, "leader") {
+		t.Error(status, body)
+	}
+	w := h.watch("x")
+	if status := w.status(); status != http.StatusOK || w.next()["note"] != "leader" {
+		t.Error(status)
+	}
+	h.until("it watches", func() bool { return h.watches("x") == 1 })
+	if got := h.refused("y?try=1"); got != "429 numbers" {
+		t.Error(got)
+	}
+	looks := func() *session {
+		h.agent.looking.Lock()
+		defer h.agent.looking.Unlock()
+		return h.agent.looks
+	}
+	before := looks()
+	if before == nil || h.agent.begun.Load() != 1 {
+		t.Fatal("nobody looks")
+	}
+	h.agent.change(s, nil)
+	h.until("no other session", func() bool { return before.Err() != nil && looks() == nil })
+	if err := held.Unlock(); err != nil {
+		t.Error(err)
+	}
+	if line := w.next(); line["held"] != false {
+		t.Error(line)
+	}
+	_ = w.connection.Close()
+}
+
 // Who asks while no quorum of a shard's voters replies hears that, and not that somebody has the lock.
 func TestNoQuorumForANumber(t *testing.T) {
 	cluster := worlds.NewCluster(t, worlds.Majority, 10*time.Second)
