@@ -224,6 +224,8 @@ class Holder:
     """the voters that replied do not say that it has the votes of a quorum"""
     session: str = ""
     """as operators see it, and as `qlockctl evict` takes it"""
+    turn: int = 0
+    """its turn, 0 if nobody asked for it, and of `Client.watch`"""
 
     def __bool__(self) -> bool:
         return self.held
@@ -234,6 +236,7 @@ class Holder:
         known = {field.name: said[field.name] for field in fields(cls) if field.name in said}
         if "since" in known:
             known["since"] = _time(known["since"])
+        known["turn"] = int(known.get("turn", 0))
         return cls(**known)
 
 

@@ -73,7 +73,7 @@ def head(status, *lines):
 
 
 HELD = {"lock": "x", "held": True, "client": 5, "session": "7/5", "user": "jobs", "host": "m3", "pid": 17, "login": "root", "note": "nightly",
-        "since": "2026-12-01T00:10:02.12Z", "waiting": 2, "of a later version": {}}
+        "since": "2026-12-01T00:10:02.12Z", "waiting": 2, "turn": "4611686018427387904", "of a later version": {}}
 
 
 def first(left=60.0):
@@ -198,7 +198,7 @@ class WithMadeUpAgent(unittest.TestCase):
         holder = self.client.who("a b")
         self.assertEqual(got[0], "GET /v1/who/a%20b?wait=3.000000s HTTP/1.0")
         self.assertEqual(holder, Holder("x", True, "jobs", "m3", 17, "root", "nightly", datetime(2026, 12, 1, 0, 10, 2, 120000, timezone.utc),
-                                        2, False, "7/5"))
+                                        2, False, "7/5", 1 << 62))
         self.assertTrue(holder)
         self.agent.next(head(200, {"lock": "x", "held": False}))
         self.assertFalse(self.client.who("x"))

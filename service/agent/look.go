@@ -16,15 +16,16 @@ import (
 // Holder is who has a lock of the cluster, by what voters say. The zero Holder is nobody. What it says was so a moment ago: decide nothing
 // by it, and show it to people.
 type Holder struct {
-	User    string    `json:"user"`    // of NATS: the broker vouches for it. "" without users
-	Host    string    `json:"host"`    // Host, Pid, Login and Note are what the holder, or its agent, says of it
-	Pid     int       `json:"pid"`     // of its process
-	Login   string    `json:"login"`   // its user of the system
-	Note    string    `json:"note"`    // its own, or the name of its process
-	Since   time.Time `json:"since"`   // since when it has the lock, about
-	Waiting int       `json:"waiting"` // how many other sessions wait for the lock: an agent is one
-	Asked   bool      `json:"asked"`   // the voters that replied do not say that it has the votes of a quorum
-	Session string    `json:"session"` // as operators see it, and as qlockctl evict takes it
+	User    string    `json:"user"`        // of NATS: the broker vouches for it. "" without users
+	Host    string    `json:"host"`        // Host, Pid, Login and Note are what the holder, or its agent, says of it
+	Pid     int       `json:"pid"`         // of its process
+	Login   string    `json:"login"`       // its user of the system
+	Note    string    `json:"note"`        // its own, or the name of its process
+	Since   time.Time `json:"since"`       // since when it has the lock, about
+	Waiting int       `json:"waiting"`     // how many other sessions wait for the lock: an agent is one
+	Turn    uint64    `json:"turn,string"` // its turn, 0 if nobody asked for it (WithTurn), and in Watch
+	Asked   bool      `json:"asked"`       // the voters that replied do not say that it has the votes of a quorum
+	Session string    `json:"session"`     // as operators see it, and as qlockctl evict takes it
 }
 
 // IsNobody returns whether nobody has the lock.
@@ -167,6 +168,7 @@ func (h Holder) String() string {
 	add("note=%q", h.Note, h.Note != "")
 	add("for %v", time.Since(h.Since).Round(time.Second), !h.Since.IsZero())
 	add("waiting=%v", h.Waiting, h.Waiting > 0)
+	add("turn=%v", h.Turn, h.Turn > 0)
 	add("asked=%v", h.Asked, h.Asked)
 	return strings.Join(words, " ")
 }

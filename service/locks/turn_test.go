@@ -3,9 +3,11 @@ package locks
 import (
 	"context"
 	"errors"
+	"strings"
 	"testing"
 	"time"
 
+	"calvundek.example/service/internal/wire"
 	"calvundek.example/service/internal/worlds"
 )
 
@@ -30,6 +32,57 @@ func turnOf(t *testing.T, c *Client, name string) uint64 {
 		t.Errorf("%d, %v of a lock that was given back", late, err)
 	}
 	return turn
+}
+
+// Who has a lock is shown with its turn, once it asked for one. The next one has none until it asks.
+func TestTurnIsShown(t *testing.T) {
+	w := worlds.New(t, worlds.Majority, 20*time.Second)
+	c, third := startWith(t, w, Config{NoNote: true}), looker(t, w)
+	shown := func() (turn uint64) {
+		t.Helper()
+		err := third.List(within(t, 20*time.Second), "ord", func(_ string, h Holder) error { turn = h.Turn; return nil })
+		if h := who(t, third, "orders"); err != nil || h.Turn != turn || strings.Contains(h.String(), "turn=") != (turn > 0) {
+			t.Errorf("%+v, and %d in the list: %v", h, turn, err)
+		}
+		return turn
+	}
+	for i := 0; i < 2; i++ {
+		held := take(t, c, "orders")
+		if turn := shown(); turn != 0 {
+			t.Errorf("the turn %d is shown, for which nobody asked", turn)
+		}
+		turn, err := held.Turn(within(t, 20*time.Second))
+		if err != nil || turn == 0 || shown() != turn {
+			t.Errorf("%d, %v: %d is shown", turn, err, shown())
+		}
+		if err := held.Unlock(); err != nil {
+			t.Error(err)
+		}
+	}
+}
+
+// A turn is shown that the voters of a quorum know of who has the lock, and none that one of them says.
+func TestTurnOfAQuorum(t *testing.T) {
+	c := alone(t)
+	holder := Holder{Number: 5, stamp: 7}
+	says := func(number int, stamp uint64) wire.Told { return wire.Told{IsHeld: true, Number: number, Stamp: stamp} }
+	turn := func(stamp, top uint64) wire.Told { return wire.Told{Stamp: stamp, Top: top} }
+	said := map[int]wire.Told{0: says(5, 7), 1: says(5, 7), 2: says(6, 7)}
+	for i, one := range []struct {
+		turns map[int]wire.Told
+		want  uint64
+	}{
+		{nil, 0},
+		{map[int]wire.Told{0: turn(7, 40), 1: turn(7, 40)}, 40},
+		{map[int]wire.Told{0: turn(7, 40)}, 0},
+		{map[int]wire.Told{0: turn(7, 40), 1: turn(7, 41)}, 0},
+		{map[int]wire.Told{0: turn(7, 40), 1: turn(6, 40)}, 0},
+		{map[int]wire.Told{0: turn(7, 40), 2: turn(7, 40)}, 0},
+	} {
+		if got := c.turnBy(one.turns, said, holder); got != one.want {
+			t.Errorf("%d: %d", i, got)
+		}
+	}
 }
 
 // Turns grow, by whichever quorums clients have the lock, while messages are lost.

@@ -24,6 +24,7 @@ type Holder struct {
 	Since   time.Time // since when it has these votes, about; later if a voter started meanwhile
 	Waiting int       // how many other sessions wait for the lock
 	Asked   bool      // the voters that replied do not say that it has the votes of a quorum: it asks for the lock, or has it by others
+	Turn    uint64    // its turn, as the voters of a quorum know it; 0 if nobody asked for it (Held.Turn), and in Watch
 	Number  int       // of its session
 	Session string    // that number as operators see it, and as evict takes it: with the shard in front where there are several
 
@@ -52,13 +53,14 @@ func (h Holder) String() string {
 	add("note=%q", h.Note, h.Note != "")
 	add("for %v", time.Since(h.Since).Round(time.Second), !h.Since.IsZero())
 	add("waiting=%v", h.Waiting, h.Waiting > 0)
+	add("turn=%v", h.Turn, h.Turn > 0)
 	add("asked=%v", h.Asked, h.Asked)
 	return strings.Join(words, " ")
 }
 
-// IsSame returns whether two are the same but for times and those that wait: no change for Watch.
+// IsSame returns whether two are the same except for times, turns, and those that wait: no change for Watch.
 func (h Holder) IsSame(other Holder) bool {
-	h.Since, h.Waiting = other.Since, other.Waiting
+	h.Since, h.Waiting, h.Turn = other.Since, other.Waiting, other.Turn
 	return h == other
 }
 
@@ -144,6 +146,7 @@ type question struct {
 	began   time.Time
 	voters  map[int]*answer
 	said    map[string]map[int]wire.Told // by lock and voter
+	turns   map[string]map[int]wire.Told // those that voters know, in the same way
 	over    chan struct{}
 	holders map[string]Holder // once it is over
 
@@ -160,7 +163,7 @@ type answer struct {
 
 func newQuestion(kind wire.AskKind, lock string) *question {
 	return &question{Ask: wire.Ask{Kind: kind, Lock: lock}, began: time.Now(), voters: map[int]*answer{},
-		said: map[string]map[int]wire.Told{}, over: make(chan struct{})}
+		said: map[string]map[int]wire.Told{}, turns: map[string]map[int]wire.Told{}, over: make(chan struct{})}
 }
 
 // asks asks all voters, and waits until enough replied.
@@ -268,7 +271,11 @@ func (c *Client) isAnsweredBy(q *question, now time.Time) bool {
 func (c *Client) decide(q *question, now time.Time) {
 	q.holders = map[string]Holder{}
 	for lock, said := range q.said {
-		q.holders[lock] = c.holderBy(said, now)
+		holder := c.holderBy(said, now)
+		if q.observer == nil {
+			holder.Turn = c.turnBy(q.turns[lock], said, holder)
+		}
+		q.holders[lock] = holder
 	}
 }
 
@@ -297,6 +304,8 @@ func (c *Client) hearTold(voter int, told wire.Told) {
 	case q == nil || q.of(voter).done:
 	case told.Kind == wire.HasVote:
 		c.hearHolder(voter, q, told)
+	case told.Kind == wire.HasTurn && q.isAbout(told.Lock):
+		put(q.turns, voter, told)
 	case told.Kind == wire.IsListed && q.Kind == wire.AskNames && told.From == q.of(voter).place:
 		a := q.of(voter)
 		a.place, a.asked, a.heard, a.done = told.Next, time.Time{}, time.Now(), told.Next == 0
@@ -369,22 +378,48 @@ func (c *Client) HasNumber(lock string) bool {
 
 // hearHolder takes what a voter says of a lock that a question is about.
 func (c *Client) hearHolder(voter int, q *question, told wire.Told) {
-	switch {
-	case q.Kind == wire.AskWho && told.Lock == q.Lock:
-		q.of(voter).done = true
-	case q.Kind == wire.AskNames && strings.HasPrefix(told.Lock, q.Lock):
-	default:
+	if !q.isAbout(told.Lock) {
 		return
 	}
-	if q.said[told.Lock] == nil {
-		q.said[told.Lock] = map[int]wire.Told{}
+	if q.Kind == wire.AskWho {
+		q.of(voter).done = true
 	}
-	q.said[told.Lock][voter] = told
+	put(q.said, voter, told)
 	for o := range c.observers {
 		if o.lock == told.Lock {
 			c.hearsOf(o, voter, told)
 		}
 	}
+}
+
+// isAbout returns whether a question is about a lock.
+func (q *question) isAbout(lock string) bool {
+	return q.Kind == wire.AskWho && lock == q.Lock || q.Kind == wire.AskNames && strings.HasPrefix(lock, q.Lock)
+}
+
+// put notes the last word of a voter on a lock.
+func put(said map[string]map[int]wire.Told, voter int, told wire.Told) {
+	if said[told.Lock] == nil {
+		said[told.Lock] = map[int]wire.Told{}
+	}
+	said[told.Lock][voter] = told
+}
+
+// turnBy returns the turn of a holder that the voters of a quorum know, 0 if there is none.
+func (c *Client) turnBy(turns, said map[int]wire.Told, holder Holder) (turn uint64) {
+	voters := map[uint64]uint64{}
+	for voter, told := range turns {
+		has := said[voter]
+		if has.IsHeld && has.Number == holder.Number && has.Stamp == holder.stamp && told.Stamp == has.Stamp {
+			voters[told.Top] |= 1 << voter
+		}
+	}
+	for top, mask := range voters {
+		if c.hasAnyQuorum(mask) {
+			turn = greatest(turn, top)
+		}
+	}
+	return turn
 }
 
 // hasAnyQuorum returns whether a set of voters contains a quorum of some plan that is in use.

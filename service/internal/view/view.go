@@ -21,12 +21,13 @@ type Holder struct {
 	Note    string     `json:"note,omitempty"`
 	Since   *time.Time `json:"since,omitempty"`
 	Waiting int        `json:"waiting,omitempty"`
+	Turn    uint64     `json:"turn,string,omitempty"` // a text: not all readers of JSON have whole numbers of 64 bits
 }
 
 // Of returns who has a lock.
 func Of(lock string, h locks.Holder) Holder {
 	v := Holder{Lock: lock, Held: !h.IsNobody(), Asked: h.Asked, User: h.User, Host: h.Host, Pid: h.Pid, Login: h.Login, Note: h.Note,
-		Waiting: h.Waiting}
+		Waiting: h.Waiting, Turn: h.Turn}
 	if v.Held {
 		since := h.Since.UTC().Truncate(time.Millisecond)
 		v.Client, v.Session, v.Since = &h.Number, h.Session, &since

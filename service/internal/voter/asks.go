@@ -62,7 +62,7 @@ func (d *Daemon) ask(l *letter, speaker qlock.Standing, line []byte, now time.Ti
 		d.want(l, ask, now)
 		return true, true
 	case ask.Kind == wire.AskWho:
-		d.put(l.Name, d.holderOf(ask.ID, ask.Lock, d.votes[ask.Lock], now).Append(d.out[l.Name]))
+		d.put(l.Name, d.appendHolder(d.out[l.Name], ask.ID, ask.Lock, now))
 	case ask.Kind == wire.Watches:
 		d.watchFor(l.Name, ask, now)
 	case ask.Kind == wire.AskNames:
@@ -131,6 +131,16 @@ func (d *Daemon) holderOf(id uint64, lock string, v *vote, now time.Time) wire.T
 	return told
 }
 
+// appendHolder appends what this voter says of a lock to who asks: its turn, if who has the vote asked for it, and who that is.
+func (d *Daemon) appendHolder(out []byte, id uint64, lock string, now time.Time) []byte {
+	v := d.votes[lock]
+	told := d.holderOf(id, lock, v, now)
+	if told.IsHeld && v.turned.grant == v.held.Number {
+		out = wire.Told{Kind: wire.HasTurn, ID: id, Lock: lock, Stamp: told.Stamp, Top: v.turned.top}.Append(out)
+	}
+	return told.Append(out)
+}
+
 // tellHolder tells who does not want to wait who has the vote, before it hears that it is not to be had.
 func (d *Daemon) tellHolder(v *vote, l *letter, client int, word string, now time.Time) {
 	if word == try && v.held.Number > 0 && !v.isHolder(client) {
@@ -171,7 +181,7 @@ func (d *Daemon) list(name string, ask wire.Ask, now time.Time) {
 	for scanned := 0; place > 0 && scanned < mostScanned && shown < mostListed; scanned++ {
 		place--
 		if v := d.busy.all[place]; strings.HasPrefix(v.name, ask.Lock) {
-			out = d.holderOf(ask.ID, v.name, v, now).Append(out)
+			out = d.appendHolder(out, ask.ID, v.name, now)
 			shown++
 		}
 	}

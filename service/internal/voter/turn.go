@@ -25,6 +25,9 @@ type skip struct {
 	ask     wire.Ask
 }
 
+// turned is up to which number a vote skipped for the turn of a grant. It is in memory alone, and shown to who asks.
+type turned struct{ grant, top uint64 }
+
 // mostSkipsWaiting is how many calls wait for the next ceiling. Others ask again.
 const mostSkipsWaiting = 256
 
@@ -107,6 +110,7 @@ func (d *Daemon) mayReach(number uint64, now time.Time) bool {
 func (d *Daemon) tellSkips() {
 	for _, s := range d.skips {
 		if s.vote.held.Number == s.ask.Grant {
+			s.vote.turned = turned{s.ask.Grant, s.ask.Top}
 			told := wire.Told{Kind: wire.Turned, Lock: s.ask.Lock, Stamp: s.ask.Number, Top: s.ask.Top}
 			d.put(s.session, told.Append(d.out[s.session]))
 		}

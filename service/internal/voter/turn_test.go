@@ -52,6 +52,31 @@ func TestTurnsAreSkipped(t *testing.T) {
 	}
 }
 
+// Who asks who has a lock hears the turn that was said of the grant, and none of an earlier one.
+func TestTurnIsShown(t *testing.T) {
+	d := sessions(t, 1, 2)
+	d.repliesTo("jobs", 1, "orders request 1 0 5\n")
+	d.repliesTo("jobs", 2, "orders request 2 0 9\n")
+	grant := d.votes["orders"].held.Number
+	shows := func(want string) {
+		t.Helper()
+		for _, ask := range []string{". who 7 orders\n", ". list 7 0\n"} {
+			reply := d.lookerHears(ask)
+			line, rest, _ := strings.Cut(reply, "\n")
+			if want != "" && (line != want || !strings.HasPrefix(rest, ". has 7 orders ")) || want == "" && strings.Contains(reply, "skipped") {
+				t.Errorf("%q: %q", ask, reply)
+			}
+		}
+	}
+	shows("")
+	d.turned(t, 1, fmt.Sprintf(". turn orders 5 %d %d\n", grant, grant+40))
+	shows(fmt.Sprintf(". skipped 7 orders 5 %d", grant+40))
+	d.repliesTo("jobs", 1, "orders release 1 0 5\n")
+	shows("")
+	d.repliesTo("jobs", 2, "orders release 2 0 9\n")
+	shows("")
+}
+
 // A turn is told to nobody else, and for no other grant. One that ends before the save is not told.
 func TestTurnsAreOfTheHolder(t *testing.T) {
 	d := sessions(t, 1, 2)

@@ -28,6 +28,7 @@ type vote struct {
 
 	limit   uint64 // how many grants it may give
 	isSpent bool   // it was logged that all grants are given
+	turned  turned // the last turn that was said
 
 	since     *qlock.SinceStart // what was said since the start; nil while that is nothing, and no grant is from before
 	begun     uint64            // how many grants its voter had given, or skipped, when the start began, or it was made

@@ -46,11 +46,11 @@ type Told struct {
 	Kind         ToldKind
 	ID           uint64 // of the question, 0 of HasVote that nobody asked for; of HasChanged that of Watches
 	Lock         string
-	Top          uint64 // of Turned: up to which number the voter skipped
+	Top          uint64 // of Turned and HasTurn: up to which number the voter skipped
 	Waiting      uint64 // of HasVote and HasChanged: the numbers of those that wait, one bit for each
 	IsHeld       bool   // of these: somebody has the vote. Without that there is nothing of what follows
 	Number       int    // who has it
-	Stamp        uint64 // of its request; of Turned that of the request that has the vote
+	Stamp        uint64 // of its request; of Turned and HasTurn that of the request that has the vote
 	Milliseconds uint64 // for how long
 	User         string // NoUser if there are no users, or it is not known
 	Note         string // "" if there is none
@@ -76,6 +76,7 @@ const (
 	Free                // free: a number is, for who waits for one
 	Wanted              // wanted: somebody waits for a number
 	Bundles             // bundles: the voter reads bundles, and knows the session's process
+	HasTurn             // skipped ID LOCK STAMP TOP: who has the vote asked for its turn. It is in front of HasVote, and older clients ignore it
 	HasChanged          // holder ID LOCK .., as HasVote: another one has the vote, or its note is another one, for who watches the lock
 )
 
@@ -162,6 +163,8 @@ func (t Told) Append(out []byte) []byte {
 		out = append(out, ". noted"...)
 	case HasVote:
 		out = t.appendHolder(append(out, ". has"...))
+	case HasTurn:
+		out = withNumber(withNumber(withText(withNumber(append(out, ". skipped"...), t.ID), t.Lock), t.Stamp), t.Top)
 	case HasChanged:
 		out = t.appendHolder(append(out, ". holder"...))
 	case IsListed:
@@ -201,6 +204,8 @@ func ReadTold(line []byte) (t Told, ok bool) {
 		t = Told{Kind: Noted}
 	case "has":
 		t = w.holder(HasVote)
+	case "skipped":
+		t = Told{Kind: HasTurn, ID: w.number(), Lock: w.lock(), Stamp: w.number(), Top: w.number()}
 	case "holder":
 		t = w.holder(HasChanged)
 	case "listed":

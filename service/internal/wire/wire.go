@@ -39,7 +39,7 @@
 //	about LOCK STAMP TEXT  none: what it says of one request
 //	who ID LOCK   has ID LOCK WAITING NUMBER STAMP MS USER NOTE: who has the voter's vote, for how long, and
 //	              the numbers that wait, one bit for each. It ends behind WAITING if nobody has it, and behind
-//	              USER if he has no note
+//	              USER if he has no note. In front of it comes skipped ID LOCK STAMP TOP if he asked for his turn
 //	watch ID LOCK none, and then for a TTL "holder ID LOCK ..", as has, whenever another one has the voter's vote, or the note is
 //	              another one. It is said again and again
 //	list ID PLACE PREFIX   has ID .. for some locks, and listed ID PLACE NEXT; 0 begins, and is the end
