@@ -488,11 +488,18 @@ func (a *Agent) streamWhileAlive(w http.ResponseWriter, ctx context.Context, end
 	}
 	defer a.connections.Add(-1) // package http does not say any more that it ends
 	defer connection.Close()
-	go p.readLines(connection, said.Reader, idle, ends)
+	go p.readLines(connection, behind(connection, said.Reader), idle, ends)
 	lines := json.NewEncoder(connection)
 	if _, err := io.WriteString(connection, headOfLines); err == nil {
 		a.stream(func(line interface{}) bool { return lines.Encode(line) == nil }, ctx, p)
 	}
+}
+
+// behind returns what is read of a connection that was taken over: what package http read already, and then the connection itself. A reader
+// of that package would take a time that is over for the end of the connection.
+func behind(connection net.Conn, read *bufio.Reader) *bufio.Reader {
+	begin, _ := read.Peek(read.Buffered())
+	return bufio.NewReader(io.MultiReader(bytes.NewReader(begin), connection))
 }
 
 // readLines reads the lines of a client until its connection ends. Once none came in time it is idle.

@@ -11,7 +11,8 @@ var asks = []string{"note", "note m0 17 root nightly", "about orders 17 m0 1 roo
 	"has 1 orders 0", "has 1 orders 18446744073709551615 63 17 900 jobs", "has 0 orders 4 0 1 2 - m0 17 root nightly run", "listed 3 0 512",
 	"sessions 64 900 0", "for orders", "want 64 orders", "want 64", "want 0", "process jobs-77", "bundles", "watch 3 orders", "skipped 3 orders 5 77",
 	"holder 3 orders 4 0 1 2 - m0 17 root nightly", "",
-	"skipped 3 orders 5", "skipped orders 5 77", "skipped 3 orders 5 077", "watch", "watch 3", "watch 03 orders", "watch 3 orders ", "watch 3 orders x", "holder 3 orders", "holder 3 orders 0 64 1 1 -",
+	"skipped 3 orders 5", "skipped orders 5 77", "skipped 3 orders 5 077", "watch", "watch 3", "watch 03 orders", "watch 3 orders ", "watch 3 orders x",
+	"holder 3 orders", "holder 3 orders 0 64 1 1 -",
 	"want", "want ", "want 64 ", "want 64 .x", "want 064", "want 64 orders 1", "want orders", "want 0 orders",
 	"process", "process ", "process a b", "process .x", "bundles 1", " ", "for", "for ", "for .x", "for orders ", "for orders 1", "note ", "note  x", "note x ", "about orders 17", "who 1", "who 01 orders", "who 1 orders ", "list 3", "has 1 orders 0 64 1 1 -",
 	"has 1 orders 0 1 1 1", "listed 3 0", "hello", "note " + strings.Repeat("x", 129)}
