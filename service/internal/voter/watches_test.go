@@ -47,6 +47,10 @@ func TestWatcherHearsChanges(t *testing.T) {
 		if said := d.watcherHears(time.Now()); said != one.want {
 			t.Errorf("%q: %q", one.lines, said)
 		}
+		d.watches.lookAtAll(time.Now())
+		if again := d.watcherHears(time.Now()); again != "" {
+			t.Errorf("%q: %q without a change", one.lines, again)
+		}
 	}
 }
 
