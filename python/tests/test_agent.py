@@ -450,6 +450,20 @@ class WithAgent(unittest.TestCase):
         with self.assertRaises(BadName):
             self.client.watch("a b")
 
+    def test_idle_is_lost(self):
+        held = self.client.lock("idle", wait=10, idle=1)
+        end = time.monotonic() + 2.5
+        while time.monotonic() < end:
+            held.alive()
+            time.sleep(0.1)
+        self.assertFalse(held.lost.is_set())
+        self.assertTrue(held.lost.wait(20))
+        self.assertEqual(held.why, "idle")
+        with self.assertRaises(Lost):
+            held.unlock()
+        with self.client.lock("idle", wait=20, turn=True, idle=60) as again:
+            self.assertTrue(eventually(lambda: self.client.who("idle").turn == again.turn))
+
     def test_lock_lasts_longer_than_its_ttl(self):
         with self.client.lock("long", wait=10) as held:
             time.sleep(5)
