@@ -158,3 +158,49 @@ func TestEachLineLeaves(t *testing.T) {
 		t.Errorf("a renewal hears %q", got)
 	}
 }
+
+// Rounds take a tenth of the time at most: after one that took long the next one comes later.
+func TestRoundsTakeATenthOfTheTime(t *testing.T) {
+	d, _ := alone(t, 10)
+	now := time.Unix(1000, 0)
+	d.around.Now = func() time.Time { return now.Add(30 * time.Millisecond) }
+	d.rounds(now)
+	if next := now.Add(300 * time.Millisecond); !d.nextRound.Equal(next) {
+		t.Fatal(d.nextRound, next)
+	}
+	for after, isMade := range map[time.Duration]bool{50 * time.Millisecond: false, 299 * time.Millisecond: false, 300 * time.Millisecond: true} {
+		d.nextRound = now.Add(300 * time.Millisecond)
+		later := now.Add(after)
+		d.around.Now = func() time.Time { return later.Add(time.Millisecond) }
+		if d.rounds(later); d.nextRound.Equal(later.Add(10*time.Millisecond)) != isMade {
+			t.Errorf("after %v the next round is at %v", after, d.nextRound)
+		}
+	}
+}
+
+// A shard knows the votes that somebody has or waits for, and counts those of a session by them.
+func TestBusyVotesOfAShard(t *testing.T) {
+	d := claimed(t, 2)
+	s := d.shard(0)
+	for i, one := range []struct {
+		number   int
+		lines    string
+		busy     int
+		requests [2]int // of the two sessions
+	}{
+		{1, "orders request 1 0 1\nstock request 1 0 2\n", 2, [2]int{2, 0}},
+		{2, "orders request 2 0 1\n", 2, [2]int{2, 1}},
+		{1, "orders release 1 0 1\n", 2, [2]int{1, 1}},
+		{2, "orders release 2 0 1\n", 1, [2]int{1, 0}},
+		{1, "stock release 1 0 2\n", 0, [2]int{0, 0}},
+	} {
+		d.repliesTo("jobs", one.number, one.lines)
+		s.requests = [qlock.MaxClients]int{}
+		for number := 1; number <= 2; number++ {
+			d.recount(s, number)
+		}
+		if requests := [2]int{s.requests[1], s.requests[2]}; len(s.busy) != one.busy || requests != one.requests {
+			t.Errorf("%d: %d votes, and %v requests", i, len(s.busy), requests)
+		}
+	}
+}

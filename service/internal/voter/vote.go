@@ -121,10 +121,20 @@ func (d *Daemon) noteAsk(v *vote, client int, stamp uint64, now time.Time) {
 	if len(v.asks) == 0 {
 		v.asks, v.users = nil, nil
 		d.busy.remove(v)
+		delete(v.shard.busy, v)
 		d.rest(v, now)
 	} else {
 		d.busy.add(v)
+		v.shard.isBusy(v)
 	}
+}
+
+// isBusy notes that somebody has a vote of the shard, or waits for it.
+func (s *shard) isBusy(v *vote) {
+	if s.busy == nil {
+		s.busy = map[*vote]struct{}{}
+	}
+	s.busy[v] = struct{}{}
 }
 
 // count counts the requests of the session that a number has now. Those of its earlier sessions don't count: nobody of
@@ -138,8 +148,8 @@ func (s *shard) count(client int, one ask, by int) {
 // recount counts anew, once a number has a new session.
 func (d *Daemon) recount(s *shard, client int) {
 	s.requests[client], s.locks[client] = 0, ""
-	for _, v := range d.busy.all {
-		if one, asked := v.asks[client]; asked && v.shard == s {
+	for v := range s.busy {
+		if one, asked := v.asks[client]; asked {
 			s.count(client, one, 1)
 		}
 	}
