@@ -15,15 +15,16 @@ import (
 	"calvundek.example/service/transport"
 )
 
-// crowd is many sessions, each of which has one lock at a time.
+// crowd is many sessions, each of which has some locks at a time.
 type crowd struct {
 	sessions  int
+	each      int           // how many locks each has at a time
 	names     int           // of locks, from which each session takes one at random
 	has, idle time.Duration // for how long it has a lock, and wants none afterwards, about
 	length    time.Duration
 }
 
-// member is a session of a crowd, and what it saw.
+// member is whoever takes locks by a session of a crowd, and what it saw.
 type member struct {
 	client *locks.Client
 	passes int
@@ -48,6 +49,7 @@ func (c crowd) measure(cluster *local.Cluster) error {
 		return err
 	}
 	began = time.Now()
+	members = c.spread(members)
 	failed := c.run(ctx, members)
 	seconds := time.Since(began).Seconds()
 	after, err := numbers(cluster.Listen)
@@ -92,7 +94,17 @@ func (c crowd) open(ctx context.Context, cluster *local.Cluster) ([]*member, err
 	return members, nil
 }
 
-// run lets all sessions take locks for a time, and returns how many calls failed.
+// spread returns as many members for each one as it has locks at a time.
+func (c crowd) spread(members []*member) (all []*member) {
+	for _, m := range members {
+		for n := 0; n < c.each; n++ {
+			all = append(all, &member{client: m.client})
+		}
+	}
+	return all
+}
+
+// run lets all members take locks for a time, and returns how many calls failed.
 func (c crowd) run(ctx context.Context, members []*member) (failed int64) {
 	end, failures := time.Now().Add(c.length), atomic.Int64{}
 	var group sync.WaitGroup
@@ -148,6 +160,6 @@ func show(members []*member, seconds float64, failed int64) {
 		}
 		return 1000 * waits[int(part*float64(len(waits)-1))].Seconds()
 	}
-	fmt.Printf("%.1f passes/s in %.0f s, %d to %d for each session; lock ms: p50 %.1f  p99 %.1f  max %.1f; %d calls failed\n",
+	fmt.Printf("%.1f passes/s in %.0f s, %d to %d for each; lock ms: p50 %.1f  p99 %.1f  max %.1f; %d calls failed\n",
 		float64(sum)/seconds, seconds, least, most, at(0.5), at(0.99), at(1), failed)
 }

@@ -53,6 +53,7 @@ func main() {
 	etcd := flag.String("etcd", "", "the servers of etcd, with commas, for --runs")
 	var many crowd
 	flag.IntVar(&many.sessions, "crowd", 0, "measure so many sessions, and nothing else")
+	flag.IntVar(&many.each, "each", 1, "how many locks each of these has at a time")
 	flag.IntVar(&many.names, "names", 1, "how many locks these use")
 	flag.DurationVar(&many.has, "has", 5*time.Millisecond, "for how long one of these has a lock")
 	flag.DurationVar(&many.idle, "wants", 0, "how long it is, about, until it wants the next one")
