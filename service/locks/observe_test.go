@@ -3,6 +3,7 @@ package locks
 import (
 	"bytes"
 	"context"
+	"errors"
 	"fmt"
 	"sort"
 	"sync/atomic"
@@ -92,6 +93,53 @@ func TestVotersThatSayNoChange(t *testing.T) {
 	}
 	take(t, c, "x")
 	until("who has it after a start", hasIt)
+}
+
+// A watch ends with its context, and with its client. Nothing is asked for it then.
+func TestWatchEnds(t *testing.T) {
+	w := worlds.New(t, worlds.Majority, 20*time.Second)
+	third := looker(t, w)
+	ctx, cancel := context.WithCancel(context.Background())
+	defer cancel()
+	first, err := third.Watch(ctx, "x")
+	if err != nil {
+		t.Fatal(err)
+	}
+	second, err := third.Watch(context.Background(), "x")
+	if err != nil {
+		t.Fatal(err)
+	}
+	ends := func(what string, seen <-chan Holder) {
+		t.Helper()
+		for end := time.After(15 * time.Second); ; {
+			select {
+			case _, isOpen := <-seen:
+				if !isOpen {
+					return
+				}
+			case <-end:
+				t.Fatalf("it stays open with %s", what)
+			}
+		}
+	}
+	cancel()
+	ends("its context", first)
+	err = third.call(func() error {
+		if len(third.observers) != 1 || len(third.questions) > 1 {
+			t.Errorf("%d watches, %d questions", len(third.observers), len(third.questions))
+		}
+		return nil
+	})
+	if err != nil {
+		t.Error(err)
+	}
+	if err := third.Close(within(t, 5*time.Second)); err != nil {
+		t.Error(err)
+	}
+	ends("its client", second)
+	if _, err := third.Watch(context.Background(), "x"); !errors.Is(err, ErrClosed) {
+		t.Error(err)
+	}
 }
 
 // observes lets a client watch a lock, and voters reply that nobody has it.

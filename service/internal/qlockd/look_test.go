@@ -525,6 +525,28 @@ func TestNoNumberOfShard(t *testing.T) {
 	}
 }
 
+// Whose time ended while the agent had no number of the lock's shard hears that, and not that somebody has the lock.
+func TestTimeThatEndsWithoutANumber(t *testing.T) {
+	cluster := worlds.NewCluster(t, worlds.Majority, ttl)
+	cluster.Shards = 2
+	w := worlds.NewOf(t, cluster)
+	h := startIn(t, w, fileOf(t, w))
+	h.until("there", func() bool { status, _ := h.call("GET", "/healthz"); return status == http.StatusOK })
+	explained := func() string {
+		s, _, _ := h.agent.current()
+		f := faultOf(h.agent.explain(context.Background(), s, asked{name: "x", wait: time.Second}, context.DeadlineExceeded))
+		return fmt.Sprint(f.Status, " ", f.Word)
+	}
+	if got := explained(); got != "429 numbers" {
+		t.Error(got)
+	}
+	s, _ := h.take("x?wait=50s")
+	defer s.connection.Close()
+	if got := explained(); got != "408 timeout" {
+		t.Error(got)
+	}
+}
+
 // An agent that has no number says so: to who tries at once, and to who waits once his time is over.
 func TestNoNumberOfTheAgent(t *testing.T) {
 	h := start(t, ttl)

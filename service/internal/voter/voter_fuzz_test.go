@@ -199,7 +199,8 @@ func FuzzMessage(f *testing.F) {
 		"x y\n\n", "orders request 1 0 1099511627775\n", "no end", ". note m 1 r a\n. who 1 orders\n. list 2 0\n",
 		". about orders 1 a note\n" + strings.Repeat(". who 1 orders\n", 15), ". list 1 1 ord\n. list 1 1\n", ". note\n. who x\n", ". for orders\n. hello\n",
 		". for orders\n. hello\n. claim 5 1 9\n. for stock\n. hello\n. for x y\n", ". want 64 orders\n. hello\n", ". want 64\n. hello\n. want 0\n. hello\n",
-		". want 0\n. want 18446744073709551615\n. hello\n. claim 5 9 9\n"} {
+		". want 0\n. want 18446744073709551615\n. hello\n. claim 5 9 9\n",
+		". watch 1 orders\n. watch 1 stock\n. who 2 orders\n. watch x\n"} {
 		f.Add(s.said(0, 0, 0, "nobody", lines))
 		f.Add(s.said(1, 1, 200, "other", lines))
 		f.Add(s.said(0, 1, 1<<40, "me", lines))
