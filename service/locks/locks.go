@@ -180,7 +180,7 @@ func open(ctx context.Context, cluster *config.Cluster, c Config) (*Client, erro
 // connect opens the session of a client.
 func (c *Client) connect(ctx context.Context) (*Client, error) {
 	var err error
-	if c.messages, err = c.carrier.Listen(c.boxes()); err == nil {
+	if c.messages, err = transport.ListenFew(c.carrier, c.boxes()); err == nil {
 		err = c.begin(ctx)
 	}
 	if err != nil {

@@ -21,6 +21,7 @@ import (
 // are handed out, and not read yet.
 const (
 	next      = 1 << 12
+	nextFew   = 1 << 6
 	nextBytes = 1 << 20
 	Room      = 1 << 16
 	RoomBytes = 16 << 20
@@ -335,9 +336,16 @@ func (n *NATS) Send(mailbox string, message []byte) error {
 
 // Listen returns the messages that come to a mailbox. What finds no room is dropped, and counted: a
 // reminder repeats it.
-func (n *NATS) Listen(subject string) (<-chan Message, error) {
-	messages, left := make(chan Message, next), make(chan struct{})
-	out := handed{to: messages}
+func (n *NATS) Listen(subject string) (<-chan Message, error) { return n.listen(subject, next) }
+
+// ListenFew is Listen for one of many mailboxes of a process: fewer messages are handed out that were not read yet, and the others wait in
+// the subscription.
+func (n *NATS) ListenFew(subject string) (<-chan Message, error) { return n.listen(subject, nextFew) }
+
+// listen returns the messages that come to a mailbox, of which so many are handed out at most that were not read yet.
+func (n *NATS) listen(subject string, most int) (<-chan Message, error) {
+	messages, left := make(chan Message, most), make(chan struct{})
+	out := handed{to: messages, sizes: make([]int, most+1)}
 	subscription, err := n.connection.Subscribe(subject, func(m *nats.Msg) {
 		for !out.hasRoom(len(m.Data)) {
 			select {
@@ -370,7 +378,7 @@ func (n *NATS) Listen(subject string) (<-chan Message, error) {
 // handed counts the bytes of the messages that were handed out, and not read yet.
 type handed struct {
 	to          chan<- Message
-	sizes       [next + 1]int // of the last ones
+	sizes       []int // of the last ones: one more than may be handed out
 	count, read int
 	bytes       int
 }

@@ -9,6 +9,7 @@ import (
 	"os"
 	"os/exec"
 	"path/filepath"
+	"strconv"
 	"strings"
 	"sync/atomic"
 	"testing"
@@ -318,6 +319,33 @@ func TestRoomIsBounded(t *testing.T) {
 	_ = from.Send("free", []byte("x"))
 	<-free // so what was sent before it has come, too
 	until(t, "a mailbox that was left gets nothing", isEmpty)
+}
+
+// Of one of many mailboxes few messages are handed out that nobody read yet. The others wait, and come in their order.
+func TestFewMessagesAreHandedOut(t *testing.T) {
+	s := begin(t)
+	from, to := connect(t, s.address, user(t, "right")), connect(t, s.address, user(t, "right"))
+	few, err := transport.ListenFew(to, "few")
+	if err != nil {
+		t.Fatal(err)
+	}
+	until(t, "there are connections", func() bool { return from.Connected() && to.Connected() })
+	time.Sleep(200 * time.Millisecond) // it is listened to
+	const sent = 300
+	for n := 0; n < sent; n++ {
+		if err := from.Send("few", []byte(strconv.Itoa(n))); err != nil {
+			t.Fatal(err)
+		}
+	}
+	until(t, "all wait", func() bool { return to.Waiting() >= sent-1 }) // one may be between the two
+	if cap(few) >= sent || len(few) != cap(few) {
+		t.Errorf("%d of %d are handed out", len(few), cap(few))
+	}
+	for n := 0; n < sent; n++ {
+		if m := <-few; string(m.Data) != strconv.Itoa(n) {
+			t.Fatalf("message %d is %q", n, m.Data)
+		}
+	}
 }
 
 // A password leaves by TLS only, or stays on this machine.

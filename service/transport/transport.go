@@ -23,6 +23,19 @@ type Transport interface {
 	Listen(mailbox string) (<-chan Message, error)
 }
 
+// Sparing is what a transport may have besides: a mailbox takes little memory while nothing waits there.
+type Sparing interface {
+	ListenFew(mailbox string) (<-chan Message, error)
+}
+
+// ListenFew is Listen for one of many mailboxes of a process.
+func ListenFew(t Transport, mailbox string) (<-chan Message, error) {
+	if sparing, ok := t.(Sparing); ok {
+		return sparing.ListenFew(mailbox)
+	}
+	return t.Listen(mailbox)
+}
+
 // Leaver is what a transport may have besides: it forgets a mailbox that nobody reads any more.
 type Leaver interface {
 	Leave(mailbox string)
