@@ -8,7 +8,7 @@ use Rattle.session_rows.specs.declared.claim.Heard.{Heard}
 abbrev pub lifted : Row → ℕ → ℕ → Row
 lifted r base stamp = record { epoch = r.epoch; session = r.session; base = max r.base base; reserved = max r.reserved stamp; again = r.again }
 
--- this session has the number by the row, under the epoch, if it is one
+-- the number is the session's by the row, under the epoch, if there is a session
 abbrev pub is_owned_by : Row → Option ℕ → ℕ → Bool
 is_owned_by r None epoch = false
 is_owned_by r (Some session) epoch = has_number r session epoch

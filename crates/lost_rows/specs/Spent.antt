@@ -7,7 +7,7 @@ pub record IsOf (row : Row) (session epoch : ℕ) : Type 0 where
   pub same : row.epoch ≡ epoch
   pub name : (row.session ≡ Some session) ⊎ (row.session ≡ None)
 
--- By the row the stamp is spent: it is reserved, and all stamps of whoever may use it are above it, or it is reserved for this session
+-- By the row the stamp is spent: it is reserved, and all stamps of whoever may use it are above it, or it is reserved for the session
 -- under this epoch.
 pub record IsSpent (row : Row) (session epoch stamp : ℕ) : Type 0 where
   pub few : stamp ≤ row.reserved
