@@ -180,7 +180,7 @@ func open(ctx context.Context, cluster *config.Cluster, c Config) (*Client, erro
 // connect opens the session of a client.
 func (c *Client) connect(ctx context.Context) (*Client, error) {
 	var err error
-	if c.messages, err = transport.ListenFew(c.carrier, c.boxes()); err == nil {
+	if c.messages, err = c.listen(); err == nil {
 		err = c.begin(ctx)
 	}
 	if err != nil {
@@ -192,6 +192,14 @@ func (c *Client) connect(ctx context.Context) (*Client, error) {
 	go c.watch.run(c.ended)
 	go c.run()
 	return c, nil
+}
+
+// listen begins to take what comes to the session's mailbox. A process of a cluster with shards has one for each shard that it uses.
+func (c *Client) listen() (<-chan transport.Message, error) {
+	if c.bundles != nil {
+		return transport.ListenFew(c.carrier, c.boxes())
+	}
+	return c.carrier.Listen(c.boxes())
 }
 
 func newClient(cluster *config.Cluster, c Config) (*Client, error) {

@@ -4,7 +4,6 @@ import (
 	"context"
 
 	"calvundek.example/service/internal/config"
-	"calvundek.example/service/transport"
 )
 
 // Look connects without a number, so it works while all are in use, and voters save nothing of it. The client may call Who, List, Watch
@@ -33,7 +32,7 @@ func newLook(cluster *config.Cluster, c Config) (*Client, error) {
 		return nil, err
 	}
 	client.looks = true
-	if client.messages, err = transport.ListenFew(client.carrier, client.boxes()); err != nil {
+	if client.messages, err = client.listen(); err != nil {
 		client.close()
 		return nil, client.explained(err)
 	}
