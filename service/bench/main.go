@@ -54,6 +54,7 @@ func main() {
 	var many crowd
 	flag.IntVar(&many.sessions, "crowd", 0, "measure so many sessions, and nothing else")
 	flag.IntVar(&many.each, "each", 1, "how many locks each of these has at a time")
+	held := flag.Int("hold", 0, "measure voters while so many processes hold --each locks each, and nothing else; QLOCK_MAX_LOCKS is what voters may keep")
 	flag.IntVar(&many.names, "names", 1, "how many locks these use")
 	flag.DurationVar(&many.has, "has", 5*time.Millisecond, "for how long one of these has a lock")
 	flag.DurationVar(&many.idle, "wants", 0, "how long it is, about, until it wants the next one")
@@ -73,6 +74,8 @@ func main() {
 		what = func(cluster *local.Cluster) error { return measureRest(cluster, *rest, *length) }
 	case *runs > 0:
 		what = func(cluster *local.Cluster) error { return measureRuns(cluster, o.Bin, *runs, *etcd) }
+	case *held > 0:
+		what = holders{*held, many.each, *length}.measure
 	case many.sessions > 0:
 		what = many.measure
 	}

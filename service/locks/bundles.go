@@ -24,11 +24,14 @@ const (
 
 // bundles has what leaves to voters, for all sessions of a process.
 type bundles struct {
+	cluster string    // its name
 	process string    // the name of the process's mailbox
 	began   time.Time // heartbeats leave at whole pauses since then
 	carrier transport.Transport
 	mutex   sync.Mutex
 	to      [qlock.MaxVoters]leaving
+	places  places // of the roll of the process (beats.go)
+	beats   uint64 // how many left
 }
 
 // leaving is what waits for the other sessions' heartbeats, to one voter.
@@ -37,6 +40,8 @@ type leaving struct {
 	box    string
 	reader voterStart // the voter, as it said that it reads bundles: the empty one if it did not since it started
 	waits  bool       // it leaves after a moment
+	beat   *beat      // leaves with it, nil if no session joined one
+	sent   []*beat    // those that left last
 }
 
 // reads returns whether a voter said that it reads bundles since this start. That of a voter that was not heard yet is empty.
@@ -65,6 +70,7 @@ func (b *bundles) heard(voter int, since voterStart) {
 	if to.reads(since) {
 		return
 	}
+	to.beat, to.sent = nil, nil // their sessions send heartbeats
 	if to.reader = (voterStart{}); to.Count() > 0 {
 		wire.Messages(to.Take(), func(message []byte) { _ = b.carrier.Send(to.box, message) })
 	}
@@ -84,24 +90,30 @@ func (b *bundles) send(voter int, since voterStart, box string, message []byte, 
 		b.leave(to)
 	}
 	to.box = box
-	to.Add(message)
-	switch {
-	case !mayWait:
+	if to.Add(message); mayWait {
+		b.leaveLater(to)
+	} else {
 		b.leave(to)
-	case !to.waits:
-		to.waits = true
-		time.AfterFunc(mostHeld, func() {
-			b.mutex.Lock()
-			defer b.mutex.Unlock()
-			to.waits = false
-			b.leave(to)
-		})
 	}
+}
+
+// leaveLater sends what waits for one voter after a moment.
+func (b *bundles) leaveLater(to *leaving) {
+	if to.waits {
+		return
+	}
+	to.waits = true
+	time.AfterFunc(mostHeld, func() {
+		b.mutex.Lock()
+		defer b.mutex.Unlock()
+		to.waits = false
+		b.leave(to)
+	})
 }
 
 // leave sends what waits for one voter.
 func (b *bundles) leave(to *leaving) {
-	if to.Count() > 0 {
+	if b.takeBeat(to); to.Count() > 0 {
 		_ = b.carrier.Send(to.box, to.Take()) // a reminder repeats what is lost
 	}
 }
@@ -149,6 +161,7 @@ func (c *Client) hearBundles(voter int) {
 // forgetBundles notes that a voter may read none: the session did not hear this start of it before.
 func (c *Client) forgetBundles(voter int) {
 	p := &c.peers[voter]
+	c.forgetRoll(voter)
 	if p.bundles, p.processes = false, 0; c.bundles != nil {
 		c.bundles.heard(voter, p.voterStart)
 	}
@@ -157,6 +170,7 @@ func (c *Client) forgetBundles(voter int) {
 // mailbox has the messages to a session that came in bundles.
 type mailbox struct {
 	messages chan transport.Message
+	place    int // of the session on the roll of the process, -1 if it has none
 	mutex    sync.Mutex
 	bytes    int
 }
@@ -220,6 +234,10 @@ func (s *shards) unbundle(m transport.Message) {
 		if _, lines, err := wire.Read(message); err == nil {
 			session, _ = wire.Addressee(lines)
 		}
+		if session == "" {
+			s.hearBeat(transport.Message{Mailbox: m.Mailbox, Data: message})
+			return
+		}
 		s.pass(session, transport.Message{Mailbox: m.Mailbox, Data: message})
 	})
 }
@@ -242,12 +260,16 @@ func (s *shards) listens(session *Client) {
 	s.mutex.Lock()
 	defer s.mutex.Unlock()
 	s.boxes[session.header.Name] = session.bundled
+	session.bundled.place = s.bundles.takePlace()
 }
 
 // leaves ends that.
 func (s *shards) leaves(session string) {
 	s.mutex.Lock()
 	defer s.mutex.Unlock()
+	if box := s.boxes[session]; box != nil && s.bundles != nil {
+		s.bundles.givePlaceBack(box.place)
+	}
 	delete(s.boxes, session)
 	s.end()
 }

@@ -18,7 +18,7 @@ import (
 type traffic struct {
 	mutex                sync.Mutex
 	toVoters, toSessions int
-	bundles              map[string]int // by the mailbox of a voter, and "" for all sessions
+	bundles              map[string]int // by the mailbox of a voter, and "" for all sessions; with those that have beats, or replies to them
 }
 
 // watched counts from now on.
@@ -27,7 +27,7 @@ func watched(w *worlds.World) *traffic {
 	w.Bus.Watch(func(mailbox string, message []byte) {
 		seen.mutex.Lock()
 		defer seen.mutex.Unlock()
-		switch isBundle := bytes.Contains(message, []byte("\n\n")); {
+		switch isBundle := isBundle(message); {
 		case strings.HasPrefix(mailbox, "qlock.test.c."):
 			if seen.toSessions++; isBundle {
 				seen.bundles[""]++
@@ -39,6 +39,11 @@ func watched(w *worlds.World) *traffic {
 		}
 	})
 	return seen
+}
+
+// isBundle returns whether a message is of several sessions.
+func isBundle(message []byte) bool {
+	return bytes.Contains(message, []byte("\n\n")) || bytes.Contains(message, []byte("\n. beat"))
 }
 
 // counts returns what was counted so far, and begins anew.
@@ -238,7 +243,7 @@ func (c *counting) Listen(boxes string) (<-chan transport.Message, error) {
 	to := make(chan transport.Message, 1<<10)
 	go func() {
 		for m := range from {
-			if bytes.Contains(m.Data, []byte("\n\n")) {
+			if isBundle(m.Data) {
 				c.came.Add(1)
 			}
 			to <- m
@@ -276,7 +281,7 @@ func inBundles(t *testing.T) (*table, func() []string) {
 	t.Helper()
 	c := alone(t)
 	c.cluster.Shards = 2
-	c.bundles, c.bundled = &bundles{process: "p", began: time.Now(), carrier: c.carrier}, newMailbox()
+	c.bundles, c.bundled = &bundles{cluster: c.cluster.ID, process: "p", began: time.Now(), carrier: c.carrier}, newMailbox()
 	for v := range c.peers {
 		c.says(v, ". bundles\n. claimed 3 5 0 4096\n")
 	}

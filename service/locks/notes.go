@@ -128,10 +128,28 @@ func (c *Client) sayNotes(voter int, now time.Time) {
 		return
 	}
 	for l := range c.busy {
-		if l.held != nil && l.held.note != "" && l.held.quorum>>voter&1 == 1 && c.header.Seq >= l.held.noteDue[voter].at {
+		if c.isNoteDue(l, voter) {
 			c.sayAbout(l.held, voter)
 		}
 	}
+}
+
+// isNoteDue returns whether a voter hears the note of a lock with the next heartbeat.
+func (c *Client) isNoteDue(l *lock, voter int) bool {
+	return l.held != nil && l.held.note != "" && l.held.quorum>>voter&1 == 1 && c.header.Seq >= l.held.noteDue[voter].at
+}
+
+// owesNote returns whether the next heartbeat to a voter has a note.
+func (c *Client) owesNote(voter int) bool {
+	if !c.peers[voter].noted {
+		return true
+	}
+	for l := range c.busy {
+		if c.isNoteDue(l, voter) {
+			return true
+		}
+	}
+	return false
 }
 
 // sayAbout says the note of a lock that is held to a voter, if this turn has room for it. What is left out the next heartbeats say.

@@ -91,6 +91,11 @@ type peer struct {
 
 	bundles   bool // it reads bundles, and knows the session's process
 	processes int  // how many heartbeats it heard without saying so
+
+	opened qlock.VoterSays // what it said last to a heartbeat
+	entry  uint64          // the number of the session's entry on the roll of its process there, 0 if it said none
+	joined bool            // the last heartbeat to it was in a beat
+	rolls  int             // how many heartbeats it heard without making an entry
 }
 
 // brought is a number that a voter chose for a session, and claimed for it. Without an epoch it is none.
@@ -571,6 +576,8 @@ func (s *session) forgetSaid(voter int) {
 	p.accepts, p.taken, p.base, p.claimed = false, false, 0, 0
 	p.noted, p.notes = false, 0
 	p.bundles, p.processes = false, 0
+	p.opened = qlock.VoterSays{}
+	s.forgetRoll(voter)
 	p.brought = brought{}
 }
 
@@ -702,10 +709,13 @@ func (c *Client) show(now time.Time) {
 		if p.closed {
 			continue
 		}
-		p.sent[c.header.Seq] = up
+		if p.sent[c.header.Seq] = up; c.joins(v) {
+			continue
+		}
 		c.tell(v, open)
 		c.sayNotes(v, now)
 		c.sayProcess(v)
+		c.sayRoll(v)
 		if level.Newest >= level.Greets && p.level >= level.Greets {
 			c.tell(v, qlock.ClientSays{Kind: qlock.Greet})
 		}
@@ -907,6 +917,7 @@ func (c *Client) noteIncarnation(h wire.Header) {
 		return
 	}
 	p.said, p.answers, c.leases.Since[h.Number] = said, false, uptime()
+	c.forgetRoll(h.Number) // its entry is of before
 	if said.Run == before.Run && said.Start == before.Start {
 		c.spoilVotes(h.Number)
 	}
@@ -1000,6 +1011,9 @@ func (c *Client) hear(voter int, says qlock.VoterSays) {
 		}
 	case qlock.Opened:
 		if mine && !c.peers[voter].stale {
+			if p := &c.peers[voter]; says.Fourth >= p.opened.Fourth {
+				p.opened = says
+			}
 			c.opened(voter, says.Second, says.Third, says.Fourth, says.Fifth)
 		}
 	case qlock.Unknown:

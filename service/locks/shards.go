@@ -139,7 +139,7 @@ func (c *Client) beginShards() error {
 		return err
 	}
 	c.shards = &shards{all: map[int]*part{}, boxes: map[string]*mailbox{}, over: make(chan struct{}), closing: make(chan struct{}),
-		bundles: &bundles{process: process, began: time.Now(), carrier: c.carrier}}
+		bundles: &bundles{cluster: c.cluster.ID, process: process, began: time.Now(), carrier: c.carrier}}
 	go func() {
 		c.shards.readBundles(messages)
 		leave(c.carrier, boxes)

@@ -287,6 +287,8 @@ func (c *Client) hearTold(voter int, told wire.Told) {
 		p.noted = true
 	case told.Kind == wire.Bundles:
 		c.hearBundles(voter)
+	case told.Kind == wire.Rolled:
+		c.hearRoll(voter, told)
 	case told.Kind == wire.Turned:
 		c.hearTurned(voter, told)
 	case told.Kind == wire.Sessions:

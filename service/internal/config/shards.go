@@ -13,7 +13,7 @@ import (
 // A cluster has shards, each with the locks whose names have one hash, and with 64 numbers for the sessions that use them.
 
 // MostShards is how many shards a cluster may have.
-const MostShards = 4096
+const MostShards = 1 << 16
 
 // nonceOfShard is how many digits of a nonce the name of a session has, where there are shards: 104 bits.
 const nonceOfShard = 26

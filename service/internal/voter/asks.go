@@ -81,6 +81,10 @@ func (d *Daemon) ask(l *letter, speaker qlock.Standing, line []byte, now time.Ti
 	case ask.Kind == wire.SaysProcess:
 		l.shard.processes[l.Number] = ofProcess{l.Name, ask.Text}
 		d.put(l.Name, wire.Told{Kind: wire.Bundles}.Append(d.out[l.Name]))
+	case ask.Kind == wire.SaysRoll:
+		d.enroll(l, ask)
+	case ask.Kind == wire.Beats:
+		return true, false // there is no more in the message of a beat
 	case ask.Kind == wire.SaysAbout:
 		d.noteAbout(l, ask)
 	case ask.Kind == wire.WantsTurn:

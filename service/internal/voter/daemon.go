@@ -83,9 +83,11 @@ type Daemon struct {
 	letters         []posted     // words to other voters that leave after the save
 	skips           []skip       // turns that are told after the save
 	skipsWaiting    []skipWaiting
-	watches         watches      // the locks that sessions watch
-	skippable       qlock.Bucket // how many more numbers may be skipped for turns
-	reach           uint64       // up to which number they may be now
+	watches         watches          // the locks that sessions watch
+	rolls           map[string]*roll // of processes, by their names
+	entries         uint64           // how many were made of these
+	skippable       qlock.Bucket     // how many more numbers may be skipped for turns
+	reach           uint64           // up to which number they may be now
 	voters          <-chan transport.Message
 	floor, ceiling  uint64            // its grants are above the floor, and up to the ceiling
 	nothing         qlock.SinceStart  // of votes of which nothing was said since the start
@@ -134,7 +136,7 @@ func OpenIn(around Surroundings, own *config.Voter, cluster *config.Cluster, car
 		dirty: map[*vote]struct{}{}, silent: map[*vote]struct{}{},
 		leases: leases{ttl: cluster.TTL.Duration},
 		out:    map[string][]byte{}, replies: map[string]answer{}, started: now, away: now,
-		done: map[string][]byte{}, newPeers: map[int]Peer{}, gone: map[string]struct{}{}, restsFor: shortestRest,
+		rolls: map[string]*roll{}, entries: entriesBefore(state), done: map[string][]byte{}, newPeers: map[int]Peer{}, gone: map[string]struct{}{}, restsFor: shortestRest,
 		floors: map[int]Floor{}, newFloors: map[int]Floor{}}
 	if d.restsFor < 2*cluster.TTL.Duration {
 		d.restsFor = 2 * cluster.TTL.Duration
@@ -542,7 +544,7 @@ func (d *Daemon) open(l *letter, speaker qlock.Standing, oldest uint64, now time
 			Fourth: l.Seq, Fifth: uint64(l.shard.requests[l.Number])})
 	}
 	if speaker == qlock.SessionKnown {
-		d.tellWanted(l, now)
+		d.tellWanted(l.shard, l.Number, l.Name, now)
 	}
 	d.announce(l.Name)
 	return true

@@ -132,6 +132,7 @@ func (d *Daemon) dropUnused(now time.Time) {
 		return
 	}
 	for number := range s.rows {
+		d.strike(s.entries[number])
 		d.leases.drop(s.key(number))
 	}
 	d.setFloor(s.table.number, floor)

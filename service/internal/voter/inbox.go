@@ -166,6 +166,10 @@ func (d *Daemon) sortOne(m transport.Message) {
 	if !d.join.done {
 		return // nothing is taken before the others answered
 	}
+	if h.Epoch == 0 && isBeat(lines) {
+		d.beat(h, lines, d.now())
+		return
+	}
 	shard, queue := d.shardOfSession(h.Name), strangers
 	if shard == nil {
 		d.m.foreign.Inc()

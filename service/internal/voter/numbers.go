@@ -236,9 +236,9 @@ func (d *Daemon) tellIdle(s *shard, now time.Time) {
 	}
 }
 
-// tellWanted tells a session that others wait for a number that it has.
-func (d *Daemon) tellWanted(l *letter, now time.Time) {
-	if l.shard.waiting.needs(l.shard.locks[l.Number], now, d.leases.ttl) {
-		d.put(l.Name, wire.Told{Kind: wire.Wanted}.Append(d.out[l.Name]))
+// tellWanted tells the session of a number that others wait for that.
+func (d *Daemon) tellWanted(s *shard, number int, session string, now time.Time) {
+	if s.waiting.needs(s.locks[number], now, d.leases.ttl) {
+		d.put(session, wire.Told{Kind: wire.Wanted}.Append(d.out[session]))
 	}
 }

@@ -23,6 +23,7 @@ type shard struct {
 	free     int
 
 	processes [qlock.MaxClients]ofProcess // of which processes sessions are
+	entries   [qlock.MaxClients]*entry    // on the rolls of these
 
 	votes int       // how many locks of it are known
 	used  time.Time // when a message of a session of it came

@@ -21,7 +21,10 @@ type Ask struct {
 	Number uint64 // of SaysAbout and WantsTurn the stamp of a request; of AskNames where to go on, 0 to begin; of WantsNumber how many stamps
 	Grant  uint64 // of WantsTurn: the number of the grant that the request has here
 	Top    uint64 // of WantsTurn: up to which number the voter is to skip
-	Text   string // a note; of SaysNote "" if there is none; of SaysProcess the name of a mailbox
+	Text   string // a note; of SaysNote "" if there is none; of SaysProcess and SaysRoll the name of a mailbox
+	Place  int    // of SaysRoll: the session's place on the roll of its process; of Beats the first one of sixty-four
+	Mask   uint64 // of Beats: which of these places
+	Sum    uint64 // of Beats: the sum of their entries' numbers
 }
 
 // AskKind is what an Ask is.
@@ -39,12 +42,21 @@ const (
 	WantsNumber                // want STAMPS [LOCK]: a claim whose number and epoch the voter fills in. It is as WantsFor; of 0 stamps it is taken back
 	SaysProcess                // process NAME: bundles of messages to sessions of this process may go to the mailbox of this name
 	Watches                    // watch ID LOCK: for a TTL the voter says each change of who has the lock. Older voters ignore it
+	SaysRoll                   // roll NAME PLACE: the session is on the roll of this process, at this place. Older voters ignore it
+	Beats                      // beat PLACE MASK SUM: a heartbeat of a process, for the sessions at these places of its roll
+)
+
+// MostRoll is how many places the roll of a process has: one for each shard that a cluster may have. A beat is for those of RollShare
+// places one behind the other.
+const (
+	MostRoll  = 1 << 16
+	RollShare = 64
 )
 
 // Told is what a voter says to an Ask.
 type Told struct {
 	Kind         ToldKind
-	ID           uint64 // of the question, 0 of HasVote that nobody asked for; of HasChanged that of Watches
+	ID           uint64 // of the question, 0 of HasVote that nobody asked for; of HasChanged that of Watches; of Beaten the count of the beat
 	Lock         string
 	Top          uint64 // of Turned and HasTurn: up to which number the voter skipped
 	Waiting      uint64 // of HasVote and HasChanged: the numbers of those that wait, one bit for each
@@ -60,6 +72,8 @@ type Told struct {
 	Waits        uint64 // of Sessions: for how many milliseconds a request has waited at most
 	Ahead        uint64 // of Sessions: how many sessions wait for a number before this one
 	Highest      uint64 // of Sessions, where some wait: the highest stamp that any session reserved
+	Place        int    // of Rolled and Beaten: as the Ask has it
+	Entry        uint64 // of Rolled: the number of the entry, above those of all entries before
 }
 
 // ToldKind is what a Told is.
@@ -78,6 +92,8 @@ const (
 	Bundles             // bundles: the voter reads bundles, and knows the session's process
 	HasTurn             // skipped ID LOCK STAMP TOP: who has the vote asked for its turn. It is in front of HasVote, and older clients ignore it
 	HasChanged          // holder ID LOCK .., as HasVote: another one has the vote, or its note is another one, for who watches the lock
+	Rolled              // rolled PLACE ENTRY: the session is on the roll of its process
+	Beaten              // beaten ID PLACE: the voter heard all sessions that the beat was for, and each entry is as it was made
 )
 
 // IsNote returns whether a text may be a note: 1 to 128 printable bytes of ASCII, with no space at either end.
@@ -109,6 +125,10 @@ func (a Ask) Append(out []byte) []byte {
 		out = withText(append(out, ". process"...), a.Text)
 	case Watches:
 		out = withText(withNumber(append(out, ". watch"...), a.ID), a.Lock)
+	case SaysRoll:
+		out = withNumber(withText(append(out, ". roll"...), a.Text), uint64(a.Place))
+	case Beats:
+		out = withNumber(withNumber(withNumber(append(out, ". beat"...), uint64(a.Place)), a.Mask), a.Sum)
 	case WantsTurn:
 		out = withNumber(withNumber(withNumber(withText(append(out, ". turn"...), a.Lock), a.Number), a.Grant), a.Top)
 	}
@@ -145,8 +165,12 @@ func ReadAsk(line []byte) (a Ask, err error) {
 	case "watch":
 		a = Ask{Kind: Watches, ID: w.number(), Lock: w.lock()}
 	case "process":
-		a = Ask{Kind: SaysProcess, Text: string(w.next())}
-		w.isWrong = w.isWrong || !IsID([]byte(a.Text))
+		a = Ask{Kind: SaysProcess, Text: w.name()}
+	case "roll":
+		a = Ask{Kind: SaysRoll, Text: w.name(), Place: w.place()}
+	case "beat":
+		a = Ask{Kind: Beats, Place: w.place(), Mask: w.number(), Sum: w.number()}
+		w.isWrong = w.isWrong || a.Place%RollShare != 0 || a.Mask == 0
 	default:
 		return Ask{}, nil
 	}
@@ -182,6 +206,10 @@ func (t Told) Append(out []byte) []byte {
 		out = append(out, ". wanted"...)
 	case Bundles:
 		out = append(out, ". bundles"...)
+	case Rolled:
+		out = withNumber(withNumber(append(out, ". rolled"...), uint64(t.Place)), t.Entry)
+	case Beaten:
+		out = withNumber(withNumber(append(out, ". beaten"...), t.ID), uint64(t.Place))
 	}
 	return append(out, '\n')
 }
@@ -223,6 +251,12 @@ func ReadTold(line []byte) (t Told, ok bool) {
 		t = Told{Kind: Wanted}
 	case "bundles":
 		t = Told{Kind: Bundles}
+	case "rolled":
+		t = Told{Kind: Rolled, Place: w.place(), Entry: w.number()}
+		w.isWrong = w.isWrong || t.Entry == 0
+	case "beaten":
+		t = Told{Kind: Beaten, ID: w.number(), Place: w.place()}
+		w.isWrong = w.isWrong || t.Place%RollShare != 0
 	default:
 		return Told{}, false
 	}
@@ -271,6 +305,20 @@ func (w *words) number() uint64 {
 	n, ok := Decimal(word)
 	w.isWrong = w.isWrong || !ok || len(word) > 1 && word[0] == '0'
 	return n
+}
+
+// name reads the name of a mailbox.
+func (w *words) name() string {
+	word := w.next()
+	w.isWrong = w.isWrong || !IsID(word)
+	return string(word)
+}
+
+// place reads a place on a roll.
+func (w *words) place() int {
+	place := w.number()
+	w.isWrong = w.isWrong || place >= MostRoll
+	return int(place % MostRoll)
 }
 
 // lock reads the name of a lock.

@@ -1,0 +1,454 @@
+package main
+
+import (
+	"context"
+	"errors"
+	"fmt"
+	"os"
+	"sort"
+	"strings"
+	"sync"
+	"time"
+
+	"calvundek.example/service/internal/config"
+	"calvundek.example/service/internal/level"
+	"calvundek.example/service/internal/local"
+	"calvundek.example/service/internal/wire"
+	"calvundek.example/service/qlock"
+	"calvundek.example/service/transport"
+)
+
+// holders are many processes, each of which holds many locks for a long time, with a session in the shard of each lock.
+//
+// One machine has no room for as many clients. So a driver says to the voters what the clients of these processes say: it wants a number in
+// the shard of each lock, asks a quorum for the lock, and from then on each process beats. No two processes want one lock, and the driver
+// keeps some hundred bytes for each. It is no client for anything else.
+type holders struct {
+	processes, each int
+	length          time.Duration
+}
+
+// errHolders is returned if some locks are not to be had.
+var errHolders = errors.New("some locks are not to be had")
+
+// atOnce is how many locks are asked for at once.
+const atOnce = 1 << 12
+
+// holding is a lock that a process holds, and its session.
+type holding struct {
+	lock, session string
+	process       *holder
+	place         int // on the roll of the process
+	number        int
+	epoch, base   uint64
+	quorum        uint64
+	claimed       uint64 // the voters at which the session has its number
+	locked        uint64 // those whose votes it has
+	entries       []uint64
+}
+
+// holder is a process, by what its beats to each voter say.
+type holder struct {
+	name     string
+	holdings []*holding
+	beats    []toVoter
+}
+
+// toVoter is what a process says to a voter with each beat, by the first places of shares, and which of these it did not acknowledge yet.
+type toVoter struct {
+	shares map[int]wire.Ask
+	count  uint64
+	left   time.Time
+	waits  map[int]bool
+}
+
+// driver says what holders say.
+type driver struct {
+	cluster *config.Cluster
+	plan    *qlock.Plan
+	mark    string
+	link    *transport.NATS
+
+	mutex      sync.Mutex
+	holders    []*holder
+	byProcess  map[string]*holder
+	bySession  map[string]*holding
+	replies    []time.Duration // how long voters took to acknowledge beats
+	unanswered int             // beats that were not acknowledged before the next one
+}
+
+// measure lets all processes take their locks, and prints what voters do while these are held, and how long one takes to start then.
+func (h holders) measure(cluster *local.Cluster) error {
+	d, err := h.driver(cluster)
+	if err != nil {
+		return err
+	}
+	go d.listen()
+	ended := make(chan struct{})
+	defer close(ended)
+	go d.beat(ended)
+	began := time.Now()
+	for rest := d.inTurns(); len(rest) > 0; {
+		chunk := rest[:least(atOnce, len(rest))]
+		if err := d.take(chunk); err != nil {
+			return err
+		}
+		if rest = rest[len(chunk):]; len(rest)/atOnce%16 == 0 {
+			fmt.Fprintf(os.Stderr, "%.0f s: %d locks are left\n", time.Since(began).Seconds(), len(rest))
+		}
+	}
+	fmt.Printf("%d processes hold %d locks each: they got them in %.0f s\n", h.processes, h.each, time.Since(began).Seconds())
+	if err := d.watch(cluster, h.length); err != nil {
+		return err
+	}
+	return startOf(cluster, 0)
+}
+
+func least(a, b int) int {
+	if a < b {
+		return a
+	}
+	return b
+}
+
+// driver makes the processes and the names of their locks.
+func (h holders) driver(cluster *local.Cluster) (*driver, error) {
+	settings, err := config.ReadCluster(cluster.File)
+	if err != nil {
+		return nil, err
+	}
+	d := &driver{cluster: settings, plan: settings.Planned, mark: settings.Marks()[0], byProcess: map[string]*holder{}, bySession: map[string]*holding{}}
+	if d.link, err = transport.Connect(settings, config.Access{}, "qlock holders"); err != nil {
+		return nil, err
+	}
+	voters := len(settings.Names())
+	for i := 0; i < h.processes; i++ {
+		nonce, err := config.Nonce()
+		if err != nil {
+			return nil, err
+		}
+		one := &holder{name: settings.SessionName(0, nonce), beats: make([]toVoter, voters)}
+		for v := range one.beats {
+			one.beats[v] = toVoter{shares: map[int]wire.Ask{}, waits: map[int]bool{}}
+		}
+		d.holders, d.byProcess[one.name] = append(d.holders, one), one
+		for place := 0; place < h.each; place++ {
+			if nonce, err = config.Nonce(); err != nil {
+				return nil, err
+			}
+			lock := fmt.Sprintf("held-%d-%d", i, place)
+			n := i*h.each + place
+			l := &holding{lock: lock, session: settings.SessionName(settings.ShardOfLock(lock), nonce), process: one, place: place, number: -1,
+				quorum: d.plan.Quorums[n%len(d.plan.Quorums)], entries: make([]uint64, voters)}
+			one.holdings, d.bySession[l.session] = append(one.holdings, l), l
+		}
+	}
+	return d, nil
+}
+
+// inTurns returns all locks, the first one of each shard before all second ones: so hardly any two that are asked for at once want a number
+// of the same shard, and voters give the same ones.
+func (d *driver) inTurns() (all []*holding) {
+	turns := map[int][]*holding{}
+	seen := map[int]int{}
+	for _, one := range d.holders {
+		for _, l := range one.holdings {
+			shard := d.cluster.ShardOfLock(l.lock)
+			turns[seen[shard]] = append(turns[seen[shard]], l)
+			seen[shard]++
+		}
+	}
+	for turn := 0; len(turns[turn]) > 0; turn++ {
+		all = append(all, turns[turn]...)
+	}
+	return all
+}
+
+// take takes some locks: a number of each one's shard at all voters, and the votes of its quorum.
+func (d *driver) take(chunk []*holding) error {
+	voters := uint64(1)<<len(d.cluster.Names()) - 1
+	if err := d.repeat(chunk, d.want, func(l *holding) bool { return l.claimed == voters }); err != nil {
+		return err
+	}
+	return d.repeat(chunk, d.ask, func(l *holding) bool { return l.locked&l.quorum == l.quorum && l.isOnAllRolls() })
+}
+
+// isOnAllRolls returns whether all voters made an entry for the session.
+func (l *holding) isOnAllRolls() bool {
+	for _, entry := range l.entries {
+		if entry == 0 {
+			return false
+		}
+	}
+	return true
+}
+
+// repeat says something for each lock of which it is not done, again each second, until all are done.
+func (d *driver) repeat(chunk []*holding, say func(l *holding, voter int) []byte, isDone func(*holding) bool) error {
+	for tries := 0; tries < 30; tries++ {
+		out := make([]wire.Bundle, len(d.cluster.Names()))
+		d.each(chunk, isDone, func(l *holding) {
+			for v := range out {
+				message := say(l, v)
+				if !out[v].HasRoom(message) {
+					d.send(v, out[v].Take())
+				}
+				out[v].Add(message)
+			}
+		})
+		for v := range out {
+			if out[v].Count() > 0 {
+				d.send(v, out[v].Take())
+			}
+		}
+		for began := time.Now(); time.Since(began) < time.Second; time.Sleep(2 * time.Millisecond) {
+			if d.each(chunk, isDone, func(*holding) {}) == 0 {
+				return nil
+			}
+		}
+	}
+	return errHolders
+}
+
+// each calls a function with each lock of which it is not done, and returns how many these are.
+func (d *driver) each(chunk []*holding, isDone func(*holding) bool, use func(*holding)) (left int) {
+	d.mutex.Lock()
+	defer d.mutex.Unlock()
+	for _, l := range chunk {
+		if !isDone(l) {
+			left++
+			use(l)
+		}
+	}
+	return left
+}
+
+func (d *driver) send(voter int, message []byte) {
+	_ = d.link.Send(wire.VoterBox(d.cluster.ID, voter, wire.NoUser), message) // what is lost is said again
+}
+
+// header returns the header of a session's message.
+func (d *driver) header(l *holding) wire.Header {
+	h := wire.Header{Cluster: d.cluster.ID, Coterie: d.mark, Kind: wire.FromClient, Name: l.session, Level: level.Newest, Seq: 1}
+	if l.number >= 0 {
+		h.Number, h.Epoch, h.Reserved = l.number, l.epoch, l.base+64
+	}
+	return h
+}
+
+// want returns what wants a number for a lock.
+func (d *driver) want(l *holding, _ int) []byte {
+	return wire.Ask{Kind: wire.WantsNumber, Number: 64, Lock: l.lock}.Append(d.header(l).Append(nil))
+}
+
+// ask returns what asks a voter for its vote, if it is of the lock's quorum, and is a heartbeat that says the session's place.
+func (d *driver) ask(l *holding, voter int) []byte {
+	out := d.show(l, voter)
+	if l.quorum>>voter&1 == 1 {
+		out = append(out, fmt.Sprintf("%s request %d %d %d\n", l.lock, l.number, voter, l.base+1)...)
+	}
+	return out
+}
+
+// show returns a heartbeat that says the session's place.
+func (d *driver) show(l *holding, _ int) []byte {
+	out := append(d.header(l).Append(nil), ". open 0\n"...)
+	out = wire.Ask{Kind: wire.SaysProcess, Text: l.process.name}.Append(out)
+	return wire.Ask{Kind: wire.SaysRoll, Text: l.process.name, Place: l.place}.Append(out)
+}
+
+// listen takes what voters say to any session.
+func (d *driver) listen() {
+	messages, err := d.link.Listen("qlock." + d.cluster.ID + ".c.>")
+	if err != nil {
+		fmt.Fprintln(os.Stderr, err)
+		return
+	}
+	for m := range messages {
+		words := strings.Split(m.Mailbox, ".")
+		wire.Messages(m.Data, func(message []byte) {
+			h, lines, err := wire.Read(message)
+			session, lines := wire.Addressee(lines)
+			if session == "" {
+				session = words[4]
+			}
+			if err == nil {
+				d.hear(h.Number, session, lines)
+			}
+		})
+	}
+}
+
+// hear takes what a voter says to a session, or a process.
+func (d *driver) hear(voter int, session string, lines []byte) {
+	d.mutex.Lock()
+	defer d.mutex.Unlock()
+	l, process := d.bySession[session], d.byProcess[session]
+	for {
+		lock, line, rest, found := wire.Next(lines)
+		if lines = rest; !found {
+			return
+		}
+		switch told, is := wire.ReadTold(line); {
+		case process != nil && is && told.Kind == wire.Beaten:
+			d.beaten(&process.beats[voter], told)
+		case l == nil:
+		case string(lock) == l.lock:
+			if string(wire.ReadLine(line).Word) == "locked" {
+				l.locked |= 1 << voter
+			}
+		case is && told.Kind == wire.Rolled:
+			l.enters(voter, told.Entry)
+		default:
+			if says, err := qlock.ReadVoterSays(line); err == nil && says.Kind == qlock.Claimed {
+				l.gets(voter, says)
+			}
+		}
+	}
+}
+
+// gets notes that a voter gave the session a number.
+func (l *holding) gets(voter int, says qlock.VoterSays) {
+	if l.number < 0 {
+		l.number, l.epoch, l.base = says.Number, says.First, says.Second
+	}
+	if l.number == says.Number && l.epoch == says.First {
+		l.claimed |= 1 << voter
+	}
+}
+
+// enters notes the number of the session's entry at a voter.
+func (l *holding) enters(voter int, entry uint64) {
+	first := l.place - l.place%wire.RollShare
+	share := l.process.beats[voter].shares[first]
+	share.Kind, share.Place, share.Mask, share.Sum = wire.Beats, first, share.Mask|1<<(l.place-first), share.Sum+entry-l.entries[voter]
+	l.entries[voter], l.process.beats[voter].shares[first] = entry, share
+}
+
+// beaten notes that a voter acknowledged a beat.
+func (d *driver) beaten(to *toVoter, told wire.Told) {
+	if told.ID != to.count || !to.waits[told.Place] {
+		return
+	}
+	if delete(to.waits, told.Place); len(to.waits) == 0 {
+		d.replies = append(d.replies, time.Since(to.left))
+	}
+}
+
+// beat lets each process beat once in each quarter of a TTL, one after the other.
+func (d *driver) beat(ended <-chan struct{}) {
+	period := d.cluster.TTL.Duration / 4
+	for next := time.Now(); ; next = next.Add(period) {
+		for i, one := range d.holders {
+			if due := next.Add(period * time.Duration(i) / time.Duration(len(d.holders))); time.Until(due) > time.Millisecond {
+				time.Sleep(time.Until(due))
+			}
+			select {
+			case <-ended:
+				return
+			default:
+			}
+			for voter := range one.beats {
+				d.beatTo(one, voter)
+			}
+		}
+	}
+}
+
+// beatTo sends the beat of a process to a voter. Of those whose last beat was not acknowledged the sessions say their places again.
+func (d *driver) beatTo(one *holder, voter int) {
+	d.mutex.Lock()
+	defer d.mutex.Unlock()
+	to := &one.beats[voter]
+	if len(to.shares) == 0 {
+		return
+	}
+	var again wire.Bundle
+	for first := range to.waits {
+		d.unanswered++
+		for _, l := range one.holdings[first:least(first+wire.RollShare, len(one.holdings))] {
+			if again.HasRoom(nil) && l.entries[voter] > 0 {
+				again.Add(d.show(l, voter))
+			}
+		}
+		delete(to.waits, first)
+	}
+	if again.Count() > 0 {
+		d.send(voter, again.Take())
+		return
+	}
+	to.count, to.left = to.count+1, time.Now()
+	out := wire.Header{Cluster: d.cluster.ID, Coterie: d.mark, Kind: wire.FromClient, Name: one.name, Seq: to.count, Level: level.Newest}.Append(nil)
+	for first, share := range to.shares {
+		out, to.waits[first] = share.Append(out), true
+	}
+	d.send(voter, out)
+}
+
+// watch prints what the voters do for a time.
+func (d *driver) watch(cluster *local.Cluster, length time.Duration) error {
+	time.Sleep(d.cluster.TTL.Duration) // until what was to be saved is
+	before, err := d.counts(cluster)
+	if err != nil {
+		return err
+	}
+	d.mutex.Lock()
+	d.replies, d.unanswered = nil, 0
+	d.mutex.Unlock()
+	began := time.Now()
+	time.Sleep(length)
+	seconds := time.Since(began).Seconds()
+	after, err := d.counts(cluster)
+	if err != nil {
+		return err
+	}
+	for v := range after {
+		more := func(key string) float64 { return (after[v][key] - before[v][key]) / seconds }
+		fmt.Printf("%-5s %.0f votes are held, %.0f sessions; %.0f MB of memory, %.0f MB of its file; %.0f messages a second, %.1f saves, %.0f %% of a processor, %.0f reminders\n",
+			d.plan.Names[v], after[v]["locks_held"], float64(len(d.bySession)), after[v]["resident_memory_bytes"]/1e6, after[v]["file_bytes"]/1e6,
+			more("messages_received_total"), more("commit_seconds_count"), 100*more("cpu_seconds_total"), more("reminders_total"))
+	}
+	d.mutex.Lock()
+	defer d.mutex.Unlock()
+	sort.Slice(d.replies, func(i, j int) bool { return d.replies[i] < d.replies[j] })
+	at := func(part float64) float64 {
+		if len(d.replies) == 0 {
+			return 0
+		}
+		return 1000 * d.replies[int(part*float64(len(d.replies)-1))].Seconds()
+	}
+	fmt.Printf("%.0f beats a second are acknowledged, after ms: p50 %.1f  p99 %.1f  max %.1f; %d were not\n", float64(len(d.replies))/seconds,
+		at(0.5), at(0.99), at(1), d.unanswered)
+	return nil
+}
+
+// counts returns what each voter counts.
+func (d *driver) counts(cluster *local.Cluster) (all []map[string]float64, err error) {
+	for v := range cluster.Listen {
+		one, err := numbers(cluster.Listen[v : v+1])
+		if err != nil {
+			return nil, err
+		}
+		all = append(all, one)
+	}
+	return all, nil
+}
+
+// startOf kills a voter, and prints how long its next start takes.
+func startOf(cluster *local.Cluster, voter int) error {
+	cluster.Voters[voter].Kill()
+	began := time.Now()
+	if err := cluster.Voters[voter].Start(); err != nil {
+		return err
+	}
+	ctx, cancel := context.WithTimeout(context.Background(), 2*time.Minute)
+	defer cancel()
+	for ; ctx.Err() == nil; time.Sleep(10 * time.Millisecond) {
+		if counts, err := numbers(cluster.Listen[voter : voter+1]); err == nil && counts["locks"] > 0 {
+			fmt.Printf("%s starts in %.1f s, with %.0f locks, in %.0f MB of memory\n", cluster.Voters[voter].Name, time.Since(began).Seconds(),
+				counts["locks"], counts["resident_memory_bytes"]/1e6)
+			return nil
+		}
+	}
+	return ctx.Err()
+}

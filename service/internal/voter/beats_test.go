@@ -1,0 +1,171 @@
+package voter
+
+import (
+	"fmt"
+	"strings"
+	"testing"
+	"time"
+
+	"calvundek.example/service/internal/wire"
+	"calvundek.example/service/transport"
+)
+
+// rolled lets a session say its place on the roll of a process, and returns the number of its entry.
+func rolled(t *testing.T, d *Daemon, user string, number int, process string, place int) (entry uint64) {
+	t.Helper()
+	reply := d.repliesTo(user, number, fmt.Sprintf(". open 0\n. roll %s %d\n", process, place))
+	_, said, _ := strings.Cut(reply, ". rolled ")
+	var told int
+	if _, err := fmt.Sscanf(said, "%d %d\n", &told, &entry); err != nil || told != place {
+		t.Fatalf("the session hears %q", reply)
+	}
+	return entry
+}
+
+// beats lets a beat of a process come to a voter, and returns what that says to the process.
+func (d *Daemon) beats(user, process, lines string) string {
+	h := wire.Header{Cluster: "test", Coterie: d.mark, Kind: wire.FromClient, Name: process, Seq: 7}
+	d.sort(transport.Message{Mailbox: wire.VoterBox("test", 0, user), Data: append(h.Append(nil), lines...)})
+	d.takeAll()
+	name := wire.SessionName(user, process)
+	reply := string(d.out[name])
+	delete(d.out, name)
+	return reply
+}
+
+// beatOf returns the lines of a beat for some places, below the 64th one, with the sum of these entries.
+func beatOf(entries map[int]uint64) string {
+	ask := wire.Ask{Kind: wire.Beats}
+	for place, entry := range entries {
+		ask.Mask, ask.Sum = ask.Mask|1<<place, ask.Sum+entry
+	}
+	return string(ask.Append(nil))
+}
+
+// heardAgo lets all sessions of the first shard have been heard last so long ago.
+func (d *Daemon) heardAgo(numbers int, ago time.Duration) {
+	for number := 0; number < numbers; number++ {
+		d.shard(0).heard[number] = d.leases.at(d.now()) - ago
+	}
+}
+
+// wasHeard returns whether a number's session was heard since heardAgo.
+func (d *Daemon) wasHeard(number int) bool {
+	return d.leases.at(d.now())-d.shard(0).heard[number] < time.Second
+}
+
+// A beat is a heartbeat of those for whom it is, and of nobody else. It is acknowledged if each of them heard of its entry, and is as it was
+// then.
+func TestBeatIsAHeartbeatOfMany(t *testing.T) {
+	d := claimed(t, 4)
+	entries := map[int]uint64{5: rolled(t, d, "jobs", 1, "p", 5), 63: rolled(t, d, "jobs", 2, "p", 63)}
+	third := rolled(t, d, "jobs", 3, "p", 64)
+	d.heardAgo(5, time.Minute)
+	if reply := d.beats("jobs", "p", beatOf(entries)); reply != ". beaten 7 0\n" {
+		t.Errorf("the process hears %q", reply)
+	}
+	for number, want := range []bool{false, true, true, false, false} {
+		if d.wasHeard(number) != want {
+			t.Errorf("number %d was heard: %v", number, !want)
+		}
+	}
+	both := beatOf(entries) + string(wire.Ask{Kind: wire.Beats, Place: 64, Mask: 1, Sum: third}.Append(nil))
+	if reply := d.beats("jobs", "p", both); reply != ". beaten 7 0\n. beaten 7 64\n" || !d.wasHeard(3) {
+		t.Errorf("the process hears %q", reply)
+	}
+}
+
+// A beat that is not right in all is not acknowledged. Those for whom it is right are heard.
+func TestBeatsThatAreNotAcknowledged(t *testing.T) {
+	for name, change := range map[string]func(t *testing.T, d *Daemon, entries map[int]uint64){
+		"it names a place that nobody has":      func(_ *testing.T, _ *Daemon, entries map[int]uint64) { entries[7] = 0 },
+		"its sum is another one":                func(_ *testing.T, _ *Daemon, entries map[int]uint64) { entries[6]++ },
+		"a session did not hear of its entry":   func(t *testing.T, d *Daemon, _ map[int]uint64) { rolled(t, d, "jobs", 2, "p", 6) },
+		"a place is another session's":          func(t *testing.T, d *Daemon, _ map[int]uint64) { rolled(t, d, "jobs", 3, "p", 6) },
+		"a session is at another place":         func(t *testing.T, d *Daemon, _ map[int]uint64) { rolled(t, d, "jobs", 2, "p", 9) },
+		"a session is of another process":       func(t *testing.T, d *Daemon, _ map[int]uint64) { rolled(t, d, "jobs", 2, "q", 6) },
+		"a grant of a session was let go":       func(_ *testing.T, d *Daemon, _ map[int]uint64) { d.shard(0).lapse(2) },
+		"a session has a request of a plan":     func(_ *testing.T, d *Daemon, _ map[int]uint64) { d.repliesTo("jobs", 2, ". open 3\n") },
+		"a session is over":                     func(_ *testing.T, d *Daemon, _ map[int]uint64) { d.shard(0).expel(2, true) },
+		"a session ended":                       func(_ *testing.T, d *Daemon, _ map[int]uint64) { d.repliesTo("jobs", 2, ". close\n") },
+		"a session ended, and others have that": func(_ *testing.T, d *Daemon, _ map[int]uint64) { d.passOn(2) },
+	} {
+		d := claimed(t, 3)
+		entries := map[int]uint64{5: rolled(t, d, "jobs", 1, "p", 5), 6: rolled(t, d, "jobs", 2, "p", 6)}
+		before := beatOf(entries)
+		if reply := d.beats("jobs", "p", before); reply != ". beaten 7 0\n" {
+			t.Fatalf("the process hears %q", reply)
+		}
+		change(t, d, entries)
+		d.heardAgo(4, time.Minute)
+		for i := 0; i < 2; i++ {
+			if reply := d.beats("jobs", "p", beatOf(entries)); reply != "" {
+				t.Errorf("%s: the process hears %q", name, reply)
+			}
+		}
+		if !d.wasHeard(1) {
+			t.Errorf("%s: a session was not heard for whom it is right", name)
+		}
+	}
+}
+
+// passOn ends the session of a number, and lets another one have it, under the next epoch.
+func (d *Daemon) passOn(number int) {
+	d.repliesTo("jobs", number, ". close\n")
+	h := wire.Header{Cluster: "test", Coterie: d.mark, Kind: wire.FromClient, Name: "later"}
+	d.sort(transport.Message{Mailbox: wire.VoterBox("test", 0, "jobs"), Data: append(h.Append(nil), fmt.Sprintf(". claim %d 2 100\n", number)...)})
+	d.takeAll()
+}
+
+// Nobody beats for the sessions of another user, or of another process.
+func TestBeatsOfStrangers(t *testing.T) {
+	d := claimed(t, 2)
+	entries := map[int]uint64{5: rolled(t, d, "jobs", 1, "p", 5)}
+	d.heardAgo(3, time.Minute)
+	for _, one := range [][2]string{{"web", "p"}, {"jobs", "q"}, {"jobs", "session-1"}} {
+		if reply := d.beats(one[0], one[1], beatOf(entries)); reply != "" || d.wasHeard(1) {
+			t.Errorf("%v hears %q", one, reply)
+		}
+	}
+	if reply := d.beats("jobs", "p", "junk\n"+beatOf(entries)); strings.Contains(reply, "beaten") || d.wasHeard(1) {
+		t.Errorf("behind junk it hears %q", reply)
+	}
+}
+
+// Each number has one entry, whatever its session says: so what a voter keeps of processes is bounded by its numbers.
+func TestEntriesAreBounded(t *testing.T) {
+	d := claimed(t, 2)
+	for i := 0; i < 300; i++ {
+		rolled(t, d, "jobs", 1, fmt.Sprint("p", i%7), i*71)
+		rolled(t, d, "jobs", 2, fmt.Sprint("p", i%5), i*71)
+	}
+	entries := 0
+	for _, r := range d.rolls {
+		for _, share := range r.shares {
+			for _, e := range share {
+				if e != nil {
+					entries++
+				}
+			}
+		}
+		if len(r.shares) > r.count {
+			t.Errorf("%d shares have %d entries", len(r.shares), r.count)
+		}
+	}
+	if entries > 2 || len(d.rolls) > 2 {
+		t.Errorf("%d entries in %d rolls", entries, len(d.rolls))
+	}
+}
+
+// The numbers of entries grow over starts and runs: what a session heard of an earlier one is no entry of a later one.
+func TestEntriesOfStartsDiffer(t *testing.T) {
+	last := uint64(0)
+	for _, one := range [][2]uint64{{0, 1}, {0, 2}, {0, 3000}, {1, 1}, {2, 1}} {
+		s := &store{meta: Meta{Run: one[0]}, own: own{Start: one[1]}}
+		if first := entriesBefore(s); first < last+1<<32 {
+			t.Errorf("run %d, start %d begins with %d, behind %d", one[0], one[1], first, last)
+		} else {
+			last = first
+		}
+	}
+}
