@@ -31,8 +31,12 @@ type holders struct {
 // errHolders is returned if some locks are not to be had.
 var errHolders = errors.New("some locks are not to be had")
 
-// atOnce is how many locks are asked for at once.
-const atOnce = 1 << 12
+// atOnce is how many locks are asked for at once. The cluster is new, so each session is the first one of its number.
+const (
+	atOnce = 1 << 12
+	epoch  = 1
+	stamps = 64
+)
 
 // holding is a lock that a process holds, and its session.
 type holding struct {
@@ -40,7 +44,6 @@ type holding struct {
 	process       *holder
 	place         int // on the roll of the process
 	number        int
-	epoch, base   uint64
 	quorum        uint64
 	claimed       uint64 // the voters at which the session has its number
 	locked        uint64 // those whose votes it has
@@ -83,12 +86,16 @@ func (h holders) measure(cluster *local.Cluster) error {
 	if err != nil {
 		return err
 	}
+	rest, err := d.all()
+	if err != nil {
+		return err
+	}
 	go d.listen()
 	ended := make(chan struct{})
 	defer close(ended)
 	go d.beat(ended)
 	began := time.Now()
-	for rest := d.inTurns(); len(rest) > 0; {
+	for len(rest) > 0 {
 		chunk := rest[:least(atOnce, len(rest))]
 		if err := d.take(chunk); err != nil {
 			return err
@@ -138,7 +145,7 @@ func (h holders) driver(cluster *local.Cluster) (*driver, error) {
 			}
 			lock := fmt.Sprintf("held-%d-%d", i, place)
 			n := i*h.each + place
-			l := &holding{lock: lock, session: settings.SessionName(settings.ShardOfLock(lock), nonce), process: one, place: place, number: -1,
+			l := &holding{lock: lock, session: settings.SessionName(settings.ShardOfLock(lock), nonce), process: one, place: place,
 				quorum: d.plan.Quorums[n%len(d.plan.Quorums)], entries: make([]uint64, voters)}
 			one.holdings, d.bySession[l.session] = append(one.holdings, l), l
 		}
@@ -146,28 +153,26 @@ func (h holders) driver(cluster *local.Cluster) (*driver, error) {
 	return d, nil
 }
 
-// inTurns returns all locks, the first one of each shard before all second ones: so hardly any two that are asked for at once want a number
-// of the same shard, and voters give the same ones.
-func (d *driver) inTurns() (all []*holding) {
-	turns := map[int][]*holding{}
-	seen := map[int]int{}
+// all returns all locks, whose sessions have the numbers of their shards one after the other. It fails if a shard has too few.
+func (d *driver) all() (all []*holding, err error) {
+	used := map[int]int{}
 	for _, one := range d.holders {
 		for _, l := range one.holdings {
 			shard := d.cluster.ShardOfLock(l.lock)
-			turns[seen[shard]] = append(turns[seen[shard]], l)
-			seen[shard]++
+			if l.number = used[shard]; l.number == qlock.MaxClients {
+				return nil, errShards
+			}
+			used[shard]++
+			all = append(all, l)
 		}
 	}
-	for turn := 0; len(turns[turn]) > 0; turn++ {
-		all = append(all, turns[turn]...)
-	}
-	return all
+	return all, nil
 }
 
 // take takes some locks: a number of each one's shard at all voters, and the votes of its quorum.
 func (d *driver) take(chunk []*holding) error {
 	voters := uint64(1)<<len(d.cluster.Names()) - 1
-	if err := d.repeat(chunk, d.want, func(l *holding) bool { return l.claimed == voters }); err != nil {
+	if err := d.repeat(chunk, d.claim, func(l *holding) bool { return l.claimed == voters }); err != nil {
 		return err
 	}
 	return d.repeat(chunk, d.ask, func(l *holding) bool { return l.locked&l.quorum == l.quorum && l.isOnAllRolls() })
@@ -230,22 +235,22 @@ func (d *driver) send(voter int, message []byte) {
 // header returns the header of a session's message.
 func (d *driver) header(l *holding) wire.Header {
 	h := wire.Header{Cluster: d.cluster.ID, Coterie: d.mark, Kind: wire.FromClient, Name: l.session, Level: level.Newest, Seq: 1}
-	if l.number >= 0 {
-		h.Number, h.Epoch, h.Reserved = l.number, l.epoch, l.base+64
-	}
+	h.Number, h.Epoch, h.Reserved = l.number, epoch, stamps
 	return h
 }
 
-// want returns what wants a number for a lock.
-func (d *driver) want(l *holding, _ int) []byte {
-	return wire.Ask{Kind: wire.WantsNumber, Number: 64, Lock: l.lock}.Append(d.header(l).Append(nil))
+// claim returns what claims a number for a session.
+func (d *driver) claim(l *holding, _ int) []byte {
+	h := d.header(l)
+	h.Number, h.Epoch, h.Reserved = 0, 0, 0
+	return append(h.Append(nil), fmt.Sprintf(". claim %d %d %d\n", l.number, epoch, stamps)...)
 }
 
 // ask returns what asks a voter for its vote, if it is of the lock's quorum, and is a heartbeat that says the session's place.
 func (d *driver) ask(l *holding, voter int) []byte {
 	out := d.show(l, voter)
 	if l.quorum>>voter&1 == 1 {
-		out = append(out, fmt.Sprintf("%s request %d %d %d\n", l.lock, l.number, voter, l.base+1)...)
+		out = append(out, fmt.Sprintf("%s request %d %d %d\n", l.lock, l.number, voter, 1)...)
 	}
 	return out
 }
@@ -301,19 +306,9 @@ func (d *driver) hear(voter int, session string, lines []byte) {
 			l.enters(voter, told.Entry)
 		default:
 			if says, err := qlock.ReadVoterSays(line); err == nil && says.Kind == qlock.Claimed {
-				l.gets(voter, says)
+				l.claimed |= 1 << voter
 			}
 		}
-	}
-}
-
-// gets notes that a voter gave the session a number.
-func (l *holding) gets(voter int, says qlock.VoterSays) {
-	if l.number < 0 {
-		l.number, l.epoch, l.base = says.Number, says.First, says.Second
-	}
-	if l.number == says.Number && l.epoch == says.First {
-		l.claimed |= 1 << voter
 	}
 }
 

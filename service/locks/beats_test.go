@@ -71,6 +71,7 @@ func (c *table) hearsBeat(voter int, lines string) bool {
 // once, and the session hears what else is in the message.
 func TestBeatAcknowledgesHeartbeats(t *testing.T) {
 	c := onRoll(t)
+	hear(c.Client, c.ofVoter(1, 0, 1), fmt.Sprintf(". opened 3 5 0 4096 %d 0\n. rolled 5 71\n", c.header.Seq)) // a grant was let go before
 	for beat := 1; beat <= 3; beat++ {
 		if own := c.isDueNow(); own != nil {
 			t.Fatalf("voters %v get heartbeats", own)
@@ -169,8 +170,8 @@ func TestPlaces(t *testing.T) {
 	if place := p.take(); place != -1 {
 		t.Errorf("there is a place %d too many", place)
 	}
-	p.giveBack(-1)
 	p.giveBack(77)
+	p.giveBack(-1)
 	if first, second := p.take(), p.take(); first != 77 || second != -1 {
 		t.Error(first, second)
 	}

@@ -88,6 +88,10 @@
 // sends what it says to sessions of the process at one time to the mailbox of a session of that name, as a bundle. There the first line of
 // each message is "to SESSION". Who does not know these words ignores them, and neither sends bundles nor gets any.
 //
+// A session says "roll NAME PLACE" besides, and a voter "rolled PLACE ENTRY". From then on a message of the process, with its name and no
+// number in the header, may stand for heartbeats of such sessions: "beat PLACE MASK SUM" for those at sixty-four places, and the voter says
+// "beaten SEQ PLACE" to the process if it heard all of them (asks.go).
+//
 // A message has at most 256 KiB and a little more, one "hello", one "plan", and 16 lines of
 // control. It ends at its first line that can't be right.
 package wire
