@@ -321,9 +321,9 @@ func (d *Daemon) isReady(number uint64, mark string) (silent []int, err error) {
 	}
 	var lag []string
 	for _, s := range d.inTurn {
-		for client, row := range s.rows {
+		for client, seat := range s.seats {
 			switch {
-			case d.plans.Old == nil || !row.Open || s.asksBy[client] >= number:
+			case d.plans.Old == nil || seat == nil || !seat.row.Open || seat.asksBy >= number:
 			case s.isDead(client):
 				silent = append(silent, s.key(client))
 			default:

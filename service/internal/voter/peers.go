@@ -258,7 +258,7 @@ func (d *Daemon) knows(from int) Knows {
 			continue
 		}
 		s, number := d.shardOfKey(key)
-		known.Sessions[key] = s.rows[number]
+		known.Sessions[key] = s.row(number)
 	}
 	return known
 }
@@ -275,8 +275,8 @@ func (d *Daemon) keys(from int) (keys []int) {
 		}
 	}
 	for _, s := range d.inTurn {
-		for number, row := range s.rows {
-			if key := s.key(number); row.Epoch > 0 && key >= from {
+		for number := range s.seats {
+			if key := s.key(number); key >= from && s.row(number).Epoch > 0 {
 				keys = append(keys, key)
 			}
 		}
