@@ -263,10 +263,10 @@ func TestWhoIsAskedForANumber(t *testing.T) {
 				ofCold += n
 			}
 		}
-		d.shard(1).waiting.told, d.out = time.Time{}, map[string][]byte{}
+		d.shard(1).queue().told, d.out = time.Time{}, map[string][]byte{}
 		return ofHot, ofCold
 	}
-	d.shard(1).waiting.told, d.out = time.Time{}, map[string][]byte{}
+	d.shard(1).queue().told, d.out = time.Time{}, map[string][]byte{}
 	says("jobs", "waits-0", 0, 0, ". for "+hot+"\n. hello\n")
 	if ofHot, ofCold := asked(); ofHot != 2*56 || ofCold != 0 {
 		t.Errorf("four are free, and the hot lock has 56: %d and %d words", ofHot, ofCold)
@@ -276,7 +276,7 @@ func TestWhoIsAskedForANumber(t *testing.T) {
 		says("jobs", name, 0, 0, fmt.Sprintf(". for %s\n. hello\n. claim %d 1 64\n", cold, number))
 		says("jobs", name, number, 1, ". open 0\n")
 	}
-	d.shard(1).waiting.told, d.out = time.Time{}, map[string][]byte{}
+	d.shard(1).queue().told, d.out = time.Time{}, map[string][]byte{}
 	says("jobs", "late", 0, 0, ". for "+cold+"\n. hello\n")
 	if ofHot, ofCold := asked(); ofHot != 2*56 || ofCold != 2*4 {
 		t.Errorf("none is free: %d and %d words", ofHot, ofCold)

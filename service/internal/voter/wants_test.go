@@ -134,7 +134,7 @@ func TestWantAndTheOrder(t *testing.T) {
 	if reply := says("first", 0, 0, 2, wants); strings.Contains(reply, "claimed") || !strings.Contains(reply, ". number 9 1 1\n") {
 		t.Errorf("who is first: %.40q", reply)
 	}
-	s.waiting.short = time.Time{} // nobody waits any more
+	s.queue().short = time.Time{} // nobody waits any more
 	number, _ := broughtBy(says("first", 0, 0, 3, wants))
 	if number != 9 {
 		t.Errorf("once nobody waits: %d", number)
@@ -261,9 +261,9 @@ func TestWantOfASessionWithANumber(t *testing.T) {
 // Numbers that wants bring are claimed: the first ones see those that are free, and nobody else does, from then on.
 func TestWantIsAClaim(t *testing.T) {
 	d, says := wanting(t)
-	d.shard(0).waiting.unclaimed = time.Now().Add(-time.Hour)
-	if number, _ := broughtBy(says("me", 0, 0, 1, wants)); number < 0 || !d.shard(0).waiting.unclaimed.IsZero() {
-		t.Errorf("it has %d, and the time is %v", number, d.shard(0).waiting.unclaimed)
+	d.shard(0).queue().unclaimed = time.Now().Add(-time.Hour)
+	if number, _ := broughtBy(says("me", 0, 0, 1, wants)); number < 0 || !d.shard(0).queue().unclaimed.IsZero() {
+		t.Errorf("it has %d, and the time is %v", number, d.shard(0).queue().unclaimed)
 	}
 }
 
