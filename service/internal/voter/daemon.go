@@ -537,8 +537,8 @@ func (d *Daemon) open(l *letter, speaker qlock.Standing, oldest uint64, now time
 		return false
 	}
 	if speaker == qlock.SessionKnown {
+		l.shard.asks(l.Number, oldest, d.plans.Number)
 		seat := l.shard.seat(l.Number)
-		seat.asksBy = oldest
 		d.say(l.Name, qlock.VoterSays{Kind: qlock.Opened, Number: l.Number, First: l.Epoch, Second: seat.row.Base, Third: seat.row.Reserved,
 			Fourth: l.Seq, Fifth: uint64(seat.requests)})
 	}
@@ -576,7 +576,7 @@ func (d *Daemon) gives(l *letter, number int, epoch, stamps uint64, now time.Tim
 	}
 	row, seat := l.shard.row(number), l.shard.seat(number)
 	if before.Hash != row.Hash || before.Epoch != epoch {
-		seat.asksBy = 0
+		l.shard.asks(number, 0, d.plans.Number)
 		d.recount(l.shard, number)
 		seat.lock = l.shard.waiting.lockOf(l.Name)
 		l.shard.waiting.claimed()

@@ -189,7 +189,7 @@ func TestRetire(t *testing.T) {
 	if err := obey("retire", "1", mark); err == nil || err.Error() != fmt.Sprintf("%v: [4]", ErrLag) {
 		t.Error("client 4 may have a request of the old plan:", err)
 	}
-	d.shard(0).seat(4).asksBy = 1
+	d.shard(0).asks(4, 1, 1)
 	if err := obey("ready", "1", mark); err != nil || d.oldMark == "" || !d.shard(0).row(3).Open {
 		t.Error("a question changes something:", err)
 	}

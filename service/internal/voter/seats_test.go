@@ -1,9 +1,13 @@
 package voter
 
 import (
+	"errors"
 	"fmt"
+	"math/bits"
+	"math/rand"
 	"reflect"
 	"runtime"
+	"strings"
 	"testing"
 	"time"
 	"unsafe"
@@ -190,18 +194,93 @@ func TestCensus(t *testing.T) {
 	shows(0, 64)
 }
 
+// Which sessions may have requests of an older plan is known without a look at each: it is as if each were looked at, whatever they say, and
+// however numbers change hands.
+func TestWhoIsBehind(t *testing.T) {
+	random, now, seen := rand.New(rand.NewSource(1)), time.Unix(1000, 0), 0
+	for world := 0; world < 100; world++ {
+		table, newest := tableAt(now), uint64(random.Intn(2))
+		for step := 0; step < 200; step++ {
+			number := random.Intn(6)
+			epoch, name := table.row(number).Epoch+1, fmt.Sprint("jobs.", random.Intn(3))
+			switch random.Intn(8) {
+			case 0:
+				table.claim(number, name, epoch, 1, now)
+			case 1:
+				table.end(number, table.name(number), epoch-1)
+			case 2:
+				table.drop(number, table.name(number), epoch-1)
+			case 3:
+				table.expel(number, false)
+			case 4:
+				table.learn(number, Session{Epoch: epoch, Base: 10, Reserved: 20, Open: random.Intn(3) > 0, Used: true, Hash: hashed(name)}, now)
+			case 5:
+				if random.Intn(10) == 0 {
+					newest++
+				}
+			default:
+				table.asks(number, uint64(random.Intn(int(newest)+1)), newest)
+			}
+			want := uint64(0)
+			for number, seat := range table.seats {
+				if seat != nil && seat.row.Open && seat.asksBy < newest {
+					want |= 1 << number
+				}
+			}
+			if got := table.behindOf(newest); got != want {
+				t.Fatalf("%b are behind plan %d, and not %b", got, newest, want)
+			}
+			seen += bits.OnesCount64(want)
+		}
+	}
+	if seen < 1000 {
+		t.Errorf("%d sessions were behind: these runs show little", seen)
+	}
+}
+
+// Where very many sessions have requests of the old plan, some are named.
+func TestManyAreBehind(t *testing.T) {
+	d, _ := sharded(t, 16)
+	before := d.plans.Now
+	d.plans.Number, d.plans.Old = 1, &before
+	d.join.done = false // else others have to keep its ceiling
+	for shard := 1; shard < 16; shard++ {
+		for number := 0; number < 60; number++ {
+			d.shard(shard).set(number, Session{Epoch: 1, Base: 1, Reserved: 2, Open: true, Used: true, Hash: "jobs.x"})
+		}
+	}
+	d.leases.hearAll(time.Now())
+	_, err := d.isReady(1, d.plans.mark())
+	if named := strings.Count(fmt.Sprint(err), "/"); !errors.Is(err, ErrLag) || named < mostNamed || named > 2*mostNamed {
+		t.Errorf("%d are named: %v", named, err)
+	}
+	for shard := 0; shard < 16; shard++ {
+		for number := 0; number < 60; number++ {
+			d.shard(shard).asks(number, 1, 1)
+		}
+	}
+	if _, err := d.isReady(1, d.plans.mark()); err != nil {
+		t.Errorf("all know the new plan: %v", err)
+	}
+}
+
 // nowhere is where messages go that nobody wants.
 type nowhere struct{ post }
 
 func (*nowhere) Send(string, []byte) error { return nil }
 
+// measured returns a voter that serves, and saves nothing.
+func measured(now time.Time, shards int) *Daemon {
+	d := &Daemon{cluster: &config.Cluster{ID: "test", Shards: shards}, own: &config.Voter{MaxLocks: 10}, store: &store{}, ceiling: qlock.MaxStamp,
+		m: newMetrics(), votes: map[string]*vote{}, users: map[string]*usage{}, dirty: map[*vote]struct{}{}, silent: map[*vote]struct{}{},
+		out: map[string][]byte{}, leases: leasesAt(now), carrier: &nowhere{}, mark: "m", join: joining{done: true}, gone: map[string]struct{}{}}
+	d.store.meta.Cluster, d.store.meta.Identity, d.store.own.Start = "test", identity("a"), 1
+	return d
+}
+
 // A turn of the loop without a save: one session asks for one lock, and gives it back, in turn.
 func BenchmarkTurn(b *testing.B) {
-	now := time.Unix(1000, 0)
-	d := &Daemon{cluster: &config.Cluster{ID: "test"}, own: &config.Voter{MaxLocks: 10}, store: &store{}, ceiling: qlock.MaxStamp, m: newMetrics(),
-		votes: map[string]*vote{}, users: map[string]*usage{}, dirty: map[*vote]struct{}{}, silent: map[*vote]struct{}{}, out: map[string][]byte{},
-		leases: leasesAt(now), carrier: &nowhere{}, mark: "m", join: joining{done: true}, gone: map[string]struct{}{}}
-	d.store.meta.Cluster = "test"
+	d := measured(time.Unix(1000, 0), 1)
 	d.shard(0).set(1, of("jobs.session-1", 1, 0, qlock.MaxStamp))
 	for i := 0; i < b.N; i++ {
 		h := wire.Header{Cluster: "test", Coterie: "m", Kind: wire.FromClient, Number: 1, Epoch: 1, Name: "session-1"}
@@ -220,5 +299,38 @@ func BenchmarkTurn(b *testing.B) {
 		for v := range d.silent {
 			delete(d.silent, v)
 		}
+	}
+}
+
+// What a voter does from time to time, with 65,536 shards and 983,040 sessions.
+func BenchmarkManyShards(b *testing.B) {
+	now := time.Unix(1000, 0)
+	d := measured(now, 1<<16)
+	d.around.Now = func() time.Time { return now }
+	row := Session{Epoch: 3, Base: 10, Reserved: 20, Open: true, Used: true, Hash: hashed("jobs.x")}
+	for shard := 0; shard < d.cluster.Shards; shard++ {
+		for number := 0; number < 15; number++ {
+			d.shard(shard).put(number, row)
+		}
+		d.leases.saved()
+	}
+	d.plans.Now, d.plans.Old, d.join.done = Texts{}, &Texts{}, false
+	runtime.GC()
+	for _, one := range []struct {
+		name string
+		does func()
+	}{
+		{"marker", func() { d.isMarker(d.markerLine(d.leases.clock.Send(now.Sub(d.leases.began)))) }},
+		{"measure", func() { d.measure(now) }},
+		{"unused", func() { d.dropUnused(now) }},
+		{"knows", func() { d.knows(1 << 20) }},
+		{"ready", func() { _, _ = d.isReady(0, d.plans.mark()) }},
+	} {
+		b.Run(one.name, func(b *testing.B) {
+			for i := 0; i < b.N; i++ {
+				now = now.Add(200 * time.Millisecond)
+				one.does()
+			}
+		})
 	}
 }

@@ -78,6 +78,8 @@ type leases struct {
 type table struct {
 	*leases
 	number   int                     // of the shard
+	behind   uint64                  // the numbers of open sessions that may have a request of an older plan than this one, as bits
+	plan     uint64                  // which one
 	vacant   Floor                   // says the rows of the numbers that have no seat
 	seats    [qlock.MaxClients]*seat // of the numbers that were used, or learned of
 	proved   qlock.Table             // the rows of all numbers, as the proved calls read them
@@ -174,6 +176,32 @@ func (t *table) endedByWord(number int, byWord bool) {
 	}
 }
 
+// asks notes by which plan, the oldest one, the session of a number has a request, where this is the newest plan.
+func (t *table) asks(number int, oldest, newest uint64) {
+	t.behindOf(newest)
+	t.seat(number).asksBy = oldest
+	t.noteBehind(number)
+}
+
+// behindOf returns the numbers of open sessions that may have a request of an older plan than this one, as bits. They are kept, as all
+// shards are asked at once.
+func (t *table) behindOf(plan uint64) uint64 {
+	if t.plan != plan {
+		t.plan = plan
+		for number := range t.seats {
+			t.noteBehind(number)
+		}
+	}
+	return t.behind
+}
+
+// noteBehind notes whether a number is behind, once its row or what its session has may be another one.
+func (t *table) noteBehind(number int) {
+	if t.behind &^= 1 << number; t.seats[number] != nil && t.seats[number].row.Open && t.seats[number].asksBy < t.plan {
+		t.behind |= 1 << number
+	}
+}
+
 // key returns the key of a row among those of all shards.
 func (t *table) key(number int) int { return t.number*qlock.MaxClients + number }
 
@@ -255,6 +283,7 @@ func (t *table) set(number int, row Session) {
 	}
 	seat.row, seat.session = row, row.session()
 	t.prove(number, row, seat.session)
+	t.noteBehind(number)
 }
 
 // prove sets a proved row, whose session has this name there.
