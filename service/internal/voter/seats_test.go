@@ -278,27 +278,33 @@ func measured(now time.Time, shards int) *Daemon {
 	return d
 }
 
-// A turn of the loop without a save: one session asks for one lock, and gives it back, in turn.
+// A turn of the loop without a save: a session asks for one lock, and gives it back, one session after the other.
 func BenchmarkTurn(b *testing.B) {
-	d := measured(time.Unix(1000, 0), 1)
-	d.shard(0).set(1, of("jobs.session-1", 1, 0, qlock.MaxStamp))
-	for i := 0; i < b.N; i++ {
-		h := wire.Header{Cluster: "test", Coterie: "m", Kind: wire.FromClient, Number: 1, Epoch: 1, Name: "session-1"}
-		word := "request"
-		if i%2 == 1 {
-			word = "release"
-		}
-		message := fmt.Appendf(h.Append(nil), "an-ordinary-lock %s 1 0 %d\n", word, i/2+1)
-		if d.Take(Clients, transport.Message{Mailbox: wire.VoterBox("test", 0, "jobs"), Data: message}); len(d.out) != (i+1)%2 {
-			b.Fatalf("%d: %q", i, d.out)
-		}
-		d.deliver()
-		for v := range d.dirty {
-			delete(d.dirty, v)
-		}
-		for v := range d.silent {
-			delete(d.silent, v)
-		}
+	for _, sessions := range []int{1, 60} {
+		b.Run(fmt.Sprint(sessions), func(b *testing.B) {
+			d := measured(time.Unix(1000, 0), 1)
+			for number := 0; number < sessions; number++ {
+				d.shard(0).set(number, of(fmt.Sprint("jobs.session-", number), 1, 0, qlock.MaxStamp))
+			}
+			for i := 0; i < b.N; i++ {
+				number, word := i/2%sessions, "request"
+				if i%2 == 1 {
+					word = "release"
+				}
+				h := wire.Header{Cluster: "test", Coterie: "m", Kind: wire.FromClient, Number: number, Epoch: 1, Name: fmt.Sprint("session-", number)}
+				message := fmt.Appendf(h.Append(nil), "an-ordinary-lock %s %d 0 %d\n", word, number, i/2+1)
+				if d.Take(Clients, transport.Message{Mailbox: wire.VoterBox("test", 0, "jobs"), Data: message}); len(d.out) != (i+1)%2 {
+					b.Fatalf("%d: %q", i, d.out)
+				}
+				d.deliver()
+				for v := range d.dirty {
+					delete(d.dirty, v)
+				}
+				for v := range d.silent {
+					delete(d.silent, v)
+				}
+			}
+		})
 	}
 }
 
