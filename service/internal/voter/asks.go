@@ -26,8 +26,8 @@ type sessionNote struct {
 
 // noteOf returns what the session says of itself that a number has now.
 func (s *shard) noteOf(number int) string {
-	n := s.notes[number]
-	if n.session == "" || n.session != s.names[number] || n.epoch != s.rows[number].Epoch {
+	n := s.rare(number).note
+	if n.session == "" || n.session != s.name(number) || n.epoch != s.row(number).Epoch {
 		return ""
 	}
 	return n.text
@@ -76,10 +76,12 @@ func (d *Daemon) ask(l *letter, speaker qlock.Standing, line []byte, now time.Ti
 		if before := l.shard.noteOf(l.Number); before != ask.Text {
 			d.watches.looked = time.Time{} // that is the note of all its locks
 		}
-		l.shard.notes[l.Number] = sessionNote{l.Name, l.Epoch, ask.Text}
+		seat := l.shard.seat(l.Number)
+		seat.needs().note = sessionNote{seat.name, l.Epoch, ask.Text}
 		d.put(l.Name, wire.Told{Kind: wire.Noted}.Append(d.out[l.Name]))
 	case ask.Kind == wire.SaysProcess:
-		l.shard.processes[l.Number] = ofProcess{l.Name, ask.Text}
+		seat := l.shard.seat(l.Number)
+		seat.process = ofProcess{seat.name, ask.Text}
 		d.put(l.Name, wire.Told{Kind: wire.Bundles}.Append(d.out[l.Name]))
 	case ask.Kind == wire.SaysRoll:
 		d.enroll(l, ask)
@@ -159,8 +161,8 @@ func (d *Daemon) tellSessions(l *letter, ahead int, now time.Time) {
 	if l.shard.waiting.isShort(now, d.leases.ttl) {
 		told.Highest = l.shard.highest()
 	}
-	for number, row := range l.shard.rows {
-		if !row.Open {
+	for number, seat := range l.shard.seats {
+		if seat == nil || !seat.row.Open {
 			continue
 		}
 		told.Open++

@@ -76,12 +76,12 @@ func TestWhoseNoteItIs(t *testing.T) {
 	if d.shard(0).noteOf(1) != "one" || reply != "" || testutil.ToFloat64(d.m.refused) != refused+1 {
 		t.Errorf("%q: %q", reply, d.shard(0).noteOf(1))
 	}
-	d.shard(0).end(1, d.shard(0).names[1], 1)
+	d.shard(0).end(1, d.shard(0).name(1), 1)
 	h := wire.Header{Cluster: "test", Coterie: d.mark, Kind: wire.FromClient, Number: 1, Epoch: 2, Reserved: 2000, Name: "later"}
 	d.sort(transport.Message{Mailbox: wire.VoterBox("test", 0, "jobs"), Data: append(h.Append(nil), ". claim 1 2 100\n. open 0\n"...)})
 	d.takeAll()
-	if d.shard(0).rows[1].Epoch != 2 || d.shard(0).noteOf(1) != "" {
-		t.Errorf("%+v has the note %q", d.shard(0).rows[1], d.shard(0).noteOf(1))
+	if d.shard(0).row(1).Epoch != 2 || d.shard(0).noteOf(1) != "" {
+		t.Errorf("%+v has the note %q", d.shard(0).row(1), d.shard(0).noteOf(1))
 	}
 	if reply := d.lookerHears(". who 1 orders\n"); strings.Contains(reply, "one") {
 		t.Errorf("%q", reply)
@@ -138,7 +138,7 @@ func TestWhoTriesHearsWho(t *testing.T) {
 // Pages have all locks that somebody has, though votes come and go between them, and each costs so much at most.
 func TestPages(t *testing.T) {
 	d := sessions(t, 1)
-	d.shard(0).rows[1].Reserved = 0
+	d.shard(0).seat(1).row.Reserved = 0
 	many := 3*mostScanned + 17
 	for i := 0; i < many; i++ {
 		name := fmt.Sprintf("a-%d", i)
@@ -210,7 +210,7 @@ func TestCrowd(t *testing.T) {
 	one := d.votes["orders"].asks[2]
 	one.since = time.Now().Add(-time.Minute)
 	d.votes["orders"].asks[2] = one
-	d.shard(0).heard[1] -= time.Hour
+	d.shard(0).seat(1).heard -= time.Hour
 	d.measure(time.Now())
 	if told := hears(); told.Open != 3 || told.Silent < 3500_000 || told.Waits < 60_000 || told.Waits > 70_000 {
 		t.Errorf("%+v", told)
@@ -232,7 +232,7 @@ func TestWhoTriesGetsTheVoteOfTheDead(t *testing.T) {
 	if reply := d.repliesTo("jobs", 2, "orders request 2 0 10 try\n"); !strings.Contains(reply, "orders locked ") {
 		t.Errorf("the holder is gone: %q", reply)
 	}
-	if lapses := d.shard(0).rows[1].Lapses; lapses != 1 {
+	if lapses := d.shard(0).row(1).Lapses; lapses != 1 {
 		t.Errorf("%d lapses are told to it", lapses)
 	}
 }

@@ -26,14 +26,15 @@ type roll struct {
 
 // entry is what a voter had of a session when that said its place.
 type entry struct {
-	roll    *roll
-	place   int
-	number  uint64
-	shard   *shard
-	client  int // the session's number
-	session string
-	row     Session
-	oldest  uint64 // the oldest plan of which it has a request
+	roll   *roll
+	place  int
+	number uint64
+	shard  *shard
+	client int    // the session's number
+	hash   string // of its name
+	epoch  uint64
+	lapses uint64
+	oldest uint64 // the oldest plan of which it has a request
 }
 
 // entriesBefore returns a number that no entry of an earlier start of a state has, nor of an earlier run.
@@ -49,7 +50,8 @@ func (r *roll) at(place int) *entry {
 
 // enroll makes the entry of a session that says its place.
 func (d *Daemon) enroll(l *letter, ask wire.Ask) {
-	d.strike(l.shard.entries[l.Number])
+	seat := l.shard.seat(l.Number)
+	d.strike(seat.entry)
 	name := wire.SessionName(userOf(l.Name), ask.Text)
 	r := d.rolls[name]
 	if r != nil {
@@ -65,9 +67,9 @@ func (d *Daemon) enroll(l *letter, ask wire.Ask) {
 		r.shares[ask.Place/wire.RollShare] = share
 	}
 	d.entries++
-	e := &entry{roll: r, place: ask.Place, number: d.entries, shard: l.shard, client: l.Number, session: l.shard.names[l.Number],
-		row: l.shard.rows[l.Number], oldest: l.shard.asksBy[l.Number]}
-	share[ask.Place%wire.RollShare], l.shard.entries[l.Number] = e, e
+	e := &entry{roll: r, place: ask.Place, number: d.entries, shard: l.shard, client: l.Number, hash: seat.row.Hash, epoch: seat.row.Epoch,
+		lapses: seat.row.Lapses, oldest: seat.asksBy}
+	share[ask.Place%wire.RollShare], seat.entry = e, e
 	r.count++
 	d.put(l.Name, wire.Told{Kind: wire.Rolled, Place: ask.Place, Entry: e.number}.Append(d.out[l.Name]))
 }
@@ -78,7 +80,7 @@ func (d *Daemon) strike(e *entry) {
 		return
 	}
 	share := e.roll.shares[e.place/wire.RollShare]
-	share[e.place%wire.RollShare], e.shard.entries[e.client] = nil, nil
+	share[e.place%wire.RollShare], e.shard.seat(e.client).entry = nil, nil
 	if *share == ([wire.RollShare]*entry{}) {
 		delete(e.roll.shares, e.place/wire.RollShare)
 	}
@@ -127,7 +129,7 @@ func (d *Daemon) hearShare(r *roll, beat wire.Ask, now time.Time) bool {
 		sum += e.number
 		e.shard.hear(e.client, now)
 		e.shard.used = now
-		d.tellWanted(e.shard, e.client, e.session, now)
+		d.tellWanted(e.shard, e.client, e.shard.name(e.client), now)
 	}
 	return isAll && sum == beat.Sum
 }
@@ -135,7 +137,6 @@ func (d *Daemon) hearShare(r *roll, beat wire.Ask, now time.Time) bool {
 // isAsMade returns whether a session is as it was when its entry was made: it has its number, and nothing of it was let go since. Only its
 // stamps may have grown.
 func (e *entry) isAsMade() bool {
-	row := e.shard.rows[e.client]
-	row.Base, row.Reserved = e.row.Base, e.row.Reserved
-	return row == e.row && e.shard.asksBy[e.client] == e.oldest
+	seat := e.shard.seat(e.client)
+	return seat.row.Open && seat.row.Hash == e.hash && seat.row.Epoch == e.epoch && seat.row.Lapses == e.lapses && seat.asksBy == e.oldest
 }

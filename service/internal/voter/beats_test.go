@@ -45,13 +45,13 @@ func beatOf(entries map[int]uint64) string {
 // heardAgo lets all sessions of the first shard have been heard last so long ago.
 func (d *Daemon) heardAgo(numbers int, ago time.Duration) {
 	for number := 0; number < numbers; number++ {
-		d.shard(0).heard[number] = d.leases.at(d.now()) - ago
+		d.shard(0).seat(number).heard = d.leases.at(d.now()) - ago
 	}
 }
 
 // wasHeard returns whether a number's session was heard since heardAgo.
 func (d *Daemon) wasHeard(number int) bool {
-	return d.leases.at(d.now())-d.shard(0).heard[number] < time.Second
+	return d.leases.at(d.now())-d.shard(0).heardAt(number) < time.Second
 }
 
 // A beat is a heartbeat of those for whom it is, and of nobody else. It is acknowledged if each of them heard of its entry, and is as it was

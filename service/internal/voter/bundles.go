@@ -13,9 +13,9 @@ type ofProcess struct{ session, name string }
 // processOf returns the name of a session's process, "" if it has no number here, or did not say it.
 func (d *Daemon) processOf(session string) string {
 	s := d.shardOfSession(session)
-	for number := 0; s != nil && number < len(s.processes); number++ {
-		if p := &s.processes[number]; p.session == session && s.names[number] == session {
-			return p.name
+	for number := 0; s != nil && number < len(s.seats); number++ {
+		if seat := s.seats[number]; seat != nil && seat.process.session == session && seat.name == session {
+			return seat.process.name
 		}
 	}
 	return ""

@@ -33,8 +33,11 @@ func (s *stage) after(t *testing.T, messages [][]byte) (o outcome) {
 	for d.messages = box; len(box) > 0 || d.inbox.count > 0; {
 		d.wait(context.Background(), time.Now())
 	}
-	copy(o.Rows[:], d.shard(0).rows[:])
-	copy(o.Processes[:], d.shard(0).processes[:])
+	rows := d.shard(0).all()
+	copy(o.Rows[:], rows[:])
+	for number := range o.Processes {
+		o.Processes[number] = d.shard(0).seat(number).process
+	}
 	o.Held, o.Foreign, o.Refused = map[string]string{}, testutil.ToFloat64(d.m.foreign), testutil.ToFloat64(d.m.refused)
 	for name, v := range d.votes {
 		o.Held[name] = fmt.Sprint(v.held, len(v.asks))

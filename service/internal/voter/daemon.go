@@ -44,6 +44,7 @@ type Daemon struct {
 	leases     leases
 	shards     map[int]*shard // that were used in this run, or have a row
 	inTurn     []*shard       // the same ones
+	census     census         // of all of them, as they were counted last
 	nextShard  int            // whose sessions are counted next
 	nextUnused int            // which was looked at last, whether nobody uses it
 	floors     map[int]Floor  // of shards that were dropped
@@ -274,7 +275,7 @@ func (d *Daemon) line(l *letter, speaker qlock.Standing, lock, line []byte, now 
 	}
 	v.heard = now
 	if isRequest {
-		l.shard.locks[l.Number] = v.name
+		l.shard.seat(l.Number).lock = v.name
 	}
 	d.tellHolder(v, l, said.From, word, now)
 	d.note(v, said.From, shown, lines, now)
@@ -422,8 +423,8 @@ func (d *Daemon) send(v *vote, lines []byte) {
 	}
 	for len(lines) > 0 {
 		end := bytes.IndexByte(lines, '\n') + 1
-		if to := wire.ReadLine(lines[:end]).To; to >= 0 && to < qlock.MaxClients && v.shard.names[to] != "" {
-			name := v.shard.names[to]
+		if to := wire.ReadLine(lines[:end]).To; to >= 0 && to < qlock.MaxClients && v.shard.name(to) != "" {
+			name := v.shard.name(to)
 			out := append(append(d.out[name], v.name...), ' ')
 			d.out[name] = append(out, lines[:end]...)
 			d.outBytes += len(v.name) + 1 + end
@@ -517,13 +518,13 @@ func (d *Daemon) hello(l *letter, now time.Time) bool {
 	if own >= 0 {
 		states[own] = 1 // it may have that
 	}
-	ahead := l.shard.waiting.ask(l.Name, l.lock, states, l.shard.shares(states, l.Name), now, d.leases.ttl)
+	ahead := l.shard.queue().ask(l.Name, l.lock, states, l.shard.shares(states, l.Name), now, d.leases.ttl)
 	if own < 0 {
 		own = d.bring(l, states, now)
 	}
-	for number, row := range l.shard.rows {
+	for number := range l.shard.seats {
 		if number != own {
-			d.say(l.Name, qlock.VoterSays{Kind: qlock.NumberIs, Number: number, First: row.Epoch, Second: uint64(states[number])})
+			d.say(l.Name, qlock.VoterSays{Kind: qlock.NumberIs, Number: number, First: l.shard.row(number).Epoch, Second: uint64(states[number])})
 		}
 	}
 	d.tellIdle(l.shard, now)
@@ -538,10 +539,10 @@ func (d *Daemon) open(l *letter, speaker qlock.Standing, oldest uint64, now time
 		return false
 	}
 	if speaker == qlock.SessionKnown {
-		row := l.shard.rows[l.Number]
-		l.shard.asksBy[l.Number] = oldest
-		d.say(l.Name, qlock.VoterSays{Kind: qlock.Opened, Number: l.Number, First: l.Epoch, Second: row.Base, Third: row.Reserved,
-			Fourth: l.Seq, Fifth: uint64(l.shard.requests[l.Number])})
+		l.shard.asks(l.Number, oldest, d.plans.Number)
+		seat := l.shard.seat(l.Number)
+		d.say(l.Name, qlock.VoterSays{Kind: qlock.Opened, Number: l.Number, First: l.Epoch, Second: seat.row.Base, Third: seat.row.Reserved,
+			Fourth: l.Seq, Fifth: uint64(seat.requests)})
 	}
 	if speaker == qlock.SessionKnown {
 		d.tellWanted(l.shard, l.Number, l.Name, now)
@@ -571,16 +572,16 @@ func (d *Daemon) claim(l *letter, said qlock.ClientSays, now time.Time) {
 // gives gives a number to a session by a claim, with so many stamps, or again, and tells it so. It returns false if the session does not
 // get it.
 func (d *Daemon) gives(l *letter, number int, epoch, stamps uint64, now time.Time) bool {
-	before := l.shard.rows[number]
+	before := l.shard.row(number)
 	if !l.shard.claim(number, l.Name, epoch, stamps, now) {
 		return false
 	}
-	row := l.shard.rows[number]
+	row, seat := l.shard.row(number), l.shard.seat(number)
 	if before.Hash != row.Hash || before.Epoch != epoch {
-		l.shard.asksBy[number] = 0
+		l.shard.asks(number, 0, d.plans.Number)
 		d.recount(l.shard, number)
-		l.shard.locks[number] = l.shard.waiting.lockOf(l.Name)
-		l.shard.waiting.unclaimed = time.Time{}
+		seat.lock = l.shard.waiting.lockOf(l.Name)
+		l.shard.waiting.claimed()
 		d.log.Write(event.Debug, "session-claimed", "client", number, "epoch", epoch)
 	}
 	d.say(l.Name, qlock.VoterSays{Kind: qlock.Claimed, Number: number, First: epoch, Second: row.Base, Third: row.Reserved})
@@ -647,7 +648,7 @@ func (d *Daemon) expire(v *vote, now time.Time) bool {
 	if !d.letGo(v, now) {
 		return false
 	}
-	if row := v.shard.rows[held.Client]; row.Open && held.Stamp > row.Base {
+	if row := v.shard.row(int(held.Client)); row.Open && held.Stamp > row.Base {
 		v.shard.lapse(int(held.Client))
 	}
 	d.m.expired.Inc()
@@ -658,7 +659,7 @@ func (d *Daemon) expire(v *vote, now time.Time) bool {
 // seal lets what waits for a number's session leave with the count of its lapses until now, before that grows: a line says how often
 // grants of the session were let go when it was said.
 func (d *Daemon) seal(s *shard, number int) {
-	if name := s.names[number]; name != "" && len(d.out[name]) > 0 {
+	if name := s.name(number); name != "" && len(d.out[name]) > 0 {
 		d.sealed = append(d.sealed, sealed{name, d.out[name], s.lapses(name)})
 		delete(d.out, name)
 	}
@@ -687,7 +688,7 @@ func (d *Daemon) endQuiet(now time.Time) {
 			return v.EndQuiet(&v.shard.proved, v.since, uint8(held.Client), out)
 		})
 		if isLeft = isLeft || err != nil; isOver {
-			if row := v.shard.rows[held.Client]; row.Open && held.Stamp > row.Base {
+			if row := v.shard.row(int(held.Client)); row.Open && held.Stamp > row.Base {
 				v.shard.lapse(int(held.Client)) // what tells its client so may be lost
 			}
 			d.log.Write(event.Warning, "not-renewed", "lock", v.name, "client", held.Client, "stamp", held.Stamp, "grant", held.Number)
@@ -728,7 +729,7 @@ func (d *Daemon) letGoBy(v *vote, now time.Time, call func(out []byte) ([]byte, 
 func (d *Daemon) isGone(v *vote, held qlock.Grant, now time.Time) {
 	v.letGo = now
 	d.mustSave(v)
-	if row := v.shard.rows[held.Client]; row.Open && held.Stamp > row.Base {
-		d.sayOf(v.shard.names[held.Client], qlock.LockSays{Kind: qlock.LockGone, Lock: []byte(v.name), Stamp: held.Stamp})
+	if row := v.shard.row(int(held.Client)); row.Open && held.Stamp > row.Base {
+		d.sayOf(v.shard.name(int(held.Client)), qlock.LockSays{Kind: qlock.LockGone, Lock: []byte(v.name), Stamp: held.Stamp})
 	}
 }

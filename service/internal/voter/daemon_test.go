@@ -76,7 +76,7 @@ func (p *post) Listen(string) (<-chan transport.Message, error) { return nil, ni
 
 // says lets the session that has a number say a line about a lock.
 func says(d *Daemon, v *vote, client int, line string, now time.Time) {
-	from := qlock.Speaker{Session: d.shard(0).hashes[client], Epoch: d.shard(0).rows[client].Epoch}
+	from := qlock.Speaker{Session: d.shard(0).seat(client).session, Epoch: d.shard(0).row(client).Epoch}
 	shown, lines, err := d.call(v, func(out []byte) ([]byte, qlock.LockShown, error) {
 		return v.TakeFrom(&d.shard(0).proved, d.sinceOf(v), d.isQuiet(), from, []byte(line), out)
 	})
@@ -145,7 +145,7 @@ func TestEachLineLeaves(t *testing.T) {
 	} {
 		name := fmt.Sprint("jobs.session-", one.client)
 		d.shard(0).set(one.client, of(name, 1, 100, 200))
-		d.shard(0).names[one.client] = name
+		d.shard(0).seat(one.client).name = name
 		says(d, v, one.client, fmt.Sprintf("request %d 0 %d", one.client, one.stamp), now)
 		if got := string(d.out[one.hears]); got != one.line {
 			t.Errorf("%s hears %q, not %q", one.hears, got, one.line)
@@ -195,11 +195,11 @@ func TestBusyVotesOfAShard(t *testing.T) {
 		{1, "stock release 1 0 2\n", 0, [2]int{0, 0}},
 	} {
 		d.repliesTo("jobs", one.number, one.lines)
-		s.requests = [qlock.MaxClients]int{}
 		for number := 1; number <= 2; number++ {
+			s.seat(number).requests = 77
 			d.recount(s, number)
 		}
-		if requests := [2]int{s.requests[1], s.requests[2]}; len(s.busy) != one.busy || requests != one.requests {
+		if requests := [2]int{s.seat(1).requests, s.seat(2).requests}; len(s.busy) != one.busy || requests != one.requests {
 			t.Errorf("%d: %d votes, and %v requests", i, len(s.busy), requests)
 		}
 	}

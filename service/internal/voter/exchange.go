@@ -306,9 +306,12 @@ func (d *Daemon) takePlan(number uint64, coterie, plan string, takes bool) error
 	return err
 }
 
+// mostNamed is how many sessions an error names before no other shard is looked at.
+const mostNamed = qlock.MaxClients
+
 // isReady returns an error unless the old plan may be retired: this voter has the plan with this
 // number and mark, and no session that was heard within the TTL may have a request of the old one.
-// It returns the sessions that are silent: each may have one.
+// It returns the sessions that are silent: each may have one. Of many that have one it names some.
 func (d *Daemon) isReady(number uint64, mark string) (silent []int, err error) {
 	if number != d.plans.Number {
 		return nil, ErrNumber
@@ -320,10 +323,11 @@ func (d *Daemon) isReady(number uint64, mark string) (silent []int, err error) {
 		return nil, ErrKeepers
 	}
 	var lag []string
-	for _, s := range d.inTurn {
-		for client, row := range s.rows {
+	for i := 0; d.plans.Old != nil && i < len(d.inTurn) && len(lag) < mostNamed; i++ {
+		s := d.inTurn[i]
+		for client, behind := 0, s.behindOf(number); behind != 0; client, behind = client+1, behind>>1 {
 			switch {
-			case d.plans.Old == nil || !row.Open || s.asksBy[client] >= number:
+			case behind&1 == 0:
 			case s.isDead(client):
 				silent = append(silent, s.key(client))
 			default:

@@ -143,8 +143,8 @@ func TestLearn(t *testing.T) {
 		{"one that is newer still", of("d", 7, 400, 410), of("d", 7, 400, 410)},
 	} {
 		table.learn(3, one.row, now)
-		if table.rows[3] != one.want {
-			t.Errorf("%s: %v", one.what, table.rows[3])
+		if table.row(3) != one.want {
+			t.Errorf("%s: %v", one.what, table.row(3))
 		}
 	}
 }
@@ -189,12 +189,12 @@ func TestRetire(t *testing.T) {
 	if err := obey("retire", "1", mark); err == nil || err.Error() != fmt.Sprintf("%v: [4]", ErrLag) {
 		t.Error("client 4 may have a request of the old plan:", err)
 	}
-	d.shard(0).asksBy[4] = 1
-	if err := obey("ready", "1", mark); err != nil || d.oldMark == "" || !d.shard(0).rows[3].Open {
+	d.shard(0).asks(4, 1, 1)
+	if err := obey("ready", "1", mark); err != nil || d.oldMark == "" || !d.shard(0).row(3).Open {
 		t.Error("a question changes something:", err)
 	}
-	if err := obey("retire", "1", mark); err != nil || d.oldMark != "" || d.shard(0).rows[3].Open ||
-		!d.shard(0).rows[4].Open {
+	if err := obey("retire", "1", mark); err != nil || d.oldMark != "" || d.shard(0).row(3).Open ||
+		!d.shard(0).row(4).Open {
 		t.Error("client 3 is silent:", err)
 	}
 	if d.shard(0).admit(3, "a", 1, now) != qlock.SessionOver {
@@ -216,8 +216,8 @@ func TestRetire(t *testing.T) {
 		t.Error("settled by the mark of another plan:", err)
 	}
 	if err := obey("settle", "1", mark, string(rows)); err != nil || !d.plans.Settled ||
-		d.shard(0).rows[7].Reserved != 50 || d.peers[2].Ceiling != 900 || d.floor != 900 {
-		t.Errorf("%v, %+v, %+v, %d", err, d.shard(0).rows[7], d.peers[2], d.floor)
+		d.shard(0).row(7).Reserved != 50 || d.peers[2].Ceiling != 900 || d.floor != 900 {
+		t.Errorf("%v, %+v, %+v, %d", err, d.shard(0).row(7), d.peers[2], d.floor)
 	}
 	for _, words := range [][]string{{"retire", "2", mark}, {"retire", "1"}, {"settle", "0", mark, "{}"}, {"exchange",
 		"x"}, {"exchange", "2", "!", "!"}, {"other", "1"}} {

@@ -85,13 +85,15 @@ func (f Floor) isAbove(other Floor) bool {
 // floor returns the floor of a shard that is dropped, and false if a row can't be dropped to it.
 func (t *table) floor() (floor Floor, ok bool) {
 	floor.Epochs = make([]uint64, qlock.MaxClients)
-	for number, row := range t.rows {
+	for number := range t.seats {
+		row := t.row(number)
 		if floor.Epochs[number] = row.Epoch; row.Dropped && row.Epoch < math.MaxUint64 {
 			floor.Epochs[number]++ // no session may claim the epoch again that another one took back
 		}
 		floor.Stamp = greatest(floor.Stamp, row.Reserved)
 	}
-	for number, row := range t.rows {
+	for number := range t.seats {
+		row := t.row(number)
 		dropped, err := row.after(func(r *qlock.Row) error { return r.Drop(floor.Epochs[number], floor.Stamp) })
 		begun := floor.row(number)
 		begun.Hash, begun.Used, begun.Lapses = dropped.Hash, dropped.Used, dropped.Lapses // are not the row's
@@ -104,12 +106,12 @@ func (t *table) floor() (floor Floor, ok bool) {
 
 // isUnused returns whether no session has a number of the table, or may have one: all ended, or were silent for a day.
 func (t *table) isUnused() bool {
-	for number, row := range t.rows {
-		if (row.Open || row.Dropped) && t.silent(number) < longestSilent {
+	for number, seat := range t.seats {
+		if seat != nil && (seat.row.Open || seat.row.Dropped) && t.silent(number) < longestSilent {
 			return false
 		}
 	}
-	for number := range t.rows {
+	for number := range t.seats {
 		if !t.isDead(number) {
 			return false
 		}
@@ -131,13 +133,16 @@ func (d *Daemon) dropUnused(now time.Time) {
 	if !ok {
 		return
 	}
-	for number := range s.rows {
-		d.strike(s.entries[number])
+	for number, seat := range s.seats {
+		if seat != nil {
+			d.strike(seat.entry)
+		}
 		d.leases.drop(s.key(number))
 	}
 	d.setFloor(s.table.number, floor)
 	delete(d.shards, s.table.number)
 	d.inTurn = append(d.inTurn[:d.nextUnused], d.inTurn[d.nextUnused+1:]...)
+	d.census.add(s, -1)
 	d.m.dropped.Inc()
 	d.log.Write(event.Debug, "shard-dropped", "shard", s.table.number, "stamp", floor.Stamp)
 }
@@ -157,7 +162,7 @@ func (d *Daemon) learnFloor(shard int, floor Floor, now time.Time) {
 		}
 		return
 	}
-	for number := range s.rows {
+	for number := range s.seats {
 		if row := floor.row(number); (row.Epoch > 0 || d.isLost()) && d.learnRow(s, number, row, now) {
 			d.recount(s, number)
 		}

@@ -64,7 +64,7 @@ func TestUnusedShardIsDropped(t *testing.T) {
 	says(1, 6, 0, ". drop 6 1\n")
 	says(2, 7, 1, ". claim 7 1 10\n")
 	says(2, 7, 1, ". open 0\n")
-	before := d.shard(1).rows
+	before := d.shard(1).all()
 	if err := d.save(time.Now()); err != nil {
 		t.Fatal(err)
 	}
@@ -106,7 +106,7 @@ func TestUnusedShardIsDropped(t *testing.T) {
 		if isClaimed := strings.Contains(reply, ". claimed "); isClaimed != one.may {
 			t.Errorf("%+v: %q", one, reply)
 		}
-		if row := d.shard(1).rows[one.number]; one.may && row.Base < before[5].Reserved {
+		if row := d.shard(1).row(one.number); one.may && row.Base < before[5].Reserved {
 			t.Errorf("%+v begins above %d, and %d was reserved", one, row.Base, before[5].Reserved)
 		}
 	}
@@ -152,7 +152,7 @@ func TestSilentSessionEndsWithItsShard(t *testing.T) {
 	d, says := floored(t)
 	says(1, 5, 4, ". claim 5 4 1000\n")
 	says(1, 5, 4, ". open 0\n")
-	reserved := d.shard(1).rows[5].Reserved
+	reserved := d.shard(1).row(5).Reserved
 	d.goesBy(time.Now().Add(longestSilent + time.Minute))
 	if floor := d.floors[1]; d.shards[1] != nil || floor.Stamp != reserved || floor.row(5).Epoch != 4 {
 		t.Fatalf("the shard is there: %v, %+v", d.shards[1] != nil, floor)
@@ -174,13 +174,13 @@ func TestShardComesBackBeforeTheSave(t *testing.T) {
 	if says(1, 5, 2, ". claim 5 2 10\n"); d.shards[1] == nil {
 		t.Fatal("it does not come back")
 	}
-	want := d.shard(1).rows
+	want := d.shard(1).all()
 	if err := d.save(time.Now()); err != nil {
 		t.Fatal(err)
 	}
 	d = reopened(t, d)
 	d.cluster.Shards = 4
-	if got := d.shard(1).rows; got != want {
+	if got := d.shard(1).all(); got != want {
 		t.Errorf("number 5 has %+v, and had %+v", got[5], want[5])
 	}
 }
@@ -199,17 +199,17 @@ func TestFloorsAreTold(t *testing.T) {
 			}
 			return table
 		}
-		there, here, plain := rows(), rows(), &table{}
-		*plain = *here
-		for number := range there.rows {
-			there.rows[number].Open = false
-			there.set(number, there.rows[number])
+		there, here := rows(), rows()
+		plain := here.copied()
+		for number, row := range there.all() {
+			row.Open = false
+			there.set(number, row)
 		}
 		floor, ok := there.floor()
 		if !ok {
 			t.Fatal("a table of free rows has no floor")
 		}
-		for number, row := range there.rows {
+		for number, row := range there.all() {
 			if row.Epoch > 0 {
 				row.Hash, row.Base, row.Reserved = "", floor.Stamp, floor.Stamp
 				plain.learn(number, row, now)
@@ -227,8 +227,8 @@ func TestFloorsAreTold(t *testing.T) {
 		if _, err := d.learn(string(text), now); err != nil {
 			t.Fatal(err)
 		}
-		for number, row := range s.rows {
-			if want := plain.rows[number]; row != want {
+		for number, row := range s.all() {
+			if want := plain.row(number); row != want {
 				t.Fatalf("number %d has %+v, and has %+v if rows are told", number, row, want)
 			}
 		}
@@ -418,8 +418,8 @@ func TestFloorsAreSavedFirst(t *testing.T) {
 	if d.goesBy(later); d.shards[1] != nil {
 		t.Fatal("the shard is there")
 	}
-	if d = replies(d, later); d.shard(1).rows[5].Open || d.shard(1).rows[5].Epoch < 2 {
-		t.Errorf("a session that was ended: %+v", d.shard(1).rows[5])
+	if d = replies(d, later); d.shard(1).row(5).Open || d.shard(1).row(5).Epoch < 2 {
+		t.Errorf("a session that was ended: %+v", d.shard(1).row(5))
 	}
 	text := `{"sessions":{},"level":2,"floors":{"2":{"stamp":5,"epochs":[3]}}}`
 	if err := d.inform(d.plans.Number, d.plans.mark(), text, later); err != nil {
@@ -450,7 +450,7 @@ func TestRowsOfNoEpochAreDropped(t *testing.T) {
 	saves()
 	d = reopened(t, d)
 	d.cluster.Shards = 4
-	if row := d.shard(1).rows[5]; row.Epoch != 9 || row.Base != 500 {
+	if row := d.shard(1).row(5); row.Epoch != 9 || row.Base != 500 {
 		t.Errorf("%+v", row)
 	}
 }

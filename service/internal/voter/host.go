@@ -140,9 +140,9 @@ func (d *Daemon) Take(from From, m transport.Message) {
 func (d *Daemon) End() error {
 	d.savedAll = time.Time{}
 	for _, s := range d.inTurn {
-		for number, row := range s.rows {
-			if name := s.names[number]; row.Open && name != "" { // it was heard in this run
-				d.say(name, qlock.VoterSays{Kind: qlock.Leaving})
+		for _, seat := range s.seats {
+			if seat != nil && seat.row.Open && seat.name != "" { // it was heard in this run
+				d.say(seat.name, qlock.VoterSays{Kind: qlock.Leaving})
 			}
 		}
 	}

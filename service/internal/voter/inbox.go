@@ -125,8 +125,9 @@ func (d *Daemon) isMarker(lines string) bool {
 	}
 	d.leases.clock.Returns(number)
 	now := d.now()
-	for _, s := range d.inTurn {
-		s.returned(now)
+	d.leases.returned(now)
+	if d.leases.heard.isFull() {
+		d.catchUp()
 	}
 	d.leases.quiet.returned(d.leases.at(now))
 	_, left := d.leases.clock.Shows()
@@ -241,7 +242,7 @@ func (d *Daemon) greet(l *letter, now time.Time) (speaker qlock.Standing, ok boo
 	l.begun = true
 	switch {
 	case speaker == qlock.SessionKnown:
-		l.shard.levels[l.Number] = l.Level
+		l.shard.seat(l.Number).level = l.Level
 		d.hasNumber(l, now)
 		l.shard.reserve(l.Number, l.Name, l.Epoch, l.Reserved, now)
 	case speaker == qlock.SessionUnknown && first:

@@ -53,8 +53,8 @@ func (d *Daemon) mayLevel(wanted uint64) error {
 	}
 	var older []string
 	for _, s := range d.inTurn {
-		for number, row := range s.rows {
-			if row.Open && !s.isDead(number) && s.levels[number] < wanted {
+		for number, seat := range s.seats {
+			if seat != nil && seat.row.Open && seat.level < wanted && !s.isDead(number) {
 				older = append(older, d.cluster.NumberOf(s.key(number)))
 			}
 		}

@@ -29,7 +29,7 @@ func TestLevels(t *testing.T) {
 		if err := d.mayLevel(level.Oldest + 1); err == nil {
 			t.Error("a session of an older program is left behind")
 		}
-		d.shard(0).levels[0] = level.Newest
+		d.shard(0).seat(0).level = level.Newest
 		if err := d.mayLevel(level.Oldest + 1); err != nil {
 			t.Error(err)
 		}

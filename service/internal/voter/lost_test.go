@@ -113,14 +113,14 @@ func TestStampsThatAreLearnedStaySpent(t *testing.T) {
 		for _, row := range one.rows {
 			d.learnRow(s, number, row, time.Now())
 		}
-		if row := s.rows[number]; row.Base != one.want[0] || row.Reserved != one.want[1] {
+		if row := s.row(number); row.Base != one.want[0] || row.Reserved != one.want[1] {
 			t.Errorf("%s: stamps are above %d, and up to %d, and not above %d up to %d", one.what, row.Base, row.Reserved, one.want[0], one.want[1])
 		}
 	}
 	d := lost(t)
 	s, number := d.shardOfKey(5)
-	if d.learnFloor(s.table.number, Floor{Stamp: 300}, time.Now()); s.rows[number].Base != 300 {
-		t.Errorf("by a floor of 300 stamps are above %d", s.rows[number].Base)
+	if d.learnFloor(s.table.number, Floor{Stamp: 300}, time.Now()); s.row(number).Base != 300 {
+		t.Errorf("by a floor of 300 stamps are above %d", s.row(number).Base)
 	}
 }
 

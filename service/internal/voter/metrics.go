@@ -167,7 +167,7 @@ func (m *metrics) histogram(name, help string, buckets []float64) prometheus.His
 
 // measure sets the numbers that are looked at from time to time.
 func (d *Daemon) measure(now time.Time) {
-	lasting, waiting, held, open, free := now, now, 0, 0, qlock.MaxClients
+	lasting, waiting, held := now, now, 0
 	for _, v := range d.busy.all {
 		if v.held.Number > 0 {
 			held++
@@ -181,11 +181,8 @@ func (d *Daemon) measure(now time.Time) {
 	}
 	if len(d.inTurn) > 0 { // one shard each time: a row costs a call
 		d.nextShard = (d.nextShard + 1) % len(d.inTurn)
-		d.inTurn[d.nextShard].census()
-	}
-	for _, s := range d.inTurn {
-		open += s.open
-		free = least(free, s.free)
+		d.census.count(d.inTurn[d.nextShard])
+		d.inTurn[d.nextShard].tidy(now)
 	}
 	ofUser := 0
 	for _, u := range d.users {
@@ -201,31 +198,53 @@ func (d *Daemon) measure(now time.Time) {
 	d.m.waiting.note(waiting, now)
 	d.m.busy.Set(float64(len(d.busy.all)))
 	d.m.held.Set(float64(held))
-	d.m.sessions.Set(float64(open))
-	d.m.numbers.Set(float64(free))
+	d.m.sessions.Set(float64(d.census.open))
+	d.m.numbers.Set(float64(d.census.leastFree()))
 	d.m.shards.Set(float64(len(d.inTurn)))
 	d.m.plan.Set(float64(d.plans.Number))
 	d.m.locks.Set(float64(len(d.votes)))
 }
 
+// census has the sessions of all shards, and how many shards have so many numbers that may be claimed, as each was counted last.
+type census struct {
+	open int
+	free [qlock.MaxClients + 1]int
+}
+
+// add adds what was counted of a shard, or takes it out.
+func (c *census) add(s *shard, by int) {
+	c.open += by * s.open
+	c.free[s.free] += by
+}
+
+// count counts a shard anew.
+func (c *census) count(s *shard) {
+	c.add(s, -1)
+	s.census()
+	c.add(s, 1)
+}
+
+// leastFree returns how many numbers may be claimed in the shard that has fewest.
+func (c *census) leastFree() int {
+	for free, shards := range c.free {
+		if shards > 0 {
+			return free
+		}
+	}
+	return qlock.MaxClients
+}
+
 // census counts the sessions of a shard, and the numbers that may be claimed.
 func (s *shard) census() {
 	s.open, s.free = 0, 0
-	for number, row := range s.rows {
-		if row.Open {
+	for number, seat := range s.seats {
+		if seat != nil && seat.row.Open {
 			s.open++
 		}
 		if s.state(number) != 0 {
 			s.free++
 		}
 	}
-}
-
-func least(a, b int) int {
-	if a < b {
-		return a
-	}
-	return b
 }
 
 func earlier(a, b time.Time) time.Time {

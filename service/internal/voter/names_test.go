@@ -130,7 +130,7 @@ func TestRowsWithNames(t *testing.T) {
 	}
 	d := reopened(t, first)
 	if d.shard(0).judge(1, "jobs.session-1", 1) != qlock.SessionKnown {
-		t.Errorf("the session is not known: %+v", d.shard(0).rows[1])
+		t.Errorf("the session is not known: %+v", d.shard(0).row(1))
 	}
 	if err := d.save(time.Now()); err != nil {
 		t.Fatal(err)
@@ -154,6 +154,6 @@ func TestRowsWithNames(t *testing.T) {
 		t.Fatal(err)
 	}
 	if again.learnAll(theirs, time.Now()); again.shard(0).judge(1, "jobs.session-1", 1) != qlock.SessionKnown {
-		t.Errorf("a word of another voter ends the session: %+v", again.shard(0).rows[1])
+		t.Errorf("a word of another voter ends the session: %+v", again.shard(0).row(1))
 	}
 }

@@ -22,7 +22,7 @@ const mostQueued = 4096
 // than it may have: the first ones may be gone, or wait in another order at other voters.
 const mostUnclaimed = 2 * time.Second
 
-// numberQueue has the sessions that wait for a number.
+// numberQueue has the sessions that wait for a number. In none, which is nil, nobody waits.
 type numberQueue struct {
 	all       []queued  // by their turns, and of one turn the first one first
 	turn      uint64    // the highest one of those that got a number
@@ -170,7 +170,7 @@ func (q *numberQueue) ahead(place int, taken *shares) (count int) {
 
 // lockOf returns the lock for which a session waits, "" if it is not known.
 func (q *numberQueue) lockOf(session string) string {
-	for i := range q.all {
+	for i := 0; q != nil && i < len(q.all); i++ {
 		if q.all[i].session == session {
 			return q.all[i].lock
 		}
@@ -180,8 +180,8 @@ func (q *numberQueue) lockOf(session string) string {
 
 // leave takes a session out that has a number. It returns whether the session waited.
 func (q *numberQueue) leave(session string) bool {
-	for i, one := range q.all {
-		if one.session == session {
+	for i := 0; q != nil && i < len(q.all); i++ {
+		if one := q.all[i]; one.session == session {
 			q.turn = greatest(q.turn, one.turn)
 			q.all = append(q.all[:i], q.all[i+1:]...)
 			return true
@@ -190,9 +190,21 @@ func (q *numberQueue) leave(session string) bool {
 	return false
 }
 
+// claimed notes that some session claimed a number.
+func (q *numberQueue) claimed() {
+	if q != nil {
+		q.unclaimed = time.Time{}
+	}
+}
+
+// isIdle returns whether a new queue would be as good as this one: nobody waits, nor did so a moment ago.
+func (q *numberQueue) isIdle(now time.Time, ttl time.Duration) bool {
+	return len(q.all) == 0 && q.unclaimed.IsZero() && now.Sub(q.short) > ttl/2 && now.Sub(q.told) >= ttl/64
+}
+
 // isShort returns whether somebody waited for a number a moment ago.
 func (q *numberQueue) isShort(now time.Time, ttl time.Duration) bool {
-	return len(q.all) > 0 && now.Sub(q.short) <= ttl/2
+	return q != nil && len(q.all) > 0 && now.Sub(q.short) <= ttl/2
 }
 
 // needs returns whether somebody waited a moment ago who may have a number that is for a lock now.
@@ -219,6 +231,22 @@ func (d *Daemon) tellFree(s *shard, now time.Time) {
 func (d *Daemon) hasNumber(l *letter, now time.Time) {
 	if l.shard.waiting.leave(l.Name) {
 		d.tellFree(l.shard, now)
+		l.shard.tidy(now)
+	}
+}
+
+// queue returns who waits for a number of a shard.
+func (s *shard) queue() *numberQueue {
+	if s.waiting == nil {
+		s.waiting = new(numberQueue)
+	}
+	return s.waiting
+}
+
+// tidy forgets the queue of a shard that it does not need any more.
+func (s *shard) tidy(now time.Time) {
+	if s.waiting != nil && s.waiting.isIdle(now, s.ttl) {
+		s.waiting = nil
 	}
 }
 
@@ -228,17 +256,17 @@ func (d *Daemon) tellIdle(s *shard, now time.Time) {
 		return
 	}
 	s.waiting.told = now
-	for number, row := range s.rows {
-		if name := s.names[number]; row.Open && row.Used && s.requests[number] == 0 && name != "" &&
-			s.waiting.needs(s.locks[number], now, d.leases.ttl) {
-			d.put(name, wire.Told{Kind: wire.Wanted}.Append(d.out[name]))
+	for _, seat := range s.seats {
+		if seat != nil && seat.row.Open && seat.row.Used && seat.requests == 0 && seat.name != "" &&
+			s.waiting.needs(seat.lock, now, d.leases.ttl) {
+			d.put(seat.name, wire.Told{Kind: wire.Wanted}.Append(d.out[seat.name]))
 		}
 	}
 }
 
 // tellWanted tells the session of a number that others wait for that.
 func (d *Daemon) tellWanted(s *shard, number int, session string, now time.Time) {
-	if s.waiting.needs(s.locks[number], now, d.leases.ttl) {
+	if s.waiting.needs(s.seat(number).lock, now, d.leases.ttl) {
 		d.put(session, wire.Told{Kind: wire.Wanted}.Append(d.out[session]))
 	}
 }

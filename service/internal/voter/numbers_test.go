@@ -87,8 +87,8 @@ func TestUnclaimedNumbers(t *testing.T) {
 // A claim that is accepted lets the order hold again. A claim that a stranger takes back frees nothing.
 func TestClaimsAndTheOrder(t *testing.T) {
 	d, _ := alone(t, 10)
-	d.shard(0).waiting.unclaimed = time.Now().Add(-time.Hour)
-	if d.repliesTo("jobs", 1, ". claim 1 1 100\n"); !d.shard(0).waiting.unclaimed.IsZero() {
+	d.shard(0).queue().unclaimed = time.Now().Add(-time.Hour)
+	if d.repliesTo("jobs", 1, ". claim 1 1 100\n"); !d.shard(0).queue().unclaimed.IsZero() {
 		t.Error("who comes later sees numbers still")
 	}
 	c := newTide(t, 2*time.Second)

@@ -201,7 +201,7 @@ func (d *Daemon) obey(words []string, by string, now time.Time) interface{} {
 // says so, unless there was nothing to end.
 func (d *Daemon) evict(key int, atOnce bool, by string, now time.Time) LetGo {
 	s, number := d.shardOfKey(key)
-	gone := LetGo{Nobody: !s.rows[number].Open && !(atOnce && s.byWord[number])}
+	gone := LetGo{Nobody: !s.row(number).Open && !(atOnce && s.rare(number).byWord)}
 	s.expel(number, atOnce)
 	d.busy.each(func(v *vote) {
 		switch {
@@ -251,10 +251,11 @@ func (d *Daemon) status(now time.Time) Status {
 
 // views returns what an operator sees of the sessions of a shard. One that was heard after the last marker was silent for no time.
 func (s *shard) views(called func(key int) string) (views []SessionView) {
-	for number, row := range s.rows {
-		if row.Open {
+	for number, seat := range s.seats {
+		if seat != nil && seat.row.Open {
+			row := seat.row
 			views = append(views, SessionView{called(s.key(number)), s.table.number, number, row.Epoch, row.Reserved, row.Hash,
-				math.Max(0, s.silent(number).Seconds()), s.requests[number], s.noteOf(number)})
+				math.Max(0, s.silent(number).Seconds()), seat.requests, s.noteOf(number)})
 		}
 	}
 	return views

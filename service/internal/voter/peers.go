@@ -5,7 +5,6 @@ import (
 	"encoding/json"
 	"errors"
 	"fmt"
-	"sort"
 	"strconv"
 	"strings"
 	"time"
@@ -236,6 +235,14 @@ const mostRows = 800
 // isFull returns whether a message that tells this has no room for more.
 func (k *Knows) isFull() bool { return len(k.Sessions)+rowsOfFloor*len(k.Floors) >= mostRows }
 
+// hasRoom returns whether this has room for what has a key. What has none is to be asked for, from the first such key on.
+func (k *Knows) hasRoom(key int) bool {
+	if k.isFull() && k.Next == 0 {
+		k.Next = key
+	}
+	return k.Next == 0
+}
+
 // knows returns what this voter keeps, with sessions from a key on, and what it is itself.
 func (d *Daemon) knows(from int) Knows {
 	peers := map[int]Peer{}
@@ -248,41 +255,27 @@ func (d *Daemon) knows(from int) Knows {
 	self.Ceiling = d.store.own.Ceiling
 	peers[d.store.meta.Voter] = self
 	known := Knows{Peers: peers, Sessions: map[int]Session{}, Floors: map[int]Floor{}, Level: d.store.own.level(), From: from}
-	for _, key := range d.keys(from) {
-		if known.isFull() {
-			known.Next = key
-			break
-		}
-		if shard := key / qlock.MaxClients; d.shards[shard] == nil {
-			known.Floors[shard] = d.floors[shard]
-			continue
-		}
-		s, number := d.shardOfKey(key)
-		known.Sessions[key] = s.rows[number]
+	if from < 0 {
+		from = 0
+	}
+	for key := from; known.Next == 0 && key < d.cluster.Numbers(); key = (key/qlock.MaxClients + 1) * qlock.MaxClients {
+		d.tellShard(&known, key)
 	}
 	return known
 }
 
-// keys returns the keys of the numbers that a session ever had, from one on, in order. The first key of a shard that was dropped stands for
-// its floor.
-func (d *Daemon) keys(from int) (keys []int) {
-	for shard := range d.floors {
-		if first := shard * qlock.MaxClients; d.shards[shard] == nil && first+qlock.MaxClients > from {
-			if first < from {
-				first = from // the rows before were told when it was there
-			}
-			keys = append(keys, first)
+// tellShard tells the numbers of a shard that a session ever had, from a key on. Of a shard that was dropped it tells the floor.
+func (d *Daemon) tellShard(known *Knows, from int) {
+	shard := from / qlock.MaxClients
+	s := d.shards[shard]
+	if floor, is := d.floors[shard]; s == nil && is && known.hasRoom(from) { // the rows before were told when it was there
+		known.Floors[shard] = floor
+	}
+	for number := from % qlock.MaxClients; s != nil && number < qlock.MaxClients; number++ {
+		if row := s.row(number); row.Epoch > 0 && known.hasRoom(s.key(number)) {
+			known.Sessions[s.key(number)] = row
 		}
 	}
-	for _, s := range d.inTurn {
-		for number, row := range s.rows {
-			if key := s.key(number); row.Epoch > 0 && key >= from {
-				keys = append(keys, key)
-			}
-		}
-	}
-	sort.Ints(keys)
-	return keys
 }
 
 // laterPeer returns of two that were in a place the later one, with the higher ceiling of both.

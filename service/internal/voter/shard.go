@@ -12,21 +12,12 @@ import (
 // shard is what a voter keeps of the sessions of a shard.
 type shard struct {
 	table
-	requests [qlock.MaxClients]int         // requests of a session that have a vote here, or wait for one
-	busy     map[*vote]struct{}            // the votes that somebody has or waits for
-	asksBy   [qlock.MaxClients]uint64      // the oldest plan of which a session has a request, as it said; 0 before
-	notes    [qlock.MaxClients]sessionNote // what sessions say of themselves
-	levels   [qlock.MaxClients]uint64      // the newest level that a session knows, 0 until it was heard
-	locks    [qlock.MaxClients]string      // for which lock a number is: "" if that is not known
-	waiting  numberQueue                   // who waits for a number
-	open     int                           // its sessions, and the numbers that may be claimed, when they were counted last
-	free     int
-
-	processes [qlock.MaxClients]ofProcess // of which processes sessions are
-	entries   [qlock.MaxClients]*entry    // on the rolls of these
-
-	votes int       // how many locks of it are known
-	used  time.Time // when a message of a session of it came
+	busy    map[*vote]struct{} // the votes that somebody has or waits for
+	waiting *numberQueue       // who waits for a number; nil while nobody does
+	open    int                // its sessions, and the numbers that may be claimed, when they were counted last
+	free    int
+	votes   int       // how many locks of it are known
+	used    time.Time // when a message of a session of it came
 }
 
 // shard returns what is kept of a shard.
@@ -39,6 +30,7 @@ func (d *Daemon) shard(number int) *shard {
 		s = &shard{table: newTable(&d.leases, number, d.floors[number]), free: qlock.MaxClients}
 		d.shards[number] = s
 		d.inTurn = append(d.inTurn, s)
+		d.census.add(s, 1)
 	}
 	return s
 }

@@ -71,7 +71,7 @@ func TestSessionsOfShards(t *testing.T) {
 			t.Errorf("a session of another shard says something of %s: %+v", lock, v.asks)
 		}
 	}
-	if gone := d.evict(2*qlock.MaxClients+5, true, "alice", time.Now()); gone.LetGo != 1 || d.shard(1).rows[5].Open != true || d.shard(2).rows[5].Open {
+	if gone := d.evict(2*qlock.MaxClients+5, true, "alice", time.Now()); gone.LetGo != 1 || d.shard(1).row(5).Open != true || d.shard(2).row(5).Open {
 		t.Errorf("an operator ends a session: %+v", gone)
 	}
 	if reply := d.obey([]string{"evict", "5"}, "alice", time.Now()); reply != (Refused{"client numbers are 0/0 to 3/63"}) {
@@ -97,8 +97,8 @@ func TestRowsOfShardsAreSaved(t *testing.T) {
 	again := reopened(t, d)
 	for _, shard := range []int{0, 1, 255, 256, 4095} {
 		number := 60 + shard%4
-		if row := again.shard(shard).rows[number]; !row.Open || row != d.shard(shard).rows[number] {
-			t.Errorf("shard %d: %+v, and it was %+v", shard, row, d.shard(shard).rows[number])
+		if row := again.shard(shard).row(number); !row.Open || row != d.shard(shard).row(number) {
+			t.Errorf("shard %d: %+v, and it was %+v", shard, row, d.shard(shard).row(number))
 		}
 	}
 	for _, key := range []int{0, 63, 64, 4096*64 - 1} {
@@ -263,10 +263,10 @@ func TestWhoIsAskedForANumber(t *testing.T) {
 				ofCold += n
 			}
 		}
-		d.shard(1).waiting.told, d.out = time.Time{}, map[string][]byte{}
+		d.shard(1).queue().told, d.out = time.Time{}, map[string][]byte{}
 		return ofHot, ofCold
 	}
-	d.shard(1).waiting.told, d.out = time.Time{}, map[string][]byte{}
+	d.shard(1).queue().told, d.out = time.Time{}, map[string][]byte{}
 	says("jobs", "waits-0", 0, 0, ". for "+hot+"\n. hello\n")
 	if ofHot, ofCold := asked(); ofHot != 2*56 || ofCold != 0 {
 		t.Errorf("four are free, and the hot lock has 56: %d and %d words", ofHot, ofCold)
@@ -276,7 +276,7 @@ func TestWhoIsAskedForANumber(t *testing.T) {
 		says("jobs", name, 0, 0, fmt.Sprintf(". for %s\n. hello\n. claim %d 1 64\n", cold, number))
 		says("jobs", name, number, 1, ". open 0\n")
 	}
-	d.shard(1).waiting.told, d.out = time.Time{}, map[string][]byte{}
+	d.shard(1).queue().told, d.out = time.Time{}, map[string][]byte{}
 	says("jobs", "late", 0, 0, ". for "+cold+"\n. hello\n")
 	if ofHot, ofCold := asked(); ofHot != 2*56 || ofCold != 2*4 {
 		t.Errorf("none is free: %d and %d words", ofHot, ofCold)
@@ -292,12 +292,12 @@ func TestLocksOfNumbers(t *testing.T) {
 		t.Errorf("%+v", shares)
 	}
 	says("jobs", "has-1", 1, 1, cold+" request 1 0 70\n")
-	if s.locks[1] != cold || s.locks[2] != hot {
-		t.Errorf("after a request: %q, %q", s.locks[1], s.locks[2])
+	if s.seat(1).lock != cold || s.seat(2).lock != hot {
+		t.Errorf("after a request: %q, %q", s.seat(1).lock, s.seat(2).lock)
 	}
 	says("jobs", "has-1", 1, 1, cold+" release 1 0 70\n")
-	if s.locks[1] != cold {
-		t.Errorf("after a RELEASE: %q", s.locks[1])
+	if s.seat(1).lock != cold {
+		t.Errorf("after a RELEASE: %q", s.seat(1).lock)
 	}
 	for number := 1; number <= 3; number++ {
 		says("jobs", fmt.Sprint("has-", number), number, 1, ". close\n")
@@ -308,8 +308,8 @@ func TestLocksOfNumbers(t *testing.T) {
 	says("jobs", "older", 0, 0, ". hello\n. claim 1 2 64\n") // of an older program
 	says("jobs", "older", 1, 2, ". open 0\n")
 	says("jobs", "stray", 0, 0, ". for "+lockOf(d, 2)+"\n. hello\n. claim 2 2 64\n")
-	if s.locks[1] != "" || s.locks[2] != "" {
-		t.Errorf("the next sessions: %q, %q", s.locks[1], s.locks[2])
+	if s.seat(1).lock != "" || s.seat(2).lock != "" {
+		t.Errorf("the next sessions: %q, %q", s.seat(1).lock, s.seat(2).lock)
 	}
 	says("jobs", "claims", 0, 0, ". for "+hot+"\n. hello\n. claim 3 2 64\n")
 	if shares := s.shares(s.states(), ""); shares.users.counts["jobs"] != 56 || shares.locks.counts[hot] != 54 || !shares.claims["jobs.1-claims"] ||
@@ -322,7 +322,7 @@ func TestLocksOfNumbers(t *testing.T) {
 	if says("jobs", "stray", 2, 2, ". open 0\n"); s.waiting.lockOf("jobs.1-stray") != "" {
 		t.Error("who has a number waits")
 	}
-	if d.evict(64+5, false, "alice", time.Now()); s.locks[5] != "" || s.locks[6] != hot {
-		t.Errorf("after an end: %q, %q", s.locks[5], s.locks[6])
+	if d.evict(64+5, false, "alice", time.Now()); s.seat(5).lock != "" || s.seat(6).lock != hot {
+		t.Errorf("after an end: %q, %q", s.seat(5).lock, s.seat(6).lock)
 	}
 }

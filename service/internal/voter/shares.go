@@ -91,14 +91,13 @@ func (v variety) hasOther(name string) bool { return v.one != "" && v.one != nam
 // the session that claimed it, unless that asks again: then it did not get the number.
 func (s *shard) shares(states []int, asks string) shares {
 	taken := newShares()
-	for number, row := range s.rows {
-		name := s.names[number]
-		if !row.Open || states[number] != 0 || !row.Used && name != "" && name == asks {
+	for number, seat := range s.seats {
+		if seat == nil || !seat.row.Open || states[number] != 0 || !seat.row.Used && seat.name != "" && seat.name == asks {
 			continue
 		}
-		taken.add(userOf(row.Hash), s.locks[number])
-		if !row.Used {
-			taken.claims[name] = true
+		taken.add(userOf(seat.row.Hash), seat.lock)
+		if !seat.row.Used {
+			taken.claims[seat.name] = true
 		}
 	}
 	return taken

@@ -35,12 +35,12 @@ func TestUserOwnsItsSessions(t *testing.T) {
 	d := reader()
 	d.shard(0).claim(2, "jobs.s2", 1, 0, time.Now())
 	d.sort(from("web", "s2", ". close\n"))
-	if d.takeAll(); !d.shard(0).rows[2].Open || len(d.out) != 1 || d.out["web.s2"] == nil {
-		t.Errorf("%+v, and these are replied to: %d", d.shard(0).rows[2], len(d.out))
+	if d.takeAll(); !d.shard(0).row(2).Open || len(d.out) != 1 || d.out["web.s2"] == nil {
+		t.Errorf("%+v, and these are replied to: %d", d.shard(0).row(2), len(d.out))
 	}
 	d.sort(from("jobs", "s2", ". close\n"))
-	if d.takeAll(); d.shard(0).rows[2].Open || d.out["jobs.s2"] == nil {
-		t.Errorf("the user itself: %+v", d.shard(0).rows[2])
+	if d.takeAll(); d.shard(0).row(2).Open || d.out["jobs.s2"] == nil {
+		t.Errorf("the user itself: %+v", d.shard(0).row(2))
 	}
 }
 
@@ -116,8 +116,8 @@ func TestWhoMayWrite(t *testing.T) {
 		if is != (one.want != "") || is && !strings.Contains(string(reply.text()), one.want) {
 			t.Errorf("%s asks %s: %q", one.by, one.words, reply.text())
 		}
-		if d.shard(0).rows[2].Open == (one.by == "alice" && (one.words == "evict 2" || one.words == "evict 2 now")) {
-			t.Errorf("%s asks %s: %+v", one.by, one.words, d.shard(0).rows[2])
+		if d.shard(0).row(2).Open == (one.by == "alice" && (one.words == "evict 2" || one.words == "evict 2 now")) {
+			t.Errorf("%s asks %s: %+v", one.by, one.words, d.shard(0).row(2))
 		}
 	}
 	if said := log.String(); strings.Count(said, "event=evicted") != 2 || !strings.Contains(said, "by=alice") {

@@ -144,12 +144,10 @@ func (d *Daemon) isKept(now time.Time) {
 	}
 	j.done = true
 	d.raiseAll()
-	for _, s := range d.inTurn {
-		s.hearAll(now)
-	}
+	d.leases.hearAll(now)
 	for _, v := range d.busy.all {
 		client := int(v.held.Client)
-		v.shard.byWord[client] = v.shard.byWord[client] || v.held.Number > 0 && !v.shard.rows[client].Open
+		v.shard.endedByWord(client, v.shard.rare(client).byWord || v.held.Number > 0 && !v.shard.row(client).Open)
 		if v.held.Number > 0 && v.shard.isEarlier(client, v.held.Stamp) {
 			v.shard.passes(client, now) // this run may not know how the number was passed on
 		}

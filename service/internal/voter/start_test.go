@@ -335,8 +335,8 @@ func TestEndOfTheQuietTime(t *testing.T) {
 			t.Errorf("%s: the vote is held under stamp %d", name, held.Stamp)
 		}
 	}
-	if d.shard(0).rows[1].Lapses != 1 || d.shard(0).rows[2].Lapses != 0 {
-		t.Errorf("lapses: %d and %d", d.shard(0).rows[1].Lapses, d.shard(0).rows[2].Lapses)
+	if d.shard(0).row(1).Lapses != 1 || d.shard(0).row(2).Lapses != 0 {
+		t.Errorf("lapses: %d and %d", d.shard(0).row(1).Lapses, d.shard(0).row(2).Lapses)
 	}
 	if reply := d.repliesTo("jobs", 3, "free request 3 0 1\n"); !strings.Contains(reply, "free locked ") {
 		t.Errorf("afterwards: %q", reply)
@@ -416,7 +416,7 @@ func TestWhatComesBackWhileQuiet(t *testing.T) {
 	if reply := d.repliesTo("jobs", 2, "orders request 2 0 1 inside\n"); !strings.Contains(reply, "orders locked ") {
 		t.Errorf("who is inside: %q", reply)
 	}
-	if lapses := d.shard(0).rows[1].Lapses; lapses > 0 {
+	if lapses := d.shard(0).row(1).Lapses; lapses > 0 {
 		t.Errorf("%d lapses of who gave it back", lapses)
 	}
 }
@@ -556,14 +556,14 @@ func TestLearnsWhatIsOver(t *testing.T) {
 	other := tableAt(now)
 	other.put(3, one)
 	other.expel(3, false)
-	if !table.learn(3, other.rows[3], now) || table.rows[3].Open || table.rows[3].Base < 100 {
-		t.Errorf("an eviction: %+v", table.rows[3])
+	if !table.learn(3, other.row(3), now) || table.row(3).Open || table.row(3).Base < 100 {
+		t.Errorf("an eviction: %+v", table.row(3))
 	}
 	table.put(3, one)
 	two := of("two", 4, 10, 300)
 	two.Used = true
-	if table.learn(3, two, now); table.rows[3].Open || table.rows[3].Base < 300 || table.rows[3].Reserved < 300 {
-		t.Errorf("two sessions of one epoch: %+v", table.rows[3])
+	if table.learn(3, two, now); table.row(3).Open || table.row(3).Base < 300 || table.row(3).Reserved < 300 {
+		t.Errorf("two sessions of one epoch: %+v", table.row(3))
 	}
 }
 

@@ -64,6 +64,7 @@ type leases struct {
 	began   time.Time        // when this run began: times of the lease clock are since then
 	clock   qlock.Clock      // says who was silent
 	quiet   quiet            // of the voter: no silence ends anything in it
+	heard   hearings         // what is to be said of all tables of when sessions were heard
 	changed map[int]Session  // to be saved before anything leaves, by their keys
 	later   map[int]Session  // to be saved with the next save: after a crash a TTL makes up for it
 	dropped map[int]struct{} // rows that go with the next save, as a floor stands for them
@@ -76,17 +77,39 @@ type leases struct {
 // whose messages were heard.
 type table struct {
 	*leases
-	number  int // of the shard
-	rows    [qlock.MaxClients]Session
-	proved  qlock.Table                     // the same rows, as the proved calls read them
-	hashes  [qlock.MaxClients]qlock.Session // how the proved rows name the sessions of these
-	names   [qlock.MaxClients]string        // of the sessions of these rows that were heard in this run; nothing can be sent to others
-	heard   [qlock.MaxClients]time.Duration // on the lease clock
-	byWord  [qlock.MaxClients]bool          // the session was ended, by another voter or an operator, and may not know so: its votes go by the lease
-	passed  [qlock.MaxClients]passed        // when another voter said that another session has the number
-	brought [qlock.MaxClients]uint64        // a want brought the number to its session in this run, in which of its messages, and none came under it yet (wants.go)
-	epochs  [qlock.MaxClients]qlock.Bucket  // how far the epochs of a number may grow
-	stamps  qlock.Bucket                    // how far the highest stamp may grow
+	number   int                     // of the shard
+	behind   uint64                  // the numbers of open sessions that may have a request of an older plan than this one, as bits
+	plan     uint64                  // which one
+	vacant   Floor                   // says the rows of the numbers that have no seat
+	seats    [qlock.MaxClients]*seat // of the numbers that were used, or learned of
+	proved   qlock.Table             // the rows of all numbers, as the proved calls read them
+	stamps   qlock.Bucket            // how far the highest stamp may grow
+	heardAs  time.Duration           // when a number counts as heard that has no seat, on the lease clock
+	caughtUp uint64                  // with how many hearings (heard.go)
+}
+
+// seat is what a voter keeps of a number that was used, or learned of, beside its proved row.
+type seat struct {
+	row      Session
+	session  qlock.Session // how the proved row names the session of this one
+	name     string        // of the session, once it was heard in this run; nothing can be sent to others
+	lock     string        // for which the number is: "" if that is not known
+	heard    time.Duration // on the lease clock
+	brought  uint64        // a want brought the number to its session in this run, in which of its messages, and none came under it yet (wants.go)
+	epochs   *qlock.Bucket // how far the epochs of the number may grow; nil until they grow
+	rarities *rarities     // nil until the number needs some of these
+	requests int           // of the session, that have a vote here, or wait for one
+	asksBy   uint64        // the oldest plan of which the session has a request, as it said; 0 before
+	level    uint64        // the newest one that the session knows, 0 until it was heard
+	process  ofProcess     // of which process the session is
+	entry    *entry        // on the roll of that; nil if there is none
+}
+
+// rarities are what few numbers need.
+type rarities struct {
+	note   sessionNote // what the session says of itself
+	passed passed      // when another voter said that another session has the number
+	byWord bool        // the session was ended, by another voter or an operator, and may not know so: its votes go by the lease
 }
 
 // passed is when this voter learned that another session has a number: the session before may not know so, and its votes go by the lease.
@@ -97,14 +120,87 @@ type passed struct {
 
 // newTable returns the table of a shard that no session has used since it has this floor. What numbers may grow begins with the run.
 func newTable(l *leases, shard int, floor Floor) table {
-	t := table{leases: l, number: shard, stamps: *qlock.NewBucket(stampRate, mostStamps, 0)}
-	for i := range t.epochs {
-		t.epochs[i] = *qlock.NewBucket(epochRate, mostEpochs, 0)
+	t := table{leases: l, number: shard, vacant: floor, stamps: *qlock.NewBucket(stampRate, mostStamps, 0), caughtUp: l.heard.count}
+	for i := range t.seats {
 		if row := floor.row(i); row != (Session{}) {
-			t.set(i, row)
+			t.prove(i, row, qlock.Session{})
 		}
 	}
 	return t
+}
+
+// seat returns the seat of a number. It makes it if there is none.
+func (t *table) seat(number int) *seat {
+	if t.seats[number] == nil {
+		t.catchUp()
+		t.seats[number] = &seat{row: t.vacant.row(number), heard: t.heardAs}
+	}
+	return t.seats[number]
+}
+
+// row returns the row of a number.
+func (t *table) row(number int) Session {
+	if seat := t.seats[number]; seat != nil {
+		return seat.row
+	}
+	return t.vacant.row(number)
+}
+
+// name returns the name of a number's session, "" if it was not heard in this run.
+func (t *table) name(number int) string {
+	if seat := t.seats[number]; seat != nil {
+		return seat.name
+	}
+	return ""
+}
+
+// rare returns what few numbers need of a number.
+func (t *table) rare(number int) rarities {
+	if seat := t.seats[number]; seat != nil && seat.rarities != nil {
+		return *seat.rarities
+	}
+	return rarities{}
+}
+
+// needs returns what few numbers need. It makes it if there is none.
+func (s *seat) needs() *rarities {
+	if s.rarities == nil {
+		s.rarities = new(rarities)
+	}
+	return s.rarities
+}
+
+// endedByWord notes whether a number's session was ended and may not know so.
+func (t *table) endedByWord(number int, byWord bool) {
+	if byWord != t.rare(number).byWord {
+		t.seat(number).needs().byWord = byWord
+	}
+}
+
+// asks notes by which plan, the oldest one, the session of a number has a request, where this is the newest plan.
+func (t *table) asks(number int, oldest, newest uint64) {
+	t.behindOf(newest)
+	t.seat(number).asksBy = oldest
+	t.noteBehind(number)
+}
+
+// behindOf returns the numbers of open sessions that may have a request of an older plan than this one, as bits. They are kept, as all
+// shards are asked at once.
+func (t *table) behindOf(plan uint64) uint64 {
+	if t.plan != plan {
+		t.plan = plan
+		for number := range t.seats {
+			t.noteBehind(number)
+		}
+	}
+	return t.behind
+}
+
+// noteBehind notes whether a number is behind, once its row or what its session has may be another one.
+func (t *table) noteBehind(number int) {
+	if t.behind &^= 1 << number; t.seats[number] != nil && t.seats[number].row.Open && t.seats[number].asksBy < t.plan {
+		t.behind |= 1 << number
+	}
 }
 
 // key returns the key of a row among those of all shards.
@@ -122,43 +218,8 @@ func periodOf(ttl time.Duration) time.Duration {
 
 // begin begins a run of a voter: all leases begin anew.
 func (l *leases) begin(now time.Time) {
-	l.began, l.clock = now, *qlock.NewClock(periodOf(l.ttl), 0)
+	l.began, l.clock, l.heard = now, *qlock.NewClock(periodOf(l.ttl), 0), hearings{}
 	l.saved()
-}
-
-// at returns the reading of the lease clock at which a session is heard that is heard now.
-func (l *leases) at(now time.Time) time.Duration { return l.clock.At(now.Sub(l.began)) }
-
-// hearAll lets all leases begin anew.
-func (t *table) hearAll(now time.Time) {
-	for number := range t.rows {
-		t.hear(number, now)
-	}
-}
-
-// hear notes that a number's session was heard.
-func (t *table) hear(number int, now time.Time) { t.heard[number] = t.at(now) }
-
-// returned is called once a marker came back. The time that it skips is skipped for those, too, that were heard since the one before:
-// they count as heard now, at the latest. Else a session that was heard last when this voter went on, after it had stood still,
-// would live for that much longer than a TTL.
-func (t *table) returned(now time.Time) {
-	latest := t.at(now)
-	for number, heard := range t.heard {
-		if heard > latest {
-			t.heard[number] = latest
-		}
-		if t.passed[number].at > latest {
-			t.passed[number].at = latest
-		}
-	}
-}
-
-// silent returns for how long nothing came of a number's session, up to when all that was sent was
-// heard.
-func (t *table) silent(number int) time.Duration {
-	reading, _ := t.clock.Shows()
-	return reading - t.heard[number]
 }
 
 // isDead returns whether the votes of a number may be let go: its session has ended, or was silent for a TTL. One that another
@@ -168,7 +229,7 @@ func (t *table) isDead(number int) bool { return t.isOver(number, math.MaxUint64
 // lapse counts that a grant of a number's session is let go since it was silent. Whoever hears the
 // voter later hears the count.
 func (t *table) lapse(number int) {
-	row := t.rows[number]
+	row := t.row(number)
 	row.Lapses++
 	t.put(number, row)
 }
@@ -177,13 +238,15 @@ func (t *table) lapse(number int) {
 // too, it is the greater one.
 func (t *table) lapses(name string) (count uint64) {
 	hash := "" // once a row needs it
-	for i := range t.rows {
-		row := &t.rows[i]
-		if t.names[i] == "" && hash == "" {
+	for _, seat := range t.seats {
+		if seat == nil || !seat.row.Open {
+			continue
+		}
+		if seat.name == "" && hash == "" {
 			hash = hashed(name)
 		}
-		if row.Open && (t.names[i] == name || t.names[i] == "" && row.Hash == hash) {
-			count = greatest(count, row.Lapses)
+		if seat.name == name || seat.name == "" && seat.row.Hash == hash {
+			count = greatest(count, seat.row.Lapses)
 		}
 	}
 	return count
@@ -191,14 +254,14 @@ func (t *table) lapses(name string) (count uint64) {
 
 // isEarlier returns whether a stamp of a number is that of an earlier session than the one that it
 // has now.
-func (t *table) isEarlier(number int, stamp uint64) bool { return stamp <= t.rows[number].Base }
+func (t *table) isEarlier(number int, stamp uint64) bool { return stamp <= t.row(number).Base }
 
 // state returns what a claimer has to know of a number: 1 if it is free, 2 if its session was silent for a TTL, else 0.
 func (t *table) state(number int) int {
 	switch {
-	case !t.isDead(number) || t.rows[number].Epoch == math.MaxUint64: // no session can have it
+	case !t.isDead(number) || t.row(number).Epoch == math.MaxUint64: // no session can have it
 		return 0
-	case !t.rows[number].Open:
+	case !t.row(number).Open:
 		return 1
 	}
 	return 2
@@ -215,12 +278,18 @@ func (t *table) states() []int {
 
 // set sets a row. One that the proved rows refuse reads as nobody's.
 func (t *table) set(number int, row Session) {
-	before := t.rows[number]
-	if !row.Open || row.Hash != before.Hash || row.Epoch != before.Epoch {
-		t.brought[number] = 0
+	seat := t.seat(number)
+	if !row.Open || row.Hash != seat.row.Hash || row.Epoch != seat.row.Epoch {
+		seat.brought = 0
 	}
-	t.rows[number], t.hashes[number] = row, row.session()
-	if r, err := row.row(t.hashes[number]); err == nil {
+	seat.row, seat.session = row, row.session()
+	t.prove(number, row, seat.session)
+	t.noteBehind(number)
+}
+
+// prove sets a proved row, whose session has this name there.
+func (t *table) prove(number int, row Session, session qlock.Session) {
+	if r, err := row.row(session); err == nil {
 		t.proved.Put(number, r)
 	} else {
 		t.proved.Put(number, new(qlock.Row))
@@ -229,8 +298,8 @@ func (t *table) set(number int, row Session) {
 
 // put changes a row. It is saved before anything leaves.
 func (t *table) put(number int, row Session) {
-	if row.Hash != t.rows[number].Hash {
-		t.names[number] = ""
+	if seat := t.seat(number); row.Hash != seat.row.Hash {
+		seat.name = ""
 	}
 	t.set(number, row)
 	t.changed[t.key(number)] = row
@@ -275,10 +344,11 @@ func (t *table) judge(number int, name string, epoch uint64) qlock.Standing {
 // In the quiet time only who has left is over: what he has who said that he is inside, and his number, go for his silence once that time
 // has ended.
 func (t *table) isOver(number int, stamp uint64) bool {
-	heard, byWord := t.heard[number], t.byWord[number]
-	if passed := t.passed[number]; passed.is && t.isEarlier(number, stamp) {
+	heard, rare := t.heardAt(number), t.rare(number)
+	byWord := rare.byWord
+	if rare.passed.is && t.isEarlier(number, stamp) {
 		if !byWord {
-			heard = passed.at // what is heard is another session
+			heard = rare.passed.at // what is heard is another session
 		}
 		byWord = true
 	}
@@ -294,8 +364,11 @@ func (t *table) admit(number int, name string, epoch uint64, now time.Time) qloc
 		return judged
 	}
 	t.hear(number, now)
-	t.names[number], t.brought[number] = name, 0
-	if row := t.rows[number]; !row.Used {
+	seat := t.seat(number)
+	if seat.brought = 0; seat.name != name { // the same text once
+		seat.name = name
+	}
+	if row := seat.row; !row.Used {
 		row.Used = true
 		t.note(number, row)
 	}
@@ -304,7 +377,7 @@ func (t *table) admit(number int, name string, epoch uint64, now time.Time) qloc
 
 // reserve notes which stamps the session of a number reserves, as far as it may.
 func (t *table) reserve(number int, name string, epoch, wanted uint64, now time.Time) {
-	before := t.rows[number]
+	before := t.row(number)
 	if wanted <= before.Reserved {
 		return
 	}
@@ -327,8 +400,8 @@ func (t *table) spend(bucket *qlock.Bucket, before, after uint64, now time.Time)
 
 // highest returns the highest stamp that any number reserved.
 func (t *table) highest() (stamp uint64) {
-	for _, row := range t.rows {
-		stamp = greatest(stamp, row.Reserved)
+	for number := range t.seats {
+		stamp = greatest(stamp, t.row(number).Reserved)
 	}
 	return stamp
 }
@@ -340,31 +413,43 @@ func (t *table) claim(number int, name string, epoch, stamps uint64, now time.Ti
 	if t.judge(number, name, epoch) == qlock.SessionKnown {
 		return true
 	}
-	if !t.isDead(number) && !(t.isBrought(number) && t.session(number, name) == t.hashes[number]) {
+	if !t.isDead(number) && !(t.isBrought(number) && t.session(number, name) == t.seats[number].session) {
 		return false
 	}
-	before, highest := t.rows[number], t.highest()
+	before, highest, epochs, hash := t.row(number), t.highest(), t.epochs(number), hashed(name)
 	claim := qlock.Claim{
-		Session: sessionOf(hashed(name)), Epoch: epoch, Stamps: smallest(stamps, mostClaimed), IsSilent: true,
-		Epochs: t.epochs[number].Left(now.Sub(t.began)),
+		Session: sessionOf(hash), Epoch: epoch, Stamps: smallest(stamps, mostClaimed), IsSilent: true,
+		Epochs: epochs.Left(now.Sub(t.began)),
 		Most:   highest + t.stamps.Left(now.Sub(t.began)),
 	}
 	row, err := before.after(func(r *qlock.Row) error { return r.Claim(claim) })
-	if err != nil || t.spend(&t.epochs[number], before.Epoch, row.Epoch, now) != nil ||
-		t.spend(&t.stamps, highest, row.Reserved, now) != nil {
+	if err != nil || t.spend(epochs, before.Epoch, row.Epoch, now) != nil {
 		return false
 	}
-	row.Hash, row.Used, row.Lapses = hashed(name), false, 0
+	t.seat(number).epochs = epochs
+	if t.spend(&t.stamps, highest, row.Reserved, now) != nil {
+		return false
+	}
+	row.Hash, row.Used, row.Lapses = hash, false, 0
 	t.put(number, row)
-	t.names[number], t.byWord[number] = name, false
+	t.seats[number].name = name
+	t.endedByWord(number, false)
 	t.hear(number, now)
 	return true
+}
+
+// epochs returns the bucket of a number. One that was not used yet begins with the run, and is nowhere kept.
+func (t *table) epochs(number int) *qlock.Bucket {
+	if seat := t.seats[number]; seat != nil && seat.epochs != nil {
+		return seat.epochs
+	}
+	return qlock.NewBucket(epochRate, mostEpochs, 0)
 }
 
 // drop frees a number that was claimed here, and that the claimer did not get from a quorum. It
 // claims this epoch never again, and others may. It returns whether the number was that session's.
 func (t *table) drop(number int, name string, epoch uint64) bool {
-	before := t.rows[number]
+	before := t.row(number)
 	if before.Used || t.judge(number, name, epoch) != qlock.SessionKnown {
 		return false
 	}
@@ -377,14 +462,14 @@ func (t *table) drop(number int, name string, epoch uint64) bool {
 
 // end frees a number whose session says that it is over. After a crash it is silent.
 func (t *table) end(number int, name string, epoch uint64) {
-	if row, err := t.rows[number].after(func(r *qlock.Row) error { return r.Close(t.session(number, name), epoch) }); err == nil {
+	if row, err := t.row(number).after(func(r *qlock.Row) error { return r.Close(t.session(number, name), epoch) }); err == nil {
 		t.note(number, row)
 	}
 }
 
 // takes returns whether a REQUEST of this session of a number counts under this stamp.
 func (t *table) takes(number int, name string, epoch, stamp uint64) bool {
-	row, err := t.rows[number].proved()
+	row, err := t.row(number).proved()
 	if err != nil {
 		return false
 	}
@@ -411,7 +496,7 @@ func (t *table) relearn(number int, there Session, now time.Time) bool {
 
 // learnBy takes what another voter knows of a number by a call of its row.
 func (t *table) learnBy(call func(row, other *qlock.Row, here, there bool) error, number int, there Session, now time.Time) bool {
-	before := t.rows[number]
+	before := t.row(number)
 	other, err := there.proved()
 	if err != nil {
 		return false // it is no row
@@ -426,7 +511,7 @@ func (t *table) learnBy(call func(row, other *qlock.Row, here, there bool) error
 		if there.Epoch == before.Epoch {
 			row.Hash = "" // two sessions have the epoch, so nobody has it
 		}
-		t.byWord[number] = !row.Open && (before.Open || t.byWord[number])
+		t.endedByWord(number, !row.Open && (before.Open || t.rare(number).byWord))
 		t.hear(number, now)
 		if row.Open {
 			t.passes(number, now)
@@ -437,9 +522,6 @@ func (t *table) learnBy(call func(row, other *qlock.Row, here, there bool) error
 	}
 	return isOther
 }
-
-// passes notes that this voter learned that another session has a number.
-func (t *table) passes(number int, now time.Time) { t.passed[number] = passed{true, t.at(now)} }
 
 func greatest(a, b uint64) uint64 {
 	if a > b {
@@ -458,11 +540,11 @@ func smallest(a, b uint64) uint64 {
 // expel ends a number's session. No message of its epoch counts any more. Unless what it has may go at once it goes by the lease, as if
 // another voter had ended the session.
 func (t *table) expel(number int, atOnce bool) {
-	wasOpen := t.rows[number].Open
-	if row, err := t.rows[number].after((*qlock.Row).Evict); err == nil {
+	wasOpen := t.row(number).Open
+	if row, err := t.row(number).after((*qlock.Row).Evict); err == nil {
 		row.Hash, row.Used, row.Lapses = "", true, 0
 		t.put(number, row)
-		t.byWord[number] = !atOnce && (wasOpen || t.byWord[number])
+		t.endedByWord(number, !atOnce && (wasOpen || t.rare(number).byWord))
 	}
 }
 
@@ -471,8 +553,8 @@ func (s Session) session() qlock.Session { return sessionOf(s.Hash) }
 
 // session returns how the proved rows name the session that speaks for a number.
 func (t *table) session(number int, name string) qlock.Session {
-	if t.names[number] == name {
-		return t.hashes[number]
+	if seat := t.seats[number]; seat != nil && seat.name == name {
+		return seat.session
 	}
 	return sessionOf(hashed(name))
 }

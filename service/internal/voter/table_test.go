@@ -26,6 +26,26 @@ func leasesAt(now time.Time) leases {
 	return l
 }
 
+// all returns the rows of all numbers.
+func (t *table) all() (rows [qlock.MaxClients]Session) {
+	for number := range rows {
+		rows[number] = t.row(number)
+	}
+	return rows
+}
+
+// copied returns a table that is the same as this one, and stays so.
+func (t *table) copied() *table {
+	other := *t
+	for number, one := range t.seats {
+		if one != nil {
+			seat := *one
+			other.seats[number] = &seat
+		}
+	}
+	return &other
+}
+
 // passes lets a table's lease clock go on to a time.
 func passes(t *table, now time.Time) { t.clock = *qlock.NewClock(periodOf(t.ttl), now.Sub(t.began)) }
 
@@ -54,7 +74,7 @@ func TestClaims(t *testing.T) {
 	now := time.Unix(1000, 0)
 	table := tableAt(now)
 	later := now.Add(2 * time.Second)
-	row := func() Session { return table.rows[3] } // calls take place in their order
+	row := func() Session { return table.row(3) } // calls take place in their order
 	for _, one := range []struct {
 		what string
 		got  bool
@@ -82,15 +102,15 @@ func TestClaims(t *testing.T) {
 			t.Error(one.what)
 		}
 	}
-	if claimAt(table, 6, "x", 1, now); table.rows[6].Open {
-		if table.drop(6, "x", 1); table.rows[6].Open {
+	if claimAt(table, 6, "x", 1, now); table.row(6).Open {
+		if table.drop(6, "x", 1); table.row(6).Open {
 			t.Error("a claim stays that was dropped")
 		}
 	}
 	if !claimAt(table, 6, "y", 1, now) || table.admit(6, "y", 1, now) != qlock.SessionKnown || table.admit(6, "x", 1, now) != qlock.SessionOver {
 		t.Error("whoever has the quorum does not get an epoch that another one took back")
 	}
-	if table.drop(6, "y", 1); !table.rows[6].Open {
+	if table.drop(6, "y", 1); !table.row(6).Open {
 		t.Error("a session that a quorum accepted was dropped")
 	}
 	if !claimAt(table, 7, "x", 1, later) || isDeadAt(table, 7, later.Add(900*time.Millisecond)) || !isDeadAt(table, 7,
@@ -98,7 +118,7 @@ func TestClaims(t *testing.T) {
 		t.Error("a lease is not as long as the TTL")
 	}
 	table.expel(3, false)
-	if table.admit(3, "b", 2, later) != qlock.SessionOver || table.rows[3].Open || isDeadAt(table, 3, later) {
+	if table.admit(3, "b", 2, later) != qlock.SessionOver || table.row(3).Open || isDeadAt(table, 3, later) {
 		t.Error("a session that was expelled goes on, or what it has goes before it was silent")
 	}
 	if table.expel(3, true); !isDeadAt(table, 3, later) {
@@ -118,28 +138,28 @@ func TestGrowthIsBounded(t *testing.T) {
 	for i := 0; i < 100000; i++ {
 		now = now.Add(100 * time.Microsecond)
 		table.admit(3, "a", 1, now)
-		table.reserve(3, "a", 1, table.rows[3].Reserved+mostStamps, now)
+		table.reserve(3, "a", 1, table.row(3).Reserved+mostStamps, now)
 	}
-	if most := uint64(mostStamps + 10*stampRate); table.rows[3].Reserved > most || table.rows[3].Reserved < most/2 {
-		t.Errorf("after ten seconds %d stamps are reserved", table.rows[3].Reserved)
+	if most := uint64(mostStamps + 10*stampRate); table.row(3).Reserved > most || table.row(3).Reserved < most/2 {
+		t.Errorf("after ten seconds %d stamps are reserved", table.row(3).Reserved)
 	}
 	table.claim(4, "b", 1, 0, now)
-	if table.reserve(4, "b", 1, table.rows[3].Reserved, now); table.rows[4].Reserved != table.rows[3].Reserved {
+	if table.reserve(4, "b", 1, table.row(3).Reserved, now); table.row(4).Reserved != table.row(3).Reserved {
 		t.Error("a session can't follow the stamps of another one")
 	}
 	table.reserve(4, "b", 1, 1<<62, now.Add(1000000*time.Hour))
-	if table.reserve(4, "b", 1, 1<<63, now.Add(2000000*time.Hour)); table.rows[4].Reserved > qlock.MaxStamp {
+	if table.reserve(4, "b", 1, 1<<63, now.Add(2000000*time.Hour)); table.row(4).Reserved > qlock.MaxStamp {
 		t.Error("a stamp is reserved that there is not")
 	}
 	for i := 0; i < 1000; i++ {
-		table.claim(5, "x", table.rows[5].Epoch+mostEpochs, 0, now)
-		table.claim(5, "x", table.rows[5].Epoch+mostEpochs/2, 0, now)
-		table.end(5, "x", table.rows[5].Epoch)
+		table.claim(5, "x", table.row(5).Epoch+mostEpochs, 0, now)
+		table.claim(5, "x", table.row(5).Epoch+mostEpochs/2, 0, now)
+		table.end(5, "x", table.row(5).Epoch)
 	}
-	if table.rows[5].Epoch > mostEpochs {
-		t.Errorf("a number has the epoch %d", table.rows[5].Epoch)
+	if table.row(5).Epoch > mostEpochs {
+		t.Errorf("a number has the epoch %d", table.row(5).Epoch)
 	}
-	if other := tableAt(now); !other.claim(5, "y", table.rows[5].Epoch+1, 0, now.Add(time.Second)) {
+	if other := tableAt(now); !other.claim(5, "y", table.row(5).Epoch+1, 0, now.Add(time.Second)) {
 		t.Error("a session that saw this epoch gets the number from no other voter")
 	}
 }
@@ -171,8 +191,8 @@ func stampsUsedTwice(meet int) (twice int) {
 			for i := 0; i < 3; i++ {
 				if random.Intn(3) > 0 && claimAt(tables[i], 0, string(rune('a'+session)), epoch, now) {
 					answers += weight(i, meet)
-					if tables[i].rows[0].Reserved > base {
-						base = tables[i].rows[0].Reserved
+					if tables[i].row(0).Reserved > base {
+						base = tables[i].row(0).Reserved
 					}
 				}
 			}
@@ -183,7 +203,7 @@ func stampsUsedTwice(meet int) (twice int) {
 			for i := 0; i < 3; i++ {
 				name := string(rune('a' + session))
 				if random.Intn(3) > 0 && admits(tables[i], 0, name, epoch, base+10, now) == qlock.SessionKnown &&
-					tables[i].rows[0].Reserved >= base+10 {
+					tables[i].row(0).Reserved >= base+10 {
 					acknowledged += weight(i, meet)
 				}
 			}

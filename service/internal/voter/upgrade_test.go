@@ -80,7 +80,7 @@ func TestUpgrade(t *testing.T) {
 		t.Error("it is not quiet, though nobody knows how it ended")
 	}
 	d.leases.quiet = quiet{}
-	if row := d.shard(0).rows[0]; row.Open || row.Base != 9000 || row.Reserved != 9000 || row.Epoch != 7 {
+	if row := d.shard(0).row(0); row.Open || row.Base != 9000 || row.Reserved != 9000 || row.Epoch != 7 {
 		t.Errorf("a session is %+v", row)
 	}
 	h := wire.Header{Cluster: "test", Coterie: d.mark, Kind: wire.FromClient, Epoch: 8, Reserved: 9100, Name: "me"}

@@ -32,7 +32,7 @@ func (s *shard) asker(client int, stamp uint64) string {
 	if s.isEarlier(client, stamp) {
 		return ""
 	}
-	return userOf(s.rows[client].Hash)
+	return userOf(s.row(client).Hash)
 }
 
 // countUser counts the requests of a user that have a vote or wait for it, and its votes.
@@ -72,7 +72,7 @@ func (d *Daemon) isAtBound(v *vote, user string) bool {
 func (d *Daemon) isInTheWay(v *vote) bool {
 	client := int(v.held.Client)
 	u := d.users[v.asks[client].user]
-	return !v.shard.rows[client].Open || v.shard.isEarlier(client, v.held.Stamp) ||
+	return !v.shard.row(client).Open || v.shard.isEarlier(client, v.held.Stamp) ||
 		u != nil && u.isFull && u.votes >= d.own.LocksOfUser() || d.isFull && len(d.votes) >= d.own.MaxLocks
 }
 

@@ -115,14 +115,14 @@ func TestDeadSessionsMakeRoom(t *testing.T) {
 		if reply := d.repliesTo("jobs", 2, "c request 2 0 1\n"); !strings.Contains(reply, ". full ") {
 			t.Errorf("%s: %q", one.name, reply)
 		}
-		if count, lapses := held(), d.shard(0).rows[1].Lapses; count != one.left || lapses != uint64(one.lapses) {
+		if count, lapses := held(), d.shard(0).row(1).Lapses; count != one.left || lapses != uint64(one.lapses) {
 			t.Errorf("%s: %d are left, and %d lapses", one.name, count, lapses)
 		}
 	}
 	d, _ := alone(t, 100)
 	d.repliesTo("jobs", 1, ". claim 1 1 1000\n")
 	d.repliesTo("jobs", 1, "a request 1 0 1\n")
-	d.shard(0).end(1, d.shard(0).names[1], d.shard(0).rows[1].Epoch)
+	d.shard(0).end(1, d.shard(0).name(1), d.shard(0).row(1).Epoch)
 	if d.round(time.Now()); d.votes["a"].held.Number > 0 {
 		t.Error("a session that is over keeps its vote")
 	}

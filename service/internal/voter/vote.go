@@ -140,14 +140,15 @@ func (s *shard) isBusy(v *vote) {
 // count counts the requests of the session that a number has now. Those of its earlier sessions don't count: nobody of
 // this session waits for them.
 func (s *shard) count(client int, one ask, by int) {
-	if one.stamp > s.rows[client].Base {
-		s.requests[client] += by
+	if one.stamp > s.row(client).Base {
+		s.seat(client).requests += by
 	}
 }
 
 // recount counts anew, once a number has a new session.
 func (d *Daemon) recount(s *shard, client int) {
-	s.requests[client], s.locks[client] = 0, ""
+	seat := s.seat(client)
+	seat.requests, seat.lock = 0, ""
 	for v := range s.busy {
 		if one, asked := v.asks[client]; asked {
 			s.count(client, one, 1)

@@ -64,8 +64,8 @@ func newStage(f *testing.F) *stage {
 		hand(d, s.said(number, 1, 100, name, ". open 0\n"))
 	}
 	hand(d, s.said(0, 1, 100, "me", "orders request 0 0 1\n"))
-	if d.votes["orders"] == nil || d.votes["orders"].held.Number != 1 || d.shard(0).rows[1].Reserved != 100 {
-		f.Fatalf("%+v", d.shard(0).rows[:2])
+	if d.votes["orders"] == nil || d.votes["orders"].held.Number != 1 || d.shard(0).row(1).Reserved != 100 {
+		f.Fatalf("%+v", d.shard(0).seats[:2])
 	}
 	if err := d.commit(time.Now()); err != nil {
 		f.Fatal(err)
@@ -213,17 +213,18 @@ func FuzzMessage(f *testing.F) {
 			message = message[:end+2] // it is a bundle (FuzzBundle)
 		}
 		d := s.again(t)
-		rows, locks, held := d.shard(0).rows, d.shard(0).locks, d.votes["orders"].held
+		rows, held := d.shard(0).all(), d.votes["orders"].held
+		locks := [2]string{d.shard(0).seat(0).lock, d.shard(0).seat(1).lock}
 		hand(d, message)
 		if sent(d) > mostReplies+4*len(message) {
 			t.Fatalf("%d bytes leave for a message of %d", sent(d), len(message))
 		}
 		h, _, err := wire.Read(message)
 		ours := err == nil && h.Cluster == "test" && h.Coterie == s.mark && h.Kind == wire.FromClient
-		if !ours && (d.shard(0).rows != rows || len(d.votes) != 1 || len(d.dirty)+len(d.leases.changed) > 0) {
+		if !ours && (d.shard(0).all() != rows || len(d.votes) != 1 || len(d.dirty)+len(d.leases.changed) > 0) {
 			t.Fatalf("a foreign message changes %v", d.leases.changed)
 		}
-		for number, row := range d.shard(0).rows {
+		for number, row := range d.shard(0).all() {
 			mustGrow(t, rows[number], row, number)
 			if rows[number].Open && row != rows[number] && (!ours || hashed(wire.SessionName(wire.NoUser, h.Name)) != rows[number].Hash) {
 				t.Fatalf("%q changes the session of number %d from %+v to %+v", h.Name, number, rows[number], row)
@@ -233,7 +234,7 @@ func FuzzMessage(f *testing.F) {
 			if d.shard(0).noteOf(number) != "" && (!ours || h.Name != name) {
 				t.Fatalf("%q notes %q for another session", h.Name, d.shard(0).noteOf(number))
 			}
-			if now := d.shard(0).locks[number]; now != locks[number] && (!ours || h.Name != name) {
+			if now := d.shard(0).seat(number).lock; now != locks[number] && (!ours || h.Name != name) {
 				t.Fatalf("%q says that another session wants %q", h.Name, now)
 			}
 		}
@@ -272,21 +273,21 @@ func FuzzSessions(f *testing.F) {
 		players := []player{{name: "one"}, {name: "two"}, {name: "three"}}
 		owners, granted := map[string]string{}, map[string]string{}
 		for step, op := range script {
-			rows := d.shard(0).rows
+			rows := d.shard(0).all()
 			p := &players[int(op&15)%len(players)]
 			lines := ""
 			switch op >> 4 & 7 {
 			case 0:
-				p.epoch = d.shard(0).rows[3].Epoch + 1 + uint64(op>>7)
+				p.epoch = d.shard(0).row(3).Epoch + 1 + uint64(op>>7)
 				lines = fmt.Sprintf(". claim 3 %d\n", p.epoch)
 			case 1:
-				p.reserved = d.shard(0).rows[3].Reserved + uint64(op>>7)*100
+				p.reserved = d.shard(0).row(3).Reserved + uint64(op>>7)*100
 				lines = ". open 0\n"
 			case 2, 3:
 				stamp += uint64(op >> 7)
-				lines = fmt.Sprintf("orders%d request 3 0 %d\n", op&1, d.shard(0).rows[3].Base+stamp)
+				lines = fmt.Sprintf("orders%d request 3 0 %d\n", op&1, d.shard(0).row(3).Base+stamp)
 			case 4:
-				lines = fmt.Sprintf("orders%d release 3 0 %d\n", op&1, d.shard(0).rows[3].Base+stamp)
+				lines = fmt.Sprintf("orders%d release 3 0 %d\n", op&1, d.shard(0).row(3).Base+stamp)
 			case 5:
 				lines = fmt.Sprintf(". drop 3 %d\n", p.epoch)
 			case 6:
@@ -296,16 +297,16 @@ func FuzzSessions(f *testing.F) {
 				passes(&d.shard(0).table, d.leases.began.Add(reading+2*d.leases.ttl)) // silent for two TTL
 			}
 			hand(d, s.said(3, p.epoch, p.reserved, p.name, lines))
-			mustGrow(t, rows[3], d.shard(0).rows[3], 3)
+			mustGrow(t, rows[3], d.shard(0).row(3), 3)
 			for name, text := range d.out {
 				for _, line := range strings.Split(string(text), "\n") {
 					noteReply(t, step, name, strings.Fields(line), owners, granted)
 				}
 			}
 			for _, v := range d.votes {
-				if v.held.Number > 0 && v.held.Stamp > d.shard(0).rows[v.held.Client].Reserved {
+				if v.held.Number > 0 && v.held.Stamp > d.shard(0).row(int(v.held.Client)).Reserved {
 					t.Fatalf("step %d: stamp %d is granted, and %d is reserved", step, v.held.Stamp,
-						d.shard(0).rows[v.held.Client].Reserved)
+						d.shard(0).row(int(v.held.Client)).Reserved)
 				}
 			}
 			mustCount(t, d)
@@ -377,7 +378,7 @@ func FuzzOperator(f *testing.F) {
 	}
 	f.Fuzz(func(t *testing.T, lines string) {
 		d := s.again(t)
-		rows, plans, held := d.shard(0).rows, d.plans, d.votes["orders"].held
+		rows, plans, held := d.shard(0).all(), d.plans, d.votes["orders"].held
 		h := wire.Header{Cluster: "test", Coterie: s.mark, Kind: wire.FromOperator, Name: "0123"}
 		replies := order(d, append(h.Append(nil), lines...))
 		reply, one := replies[wire.ReplyBox("test", "alice.0123", 0)]
@@ -385,17 +386,17 @@ func FuzzOperator(f *testing.F) {
 			t.Fatalf("%q: %d replies: %q", lines, len(replies), text)
 		}
 		words := append(strings.Fields(lines), "")
-		if !orders[words[0]] && (d.shard(0).rows != rows || !reflect.DeepEqual(d.plans, plans) ||
+		if !orders[words[0]] && (d.shard(0).all() != rows || !reflect.DeepEqual(d.plans, plans) ||
 			d.votes["orders"].held != held || sent(d) > 0) {
 			t.Fatalf("%q changes something", lines)
 		}
-		for number, row := range d.shard(0).rows {
+		for number, row := range d.shard(0).all() {
 			mustGrow(t, rows[number], row, number)
 		}
 		if words[0] == "evict" || words[0] == "unlock" {
-			rows := d.shard(0).rows
+			rows := d.shard(0).all()
 			twice := order(d, append(h.Append(nil), lines...))[wire.ReplyBox("test", "alice.0123", 0)]
-			if !bytes.Equal(twice.text(), reply.text()) || d.shard(0).rows != rows {
+			if !bytes.Equal(twice.text(), reply.text()) || d.shard(0).all() != rows {
 				t.Fatalf("%q is done twice: %q, then %q", lines, reply.text(), twice.text())
 			}
 		}
@@ -407,7 +408,7 @@ func FuzzOperator(f *testing.F) {
 func FuzzRows(f *testing.F) {
 	s := newStage(f)
 	d := s.open(f)
-	rows, held := d.shard(0).rows, d.votes["orders"].held
+	rows, held := d.shard(0).all(), d.votes["orders"].held
 	places := rowsOf(f, d.store.disk.(*fileDisk).db)
 	d.store.disk.Close()
 	s.state = s.read(f) // each start changes a row
@@ -441,7 +442,7 @@ func FuzzRows(f *testing.F) {
 			return
 		}
 		defer d.store.disk.Close()
-		if !same || d.shard(0).rows != rows || len(d.votes) != 1 || d.votes["orders"].held != held {
+		if !same || d.shard(0).all() != rows || len(d.votes) != 1 || d.votes["orders"].held != held {
 			t.Fatalf("%q starts as row %q of %s", value, place[1], place[0])
 		}
 	})

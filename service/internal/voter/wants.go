@@ -29,8 +29,8 @@ func (d *Daemon) want(l *letter, ask wire.Ask, now time.Time) {
 	if l.wanted = ask.Number; l.wanted > 0 {
 		return
 	}
-	if number := l.shard.numberOf(l.Name); number >= 0 && l.shard.isBrought(number) && l.shard.brought[number] <= greatest(l.Seq, 1) {
-		l.shard.end(number, l.Name, l.shard.rows[number].Epoch)
+	if number := l.shard.numberOf(l.Name); number >= 0 && l.shard.isBrought(number) && l.shard.seat(number).brought <= greatest(l.Seq, 1) {
+		l.shard.end(number, l.Name, l.shard.row(number).Epoch)
 		d.tellFree(l.shard, now)
 	}
 }
@@ -41,11 +41,12 @@ func (d *Daemon) again(l *letter, now time.Time) int {
 		return -1
 	}
 	number := l.shard.numberOf(l.Name)
-	if number < 0 || !d.gives(l, number, l.shard.rows[number].Epoch, 0, now) {
+	if number < 0 || !d.gives(l, number, l.shard.row(number).Epoch, 0, now) {
 		return -1
 	}
 	if l.shard.isBrought(number) {
-		l.shard.brought[number] = greatest(l.shard.brought[number], l.Seq)
+		seat := l.shard.seat(number)
+		seat.brought = greatest(seat.brought, l.Seq)
 	}
 	return number
 }
@@ -59,8 +60,8 @@ func (d *Daemon) bring(l *letter, states []int, now time.Time) int {
 	for _, state := range []int{1, 2} {
 		for i := 0; i < qlock.MaxClients; i++ {
 			number := (first + i) % qlock.MaxClients
-			if states[number] == state && d.gives(l, number, l.shard.rows[number].Epoch+1, l.wanted, now) {
-				l.shard.brought[number] = greatest(l.Seq, 1)
+			if states[number] == state && d.gives(l, number, l.shard.row(number).Epoch+1, l.wanted, now) {
+				l.shard.seat(number).brought = greatest(l.Seq, 1)
 				return number
 			}
 		}
@@ -74,8 +75,8 @@ func FirstNumber(session string) int { return int(sessionOf(hashed(session))[0])
 // numberOf returns the number that a session has here and that nobody else may claim, -1 if it has none.
 func (t *table) numberOf(name string) int {
 	session := sessionOf(hashed(name))
-	for number := range t.rows {
-		if t.rows[number].Open && t.hashes[number] == session && !t.isDead(number) {
+	for number, seat := range t.seats {
+		if seat != nil && seat.row.Open && seat.session == session && !t.isDead(number) {
 			return number
 		}
 	}
@@ -83,4 +84,6 @@ func (t *table) numberOf(name string) int {
 }
 
 // isBrought returns whether a want brought a number to its session, which did not use it yet.
-func (t *table) isBrought(number int) bool { return t.brought[number] > 0 }
+func (t *table) isBrought(number int) bool {
+	return t.seats[number] != nil && t.seats[number].brought > 0
+}

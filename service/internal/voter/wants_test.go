@@ -65,7 +65,7 @@ func TestWantBringsANumber(t *testing.T) {
 			t.Fatalf("%d: %q", i, reply)
 		}
 	}
-	if row := d.shard(0).rows[20]; !row.Open || row.Used || row.Hash != hashed("jobs."+me) || len(d.shard(0).changed) == 0 {
+	if row := d.shard(0).row(20); !row.Open || row.Used || row.Hash != hashed("jobs."+me) || len(d.shard(0).changed) == 0 {
 		t.Errorf("%+v", row)
 	}
 	if number, epoch := broughtBy(says(other, 0, 0, 1, wants)); number != 21 || epoch != 1 {
@@ -90,7 +90,7 @@ func TestWantSkipsNumbers(t *testing.T) {
 	d, says := wanting(t)
 	s, me := d.shard(0), startsAt(20, 0)
 	s.set(20, Session{Epoch: math.MaxUint64})
-	s.epochs[21] = *qlock.NewBucket(0, 0, 0) // it may not grow
+	s.seat(21).epochs = qlock.NewBucket(0, 0, 0) // it may not grow
 	for number := 22; number < 30; number++ {
 		says(fmt.Sprint("dead-", number), 0, 0, 0, fmt.Sprintf(". claim %d 1 64\n", number))
 	}
@@ -98,10 +98,10 @@ func TestWantSkipsNumbers(t *testing.T) {
 	if number, _ := broughtBy(says(me, 0, 0, 1, wants)); number != 30 {
 		t.Errorf("it has %d", number)
 	}
-	for number := range s.rows {
+	for number := range s.seats {
 		if number < 20 || number > 29 {
 			s.set(number, Session{Epoch: 1, Hash: "x", Open: true})
-			s.heard[number], _ = s.clock.Shows()
+			s.seat(number).heard, _ = s.clock.Shows()
 		}
 	}
 	if number, epoch := broughtBy(says(startsAt(20, 1), 0, 0, 1, wants)); number != 22 || epoch != 2 {
@@ -134,7 +134,7 @@ func TestWantAndTheOrder(t *testing.T) {
 	if reply := says("first", 0, 0, 2, wants); strings.Contains(reply, "claimed") || !strings.Contains(reply, ". number 9 1 1\n") {
 		t.Errorf("who is first: %.40q", reply)
 	}
-	s.waiting.short = time.Time{} // nobody waits any more
+	s.queue().short = time.Time{} // nobody waits any more
 	number, _ := broughtBy(says("first", 0, 0, 3, wants))
 	if number != 9 {
 		t.Errorf("once nobody waits: %d", number)
@@ -168,12 +168,12 @@ func TestWantsOfManyAtOnce(t *testing.T) {
 func TestLockOfAWant(t *testing.T) {
 	d, says := wanting(t)
 	number, _ := broughtBy(says("one", 0, 0, 1, ". want 64 orders\n. hello\n"))
-	if number < 0 || d.shard(0).locks[number] != "orders" {
-		t.Errorf("number %d is for %q", number, d.shard(0).locks[number])
+	if number < 0 || d.shard(0).seat(number).lock != "orders" {
+		t.Errorf("number %d is for %q", number, d.shard(0).seat(number).lock)
 	}
 	number, _ = broughtBy(says("other", 0, 0, 1, ". for stock\n"+wants))
-	if number < 0 || d.shard(0).locks[number] != "stock" {
-		t.Errorf("number %d is for %q", number, d.shard(0).locks[number])
+	if number < 0 || d.shard(0).seat(number).lock != "stock" {
+		t.Errorf("number %d is for %q", number, d.shard(0).seat(number).lock)
 	}
 }
 
@@ -181,7 +181,7 @@ func TestLockOfAWant(t *testing.T) {
 func TestWantIsTakenBack(t *testing.T) {
 	d, says := wanting(t)
 	s := d.shard(0)
-	isOpen := func(number int) bool { return s.rows[number].Open }
+	isOpen := func(number int) bool { return s.row(number).Open }
 	number, epoch := broughtBy(says("me", 0, 0, 5, wants))
 	if says("other", 0, 0, 9, ". want 0\n"); !isOpen(number) {
 		t.Error("another session gives it back")
@@ -189,8 +189,8 @@ func TestWantIsTakenBack(t *testing.T) {
 	if says("me", 0, 0, 4, ". want 0\n"); !isOpen(number) {
 		t.Error("a late word gives back what was brought since")
 	}
-	if says("me", 0, 0, 5, ". want 0\n"); isOpen(number) || s.rows[number].Dropped {
-		t.Errorf("%+v", s.rows[number])
+	if says("me", 0, 0, 5, ". want 0\n"); isOpen(number) || s.row(number).Dropped {
+		t.Errorf("%+v", s.row(number))
 	}
 	if s.claim(number, "jobs.other", epoch, 0, d.now()) {
 		t.Error("its epoch is claimed again")
@@ -261,9 +261,9 @@ func TestWantOfASessionWithANumber(t *testing.T) {
 // Numbers that wants bring are claimed: the first ones see those that are free, and nobody else does, from then on.
 func TestWantIsAClaim(t *testing.T) {
 	d, says := wanting(t)
-	d.shard(0).waiting.unclaimed = time.Now().Add(-time.Hour)
-	if number, _ := broughtBy(says("me", 0, 0, 1, wants)); number < 0 || !d.shard(0).waiting.unclaimed.IsZero() {
-		t.Errorf("it has %d, and the time is %v", number, d.shard(0).waiting.unclaimed)
+	d.shard(0).queue().unclaimed = time.Now().Add(-time.Hour)
+	if number, _ := broughtBy(says("me", 0, 0, 1, wants)); number < 0 || !d.shard(0).queue().unclaimed.IsZero() {
+		t.Errorf("it has %d, and the time is %v", number, d.shard(0).queue().unclaimed)
 	}
 }
 
@@ -291,13 +291,13 @@ func TestWantInAShard(t *testing.T) {
 	if number := says("late", hot); number >= 0 {
 		t.Errorf("the lock has all its numbers, and %d too", number)
 	}
-	if number := says("neighbour", cold); number < 56 || s.locks[number] != cold {
+	if number := says("neighbour", cold); number < 56 || s.seat(number).lock != cold {
 		t.Errorf("the neighbour has %d", number)
 	}
-	if number := says("stray", lockOf(d, 2)); number < 56 || s.locks[number] != "" {
-		t.Errorf("it has %d, for %q, and its lock is of another shard", number, s.locks[number])
+	if number := says("stray", lockOf(d, 2)); number < 56 || s.seat(number).lock != "" {
+		t.Errorf("it has %d, for %q, and its lock is of another shard", number, s.seat(number).lock)
 	}
-	if s.end(7, s.names[7], 1); says("late", hot) >= 0 {
+	if s.end(7, s.name(7), 1); says("late", hot) >= 0 {
 		t.Error("who comes later has one, and another one waits")
 	}
 }

@@ -1,0 +1,342 @@
+package voter
+
+import (
+	"errors"
+	"fmt"
+	"math/bits"
+	"math/rand"
+	"reflect"
+	"runtime"
+	"strings"
+	"testing"
+	"time"
+	"unsafe"
+
+	"calvundek.example/service/internal/config"
+	"calvundek.example/service/internal/level"
+	"calvundek.example/service/internal/wire"
+	"calvundek.example/service/qlock"
+	"calvundek.example/service/transport"
+	"github.com/prometheus/client_golang/prometheus/testutil"
+)
+
+// What is kept of a shard takes so many bytes at most: with no session, and for each number that a session has.
+const (
+	mostOfShard  = 5 << 10
+	mostOfNumber = 350
+)
+
+// heap returns how many bytes are in use.
+func heap() int {
+	var m runtime.MemStats
+	runtime.GC()
+	runtime.GC()
+	runtime.ReadMemStats(&m)
+	return int(m.HeapAlloc)
+}
+
+// settles takes out what is to leave, and what is to be saved.
+func (d *Daemon) settles() {
+	d.leases.saved()
+	d.out, d.outBytes, d.dirty, d.silent = map[string][]byte{}, 0, map[*vote]struct{}{}, map[*vote]struct{}{}
+}
+
+// ofShard says something in the place of a session of a shard with names as long as real ones.
+func (d *Daemon) ofShard(shard, number int, epoch uint64, lines string) {
+	nonce := fmt.Sprintf("%016x%016x", shard, number)
+	h := wire.Header{Cluster: "test", Coterie: d.mark, Kind: wire.FromClient, Number: number, Epoch: epoch, Reserved: 1000, Level: level.Newest,
+		Name: d.cluster.SessionName(shard, nonce)}
+	d.sort(transport.Message{Mailbox: wire.VoterBox("test", 0, "jobs"), Data: append(h.Append(nil), lines...)})
+	d.takeAll()
+}
+
+// A shard takes little memory, and so does a session of it that has a number: what few need is there once it is used, and who waited, and
+// does so no more, takes none.
+func TestMemoryOfShards(t *testing.T) {
+	const shards, numbers = 256, 15
+	d, _ := sharded(t, shards)
+	d.settles()
+	before := heap()
+	for shard := 1; shard < shards; shard++ {
+		d.shard(shard)
+	}
+	empty := heap()
+	if each := (empty - before) / (shards - 1); each > mostOfShard {
+		t.Errorf("a shard takes %d bytes", each)
+	} else {
+		t.Logf("a shard takes %d bytes", each)
+	}
+	for shard := 1; shard < shards; shard++ {
+		for number := 0; number < numbers; number++ {
+			d.ofShard(shard, number, 0, fmt.Sprintf(". hello\n. claim %d 1 64\n", number))
+			for i := 0; i < 2; i++ {
+				d.ofShard(shard, number, 1, ". open 0\n")
+			}
+		}
+	}
+	d.settles()
+	if each := (heap() - empty) / (shards - 1) / numbers; each > mostOfNumber {
+		t.Errorf("a session takes %d bytes", each)
+	} else {
+		t.Logf("a session takes %d bytes", each)
+	}
+	runtime.KeepAlive(d)
+}
+
+// Who only asks makes no seat of a number, and whoever looks makes none.
+func TestNobodyMakesASeatByAQuestion(t *testing.T) {
+	d, says := floored(t)
+	d.floors[1] = Floor{Stamp: 50, Epochs: []uint64{3}}
+	s := d.shard(1)
+	says(1, 5, 0, ". hello\n. for "+lockOf(d, 1)+"\n. who 1 x\n")
+	says(1, 5, 4, ". open 0\n"+lockOf(d, 1)+" request 5 0 70\n")
+	says(1, 5, 3, ". claim 5 0 10\n. drop 5 1\n. close\n")
+	for number := 0; number < qlock.MaxClients; number++ {
+		s.isOver(number, 7)
+		s.noteOf(number)
+		if row := s.row(number); row != d.floors[1].row(number) || s.name(number) != "" || s.isBrought(number) {
+			t.Errorf("number %d has %+v", number, row)
+		}
+	}
+	s.states()
+	s.census()
+	s.isUnused()
+	s.highest()
+	s.lapses("jobs.x")
+	d.knows(0)
+	d.status(time.Now())
+	d.learnFloor(1, d.floors[1], time.Now())
+	d.leases.hearAll(time.Now())
+	s.silent(3)
+	if s.seats != [qlock.MaxClients]*seat{} {
+		t.Errorf("%v", s.seats)
+	}
+	if says(1, 5, 4, ". claim 5 4 10\n"); s.seats[5] == nil || s.row(5).Epoch != 4 || s.row(5).Base < 50 {
+		t.Errorf("who claims the number has %+v", s.row(5))
+	}
+}
+
+// The name of a session is in memory once, however often it speaks, and whatever it says of itself.
+func TestNameIsKeptOnce(t *testing.T) {
+	d := sessions(t, 1)
+	at := func(text string) uintptr { return (*reflect.StringHeader)(unsafe.Pointer(&text)).Data }
+	for _, lines := range []string{". open 0\n", ". note m 1 r a\n. process p\n", ". open 0\n"} {
+		d.repliesTo("jobs", 1, lines)
+	}
+	seat := d.shard(0).seat(1)
+	if seat.name != "jobs.session-1" || at(seat.rarities.note.session) != at(seat.name) || at(seat.process.session) != at(seat.name) {
+		t.Errorf("%+v, %+v", seat, seat.rarities)
+	}
+}
+
+// The queue of a shard goes once nobody waits, and nobody did a moment ago. One that knows something else than a new one stays.
+func TestQueueGoes(t *testing.T) {
+	now, ttl := time.Unix(1000, 0), time.Second
+	for what, one := range map[string]struct {
+		queue  numberQueue
+		isIdle bool
+	}{
+		"a new one":                     {numberQueue{}, true},
+		"turns":                         {numberQueue{turn: 7, hot: "x"}, true},
+		"somebody waits":                {numberQueue{all: []queued{{session: "a"}}}, false},
+		"numbers are short":             {numberQueue{short: now.Add(-ttl / 2)}, false},
+		"they were":                     {numberQueue{short: now.Add(-ttl/2 - 1)}, true},
+		"all were told":                 {numberQueue{told: now.Add(-ttl/64 + 1)}, false},
+		"they were told a while ago":    {numberQueue{told: now.Add(-ttl / 64)}, true},
+		"the first ones may claim some": {numberQueue{unclaimed: now.Add(-time.Hour)}, false},
+	} {
+		s := &shard{table: *tableAt(now)}
+		queue := one.queue
+		if s.waiting = &queue; s.ttl != ttl {
+			t.Fatal(s.ttl)
+		}
+		if s.tidy(now); (s.waiting == nil) != one.isIdle {
+			t.Errorf("%s: the queue is there: %v", what, s.waiting != nil)
+		}
+	}
+	d := sessions(t, 1)
+	d.repliesTo("jobs", 2, ". hello\n. claim 2 1 64\n")
+	isThere := d.shard(0).waiting != nil
+	if d.repliesTo("jobs", 2, ". open 0\n"); !isThere || d.shard(0).waiting != nil {
+		t.Errorf("who has a number waits: %v, %+v", isThere, d.shard(0).waiting)
+	}
+	d.repliesTo("jobs", 3, ". hello\n. claim 3 1 64\n")
+	d.shard(0).waiting.all = nil
+	if d.measure(time.Now()); d.shard(0).waiting != nil {
+		t.Error("a queue stays that nobody asks for")
+	}
+}
+
+// What is shown of all shards is as they were counted last, also after some were dropped.
+func TestCensus(t *testing.T) {
+	d, says := floored(t)
+	shows := func(sessions, free int) {
+		t.Helper()
+		for i := 0; i <= len(d.inTurn); i++ {
+			d.measure(time.Now())
+		}
+		if got := [2]float64{testutil.ToFloat64(d.m.sessions), testutil.ToFloat64(d.m.numbers)}; got != [2]float64{float64(sessions), float64(free)} {
+			t.Errorf("%v are shown, and not %d and %d", got, sessions, free)
+		}
+	}
+	shows(1, 63)
+	for number := 0; number < 5; number++ {
+		says(1, number, 1, fmt.Sprintf(". claim %d 1 10\n", number))
+	}
+	says(2, 7, 1, ". claim 7 1 10\n")
+	shows(7, 59)
+	says(1, 0, 1, ". close\n")
+	shows(6, 60)
+	d.goesBy(time.Now().Add(2 * longestSilent))
+	if d.shards[1] != nil || len(d.inTurn) > 1 {
+		t.Fatal("a shard is not dropped")
+	}
+	shows(0, 64)
+}
+
+// Which sessions may have requests of an older plan is known without a look at each: it is as if each were looked at, whatever they say, and
+// however numbers change hands.
+func TestWhoIsBehind(t *testing.T) {
+	random, now, seen := rand.New(rand.NewSource(1)), time.Unix(1000, 0), 0
+	for world := 0; world < 100; world++ {
+		table, newest := tableAt(now), uint64(random.Intn(2))
+		for step := 0; step < 200; step++ {
+			number := random.Intn(6)
+			epoch, name := table.row(number).Epoch+1, fmt.Sprint("jobs.", random.Intn(3))
+			switch random.Intn(8) {
+			case 0:
+				table.claim(number, name, epoch, 1, now)
+			case 1:
+				table.end(number, table.name(number), epoch-1)
+			case 2:
+				table.drop(number, table.name(number), epoch-1)
+			case 3:
+				table.expel(number, false)
+			case 4:
+				table.learn(number, Session{Epoch: epoch, Base: 10, Reserved: 20, Open: random.Intn(3) > 0, Used: true, Hash: hashed(name)}, now)
+			case 5:
+				if random.Intn(10) == 0 {
+					newest++
+				}
+			default:
+				table.asks(number, uint64(random.Intn(int(newest)+1)), newest)
+			}
+			want := uint64(0)
+			for number, seat := range table.seats {
+				if seat != nil && seat.row.Open && seat.asksBy < newest {
+					want |= 1 << number
+				}
+			}
+			if got := table.behindOf(newest); got != want {
+				t.Fatalf("%b are behind plan %d, and not %b", got, newest, want)
+			}
+			seen += bits.OnesCount64(want)
+		}
+	}
+	if seen < 1000 {
+		t.Errorf("%d sessions were behind: these runs show little", seen)
+	}
+}
+
+// Where very many sessions have requests of the old plan, some are named.
+func TestManyAreBehind(t *testing.T) {
+	d, _ := sharded(t, 16)
+	before := d.plans.Now
+	d.plans.Number, d.plans.Old = 1, &before
+	d.join.done = false // else others have to keep its ceiling
+	for shard := 1; shard < 16; shard++ {
+		for number := 0; number < 60; number++ {
+			d.shard(shard).set(number, Session{Epoch: 1, Base: 1, Reserved: 2, Open: true, Used: true, Hash: "jobs.x"})
+		}
+	}
+	d.leases.hearAll(time.Now())
+	_, err := d.isReady(1, d.plans.mark())
+	if named := strings.Count(fmt.Sprint(err), "/"); !errors.Is(err, ErrLag) || named < mostNamed || named > 2*mostNamed {
+		t.Errorf("%d are named: %v", named, err)
+	}
+	for shard := 0; shard < 16; shard++ {
+		for number := 0; number < 60; number++ {
+			d.shard(shard).asks(number, 1, 1)
+		}
+	}
+	if _, err := d.isReady(1, d.plans.mark()); err != nil {
+		t.Errorf("all know the new plan: %v", err)
+	}
+}
+
+// nowhere is where messages go that nobody wants.
+type nowhere struct{ post }
+
+func (*nowhere) Send(string, []byte) error { return nil }
+
+// measured returns a voter that serves, and saves nothing.
+func measured(now time.Time, shards int) *Daemon {
+	d := &Daemon{cluster: &config.Cluster{ID: "test", Shards: shards}, own: &config.Voter{MaxLocks: 10}, store: &store{}, ceiling: qlock.MaxStamp,
+		m: newMetrics(), votes: map[string]*vote{}, users: map[string]*usage{}, dirty: map[*vote]struct{}{}, silent: map[*vote]struct{}{},
+		out: map[string][]byte{}, leases: leasesAt(now), carrier: &nowhere{}, mark: "m", join: joining{done: true}, gone: map[string]struct{}{}}
+	d.store.meta.Cluster, d.store.meta.Identity, d.store.own.Start = "test", identity("a"), 1
+	return d
+}
+
+// A turn of the loop without a save: a session asks for one lock, and gives it back, one session after the other.
+func BenchmarkTurn(b *testing.B) {
+	for _, sessions := range []int{1, 60} {
+		b.Run(fmt.Sprint(sessions), func(b *testing.B) {
+			d := measured(time.Unix(1000, 0), 1)
+			for number := 0; number < sessions; number++ {
+				d.shard(0).set(number, of(fmt.Sprint("jobs.session-", number), 1, 0, qlock.MaxStamp))
+			}
+			for i := 0; i < b.N; i++ {
+				number, word := i/2%sessions, "request"
+				if i%2 == 1 {
+					word = "release"
+				}
+				h := wire.Header{Cluster: "test", Coterie: "m", Kind: wire.FromClient, Number: number, Epoch: 1, Name: fmt.Sprint("session-", number)}
+				message := fmt.Appendf(h.Append(nil), "an-ordinary-lock %s %d 0 %d\n", word, number, i/2+1)
+				if d.Take(Clients, transport.Message{Mailbox: wire.VoterBox("test", 0, "jobs"), Data: message}); len(d.out) != (i+1)%2 {
+					b.Fatalf("%d: %q", i, d.out)
+				}
+				d.deliver()
+				for v := range d.dirty {
+					delete(d.dirty, v)
+				}
+				for v := range d.silent {
+					delete(d.silent, v)
+				}
+			}
+		})
+	}
+}
+
+// What a voter does from time to time, with 65,536 shards and 983,040 sessions.
+func BenchmarkManyShards(b *testing.B) {
+	now := time.Unix(1000, 0)
+	d := measured(now, 1<<16)
+	d.around.Now = func() time.Time { return now }
+	row := Session{Epoch: 3, Base: 10, Reserved: 20, Open: true, Used: true, Hash: hashed("jobs.x")}
+	for shard := 0; shard < d.cluster.Shards; shard++ {
+		for number := 0; number < 15; number++ {
+			d.shard(shard).put(number, row)
+		}
+		d.leases.saved()
+	}
+	d.plans.Now, d.plans.Old, d.join.done = Texts{}, &Texts{}, false
+	runtime.GC()
+	for _, one := range []struct {
+		name string
+		does func()
+	}{
+		{"marker", func() { d.isMarker(d.markerLine(d.leases.clock.Send(now.Sub(d.leases.began)))) }},
+		{"measure", func() { d.measure(now) }},
+		{"unused", func() { d.dropUnused(now) }},
+		{"knows", func() { d.knows(1 << 20) }},
+		{"ready", func() { _, _ = d.isReady(0, d.plans.mark()) }},
+	} {
+		b.Run(one.name, func(b *testing.B) {
+			for i := 0; i < b.N; i++ {
+				now = now.Add(200 * time.Millisecond)
+				one.does()
+			}
+		})
+	}
+}
