@@ -10,6 +10,7 @@ import (
 	"testing"
 	"time"
 
+	"calvundek.example/service/internal/config"
 	"calvundek.example/service/internal/level"
 	"calvundek.example/service/internal/operator"
 	"calvundek.example/service/internal/wire"
@@ -324,7 +325,7 @@ func TestMergedFloors(t *testing.T) {
 	used := Session{Hash: "jobs.x", Epoch: 9, Base: 30, Reserved: 40, Open: true, Used: true}
 	replies := []operator.Reply{
 		reply(0, Knows{Sessions: map[int]Session{64 + 3: used}, Floors: map[int]Floor{2: {5, []uint64{1}}}, Level: level.Floors}),
-		reply(1, Knows{Sessions: map[int]Session{}, Floors: map[int]Floor{1: {99, []uint64{0, 7, 0, 8}}, 2: {4, []uint64{0, 2}}, -1: {}, 4096: {}}}),
+		reply(1, Knows{Sessions: map[int]Session{}, Floors: map[int]Floor{1: {99, []uint64{0, 7, 0, 8}}, 2: {4, []uint64{0, 2}}, -1: {}, config.MostShards: {}}}),
 	}
 	all, heard, err := Merge(replies)
 	if err != nil || heard != 3 || all.Level != level.Floors {

@@ -23,7 +23,7 @@ import (
 // What is kept of a shard takes so many bytes at most: with no session, and for each number that a session has.
 const (
 	mostOfShard  = 5 << 10
-	mostOfNumber = 350
+	mostOfNumber = 360
 )
 
 // heap returns how many bytes are in use.
