@@ -22,7 +22,7 @@ const mostQueued = 4096
 // than it may have: the first ones may be gone, or wait in another order at other voters.
 const mostUnclaimed = 2 * time.Second
 
-// numberQueue has the sessions that wait for a number. In none, which is nil, nobody waits.
+// numberQueue has the sessions that wait for a number. A nil one has none.
 type numberQueue struct {
 	all       []queued  // by their turns, and of one turn the first one first
 	turn      uint64    // the highest one of those that got a number

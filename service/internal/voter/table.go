@@ -78,8 +78,8 @@ type leases struct {
 type table struct {
 	*leases
 	number   int                     // of the shard
-	behind   uint64                  // the numbers of open sessions that may have a request of an older plan than this one, as bits
-	plan     uint64                  // which one
+	behind   uint64                  // the numbers of open sessions that may have a request of an older plan than that, as bits
+	plan     uint64                  // which plan that is
 	vacant   Floor                   // says the rows of the numbers that have no seat
 	seats    [qlock.MaxClients]*seat // of the numbers that were used, or learned of
 	proved   qlock.Table             // the rows of all numbers, as the proved calls read them
@@ -184,8 +184,8 @@ func (t *table) asks(number int, oldest, newest uint64) {
 	t.noteBehind(number)
 }
 
-// behindOf returns the numbers of open sessions that may have a request of an older plan than this one, as bits. They are kept, as all
-// shards are asked at once.
+// behindOf returns the numbers of open sessions that may have a request of an older plan than this one, as bits. They are kept, so that
+// it takes little time to ask all shards at once.
 func (t *table) behindOf(plan uint64) uint64 {
 	if t.plan != plan {
 		t.plan = plan
@@ -365,7 +365,7 @@ func (t *table) admit(number int, name string, epoch uint64, now time.Time) qloc
 	}
 	t.hear(number, now)
 	seat := t.seat(number)
-	if seat.brought = 0; seat.name != name { // the same text once
+	if seat.brought = 0; seat.name != name { // else the text that is there stays: others have it, too
 		seat.name = name
 	}
 	if row := seat.row; !row.Used {

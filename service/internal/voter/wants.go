@@ -85,5 +85,6 @@ func (t *table) numberOf(name string) int {
 
 // isBrought returns whether a want brought a number to its session, which did not use it yet.
 func (t *table) isBrought(number int) bool {
-	return t.seats[number] != nil && t.seats[number].brought > 0
+	seat := t.seats[number]
+	return seat != nil && seat.brought > 0
 }
