@@ -45,7 +45,7 @@ func TestStatusOutsideOfTheLoop(t *testing.T) {
 		store: &store{meta: Meta{Cluster: "test", Identity: "copy"}}, mark: "mark",
 		replies: map[string]answer{}, done: map[string][]byte{}, leases: leasesAt(now)}
 	for i := 0; i < 3*mostShown; i++ {
-		d.busy.add(&vote{name: fmt.Sprintf("orders-%05d", i)})
+		d.busy.add(&vote{name: fmt.Sprintf("orders-%05d", i)}, inBusy)
 	}
 	header := wire.Header{Cluster: "test", Coterie: "mark", Kind: wire.FromOperator, Name: "op"}
 	d.operate(transport.Message{Mailbox: wire.ReadBox("test", 0, "alice"), Data: append(header.Append(nil), "status\n"...)}, false, now)
@@ -78,7 +78,7 @@ func (p *post) Listen(string) (<-chan transport.Message, error) { return nil, ni
 func says(d *Daemon, v *vote, client int, line string, now time.Time) {
 	from := qlock.Speaker{Session: d.shard(0).hashes[client], Epoch: d.shard(0).rows[client].Epoch}
 	shown, lines, err := d.call(v, func(out []byte) ([]byte, qlock.LockShown, error) {
-		return v.TakeFrom(&d.shard(0).proved, d.sinceOf(v), d.isQuiet(), from, []byte(line), out)
+		return d.proved(v).TakeFrom(&d.shard(0).proved, d.sinceOf(v), d.isQuiet(), from, []byte(line), out)
 	})
 	if err == nil && shown.IsTaken {
 		d.note(v, client, shown, lines, now)
@@ -199,8 +199,8 @@ func TestBusyVotesOfAShard(t *testing.T) {
 		for number := 1; number <= 2; number++ {
 			d.recount(s, number)
 		}
-		if requests := [2]int{s.requests[1], s.requests[2]}; len(s.busy) != one.busy || requests != one.requests {
-			t.Errorf("%d: %d votes, and %v requests", i, len(s.busy), requests)
+		if requests := [2]int{s.requests[1], s.requests[2]}; len(s.busy.all) != one.busy || requests != one.requests {
+			t.Errorf("%d: %d votes, and %v requests", i, len(s.busy.all), requests)
 		}
 	}
 }

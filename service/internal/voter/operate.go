@@ -203,9 +203,9 @@ func (d *Daemon) evict(key int, atOnce bool, by string, now time.Time) LetGo {
 	s, number := d.shardOfKey(key)
 	gone := LetGo{Nobody: !s.rows[number].Open && !(atOnce && s.byWord[number])}
 	s.expel(number, atOnce)
-	d.busy.each(func(v *vote) {
+	s.busy.each(func(v *vote) {
 		switch {
-		case v.shard != s || !v.isHolder(number):
+		case !v.isHolder(number):
 		case !atOnce:
 			gone.Later++
 		case d.letGo(v, now):
@@ -266,11 +266,12 @@ func (d *Daemon) view(v *vote, now time.Time) VoteView {
 	if v.held.Number > 0 {
 		shown.Client, shown.Stamp, shown.Grant = int(v.held.Client), v.held.Stamp, v.held.Number
 		shown.Session = d.cluster.NumberOf(v.shard.key(shown.Client))
-		shown.Held, shown.Note = now.Sub(v.granted).Seconds(), v.noteOfAsk(shown.Client)
+		shown.Held, shown.Note = now.Sub(v.granted.Time()).Seconds(), v.noteOfAsk(shown.Client)
 	}
-	for client, one := range v.asks {
-		if !v.isHolder(client) {
-			shown.Waiting = append(shown.Waiting, WaiterView{client, d.cluster.NumberOf(v.shard.key(client)), one.stamp, now.Sub(one.since).Seconds()})
+	for _, one := range v.asks {
+		if !v.isHolder(one.client) {
+			shown.Waiting = append(shown.Waiting, WaiterView{one.client, d.cluster.NumberOf(v.shard.key(one.client)), one.stamp,
+				now.Sub(one.since.Time()).Seconds()})
 		}
 	}
 	sort.Slice(shown.Waiting, func(i, j int) bool { return shown.Waiting[i].Stamp < shown.Waiting[j].Stamp })

@@ -29,22 +29,37 @@ func pack(state []byte) []byte {
 
 // unpack returns the state that was packed, or false if the bytes are none.
 func unpack(packed []byte) ([]byte, bool) {
-	if len(packed) < markBytes {
+	if !isPacked(packed) {
 		return nil, false
+	}
+	state := make([]byte, qlock.VoterBytes)
+	unpackTo(state, packed)
+	return state, true
+}
+
+// isPacked returns whether bytes are a state that was packed.
+func isPacked(packed []byte) bool {
+	if len(packed) < markBytes {
+		return false
 	}
 	count := 0
 	for _, mark := range packed[:markBytes] {
 		count += bits.OnesCount8(mark)
 	}
-	if packed[markBytes-1]>>(stateWords-8*(markBytes-1)) != 0 || len(packed) != markBytes+8*count {
-		return nil, false
+	return packed[markBytes-1]>>(stateWords-8*(markBytes-1)) == 0 && len(packed) == markBytes+8*count
+}
+
+// unpackTo writes the state that was packed in place of another one.
+func unpackTo(state []byte, packed []byte) {
+	for i := range state {
+		state[i] = 0
 	}
-	state, rest := make([]byte, qlock.VoterBytes), packed[markBytes:]
-	for i := 0; i < stateWords; i++ {
-		if packed[i/8]>>(i%8)&1 == 1 {
-			copy(state[8*i:], rest[:8])
+	rest := packed[markBytes:]
+	for i, marks := range packed[:markBytes] {
+		for ; marks != 0; marks &= marks - 1 {
+			word := 8*i + bits.TrailingZeros8(marks)
+			copy(state[8*word:], rest[:8])
 			rest = rest[8:]
 		}
 	}
-	return state, true
 }

@@ -13,7 +13,7 @@ import (
 type shard struct {
 	table
 	requests [qlock.MaxClients]int         // requests of a session that have a vote here, or wait for one
-	busy     map[*vote]struct{}            // the votes that somebody has or waits for
+	busy     voteList                      // the votes that somebody has or waits for
 	asksBy   [qlock.MaxClients]uint64      // the oldest plan of which a session has a request, as it said; 0 before
 	notes    [qlock.MaxClients]sessionNote // what sessions say of themselves
 	levels   [qlock.MaxClients]uint64      // the newest level that a session knows, 0 until it was heard
