@@ -258,6 +258,7 @@ func TestAskers(t *testing.T) {
 // A round of a voter with many votes that are held, and nobody waits for.
 func BenchmarkRound(b *testing.B) {
 	d, _ := alone(b, 1<<20)
+	d.own.First.Duration = longestReminder
 	now := time.Now()
 	holds(b, d, 1, "lock", 600_000, now)
 	d.saves()
@@ -273,10 +274,13 @@ func BenchmarkRound(b *testing.B) {
 // A start of a voter with many votes that are held.
 func BenchmarkStart(b *testing.B) {
 	d, _ := alone(b, 1<<20)
-	holds(b, d, 1, "lock", 100_000, time.Now())
-	if err := d.save(time.Now()); err != nil {
-		b.Fatal(err)
+	for i := 0; i < 100; i++ {
+		holds(b, d, 1, fmt.Sprint("lock-", i), 1000, time.Now())
+		if err := d.save(time.Now()); err != nil {
+			b.Fatal(err)
+		}
 	}
+	b.ResetTimer()
 	for i := 0; i < b.N; i++ {
 		b.StopTimer()
 		d.votes, d.busy, d.shards, d.inTurn = map[string]*vote{}, voteList{}, nil, nil
