@@ -195,8 +195,10 @@ func TestBusyVotesOfAShard(t *testing.T) {
 		{1, "stock release 1 0 2\n", 0, [2]int{0, 0}},
 	} {
 		d.repliesTo("jobs", one.number, one.lines)
-		s.requests = [qlock.MaxClients]int{}
 		for number := 1; number <= 2; number++ {
+			if s.requests[number] > 0 {
+				s.requests[number] = 99
+			}
 			d.recount(s, number)
 		}
 		if requests := [2]int{s.requests[1], s.requests[2]}; len(s.busy.all) != one.busy || requests != one.requests {

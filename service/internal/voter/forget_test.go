@@ -101,10 +101,10 @@ func TestRoomOfRestingLocks(t *testing.T) {
 	}
 }
 
-// A lock that somebody has, or of which a line came meanwhile, is kept.
+// A lock that somebody has again, or of which a line came meanwhile, is kept.
 func TestWhatIsNotForgotten(t *testing.T) {
 	d, says := alone(t, 10)
-	says("held request 0 0 1\nused request 0 0 2\nused release 0 0 2\nleft request 0 0 3\nleft release 0 0 3\n")
+	says("held request 0 0 1\nheld release 0 0 1\nheld request 0 0 4\nused request 0 0 2\nused release 0 0 2\nleft request 0 0 3\nleft release 0 0 3\n")
 	for _, name := range []string{"held", "left"} {
 		d.votes[name].heard = moment.Of(time.Now().Add(-d.restsFor))
 	}

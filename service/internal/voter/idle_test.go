@@ -106,7 +106,9 @@ func TestWhichVotesArePacked(t *testing.T) {
 	state := append([]byte(nil), named(0).saved()...)
 	for end := now.Add(10 * packsAfter); now.Before(end); now = now.Add(tick) {
 		d.proved(named(4))
-		d.packSome(now)
+		if d.packSome(now); named(4).voter == nil {
+			t.Fatal("a vote is packed that is used all the time")
+		}
 	}
 	for i, isPacked := range []bool{true, false, false, false, false} {
 		if v := named(i); (v.voter == nil) != isPacked || (v.packed != "") != isPacked {
@@ -186,8 +188,8 @@ func TestRoundsLookAtShares(t *testing.T) {
 	oldest.granted -= 3600e9
 	d.shard(0).set(2, of("jobs.session-2", 1, 0, qlock.MaxStamp))
 	wanted := d.votes["lock-000007"]
-	for round := 1; round <= 3; round++ {
-		if d.lookAround(now); d.m.lasting.age(now) > 7000 != (round == 3) {
+	for round := 1; round <= 6; round++ {
+		if d.lookAround(now); d.m.lasting.age(now) > 7000 != (round >= 3) {
 			t.Errorf("after %d rounds one is held for %v seconds", round, d.m.lasting.age(now))
 		}
 	}

@@ -132,9 +132,12 @@ func (s *shard) count(one ask, by int) {
 	}
 }
 
-// recount counts anew, once a number has a new session.
+// recount counts anew, once a number has a new session. The base of a number never falls, so what did not count does not count now.
 func (d *Daemon) recount(s *shard, client int) {
-	s.requests[client], s.locks[client] = 0, ""
+	before := s.requests[client]
+	if s.requests[client], s.locks[client] = 0, ""; before == 0 {
+		return
+	}
 	for _, v := range s.busy.all {
 		if one := v.asks.of(client); one != nil {
 			s.count(*one, 1)
