@@ -642,7 +642,7 @@ func (d *Daemon) roundOf(v *vote, now time.Time) {
 	case v.isOld && d.isQuiet():
 		return // it may be somebody else's by now
 	case !v.isAwaited && !d.isQuiet():
-		v.since = nil
+		v.forgetSince()
 	}
 	for v.held.Number > 0 && (v.isWanted() || d.isInTheWay(v)) && v.isOver() {
 		if !d.expire(v, now) {

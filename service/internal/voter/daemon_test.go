@@ -76,9 +76,10 @@ func (p *post) Listen(string) (<-chan transport.Message, error) { return nil, ni
 
 // says lets the session that has a number say a line about a lock.
 func says(d *Daemon, v *vote, client int, line string, now time.Time) {
-	from := qlock.Speaker{Session: d.shard(0).hashes[client], Epoch: d.shard(0).rows[client].Epoch}
+	text, word := cutWord([]byte(line))
+	from := qlock.Speaker{Session: d.shard(0).hashes[client], Epoch: d.shard(0).rows[client].Epoch, Inside: word == inside}
 	shown, lines, err := d.call(v, func(out []byte) ([]byte, qlock.LockShown, error) {
-		return d.proved(v).TakeFrom(&d.shard(0).proved, d.sinceOf(v), d.isQuiet(), from, []byte(line), out)
+		return d.proved(v).TakeFrom(&d.shard(0).proved, d.sinceOf(v), d.isQuiet(), from, text, out)
 	})
 	if err == nil && shown.IsTaken {
 		d.note(v, client, shown, lines, now)

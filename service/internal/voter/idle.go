@@ -7,8 +7,8 @@ import (
 	"calvundek.example/service/qlock"
 )
 
-// A voter keeps the proved voter of a vote that was not used for a while as it is saved, which takes a tenth of the memory. The next call of
-// it unpacks it again.
+// A voter keeps the proved voter of a vote that was not used for a while as it is saved, which takes a tenth of the memory, and behind it what
+// was said since the start. The next call unpacks both.
 
 // packsAfter is for how long a vote is not used before it is packed, at least.
 const packsAfter = time.Second
@@ -19,7 +19,7 @@ var spare = sync.Pool{New: func() interface{} { return new(qlock.Voter) }}
 // proved returns the proved voter of a vote, for a call that may change it.
 func (d *Daemon) proved(v *vote) *qlock.Voter {
 	if v.isUsed = true; v.voter == nil {
-		v.voter, v.packed = unpacked(v.packed), ""
+		v.unpack()
 		d.unpacked = append(d.unpacked, v)
 	}
 	return v.voter
@@ -31,7 +31,8 @@ func (v *vote) look(at func(*qlock.Voter)) {
 		at(v.voter)
 		return
 	}
-	voter := unpacked(v.packed)
+	voter := spare.Get().(*qlock.Voter)
+	unpackTo(voter.State(), v.packed)
 	at(voter)
 	spare.Put(voter)
 }
@@ -40,33 +41,46 @@ func (v *vote) look(at func(*qlock.Voter)) {
 func (v *vote) change(how func(*qlock.Voter)) {
 	isPacked := v.voter == nil
 	if isPacked {
-		v.voter = unpacked(v.packed)
+		v.unpack()
 	}
 	if how(v.voter); isPacked {
 		v.pack()
 	}
 }
 
-// unpacked returns the voter that was packed.
-func unpacked(packed string) *qlock.Voter {
-	voter := spare.Get().(*qlock.Voter)
-	unpackTo(voter.State(), []byte(packed))
-	return voter
+// unpack unpacks the proved voter of a vote, and what was said since the start.
+func (v *vote) unpack() {
+	v.voter = spare.Get().(*qlock.Voter)
+	if said := unpackTo(v.voter.State(), v.packed); len(said) > 0 {
+		v.since = new(qlock.SinceStart)
+		unpackTo(v.since.State(), said)
+	}
+	v.packed, v.isSaid = nil, false
 }
 
-// pack packs the proved voter of a vote.
+// pack packs the proved voter of a vote, and what was said since the start.
 func (v *vote) pack() {
-	v.packed = string(pack(v.voter.State()))
+	packed := pack(v.voter.State())
+	if v.since != nil {
+		packed = append(packed, pack(v.since.State())...)
+	}
+	v.packed, v.isSaid = append([]byte(nil), packed...), v.since != nil // no more memory than it needs
 	spare.Put(v.voter)
-	v.voter = nil
+	v.voter, v.since = nil, nil
+}
+
+// forgetSince forgets what was said since the start.
+func (v *vote) forgetSince() {
+	if v.isSaid {
+		v.packed, v.isSaid = append([]byte(nil), v.saved()...), false
+	}
+	v.since = nil
 }
 
 // saved returns what to save of a vote.
-func (v *vote) saved() []byte {
-	if v.voter == nil {
-		return []byte(v.packed)
-	}
-	return pack(v.voter.State())
+func (v *vote) saved() (packed []byte) {
+	v.look(func(voter *qlock.Voter) { packed = pack(voter.State()) })
+	return packed
 }
 
 // packSome packs votes that were not used for a while.

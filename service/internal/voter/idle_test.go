@@ -57,13 +57,54 @@ func TestMemoryOfHeldVotes(t *testing.T) {
 	now, many, before := time.Now(), 100_000, heap()
 	holds(t, d, 1, "lock", many, now)
 	d.saves()
-	d.packsAll(now)
+	now = d.packsAll(now)
 	bytes := int(heap()-before) / many
 	t.Logf("%d bytes for each", bytes)
-	if len(d.unpacked) > 0 || bytes > 540 {
+	if len(d.unpacked) > 0 || bytes > 500 {
 		t.Errorf("%d votes are not packed, and one takes %d bytes", len(d.unpacked), bytes)
 	}
+	d.beQuiet(now)
+	for _, v := range d.votes {
+		says(d, v, 1, fmt.Sprintf("request 1 0 %d inside", v.held.Stamp), now)
+	}
+	d.saves()
+	d.packsAll(now)
+	bytes = int(heap()-before) / many
+	t.Logf("%d bytes for each in the quiet time", bytes)
+	if len(d.unpacked) > 0 || bytes > 540 {
+		t.Errorf("in the quiet time %d votes are not packed, and one takes %d bytes", len(d.unpacked), bytes)
+	}
 	runtime.KeepAlive(d)
+}
+
+// What was said since the start is packed with a vote: who said that he is inside keeps it. It is forgotten once the quiet time ended.
+func TestWhatWasSaidIsPacked(t *testing.T) {
+	d, _ := alone(t, 10)
+	now := time.Now()
+	holds(t, d, 1, "lock", 2, now)
+	d.shard(0).put(2, of("jobs.session-2", 1, 0, qlock.MaxStamp))
+	quietIsOver(d)
+	d.shard(0).hearAll(now)
+	for i := 0; i < 2; i++ {
+		says(d, d.votes[fmt.Sprintf("lock-%06d", i)], 1, fmt.Sprintf("request 1 0 %d inside", i+1), now)
+	}
+	d.saves()
+	now = d.packsAll(now)
+	wanted, alone := d.votes["lock-000000"], d.votes["lock-000001"]
+	if !wanted.isSaid || !alone.isSaid || len(d.unpacked) > 0 || len(d.old.all) > 0 {
+		t.Fatalf("%v, %v, %d not packed, %d old", wanted.isSaid, alone.isSaid, len(d.unpacked), len(d.old.all))
+	}
+	says(d, wanted, 2, "request 2 0 5 inside", now)
+	if wanted.since == nil || wanted.isSaid || wanted.isOld || wanted.asks.of(2) == nil {
+		t.Errorf("%+v", wanted)
+	}
+	saved, long := alone.saved(), len(alone.packed)
+	if d.round(now); d.isQuiet() || !wanted.isHolder(1) || !alone.isHolder(1) {
+		t.Errorf("quiet: %v, %+v, %+v", d.isQuiet(), wanted.held, alone.held)
+	}
+	if alone.isSaid || alone.voter != nil || len(alone.packed) >= long || !bytes.Equal(alone.packed, saved) {
+		t.Errorf("%x, of %x", alone.packed, saved)
+	}
 }
 
 // A voter that started has all votes packed.
@@ -111,7 +152,7 @@ func TestWhichVotesArePacked(t *testing.T) {
 		}
 	}
 	for i, isPacked := range []bool{true, false, false, false, false} {
-		if v := named(i); (v.voter == nil) != isPacked || (v.packed != "") != isPacked {
+		if v := named(i); (v.voter == nil) != isPacked || (v.packed != nil) != isPacked {
 			t.Errorf("%s is packed: %v", v.name, v.voter == nil)
 		}
 	}

@@ -14,10 +14,12 @@ const (
 	markBytes  = (stateWords + 7) / 8
 )
 
-// pack returns the bytes to save of a state.
+// pack returns the bytes to save of a state, or of other bytes most of whose words are 0.
 func pack(state []byte) []byte {
-	packed := make([]byte, markBytes, markBytes+128)
-	for i := 0; i < stateWords; i++ {
+	words := len(state) / 8
+	marks := (words + 7) / 8
+	packed := make([]byte, marks, marks+128)
+	for i := 0; i < words; i++ {
 		word := state[8*i : 8*i+8]
 		if binary.LittleEndian.Uint64(word) != 0 {
 			packed[i/8] |= 1 << (i % 8)
@@ -49,17 +51,19 @@ func isPacked(packed []byte) bool {
 	return packed[markBytes-1]>>(stateWords-8*(markBytes-1)) == 0 && len(packed) == markBytes+8*count
 }
 
-// unpackTo writes the state that was packed in place of another one.
-func unpackTo(state []byte, packed []byte) {
+// unpackTo writes what was packed in place of other bytes, and returns what is behind it.
+func unpackTo(state, packed []byte) (rest []byte) {
 	for i := range state {
 		state[i] = 0
 	}
-	rest := packed[markBytes:]
-	for i, marks := range packed[:markBytes] {
-		for ; marks != 0; marks &= marks - 1 {
-			word := 8*i + bits.TrailingZeros8(marks)
+	marks := (len(state)/8 + 7) / 8
+	rest = packed[marks:]
+	for i, mark := range packed[:marks] {
+		for ; mark != 0; mark &= mark - 1 {
+			word := 8*i + bits.TrailingZeros8(mark)
 			copy(state[8*word:], rest[:8])
 			rest = rest[8:]
 		}
 	}
+	return rest
 }

@@ -54,7 +54,8 @@ func (d *Daemon) quietFor(now time.Time) time.Duration {
 func (d *Daemon) beQuiet(now time.Time) {
 	d.leases.quiet = quiet{is: true, since: d.leases.at(now)}
 	for _, v := range d.busy.all {
-		v.begun, v.since = greatest(v.begun, v.held.Number), nil
+		v.forgetSince()
+		v.begun = greatest(v.begun, v.held.Number)
 		d.standSince(v, qlock.NewSinceStart(v.begun)) // what is not needed is kept of none: it is long
 	}
 }
@@ -62,6 +63,7 @@ func (d *Daemon) beQuiet(now time.Time) {
 // sinceOf returns what was said of a lock since the start. Nothing is noted in what it returns for a vote of which nothing was said, but in
 // the quiet time.
 func (d *Daemon) sinceOf(v *vote) *qlock.SinceStart {
+	d.proved(v) // it may be packed
 	if v.since == nil && d.isQuiet() {
 		v.since = qlock.NewSinceStart(v.begun)
 	}

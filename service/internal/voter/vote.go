@@ -11,7 +11,7 @@ import (
 // vote is the vote for one lock, and beside the proved voter what the loop looks at often. There may be a million of them.
 type vote struct {
 	voter   *qlock.Voter // nil while it is packed (idle.go)
-	packed  string       // what is saved of it
+	packed  []byte       // the voter as it is saved, and what was said since the start
 	name    string
 	shard   *shard
 	held    qlock.Grant
@@ -21,7 +21,7 @@ type vote struct {
 
 	limit   uint64            // how many grants it may give
 	turned  turned            // the last turn that was said
-	since   *qlock.SinceStart // what was said since the start, nil while that is nothing
+	since   *qlock.SinceStart // what was said since the start, nil while that is nothing, or packed
 	begun   uint64            // how many grants its voter had given, or skipped, when the start began, or it was made
 	heard   moment.Moment     // when a line of the lock came
 	letGo   moment.Moment     // when a grant of it was let go
@@ -33,6 +33,7 @@ type vote struct {
 	isAwaited bool // somebody waits who said since the start that he is inside (Stands)
 	isRaised  bool // it goes on above another number since it was saved
 	isResting bool // nobody has it or waits for it, and it is among those that are forgotten after a while
+	isSaid    bool // what was said since the start is packed
 	isUsed    bool // its voter was used since it was looked at whether to pack it
 }
 
