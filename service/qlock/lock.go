@@ -90,7 +90,9 @@ func NewSinceStart(begun uint64) *SinceStart {
 }
 
 // State returns the bytes of what was said, for this run of the program alone. They change with the next call.
-func (s *SinceStart) State() []byte { return unsafe.Slice((*byte)(unsafe.Pointer(&s.c)), unsafe.Sizeof(s.c)) }
+func (s *SinceStart) State() []byte {
+	return unsafe.Slice((*byte)(unsafe.Pointer(&s.c)), unsafe.Sizeof(s.c))
+}
 
 // Forget forgets what a client said, 0 to 63: its session is over.
 func (s *SinceStart) Forget(client uint8) error {
