@@ -237,16 +237,33 @@ func (d *Daemon) status(now time.Time) Status {
 		s.Sessions = append(s.Sessions, one.views(d.cluster.NumberOf)...)
 	}
 	sort.SliceStable(s.Sessions, func(i, j int) bool { return s.Sessions[i].Shard < s.Sessions[j].Shard })
-	shown := append([]*vote(nil), d.busy.all...)
-	sort.Slice(shown, func(i, j int) bool { return shown[i].name < shown[j].name })
-	if len(shown) > mostShown {
-		s.Dropped = len(shown) - mostShown
-		shown = shown[:mostShown]
-	}
-	for _, v := range shown {
+	for _, v := range firstByName(d.busy.all, mostShown) {
 		s.Votes = append(s.Votes, d.view(v, now))
 	}
+	s.Dropped = len(d.busy.all) - len(s.Votes)
 	return s
+}
+
+// firstByName returns the first votes by their names, so many at most. It does not sort all of them, as there may be many.
+func firstByName(all []*vote, most int) (first []*vote) {
+	last := "" // of those that are the first ones so far, once there are enough
+	shorten := func() {
+		sort.Slice(first, func(i, j int) bool { return first[i].name < first[j].name })
+		if len(first) >= most {
+			first = first[:most]
+			last = first[most-1].name
+		}
+	}
+	for _, v := range all {
+		if last != "" && v.name >= last {
+			continue
+		}
+		if first = append(first, v); len(first) == 2*most {
+			shorten()
+		}
+	}
+	shorten()
+	return first
 }
 
 // views returns what an operator sees of the sessions of a shard. One that was heard after the last marker was silent for no time.
