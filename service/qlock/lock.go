@@ -35,6 +35,8 @@ static int64_t lock_remind(const uint8_t *table, const uint8_t *vote, uint8_t *o
 */
 import "C"
 
+import "unsafe"
+
 // Table has the row of each client's number at a voter. The zero Table has rows that nobody has.
 type Table struct{ rows [TableBytes]byte }
 
@@ -85,6 +87,11 @@ func NewSinceStart(begun uint64) *SinceStart {
 	s := new(SinceStart)
 	C.qlock_since_start(C.uint64_t(begun), &s.c)
 	return s
+}
+
+// State returns the bytes of what was said, for this run of the program alone. They change with the next call.
+func (s *SinceStart) State() []byte {
+	return unsafe.Slice((*byte)(unsafe.Pointer(&s.c)), unsafe.Sizeof(s.c))
 }
 
 // Forget forgets what a client said, 0 to 63: its session is over.

@@ -35,9 +35,9 @@ func (s *shard) noteOf(number int) string {
 
 // noteOfAsk returns what a client says of its request for a vote, or else of its session. It is of no earlier session of the number.
 func (v *vote) noteOfAsk(client int) string {
-	one, isAsked := v.asks[client]
+	one := v.asks.of(client)
 	switch {
-	case !isAsked || v.shard.isEarlier(client, one.stamp):
+	case one == nil || v.shard.isEarlier(client, one.stamp):
 		return ""
 	case one.note != "":
 		return one.note
@@ -104,9 +104,8 @@ func (d *Daemon) noteAbout(l *letter, ask wire.Ask) {
 	if v == nil || v.shard != l.shard {
 		return
 	}
-	if one, isAsked := v.asks[l.Number]; isAsked && one.stamp == ask.Number && !v.shard.isEarlier(l.Number, one.stamp) {
+	if one := v.asks.of(l.Number); one != nil && one.stamp == ask.Number && !v.shard.isEarlier(l.Number, one.stamp) {
 		one.note = ask.Text
-		v.asks[l.Number] = one
 		d.watches.touch(v.name)
 	}
 }
@@ -117,9 +116,9 @@ func (d *Daemon) holderOf(id uint64, lock string, v *vote, now time.Time) wire.T
 	if v == nil {
 		return told
 	}
-	for client := range v.asks {
-		if !v.isHolder(client) {
-			told.Waiting |= 1 << client
+	for _, one := range v.asks {
+		if !v.isHolder(one.client) {
+			told.Waiting |= 1 << one.client
 		}
 	}
 	if v.held.Number == 0 || !d.isQuiet() && v.isOver() { // who is gone gives way to whoever asks
@@ -127,11 +126,11 @@ func (d *Daemon) holderOf(id uint64, lock string, v *vote, now time.Time) wire.T
 	}
 	client := int(v.held.Client)
 	told.IsHeld, told.Number, told.Stamp = true, client, v.held.Stamp
-	if since := now.Sub(v.granted).Milliseconds(); since > 0 {
+	if since := now.Sub(v.granted.Time()).Milliseconds(); since > 0 {
 		told.Milliseconds = uint64(since)
 	}
-	if told.User = v.asks[client].user; told.User == "" {
-		told.User = wire.NoUser
+	if told.User = wire.NoUser; v.asks.of(client) != nil && v.asks.of(client).user != nil {
+		told.User = v.asks.of(client).user.user
 	}
 	told.Note = v.noteOfAsk(client)
 	return told

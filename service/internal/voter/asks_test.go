@@ -6,6 +6,7 @@ import (
 	"testing"
 	"time"
 
+	"calvundek.example/service/internal/moment"
 	"calvundek.example/service/internal/wire"
 	"calvundek.example/service/transport"
 	"github.com/prometheus/client_golang/prometheus/testutil"
@@ -40,7 +41,7 @@ func TestWhoSeesNotes(t *testing.T) {
 	}
 	d.repliesTo("jobs", 2, "orders request 2 0 9\n")
 	want := ". has 7 orders 4 1 5 0 jobs m1 17 root nightly\n"
-	d.votes["orders"].granted = time.Now().Add(time.Hour) // no clock
+	d.votes["orders"].granted = moment.Of(time.Now().Add(time.Hour)) // no clock
 	if reply := d.lookerHears(". who 7 orders\n"); reply != want {
 		t.Errorf("%q", reply)
 	}
@@ -172,8 +173,8 @@ func TestPages(t *testing.T) {
 				break
 			}
 			if pages++; pages == 2 && prefix == "" { // one that was shown goes, and one that was not
-				d.busy.remove(d.votes[fmt.Sprintf("a-%d", many-2)])
-				d.busy.remove(d.votes["a-1"])
+				d.busy.remove(d.votes[fmt.Sprintf("a-%d", many-2)], inBusy)
+				d.busy.remove(d.votes["a-1"], inBusy)
 			}
 		}
 		if prefix == "" {
@@ -183,7 +184,7 @@ func TestPages(t *testing.T) {
 			t.Errorf("%q: %d of %d, in %d pages", prefix, len(seen), want, pages)
 		}
 		for name := range d.votes {
-			d.busy.add(d.votes[name])
+			d.busy.add(d.votes[name], inBusy)
 		}
 	}
 	if reply := d.lookerHears(". list 1 0\n. list 2 0\n. who 3 x\n"); strings.Contains(reply, "listed 2") || strings.Contains(reply, "has 3 ") {
@@ -207,9 +208,7 @@ func TestCrowd(t *testing.T) {
 	}
 	d.repliesTo("jobs", 1, "orders request 1 0 5\n")
 	d.repliesTo("jobs", 2, "orders request 2 0 6\n")
-	one := d.votes["orders"].asks[2]
-	one.since = time.Now().Add(-time.Minute)
-	d.votes["orders"].asks[2] = one
+	d.votes["orders"].asks.of(2).since = moment.Of(time.Now().Add(-time.Minute))
 	d.shard(0).seat(1).heard -= time.Hour
 	d.measure(time.Now())
 	if told := hears(); told.Open != 3 || told.Silent < 3500_000 || told.Waits < 60_000 || told.Waits > 70_000 {

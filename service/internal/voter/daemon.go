@@ -13,6 +13,7 @@ import (
 	"calvundek.example/service/internal/config"
 	"calvundek.example/service/internal/event"
 	"calvundek.example/service/internal/level"
+	"calvundek.example/service/internal/moment"
 	"calvundek.example/service/internal/wire"
 	"calvundek.example/service/qlock"
 	"calvundek.example/service/transport"
@@ -39,7 +40,15 @@ type Daemon struct {
 	around  Surroundings
 
 	votes      map[string]*vote
-	busy       busyVotes
+	busy       voteList          // those that somebody has or waits for
+	soon       voteList          // those that somebody waits for
+	old        voteList          // those with a grant of before the start by which nobody said that he is inside
+	looks      pass              // over the busy ones
+	lasting    time.Time         // since when the grant lasts that lasts longest of those of this pass, zero if there is none
+	held       int               // votes that somebody has
+	unpacked   []*vote           // those whose voter is not packed, first those that were looked at longest ago
+	packs      time.Time         // when it was looked at last which of them to pack
+	toPack     int               // how many of the first ones are looked at next
 	users      map[string]*usage // of the users that have some vote or wait for one
 	leases     leases
 	shards     map[int]*shard // that were used in this run, or have a row
@@ -182,15 +191,7 @@ func (d *Daemon) begin() (err error) {
 func (d *Daemon) load(now time.Time) error {
 	d.leases.begin(now)
 	d.skippable = *qlock.NewBucket(skipRate, mostSkip, 0)
-	type saved struct {
-		name  string
-		state []byte
-	}
-	var votes []saved
-	err := d.store.load(func(name string, state []byte) error {
-		votes = append(votes, saved{name, state})
-		return nil
-	}, func(key int, row Session, isOld bool) error {
+	return d.store.load(func(shard int, floor Floor) { d.floors[shard] = floor }, func(key int, row Session, isOld bool) error {
 		s, number := d.shardOfKey(key)
 		if _, err := row.proved(); err != nil {
 			return fmt.Errorf("session of number %d: %w", number, err)
@@ -199,13 +200,12 @@ func (d *Daemon) load(now time.Time) error {
 			d.leases.later[key] = row
 		}
 		return nil
-	}, func(shard int, floor Floor) { d.floors[shard] = floor }, func(place int, p Peer) { d.peers[place], d.loaded[place] = p, p })
-	for i := 0; err == nil && i < len(votes); i++ {
-		if err = d.restore(votes[i].name, votes[i].state, now); err != nil {
-			err = fmt.Errorf("vote %q: %w", votes[i].name, err)
+	}, func(name string, state []byte) error {
+		if err := d.restore(name, state, now); err != nil {
+			return fmt.Errorf("vote %q: %w", name, err)
 		}
-	}
-	return err
+		return nil
+	}, func(place int, p Peer) { d.peers[place], d.loaded[place] = p, p })
 }
 
 // isOurs returns whether a message is of this cluster, and of a plan that is not retired.
@@ -259,11 +259,11 @@ func (d *Daemon) line(l *letter, speaker qlock.Standing, lock, line []byte, now 
 	from := l.shard.speaker(l.Number, l.Name, l.Epoch)
 	from.Inside = word == inside
 	shown, lines, err := d.call(v, func(out []byte) ([]byte, qlock.LockShown, error) {
-		return v.TakeFrom(&v.shard.proved, d.sinceOf(v), d.isQuiet(), from, line, out)
+		return d.proved(v).TakeFrom(&v.shard.proved, d.sinceOf(v), d.isQuiet(), from, line, out)
 	})
 	switch {
 	case err != nil:
-		v.heard = now
+		v.heard = moment.Of(now)
 		return true
 	case shown.IsPutOff:
 		d.putOff(l, now)
@@ -273,7 +273,7 @@ func (d *Daemon) line(l *letter, speaker qlock.Standing, lock, line []byte, now 
 	case isNew && !d.admit(v, l, said, now):
 		return true
 	}
-	v.heard = now
+	v.heard = moment.Of(now)
 	if isRequest {
 		l.shard.seat(l.Number).lock = v.name
 	}
@@ -315,7 +315,7 @@ func cutWord(line []byte) (rest []byte, word string) {
 // tellHeld tells who does not want to wait that somebody else has the vote, and for how long, in milliseconds.
 func (d *Daemon) tellHeld(v *vote, l *letter, said wire.Line, now time.Time) {
 	if v.held.Number > 0 && !v.isHolder(said.From) {
-		since := now.Sub(v.granted).Milliseconds()
+		since := now.Sub(v.granted.Time()).Milliseconds()
 		if since < 0 {
 			since = 0
 		}
@@ -359,7 +359,7 @@ func (d *Daemon) call(v *vote, call func(out []byte) ([]byte, qlock.LockShown, e
 	lines, shown, err := call(d.room[:0])
 	if errors.Is(err, qlock.GrantsSpent) && v.limit < d.ceiling {
 		v.limit, v.isSpent = d.ceiling, false
-		_ = v.Extend(d.ceiling) // it never fails: the limit is below
+		_ = d.proved(v).Extend(d.ceiling) // it never fails: the limit is below
 		lines, shown, err = call(d.room[:0])
 	}
 	if err != nil || !shown.IsTaken && !shown.IsPutOff {
@@ -378,8 +378,8 @@ func (d *Daemon) note(v *vote, client int, shown qlock.LockShown, lines []byte, 
 	}
 	d.noteAsk(v, client, shown.Stamp, now)
 	d.noteGrant(v, shown.Held, now)
-	if v.since != nil {
-		v.stand()
+	if v.since != nil || d.isQuiet() {
+		d.stand(v)
 	}
 	d.send(v, lines)
 }
@@ -588,8 +588,7 @@ func (d *Daemon) gives(l *letter, number int, epoch, stamps uint64, now time.Tim
 	return true
 }
 
-// rounds makes a round, unless the last one took so long that it is too early: all of them take a tenth of the time at most. A round goes over all
-// votes that somebody has or waits for. A hundred thousand of them take some ten milliseconds.
+// rounds makes a round, unless the last one took so long that it is too early: all of them take a tenth of the time at most.
 func (d *Daemon) rounds(now time.Time) {
 	if now.Before(d.nextRound) {
 		return
@@ -606,13 +605,36 @@ func (d *Daemon) round(now time.Time) {
 	d.endQuiet(now)
 	d.forget(now)
 	d.dropUnused(now)
-	d.busy.each(func(v *vote) { d.roundOf(v, now) })
+	d.lookAround(now)
 	d.measure(now)
+	d.packSome(now)
 }
 
-// longestReminder is how long it is from one reminder to the next one of a vote for which nobody waits: a RELEASE may be lost. The first of
-// those that come to wait has it reminded soon.
-const longestReminder = time.Minute
+// mostLooked is how many votes one step of a round looks at. With more of them the next rounds go on.
+const mostLooked = 4096
+
+// lookAround looks at all votes that somebody waits for, and at a share of the busy ones. A pass over all of these finds the grant that lasts
+// longest, too.
+func (d *Daemon) lookAround(now time.Time) {
+	if len(d.busy.all) > mostLooked {
+		d.soon.each(func(v *vote) { d.roundOf(v, now) })
+	}
+	isEnd := d.looks.share(&d.busy, mostLooked, func(v *vote) {
+		d.roundOf(v, now)
+		if v.held.Number > 0 && (d.lasting.IsZero() || v.granted.Time().Before(d.lasting)) {
+			d.lasting = v.granted.Time()
+		}
+	})
+	if isEnd {
+		d.m.lasting.note(d.lasting, now)
+		d.lasting = time.Time{}
+	}
+}
+
+// longestReminder is how long it is from one reminder to the next one of a vote for which nobody waits. A RELEASE that was lost is found
+// sooner: a session that wants nothing hears in each reply to its heartbeat how many requests the voter has of it. The first of those that
+// come to wait has the vote reminded soon.
+const longestReminder = 10 * time.Minute
 
 // roundOf does what time asks for of a vote.
 func (d *Daemon) roundOf(v *vote, now time.Time) {
@@ -623,7 +645,7 @@ func (d *Daemon) roundOf(v *vote, now time.Time) {
 	case v.isOld && d.isQuiet():
 		return // it may be somebody else's by now
 	case !v.isAwaited && !d.isQuiet():
-		v.since = nil
+		v.forgetSince()
 	}
 	for v.held.Number > 0 && (v.isWanted() || d.isInTheWay(v)) && v.isOver() {
 		if !d.expire(v, now) {
@@ -634,11 +656,17 @@ func (d *Daemon) roundOf(v *vote, now time.Time) {
 		v.timer.Most = longestReminder
 	}
 	if v.timer.IsDue(now) {
-		if lines, err := v.RemindHolder(&v.shard.proved, nil); err == nil && len(lines) > 0 {
+		if lines := v.reminder(); len(lines) > 0 {
 			d.m.reminders.Inc()
 			d.send(v, lines)
 		}
 	}
+}
+
+// reminder returns the lines that remind whoever has a vote.
+func (v *vote) reminder() (lines []byte) {
+	v.look(func(voter *qlock.Voter) { lines, _ = voter.RemindHolder(&v.shard.proved, nil) })
+	return lines
 }
 
 // expire lets the current grant of a vote go whose session is over, and returns whether it did.
@@ -671,30 +699,26 @@ func (d *Daemon) expireFor(v *vote, client int, now time.Time) {
 	}
 }
 
-// endQuiet lets the grants of before the start go of which nobody said that he is inside. If one can't be let go, as no grant is left for
-// who waits, this voter stays quiet.
+// endQuiet lets the grants of before the start go of which nobody said that he is inside, a share of them in each round. If one can't be
+// let go, as no grant is left for who waits, this voter stays quiet.
 func (d *Daemon) endQuiet(now time.Time) {
 	if !d.isQuiet() || !d.leases.clock.IsSilent(d.leases.quiet.since, d.leases.ttl) {
 		return
 	}
-	isLeft := false
-	d.busy.each(func(v *vote) {
+	d.leases.quiet.ends.share(&d.old, mostLooked, func(v *vote) {
 		held := v.held
-		if !v.isOld {
-			return
-		}
 		d.seal(v.shard, int(held.Client))
-		isOver, err := d.letGoBy(v, now, func(out []byte) ([]byte, qlock.LockShown, error) {
-			return v.EndQuiet(&v.shard.proved, v.since, uint8(held.Client), out)
+		isOver, _ := d.letGoBy(v, now, func(out []byte) ([]byte, qlock.LockShown, error) {
+			return d.proved(v).EndQuiet(&v.shard.proved, d.sinceOf(v), uint8(held.Client), out)
 		})
-		if isLeft = isLeft || err != nil; isOver {
+		if isOver {
 			if row := v.shard.row(int(held.Client)); row.Open && held.Stamp > row.Base {
 				v.shard.lapse(int(held.Client)) // what tells its client so may be lost
 			}
 			d.log.Write(event.Warning, "not-renewed", "lock", v.name, "client", held.Client, "stamp", held.Stamp, "grant", held.Number)
 		}
 	})
-	if !isLeft {
+	if len(d.old.all) == 0 {
 		d.leases.quiet = quiet{}
 	}
 }
@@ -706,7 +730,7 @@ func (v *vote) isOver() bool { return v.shard.isOver(int(v.held.Client), v.held.
 func (d *Daemon) letGo(v *vote, now time.Time) bool {
 	held := v.held
 	isOver, _ := d.letGoBy(v, now, func(out []byte) ([]byte, qlock.LockShown, error) {
-		return v.LetGo(&v.shard.proved, held.Number, uint8(held.Client), out)
+		return d.proved(v).LetGo(&v.shard.proved, held.Number, uint8(held.Client), out)
 	})
 	return isOver
 }
@@ -727,7 +751,7 @@ func (d *Daemon) letGoBy(v *vote, now time.Time, call func(out []byte) ([]byte, 
 
 // isGone tells the client of a grant that its request is over, or an operator.
 func (d *Daemon) isGone(v *vote, held qlock.Grant, now time.Time) {
-	v.letGo = now
+	v.letGo = moment.Of(now)
 	d.mustSave(v)
 	if row := v.shard.row(int(held.Client)); row.Open && held.Stamp > row.Base {
 		d.sayOf(v.shard.name(int(held.Client)), qlock.LockSays{Kind: qlock.LockGone, Lock: []byte(v.name), Stamp: held.Stamp})

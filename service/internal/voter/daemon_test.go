@@ -4,6 +4,7 @@ import (
 	"bytes"
 	"encoding/json"
 	"fmt"
+	"math/rand"
 	"testing"
 	"time"
 
@@ -44,8 +45,8 @@ func TestStatusOutsideOfTheLoop(t *testing.T) {
 	d := &Daemon{cluster: &config.Cluster{ID: "test"}, own: &config.Voter{}, carrier: carrier, m: newMetrics(),
 		store: &store{meta: Meta{Cluster: "test", Identity: "copy"}}, mark: "mark",
 		replies: map[string]answer{}, done: map[string][]byte{}, leases: leasesAt(now)}
-	for i := 0; i < 3*mostShown; i++ {
-		d.busy.add(&vote{name: fmt.Sprintf("orders-%05d", i)})
+	for _, i := range rand.New(rand.NewSource(1)).Perm(3 * mostShown) {
+		d.busy.add(&vote{name: fmt.Sprintf("orders-%05d", i)}, inBusy)
 	}
 	header := wire.Header{Cluster: "test", Coterie: "mark", Kind: wire.FromOperator, Name: "op"}
 	d.operate(transport.Message{Mailbox: wire.ReadBox("test", 0, "alice"), Data: append(header.Append(nil), "status\n"...)}, false, now)
@@ -61,9 +62,13 @@ func TestStatusOutsideOfTheLoop(t *testing.T) {
 	if err != nil || json.Unmarshal(body, &s) != nil {
 		t.Fatal(string(body), err)
 	}
-	if len(s.Votes) != mostShown || s.Dropped != 2*mostShown || s.Votes[0].Lock != "orders-00000" ||
-		s.Votes[mostShown-1].Lock != "orders-00999" {
+	if len(s.Votes) != mostShown || s.Dropped != 2*mostShown {
 		t.Error(len(s.Votes), s.Dropped)
+	}
+	for i, v := range s.Votes {
+		if want := fmt.Sprintf("orders-%05d", i); v.Lock != want {
+			t.Fatalf("%s in place of %s", v.Lock, want)
+		}
 	}
 }
 
@@ -76,9 +81,10 @@ func (p *post) Listen(string) (<-chan transport.Message, error) { return nil, ni
 
 // says lets the session that has a number say a line about a lock.
 func says(d *Daemon, v *vote, client int, line string, now time.Time) {
-	from := qlock.Speaker{Session: d.shard(0).seat(client).session, Epoch: d.shard(0).row(client).Epoch}
+	text, word := cutWord([]byte(line))
+	from := qlock.Speaker{Session: d.shard(0).seat(client).session, Epoch: d.shard(0).row(client).Epoch, Inside: word == inside}
 	shown, lines, err := d.call(v, func(out []byte) ([]byte, qlock.LockShown, error) {
-		return v.TakeFrom(&d.shard(0).proved, d.sinceOf(v), d.isQuiet(), from, []byte(line), out)
+		return d.proved(v).TakeFrom(&d.shard(0).proved, d.sinceOf(v), d.isQuiet(), from, text, out)
 	})
 	if err == nil && shown.IsTaken {
 		d.note(v, client, shown, lines, now)
@@ -196,11 +202,13 @@ func TestBusyVotesOfAShard(t *testing.T) {
 	} {
 		d.repliesTo("jobs", one.number, one.lines)
 		for number := 1; number <= 2; number++ {
-			s.seat(number).requests = 77
+			if s.seat(number).requests > 0 {
+				s.seat(number).requests = 99
+			}
 			d.recount(s, number)
 		}
-		if requests := [2]int{s.seat(1).requests, s.seat(2).requests}; len(s.busy) != one.busy || requests != one.requests {
-			t.Errorf("%d: %d votes, and %v requests", i, len(s.busy), requests)
+		if requests := [2]int{s.seat(1).requests, s.seat(2).requests}; len(s.busy.all) != one.busy || requests != one.requests {
+			t.Errorf("%d: %d votes, and %v requests", i, len(s.busy.all), requests)
 		}
 	}
 }

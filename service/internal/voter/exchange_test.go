@@ -22,7 +22,7 @@ const (
 )
 
 // texts returns a coterie with its plan.
-func texts(t *testing.T, coterie string) Texts {
+func texts(t testing.TB, coterie string) Texts {
 	t.Helper()
 	plan, err := qlock.FindPlan(coterie)
 	if err != nil {

@@ -1,6 +1,10 @@
 package voter
 
-import "time"
+import (
+	"time"
+
+	"calvundek.example/service/internal/moment"
+)
 
 // How a voter forgets locks that nobody uses.
 //
@@ -16,26 +20,26 @@ const shortestRest = 30 * time.Second
 // resting is a lock of which nothing was heard since some time.
 type resting struct {
 	vote  *vote
-	since time.Time
+	since moment.Moment
 }
 
 // rest notes that nobody has a vote or waits for it.
 func (d *Daemon) rest(v *vote, now time.Time) {
 	if !v.isResting {
 		v.isResting = true
-		d.resting = append(d.resting, resting{v, now})
+		d.resting = append(d.resting, resting{v, moment.Of(now)})
 	}
 }
 
-// forget drops the votes that rested for long enough. Their rows go with the next save.
+// forget drops votes that rested for long enough. Their rows go with the next save.
 func (d *Daemon) forget(now time.Time) {
-	for len(d.resting) > 0 && now.Sub(d.resting[0].since) >= d.restsFor {
+	for n := 0; n < mostLooked && len(d.resting) > 0 && now.Sub(d.resting[0].since.Time()) >= d.restsFor; n++ {
 		v := d.resting[0].vote
 		d.resting, v.isResting = d.resting[1:], false
 		switch {
-		case v.asks != nil:
-		case now.Sub(v.heard) < d.restsFor:
-			d.rest(v, v.heard)
+		case len(v.asks) > 0:
+		case now.Sub(v.heard.Time()) < d.restsFor:
+			d.rest(v, v.heard.Time())
 		default:
 			d.forgetVote(v)
 		}
@@ -52,9 +56,9 @@ func (d *Daemon) makeRoom(now time.Time) bool {
 		first := d.resting[0]
 		v := first.vote
 		switch d.resting = d.resting[1:]; {
-		case v.asks != nil:
+		case len(v.asks) > 0:
 			v.isResting = false
-		case now.Sub(v.letGo) < d.leases.ttl || d.mustBeSaved(v):
+		case now.Sub(v.letGo.Time()) < d.leases.ttl || d.mustBeSaved(v):
 			d.resting = append(d.resting, first)
 		default:
 			v.isResting = false

@@ -9,13 +9,14 @@ import (
 
 	"calvundek.example/service/internal/config"
 	"calvundek.example/service/internal/event"
+	"calvundek.example/service/internal/moment"
 	"calvundek.example/service/internal/wire"
 	"go.etcd.io/bbolt"
 )
 
 // alone returns a voter that is a quorum by itself, and serves, and a function that hands lines of a
 // session to it.
-func alone(t *testing.T, most int) (*Daemon, func(lines string)) {
+func alone(t testing.TB, most int) (*Daemon, func(lines string)) {
 	t.Helper()
 	plan := texts(t, "voters = [\"a\"]\nquorums = [[\"a\"]]\n")
 	cluster := &config.Cluster{ID: "test", Servers: []string{"none"}, TTL: config.Duration{Duration: 2 * time.Second},
@@ -100,15 +101,15 @@ func TestRoomOfRestingLocks(t *testing.T) {
 	}
 }
 
-// A lock that somebody has, or of which a line came meanwhile, is kept.
+// A lock that somebody has again, or of which a line came meanwhile, is kept.
 func TestWhatIsNotForgotten(t *testing.T) {
 	d, says := alone(t, 10)
-	says("held request 0 0 1\nused request 0 0 2\nused release 0 0 2\nleft request 0 0 3\nleft release 0 0 3\n")
+	says("held request 0 0 1\nheld release 0 0 1\nheld request 0 0 4\nused request 0 0 2\nused release 0 0 2\nleft request 0 0 3\nleft release 0 0 3\n")
 	for _, name := range []string{"held", "left"} {
-		d.votes[name].heard = time.Now().Add(-d.restsFor)
+		d.votes[name].heard = moment.Of(time.Now().Add(-d.restsFor))
 	}
 	for i := range d.resting {
-		d.resting[i].since = time.Now().Add(-d.restsFor)
+		d.resting[i].since = moment.Of(time.Now().Add(-d.restsFor))
 	}
 	d.round(time.Now())
 	if d.votes["held"] == nil || d.votes["used"] == nil || d.votes["left"] != nil {
@@ -155,7 +156,7 @@ func TestNoLockIsForgottenUnsaved(t *testing.T) {
 	}
 }
 
-// Who has a vote for which nobody waits is reminded once a minute at last, and soon once somebody came to wait for it.
+// Who has a vote for which nobody waits is reminded every ten minutes at last, and soon once somebody came to wait for it.
 func TestRemindersOfUnwantedVotes(t *testing.T) {
 	d, says := alone(t, 10)
 	says("orders request 0 0 1\n")
@@ -170,8 +171,8 @@ func TestRemindersOfUnwantedVotes(t *testing.T) {
 		}
 		return count
 	}
-	if count := reminders(10 * time.Minute); count < 12 || count > 16 {
-		t.Errorf("%d reminders in ten minutes", count)
+	if count := reminders(time.Hour); count < 12 || count > 16 {
+		t.Errorf("%d reminders in an hour", count)
 	}
 	d.noteAsk(v, 1, 2, now)
 	if count := reminders(3 * time.Second); count < 2 {

@@ -38,9 +38,9 @@ func (m *metrics) highest(number uint64) uint64 {
 // old it is is read when somebody asks for it.
 type oldest struct{ atomic.Int64 }
 
-// note notes when the oldest began; there is none if that is now.
+// note notes when the oldest began; there is none if that is now, or no time.
 func (o *oldest) note(began, now time.Time) {
-	if !began.Before(now) {
+	if began.IsZero() || !began.Before(now) {
 		o.Store(0)
 		return
 	}
@@ -167,15 +167,11 @@ func (m *metrics) histogram(name, help string, buckets []float64) prometheus.His
 
 // measure sets the numbers that are looked at from time to time.
 func (d *Daemon) measure(now time.Time) {
-	lasting, waiting, held := now, now, 0
-	for _, v := range d.busy.all {
-		if v.held.Number > 0 {
-			held++
-			lasting = earlier(lasting, v.granted)
-		}
-		for client, ask := range v.asks {
-			if !v.isHolder(client) {
-				waiting = earlier(waiting, ask.since)
+	waiting := now
+	for _, v := range d.soon.all {
+		for _, one := range v.asks {
+			if !v.isHolder(one.client) {
+				waiting = earlier(waiting, one.since.Time())
 			}
 		}
 	}
@@ -194,10 +190,9 @@ func (d *Daemon) measure(now time.Time) {
 		d.waitsSince = time.Time{}
 	}
 	d.m.userLocks.Set(float64(ofUser))
-	d.m.lasting.note(lasting, now)
 	d.m.waiting.note(waiting, now)
 	d.m.busy.Set(float64(len(d.busy.all)))
-	d.m.held.Set(float64(held))
+	d.m.held.Set(float64(d.held))
 	d.m.sessions.Set(float64(d.census.open))
 	d.m.numbers.Set(float64(d.census.leastFree()))
 	d.m.shards.Set(float64(len(d.inTurn)))

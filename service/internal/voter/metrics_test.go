@@ -45,6 +45,7 @@ func TestNumbersOfAVoter(t *testing.T) {
 	v := d.add("orders", voter)
 	d.shard(0).set(1, of(".s", 1, 0, 10)) // of no user
 	says(d, v, 1, "request 1 0 5", time.Now().Add(-time.Hour))
+	d.lookAround(time.Now())
 	d.shard(0).set(1, Session{})
 	d.measure(time.Now())
 	for i := 0; i < 3; i++ {

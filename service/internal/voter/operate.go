@@ -203,9 +203,9 @@ func (d *Daemon) evict(key int, atOnce bool, by string, now time.Time) LetGo {
 	s, number := d.shardOfKey(key)
 	gone := LetGo{Nobody: !s.row(number).Open && !(atOnce && s.rare(number).byWord)}
 	s.expel(number, atOnce)
-	d.busy.each(func(v *vote) {
+	s.busy.each(func(v *vote) {
 		switch {
-		case v.shard != s || !v.isHolder(number):
+		case !v.isHolder(number):
 		case !atOnce:
 			gone.Later++
 		case d.letGo(v, now):
@@ -237,16 +237,33 @@ func (d *Daemon) status(now time.Time) Status {
 		s.Sessions = append(s.Sessions, one.views(d.cluster.NumberOf)...)
 	}
 	sort.SliceStable(s.Sessions, func(i, j int) bool { return s.Sessions[i].Shard < s.Sessions[j].Shard })
-	shown := append([]*vote(nil), d.busy.all...)
-	sort.Slice(shown, func(i, j int) bool { return shown[i].name < shown[j].name })
-	if len(shown) > mostShown {
-		s.Dropped = len(shown) - mostShown
-		shown = shown[:mostShown]
-	}
-	for _, v := range shown {
+	for _, v := range firstByName(d.busy.all, mostShown) {
 		s.Votes = append(s.Votes, d.view(v, now))
 	}
+	s.Dropped = len(d.busy.all) - len(s.Votes)
 	return s
+}
+
+// firstByName returns the first votes by their names, so many at most. It does not sort all of them, as there may be many.
+func firstByName(all []*vote, most int) (first []*vote) {
+	last := "" // of those that are the first ones so far, once there are enough
+	shorten := func() {
+		sort.Slice(first, func(i, j int) bool { return first[i].name < first[j].name })
+		if len(first) >= most {
+			first = first[:most]
+			last = first[most-1].name
+		}
+	}
+	for _, v := range all {
+		if last != "" && v.name >= last {
+			continue
+		}
+		if first = append(first, v); len(first) == 2*most {
+			shorten()
+		}
+	}
+	shorten()
+	return first
 }
 
 // views returns what an operator sees of the sessions of a shard. One that was heard after the last marker was silent for no time.
@@ -267,11 +284,12 @@ func (d *Daemon) view(v *vote, now time.Time) VoteView {
 	if v.held.Number > 0 {
 		shown.Client, shown.Stamp, shown.Grant = int(v.held.Client), v.held.Stamp, v.held.Number
 		shown.Session = d.cluster.NumberOf(v.shard.key(shown.Client))
-		shown.Held, shown.Note = now.Sub(v.granted).Seconds(), v.noteOfAsk(shown.Client)
+		shown.Held, shown.Note = now.Sub(v.granted.Time()).Seconds(), v.noteOfAsk(shown.Client)
 	}
-	for client, one := range v.asks {
-		if !v.isHolder(client) {
-			shown.Waiting = append(shown.Waiting, WaiterView{client, d.cluster.NumberOf(v.shard.key(client)), one.stamp, now.Sub(one.since).Seconds()})
+	for _, one := range v.asks {
+		if !v.isHolder(one.client) {
+			shown.Waiting = append(shown.Waiting, WaiterView{one.client, d.cluster.NumberOf(v.shard.key(one.client)), one.stamp,
+				now.Sub(one.since.Time()).Seconds()})
 		}
 	}
 	sort.Slice(shown.Waiting, func(i, j int) bool { return shown.Waiting[i].Stamp < shown.Waiting[j].Stamp })

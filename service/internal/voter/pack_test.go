@@ -20,6 +20,10 @@ func TestPack(t *testing.T) {
 		if got, ok := unpack(packed); !ok || !bytes.Equal(got, state) {
 			t.Fatalf("%x", state)
 		}
+		other := bytes.Repeat([]byte{byte(n)}, qlock.VoterBytes)
+		if unpackTo(other, packed); !bytes.Equal(other, state) {
+			t.Fatalf("%x in place of another one", state)
+		}
 		if _, ok := unpack(packed[:random.Intn(len(packed))]); ok {
 			t.Fatal("bytes that are cut off")
 		}

@@ -15,6 +15,7 @@ import (
 type quiet struct {
 	is    bool
 	since time.Duration // when it began, on the lease clock
+	ends  pass          // over the grants of before the start, which go at its end
 }
 
 // returned is called once a marker came back. The time that it skips is skipped for the quiet time, too: it counts as begun now, at the
@@ -51,16 +52,18 @@ func (d *Daemon) quietFor(now time.Time) time.Duration {
 // beQuiet begins a quiet time: what votes granted so far is from before it. It is over after a TTL by the lease clock, so that whoever is
 // inside could be heard for as long.
 func (d *Daemon) beQuiet(now time.Time) {
-	d.leases.quiet = quiet{true, d.leases.at(now)}
+	d.leases.quiet = quiet{is: true, since: d.leases.at(now)}
 	for _, v := range d.busy.all {
-		v.since = qlock.NewSinceStart(greatest(v.begun, v.held.Number))
-		v.stand()
+		v.forgetSince()
+		v.begun = greatest(v.begun, v.held.Number)
+		d.standSince(v, qlock.NewSinceStart(v.begun)) // what is not needed is kept of none: it is long
 	}
 }
 
 // sinceOf returns what was said of a lock since the start. Nothing is noted in what it returns for a vote of which nothing was said, but in
 // the quiet time.
 func (d *Daemon) sinceOf(v *vote) *qlock.SinceStart {
+	d.proved(v) // it may be packed
 	if v.since == nil && d.isQuiet() {
 		v.since = qlock.NewSinceStart(v.begun)
 	}
@@ -71,26 +74,29 @@ func (d *Daemon) sinceOf(v *vote) *qlock.SinceStart {
 }
 
 // stand notes how a vote stands since the start, once a call may have changed that.
-func (v *vote) stand() {
-	v.isOld, v.isAwaited = false, false
-	if v.since != nil {
-		v.isOld, v.isAwaited, _ = v.Stands(v.since) // it never fails: the bytes are a voter
-	}
+func (d *Daemon) stand(v *vote) { d.standSince(v, d.sinceOf(v)) }
+
+// standSince notes how a vote stands where this was said since the start.
+func (d *Daemon) standSince(v *vote, since *qlock.SinceStart) {
+	v.look(func(voter *qlock.Voter) {
+		v.isOld, v.isAwaited, _ = voter.Stands(since) // it never fails: the bytes are a voter
+	})
+	d.lists(v)
 }
 
 // forgetDead forgets those who said of a lock that they are inside, and whose session is over.
 func (d *Daemon) forgetDead(v *vote) {
-	for client, one := range v.asks {
-		if v.shard.isOver(client, one.stamp) {
-			_ = v.since.Forget(uint8(client)) // it never fails: there is such a client
+	for _, one := range v.asks {
+		if v.shard.isOver(one.client, one.stamp) {
+			_ = v.since.Forget(uint8(one.client)) // it never fails: there is such a client
 		}
 	}
-	v.stand()
+	d.stand(v)
 }
 
 // awaits returns whether somebody who said that he is inside waits for some vote.
 func (d *Daemon) awaits() bool {
-	for _, v := range d.busy.all {
+	for _, v := range d.soon.all {
 		if v.isAwaited {
 			return true
 		}

@@ -26,15 +26,6 @@ const (
 	mostOfNumber = 360
 )
 
-// heap returns how many bytes are in use.
-func heap() int {
-	var m runtime.MemStats
-	runtime.GC()
-	runtime.GC()
-	runtime.ReadMemStats(&m)
-	return int(m.HeapAlloc)
-}
-
 // settles takes out what is to leave, and what is to be saved.
 func (d *Daemon) settles() {
 	d.leases.saved()
@@ -56,11 +47,11 @@ func TestMemoryOfShards(t *testing.T) {
 	const shards, numbers = 256, 15
 	d, _ := sharded(t, shards)
 	d.settles()
-	before := heap()
+	before := int(heap())
 	for shard := 1; shard < shards; shard++ {
 		d.shard(shard)
 	}
-	empty := heap()
+	empty := int(heap())
 	if each := (empty - before) / (shards - 1); each > mostOfShard {
 		t.Errorf("a shard takes %d bytes", each)
 	} else {
@@ -75,7 +66,7 @@ func TestMemoryOfShards(t *testing.T) {
 		}
 	}
 	d.settles()
-	if each := (heap() - empty) / (shards - 1) / numbers; each > mostOfNumber {
+	if each := (int(heap()) - empty) / (shards - 1) / numbers; each > mostOfNumber {
 		t.Errorf("a session takes %d bytes", each)
 	} else {
 		t.Logf("a session takes %d bytes", each)

@@ -12,9 +12,9 @@ import (
 // shard is what a voter keeps of the sessions of a shard.
 type shard struct {
 	table
-	busy    map[*vote]struct{} // the votes that somebody has or waits for
-	waiting *numberQueue       // who waits for a number; nil while nobody does
-	open    int                // its sessions, and the numbers that may be claimed, when they were counted last
+	busy    voteList     // the votes that somebody has or waits for
+	waiting *numberQueue // who waits for a number; nil while nobody does
+	open    int          // its sessions, and the numbers that may be claimed, when they were counted last
 	free    int
 	votes   int       // how many locks of it are known
 	used    time.Time // when a message of a session of it came

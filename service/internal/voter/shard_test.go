@@ -67,7 +67,7 @@ func TestSessionsOfShards(t *testing.T) {
 		}
 		says((shard+1)&3, 5, fmt.Sprintf(". about %s %d mine\n", lock, 10+shard))
 		says((shard+1)&3, 5, fmt.Sprintf(". turn %s %d 1 9\n", lock, 10+shard))
-		if v := d.votes[lock]; v.asks[5].note != "" || len(d.skips) > 0 {
+		if v := d.votes[lock]; v.asks.of(5).note != "" || len(d.skips) > 0 {
 			t.Errorf("a session of another shard says something of %s: %+v", lock, v.asks)
 		}
 	}

@@ -164,8 +164,10 @@ func (d *Daemon) raiseAll() {
 	for _, v := range d.votes {
 		v.limit, v.highest, v.isRaised = d.ceiling, greatest(v.highest, d.floor), true
 		v.begun = greatest(v.begun, d.floor)
-		_ = v.Extend(d.ceiling) // neither fails: no limit was above the ceiling
-		_ = v.Raise(d.floor)
+		v.change(func(voter *qlock.Voter) {
+			_ = voter.Extend(d.ceiling) // neither fails: no limit was above the ceiling
+			_ = voter.Raise(d.floor)
+		})
 	}
 }
 

@@ -252,8 +252,7 @@ func TestNoReminderWhileQuiet(t *testing.T) {
 	for _, isOld := range []bool{true, false} {
 		d.out = map[string][]byte{}
 		if d.beQuiet(time.Now()); !isOld {
-			v.since = nil
-			v.stand()
+			v.isOld = false
 		}
 		if d.round(later); len(d.out) > 0 == isOld {
 			t.Errorf("old: %v, %q", isOld, d.out)

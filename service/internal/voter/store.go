@@ -242,22 +242,12 @@ func (s *store) read(rows Rows) (err error) {
 	return err
 }
 
-// load hands each vote, each floor, then each session, and what is known of each place to a function. A session is old if it would be
+// load hands each floor, then each session, then each vote, and what is known of each place to a function. A session is old if it would be
 // saved in another form.
-func (s *store) load(vote func(name string, state []byte) error, session func(key int, row Session, isOld bool) error,
-	floor func(shard int, floor Floor), peer func(place int, p Peer)) error {
+func (s *store) load(floor func(shard int, floor Floor), session func(key int, row Session, isOld bool) error,
+	vote func(name string, state []byte) error, peer func(place int, p Peer)) error {
 	return s.disk.View(func(rows Rows) error {
-		err := each(rows, voteBucket, func(key, value []byte) error {
-			state, ok := unpack(value)
-			if !ok {
-				return fmt.Errorf("vote %q: %w", key, ErrDamaged)
-			}
-			return vote(string(key), state)
-		})
-		if err != nil {
-			return err
-		}
-		err = each(rows, sessionBucket, func(key, value []byte) error {
+		err := each(rows, sessionBucket, func(key, value []byte) error {
 			shard, is := shardOfFloor(key)
 			var one Floor
 			if is && json.Unmarshal(value, &one) != nil {
@@ -284,6 +274,16 @@ func (s *store) load(vote func(name string, state []byte) error, session func(ke
 				return err
 			}
 			return session(number, row, !bytes.Equal(again, value))
+		})
+		if err != nil {
+			return err
+		}
+		err = each(rows, voteBucket, func(key, value []byte) error {
+			state, ok := unpack(value)
+			if !ok {
+				return fmt.Errorf("vote %q: %w", key, ErrDamaged)
+			}
+			return vote(string(key), state)
 		})
 		if err != nil {
 			return err
@@ -338,7 +338,7 @@ func (s *store) save(c changes) error {
 	meta := s.meta
 	err := s.update(s.saves+1, func(b *batch) error {
 		for v := range c.votes {
-			if err := b.put(voteBucket, []byte(v.name), pack(v.State())); err != nil {
+			if err := b.put(voteBucket, []byte(v.name), v.saved()); err != nil {
 				return err
 			}
 		}

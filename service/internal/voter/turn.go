@@ -70,10 +70,10 @@ func (d *Daemon) skipFor(l *letter, ask wire.Ask, now time.Time) {
 	}
 	if ask.Top > v.limit {
 		v.limit = d.ceiling
-		_ = v.Extend(d.ceiling) // it never fails: the limit is below
+		_ = d.proved(v).Extend(d.ceiling) // it never fails: the limit is below
 	}
 	if ask.Top > v.highest { // else it gave, or skipped, as many before
-		if v.Raise(ask.Top) != nil {
+		if d.proved(v).Raise(ask.Top) != nil {
 			return
 		}
 		v.highest = ask.Top

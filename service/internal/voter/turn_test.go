@@ -39,7 +39,7 @@ func TestTurnsAreSkipped(t *testing.T) {
 			t.Fatalf("%q", reply)
 		}
 	}
-	if held, err := d.votes["orders"].Held(); err != nil || held.Number != grant {
+	if held, err := d.votes["orders"].voter.Held(); err != nil || held.Number != grant {
 		t.Errorf("%v, %v", held, err)
 	}
 	d.repliesTo("jobs", 2, "orders request 2 0 9\n")

@@ -11,6 +11,7 @@ import (
 
 // usage is what a voter counts of a user: the votes that a session of it has or waits for.
 type usage struct {
+	user   string
 	votes  int
 	isFull bool // it was logged that it may have no more
 }
@@ -35,45 +36,53 @@ func (s *shard) asker(client int, stamp uint64) string {
 	return userOf(s.row(client).Hash)
 }
 
-// countUser counts the requests of a user that have a vote or wait for it, and its votes.
-func (d *Daemon) countUser(v *vote, user string, by int) {
+// usageOf returns what is counted of a user, nil if it is none.
+func (d *Daemon) usageOf(user string) *usage {
 	if user == "" {
+		return nil
+	}
+	u := d.users[user]
+	if u == nil {
+		u = &usage{user: user}
+		d.users[user] = u
+	}
+	return u
+}
+
+// counts counts a vote of a user before another request of it has the vote or waits for it.
+func (d *Daemon) counts(v *vote, u *usage) {
+	if u != nil && !v.asks.areOf(u) {
+		u.votes++
+	}
+}
+
+// leaves counts a vote of a user no more once no request of it has the vote or waits for it.
+func (d *Daemon) leaves(v *vote, u *usage) {
+	if u == nil || v.asks.areOf(u) {
 		return
 	}
-	before := v.users[user]
-	switch now := before + by; {
-	case before == 0:
-		if v.users == nil {
-			v.users = map[string]int{}
-		}
-		if d.users[user] == nil {
-			d.users[user] = &usage{}
-		}
-		v.users[user] = now
-		d.users[user].votes++
-	case now == 0:
-		delete(v.users, user)
-		if d.users[user].votes--; d.users[user].votes == 0 {
-			delete(d.users, user)
-		}
-	default:
-		v.users[user] = now
+	if u.votes--; u.votes == 0 {
+		delete(d.users, u.user)
 	}
 }
 
 // isAtBound returns whether a user may get no vote besides those that it has or waits for, and this is none of them.
 func (d *Daemon) isAtBound(v *vote, user string) bool {
 	u := d.users[user]
-	return u != nil && u.votes >= d.own.LocksOfUser() && (v == nil || v.users[user] == 0)
+	return u != nil && u.votes >= d.own.LocksOfUser() && (v == nil || !v.asks.areOf(u))
 }
 
 // isInTheWay returns whether a grant goes with its session though nobody waits for the vote: the session can't come back, or
 // there was no room for another lock of its user, or for any.
 func (d *Daemon) isInTheWay(v *vote) bool {
 	client := int(v.held.Client)
-	u := d.users[v.asks[client].user]
 	return !v.shard.row(client).Open || v.shard.isEarlier(client, v.held.Stamp) ||
-		u != nil && u.isFull && u.votes >= d.own.LocksOfUser() || d.isFull && len(d.votes) >= d.own.MaxLocks
+		d.isFullFor(v.asks.of(client)) || d.isFull && len(d.votes) >= d.own.MaxLocks
+}
+
+// isFullFor returns whether the user of a request was refused another lock, and is still at its bound.
+func (d *Daemon) isFullFor(one *ask) bool {
+	return one != nil && one.user != nil && one.user.isFull && one.user.votes >= d.own.LocksOfUser()
 }
 
 // fullForUser refuses a REQUEST of a user that is at its bound.

@@ -3,44 +3,38 @@ package voter
 import (
 	"time"
 
+	"calvundek.example/service/internal/moment"
 	"calvundek.example/service/internal/remind"
 	"calvundek.example/service/qlock"
 )
 
-// ask is a request that has the vote or waits for it.
-type ask struct {
-	stamp uint64
-	since time.Time
-	user  string // whose it is, "" if it is of an earlier session of its number
-	note  string // what its client says of it
-}
-
-// vote is the vote for one lock, and beside the proved voter what the loop looks at often.
+// vote is the vote for one lock, and beside the proved voter what the loop looks at often. There may be a million of them.
 type vote struct {
-	*qlock.Voter
+	voter   *qlock.Voter // nil while it is packed (idle.go)
+	packed  []byte       // the voter as it is saved, and what was said since the start
 	name    string
 	shard   *shard
 	held    qlock.Grant
-	granted time.Time      // when it was granted
-	asks    map[int]ask    // by client: who has it, and who waits
-	users   map[string]int // how many of these are a user's
-	timer   remind.Timer   // for the reminder of whoever has it
+	granted moment.Moment // when it was granted
+	asks    askers        // who has it, and who waits
+	timer   remind.Timer  // for the reminder of whoever has it
 
-	limit   uint64 // how many grants it may give
-	isSpent bool   // it was logged that all grants are given
-	turned  turned // the last turn that was said
+	limit   uint64            // how many grants it may give
+	turned  turned            // the last turn that was said
+	since   *qlock.SinceStart // what was said since the start, nil while that is nothing, or packed
+	begun   uint64            // how many grants its voter had given, or skipped, when the start began, or it was made
+	heard   moment.Moment     // when a line of the lock came
+	letGo   moment.Moment     // when a grant of it was let go
+	highest uint64            // no grant of it has a greater number
+	places  [kinds]int32      // in the lists of votes, from 1 on, 0 where it is not there
 
-	since     *qlock.SinceStart // what was said since the start; nil while that is nothing, and no grant is from before
-	begun     uint64            // how many grants its voter had given, or skipped, when the start began, or it was made
-	isOld     bool              // its grant is from before the start, and nobody said that he is inside by it (Stands)
-	isAwaited bool              // somebody waits who said since the start that he is inside (Stands)
-
-	isRaised  bool      // it goes on above another number since it was saved
-	heard     time.Time // when a line of the lock came
-	letGo     time.Time // when a grant of it was let go
-	highest   uint64    // no grant of it has a greater number
-	isResting bool      // nobody has it or waits for it, and it is among those that are forgotten after a while
-	place     int       // among the busy ones, from 1 on, 0 if it is none
+	isSpent   bool // it was logged that all grants are given
+	isOld     bool // its grant is from before the start, and nobody said that he is inside by it (Stands)
+	isAwaited bool // somebody waits who said since the start that he is inside (Stands)
+	isRaised  bool // it goes on above another number since it was saved
+	isResting bool // nobody has it or waits for it, and it is among those that are forgotten after a while
+	isSaid    bool // what was said since the start is packed
+	isUsed    bool // its voter was used since it was looked at whether to pack it
 }
 
 // isHolder returns whether the client has the vote.
@@ -62,8 +56,9 @@ func (d *Daemon) add(name string, voter *qlock.Voter) *vote {
 
 // voteOf returns what is kept of a lock beside its voter.
 func (d *Daemon) voteOf(name string, voter *qlock.Voter) *vote {
-	v := &vote{Voter: voter, name: name, shard: d.shardOfLock(name), timer: remind.Timer{First: d.own.First.Duration, Most: d.own.Most.Duration}}
+	v := &vote{voter: voter, name: name, shard: d.shardOfLock(name), timer: remind.Timer{First: d.own.First.Duration, Most: d.own.Most.Duration}}
 	v.limit, v.highest, v.begun = d.ceiling, d.floor, d.floor
+	v.heard, v.letGo = moment.Never, moment.Never
 	return v
 }
 
@@ -72,10 +67,13 @@ func (d *Daemon) keep(v *vote) {
 	d.votes[v.name] = v
 	v.shard.votes++
 	delete(d.gone, v.name)
+	if v.voter != nil {
+		d.unpacked = append(d.unpacked, v)
+	}
 }
 
 // restore adds a vote that was saved. It forgets who waits, as only the grant and the number of grants are sure to be those
-// of the last step (Voter.MustSave): clients that wait ask again.
+// of the last step (Voter.MustSave): clients that wait ask again. What is left of it is packed.
 func (d *Daemon) restore(name string, state []byte, now time.Time) error {
 	voter, err := qlock.RestoreVoter(state)
 	if err != nil {
@@ -84,74 +82,67 @@ func (d *Daemon) restore(name string, state []byte, now time.Time) error {
 	if err := voter.Forget(); err != nil {
 		return err
 	}
-	v := d.add(name, voter)
-	held, err := v.Held()
-	if err == nil && held.Number == 0 {
-		d.rest(v, now)
-	}
-	if err != nil || held.Number == 0 {
+	held, err := voter.Held()
+	if err != nil {
 		return err
+	}
+	v := d.voteOf(name, voter)
+	v.pack()
+	d.keep(v)
+	if held.Number == 0 {
+		d.rest(v, now)
+		return nil
 	}
 	d.noteAsk(v, int(held.Client), held.Stamp, now)
 	d.noteGrant(v, held, now)
-	return err
+	return nil
 }
 
 // noteAsk notes under which stamp a client has the vote or waits for it, 0 for none, after a step that may have changed it.
 func (d *Daemon) noteAsk(v *vote, client int, stamp uint64, now time.Time) {
-	before, asked := v.asks[client]
-	if stamp == before.stamp {
+	before := v.asks.of(client)
+	if before == nil && stamp == 0 || before != nil && before.stamp == stamp {
 		return
 	}
-	if asked {
-		v.shard.count(client, before, -1)
-		d.countUser(v, before.user, -1)
-		delete(v.asks, client)
+	if before != nil {
+		user := before.user
+		v.shard.count(*before, -1)
+		v.asks.remove(client)
+		d.leaves(v, user)
 	}
 	if stamp > 0 {
-		if v.asks == nil {
-			v.asks = map[int]ask{}
-		}
-		one := ask{stamp: stamp, since: now, user: v.shard.asker(client, stamp)}
-		v.asks[client] = one
-		v.shard.count(client, one, 1)
-		d.countUser(v, one.user, 1)
+		one := ask{client: client, stamp: stamp, since: moment.Of(now), user: d.usageOf(v.shard.asker(client, stamp))}
+		d.counts(v, one.user)
+		v.asks.add(one)
+		v.shard.count(one, 1)
 		v.timer.Sooner(now)
 	}
-	if len(v.asks) == 0 {
-		v.asks, v.users = nil, nil
-		d.busy.remove(v)
-		delete(v.shard.busy, v)
+	isBusy := len(v.asks) > 0
+	d.busy.put(v, inBusy, isBusy)
+	v.shard.busy.put(v, inShard, isBusy)
+	if !isBusy {
 		d.rest(v, now)
-	} else {
-		d.busy.add(v)
-		v.shard.isBusy(v)
 	}
-}
-
-// isBusy notes that somebody has a vote of the shard, or waits for it.
-func (s *shard) isBusy(v *vote) {
-	if s.busy == nil {
-		s.busy = map[*vote]struct{}{}
-	}
-	s.busy[v] = struct{}{}
 }
 
 // count counts the requests of the session that a number has now. Those of its earlier sessions don't count: nobody of
 // this session waits for them.
-func (s *shard) count(client int, one ask, by int) {
-	if one.stamp > s.row(client).Base {
-		s.seat(client).requests += by
+func (s *shard) count(one ask, by int) {
+	if one.stamp > s.row(one.client).Base {
+		s.seat(one.client).requests += by
 	}
 }
 
-// recount counts anew, once a number has a new session.
+// recount counts anew, once a number has a new session. The base of a number never falls, so what did not count does not count now.
 func (d *Daemon) recount(s *shard, client int) {
 	seat := s.seat(client)
-	seat.requests, seat.lock = 0, ""
-	for v := range s.busy {
-		if one, asked := v.asks[client]; asked {
-			s.count(client, one, 1)
+	before := seat.requests
+	if seat.requests, seat.lock = 0, ""; before == 0 {
+		return
+	}
+	for _, v := range s.busy.all {
+		if one := v.asks.of(client); one != nil {
+			s.count(*one, 1)
 		}
 	}
 }
@@ -159,9 +150,13 @@ func (d *Daemon) recount(s *shard, client int) {
 // noteGrant notes who has the vote, after a step that may have changed it.
 func (d *Daemon) noteGrant(v *vote, held qlock.Grant, now time.Time) {
 	if held.Number != v.held.Number {
-		v.held, v.granted = held, now
+		if v.held.Number > 0 {
+			d.held--
+		}
+		v.held, v.granted = held, moment.Of(now)
 		d.watches.touch(v.name)
 		if held.Number > 0 {
+			d.held++
 			v.highest = greatest(v.highest, held.Number)
 			d.m.grants.Inc()
 			d.granted++
@@ -169,6 +164,13 @@ func (d *Daemon) noteGrant(v *vote, held qlock.Grant, now time.Time) {
 		}
 	}
 	v.timer.Of(held.Number, now)
+	d.lists(v)
+}
+
+// lists notes in which lists a vote is that each round goes over.
+func (d *Daemon) lists(v *vote) {
+	d.soon.put(v, inSoon, v.isWanted() || v.isAwaited)
+	d.old.put(v, inOld, v.isOld)
 }
 
 // noteNumber notes that a number of a grant was given, or skipped.

@@ -238,7 +238,7 @@ func FuzzMessage(f *testing.F) {
 				t.Fatalf("%q says that another session wants %q", h.Name, now)
 			}
 		}
-		if d.votes["orders"].asks[0].note != "" && h.Name != "me" {
+		if one := d.votes["orders"].asks.of(0); one != nil && one.note != "" && h.Name != "me" {
 			t.Fatalf("%q says something of another one's request", h.Name)
 		}
 		if now := d.votes["orders"].held; now != held && h.Name != "me" {
@@ -322,15 +322,14 @@ func mustCount(t *testing.T, d *Daemon) {
 	for _, v := range d.votes {
 		asks := map[string]int{}
 		for _, one := range v.asks {
-			asks[one.user]++
-		}
-		for user, count := range asks {
-			if votes[user]++; v.users[user] != count {
-				t.Fatalf("%s: %v, of %v", v.name, v.users, v.asks)
+			if one.user != nil && one.user != d.users[one.user.user] {
+				t.Fatalf("%s: %+v, of %v", v.name, one.user, v.asks)
+			} else if one.user != nil {
+				asks[one.user.user]++
 			}
 		}
-		if len(v.users) != len(asks) {
-			t.Fatalf("%s: %v, of %v", v.name, v.users, v.asks)
+		for user := range asks {
+			votes[user]++
 		}
 	}
 	for user, u := range d.users {

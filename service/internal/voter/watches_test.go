@@ -6,6 +6,7 @@ import (
 	"testing"
 	"time"
 
+	"calvundek.example/service/internal/moment"
 	"calvundek.example/service/internal/wire"
 	"calvundek.example/service/transport"
 )
@@ -42,7 +43,7 @@ func TestWatcherHearsChanges(t *testing.T) {
 	} {
 		d.repliesTo("jobs", one.number, one.lines)
 		if v := d.votes["orders"]; v != nil {
-			v.granted = time.Now().Add(time.Hour) // no clock
+			v.granted = moment.Of(time.Now().Add(time.Hour)) // no clock
 		}
 		if said := d.watcherHears(time.Now()); said != one.want {
 			t.Errorf("%q: %q", one.lines, said)
