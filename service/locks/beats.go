@@ -125,7 +125,7 @@ func (c *Client) joins(voter int) bool {
 	one := joined{c.header.Name, p.said.Lapses, p.opened}
 	one.opened.Fourth = c.header.Seq
 	to := wire.VoterBox(c.cluster.ID, voter, c.user)
-	p.joined = c.bundles.joins(voter, p.voterStart, to, c.speaks(voter), c.header.Level, c.bundled.place, p.entry, one)
+	p.joined = c.bundles.joins(voter, p.voterStart, to, c.speaks(voter), c.header.Level, c.box.place, p.entry, one)
 	return p.joined
 }
 
@@ -137,17 +137,17 @@ func (c *Client) sayRoll(voter int) {
 	if p.entry > 0 && p.joined && p.opened.Fourth+1 != c.header.Seq {
 		c.forgetRoll(voter)
 	}
-	if p.joined = false; c.bundles == nil || c.bundled.place < 0 || !p.accepts || !p.bundles || p.entry > 0 {
+	if p.joined = false; c.bundles == nil || c.box.place < 0 || !p.accepts || !p.bundles || p.entry > 0 {
 		return
 	}
 	if p.rolls++; p.rolls&(p.rolls-1) == 0 { // the first time, the second, the fourth..
-		c.out[voter] = wire.Ask{Kind: wire.SaysRoll, Text: c.bundles.process, Place: c.bundled.place}.Append(c.out[voter])
+		c.out[voter] = wire.Ask{Kind: wire.SaysRoll, Text: c.bundles.process, Place: c.box.place}.Append(c.out[voter])
 	}
 }
 
 // hearRoll notes that a voter made an entry for the session.
 func (c *Client) hearRoll(voter int, told wire.Told) {
-	if p := &c.peers[voter]; c.bundled != nil && told.Place == c.bundled.place && !p.stale {
+	if p := &c.peers[voter]; c.box != nil && told.Place == c.box.place && !p.stale {
 		p.entry = greatest(p.entry, told.Entry)
 	}
 }

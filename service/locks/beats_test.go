@@ -16,7 +16,7 @@ import (
 func onRoll(t *testing.T) *table {
 	t.Helper()
 	c, _ := inBundles(t)
-	c.bundled.place = 5
+	c.box.place = 5
 	c.heartbeat(time.Now())
 	c.flush()
 	for v := range c.peers {
@@ -56,15 +56,11 @@ func (c *table) beatsLeave(voter int) string {
 
 // hearsBeat lets a voter say something to the process, and the session take what that is to it. It returns whether there was something.
 func (c *table) hearsBeat(voter int, lines string) bool {
-	s := &shards{boxes: map[string]*mailbox{c.header.Name: c.bundled}, bundles: c.bundles}
+	s := &shards{boxes: map[string]*mailbox{c.header.Name: c.box}, bundles: c.bundles}
 	s.unbundle(c.word(voter, lines))
-	select {
-	case m := <-c.inBundles():
-		c.messageOfBundle(m)
-		return true
-	default:
-		return false
-	}
+	isThere := len(c.box.messages) > 0
+	c.takesWaiting()
+	return isThere
 }
 
 // A session that has nothing new to say joins the beat of its process. What a voter says to that acknowledges the heartbeat that was left out,

@@ -16,11 +16,8 @@ import (
 	"calvundek.example/service/transport"
 )
 
-const (
-	mostHeld    = 40 * time.Millisecond // for which a heartbeat waits for those of other sessions: each goes round once in that time
-	mostBundled = 1 << 8                // messages that came in bundles, and that a session did not take yet
-	roomBundled = 1 << 20               // bytes of these
-)
+// mostHeld is for how long a heartbeat waits for those of other sessions: each goes round once in that time.
+const mostHeld = 40 * time.Millisecond
 
 // bundles has what leaves to voters, for all sessions of a process.
 type bundles struct {
@@ -128,6 +125,15 @@ func (c *Client) isDue(now time.Time) bool {
 	return now.Sub(c.bundles.began)/pause != c.beat.Sub(c.bundles.began)/pause
 }
 
+// nextBeat returns when it may be time for the next heartbeat.
+func (c *Client) nextBeat(now time.Time) time.Time {
+	pause := c.pause()
+	if c.bundles == nil {
+		return c.beat.Add(pause)
+	}
+	return now.Add(pause - now.Sub(c.bundles.began)%pause)
+}
+
 // post sends a message to a voter.
 func (c *Client) post(voter int, message []byte) {
 	box := wire.VoterBox(c.cluster.ID, voter, c.user)
@@ -167,66 +173,6 @@ func (c *Client) forgetBundles(voter int) {
 	}
 }
 
-// mailbox has the messages to a session that came in bundles.
-type mailbox struct {
-	messages chan transport.Message
-	place    int // of the session on the roll of the process, -1 if it has none
-	mutex    sync.Mutex
-	bytes    int
-}
-
-func newMailbox() *mailbox { return &mailbox{messages: make(chan transport.Message, mostBundled)} }
-
-// put puts a message behind the others, and returns whether there was room.
-func (m *mailbox) put(message transport.Message) bool {
-	m.mutex.Lock()
-	defer m.mutex.Unlock()
-	if m.bytes+len(message.Data) > roomBundled && m.bytes > 0 {
-		return false
-	}
-	select {
-	case m.messages <- message:
-		m.bytes += len(message.Data)
-		return true
-	default:
-		return false
-	}
-}
-
-// taken notes that a message was taken out.
-func (m *mailbox) taken(message transport.Message) {
-	m.mutex.Lock()
-	defer m.mutex.Unlock()
-	m.bytes -= len(message.Data)
-}
-
-// inBundles returns the messages that came in bundles, nil where none do.
-func (c *Client) inBundles() <-chan transport.Message {
-	if c.bundled == nil {
-		return nil
-	}
-	return c.bundled.messages
-}
-
-// messageOfBundle takes a message that came in a bundle.
-func (c *Client) messageOfBundle(m transport.Message) {
-	c.bundled.taken(m)
-	c.message(m)
-}
-
-// readBundles takes what comes to the mailbox of a process, for its sessions, until there is no client and no session any more. It is no
-// loop of a session: none of them waits for another one.
-func (s *shards) readBundles(messages <-chan transport.Message) {
-	for {
-		select {
-		case m := <-messages:
-			s.unbundle(m)
-		case <-s.over:
-			return
-		}
-	}
-}
-
 // unbundle puts the messages of a bundle into the mailboxes of the sessions to which they are.
 func (s *shards) unbundle(m transport.Message) {
 	wire.Messages(m.Data, func(message []byte) {
@@ -242,35 +188,49 @@ func (s *shards) unbundle(m transport.Message) {
 	})
 }
 
-// pass puts a message into the mailbox of a session. What is to none, or finds no room, is lost, and counted.
+// pass puts a message into the mailbox of a session.
 func (s *shards) pass(session string, m transport.Message) {
 	s.mutex.Lock()
-	defer s.mutex.Unlock()
-	if to := s.boxes[session]; to == nil || !to.put(m) {
+	to := s.boxes[session]
+	s.mutex.Unlock()
+	s.put(to, m)
+}
+
+// put puts a message into a mailbox. What is to none, or finds no room, is lost, and counted.
+func (s *shards) put(to *mailbox, m transport.Message) {
+	if to == nil || !to.put(m) {
+		s.mutex.Lock()
+		defer s.mutex.Unlock()
 		s.past.Refused++
 	}
 }
 
-// listens lets a session send bundles, and take what comes to it in them.
-func (s *shards) listens(session *Client) {
-	if session.bundles = s.bundles; s.bundles == nil {
-		return
+// listens begins to take what comes to a session, also in bundles, and lets it send bundles.
+func (s *shards) listens(session *Client) error {
+	box := newMailbox()
+	if s.bundles != nil {
+		box.place = s.bundles.takePlace()
 	}
-	session.bundled = newMailbox()
+	leave, err := transport.Pass(session.carrier, session.boxes(), func(m transport.Message) { s.put(box, m) })
+	if err != nil {
+		return err
+	}
+	session.bundles, session.box, session.leaveBox = s.bundles, box, leave
 	s.mutex.Lock()
 	defer s.mutex.Unlock()
-	s.boxes[session.header.Name] = session.bundled
-	session.bundled.place = s.bundles.takePlace()
+	s.boxes[session.header.Name] = box
+	return nil
 }
 
-// leaves ends that.
-func (s *shards) leaves(session string) {
+// leaves ends the mailbox of a session.
+func (s *shards) leaves(session *Client) {
+	session.leaveBox()
 	s.mutex.Lock()
 	defer s.mutex.Unlock()
-	if box := s.boxes[session]; box != nil && s.bundles != nil {
-		s.bundles.givePlaceBack(box.place)
+	if session.bundles != nil {
+		session.bundles.givePlaceBack(session.box.place)
 	}
-	delete(s.boxes, session)
+	delete(s.boxes, session.header.Name)
 	s.end()
 }
 

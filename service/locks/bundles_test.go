@@ -219,17 +219,21 @@ func TestMailboxOfAProcess(t *testing.T) {
 	}
 	soon(t, "mailboxes stay", func() bool { return w.Bus.Boxes()-before == 1 })
 	s := &shards{boxes: map[string]*mailbox{}, over: make(chan struct{}), bundles: &bundles{}}
-	one := &Client{}
-	one.header.Name = "one"
-	s.listens(one)
+	one := alone(t).Client
+	listens := func() {
+		if err := s.listens(one); err != nil {
+			t.Fatal(err)
+		}
+	}
+	listens()
 	if s.stops(); s.isOver {
 		t.Error("it ends before a session that goes on")
 	}
-	if s.leaves("one"); !s.isOver {
+	if s.leaves(one); !s.isOver {
 		t.Error("it does not end with the last session")
 	}
-	s.listens(one)
-	s.leaves("one") // of a call that was under way
+	listens()
+	s.leaves(one) // of a call that was under way
 }
 
 // counting is a carrier that counts the bundles that come.
@@ -238,18 +242,13 @@ type counting struct {
 	came atomic.Int64
 }
 
-func (c *counting) Listen(boxes string) (<-chan transport.Message, error) {
-	from, err := c.NATS.Listen(boxes)
-	to := make(chan transport.Message, 1<<10)
-	go func() {
-		for m := range from {
-			if isBundle(m.Data) {
-				c.came.Add(1)
-			}
-			to <- m
+func (c *counting) Pass(box string, to func(transport.Message)) error {
+	return c.NATS.Pass(box, func(m transport.Message) {
+		if isBundle(m.Data) {
+			c.came.Add(1)
 		}
-	}()
-	return to, err
+		to(m)
+	})
 }
 
 // The permissions that users have let their processes get bundles, from voters that are users, too.
@@ -281,7 +280,7 @@ func inBundles(t *testing.T) (*table, func() []string) {
 	t.Helper()
 	c := alone(t)
 	c.cluster.Shards = 2
-	c.bundles, c.bundled = &bundles{cluster: c.cluster.ID, process: "p", began: time.Now(), carrier: c.carrier}, newMailbox()
+	c.bundles, c.box = &bundles{cluster: c.cluster.ID, process: "p", began: time.Now(), carrier: c.carrier}, newMailbox()
 	for v := range c.peers {
 		c.says(v, ". bundles\n. claimed 3 5 0 4096\n")
 	}
@@ -441,7 +440,7 @@ func secondSession(t *testing.T, c *table) *table {
 		t.Fatal(err)
 	}
 	other.header.Number, other.header.Epoch, other.header.Reserved = 4, 1, mostBlock
-	other.plans, other.bundles, other.bundled = c.plans.copied(), c.bundles, newMailbox()
+	other.plans, other.bundles, other.box = c.plans.copied(), c.bundles, newMailbox()
 	claiming(other, 4, 1)
 	return &table{Client: other, boxes: c.boxes}
 }
@@ -516,13 +515,13 @@ func TestBundlesAreSaidAgain(t *testing.T) {
 // A session that waits for a number that is free hears of it also in a bundle.
 func TestFreeInABundle(t *testing.T) {
 	c, _ := inBundles(t)
-	c.bundled.put(c.word(0, ". free\n"))
+	c.box.put(c.word(0, ". free\n"))
 	began := time.Now()
 	if err := c.awaitsFree(within(t, 20*time.Second)); err != nil || time.Since(began) > c.cluster.TTL.Duration/20 {
 		t.Errorf("%v after %v", err, time.Since(began))
 	}
-	if c.bundled.bytes != 0 {
-		t.Errorf("%d bytes wait", c.bundled.bytes)
+	if c.box.bytes != 0 {
+		t.Errorf("%d bytes wait", c.box.bytes)
 	}
 }
 
@@ -535,28 +534,28 @@ func TestMessagesToSessions(t *testing.T) {
 	if c.message(came(c.Client, 1, wire.AddressTo("another", lines))); c.takers() != 0 || c.stats.Refused != 1 {
 		t.Errorf("a message to another session is taken: %b", c.takers())
 	}
-	s := &shards{boxes: map[string]*mailbox{c.header.Name: c.bundled}}
+	s := &shards{boxes: map[string]*mailbox{c.header.Name: c.box}}
 	var b wire.Bundle
 	b.Add(wire.AddressTo("another", lines))
 	b.Add(lines)
 	b.Add([]byte("junk\n"))
 	b.Add(wire.AddressTo(c.header.Name, lines))
 	s.unbundle(came(c.Client, 1, b.Take()))
-	if len(c.inBundles()) != 1 || s.past.Refused != 3 {
-		t.Errorf("%d messages come, %d are refused", len(c.inBundles()), s.past.Refused)
+	if len(c.box.messages) != 1 || s.past.Refused != 3 {
+		t.Errorf("%d messages come, %d are refused", len(c.box.messages), s.past.Refused)
 	}
-	if c.messageOfBundle(<-c.inBundles()); c.takers() != 1<<1 || c.bundled.bytes != 0 {
-		t.Errorf("taken by %b, %d bytes wait", c.takers(), c.bundled.bytes)
+	if c.takesWaiting(); c.takers() != 1<<1 || c.box.bytes != 0 {
+		t.Errorf("taken by %b, %d bytes wait", c.takers(), c.box.bytes)
 	}
 	small := newMailbox()
-	for i := 0; i < 2*mostBundled; i++ {
+	for i := 0; i < 2*mostWaiting; i++ {
 		small.put(transport.Message{Data: []byte("x")})
 	}
 	large := newMailbox()
 	for i := 0; i < 10; i++ {
 		large.put(transport.Message{Data: make([]byte, wire.MostBytes)})
 	}
-	if len(small.messages) != mostBundled || len(large.messages) != roomBundled/wire.MostBytes {
+	if len(small.messages) != mostWaiting || len(large.messages) != roomWaiting/wire.MostBytes {
 		t.Error(fmt.Sprint(len(small.messages), " small messages wait, and ", len(large.messages), " large ones"))
 	}
 }

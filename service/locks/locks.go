@@ -108,27 +108,32 @@ type Client struct {
 
 	session
 	plans
-	watch  *watch
-	last   time.Time // when the loop last went round
-	missed uint64    // the voters that were silent then
-	back   uint64    // how often the connection had come back by then
+	watch *watch
+	gaps
+	missed uint64 // the voters that were silent when the loop last went round
 
 	followed time.Time // when voters were asked last which plans there are
 	looked   int       // the one that was asked alone last
 	locks    map[string]*lock
 	busy     map[*lock]struct{} // locks that ask, are inside, or are wanted
+	holds    int                // of these, those that are held and that nobody waits for
 	ticket   int
 	asker
-	turns   map[*Held]bool          // the locks whose turn is asked for
-	ownNote string                  // what the session says of itself, "" for nothing
-	looks   bool                    // it has no number
-	out     [qlock.MaxVoters][]byte // lines that leave at the end of this turn of the loop, by voter
-	mayWait bool                    // they may wait a moment for those of other sessions: they are a heartbeat that was due, and nothing urgent
-	bundles *bundles                // of the process, nil if it sends none
-	bundled *mailbox                // what came to this session in bundles, nil if none does
-	room    []byte
+	turns   map[*Held]bool // the locks whose turn is asked for
+	ownNote string         // what the session says of itself, "" for nothing
+	looks   bool           // it has no number
+	*desk
+	bundles *bundles // of the process, nil if it sends none
 	stats   Stats
 	waits   prometheus.Histogram
+
+	// of a session of a shard
+	box      *mailbox // what waits for it, nil for other clients
+	leaveBox func()   // ends what comes there
+	loop     *loop    // in which it goes round, nil while it is opened
+	place    int      // there, -1 once it is over
+	atEnd    func()   // is called then
+	hastens  bool     // a vote of a lock that somebody has ends soon
 }
 
 // Held is a lock that is held. It belongs to whoever called Lock.
@@ -141,6 +146,7 @@ type Held struct {
 	lost   chan struct{}
 	until  atomic.Int64 // up to when its votes count, by uptime
 	over   atomic.Bool  // lost is closed
+	isTold bool         // the loop knows that it may be lost
 
 	turning *turning // the last call of Turn
 
@@ -180,7 +186,7 @@ func open(ctx context.Context, cluster *config.Cluster, c Config) (*Client, erro
 // connect opens the session of a client.
 func (c *Client) connect(ctx context.Context) (*Client, error) {
 	var err error
-	if c.messages, err = c.listen(); err == nil {
+	if c.messages, err = c.carrier.Listen(c.boxes()); err == nil {
 		err = c.begin(ctx)
 	}
 	if err != nil {
@@ -189,17 +195,9 @@ func (c *Client) connect(ctx context.Context) (*Client, error) {
 		return nil, err
 	}
 	c.firstTicket()
-	go c.watch.run(c.ended)
+	c.watch.looks = true
 	go c.run()
 	return c, nil
-}
-
-// listen begins to take what comes to the session's mailbox. A process of a cluster with shards has one for each shard that it uses.
-func (c *Client) listen() (<-chan transport.Message, error) {
-	if c.bundles != nil {
-		return transport.ListenFew(c.carrier, c.boxes())
-	}
-	return c.carrier.Listen(c.boxes())
 }
 
 func newClient(cluster *config.Cluster, c Config) (*Client, error) {
@@ -223,11 +221,8 @@ func newNamed(cluster *config.Cluster, c Config, name string, own *claims.Number
 	if err != nil {
 		return nil, err
 	}
-	client := &Client{cluster: cluster, user: user, watch: newWatch(cluster.TTL.Duration), plans: newPlans(cluster),
-		waits: newWaits(), config: c, carrier: c.Transport, close: func() {},
-		calls: make(chan func()), ended: make(chan struct{}), stopped: make(chan struct{}), locks: map[string]*lock{}, busy: map[*lock]struct{}{},
-		asker: asker{questions: map[uint64]*question{}, observers: map[*observer]struct{}{}}, turns: map[*Held]bool{}}
-	client.session = newSession(cluster, name, own)
+	client := newSessionOf(cluster, c, name, own)
+	client.user, client.watch, client.plans, client.waits, client.calls = user, newWatch(cluster.TTL.Duration), newPlans(cluster), newWaits(), make(chan func())
 	if !c.NoNote {
 		client.ownNote = ownNote(c.Note)
 	}
@@ -239,6 +234,13 @@ func newNamed(cluster *config.Cluster, c Config, name string, own *claims.Number
 		client.carrier, client.close = link, link.Close
 	}
 	return client, nil
+}
+
+// newSessionOf returns what each client has, also that of a session of a shard.
+func newSessionOf(cluster *config.Cluster, c Config, name string, own *claims.Numbers) *Client {
+	return &Client{cluster: cluster, config: c, carrier: c.Transport, close: func() {}, session: newSession(cluster, name, own), desk: &desk{},
+		ended: make(chan struct{}), stopped: make(chan struct{}), locks: map[string]*lock{}, busy: map[*lock]struct{}{},
+		asker: asker{questions: map[uint64]*question{}, observers: map[*observer]struct{}{}}, turns: map[*Held]bool{}}
 }
 
 // boxes returns the mailboxes of the session.
@@ -438,6 +440,13 @@ func (c *Client) Close(ctx context.Context) error {
 
 // call runs a function in the loop.
 func (c *Client) call(f func() error) error {
+	if c.box != nil {
+		done, taken := c.box.asks(f)
+		if !taken {
+			return c.why
+		}
+		return <-done
+	}
 	var err error
 	done := make(chan struct{})
 	select {
@@ -451,7 +460,7 @@ func (c *Client) call(f func() error) error {
 
 // run is the loop.
 func (c *Client) run() {
-	pause := 25 * time.Millisecond
+	pause := pause
 	if c.looks && c.cluster.HasShards() {
 		pause = repeatAsk / 2
 	}
@@ -466,20 +475,23 @@ func (c *Client) run() {
 			for i := len(c.messages); i > 0 && c.why == nil; i-- {
 				c.message(<-c.messages)
 			}
-		case m := <-c.inBundles():
-			c.messageOfBundle(m)
 		case f := <-c.calls:
 			f()
 		case f := <-c.read:
 			f()
 		case now := <-ticker.C:
-			c.round(now)
-			c.giveNumberBack(now)
-			if c.draining {
-				c.finish() // a voter may have become silent since the last one closed the session
-			}
+			c.tick(now)
 		}
 		c.flush()
+	}
+}
+
+// tick does what time asks for.
+func (c *Client) tick(now time.Time) {
+	c.round(now)
+	c.giveNumberBack(now)
+	if c.draining {
+		c.finish() // a voter may have become silent since the last one closed the session
 	}
 }
 
@@ -493,6 +505,7 @@ func (c *Client) end(why error) {
 	for l := range c.busy {
 		if l.held != nil {
 			c.lose(l.held)
+			c.watch.end(l.held)
 		}
 	}
 	close(c.ended)

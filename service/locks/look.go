@@ -32,7 +32,7 @@ func newLook(cluster *config.Cluster, c Config) (*Client, error) {
 		return nil, err
 	}
 	client.looks = true
-	if client.messages, err = client.listen(); err != nil {
+	if client.messages, err = client.carrier.Listen(client.boxes()); err != nil {
 		client.close()
 		return nil, client.explained(err)
 	}

@@ -67,3 +67,21 @@ func TestClientNumbers(t *testing.T) {
 		soon(t, name, func() bool { return gathered(t, registry, name) == 1 })
 	}
 }
+
+// The numbers of a client with shards are those of all its sessions.
+func TestNumbersOfShards(t *testing.T) {
+	w := newShards(t, 2, 2*time.Second)
+	c := startWith(t, w, Config{})
+	registry := prometheus.NewPedanticRegistry()
+	registry.MustRegister(c.Collector())
+	for shard := 0; shard < 2; shard++ {
+		if err := take(t, c, nameIn(w, shard)).Unlock(); err != nil {
+			t.Fatal(err)
+		}
+	}
+	for name, want := range map[string]float64{"passes_total": 2, "wait_seconds": 2, "refused_total": 0, "voter_silent": 0} {
+		if got := gathered(t, registry, name); got != want {
+			t.Errorf("%s: %v, not %v", name, got, want)
+		}
+	}
+}

@@ -102,6 +102,9 @@ func (c *Client) untilAsked(o *observer, now time.Time) time.Duration {
 
 // findPlace gives a watch a place among those of which voters say each change, if one is free.
 func (c *Client) findPlace(o *observer) {
+	if c.places == nil {
+		c.places = make([]*observer, mostWatched)
+	}
 	for i := 0; i < len(c.places) && o.place == 0; i++ {
 		if c.places[i] == nil {
 			c.places[i], o.place = o, i+1

@@ -44,7 +44,7 @@ type plans struct {
 	older      *known      // the one before it, until it is retired
 	next       *known      // the one after it, until enough voters have it
 	isReading  bool        // a plan is being read
-	read       chan func() // what is to be done once it was
+	read       chan func() // what is to be done once it was, nil for a session of a shard
 }
 
 func newPlans(c *config.Cluster) plans {
@@ -59,7 +59,7 @@ func newPlans(c *config.Cluster) plans {
 
 // copied returns the same plans for another session.
 func (p *plans) copied() plans {
-	return plans{plan: p.plan, generation: p.generation, older: p.older, next: p.next, read: make(chan func(), 1)}
+	return plans{plan: p.plan, generation: p.generation, older: p.older, next: p.next}
 }
 
 // hasQuorum returns whether a set of voters contains a quorum of each plan that is in use.
@@ -199,7 +199,7 @@ func (c *Client) fetched(voter int, number uint64, coterie, plan string) {
 	p.awaited, c.isReading = false, true
 	go func() {
 		next, err := readPlan(coterie, plan)
-		c.read <- func() { c.wasRead(voter, number, next, err) }
+		c.later(func() { c.wasRead(voter, number, next, err) })
 	}()
 }
 

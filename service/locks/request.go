@@ -19,14 +19,15 @@ const mostIdle = 256
 // proved library.
 type lock struct {
 	*qlock.LockClient
-	name  string
-	above uint64    // the stamps of its requests are above this one
-	queue []*waiter // the calls that wait, first come, first served
-	held  *Held     // the one that has it
-	timer remind.Timer
-	asked time.Time
-	shown qlock.Shown
-	plan  uint64 // the number of the plan by which it asked last
+	name    string
+	above   uint64    // the stamps of its requests are above this one
+	queue   []*waiter // the calls that wait, first come, first served
+	held    *Held     // the one that has it
+	isAlone bool      // it is held, and nobody waits for it
+	timer   remind.Timer
+	asked   time.Time
+	shown   qlock.Shown
+	plan    uint64 // the number of the plan by which it asked last
 
 	holder Holder // who has it, as a voter said to this request
 
@@ -93,9 +94,9 @@ func (c *Client) enqueue(name string, w *waiter) error {
 	default:
 		return fmt.Errorf("%s: too many calls wait", name)
 	}
-	l.queue = append(l.queue, w)
 	c.wasUsed = true
 	c.wake(time.Now())
+	l.queue = append(l.queue, w)
 	c.pump(l)
 	return nil
 }
@@ -153,6 +154,7 @@ func (c *Client) unlock(h *Held) error {
 // lose closes Lost of a lock that is still held.
 func (c *Client) lose(h *Held) {
 	h.lapse()
+	h.isTold = true
 	if h.lock.Loses() {
 		c.stats.Lost++
 		c.note("lost", "lock=%s", h.lock.name)
@@ -172,13 +174,29 @@ func (c *Client) pump(l *lock) {
 	case qlock.Hand:
 		c.hand(l)
 	}
+	c.noteHolds(l)
 	if l.shown.Phase != qlock.Idle || len(l.queue) > 0 {
 		c.busy[l] = struct{}{}
 		return
 	}
+	if _, wasBusy := c.busy[l]; wasBusy && len(c.busy) == 1 {
+		c.unused = time.Now()
+	}
 	delete(c.busy, l)
 	if c.draining && len(c.busy) == 0 && c.idle == 0 {
 		c.heartbeat(time.Now()) // the voters say at once that they have nothing of this session any more
+	}
+}
+
+// noteHolds counts the locks that are held and that nobody waits for.
+func (c *Client) noteHolds(l *lock) {
+	before := l.isAlone
+	l.isAlone = l.held != nil && l.shown.Phase == qlock.Inside && len(l.queue) == 0
+	switch {
+	case l.isAlone && !before:
+		c.holds++
+	case !l.isAlone && before:
+		c.holds--
 	}
 }
 
@@ -346,6 +364,10 @@ func (c *Client) send(l *lock, lines []byte, now time.Time) {
 	c.look(l, now)
 }
 
+// longestRenewal is how long it is at most from one time to the next at which a holder says that it is inside. Heartbeats keep its votes. A
+// voter that started hears it at once, and soon again.
+const longestRenewal = 10 * time.Minute
+
 // look looks at what a client is doing, and notes what there is to remind of: its request, or that it is inside.
 func (c *Client) look(l *lock, now time.Time) {
 	shown := l.Shows()
@@ -357,7 +379,7 @@ func (c *Client) look(l *lock, now time.Time) {
 	case qlock.Asking:
 		l.timer.First, l.timer.Most = 100*time.Millisecond, 2*time.Second
 	case qlock.Inside:
-		l.timer.First, l.timer.Most = c.cluster.TTL.Duration/4, c.cluster.TTL.Duration
+		l.timer.First, l.timer.Most = c.cluster.TTL.Duration/4, longestRenewal
 	default:
 		l.timer.Of(0, now)
 		return
@@ -486,6 +508,7 @@ func (c *Client) round(now time.Time) {
 	if c.renewed != 0 {
 		c.noteEnds()
 	}
+	c.hastens = c.isLate()
 	switch hasGap := c.hasGap(now); {
 	case hasGap:
 		c.heartbeat(now)
@@ -525,17 +548,31 @@ func (c *Client) noteSilent(silent uint64) {
 	c.missed = silent
 }
 
+// gaps is when a loop last looked at the clock, and how often the connection had come back by then.
+type gaps struct {
+	last time.Time
+	back uint64
+}
+
 // hasGap returns whether voters may have let votes go that this client's clock knows nothing of:
 // the machine was paused, so that only the time of day went on, or the connection came back. A
-// heartbeat at once shows it.
+// heartbeat at once shows it. The loop of a session of a shard finds it for all of its sessions.
 func (c *Client) hasGap(now time.Time) bool {
-	last, back := c.last, c.back
-	c.last = now
+	if c.loop != nil {
+		return c.loop.hasGap
+	}
+	return c.gaps.found(now, c)
+}
+
+// found returns whether there was a gap since the last look, for a client and all that have its connection.
+func (g *gaps) found(now time.Time, c *Client) bool {
+	last, back := g.last, g.back
+	g.last = now
 	if link, ok := c.carrier.(transport.Link); ok {
-		c.back = link.Returns()
+		g.back = link.Returns()
 	}
 	ofDay, here := now.Round(0).Sub(last.Round(0)), now.Sub(last)
-	return !last.IsZero() && (c.back != back || ofDay-here > c.config.Heartbeat)
+	return !last.IsZero() && (g.back != back || ofDay-here > c.config.Heartbeat)
 }
 
 // isStuck returns whether a request waits for one of these voters for longer than the fail-over time, and others would do, which have room.

@@ -121,14 +121,13 @@ type session struct {
 	done     bool          // it is closed
 
 	// while a number is claimed
-	opening  bool
-	claims   *claims.Numbers
-	states   [qlock.MaxClients]int // the worst that a voter said of a number: 0 taken, 2 silent for the TTL, 1 free
+	opening bool
+	claims  *claims.Numbers
+	*choice
 	asked    int
-	failed   int                      // the number whose claim failed last, -1 if none did
-	seen     [qlock.MaxClients]uint64 // the newest epoch that a voter said of a number
-	choosing bool                     // it wants a number, of which none is chosen yet
-	left     time.Duration            // when the first word left that could bring this name a number, by uptime; 0 if none did
+	failed   int           // the number whose claim failed last, -1 if none did
+	choosing bool          // it wants a number, of which none is chosen yet
+	left     time.Duration // when the first word left that could bring this name a number, by uptime; 0 if none did
 	refused  bool
 	crowd    wire.Told // how many sessions there are, as a voter said
 	isFree   bool      // a voter said that a number is free
@@ -145,8 +144,14 @@ type session struct {
 	replied   uint64    // the voters that replied to what is asked now
 }
 
+// choice is what voters say of numbers while one is chosen.
+type choice struct {
+	states [qlock.MaxClients]int    // the worst that a voter said of a number: 0 taken, 2 silent for the TTL, 1 free
+	seen   [qlock.MaxClients]uint64 // the newest epoch that a voter said of a number
+}
+
 func newSession(cluster *config.Cluster, name string, own *claims.Numbers) session {
-	s := session{asked: -1, failed: -1, claims: own, short: &atomic.Pointer[shortage]{}, unused: time.Now(),
+	s := session{asked: -1, failed: -1, choice: &choice{}, claims: own, short: &atomic.Pointer[shortage]{}, unused: time.Now(),
 		drained: make(chan struct{}), leases: qlock.NewLeases(leaseOf(cluster.TTL.Duration)), stamps: qlock.NewAllStamps(),
 		header: wire.Header{Cluster: cluster.ID, Kind: wire.FromClient, Name: name, Level: level.Newest}}
 	s.meet(len(cluster.Names()))
@@ -175,6 +180,7 @@ func (c *Client) begin(ctx context.Context) error {
 		}
 		if err == nil {
 			c.opening, c.unused = false, time.Now() // it wanted a number until now
+			c.choice = nil
 			c.short.Store(nil)
 			c.note("session", "number=%d epoch=%d", c.header.Number, c.header.Epoch)
 			return nil
@@ -240,7 +246,7 @@ func (c *Client) reserveFirst(ctx context.Context) error {
 // abandon gives a number back that some voters gave to this session, or will give it by a claim that is under way. It never
 // claims this epoch again: the line that gives it back may come late. Locks of this number are forgotten.
 func (c *Client) abandon() {
-	c.locks, c.busy = map[string]*lock{}, map[*lock]struct{}{}
+	c.locks, c.busy, c.holds = map[string]*lock{}, map[*lock]struct{}{}, 0
 	if c.header.Epoch > 0 { // a quorum gave the number, and voters that heard the session since then take no claim back
 		for v := range c.peers {
 			c.out[v] = c.out[v][:0]
@@ -361,8 +367,8 @@ func (c *Client) awaitsFree(ctx context.Context) error {
 		case m := <-c.messages:
 			c.message(m)
 			c.flush()
-		case m := <-c.inBundles():
-			c.messageOfBundle(m)
+		case <-c.grown():
+			c.takesWaiting()
 			c.flush()
 		case f := <-c.read:
 			f()
@@ -548,8 +554,8 @@ func (c *Client) rounds(ctx context.Context, say func(), done func() bool) error
 			select {
 			case m := <-c.messages:
 				c.message(m)
-			case m := <-c.inBundles():
-				c.messageOfBundle(m)
+			case <-c.grown():
+				c.takesWaiting()
 			case f := <-c.read:
 				f()
 			case <-timer.C:
@@ -997,7 +1003,7 @@ func (c *Client) hear(voter int, says qlock.VoterSays) {
 	case qlock.RunIs:
 		c.noteRun(says.Number, says.First)
 	case qlock.NumberIs:
-		if c.claimed() > 0 {
+		if c.claimed() > 0 || c.choice == nil {
 			return // a late reply, which says nothing of the claim
 		}
 		c.noteNumber(voter, says.Number, says.First, int(says.Second))

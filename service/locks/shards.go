@@ -35,6 +35,7 @@ type shards struct {
 	closing   chan struct{} // closed once no call of Lock is taken any more
 	isClosing bool
 
+	loops     [mostLoops]*loop    // in which the sessions go round, each nil before it has one
 	bundles   *bundles            // nil if the process sends none
 	boxes     map[string]*mailbox // of the sessions that there are, by their names
 	isStopped bool                // the client has ended
@@ -113,7 +114,7 @@ func openShards(ctx context.Context, cluster *config.Cluster, c Config) (*Client
 		return nil, err
 	}
 	if err := client.beginShards(); err != nil {
-		leave(client.carrier, client.boxes())
+		transport.Leave(client.carrier, client.boxes())
 		client.close()
 		return nil, err
 	}
@@ -134,19 +135,18 @@ func (c *Client) beginShards() error {
 	}
 	process := c.cluster.SessionName(0, nonce)
 	boxes := wire.SessionBoxes(c.cluster.ID, wire.SessionName(c.user, process))
-	messages, err := c.carrier.Listen(boxes)
+	c.shards = &shards{all: map[int]*part{}, boxes: map[string]*mailbox{}, over: make(chan struct{}), closing: make(chan struct{}),
+		bundles: &bundles{cluster: c.cluster.ID, process: process, began: time.Now(), carrier: c.carrier}}
+	leave, err := transport.Pass(c.carrier, boxes, c.shards.unbundle)
 	if err != nil {
 		return err
 	}
-	c.shards = &shards{all: map[int]*part{}, boxes: map[string]*mailbox{}, over: make(chan struct{}), closing: make(chan struct{}),
-		bundles: &bundles{cluster: c.cluster.ID, process: process, began: time.Now(), carrier: c.carrier}}
-	go func() {
-		c.shards.readBundles(messages)
-		leave(c.carrier, boxes)
-	}()
+	c.watch.looks = true
 	go func() {
 		<-c.stopped
 		c.shards.stops()
+		<-c.shards.over
+		leave()
 	}()
 	return nil
 }
@@ -286,14 +286,14 @@ func (c *Client) openFor(ctx context.Context, p *part, shard int, lock string, t
 		}
 		p.name, p.claims = c.cluster.SessionName(shard, nonce), claims.New()
 	}
-	session, err := c.openPart(ctx, p, lock, tries)
+	session, err := c.openPart(ctx, p, shard, lock, tries)
 	if errors.Is(err, ErrRetired) && c.call(func() error {
 		if !c.readAgain() {
 			return ErrRetired
 		}
 		return nil
 	}) == nil {
-		session, err = c.openPart(ctx, p, lock, tries)
+		session, err = c.openPart(ctx, p, shard, lock, tries)
 	}
 	why := c.whyClosed()
 	switch {
@@ -305,7 +305,6 @@ func (c *Client) openFor(ctx context.Context, p *part, shard int, lock string, t
 		brief, cancel := context.WithTimeout(context.Background(), c.config.FailOver)
 		defer cancel()
 		_ = session.Close(brief)
-		c.leaveBoxes(session)
 		return nil, c.whyClosed()
 	}
 	return session, nil
@@ -318,46 +317,61 @@ func (c *Client) adds(p *part, session *Client) bool {
 	if c.whyClosed() != nil {
 		return false
 	}
-	p.client, p.name, p.claims, p.left, p.seq = session, "", nil, 0, 0
-	c.shards.going.Add(1)
-	go c.follow(p, session)
+	p.name, p.claims, p.left, p.seq = "", nil, 0, 0
+	select {
+	case <-session.stopped: // it is over already
+	default:
+		p.client = session
+	}
 	return true
 }
 
 // openPart opens the session of a shard for a lock, with the plans that this client knows.
-func (c *Client) openPart(ctx context.Context, p *part, lock string, tries bool) (*Client, error) {
-	own := c.config
-	own.Transport, own.DontWait = c.carrier, own.DontWait || tries
-	session, err := newNamed(c.cluster, own, p.name, p.claims)
+func (c *Client) openPart(ctx context.Context, p *part, shard int, lock string, tries bool) (*Client, error) {
+	session, err := c.newPart(p, lock, tries)
+	if err == nil {
+		err = c.shards.listens(session)
+	}
 	if err != nil {
 		return nil, err
 	}
+	if err := session.begin(ctx); err != nil {
+		p.left, p.seq = session.left, session.header.Seq
+		c.shards.leaves(session) // the next try listens again, under the same name
+		return nil, session.explained(err)
+	}
+	session.firstTicket()
+	session.flush()
+	session.atEnd = func() { c.shards.forgets(p, session) }
+	c.shards.going.Add(1)
+	c.shards.loopOf(shard).adds(session)
+	return session, nil
+}
+
+// newPart returns the session of a shard, which was not opened yet.
+func (c *Client) newPart(p *part, lock string, tries bool) (*Client, error) {
+	own := c.config
+	own.Transport, own.DontWait = c.carrier, own.DontWait || tries
+	session := newSessionOf(c.cluster, own, p.name, p.claims)
+	session.user, session.ownNote, session.watch, session.waits = c.user, c.ownNote, c.watch, c.waits
 	session.wants, session.wishes, session.short = lock, &p.wishes, &p.short
 	session.left, session.header.Seq = p.left, p.seq
 	if err := c.call(func() error { session.plans = c.plans.copied(); return nil }); err != nil {
 		return nil, err
 	}
 	session.meet(len(session.names()))
-	c.shards.listens(session)
-	opened, err := session.connect(ctx)
-	if err != nil {
-		p.left, p.seq = session.left, session.header.Seq
-		c.leaveBoxes(session) // the next try listens again, under the same name
-	}
-	return opened, err
+	return session, nil
 }
 
-// leaveBoxes ends the mailboxes of a session that nobody reads any more.
-func (c *Client) leaveBoxes(session *Client) {
-	leave(c.carrier, session.boxes())
-	c.shards.leaves(session.header.Name)
-}
-
-// leave ends a mailbox, if the carrier knows how.
-func leave(carrier transport.Transport, boxes string) {
-	if leaver, ok := carrier.(transport.Leaver); ok {
-		leaver.Leave(boxes)
+// loopOf returns the loop in which the session of a shard goes round.
+func (s *shards) loopOf(shard int) *loop {
+	s.mutex.Lock()
+	defer s.mutex.Unlock()
+	one := &s.loops[shard%countLoops()]
+	if *one == nil {
+		*one = newLoop()
 	}
+	return *one
 }
 
 // Plans are exchanged while a client has no session. So it asks one voter a minute which there are, each in its turn, and all of them more
@@ -417,14 +431,13 @@ func (c *Client) forgetSession(shard int, session *Client) {
 	}
 }
 
-// follow waits until a session is over, and keeps what it counted.
-func (c *Client) follow(p *part, session *Client) {
-	defer c.shards.going.Done()
-	<-session.stopped
-	c.leaveBoxes(session)
-	c.shards.mutex.Lock()
-	defer c.shards.mutex.Unlock()
-	c.shards.past = c.shards.past.with(session.stats)
+// forgets notes that a session is over, and keeps what it counted.
+func (s *shards) forgets(p *part, session *Client) {
+	defer s.going.Done()
+	s.leaves(session)
+	s.mutex.Lock()
+	defer s.mutex.Unlock()
+	s.past = s.past.with(session.stats)
 	if p.client == session {
 		p.client = nil
 	}
@@ -474,17 +487,51 @@ func (c *Client) giveNumberBack(now time.Time) {
 		if c.givesBack && (c.done || now.Sub(c.unused) > (keepsNumber+1)*c.cluster.TTL.Duration) {
 			c.end(ErrClosed)
 		}
-	case len(c.busy) > 0:
-		c.unused = now
-	case now.Sub(c.unused) > keepsNumber*c.cluster.TTL.Duration || now.Sub(c.wanted) < isWanted && (c.wasUsed || now.Sub(c.unused) > takesUse):
+	case len(c.busy) == 0 && !now.Before(c.keepsUntil(now)):
 		c.givesBack = true
 		c.drain()
 	}
 }
 
-// rests returns whether a session of a shard wants nothing now. There may be many of these, so each sends few heartbeats.
+// keepsUntil returns until when a session keeps its number that wants nothing: shorter if others wait for one.
+func (c *Client) keepsUntil(now time.Time) time.Time {
+	until := c.unused.Add(keepsNumber * c.cluster.TTL.Duration)
+	switch {
+	case now.Sub(c.wanted) >= isWanted:
+		return until
+	case c.wasUsed:
+		return c.unused
+	}
+	return earlier(until, c.unused.Add(takesUse))
+}
+
+// rests returns whether a session of a shard asks for nothing now: it wants no lock, or only has some whose votes count for long. There may be
+// many of these, so each sends few heartbeats.
 func (c *Client) rests() bool {
-	return c.cluster.HasShards() && !c.looks && len(c.busy) == 0 && !c.draining && c.why == nil
+	return c.cluster.HasShards() && !c.looks && c.holds == len(c.busy) && !c.hastens && !c.draining && c.why == nil
+}
+
+// lateFrom returns for how long votes count at least after a heartbeat that came in time was acknowledged, until the next one is.
+func (c *Client) lateFrom() time.Duration {
+	late := leaseOf(c.cluster.TTL.Duration) - c.cluster.TTL.Duration/4 - 2*c.config.Heartbeat
+	if late < 0 {
+		return 0
+	}
+	return late
+}
+
+// isLate returns whether a vote of a lock that somebody has ends soon: a heartbeat was not acknowledged in time.
+func (c *Client) isLate() bool {
+	if !c.cluster.HasShards() {
+		return false
+	}
+	up, late := uptime(), c.lateFrom()
+	for l := range c.busy {
+		if h := l.held; h != nil && !h.over.Load() && time.Duration(h.until.Load())-up < late {
+			return true
+		}
+	}
+	return false
 }
 
 // pause returns how long it is from one heartbeat to the next.

@@ -5,16 +5,18 @@ import (
 	"time"
 )
 
-// watch closes Lost in time, whatever holds the client's loop up: it has a goroutine of its own,
-// which touches no socket. The loop tells it what is held, and a lock up to when.
+// watch closes Lost in time, whatever holds the loops up: it has a goroutine of its own while a lock is held, which touches no socket. The
+// loops tell it what is held, and a lock up to when. All sessions of a process have one.
 type watch struct {
 	lease time.Duration // for how long an acknowledged heartbeat counts
 
 	mutex sync.Mutex
 	held  map[*Held]struct{}
+	looks bool // it looks while something is held
+	goes  bool // it has a goroutine
 }
 
-// pause is how long the watch waits between two looks.
+// pause is how long the watch waits between two looks, and so do loops.
 const pause = 25 * time.Millisecond
 
 // leaseOf returns for how long a vote counts after its client's heartbeat left: a voter keeps it
@@ -30,6 +32,10 @@ func (w *watch) begin(h *Held) {
 	w.mutex.Lock()
 	defer w.mutex.Unlock()
 	w.held[h] = struct{}{}
+	if w.looks && !w.goes {
+		w.goes = true
+		go w.run()
+	}
 }
 
 func (w *watch) end(h *Held) {
@@ -49,8 +55,8 @@ func (w *watch) left(h *Held, up time.Duration) time.Duration {
 	return left
 }
 
-// look ends what may be lost at a time.
-func (w *watch) look(up time.Duration) {
+// look ends what may be lost at a time, and returns whether something is held.
+func (w *watch) look(up time.Duration) bool {
 	w.mutex.Lock()
 	defer w.mutex.Unlock()
 	for h := range w.held {
@@ -58,18 +64,15 @@ func (w *watch) look(up time.Duration) {
 			h.lapse()
 		}
 	}
+	w.goes = len(w.held) > 0
+	return w.goes
 }
 
-// run looks again and again until the client ends.
-func (w *watch) run(ended <-chan struct{}) {
+// run looks again and again while something is held.
+func (w *watch) run() {
 	ticker := time.NewTicker(pause)
 	defer ticker.Stop()
-	for {
-		select {
-		case <-ended:
-			return
-		case <-ticker.C:
-			w.look(uptime())
-		}
+	for goesOn := true; goesOn; goesOn = w.look(uptime()) {
+		<-ticker.C
 	}
 }

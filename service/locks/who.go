@@ -134,10 +134,9 @@ const aMoment = 100 * time.Millisecond
 // asker has the questions to which voters did not reply yet.
 type asker struct {
 	questions map[uint64]*question
-	newest    uint64               // the ID of the last one
-	sent      [qlock.MaxVoters]int // lines of control besides those of the session, in this turn, by voter
+	newest    uint64 // the ID of the last one
 	observers map[*observer]struct{}
-	places    [mostWatched]*observer // those of which voters say each change
+	places    []*observer // those of which voters say each change, nil before there is one
 }
 
 // question is one that all voters are asked, until enough replied.

@@ -544,7 +544,7 @@ func TestBaseBeyondAllStamps(t *testing.T) {
 
 // A number whose epochs are spent is not chosen: there is no claim of it.
 func TestSpentEpochs(t *testing.T) {
-	c := Client{session: session{claims: claims.New()}}
+	c := Client{session: session{claims: claims.New(), choice: &choice{}}}
 	for number := range c.states {
 		c.states[number] = 1 + number%2
 		c.claims[number].Sees(math.MaxUint64)

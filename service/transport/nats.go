@@ -21,7 +21,6 @@ import (
 // are handed out, and not read yet.
 const (
 	next      = 1 << 12
-	nextFew   = 1 << 6
 	nextBytes = 1 << 20
 	Room      = 1 << 16
 	RoomBytes = 16 << 20
@@ -41,6 +40,9 @@ type NATS struct {
 
 	mutex     sync.Mutex
 	mailboxes []mailbox
+	passed    map[string]passed // the mailboxes of which a function takes all, by their subjects
+	came      chan *nats.Msg    // what came to these, nil before there was one
+	lost      uint64            // the messages to these that found no room, and that were left since
 }
 
 // mailbox is what comes to one subject.
@@ -50,11 +52,17 @@ type mailbox struct {
 	left         chan struct{} // closed once nobody reads it any more
 }
 
+// passed is a mailbox of which a function takes all that comes.
+type passed struct {
+	subscription *nats.Subscription
+	to           func(Message)
+}
+
 // Connect begins to connect to a cluster's servers, to the first in their order that is there. It returns before a
 // connection is there. A server that stands still is left after three seconds. Where all processes have one order, their
 // messages take one server.
 func Connect(cluster *config.Cluster, access config.Access, name string) (*NATS, error) {
-	n := &NATS{closed: make(chan struct{}), refusals: newRefusals(os.Stderr)}
+	n := &NATS{closed: make(chan struct{}), passed: map[string]passed{}, refusals: newRefusals(os.Stderr)}
 	if err := hidden(cluster, access); err != nil {
 		return nil, err
 	}
@@ -336,16 +344,9 @@ func (n *NATS) Send(mailbox string, message []byte) error {
 
 // Listen returns the messages that come to a mailbox. What finds no room is dropped, and counted: a
 // reminder repeats it.
-func (n *NATS) Listen(subject string) (<-chan Message, error) { return n.listen(subject, next) }
-
-// ListenFew is Listen for one of many mailboxes of a process: fewer messages are handed out that were not read yet, and the others wait in
-// the subscription.
-func (n *NATS) ListenFew(subject string) (<-chan Message, error) { return n.listen(subject, nextFew) }
-
-// listen returns the messages that come to a mailbox, of which so many are handed out at most that were not read yet.
-func (n *NATS) listen(subject string, most int) (<-chan Message, error) {
-	messages, left := make(chan Message, most), make(chan struct{})
-	out := handed{to: messages, sizes: make([]int, most+1)}
+func (n *NATS) Listen(subject string) (<-chan Message, error) {
+	messages, left := make(chan Message, next), make(chan struct{})
+	out := handed{to: messages, sizes: make([]int, next+1)}
 	subscription, err := n.connection.Subscribe(subject, func(m *nats.Msg) {
 		for !out.hasRoom(len(m.Data)) {
 			select {
@@ -375,6 +376,59 @@ func (n *NATS) listen(subject string, most int) (<-chan Message, error) {
 	return messages, nil
 }
 
+// Pass hands what comes to a mailbox to a function. All these mailboxes have one goroutine, and room for so many messages together.
+func (n *NATS) Pass(subject string, to func(Message)) error {
+	n.mutex.Lock()
+	defer n.mutex.Unlock()
+	if n.came == nil {
+		n.came = make(chan *nats.Msg, next)
+		go n.pass()
+	}
+	n.forget(subject)
+	subscription, err := n.connection.ChanSubscribe(subject, n.came)
+	if err == nil {
+		n.passed[subject] = passed{subscription, to}
+	}
+	return err
+}
+
+// pass hands what comes to the functions that take it, until the connection is closed.
+func (n *NATS) pass() {
+	for {
+		select {
+		case m := <-n.came:
+			n.mutex.Lock()
+			box, isThere := n.passed[m.Sub.Subject]
+			n.mutex.Unlock()
+			if isThere {
+				box.to(Message{m.Subject, m.Data})
+			}
+		case <-n.closed:
+			return
+		}
+	}
+}
+
+// forget ends a mailbox of which a function takes all, if there is one, and keeps what it counted.
+func (n *NATS) forget(subject string) {
+	box, isThere := n.passed[subject]
+	if !isThere {
+		return
+	}
+	n.lost += dropped(box.subscription)
+	_ = box.subscription.Unsubscribe()
+	delete(n.passed, subject)
+}
+
+// dropped returns how many messages of a subscription found no room.
+func dropped(subscription *nats.Subscription) uint64 {
+	count, err := subscription.Dropped()
+	if err != nil {
+		return 0
+	}
+	return uint64(count)
+}
+
 // handed counts the bytes of the messages that were handed out, and not read yet.
 type handed struct {
 	to          chan<- Message
@@ -398,10 +452,11 @@ func (h *handed) note(size int) {
 	h.count++
 }
 
-// Leave ends what Listen began.
+// Leave ends what Listen or Pass began.
 func (n *NATS) Leave(subject string) {
 	n.mutex.Lock()
 	defer n.mutex.Unlock()
+	n.forget(subject)
 	kept := n.mailboxes[:0]
 	for _, box := range n.mailboxes {
 		if box.subscription.Subject != subject {
@@ -418,6 +473,7 @@ func (n *NATS) Leave(subject string) {
 func (n *NATS) Waiting() (count int) {
 	n.mutex.Lock()
 	defer n.mutex.Unlock()
+	count = len(n.came)
 	for _, box := range n.mailboxes {
 		count += len(box.messages)
 		if pending, _, err := box.subscription.Pending(); err == nil {
@@ -431,10 +487,12 @@ func (n *NATS) Waiting() (count int) {
 func (n *NATS) Dropped() (count uint64) {
 	n.mutex.Lock()
 	defer n.mutex.Unlock()
+	count = n.lost
 	for _, box := range n.mailboxes {
-		if dropped, err := box.subscription.Dropped(); err == nil {
-			count += uint64(dropped)
-		}
+		count += dropped(box.subscription)
+	}
+	for _, box := range n.passed {
+		count += dropped(box.subscription)
 	}
 	return count
 }

@@ -9,12 +9,14 @@ import (
 	"os"
 	"os/exec"
 	"path/filepath"
+	"runtime"
 	"strconv"
 	"strings"
 	"sync/atomic"
 	"testing"
 	"time"
 
+	"calvundek.example/service/internal/bus"
 	"calvundek.example/service/internal/config"
 	"calvundek.example/service/internal/local"
 	"calvundek.example/service/transport"
@@ -321,30 +323,115 @@ func TestRoomIsBounded(t *testing.T) {
 	until(t, "a mailbox that was left gets nothing", isEmpty)
 }
 
-// Of one of many mailboxes few messages are handed out that nobody read yet. The others wait, and come in their order.
-func TestFewMessagesAreHandedOut(t *testing.T) {
+// What comes to many mailboxes is handed to their functions in its order, by one goroutine. What finds no room is counted, also once its
+// mailbox is left. A mailbox that was left gets nothing, and another one of its name does.
+func TestMessagesArePassed(t *testing.T) {
 	s := begin(t)
 	from, to := connect(t, s.address, user(t, "right")), connect(t, s.address, user(t, "right"))
-	few, err := transport.ListenFew(to, "few")
-	if err != nil {
-		t.Fatal(err)
-	}
 	until(t, "there are connections", func() bool { return from.Connected() && to.Connected() })
-	time.Sleep(200 * time.Millisecond) // it is listened to
-	const sent = 300
-	for n := 0; n < sent; n++ {
-		if err := from.Send("few", []byte(strconv.Itoa(n))); err != nil {
+	const boxes, sent = 50, 300
+	came, before := make(chan string, boxes*sent), 0
+	leave := make([]func(), boxes)
+	passes := func(n int, text string) {
+		var err error
+		leave[n], err = transport.Pass(to, fmt.Sprint("box.", n, ".*"), func(m transport.Message) {
+			came <- fmt.Sprint(text, n, " ", m.Sender(), " ", string(m.Data))
+		})
+		if err != nil {
 			t.Fatal(err)
 		}
 	}
-	until(t, "all wait", func() bool { return to.Waiting() >= sent-1 }) // one may be between the two
-	if cap(few) >= sent || len(few) != cap(few) {
-		t.Errorf("%d of %d are handed out", len(few), cap(few))
-	}
-	for n := 0; n < sent; n++ {
-		if m := <-few; string(m.Data) != strconv.Itoa(n) {
-			t.Fatalf("message %d is %q", n, m.Data)
+	for n := range leave {
+		if passes(n, "at "); n == 0 {
+			before = runtime.NumGoroutine()
 		}
+	}
+	if more := runtime.NumGoroutine() - before; more > boxes/10 {
+		t.Errorf("%d goroutines for %d mailboxes", more, boxes-1)
+	}
+	sends := func(n int, text string) {
+		if err := from.Send(fmt.Sprint("box.", n, ".x"), []byte(text)); err != nil {
+			t.Fatal(err)
+		}
+	}
+	until(t, "the mailboxes are there", func() bool { sends(boxes-1, "first"); return len(came) > 0 })
+	until(t, "all came", func() bool { return empty(came) })
+	for i := 0; i < sent; i++ {
+		sends(i%boxes, strconv.Itoa(i))
+	}
+	for i := 0; i < sent; i++ {
+		if got, want := <-came, fmt.Sprint("at ", i%boxes, " x ", i); got != want {
+			t.Fatalf("%q came in place of %q", got, want)
+		}
+	}
+	leave[3]()
+	passes(4, "anew at ")
+	leave[5]()
+	passes(5, "again at ")
+	time.Sleep(200 * time.Millisecond) // they are listened to
+	for n := 3; n < 7; n++ {
+		sends(n, "late")
+	}
+	for _, want := range []string{"anew at 4 x late", "again at 5 x late", "at 6 x late"} {
+		if got := <-came; got != want {
+			t.Errorf("%q came in place of %q", got, want)
+		}
+	}
+	waits, goOn := make(chan struct{}), make(chan struct{})
+	leaveFull, err := transport.Pass(to, "full", func(transport.Message) { waits <- struct{}{}; <-goOn })
+	if err != nil {
+		t.Fatal(err)
+	}
+	until(t, "it is there", func() bool {
+		_ = from.Send("full", []byte("x"))
+		select {
+		case <-waits:
+			return true
+		default:
+			return false
+		}
+	})
+	until(t, "messages are dropped", func() bool {
+		for i := 0; i < 1000; i++ {
+			sends(7, "x")
+		}
+		return to.Dropped() > 0
+	})
+	waiting, dropped := to.Waiting(), to.Dropped()
+	leaveFull()
+	if leave[7](); waiting == 0 || to.Dropped() < dropped {
+		t.Errorf("%d messages waited, %d were lost, and now %d were", waiting, dropped, to.Dropped())
+	}
+	close(goOn)
+}
+
+// empty takes all words out of a channel, and returns whether none comes for a while.
+func empty(words <-chan string) bool {
+	select {
+	case <-words:
+		return false
+	case <-time.After(100 * time.Millisecond):
+		return true
+	}
+}
+
+// A transport that hands out channels alone has a goroutine for each mailbox, until that is left.
+func TestMessagesOfAChannelArePassed(t *testing.T) {
+	port, came := bus.New(1).Port(), make(chan string, 10)
+	leave, err := transport.Pass(port, "box.1", func(m transport.Message) { came <- string(m.Data) })
+	if err != nil {
+		t.Fatal(err)
+	}
+	_ = port.Send("box.1", []byte("one"))
+	if got := <-came; got != "one" {
+		t.Error(got)
+	}
+	before := runtime.NumGoroutine()
+	leave()
+	until(t, "the goroutine stays", func() bool { return runtime.NumGoroutine() < before })
+	_ = port.Send("box.1", []byte("two"))
+	if !empty(came) {
+		t.Error("a mailbox that was left gets a message")
 	}
 }
 

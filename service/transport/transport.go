@@ -23,22 +23,45 @@ type Transport interface {
 	Listen(mailbox string) (<-chan Message, error)
 }
 
-// Sparing is what a transport may have besides: a mailbox takes little memory while nothing waits there.
-type Sparing interface {
-	ListenFew(mailbox string) (<-chan Message, error)
+// Passer is what a transport may have besides: it takes by itself what comes to many mailboxes, with no goroutine and no room for each.
+type Passer interface {
+	Pass(mailbox string, to func(Message)) error
 }
 
-// ListenFew is Listen for one of many mailboxes of a process.
-func ListenFew(t Transport, mailbox string) (<-chan Message, error) {
-	if sparing, ok := t.(Sparing); ok {
-		return sparing.ListenFew(mailbox)
+// Pass hands each message that comes to a mailbox from now on to a function, one after the other, until the function that it returns is
+// called. Other mailboxes may wait meanwhile, so it may wait for nothing.
+func Pass(t Transport, mailbox string, to func(Message)) (leave func(), err error) {
+	if passer, ok := t.(Passer); ok {
+		return func() { Leave(t, mailbox) }, passer.Pass(mailbox, to)
 	}
-	return t.Listen(mailbox)
+	messages, err := t.Listen(mailbox)
+	if err != nil {
+		return nil, err
+	}
+	left := make(chan struct{})
+	go func() {
+		for {
+			select {
+			case m := <-messages:
+				to(m)
+			case <-left:
+				return
+			}
+		}
+	}()
+	return func() { close(left); Leave(t, mailbox) }, nil
 }
 
 // Leaver is what a transport may have besides: it forgets a mailbox that nobody reads any more.
 type Leaver interface {
 	Leave(mailbox string)
+}
+
+// Leave ends a mailbox, if the transport knows how.
+func Leave(t Transport, mailbox string) {
+	if leaver, ok := t.(Leaver); ok {
+		leaver.Leave(mailbox)
+	}
 }
 
 // Link is what a transport may have besides: whether it is connected. A voter shows it, and begins all leases anew when

@@ -31,6 +31,14 @@ func (t *Timer) Sooner(now time.Time) {
 	}
 }
 
+// Due returns when the next reminder is due, the zero time if there is nothing to remind of.
+func (t *Timer) Due() time.Time {
+	if t.of == 0 {
+		return time.Time{}
+	}
+	return t.due.Time()
+}
+
 // IsDue returns whether it is time for a reminder. If so, the next one is twice as far away.
 func (t *Timer) IsDue(now time.Time) bool {
 	if t.of == 0 || moment.Of(now) < t.due {
