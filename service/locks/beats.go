@@ -217,31 +217,34 @@ func (b *bundles) beaten(voter int, told wire.Told) (sessions []joined) {
 }
 
 // hearBeat takes what a voter says to the process: which sessions of a beat it heard. To each of them it is a reply to a heartbeat, with the
-// other lines of the message.
-func (s *shards) hearBeat(m transport.Message) {
+// other lines of the message. It returns whether it is that.
+func (s *shards) hearBeat(m transport.Message) (isReply bool) {
 	h, lines, err := wire.Read(m.Data)
-	if err != nil || h.Kind != wire.FromVoter || h.Number >= len(s.bundles.to) {
-		return
+	if err != nil || h.Kind != wire.FromVoter || h.Number >= qlock.MaxVoters || s.bundles == nil {
+		return false
 	}
-	var sessions []joined
-	var rest []byte
+	sessions, rest, isReply := s.bundles.allBeaten(h.Number, lines)
+	for _, one := range sessions {
+		h.Lapses = one.lapses
+		if message, err := one.opened.Append(append(h.Append(nil), rest...)); err == nil {
+			s.pass(one.session, transport.Message{Mailbox: m.Mailbox, Data: wire.AddressTo(one.session, message)})
+		}
+	}
+	return isReply
+}
+
+// allBeaten returns the sessions of which a voter says in a message that it heard them, the other lines, and whether it said so of any.
+func (b *bundles) allBeaten(voter int, lines []byte) (sessions []joined, rest []byte, isReply bool) {
 	for {
 		lock, line, behind, found := wire.Next(lines)
 		if !found {
-			break
+			return sessions, rest, isReply
 		}
 		if told, is := wire.ReadTold(line); string(lock) == "." && is && told.Kind == wire.Beaten {
-			sessions = append(sessions, s.bundles.beaten(h.Number, told)...)
+			sessions, isReply = append(sessions, b.beaten(voter, told)...), true
 		} else {
 			rest = append(rest, lines[:len(lines)-len(behind)]...)
 		}
 		lines = behind
-	}
-	for _, one := range sessions {
-		h.Lapses = one.lapses
-		message, err := one.opened.Append(append(h.Append(nil), rest...))
-		if err == nil {
-			s.pass(one.session, transport.Message{Mailbox: m.Mailbox, Data: wire.AddressTo(one.session, message)})
-		}
 	}
 }

@@ -180,11 +180,10 @@ func (s *shards) unbundle(m transport.Message) {
 		if _, lines, err := wire.Read(message); err == nil {
 			session, _ = wire.Addressee(lines)
 		}
-		if session == "" {
-			s.hearBeat(transport.Message{Mailbox: m.Mailbox, Data: message})
-			return
+		one := transport.Message{Mailbox: m.Mailbox, Data: message}
+		if session != "" || !s.hearBeat(one) {
+			s.pass(session, one)
 		}
-		s.pass(session, transport.Message{Mailbox: m.Mailbox, Data: message})
 	})
 }
 

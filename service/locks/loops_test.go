@@ -1,7 +1,7 @@
 package locks
 
 import (
-	"bytes"
+	"math/bits"
 	"os"
 	"os/exec"
 	"path/filepath"
@@ -13,6 +13,7 @@ import (
 	"time"
 
 	"calvundek.example/service/internal/config"
+	"calvundek.example/service/internal/wire"
 	"calvundek.example/service/internal/worlds"
 	"calvundek.example/service/qlock"
 )
@@ -181,10 +182,18 @@ func TestWhenASessionIsLookedAt(t *testing.T) {
 	}
 }
 
-// opens returns a function that says how many heartbeats a world's clients sent since it was called last.
+// opens returns a function that says how many heartbeats a world's sessions sent since it was called last, also in beats.
 func opens(w *worlds.World) func() int64 {
 	var count atomic.Int64
-	w.Bus.Watch(func(_ string, message []byte) { count.Add(int64(bytes.Count(message, []byte("\n. open ")))) })
+	w.Bus.Watch(func(_ string, message []byte) {
+		for _, line := range strings.Split(string(message), "\n") {
+			if ask, err := wire.ReadAsk([]byte(strings.TrimPrefix(line, ". "))); err == nil && ask.Kind == wire.Beats {
+				count.Add(int64(bits.OnesCount64(ask.Mask)))
+			} else if strings.HasPrefix(line, ". open ") {
+				count.Add(1)
+			}
+		}
+	})
 	return func() int64 { return count.Swap(0) }
 }
 
