@@ -288,11 +288,18 @@ func TestHolderSaysThatItIsInside(t *testing.T) {
 	c, h := held(t)
 	began, quarter := time.Now(), c.cluster.TTL.Duration/4
 	before := c.stats.Reminders
-	for i := time.Duration(1); i <= 16; i++ {
+	i := time.Duration(1)
+	for ; i <= 16; i++ {
 		c.round(began.Add(i * quarter))
 	}
 	if said := c.stats.Reminders - before; said < 4 || said > 6 {
 		t.Errorf("it says so %d times in four TTLs", said)
+	}
+	for before = c.stats.Reminders; i*quarter <= time.Hour; i++ {
+		c.round(began.Add(i * quarter))
+	}
+	if said := c.stats.Reminders - before; said < 5 || said > 9 {
+		t.Errorf("it says so %d times in an hour", said)
 	}
 	voter := bits.TrailingZeros64(h.quorum)
 	started(c, voter, c.peers[voter].start+1, 0, "")

@@ -56,6 +56,8 @@ type Daemon struct {
 	census     census         // of all of them, as they were counted last
 	nextShard  int            // whose sessions are counted next
 	nextUnused int            // which was looked at last, whether nobody uses it
+	nextCaught int            // those before this place have yet to catch up
+	caughtUp   uint64         // with how many hearings
 	floors     map[int]Floor  // of shards that were dropped
 	newFloors  map[int]Floor  // they changed since the last save
 	nextRound  time.Time      // before that there is none

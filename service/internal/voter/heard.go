@@ -16,9 +16,6 @@ import (
 // account before it is looked at (catchUp). Only a marker that comes back at a reading below one at which somebody counts as heard says
 // something. That is one after a standstill.
 
-// mostCuts is how many cuts are noted. Then all tables take them into account.
-const mostCuts = 1024
-
 // hearings is what is to be said of all tables of when sessions were heard.
 type hearings struct {
 	count  uint64        // of cuts, and of the times that all were heard
@@ -60,17 +57,21 @@ func (h *hearings) hearAll(at time.Duration) {
 	h.all = cut{h.count, h.note(at)}
 }
 
-// since returns at which reading, at the latest, counts as heard what was heard after so many hearings, and before the later ones.
-func (h *hearings) since(count uint64) time.Duration {
-	first := sort.Search(len(h.cuts), func(i int) bool { return h.cuts[i].number > count })
-	if first == len(h.cuts) {
-		return never
-	}
-	return h.cuts[first].at
+// after returns the place of the first cut after so many hearings.
+func (h *hearings) after(count uint64) int {
+	return sort.Search(len(h.cuts), func(i int) bool { return h.cuts[i].number > count })
 }
 
-// isFull returns whether all tables have to take the cuts into account.
-func (h *hearings) isFull() bool { return len(h.cuts) >= mostCuts }
+// since returns at which reading, at the latest, counts as heard what was heard after so many hearings, and before the later ones.
+func (h *hearings) since(count uint64) time.Duration {
+	if first := h.after(count); first < len(h.cuts) {
+		return h.cuts[first].at
+	}
+	return never
+}
+
+// forget forgets the cuts among so many hearings, which all tables took into account.
+func (h *hearings) forget(count uint64) { h.cuts = append(h.cuts[:0], h.cuts[h.after(count):]...) }
 
 // at returns the reading of the lease clock at which a session is heard that is heard now.
 func (l *leases) at(now time.Time) time.Duration { return l.clock.At(now.Sub(l.began)) }
@@ -111,12 +112,15 @@ func (t *table) takeHearings() {
 	}
 }
 
-// catchUp lets all tables take into account what was noted, and forgets the cuts.
+// catchUp lets one table catch up, the next one each time, and forgets the cuts that all took into account: so there are about twice as many
+// as tables, at most. It goes downwards. So none is left out if a shard is dropped meanwhile.
 func (d *Daemon) catchUp() {
-	for _, s := range d.inTurn {
-		s.catchUp()
+	if d.nextCaught--; d.nextCaught < 0 {
+		d.leases.heard.forget(d.caughtUp)
+		d.nextCaught, d.caughtUp = len(d.inTurn), d.leases.heard.count
+	} else if d.nextCaught < len(d.inTurn) {
+		d.inTurn[d.nextCaught].catchUp()
 	}
-	d.leases.heard.cuts = nil
 }
 
 // hear notes that a number's session was heard.

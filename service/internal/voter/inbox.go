@@ -126,9 +126,7 @@ func (d *Daemon) isMarker(lines string) bool {
 	d.leases.clock.Returns(number)
 	now := d.now()
 	d.leases.returned(now)
-	if d.leases.heard.isFull() {
-		d.catchUp()
-	}
+	d.catchUp()
 	d.leases.quiet.returned(d.leases.at(now))
 	_, left := d.leases.clock.Shows()
 	d.marked.Store(int64(d.leases.began.Add(left).Sub(d.started)))
