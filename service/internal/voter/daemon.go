@@ -615,8 +615,8 @@ func (d *Daemon) round(now time.Time) {
 // mostLooked is how many votes one step of a round looks at. With more of them the next rounds go on.
 const mostLooked = 4096
 
-// lookAround looks at all votes that somebody waits for, and at a share of the busy ones. A pass over all of these finds the grant that lasts
-// longest, too.
+// lookAround looks at all votes that somebody waits for, and at a share of the busy ones. A pass over all of these finds the grant that
+// lasts longest, too.
 func (d *Daemon) lookAround(now time.Time) {
 	if len(d.busy.all) > mostLooked {
 		d.soon.each(func(v *vote) { d.roundOf(v, now) })

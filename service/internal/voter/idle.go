@@ -7,7 +7,7 @@ import (
 	"calvundek.example/service/qlock"
 )
 
-// A voter keeps the proved voter of a vote that was not used for a while as it is saved, which takes a tenth of the memory, and behind it what
+// A voter keeps the proved voter of a vote that was not used for a while as it is saved, which takes a tenth of the memory. Behind it is what
 // was said since the start. The next call unpacks both.
 
 // packsAfter is for how long a vote is not used before it is packed, at least.

@@ -254,7 +254,8 @@ func TestRoundsLookAtShares(t *testing.T) {
 	}
 }
 
-// The quiet time ends once all grants of before the start went, a share of them in each round. Who says meanwhile that he is inside keeps his.
+// The quiet time ends once all grants of before the start went, a share of them in each round. Who says meanwhile that he is inside keeps
+// his.
 func TestQuietTimeEndsInShares(t *testing.T) {
 	d, _ := alone(t, 1<<20)
 	holds(t, d, 1, "lock", mostLooked+100, time.Now())
