@@ -3,8 +3,8 @@ package locks
 // The sessions of a process's shards go round in a few loops, each session in one of them.
 //
 // A session has no goroutine and no ticker of its own. What comes to it waits in its mailbox, and so do calls. The loop takes the sessions for
-// which something waits, one after the other, and each 25 ms those of which time asks something. Nothing in a turn waits, so no session holds
-// up another one.
+// which something waits, one after the other, and those of which time asks something, each 25 ms at most. Nothing in a turn waits, so no session
+// holds up another one.
 
 import (
 	"runtime"
@@ -19,6 +19,7 @@ const (
 	mostLoops   = 4
 	mostWaiting = 1 << 8  // messages in the mailbox of a session
 	roomWaiting = 1 << 20 // bytes of these
+	restsFor    = 10      // pauses from one look of a loop at the clock to the next, at most
 )
 
 // desk is what a session needs for a turn. Nothing of it is left afterwards, so all sessions of a loop have one.
@@ -105,9 +106,7 @@ func (m *mailbox) isOpen(lists func()) {
 	m.mutex.Lock()
 	defer m.mutex.Unlock()
 	m.lists, m.grown = lists, nil
-	if len(m.messages)+len(m.calls) > 0 {
-		m.says()
-	}
+	m.says()
 }
 
 // ends takes nothing any more, and returns the calls that wait.
@@ -153,7 +152,8 @@ func (c *Client) later(f func()) {
 // loop lets sessions take their turns. It has a goroutine while it has a session.
 type loop struct {
 	desk   desk
-	hasGap bool // found at the last look at the clock (Client.hasGap)
+	hasGap bool      // found at the last look at the clock (Client.hasGap)
+	next   time.Time // when time asks something of a session next, as far as the loop knows
 
 	mutex   sync.Mutex
 	grown   chan struct{} // says that something waits for a session
@@ -218,19 +218,30 @@ func (l *loop) look(now time.Time, clock *gaps) (sessions []*Client, goesOn bool
 	if l.goes = len(l.members) > 0; !l.goes {
 		return nil, false
 	}
-	l.hasGap = clock.found(now, l.members[0].session)
+	l.hasGap, l.next = clock.found(now, l.members[0].session), time.Time{}
 	for _, m := range l.members {
 		if l.hasGap || !now.Before(m.due) {
 			sessions = append(sessions, m.session)
+		} else {
+			l.next = earlier(l.next, m.due)
 		}
 	}
 	return sessions, true
 }
 
+// nextLook returns when the loop looks again after a look: when time asks something, after a pause at least, and soon enough for gaps.
+func (l *loop) nextLook(looked time.Time) time.Time {
+	next := earlier(l.next, looked.Add(restsFor*pause))
+	if first := looked.Add(pause); next.Before(first) {
+		return first
+	}
+	return next
+}
+
 // run lets the sessions take their turns until there is none.
 func (l *loop) run() {
-	ticker := time.NewTicker(pause)
-	defer ticker.Stop()
+	timer, looked, wakes := time.NewTimer(pause), time.Now(), time.Time{}
+	defer timer.Stop()
 	for clock, goesOn := (gaps{}), true; goesOn; {
 		var sessions []*Client
 		select {
@@ -238,11 +249,16 @@ func (l *loop) run() {
 			for _, c := range l.listed() {
 				l.turn(c, c.takesWaiting)
 			}
-		case now := <-ticker.C:
-			sessions, goesOn = l.look(now, &clock)
+		case <-timer.C: // also one that was set before, and is early now
+			looked, wakes = time.Now(), time.Time{}
+			sessions, goesOn = l.look(looked, &clock)
 			for _, c := range sessions {
-				l.turn(c, func() { c.tick(now) })
+				l.turn(c, func() { c.tick(looked) })
 			}
+		}
+		if next := l.nextLook(looked); next != wakes {
+			wakes = next
+			timer.Reset(time.Until(next))
 		}
 	}
 }
@@ -259,6 +275,7 @@ func (l *loop) turn(c *Client, does func()) {
 		return
 	}
 	due := c.nextRound(time.Now())
+	l.next = earlier(l.next, due)
 	l.mutex.Lock()
 	defer l.mutex.Unlock()
 	l.members[c.place].due = due

@@ -227,7 +227,7 @@ func TestHolderBeatsSeldom(t *testing.T) {
 	beats()
 	port.Cut(true)
 	port.Cut(false)
-	time.Sleep(400 * time.Millisecond)
+	time.Sleep(time.Second)
 	if n := beats(); n < 3*sessions {
 		t.Errorf("%d heartbeats of %d holders after a gap", n, sessions)
 	}
@@ -361,5 +361,20 @@ func TestLoopLooksAtWhatIsDue(t *testing.T) {
 		if sessions, _ := l.look(now, &clock); len(sessions) != one.want || l.hasGap != (one.back > 0) {
 			t.Errorf("it looks at %d sessions, not %d; a gap: %v", len(sessions), one.want, l.hasGap)
 		}
+	}
+	for _, one := range []struct{ due, want time.Duration }{
+		{0, pause}, {pause / 2, pause}, {3 * pause, 3 * pause}, {time.Hour, restsFor * pause},
+	} {
+		l.next = now.Add(one.due)
+		if got := l.nextLook(now).Sub(now); got != one.want {
+			t.Errorf("something is due in %v: it looks in %v, not %v", one.due, got, one.want)
+		}
+	}
+	if l.look(now, &clock); l.next != now.Add(time.Second) {
+		t.Errorf("next after %v", l.next.Sub(now))
+	}
+	l.members[2].session.draining = true
+	if l.turn(l.members[2].session, func() {}); l.next.After(time.Now()) {
+		t.Error("what a session wants waits")
 	}
 }
