@@ -253,7 +253,7 @@ func TestFloorsAreLearned(t *testing.T) {
 			t.Errorf("%+v is told: %+v", one.told, d.floors[1])
 		}
 	}
-	if told := d.knows(qlock.MaxClients); !reflect.DeepEqual(told.Floors, d.floors) || len(told.Sessions) != 0 {
+	if told := d.knows(qlock.MaxClients, nil); !reflect.DeepEqual(told.Floors, d.floors) || len(told.Sessions) != 0 {
 		t.Errorf("%+v is told", told)
 	}
 	if d.newFloors[1].Stamp != 9 {
@@ -276,7 +276,7 @@ func TestManyFloors(t *testing.T) {
 	}
 	told := map[int]bool{}
 	for from, pages := 0, 0; ; pages++ {
-		page := d.knows(from)
+		page := d.knows(from, nil)
 		if text, err := json.Marshal(page); err != nil || len(text) > mostMessage {
 			t.Fatalf("%d bytes: %v", len(text), err)
 		}
@@ -369,7 +369,7 @@ func TestShardIsDroppedBetweenPages(t *testing.T) {
 	}
 	told := map[int]bool{}
 	for from, pages := 0, 0; from > 0 || pages == 0; pages++ {
-		page := d.knows(from)
+		page := d.knows(from, nil)
 		for key := range page.Sessions {
 			told[key] = true
 		}

@@ -165,10 +165,10 @@ func (d *Daemon) obey(words []string, by string, now time.Time) interface{} {
 	case len(words) > 0 && words[0] == "knows" && d.isLost():
 		return Refused{"the voter lost its state, and waits for what other voters know"}
 	case len(words) == 1 && words[0] == "knows":
-		return d.knows(0)
+		return d.knows(0, nil)
 	case len(words) == 2 && words[0] == "knows":
 		if from, err := strconv.Atoi(words[1]); err == nil && d.cluster.IsKey(from) {
-			return d.knows(from)
+			return d.knows(from, nil)
 		}
 	case len(words) == 2 && (words[0] == "level" || words[0] == "would-level"):
 		return d.raiseLevel(words[1], words[0] == "level")

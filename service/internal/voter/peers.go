@@ -180,7 +180,7 @@ func (d *Daemon) meet(h wire.Header, w word) {
 	}
 	reply := word{Word: "kept", Process: w.Process, Start: h.Start, Ceiling: w.Ceiling, Known: &known}
 	if w.Word == "start" {
-		shown, all := known, d.knows(w.From)
+		shown, all := known, d.knows(w.From, w.Sums)
 		if err == nil {
 			shown = d.shown(h, w, known)
 		}
@@ -243,8 +243,9 @@ func (k *Knows) hasRoom(key int) bool {
 	return k.Next == 0
 }
 
-// knows returns what this voter keeps, with sessions from a key on, and what it is itself.
-func (d *Daemon) knows(from int) Knows {
+// knows returns what this voter keeps, with sessions from a key on, and what it is itself. It leaves the shards out of which these sums are. Of
+// shards behind those it tells nothing then: their sums come with the next question.
+func (d *Daemon) knows(from int, sums []byte) Knows {
 	peers := map[int]Peer{}
 	for place, p := range d.peers {
 		if p.Identity != "" {
@@ -258,8 +259,17 @@ func (d *Daemon) knows(from int) Knows {
 	if from < 0 {
 		from = 0
 	}
-	for key := from; known.Next == 0 && key < d.cluster.Numbers(); key = (key/qlock.MaxClients + 1) * qlock.MaxClients {
-		d.tellShard(&known, key)
+	end := d.cluster.Numbers()
+	if summed := (from/qlock.MaxClients + len(sums)/sumOfShard) * qlock.MaxClients; summed > from && summed < end {
+		end = summed
+	}
+	for key := from; known.Next == 0 && key < end; key = (key/qlock.MaxClients + 1) * qlock.MaxClients {
+		if !d.isKnown(key/qlock.MaxClients, from, sums) {
+			d.tellShard(&known, key)
+		}
+	}
+	if known.Next == 0 && end < d.cluster.Numbers() {
+		known.Next = end
 	}
 	return known
 }

@@ -94,7 +94,7 @@ func TestNobodyMakesASeatByAQuestion(t *testing.T) {
 	s.isUnused()
 	s.highest()
 	s.lapses("jobs.x")
-	d.knows(0)
+	d.knows(0, nil)
 	d.status(time.Now())
 	d.learnFloor(1, d.floors[1], time.Now())
 	d.leases.hearAll(time.Now())
@@ -320,7 +320,7 @@ func BenchmarkManyShards(b *testing.B) {
 		{"marker", func() { d.isMarker(d.markerLine(d.leases.clock.Send(now.Sub(d.leases.began)))) }},
 		{"measure", func() { d.measure(now) }},
 		{"unused", func() { d.dropUnused(now) }},
-		{"knows", func() { d.knows(1 << 20) }},
+		{"knows", func() { d.knows(1<<20, nil) }},
 		{"ready", func() { _, _ = d.isReady(0, d.plans.mark()) }},
 	} {
 		b.Run(one.name, func(b *testing.B) {

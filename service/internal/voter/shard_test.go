@@ -122,7 +122,7 @@ func TestPagesOfRows(t *testing.T) {
 	}
 	all, pages := map[int]Session{}, 0
 	for from := 0; ; pages++ {
-		page := d.knows(from)
+		page := d.knows(from, nil)
 		for key, row := range page.Sessions {
 			if _, twice := all[key]; twice || key < from || page.From != from {
 				t.Fatalf("page %d has %d", from, key)

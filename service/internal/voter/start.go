@@ -26,6 +26,7 @@ type word struct {
 	Known   *Peer  `json:"known,omitempty"`   // what was known of it
 	Why     string `json:"why,omitempty"`     // why it is refused
 	From    int    `json:"from,omitempty"`    // of start: from which key on it wants to know of sessions
+	Sums    []byte `json:"sums,omitempty"`    // of start: of what it has, by shards from that of this key on (sums.go)
 	Knows   *Knows `json:"knows,omitempty"`   // what the one who answers knows
 }
 
@@ -106,7 +107,8 @@ func (d *Daemon) start(now time.Time) {
 	for voter := 0; voter < places; voter++ {
 		bit := d.others() & (1 << voter)
 		if bit&^shown.Answered != 0 {
-			d.write(voter, word{Word: "start", Process: j.process, Ceiling: d.store.own.Ceiling, From: j.from[voter]})
+			d.write(voter, word{Word: "start", Process: j.process, Ceiling: d.store.own.Ceiling, From: j.from[voter],
+				Sums: d.sums(j.from[voter])})
 		}
 		if shown.Asked > 0 && bit&^j.told != 0 {
 			d.write(voter, word{Word: "ceiling", Process: j.process, Ceiling: shown.Asked})

@@ -1,0 +1,67 @@
+package voter
+
+import (
+	"bytes"
+	"crypto/sha256"
+	"encoding/binary"
+
+	"calvundek.example/service/qlock"
+)
+
+// A voter that starts wants to know what the others have of sessions. Most of it is what it has itself. So it says a sum of each shard with its
+// question, and hears of those shards alone of which the other one has another sum.
+
+const (
+	sumOfShard = 8       // bytes of a sum
+	mostSummed = 1 << 10 // shards of which one question has the sums
+)
+
+// sums returns the sums of the shards from that of a key on, as many as one question has.
+func (d *Daemon) sums(from int) (sums []byte) {
+	first, shards := from/qlock.MaxClients, d.cluster.Numbers()/qlock.MaxClients
+	for shard := first; shard < shards && shard < first+mostSummed; shard++ {
+		sums = append(sums, d.sum(shard)...)
+	}
+	return sums
+}
+
+// sum returns the sum of what this voter would tell of a shard: zeros if that is nothing.
+func (d *Daemon) sum(shard int) []byte {
+	s, text := d.shards[shard], []byte(nil)
+	if floor, is := d.floors[shard]; s == nil && is {
+		text = binary.AppendUvarint(append(text, "floor"...), floor.Stamp)
+		for _, epoch := range floor.Epochs {
+			text = binary.AppendUvarint(text, epoch)
+		}
+	}
+	for number := 0; s != nil && number < qlock.MaxClients; number++ {
+		if row := s.row(number); row.Epoch > 0 {
+			text = row.appendTo(append(text, byte(number)))
+		}
+	}
+	if text == nil {
+		return make([]byte, sumOfShard)
+	}
+	sum := sha256.Sum256(text)
+	return sum[:sumOfShard]
+}
+
+// appendTo appends all of a row that other voters want to know.
+func (s Session) appendTo(text []byte) []byte {
+	text = append(append(text, s.Hash...), 0)
+	for _, number := range []uint64{s.Epoch, s.Base, s.Reserved} {
+		text = binary.AppendUvarint(text, number)
+	}
+	for i, is := range []bool{s.Open, s.Used, s.Dropped} {
+		if is {
+			text = append(text, byte(1+i))
+		}
+	}
+	return append(text, 0)
+}
+
+// isKnown returns whether the voter that asks has of a shard what this one would tell, by the sums of the shards from that of a key on.
+func (d *Daemon) isKnown(shard, from int, sums []byte) bool {
+	at := (shard - from/qlock.MaxClients) * sumOfShard
+	return at >= 0 && at+sumOfShard <= len(sums) && bytes.Equal(sums[at:at+sumOfShard], d.sum(shard))
+}
