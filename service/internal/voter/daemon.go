@@ -193,19 +193,14 @@ func (d *Daemon) begin() (err error) {
 func (d *Daemon) load(now time.Time) error {
 	d.leases.begin(now)
 	d.skippable = *qlock.NewBucket(skipRate, mostSkip, 0)
-	return d.store.load(func(shard int, floor Floor) { d.floors[shard] = floor }, func(key int, row Session, isOld bool) error {
-		s, number := d.shardOfKey(key)
-		if _, err := row.proved(); err != nil {
-			return fmt.Errorf("session of number %d: %w", number, err)
-		}
-		if s.set(number, row); isOld {
-			d.leases.later[key] = row
+	return d.store.load(func(shard int, floor Floor) { d.floors[shard] = floor }, func(one savedSession) error {
+		s, number := d.shardOfKey(one.key)
+		if s.set(number, one.row); one.isOld {
+			d.leases.later[one.key] = one.row
 		}
 		return nil
-	}, func(name string, state []byte) error {
-		if err := d.restore(name, state, now); err != nil {
-			return fmt.Errorf("vote %q: %w", name, err)
-		}
+	}, func(one savedVote) error {
+		d.restore(one, now)
 		return nil
 	}, func(place int, p Peer) { d.peers[place], d.loaded[place] = p, p })
 }

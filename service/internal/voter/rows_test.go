@@ -67,8 +67,8 @@ func contentOf(s *store) (content, error) {
 	c := content{meta: s.meta, saves: s.saves, votes: map[string]string{}, rows: map[int]Session{}, floors: map[int]Floor{},
 		peers: map[int]Peer{}}
 	err := s.load(func(shard int, floor Floor) { c.floors[shard] = floor },
-		func(number int, row Session, _ bool) error { c.rows[number] = row; return nil },
-		func(name string, state []byte) error { c.votes[name] = string(state); return nil }, func(place int, p Peer) { c.peers[place] = p })
+		func(one savedSession) error { c.rows[one.key] = one.row; return nil },
+		func(one savedVote) error { c.votes[one.name] = string(one.packed); return nil }, func(place int, p Peer) { c.peers[place] = p })
 	return c, err
 }
 

@@ -242,50 +242,22 @@ func (s *store) read(rows Rows) (err error) {
 	return err
 }
 
-// load hands each floor, then each session, then each vote, and what is known of each place to a function. A session is old if it would be
-// saved in another form.
-func (s *store) load(floor func(shard int, floor Floor), session func(key int, row Session, isOld bool) error,
-	vote func(name string, state []byte) error, peer func(place int, p Peer)) error {
+// load hands each floor, then each session, then each vote, and what is known of each place to a function.
+func (s *store) load(floor func(shard int, floor Floor), session func(savedSession) error, vote func(savedVote) error,
+	peer func(place int, p Peer)) error {
 	return s.disk.View(func(rows Rows) error {
-		err := each(rows, sessionBucket, func(key, value []byte) error {
-			shard, is := shardOfFloor(key)
-			var one Floor
-			if is && json.Unmarshal(value, &one) != nil {
-				return fmt.Errorf("floor %x: %w", key, ErrDamaged)
-			} else if is {
-				floor(shard, one)
-			}
-			return nil
-		})
-		if err != nil {
+		if err := loadFloors(rows, floor); err != nil {
 			return err
 		}
-		err = each(rows, sessionBucket, func(key, value []byte) error {
-			if _, is := shardOfFloor(key); is {
+		if err := readAll(rows, sessionBucket, readSession, func(one savedSession) error {
+			if one.isFloor {
 				return nil
 			}
-			var row Session
-			number, ok := numberOfRow(key)
-			if err := json.Unmarshal(value, &row); err != nil || !ok {
-				return fmt.Errorf("session %x: %w", key, ErrDamaged)
-			}
-			again, err := json.Marshal(row)
-			if err != nil {
-				return err
-			}
-			return session(number, row, !bytes.Equal(again, value))
-		})
-		if err != nil {
+			return session(one)
+		}); err != nil {
 			return err
 		}
-		err = each(rows, voteBucket, func(key, value []byte) error {
-			state, ok := unpack(value)
-			if !ok {
-				return fmt.Errorf("vote %q: %w", key, ErrDamaged)
-			}
-			return vote(string(key), state)
-		})
-		if err != nil {
+		if err := readAll(rows, voteBucket, readVote, vote); err != nil {
 			return err
 		}
 		return each(rows, peerBucket, func(key, value []byte) error {
@@ -297,6 +269,80 @@ func (s *store) load(floor func(shard int, floor Floor), session func(key int, r
 			return nil
 		})
 	})
+}
+
+// loadFloors hands each floor to a function.
+func loadFloors(rows Rows, floor func(shard int, floor Floor)) error {
+	return rows.Each(sessionBucket, func(key, row []byte) error {
+		shard, is := shardOfFloor(key)
+		if !is {
+			return nil
+		}
+		var one Floor
+		text, err := value(sessionBucket, key, row)
+		if err == nil && json.Unmarshal(text, &one) != nil {
+			err = fmt.Errorf("floor %x: %w", key, ErrDamaged)
+		}
+		if err == nil {
+			floor(shard, one)
+		}
+		return err
+	})
+}
+
+// savedSession is the row of a session, by its key among those of all shards. It is old if it would be saved in another form.
+type savedSession struct {
+	key     int
+	row     Session
+	isOld   bool
+	isFloor bool // it is the floor of a shard, and none of this
+}
+
+// readSession reads the row of a session.
+func readSession(key, text []byte) (one savedSession, err error) {
+	if _, one.isFloor = shardOfFloor(key); one.isFloor {
+		return one, nil
+	}
+	var ok bool
+	one.key, ok = numberOfRow(key)
+	if one.row.UnmarshalJSON(text) != nil || !ok {
+		return one, fmt.Errorf("session %x: %w", key, ErrDamaged)
+	}
+	if _, err := one.row.proved(); err != nil {
+		return one, fmt.Errorf("session of number %d: %w", one.key, err)
+	}
+	again, err := json.Marshal(one.row)
+	one.isOld = !bytes.Equal(again, text)
+	return one, err
+}
+
+// savedVote is a vote, packed, without those that waited for it: only the grant and the number of grants are sure to be those of the last step
+// (Voter.MustSave). Clients that wait ask again.
+type savedVote struct {
+	name   string
+	packed []byte
+	held   qlock.Grant
+}
+
+// readVote reads a vote.
+func readVote(key, text []byte) (savedVote, error) {
+	one := savedVote{name: string(key)}
+	state, ok := unpack(text)
+	if !ok {
+		return one, fmt.Errorf("vote %q: %w", key, ErrDamaged)
+	}
+	voter, err := qlock.RestoreVoter(state)
+	if err == nil {
+		err = voter.Forget()
+	}
+	if err == nil {
+		one.held, err = voter.Held()
+	}
+	if err != nil {
+		return one, fmt.Errorf("vote %q: %w", key, err)
+	}
+	one.packed = append(one.packed, pack(voter.State())...) // no more memory than it needs
+	return one, nil
 }
 
 // rowKey returns under what the row of a session is saved, by its key among those of all shards: one byte in the first shard, three in

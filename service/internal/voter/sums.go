@@ -13,7 +13,7 @@ import (
 
 const (
 	sumOfShard = 8       // bytes of a sum
-	mostSummed = 1 << 10 // shards of which one question has the sums
+	mostSummed = 1 << 13 // shards of which one question has the sums
 )
 
 // sums returns the sums of the shards from that of a key on, as many as one question has.

@@ -72,30 +72,17 @@ func (d *Daemon) keep(v *vote) {
 	}
 }
 
-// restore adds a vote that was saved. It forgets who waits, as only the grant and the number of grants are sure to be those
-// of the last step (Voter.MustSave): clients that wait ask again. What is left of it is packed.
-func (d *Daemon) restore(name string, state []byte, now time.Time) error {
-	voter, err := qlock.RestoreVoter(state)
-	if err != nil {
-		return err
-	}
-	if err := voter.Forget(); err != nil {
-		return err
-	}
-	held, err := voter.Held()
-	if err != nil {
-		return err
-	}
-	v := d.voteOf(name, voter)
-	v.pack()
+// restore adds a vote that was saved. It stays packed.
+func (d *Daemon) restore(one savedVote, now time.Time) {
+	v := d.voteOf(one.name, nil)
+	v.packed = one.packed
 	d.keep(v)
-	if held.Number == 0 {
+	if one.held.Number == 0 {
 		d.rest(v, now)
-		return nil
+		return
 	}
-	d.noteAsk(v, int(held.Client), held.Stamp, now)
-	d.noteGrant(v, held, now)
-	return nil
+	d.noteAsk(v, int(one.held.Client), one.held.Stamp, now)
+	d.noteGrant(v, one.held, now)
 }
 
 // noteAsk notes under which stamp a client has the vote or waits for it, 0 for none, after a step that may have changed it.
