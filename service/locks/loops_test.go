@@ -28,7 +28,7 @@ func TestManySessionsOfAProcess(t *testing.T) {
 		return
 	}
 	cluster, folder := secured(t)
-	cluster.TTL.Duration = 20 * time.Second
+	cluster.TTL.Duration = 8 * time.Second
 	if cluster.Shards = 256; cluster.Check() != nil {
 		t.Fatal(cluster.Check())
 	}
@@ -64,7 +64,7 @@ func holdsMany(t *testing.T, file string) {
 		for shard := from; shard < to; shard++ {
 			take(t, c, nameIn(w, shard))
 		}
-		time.Sleep(6 * time.Second) // until heartbeats were acknowledged that are those of a session which rests
+		time.Sleep(3 * time.Second) // until heartbeats were acknowledged that are those of a session which rests
 		runtime.GC()
 		var memory runtime.MemStats
 		runtime.ReadMemStats(&memory)
@@ -209,7 +209,7 @@ func TestHolderBeatsSeldom(t *testing.T) {
 		t.Errorf("%d heartbeats of %d holders in two pauses", n, sessions)
 	}
 	port.Cut(true)
-	time.Sleep(7 * time.Second) // up to a pause and a second, until none was acknowledged, and then each half second
+	time.Sleep(6 * time.Second) // up to a pause and a second, until none was acknowledged, and then each half second
 	if n := beats(); n < 3*4*sessions {
 		t.Errorf("%d heartbeats of %d holders that are cut off", n, sessions)
 	}
