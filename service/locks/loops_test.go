@@ -54,15 +54,17 @@ func holdsMany(t *testing.T, file string) {
 	if err != nil {
 		t.Fatal(err)
 	}
-	own := access(filepath.Dir(file), "shop")
-	c, err := Open(within(t, 20*time.Second), Config{Cluster: file, User: own.User, Secret: own.Secret, Cert: own.Cert, Key: own.Key})
+	own, limit := access(filepath.Dir(file), "shop"), within(t, time.Minute)
+	c, err := Open(limit, Config{Cluster: file, User: own.User, Secret: own.Secret, Cert: own.Cert, Key: own.Key})
 	if err != nil {
 		t.Fatal(err)
 	}
 	w := &worlds.World{Cluster: cluster}
 	holds := func(from, to int) (bytes uint64, goroutines int) {
 		for shard := from; shard < to; shard++ {
-			take(t, c, nameIn(w, shard))
+			if _, err := c.Lock(limit, nameIn(w, shard)); err != nil {
+				t.Fatal(err)
+			}
 		}
 		time.Sleep(3 * time.Second) // until heartbeats were acknowledged that are those of a session which rests
 		runtime.GC()

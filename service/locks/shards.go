@@ -29,7 +29,7 @@ const (
 type shards struct {
 	mutex sync.Mutex
 	all   map[int]*part
-	past  Stats          // of the sessions that are over, and what was lost of bundles
+	past  Stats          // of the sessions that are over, and what was lost of messages
 	going sync.WaitGroup // sessions that go on, and that are opened
 
 	closing   chan struct{} // closed once no call of Lock is taken any more
