@@ -241,8 +241,7 @@ func (l *loop) nextLook(looked time.Time) time.Time {
 func (l *loop) run() {
 	timer, looked, wakes := time.NewTimer(pause), time.Now(), time.Time{}
 	defer timer.Stop()
-	for clock, goesOn := (gaps{}), true; goesOn; {
-		var sessions []*Client
+	for clock := (gaps{}); ; {
 		select {
 		case <-l.grown:
 			for _, c := range l.listed() {
@@ -250,7 +249,10 @@ func (l *loop) run() {
 			}
 		case <-timer.C: // also one that was set before, and is early now
 			looked, wakes = time.Now(), time.Time{}
-			sessions, goesOn = l.look(looked, &clock)
+			sessions, goesOn := l.look(looked, &clock)
+			if !goesOn {
+				return // another goroutine may have the loop by now
+			}
 			for _, c := range sessions {
 				l.turn(c, func() { c.tick(looked) })
 			}

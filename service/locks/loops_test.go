@@ -234,7 +234,8 @@ func TestHolderBeatsSeldom(t *testing.T) {
 	}
 }
 
-// A session that only holds locks, and asks for another one, sends a heartbeat first, and waits for replies to that.
+// A session that only holds locks, and asks for another one, sends a heartbeat first, and waits for replies to that of the voters that
+// replied to the last one.
 func TestHolderWakes(t *testing.T) {
 	now := time.Now()
 	for what, wakes := range map[string]func(c *table){
@@ -247,8 +248,9 @@ func TestHolderWakes(t *testing.T) {
 		for v := range c.peers {
 			c.peers[v].heard = now.Add(-4 * time.Second)
 		}
+		c.peers[2].heard = now.Add(-4 * time.Second).Add(-time.Millisecond) // it did not reply to the last heartbeat
 		before := c.header.Seq
-		if wakes(c); c.header.Seq != before+1 || c.silent(time.Now()) != 0 {
+		if wakes(c); c.header.Seq != before+1 || c.silent(time.Now()) != 1<<2 {
 			t.Errorf("%s: heartbeat %d after %d, the voters %b are silent", what, c.header.Seq, before, c.silent(time.Now()))
 		}
 	}

@@ -543,15 +543,15 @@ func (c *Client) pause() time.Duration {
 }
 
 // wake is called before a session that rested asks for something: its next message has a heartbeat, and voters have the fail-over time to
-// reply.
+// reply. One that did not reply to the heartbeat before has no more time: else it would never be silent to who rests again and again.
 func (c *Client) wake(now time.Time) {
 	if !c.rests() || now.Sub(c.beat) < c.config.Heartbeat {
 		return
 	}
-	silent := c.silent(now)
+	last := c.beat
 	c.heartbeat(now)
 	for v := range c.peers {
-		if silent>>v&1 == 0 {
+		if !c.peers[v].heard.Before(last) {
 			c.peers[v].heard = now
 		}
 	}
