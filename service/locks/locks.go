@@ -222,7 +222,8 @@ func newNamed(cluster *config.Cluster, c Config, name string, own *claims.Number
 		return nil, err
 	}
 	client := newSessionOf(cluster, c, name, own)
-	client.user, client.watch, client.plans, client.waits, client.calls = user, newWatch(cluster.TTL.Duration), newPlans(cluster), newWaits(), make(chan func())
+	client.user, client.plans, client.calls = user, newPlans(cluster), make(chan func())
+	client.watch, client.waits = newWatch(cluster.TTL.Duration), newWaits()
 	if !c.NoNote {
 		client.ownNote = ownNote(c.Note)
 	}
@@ -460,11 +461,11 @@ func (c *Client) call(f func() error) error {
 
 // run is the loop.
 func (c *Client) run() {
-	pause := pause
+	every := pause
 	if c.looks && c.cluster.HasShards() {
-		pause = repeatAsk / 2
+		every = repeatAsk / 2
 	}
-	ticker := time.NewTicker(pause)
+	ticker := time.NewTicker(every)
 	defer close(c.stopped)
 	defer c.close()
 	defer ticker.Stop()

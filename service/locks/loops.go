@@ -2,9 +2,9 @@ package locks
 
 // The sessions of a process's shards go round in a few loops, each session in one of them.
 //
-// A session has no goroutine and no ticker of its own. What comes to it waits in its mailbox, and so do calls. The loop takes the sessions for
-// which something waits, one after the other, and those of which time asks something, each 25 ms at most. Nothing in a turn waits, so no session
-// holds up another one.
+// A session has no goroutine and no ticker of its own. What comes to it waits in its mailbox, and so do calls. The loop takes the sessions
+// for which something waits, one after the other, and those of which time asks something, each 25 ms at most. Nothing in a turn waits, so no
+// session holds up another one.
 
 import (
 	"runtime"
@@ -26,7 +26,7 @@ const (
 type desk struct {
 	out     [qlock.MaxVoters][]byte // lines that leave at the end of this turn of the loop, by voter
 	sent    [qlock.MaxVoters]int    // lines of control besides those of the session, in this turn, by voter
-	mayWait bool                    // they may wait a moment for those of other sessions: they are a heartbeat that was due, and nothing urgent
+	mayWait bool                    // these may wait a moment for those of other sessions: a heartbeat that was due, and nothing urgent
 	room    []byte
 }
 
@@ -242,8 +242,7 @@ func (l *loop) nextLook(looked time.Time) time.Time {
 func (l *loop) run() {
 	timer, looked, wakes := time.NewTimer(pause), time.Now(), time.Time{}
 	defer timer.Stop()
-	for clock, goesOn := (gaps{}), true; goesOn; {
-		var sessions []*Client
+	for clock := (gaps{}); ; {
 		select {
 		case <-l.grown:
 			for _, c := range l.listed() {
@@ -251,7 +250,10 @@ func (l *loop) run() {
 			}
 		case <-timer.C: // also one that was set before, and is early now
 			looked, wakes = time.Now(), time.Time{}
-			sessions, goesOn = l.look(looked, &clock)
+			sessions, goesOn := l.look(looked, &clock)
+			if !goesOn {
+				return // another goroutine may have the loop by now
+			}
 			for _, c := range sessions {
 				l.turn(c, func() { c.tick(looked) })
 			}

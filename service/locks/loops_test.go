@@ -29,7 +29,7 @@ func TestManySessionsOfAProcess(t *testing.T) {
 		return
 	}
 	cluster, folder := secured(t)
-	cluster.TTL.Duration = 20 * time.Second
+	cluster.TTL.Duration = 8 * time.Second
 	if cluster.Shards = 256; cluster.Check() != nil {
 		t.Fatal(cluster.Check())
 	}
@@ -55,17 +55,19 @@ func holdsMany(t *testing.T, file string) {
 	if err != nil {
 		t.Fatal(err)
 	}
-	own := access(filepath.Dir(file), "shop")
-	c, err := Open(within(t, 20*time.Second), Config{Cluster: file, User: own.User, Secret: own.Secret, Cert: own.Cert, Key: own.Key})
+	own, limit := access(filepath.Dir(file), "shop"), within(t, time.Minute)
+	c, err := Open(limit, Config{Cluster: file, User: own.User, Secret: own.Secret, Cert: own.Cert, Key: own.Key})
 	if err != nil {
 		t.Fatal(err)
 	}
 	w := &worlds.World{Cluster: cluster}
 	holds := func(from, to int) (bytes uint64, goroutines int) {
 		for shard := from; shard < to; shard++ {
-			take(t, c, nameIn(w, shard))
+			if _, err := c.Lock(limit, nameIn(w, shard)); err != nil {
+				t.Fatal(err)
+			}
 		}
-		time.Sleep(6 * time.Second) // until heartbeats were acknowledged that are those of a session which rests
+		time.Sleep(3 * time.Second) // until heartbeats were acknowledged that are those of a session which rests
 		runtime.GC()
 		var memory runtime.MemStats
 		runtime.ReadMemStats(&memory)
@@ -218,7 +220,7 @@ func TestHolderBeatsSeldom(t *testing.T) {
 		t.Errorf("%d heartbeats of %d holders in two pauses", n, sessions)
 	}
 	port.Cut(true)
-	time.Sleep(7 * time.Second) // up to a pause and a second, until none was acknowledged, and then each half second
+	time.Sleep(6 * time.Second) // up to a pause and a second, until none was acknowledged, and then each half second
 	if n := beats(); n < 3*4*sessions {
 		t.Errorf("%d heartbeats of %d holders that are cut off", n, sessions)
 	}
@@ -241,7 +243,8 @@ func TestHolderBeatsSeldom(t *testing.T) {
 	}
 }
 
-// A session that only holds locks, and asks for another one, sends a heartbeat first, and waits for replies to that.
+// A session that only holds locks, and asks for another one, sends a heartbeat first, and waits for replies to that of the voters that
+// replied to the last one.
 func TestHolderWakes(t *testing.T) {
 	now := time.Now()
 	for what, wakes := range map[string]func(c *table){
@@ -254,8 +257,9 @@ func TestHolderWakes(t *testing.T) {
 		for v := range c.peers {
 			c.peers[v].heard = now.Add(-4 * time.Second)
 		}
+		c.peers[2].heard = now.Add(-4 * time.Second).Add(-time.Millisecond) // it did not reply to the last heartbeat
 		before := c.header.Seq
-		if wakes(c); c.header.Seq != before+1 || c.silent(time.Now()) != 0 {
+		if wakes(c); c.header.Seq != before+1 || c.silent(time.Now()) != 1<<2 {
 			t.Errorf("%s: heartbeat %d after %d, the voters %b are silent", what, c.header.Seq, before, c.silent(time.Now()))
 		}
 	}

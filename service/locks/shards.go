@@ -29,7 +29,7 @@ const (
 type shards struct {
 	mutex sync.Mutex
 	all   map[int]*part
-	past  Stats          // of the sessions that are over, and what was lost of bundles
+	past  Stats          // of the sessions that are over, and what was lost of messages
 	going sync.WaitGroup // sessions that go on, and that are opened
 
 	closing   chan struct{} // closed once no call of Lock is taken any more
@@ -543,15 +543,15 @@ func (c *Client) pause() time.Duration {
 }
 
 // wake is called before a session that rested asks for something: its next message has a heartbeat, and voters have the fail-over time to
-// reply.
+// reply. One that did not reply to the heartbeat before has no more time: else it would never be silent to who rests again and again.
 func (c *Client) wake(now time.Time) {
 	if !c.rests() || now.Sub(c.beat) < c.config.Heartbeat {
 		return
 	}
-	silent := c.silent(now)
+	last := c.beat
 	c.heartbeat(now)
 	for v := range c.peers {
-		if silent>>v&1 == 0 {
+		if !c.peers[v].heard.Before(last) {
 			c.peers[v].heard = now
 		}
 	}

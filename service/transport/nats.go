@@ -378,18 +378,26 @@ func (n *NATS) Listen(subject string) (<-chan Message, error) {
 
 // Pass hands what comes to a mailbox to a function. All these mailboxes have one goroutine, and room for so many messages together.
 func (n *NATS) Pass(subject string, to func(Message)) error {
+	n.forget(subject)
+	subscription, err := n.connection.ChanSubscribe(subject, n.passes())
+	if err != nil {
+		return err
+	}
+	n.mutex.Lock()
+	defer n.mutex.Unlock()
+	n.passed[subject] = passed{subscription, to}
+	return nil
+}
+
+// passes returns where all comes that functions take.
+func (n *NATS) passes() chan *nats.Msg {
 	n.mutex.Lock()
 	defer n.mutex.Unlock()
 	if n.came == nil {
 		n.came = make(chan *nats.Msg, next)
 		go n.pass()
 	}
-	n.forget(subject)
-	subscription, err := n.connection.ChanSubscribe(subject, n.came)
-	if err == nil {
-		n.passed[subject] = passed{subscription, to}
-	}
-	return err
+	return n.came
 }
 
 // pass hands what comes to the functions that take it, until the connection is closed.
@@ -409,15 +417,19 @@ func (n *NATS) pass() {
 	}
 }
 
-// forget ends a mailbox of which a function takes all, if there is one, and keeps what it counted.
+// forget ends a mailbox of which a function takes all, if there is one, and keeps what it counted. It waits for the connection, and nobody
+// else does meanwhile.
 func (n *NATS) forget(subject string) {
+	n.mutex.Lock()
 	box, isThere := n.passed[subject]
-	if !isThere {
-		return
+	if isThere {
+		n.lost += dropped(box.subscription)
+		delete(n.passed, subject)
 	}
-	n.lost += dropped(box.subscription)
-	_ = box.subscription.Unsubscribe()
-	delete(n.passed, subject)
+	n.mutex.Unlock()
+	if isThere {
+		_ = box.subscription.Unsubscribe()
+	}
 }
 
 // dropped returns how many messages of a subscription found no room.
@@ -454,9 +466,9 @@ func (h *handed) note(size int) {
 
 // Leave ends what Listen or Pass began.
 func (n *NATS) Leave(subject string) {
+	n.forget(subject)
 	n.mutex.Lock()
 	defer n.mutex.Unlock()
-	n.forget(subject)
 	kept := n.mailboxes[:0]
 	for _, box := range n.mailboxes {
 		if box.subscription.Subject != subject {

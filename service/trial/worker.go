@@ -55,6 +55,22 @@ func (n noise) Listen(mailbox string) (<-chan transport.Message, error) {
 	return noisy, nil
 }
 
+// Pass is Listen for the mailboxes of sessions of shards.
+func (n noise) Pass(mailbox string, to func(transport.Message)) error {
+	_, err := transport.Pass(n.Transport, mailbox, func(message transport.Message) {
+		if rand.Intn(100) < n.percent {
+			return
+		}
+		to(message)
+		if rand.Intn(100) < n.percent {
+			to(message)
+		}
+	})
+	return err
+}
+
+func (n noise) Leave(mailbox string) { transport.Leave(n.Transport, mailbox) }
+
 // mouth talks with the witness. Several goroutines use it.
 type mouth struct {
 	mutex sync.Mutex
