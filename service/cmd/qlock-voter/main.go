@@ -143,6 +143,7 @@ func start(ctx context.Context, path string) error {
 		return err
 	}
 	event.Stderr.SetLeast(own.Log)
+	go keepReserve(ctx)
 	if err := checkApart(ctx, path, own.Data); ctx.Err() != nil {
 		return nil
 	} else if err != nil {
