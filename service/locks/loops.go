@@ -3,8 +3,8 @@ package locks
 // The sessions of a process's shards go round in a few loops, each session in one of them.
 //
 // A session has no goroutine and no ticker of its own. What comes to it waits in its mailbox, and so do calls. The loop takes the sessions
-// for which something waits, one after the other, and those of which time asks something, each 25 ms at most. Nothing in a turn waits, so no
-// session holds up another one.
+// for which something waits, one after the other, and those of which time asks something, each 25 ms at most. Nothing in a turn waits, so
+// no session holds up another one.
 
 import (
 	"runtime"

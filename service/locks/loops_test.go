@@ -199,8 +199,8 @@ func opens(w *worlds.World) func() int64 {
 	return func() int64 { return count.Swap(0) }
 }
 
-// A session that only holds locks sends heartbeats as seldom as one that wants nothing, and often again once one is not acknowledged. After a
-// gap each session of a process sends one at once. A cut that is shorter than votes count costs no lock.
+// A session that only holds locks sends heartbeats as seldom as one that wants nothing, and often again once one is not acknowledged. After
+// a gap each session of a process sends one at once. A cut that is shorter than votes count costs no lock.
 func TestHolderBeatsSeldom(t *testing.T) {
 	const sessions = 8
 	w := newShards(t, sessions, 12*time.Second)
