@@ -107,13 +107,18 @@ func (d *Daemon) start(now time.Time) {
 	for voter := 0; voter < places; voter++ {
 		bit := d.others() & (1 << voter)
 		if bit&^shown.Answered != 0 {
-			d.write(voter, word{Word: "start", Process: j.process, Ceiling: d.store.own.Ceiling, From: j.from[voter],
-				Sums: d.sums(j.from[voter])})
+			d.asks(voter)
 		}
 		if shown.Asked > 0 && bit&^j.told != 0 {
 			d.write(voter, word{Word: "ceiling", Process: j.process, Ceiling: shown.Asked})
 		}
 	}
+}
+
+// asks asks another voter what it knows, from where its last answer ended.
+func (d *Daemon) asks(voter int) {
+	j := &d.join
+	d.write(voter, word{Word: "start", Process: j.process, Ceiling: d.store.own.Ceiling, From: j.from[voter], Sums: d.sums(j.from[voter])})
 }
 
 // asksOthers asks the others to keep the ceiling that was asked for now.
@@ -297,7 +302,8 @@ func (d *Daemon) learnOfItself(h wire.Header, w word, now time.Time) {
 	}
 	if w.Knows.Next > w.Knows.From { // it has answered once it told all sessions
 		if d.learnAll(*w.Knows, now); w.Knows.From == j.from[h.Number] && d.cluster.IsKey(w.Knows.Next) {
-			j.from[h.Number], j.next = w.Knows.Next, now
+			j.from[h.Number] = w.Knows.Next
+			d.asks(h.Number)
 		}
 		return
 	}

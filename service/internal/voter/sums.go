@@ -27,23 +27,41 @@ func (d *Daemon) sums(from int) (sums []byte) {
 
 // sum returns the sum of what this voter would tell of a shard: zeros if that is nothing.
 func (d *Daemon) sum(shard int) []byte {
-	s, text := d.shards[shard], []byte(nil)
-	if floor, is := d.floors[shard]; s == nil && is {
-		text = binary.AppendUvarint(append(text, "floor"...), floor.Stamp)
-		for _, epoch := range floor.Epochs {
-			text = binary.AppendUvarint(text, epoch)
-		}
+	if s := d.shards[shard]; s != nil {
+		return s.sum()
 	}
-	for number := 0; s != nil && number < qlock.MaxClients; number++ {
-		if row := s.row(number); row.Epoch > 0 {
+	floor, is := d.floors[shard]
+	if !is {
+		return make([]byte, sumOfShard)
+	}
+	text := binary.AppendUvarint([]byte("floor"), floor.Stamp)
+	for _, epoch := range floor.Epochs {
+		text = binary.AppendUvarint(text, epoch)
+	}
+	return sumOf(text)
+}
+
+// sumOf returns the sum of a text.
+func sumOf(text []byte) []byte {
+	sum := sha256.Sum256(text)
+	return sum[:sumOfShard]
+}
+
+// sum returns the sum of the rows of a shard. It is kept until one of them changes.
+func (t *table) sum() []byte {
+	if t.summed != nil {
+		return t.summed
+	}
+	var text []byte
+	for number := range t.seats {
+		if row := t.row(number); row.Epoch > 0 {
 			text = row.appendTo(append(text, byte(number)))
 		}
 	}
-	if text == nil {
-		return make([]byte, sumOfShard)
+	if t.summed = make([]byte, sumOfShard); text != nil {
+		copy(t.summed, sumOf(text))
 	}
-	sum := sha256.Sum256(text)
-	return sum[:sumOfShard]
+	return t.summed
 }
 
 // appendTo appends all of a row that other voters want to know.

@@ -86,6 +86,7 @@ type table struct {
 	stamps   qlock.Bucket            // how far the highest stamp may grow
 	heardAs  time.Duration           // when a number counts as heard that has no seat, on the lease clock
 	caughtUp uint64                  // with how many hearings (heard.go)
+	summed   []byte                  // the sum of the rows, nil if it has to be made anew (sums.go)
 }
 
 // seat is what a voter keeps of a number that was used, or learned of, beside its proved row.
@@ -282,7 +283,7 @@ func (t *table) set(number int, row Session) {
 	if !row.Open || row.Hash != seat.row.Hash || row.Epoch != seat.row.Epoch {
 		seat.brought = 0
 	}
-	seat.row, seat.session = row, row.session()
+	seat.row, seat.session, t.summed = row, row.session(), nil
 	t.prove(number, row, seat.session)
 	t.noteBehind(number)
 }
