@@ -200,7 +200,8 @@ func FuzzMessage(f *testing.F) {
 		". about orders 1 a note\n" + strings.Repeat(". who 1 orders\n", 15), ". list 1 1 ord\n. list 1 1\n", ". note\n. who x\n", ". for orders\n. hello\n",
 		". for orders\n. hello\n. claim 5 1 9\n. for stock\n. hello\n. for x y\n", ". want 64 orders\n. hello\n", ". want 64\n. hello\n. want 0\n. hello\n",
 		". want 0\n. want 18446744073709551615\n. hello\n. claim 5 9 9\n",
-		". watch 1 orders\n. watch 1 stock\n. who 2 orders\n. watch x\n"} {
+		". watch 1 orders\n. watch 1 stock\n. who 2 orders\n. watch x\n", ". process p\n. roll p 5\n. roll q 65535\n. roll p 6\n",
+		". beat 0 96 1\n. beat 65472 9223372036854775808 18446744073709551615\n", ". beat 0 32 4294967297\n"} {
 		f.Add(s.said(0, 0, 0, "nobody", lines))
 		f.Add(s.said(1, 1, 200, "other", lines))
 		f.Add(s.said(0, 1, 1<<40, "me", lines))
