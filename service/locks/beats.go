@@ -119,7 +119,7 @@ func (c *Client) joins(voter int) bool {
 		return false
 	case said.First != c.header.Epoch || said.Fourth+1 != c.header.Seq || said.Third < c.header.Reserved || said.Fifth != c.requestsAt(voter):
 		return false
-	case c.owesNote(voter):
+	case p.since != c.oldest() || c.owesNote(voter):
 		return false
 	}
 	one := joined{c.header.Name, p.said.Lapses, p.opened}

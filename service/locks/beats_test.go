@@ -105,6 +105,7 @@ func TestWhoJoinsNoBeat(t *testing.T) {
 		"it has no entry":                   func(c *table) { c.peers[0].entry = 0 },
 		"more stamps are to be reserved":    func(c *table) { c.peers[0].opened.Third = c.header.Reserved - 1 },
 		"a release was lost":                func(c *table) { c.peers[0].opened.Fifth = 1 },
+		"a plan was exchanged since":        func(c *table) { c.peers[0].since = c.generation + 1 },
 		"its note is not there":             func(c *table) { c.peers[0].noted = false },
 		"a grant of it was let go":          func(c *table) { hear(c.Client, c.ofVoter(0, 0, 1), "") },
 		"the voter started":                 func(c *table) { hear(c.Client, c.ofVoter(0, 1, 0), ". opened 3 5 0 4096 1 0\n. bundles\n") },

@@ -95,6 +95,7 @@ type peer struct {
 	opened qlock.VoterSays // what it said last to a heartbeat
 	entry  uint64          // the number of the session's entry on the roll of its process there, 0 if it said none
 	joined bool            // the last heartbeat to it was in a beat
+	since  uint64          // the oldest plan of which a request is left, as the last heartbeat said that was in none
 	rolls  int             // how many heartbeats it heard without making an entry
 }
 
@@ -718,6 +719,7 @@ func (c *Client) show(now time.Time) {
 		if p.sent[c.header.Seq] = up; c.joins(v) {
 			continue
 		}
+		p.since = open.First
 		c.tell(v, open)
 		c.sayNotes(v, now)
 		c.sayProcess(v)
