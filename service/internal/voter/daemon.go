@@ -60,7 +60,6 @@ type Daemon struct {
 	caughtUp   uint64         // with how many hearings
 	floors     map[int]Floor  // of shards that were dropped
 	newFloors  map[int]Floor  // they changed since the last save
-	nextRound  time.Time      // before that there is none
 	waitsSince time.Time      // since when the request waits that waited longest at the last round, zero if none did
 
 	plans         Generations
@@ -583,15 +582,6 @@ func (d *Daemon) gives(l *letter, number int, epoch, stamps uint64, now time.Tim
 	}
 	d.say(l.Name, qlock.VoterSays{Kind: qlock.Claimed, Number: number, First: epoch, Second: row.Base, Third: row.Reserved})
 	return true
-}
-
-// rounds makes a round, unless the last one took so long that it is too early: all of them take a tenth of the time at most.
-func (d *Daemon) rounds(now time.Time) {
-	if now.Before(d.nextRound) {
-		return
-	}
-	d.round(now)
-	d.nextRound = now.Add(10 * d.now().Sub(now))
 }
 
 // round does what time asks for: it lets grants of dead clients go that are in the way of others, and reminds.

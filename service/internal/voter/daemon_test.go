@@ -13,6 +13,7 @@ import (
 	"calvundek.example/service/internal/wire"
 	"calvundek.example/service/qlock"
 	"calvundek.example/service/transport"
+	"github.com/prometheus/client_golang/prometheus/testutil"
 )
 
 // A status that is too long for a message shows fewer votes, and says how many it left out.
@@ -165,22 +166,35 @@ func TestEachLineLeaves(t *testing.T) {
 	}
 }
 
-// Rounds take a tenth of the time at most: after one that took long the next one comes later.
-func TestRoundsTakeATenthOfTheTime(t *testing.T) {
-	d, _ := alone(t, 10)
-	now := time.Unix(1000, 0)
-	d.around.Now = func() time.Time { return now.Add(30 * time.Millisecond) }
-	d.rounds(now)
-	if next := now.Add(300 * time.Millisecond); !d.nextRound.Equal(next) {
-		t.Fatal(d.nextRound, next)
-	}
-	for after, isMade := range map[time.Duration]bool{50 * time.Millisecond: false, 299 * time.Millisecond: false, 300 * time.Millisecond: true} {
-		d.nextRound = now.Add(300 * time.Millisecond)
-		later := now.Add(after)
-		d.around.Now = func() time.Time { return later.Add(time.Millisecond) }
-		if d.rounds(later); d.nextRound.Equal(later.Add(10*time.Millisecond)) != isMade {
-			t.Errorf("after %v the next round is at %v", after, d.nextRound)
+// heldUp is a carrier whose messages take long.
+type heldUp struct {
+	post
+	takes func()
+}
+
+func (s *heldUp) Send(box string, message []byte) error {
+	s.takes()
+	return s.post.Send(box, message)
+}
+
+// A turn that took long, as the way to the broker did, puts no round off: who waits for somebody who is gone would wait on.
+func TestRoundAfterASlowTurn(t *testing.T) {
+	d := claimed(t, 2)
+	d.repliesTo("jobs", 1, "orders request 1 0 5\n")
+	d.repliesTo("jobs", 2, "orders request 2 0 6\n")
+	now := d.now()
+	d.around.Now = func() time.Time { return now }
+	d.carrier = &heldUp{takes: func() { now = now.Add(3 * time.Second) }}
+	before := testutil.ToFloat64(d.m.reminders)
+	for i := 0; i < 2; i++ {
+		if _, err := d.Turn(); err != nil {
+			t.Fatal(err)
 		}
+		d.carrier = &post{}
+		now = now.Add(2 * tick)
+	}
+	if testutil.ToFloat64(d.m.reminders) == before {
+		t.Error("there was no round after it")
 	}
 }
 

@@ -52,7 +52,7 @@ func (d *Daemon) Turn() (until time.Time, err error) {
 	d.look(now)
 	if !now.Before(d.next) {
 		d.sendMarker(now)
-		d.rounds(now)
+		d.round(now)
 		d.next = now.Add(tick)
 	}
 	if d.start(now); d.join.refused != nil {
