@@ -618,9 +618,9 @@ func (d *Daemon) lookAround(now time.Time) {
 	}
 }
 
-// longestReminder is how long it is from one reminder to the next one of a vote for which nobody waits. A RELEASE that was lost is found
-// sooner: a session that wants nothing hears in each reply to its heartbeat how many requests the voter has of it. The first of those that
-// come to wait has the vote reminded soon.
+// longestReminder is for how long a vote for which nobody waits is had before its holder is reminded, and how long it is at most from one
+// such reminder to the next. A RELEASE that was lost is found sooner: a session that wants nothing hears in each reply to its heartbeat how
+// many requests the voter has of it. The first of those that come to wait has the vote reminded soon.
 const longestReminder = 10 * time.Minute
 
 // roundOf does what time asks for of a vote.
@@ -642,7 +642,7 @@ func (d *Daemon) roundOf(v *vote, now time.Time) {
 	if v.timer.Most = d.own.Most.Duration; !v.isWanted() && v.timer.Most < longestReminder {
 		v.timer.Most = longestReminder
 	}
-	if v.timer.IsDue(now) {
+	if v.timer.IsDue(now) && (v.isWanted() || now.Sub(v.granted.Time()) >= longestReminder) {
 		if lines := v.reminder(); len(lines) > 0 {
 			d.m.reminders.Inc()
 			d.send(v, lines)

@@ -156,7 +156,7 @@ func TestNoLockIsForgottenUnsaved(t *testing.T) {
 	}
 }
 
-// Who has a vote for which nobody waits is reminded every ten minutes at last, and soon once somebody came to wait for it.
+// Who has a vote for which nobody waits is reminded after ten minutes, and then every ten, and soon once somebody came to wait for it.
 func TestRemindersOfUnwantedVotes(t *testing.T) {
 	d, says := alone(t, 10)
 	says("orders request 0 0 1\n")
@@ -171,7 +171,7 @@ func TestRemindersOfUnwantedVotes(t *testing.T) {
 		}
 		return count
 	}
-	if count := reminders(time.Hour); count < 12 || count > 16 {
+	if count := reminders(time.Hour); count < 4 || count > 6 {
 		t.Errorf("%d reminders in an hour", count)
 	}
 	d.noteAsk(v, 1, 2, now)

@@ -248,7 +248,7 @@ func TestNoReminderWhileQuiet(t *testing.T) {
 	d, says := alone(t, 10)
 	says("orders request 0 0 1\n")
 	v := d.votes["orders"]
-	later := time.Now().Add(time.Minute)
+	later := time.Now().Add(time.Hour)
 	for _, isOld := range []bool{true, false} {
 		d.out = map[string][]byte{}
 		if d.beQuiet(time.Now()); !isOld {
