@@ -58,12 +58,13 @@ func main() {
 	flag.IntVar(&many.names, "names", 1, "how many locks these use")
 	flag.DurationVar(&many.has, "has", 5*time.Millisecond, "for how long one of these has a lock")
 	flag.DurationVar(&many.idle, "wants", 0, "how long it is, about, until it wants the next one")
+	flag.DurationVar(&o.TTL, "ttl", 10*time.Second, "the cluster's TTL")
 	flag.IntVar(&o.Shards, "shards", 1, "how many shards the cluster has")
 	flag.StringVar(&o.Folder, "folder", "", "a new folder for the cluster, on a disk that syncs")
 	flag.StringVar(&o.Bin, "bin", "", "the folder of qlock-voter and qlockctl")
 	flag.StringVar(&o.Coterie, "coterie", "", "the file of the coterie")
 	flag.Parse()
-	o.TTL, many.length = 10*time.Second, *length
+	many.length = *length
 	what := func(cluster *local.Cluster) error { return measureAll(cluster, *length) }
 	switch {
 	case *idle > 0:
