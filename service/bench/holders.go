@@ -78,7 +78,6 @@ type driver struct {
 	bySession  map[string]*holding
 	replies    []time.Duration // how long voters took to acknowledge beats
 	unanswered int             // beats that were not acknowledged before the next one
-	behind     int             // how many these were at the last look
 }
 
 // measure lets all processes take their locks, and prints what voters do while these are held, and how long one takes to start then.
@@ -101,7 +100,6 @@ func (h holders) measure(cluster *local.Cluster) error {
 		if err := d.take(chunk); err != nil {
 			return err
 		}
-		d.rests()
 		if rest = rest[len(chunk):]; len(rest)/atOnce%16 == 0 {
 			fmt.Fprintf(os.Stderr, "%.0f s: %d locks are left\n", time.Since(began).Seconds(), len(rest))
 		}
@@ -178,17 +176,6 @@ func (d *driver) take(chunk []*holding) error {
 		return err
 	}
 	return d.repeat(chunk, d.ask, func(l *holding) bool { return l.locked&l.quorum == l.quorum && l.isOnAllRolls() })
-}
-
-// rests waits while voters are behind: they did not acknowledge some beat before the next one.
-func (d *driver) rests() {
-	d.mutex.Lock()
-	before := d.behind
-	d.behind = d.unanswered
-	d.mutex.Unlock()
-	if d.behind > before {
-		time.Sleep(d.cluster.TTL.Duration / 4)
-	}
 }
 
 // isOnAllRolls returns whether all voters made an entry for the session.
