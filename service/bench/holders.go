@@ -20,7 +20,7 @@ import (
 
 // holders are many processes, each of which holds many locks for a long time, with a session in the shard of each lock.
 //
-// One machine has no room for as many clients. So a driver says to the voters what the clients of these processes say: it wants a number in
+// One machine has no room for as many clients. So a driver says to the voters what the clients of these processes say: it claims a number in
 // the shard of each lock, asks a quorum for the lock, and from then on each process beats. No two processes want one lock, and the driver
 // keeps some hundred bytes for each. It is no client for anything else.
 type holders struct {

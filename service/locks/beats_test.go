@@ -154,6 +154,24 @@ func TestBeatAndLapse(t *testing.T) {
 	}
 }
 
+// A beat has a line for each share in which some session joined, with the places and the sum of the entries of that share alone.
+func TestBeatHasALineForEachShare(t *testing.T) {
+	b := beat{coterie: "mark", count: 9}
+	for place, entry := range map[int]uint64{0: 1, 33: 20, 63: 300, 64: 7, 130: 5000, wire.MostRoll - 1: 11} {
+		b.add(place, entry, joined{session: fmt.Sprint(place)})
+	}
+	h, lines, err := wire.Read(b.message("test", "p"))
+	want := fmt.Sprintf(". beat 0 %d 321\n. beat 64 1 7\n. beat 128 4 5000\n. beat 65472 %d 11\n", uint64(1<<63|1<<33|1), uint64(1)<<63)
+	if err != nil || string(lines) != want || h.Seq != 9 || h.Name != "p" || h.Epoch != 0 {
+		t.Errorf("%q, %+v, %v", lines, h, err)
+	}
+	for first, sessions := range map[int]int{0: 3, 64: 1, 128: 1, wire.MostRoll - 64: 1} {
+		if got := len(b.shares[first].sessions); got != sessions {
+			t.Errorf("%d sessions are at %d and behind", got, first)
+		}
+	}
+}
+
 // The place of a session that is over is another one's, and no two sessions have one.
 func TestPlaces(t *testing.T) {
 	p, has := places{}, map[int]bool{}
