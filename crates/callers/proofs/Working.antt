@@ -1,9 +1,8 @@
 -- whoever was told that it has the lock has its votes, until it gives them back
-use Rattle.std.proofs.Common.{◌≡◌, ℕ, ◌+◌, ◌*◌, ◌≤◌, ◌<◌, Bool, true, false, List, [], ◌∷◌, refl, sym, ap, subst, ◌∙◌, ◌⊎◌, inl, inr, Option, Some, None, arith}
-use Rattle.std.specs.Prelude.{◌==◌, ◌&&◌, ◌||◌, is_some, max, min, nat_lt, not, if◌then◌else◌}
+use Rattle.std.proofs.Common.{◌≡◌, ℕ, ◌+◌, ◌*◌, ◌≤◌, ◌<◌, Bool, true, false, List, [], ◌∷◌, refl, sym, ap, subst, ◌∙◌, inl, inr, Option, Some, None, arith}
+use Rattle.std.specs.Prelude.{◌==◌, ◌&&◌, ◌||◌, is_some, max, not, if◌then◌else◌}
 use Rattle.std.specs.List.{AllByRecursion, list_all, slice_get}
 use Rattle.std.proofs.lemmas.Bool.{eqb-true, eq-eqb, false≢true}
-use Rattle.std.proofs.lemmas.Bool.Decides.{nat_tests}
 use Rattle.std.proofs.lemmas.Option.{none-some, same_Some}
 use Rattle.lease_clock.specs.Leases.{is_among}
 use Rattle.working.specs.Events.{Beats, CountsNow, DoMeet, Ends, Event, GivesBack, GivesOn, Gives, Hears, IsOneOf, IsRated, Keeps, LetsGo, LetsOtherGo, Loses, Marked, Marks, Passes, QuietCountsNow, Released, Relinquished, Renews, Restarts, Takes, Tells as TellsAgain, Wakes, Works, World, after, after_all, begins, with_voter}
@@ -11,12 +10,13 @@ use Rattle.working.specs.Sessions.{Session, beaten, has_ended, has_returned, has
 use Rattle.working.specs.Voters.{Acknowledgement, Locked as Message, ends, heard_from, is_of_number, is_of_request, set}
 use Rattle.working.proofs.Lists.{one_of, set_by}
 use Rattle.working.proofs.Working.{one_works}
-use Rattle.vote_leases.specs.Leases.{beat_of, end_of}
+use Rattle.vote_leases.specs.Leases.{beat_of}
 use Rattle.vote_leases.specs.Sessions.{AreTold, Asks, Happens, Holds, IsToldAt, Kept, Learns, Step, events_of}
 use Rattle.vote_leases.specs.declared.incarnation.Incarnation.{Incarnation}
-use Rattle.vote_leases.proofs.Evidence.{Counted, and_true, counted_votes, more_leases, more_votes, stands_counted}
+use Rattle.vote_leases.proofs.Evidence.{Counted, and_true, counted_votes, more_leases, more_votes, one_of_max, stands_counted}
 use Rattle.vote_leases.proofs.Stands.{begun_stands}
 use Rattle.vote_leases.proofs.Steps.{IsKept as StandsFor, step_on}
+use Rattle.vote_leases.proofs.Told.{end_before}
 use Rattle.callers.specs.Calls.{handed, has_lock, is_under, may_end, may_hand}
 use Rattle.callers.specs.Steps.{CallStep, Closes, Empties, Hands, HasLock, MayBeLost, RefusesTries, Unlocks, Unwants, Wants, call_stepped}
 use Rattle.callers.specs.Worlds.{AllAsTold, CallWorks, Caller, CallerStep, ToCalls, CountsTo, EndsLater, InWorld, HasVotesTo, IfOwn, IsHanded, StepsLater, TellsUntil, begun_caller, caller_after, caller_then, steps_of, until_then, world_then}
@@ -168,17 +168,6 @@ step_stays ttl span lease me request w o (Learns session voter i) has later = sa
 step_stays ttl span lease me request w o (Holds session voter) has later = same_stays request (w.sessions me)
 
 -- ---- what a call is told, by what its session keeps
-
-one_of_max : (a b : ℕ) → (max a b ≡ a) ⊎ (max a b ≡ b)
-one_of_max a b = elim (nat_lt a b) as (λ c. nat_lt a b ≡ c → (max a b ≡ a) ⊎ (max a b ≡ b)) [
-  | true ↦ λ e. inr (grind (arith, nat_tests))
-  | false ↦ λ e. inl (grind (arith, nat_tests))
-] refl
-
-end_before : (o : Option ℕ) (span end : ℕ) → end_of o span ≡ Some end → (beat : ℕ) × (o ≡ Some beat) × (end ≤ beat + span)
-end_before None span end is = absurd (none-some end is)
-end_before (Some beat) span end is =
-    (beat, refl, (let same = same_Some (min (beat + span) 18446744073709551615) end is in omega arith))
 
 told_evidence : (tell : ℕ → Incarnation → ℕ) (lease request time voter : ℕ) (k : Kept) (s : Session) → StandsFor tell k s → CountsTo lease k request time voter
     → Evidence lease s request time voter × (is_among request s.ended ≡ false)

@@ -38,5 +38,5 @@ pub use laws::{
     a_request_fails_over, nobody_waits_for_the_silent, none_is_passed_over, others_are_asked,
     the_plan_is_kept, who_fails_over_asks_others, who_is_asked_answers, who_is_asked_has_room,
 };
-pub use voters::{avoided, silent, voters_where};
+pub use voters::{avoided, silent};
 pub use waiting::{Waiting, is_stuck, waits_for};

@@ -1,26 +1,10 @@
 //! Which voters are silent, and which ones a session avoids.
-ghost use Rattle.std.specs.Prelude.{◌≡◌, ◌<◌, ℕ, Bool};
-ghost use Rattle.numbers.specs.Bounds.{max_voters};
-ghost use Rattle.numbers.specs.Sets.{members_of, set_where};
+ghost use Rattle.std.specs.Prelude.{◌≡◌};
+ghost use Rattle.numbers.specs.Sets.{members_of};
 ghost use Rattle.quorum_set.specs.Words.{word_of};
 ghost use Rattle.fail_over.specs.Choices.{avoided_voters, is_avoided, is_quiet, is_silent, silent_voters};
 
-use numbers::MAX_VOTERS;
-use quorum_set::QSet;
-
-/// Returns the voters that pass the test, of those below 64.
-pub fn voters_where<F: Fn(u8) -> bool>(passes: F) -> QSet
-    requires { F.IsAlwaysCallable passes }
-    ensures { (p : ℕ → Bool) → ((v : ℕ) (b : Bool) → v < max_voters → F.post passes v b → b ≡ p v) → result ≡ set_where p }
-{
-    let mut voters = QSet::empty();
-    for voter in 0..MAX_VOTERS as u8 {
-        if passes(voter) {
-            voters.insert(voter);
-        }
-    }
-    voters
-}
+use quorum_set::set_where;
 
 /// Returns whether a voter was heard longer ago than `most`.
 fn is_silent(heard: &[u64], now: u64, most: u64, voter: u8) -> bool
@@ -55,7 +39,7 @@ pub fn silent(heard: &[u64], now: u64, most: u64) -> u64
     ensures members { members_of result ≡ silent_voters heard.now now most }
     ensures word { result ≡ word_of (silent_voters heard.now now most) }
 {
-    let silent = voters_where(|voter| is_silent(heard, now, most, voter));
+    let silent = set_where(|voter| is_silent(heard, now, most, voter));
     silent.bits()
 }
 
@@ -65,6 +49,6 @@ pub fn avoided(heard: &[u64], ends: &[u64], now: u64, most: u64) -> u64
     ensures members { members_of result ≡ avoided_voters heard.now ends.now now most }
     ensures word { result ≡ word_of (avoided_voters heard.now ends.now now most) }
 {
-    let avoided = voters_where(|voter| is_avoided(heard, ends, now, most, voter));
+    let avoided = set_where(|voter| is_avoided(heard, ends, now, most, voter));
     avoided.bits()
 }

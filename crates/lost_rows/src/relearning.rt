@@ -1,8 +1,6 @@
 //! What a voter learns whose state was lost.
 ghost use Rattle.std.specs.Prelude.{◌≡◌, ◌≤◌};
 ghost use Rattle.numbers.specs.Bounds.{max_limit};
-ghost use Rattle.session_rows.specs.Calls.{are_two, gives_way, is_split};
-ghost use Rattle.sessions.specs.Rows.{has_number};
 ghost use Rattle.lost_rows.specs.Relearned.{is_owned_by, lifted, relearned};
 
 use session_rows::{Heard, SessionRow};
@@ -16,39 +14,12 @@ use session_rows::{Heard, SessionRow};
 pub fn relearn(row: &mut SessionRow, other: &SessionRow, heard: Heard)
     ensures { row.new ≡ relearned row.old other.now heard }
 {
-    if gives_way(row, other, heard) || is_split(row, other, heard) {
+    if row.gives_way(other, heard) || row.is_split(other, heard) {
         row.learn(other, heard);
     } else if is_owned_by(other, row.session(), row.epoch()) {
         lift(row, other.base(), other.reserved());
     } else {
         lift(row, other.reserved(), other.reserved());
-    }
-}
-
-/// Returns whether the other row is newer, and its session was heard, or the one here was not.
-fn gives_way(row: &SessionRow, other: &SessionRow, heard: Heard) -> bool
-    ensures { result ≡ gives_way row.now other.now heard }
-{
-    row.epoch() < other.epoch() && (heard.there || !heard.here)
-}
-
-/// Returns whether two sessions that were heard have the number under one epoch.
-fn is_split(row: &SessionRow, other: &SessionRow, heard: Heard) -> bool
-    ensures { result ≡ is_split row.now other.now heard }
-{
-    row.epoch() == other.epoch()
-        && are_two(row.session(), other.session())
-        && heard.here
-        && heard.there
-}
-
-/// Returns whether these are two sessions.
-fn are_two(one: Option<u128>, two: Option<u128>) -> bool
-    ensures { result ≡ are_two one two }
-{
-    match (one, two) {
-        (Some(one), Some(two)) => one != two,
-        _ => false,
     }
 }
 

@@ -25,7 +25,7 @@
 //! - The premises can be met: two sessions ask, and a voter loses its state between them ([`two_sessions_ask`]).
 //! - Each call returns exactly what is defined, and what is saved is restored as it was.
 //!
-//! Depends on `lost_rows`, `sessions`, `fail_over`, `quorum_set` and `numbers`.
+//! Depends on `lost_rows`, `sessions`, `quorum_set` and `numbers`.
 #![tactic(auto)]
 
 mod laws;

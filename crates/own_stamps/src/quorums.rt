@@ -5,8 +5,7 @@ ghost use Rattle.quorum_set.specs.Words.{word_of};
 ghost use Rattle.own_stamps.specs.Stamps.{is_owner, may_ask, owners};
 
 use crate::stamps::OwnStamps;
-use fail_over::voters_where;
-use quorum_set::QSet;
+use quorum_set::{QSet, set_where};
 
 /// Returns whether a stamp is the session's own at a voter.
 fn is_owner(kept: &[OwnStamps], stamp: u64, voter: u8) -> bool
@@ -24,7 +23,7 @@ pub fn owners(kept: &[OwnStamps], stamp: u64) -> u64
     ensures members { members_of result ≡ owners kept.now stamp }
     ensures word { result ≡ word_of (owners kept.now stamp) }
 {
-    let owners = voters_where(|voter| is_owner(kept, stamp, voter));
+    let owners = set_where(|voter| is_owner(kept, stamp, voter));
     owners.bits()
 }
 

@@ -332,7 +332,7 @@ impl SessionRow {
     pub fn learn(&mut self, other: &SessionRow, heard: Heard)
         ensures { self.new ≡ learn_of self.old other.now heard }
     {
-        if self.epoch < other.epoch && (heard.there || !heard.here) {
+        if self.gives_way(other, heard) {
             self.follow(other);
         } else if self.is_split(other, heard) {
             self.drop_to(self.epoch, other.reserved);
@@ -341,8 +341,16 @@ impl SessionRow {
         }
     }
 
+    /// Returns whether the other row is newer, and its session was heard, or the one here was not.
+    pub fn gives_way(&self, other: &SessionRow, heard: Heard) -> bool
+        ensures way { result ≡ gives_way self.now other.now heard }
+        ensures newer { result ≡ true → self.now.epoch < other.now.epoch }
+    {
+        self.epoch < other.epoch && (heard.there || !heard.here)
+    }
+
     /// Returns whether two sessions that were heard have the number under one epoch.
-    fn is_split(&self, other: &SessionRow, heard: Heard) -> bool
+    pub fn is_split(&self, other: &SessionRow, heard: Heard) -> bool
         ensures { result ≡ is_split self.now other.now heard }
     {
         self.epoch == other.epoch

@@ -79,7 +79,7 @@ same_incarnation a b is =
 -- ---- which heartbeat counts
 
 -- the greater of two numbers is one of them
-one_of_max : (a b : ℕ) → (max a b ≡ a) ⊎ (max a b ≡ b)
+pub one_of_max : (a b : ℕ) → (max a b ≡ a) ⊎ (max a b ≡ b)
 one_of_max a b = elim (nat_lt a b) as (λ c. nat_lt a b ≡ c → (max a b ≡ a) ⊎ (max a b ≡ b)) [
   | true ↦ λ e. inr (grind (arith, nat_tests))
   | false ↦ λ e. inl (grind (arith, nat_tests))

@@ -30,7 +30,7 @@ same_world ttl span w (Holds session voter ∷ steps) = same_world ttl span w st
 
 -- ---- what counts, the session has
 
-end_before : (o : Option ℕ) (span end : ℕ) → end_of o span ≡ Some end → (beat : ℕ) × (o ≡ Some beat) × (end ≤ beat + span)
+pub end_before : (o : Option ℕ) (span end : ℕ) → end_of o span ≡ Some end → (beat : ℕ) × (o ≡ Some beat) × (end ≤ beat + span)
 end_before None span end is = absurd (none-some end is)
 end_before (Some beat) span end is =
     (beat, refl, (let same = same_Some (min (beat + span) 18446744073709551615) end is in omega arith))

@@ -6,9 +6,8 @@ ghost use Rattle.construct.specs.Cyclic.{shift_by, cyclic_quorums, has_repeat, i
 ghost use Rattle.construct.specs.declared.fault.ConstructFault.TheVariants.{BadSize};
 
 use crate::fault::ConstructFault;
-use crate::set::set_where;
 use numbers::MAX_VOTERS;
-use quorum_set::{Coterie, QSet};
+use quorum_set::{Coterie, QSet, set_where};
 use std::alloc::{AllocError, Global};
 use std::collections::HashSet;
 

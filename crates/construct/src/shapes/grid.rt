@@ -6,9 +6,9 @@ ghost use Rattle.construct.specs.Answers.{Gives};
 ghost use Rattle.construct.specs.Grid.{row_with_column, grid_quorums, grid_at};
 
 use crate::fault::ConstructFault;
-use crate::set::{coterie_of, set_where};
+use crate::set::coterie_of;
 use numbers::MAX_VOTERS;
-use quorum_set::{Coterie, QSet};
+use quorum_set::{Coterie, QSet, set_where};
 use std::alloc::{AllocError, Global};
 
 /// Returns the voters of row i of a grid.

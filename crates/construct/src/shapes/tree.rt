@@ -6,8 +6,8 @@ ghost use Rattle.construct.specs.Answers.{Gives};
 ghost use Rattle.construct.specs.Tree.{with_node, union, node_quorums, quorums_under, tree_at};
 
 use crate::fault::ConstructFault;
-use crate::set::{coterie_of, set_where};
-use quorum_set::{Coterie, QSet};
+use crate::set::coterie_of;
+use quorum_set::{Coterie, QSet, set_where};
 use std::alloc::{AllocError, Global};
 
 /// Returns the set of this node alone.

@@ -5,8 +5,8 @@ ghost use Rattle.construct.specs.Answers.{Gives};
 ghost use Rattle.construct.specs.Wheel.{spoke, rim, wheel_quorums, wheel_at};
 
 use crate::fault::ConstructFault;
-use crate::set::{coterie_of, set_where};
-use quorum_set::{Coterie, QSet};
+use crate::set::coterie_of;
+use quorum_set::{Coterie, QSet, set_where};
 use std::alloc::{AllocError, Global};
 
 /// Returns the hub with one voter of the rim.

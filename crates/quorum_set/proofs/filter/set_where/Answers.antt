@@ -1,7 +1,7 @@
 use Rattle.std.proofs.Common.{◌≡◌, ◌<◌, sym, ap, ◌∙◌, arith}
-use Rattle.construct.proofs.SetLemmas.{passed_below, passed_below-none, passed_below-more, passed_below-other, passed_below-all}
-use Rattle.construct.proofs.set.set_where.Goals as goal
-use Rattle.construct.proofs.set.set_where.Goals.{then-passes, else-passes}
+use Rattle.quorum_set.proofs.FilterLemmas.{passed_below, passed_below-none, passed_below-more, passed_below-other, passed_below-all}
+use Rattle.quorum_set.proofs.filter.set_where.Goals as goal
+use Rattle.quorum_set.proofs.filter.set_where.Goals.{then-passes, else-passes}
 
 pub loop-i-init : goal.loop-i-init
 loop-i-init g c = λ p agrees. c.empty-set.ensures ∙ passed_below-none p
