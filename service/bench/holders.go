@@ -1,7 +1,6 @@
 package main
 
 import (
-	"context"
 	"errors"
 	"fmt"
 	"os"
@@ -28,8 +27,11 @@ type holders struct {
 	length          time.Duration
 }
 
-// errHolders is returned if some locks are not to be had.
-var errHolders = errors.New("some locks are not to be had")
+// The errors of a measurement.
+var (
+	errHolders = errors.New("some locks are not to be had")
+	errStart   = errors.New("the voter does not serve again")
+)
 
 // atOnce is how many locks are asked for at once. The cluster is new, so each session is the first one of its number.
 const (
@@ -57,12 +59,14 @@ type holder struct {
 	beats    []toVoter
 }
 
-// toVoter is what a process says to a voter with each beat, by the first places of shares, and which of these it did not acknowledge yet.
+// toVoter is what a process says to a voter with each beat, by the first places of shares, which of these it did not acknowledge yet, and
+// which it refused.
 type toVoter struct {
-	shares map[int]wire.Ask
-	count  uint64
-	left   time.Time
-	waits  map[int]bool
+	shares  map[int]wire.Ask
+	count   uint64
+	left    time.Time
+	waits   map[int]bool
+	refused map[int]bool
 }
 
 // driver says what holders say.
@@ -77,7 +81,7 @@ type driver struct {
 	byProcess  map[string]*holder
 	bySession  map[string]*holding
 	replies    []time.Duration // how long voters took to acknowledge beats
-	unanswered int             // beats that were not acknowledged before the next one
+	unanswered int             // shares of beats that were not acknowledged before the next one
 }
 
 // measure lets all processes take their locks, and prints what voters do while these are held, and how long one takes to start then.
@@ -108,7 +112,10 @@ func (h holders) measure(cluster *local.Cluster) error {
 	if err := d.watch(cluster, h.length); err != nil {
 		return err
 	}
-	return startOf(cluster, 0)
+	if err := startOf(cluster, 0); err != nil {
+		return err
+	}
+	return d.renewAll(cluster, 0)
 }
 
 func least(a, b int) int {
@@ -136,7 +143,7 @@ func (h holders) driver(cluster *local.Cluster) (*driver, error) {
 		}
 		one := &holder{name: settings.SessionName(0, nonce), beats: make([]toVoter, voters)}
 		for v := range one.beats {
-			one.beats[v] = toVoter{shares: map[int]wire.Ask{}, waits: map[int]bool{}}
+			one.beats[v] = toVoter{shares: map[int]wire.Ask{}, waits: map[int]bool{}, refused: map[int]bool{}}
 		}
 		d.holders, d.byProcess[one.name] = append(d.holders, one), one
 		for place := 0; place < h.each; place++ {
@@ -188,13 +195,16 @@ func (l *holding) isOnAllRolls() bool {
 	return true
 }
 
-// repeat says something for each lock of which it is not done, again each second, until all are done.
+// repeat says something to voters for each lock of which it is not done, again each second, until all are done.
 func (d *driver) repeat(chunk []*holding, say func(l *holding, voter int) []byte, isDone func(*holding) bool) error {
 	for tries := 0; tries < 30; tries++ {
 		out := make([]wire.Bundle, len(d.cluster.Names()))
 		d.each(chunk, isDone, func(l *holding) {
 			for v := range out {
 				message := say(l, v)
+				if message == nil {
+					continue
+				}
 				if !out[v].HasRoom(message) {
 					d.send(v, out[v].Take())
 				}
@@ -262,6 +272,49 @@ func (d *driver) show(l *holding, _ int) []byte {
 	return wire.Ask{Kind: wire.SaysRoll, Text: l.process.name, Place: l.place}.Append(out)
 }
 
+// renewAll lets all sessions say to a voter that started what it forgot, and that they are inside, and prints how long that takes.
+func (d *driver) renewAll(cluster *local.Cluster, voter int) error {
+	var all []*holding
+	d.mutex.Lock()
+	for _, one := range d.holders {
+		one.beats[voter] = toVoter{shares: map[int]wire.Ask{}, waits: map[int]bool{}, refused: map[int]bool{}}
+		for _, l := range one.holdings {
+			l.locked, l.entries[voter] = l.locked&^(1<<voter), 0
+			all = append(all, l)
+		}
+	}
+	d.mutex.Unlock()
+	began := time.Now()
+	for rest := all; len(rest) > 0; {
+		chunk := rest[:least(atOnce, len(rest))]
+		if err := d.repeat(chunk, func(l *holding, to int) []byte { return d.renewal(l, to, voter) }, func(l *holding) bool {
+			return l.entries[voter] > 0 && l.locked&l.quorum == l.quorum
+		}); err != nil {
+			return err
+		}
+		rest = rest[len(chunk):]
+	}
+	took := time.Since(began).Seconds()
+	time.Sleep(d.cluster.TTL.Duration) // its quiet time
+	counts, err := numbers(cluster.Listen[voter : voter+1])
+	if err == nil {
+		fmt.Printf("all sessions said what it had forgotten in %.1f s; %.0f votes are held after its quiet time\n", took, counts["locks_held"])
+	}
+	return err
+}
+
+// renewal returns what a session says to the voter that started, nil for others.
+func (d *driver) renewal(l *holding, to, started int) []byte {
+	if to != started {
+		return nil
+	}
+	out := d.show(l, to)
+	if l.quorum>>to&1 == 1 {
+		out = append(out, fmt.Sprintf("%s request %d %d %d inside\n", l.lock, l.number, to, 1)...)
+	}
+	return out
+}
+
 // listen takes what voters say to any session.
 func (d *driver) listen() {
 	messages, err := d.link.Listen("qlock." + d.cluster.ID + ".c.>")
@@ -297,6 +350,8 @@ func (d *driver) hear(voter int, session string, lines []byte) {
 		switch told, is := wire.ReadTold(line); {
 		case process != nil && is && told.Kind == wire.Beaten:
 			d.beaten(&process.beats[voter], told)
+		case process != nil && is && told.Kind == wire.Unbeaten:
+			process.beats[voter].refused[told.Place] = true
 		case l == nil:
 		case string(lock) == l.lock:
 			if string(wire.ReadLine(line).Word) == "locked" {
@@ -350,7 +405,7 @@ func (d *driver) beat(ended <-chan struct{}) {
 	}
 }
 
-// beatTo sends the beat of a process to a voter. Of those whose last beat was not acknowledged the sessions say their places again.
+// beatTo sends the beat of a process to a voter. The sessions of shares that the voter refused say their places again.
 func (d *driver) beatTo(one *holder, voter int) {
 	d.mutex.Lock()
 	defer d.mutex.Unlock()
@@ -359,14 +414,15 @@ func (d *driver) beatTo(one *holder, voter int) {
 		return
 	}
 	var again wire.Bundle
-	for first := range to.waits {
-		d.unanswered++
+	d.unanswered += len(to.waits)
+	to.waits = map[int]bool{}
+	for first := range to.refused {
 		for _, l := range one.holdings[first:least(first+wire.RollShare, len(one.holdings))] {
 			if again.HasRoom(nil) && l.entries[voter] > 0 {
 				again.Add(d.show(l, voter))
 			}
 		}
-		delete(to.waits, first)
+		delete(to.refused, first)
 	}
 	if again.Count() > 0 {
 		d.send(voter, again.Take())
@@ -398,9 +454,13 @@ func (d *driver) watch(cluster *local.Cluster, length time.Duration) error {
 		return err
 	}
 	for v := range after {
+		memory, err := cluster.Voters[v].Memory()
+		if err != nil {
+			return err
+		}
 		more := func(key string) float64 { return (after[v][key] - before[v][key]) / seconds }
-		fmt.Printf("%-5s %.0f votes are held, %.0f sessions; %.0f MB of memory, %.0f MB of its file; %.0f messages a second, %.1f saves, %.0f %% of a processor, %.0f reminders\n",
-			d.plan.Names[v], after[v]["locks_held"], float64(len(d.bySession)), after[v]["resident_memory_bytes"]/1e6, after[v]["file_bytes"]/1e6,
+		fmt.Printf("%-5s %.0f votes are held, %d sessions; %.0f MB of its own memory, %.0f MB of its file; %.0f messages a second, %.1f saves, %.0f %% of a processor, %.0f reminders\n",
+			d.plan.Names[v], after[v]["locks_held"], len(d.bySession), float64(memory.Own)/1e6, after[v]["file_bytes"]/1e6,
 			more("messages_received_total"), more("commit_seconds_count"), 100*more("cpu_seconds_total"), more("reminders_total"))
 	}
 	d.mutex.Lock()
@@ -429,21 +489,26 @@ func (d *driver) counts(cluster *local.Cluster) (all []map[string]float64, err e
 	return all, nil
 }
 
-// startOf kills a voter, and prints how long its next start takes.
+// startOf kills a voter, and prints how long it is until the next start serves.
 func startOf(cluster *local.Cluster, voter int) error {
-	cluster.Voters[voter].Kill()
+	one := cluster.Voters[voter]
+	one.Kill()
 	began := time.Now()
-	if err := cluster.Voters[voter].Start(); err != nil {
+	if err := one.Start(); err != nil {
 		return err
 	}
-	ctx, cancel := context.WithTimeout(context.Background(), 2*time.Minute)
-	defer cancel()
-	for ; ctx.Err() == nil; time.Sleep(10 * time.Millisecond) {
-		if counts, err := numbers(cluster.Listen[voter : voter+1]); err == nil && counts["locks"] > 0 {
-			fmt.Printf("%s starts in %.1f s, with %.0f locks, in %.0f MB of memory\n", cluster.Voters[voter].Name, time.Since(began).Seconds(),
-				counts["locks"], counts["resident_memory_bytes"]/1e6)
-			return nil
-		}
+	if !one.Says("event=serve", 2*time.Minute) {
+		return errStart
 	}
-	return ctx.Err()
+	took := time.Since(began).Seconds()
+	counts, err := numbers(cluster.Listen[voter : voter+1])
+	if err != nil {
+		return err
+	}
+	memory, err := one.Memory()
+	if err == nil {
+		fmt.Printf("%s was killed, and serves again after %.1f s, with %.0f locks, in %.0f MB of its own memory\n", one.Name, took, counts["locks"],
+			float64(memory.Own)/1e6)
+	}
+	return err
 }

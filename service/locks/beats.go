@@ -6,7 +6,12 @@ package locks
 // roll of the process. The voter made an entry for it, and told it the number of that (package voter, beats.go). The beat names the places,
 // and the sum of these numbers. The voter replies only if it heard all of them, and each is as it was when its entry was made. To each
 // session that reply is what the voter said to its last heartbeat, with the count of the one that it left out. So the rest of a session knows
-// nothing of beats: what is not acknowledged, for whatever reason, is sent by the session itself the next time.
+// nothing of beats.
+//
+// Where it is not so the voter says that, too (`unbeaten`), and these sessions send heartbeats of their own the next time. What it does not
+// reply to was lost, or the voter is slow: then they join the next beat. So a voter that stood still for a while hears beats when it goes on,
+// and not a heartbeat of each session. Voters of older programs say nothing where it is not so: what they do not acknowledge, each session
+// sends itself the next time.
 
 import (
 	"sort"
@@ -111,13 +116,14 @@ func (b *beat) message(cluster, process string) []byte {
 }
 
 // joins lets the session join the beat to a voter in place of a heartbeat of its own, and returns whether it does. It does if its last
-// one was acknowledged, and the next one would say nothing new, and change nothing that the voter has of it.
+// one was acknowledged, or was in a beat to which no reply came, and the next one would say nothing new, and change nothing that the voter
+// has of it.
 func (c *Client) joins(voter int) bool {
 	p := &c.peers[voter]
 	switch said := p.opened; {
 	case c.bundles == nil || !c.mayWait || c.draining || p.entry == 0 || p.stale || !p.answers || !p.accepts || len(c.out[voter]) > 0:
 		return false
-	case said.First != c.header.Epoch || said.Fourth+1 != c.header.Seq || said.Third < c.header.Reserved || said.Fifth != c.requestsAt(voter):
+	case said.First != c.header.Epoch || c.isUnacknowledged(voter) || said.Third < c.header.Reserved || said.Fifth != c.requestsAt(voter):
 		return false
 	case p.since != c.oldest() || c.owesNote(voter):
 		return false
@@ -129,12 +135,19 @@ func (c *Client) joins(voter int) bool {
 	return p.joined
 }
 
+// isUnacknowledged returns whether a voter has to hear a heartbeat of the session itself, as it did not acknowledge the last one. If that was
+// in a beat, and the voter would have said so if it refused that, the next beat will do.
+func (c *Client) isUnacknowledged(voter int) bool {
+	p := &c.peers[voter]
+	return p.opened.Fourth+1 != c.header.Seq && !(p.joined && p.refuses)
+}
+
 // sayRoll says the session's place on the roll of its process to a voter that reads bundles, with a heartbeat, until the voter says that it
-// made an entry. One of an older program never does: it hears less and less of it. If the last heartbeat was not acknowledged, and it was
-// in a beat, the entry may be another one by now.
+// made an entry. One of an older program never does: it hears less and less of it. If the last heartbeat was in a beat, and was not
+// acknowledged, the entry may be another one by now.
 func (c *Client) sayRoll(voter int) {
 	p := &c.peers[voter]
-	if p.entry > 0 && p.joined && p.opened.Fourth+1 != c.header.Seq {
+	if p.entry > 0 && p.joined && c.isUnacknowledged(voter) {
 		c.forgetRoll(voter)
 	}
 	if p.joined = false; c.bundles == nil || c.box.place < 0 || !p.accepts || !p.bundles || p.entry > 0 {
@@ -204,8 +217,8 @@ func (b *bundles) takeBeat(to *leaving) {
 	to.beat = nil
 }
 
-// beaten returns the sessions of which a voter says that it heard them all, and forgets them. It returns none if that was said before.
-func (b *bundles) beaten(voter int, told wire.Told) (sessions []joined) {
+// joinedTo returns the sessions of the share of a beat to which a voter replies, and forgets them. It returns none if it did so before.
+func (b *bundles) joinedTo(voter int, told wire.Told) (sessions []joined) {
 	b.mutex.Lock()
 	defer b.mutex.Unlock()
 	for _, one := range b.to[voter].sent {
@@ -216,35 +229,54 @@ func (b *bundles) beaten(voter int, told wire.Told) (sessions []joined) {
 	return sessions
 }
 
-// hearBeat takes what a voter says to the process: which sessions of a beat it heard. To each of them it is a reply to a heartbeat, with the
-// other lines of the message. It returns whether it is that.
+// hearBeat takes what a voter says to the process: which sessions of a beat it heard. To each of them it is a reply to a heartbeat, and to
+// those of which the voter says that it did not, it is that. Either comes with the other lines of the message. It returns whether it is a
+// reply to a beat.
 func (s *shards) hearBeat(m transport.Message) (isReply bool) {
 	h, lines, err := wire.Read(m.Data)
 	if err != nil || h.Kind != wire.FromVoter || h.Number >= qlock.MaxVoters || s.bundles == nil {
 		return false
 	}
-	sessions, rest, isReply := s.bundles.allBeaten(h.Number, lines)
-	for _, one := range sessions {
-		h.Lapses = one.lapses
-		if message, err := one.opened.Append(append(h.Append(nil), rest...)); err == nil {
-			s.pass(one.session, transport.Message{Mailbox: m.Mailbox, Data: wire.AddressTo(one.session, message)})
+	replies, rest := repliesIn(lines)
+	for _, one := range replies {
+		for _, session := range s.bundles.joinedTo(h.Number, one) {
+			h.Lapses = session.lapses
+			if message, err := session.hears(one, append(h.Append(nil), rest...)); err == nil {
+				s.pass(session.session, transport.Message{Mailbox: m.Mailbox, Data: wire.AddressTo(session.session, message)})
+			}
 		}
 	}
-	return isReply
+	return len(replies) > 0
 }
 
-// allBeaten returns the sessions of which a voter says in a message that it heard them, the other lines, and whether it said so of any.
-func (b *bundles) allBeaten(voter int, lines []byte) (sessions []joined, rest []byte, isReply bool) {
+// repliesIn returns what a voter says in a message to beats, and the other lines.
+func repliesIn(lines []byte) (replies []wire.Told, rest []byte) {
 	for {
 		lock, line, behind, found := wire.Next(lines)
 		if !found {
-			return sessions, rest, isReply
+			return replies, rest
 		}
-		if told, is := wire.ReadTold(line); string(lock) == "." && is && told.Kind == wire.Beaten {
-			sessions, isReply = append(sessions, b.beaten(voter, told)...), true
+		told, is := wire.ReadTold(line)
+		if string(lock) == "." && is && (told.Kind == wire.Beaten || told.Kind == wire.Unbeaten) {
+			replies = append(replies, told)
 		} else {
 			rest = append(rest, lines[:len(lines)-len(behind)]...)
 		}
 		lines = behind
+	}
+}
+
+// hears appends what a reply to a beat is to a session that joined it.
+func (j joined) hears(reply wire.Told, out []byte) ([]byte, error) {
+	if reply.Kind == wire.Unbeaten {
+		return reply.Append(out), nil
+	}
+	return j.opened.Append(out)
+}
+
+// hearUnbeaten notes that a voter does not have the session as its entry says, or that of another session of its share.
+func (c *Client) hearUnbeaten(voter int) {
+	if !c.peers[voter].stale {
+		c.forgetRoll(voter)
 	}
 }

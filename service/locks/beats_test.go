@@ -136,6 +136,42 @@ func TestWhoJoinsNoBeat(t *testing.T) {
 	}
 }
 
+// A voter that says which beats it refuses, and does not reply to one, is slow, or the beat was lost: the session joins the next one. It beats
+// by itself once it hears that the beat was refused, and that of a start that was not heard to say so.
+func TestSilenceIsNoRefusal(t *testing.T) {
+	refusing := func() *table {
+		c := onRoll(t)
+		for v := range c.peers {
+			c.says(v, ". refuses\n")
+		}
+		for beat := 0; beat < 3; beat++ {
+			if own := c.isDueNow(); own != nil {
+				t.Fatalf("behind %d beats without a reply voters %v get heartbeats", beat, own)
+			}
+			c.beatsLeave(1)
+		}
+		return c
+	}
+	c := refusing()
+	if !c.hearsBeat(1, ". beaten 8 0\n") || c.peers[1].opened.Fourth != c.header.Seq {
+		t.Errorf("the last beat is not acknowledged: %+v", c.peers[1].opened)
+	}
+	c = refusing()
+	for _, count := range []int{5, 8} {
+		if !c.hearsBeat(1, fmt.Sprintf(". unbeaten %d 0\n", count)) {
+			t.Errorf("the session does not hear that beat %d was refused", count)
+		}
+	}
+	if own := c.isDueNow(); len(own) != 1 || own[0] != 1 || !bytes.Contains(c.out[1], []byte(". roll p 5\n")) {
+		t.Errorf("behind a beat that was refused voters %v get heartbeats: %q", own, c.out[1])
+	}
+	c = refusing()
+	hear(c.Client, c.ofVoter(0, 1, 0), ". bundles\n")
+	if c.peers[0].refuses {
+		t.Error("a voter that started, maybe by an older program, refuses beats")
+	}
+}
+
 // ofVoter returns the header of a voter's message.
 func (c *table) ofVoter(voter int, start, lapses uint64) wire.Header {
 	return wire.Header{Cluster: "test", Coterie: c.plan.mark, Kind: wire.FromVoter, Number: voter, Name: fmt.Sprint("identity-", voter),

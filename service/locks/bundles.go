@@ -168,7 +168,7 @@ func (c *Client) hearBundles(voter int) {
 func (c *Client) forgetBundles(voter int) {
 	p := &c.peers[voter]
 	c.forgetRoll(voter)
-	if p.bundles, p.processes = false, 0; c.bundles != nil {
+	if p.bundles, p.processes, p.refuses = false, 0, false; c.bundles != nil {
 		c.bundles.heard(voter, p.voterStart)
 	}
 }

@@ -92,11 +92,12 @@ type peer struct {
 	bundles   bool // it reads bundles, and knows the session's process
 	processes int  // how many heartbeats it heard without saying so
 
-	opened qlock.VoterSays // what it said last to a heartbeat
-	entry  uint64          // the number of the session's entry on the roll of its process there, 0 if it said none
-	joined bool            // the last heartbeat to it was in a beat
-	since  uint64          // the oldest plan of which a request is left, as the last heartbeat said that was in none
-	rolls  int             // how many heartbeats it heard without making an entry
+	opened  qlock.VoterSays // what it said last to a heartbeat
+	entry   uint64          // the number of the session's entry on the roll of its process there, 0 if it said none
+	joined  bool            // the last heartbeat to it was in a beat
+	refuses bool            // it says which beats it does not acknowledge
+	since   uint64          // the oldest plan of which a request is left, as the last heartbeat said that was in none
+	rolls   int             // how many heartbeats it heard without making an entry
 }
 
 // brought is a number that a voter chose for a session, and claimed for it. Without an epoch it is none.
@@ -582,7 +583,7 @@ func (s *session) forgetSaid(voter int) {
 	s.stamps[voter].Forget()
 	p.accepts, p.taken, p.base, p.claimed = false, false, 0, 0
 	p.noted, p.notes = false, 0
-	p.bundles, p.processes = false, 0
+	p.bundles, p.processes, p.refuses = false, 0, false
 	p.opened = qlock.VoterSays{}
 	s.forgetRoll(voter)
 	p.brought = brought{}

@@ -286,8 +286,12 @@ func (c *Client) hearTold(voter int, told wire.Told) {
 		p.noted = true
 	case told.Kind == wire.Bundles:
 		c.hearBundles(voter)
+	case told.Kind == wire.SaysUnbeaten:
+		p.refuses = true
 	case told.Kind == wire.Rolled:
 		c.hearRoll(voter, told)
+	case told.Kind == wire.Unbeaten:
+		c.hearUnbeaten(voter)
 	case told.Kind == wire.Turned:
 		c.hearTurned(voter, told)
 	case told.Kind == wire.Sessions:

@@ -82,7 +82,7 @@ func (d *Daemon) ask(l *letter, speaker qlock.Standing, line []byte, now time.Ti
 	case ask.Kind == wire.SaysProcess:
 		seat := l.shard.seat(l.Number)
 		seat.process = ofProcess{seat.name, ask.Text}
-		d.put(l.Name, wire.Told{Kind: wire.Bundles}.Append(d.out[l.Name]))
+		d.put(l.Name, wire.Told{Kind: wire.SaysUnbeaten}.Append(wire.Told{Kind: wire.Bundles}.Append(d.out[l.Name])))
 	case ask.Kind == wire.SaysRoll:
 		d.enroll(l, ask)
 	case ask.Kind == wire.Beats:

@@ -14,8 +14,8 @@ import (
 // tells its number. Numbers of entries grow. From then on the process may send a beat in place of heartbeats of its sessions that have
 // nothing else to say: it names places, and the sum of the entries' numbers as the sessions heard them. An entry that was made later has a
 // greater number, so the sum is right only if each session heard of the entry that is there now. If besides each session is as it was when
-// its entry was made, the voter says that it heard them all. Else it says nothing, and these sessions send heartbeats of their own, and say
-// their places again. Entries are in memory alone.
+// its entry was made, the voter says that it heard them all. Else it says that it is not so, and these sessions send heartbeats of their own,
+// and say their places again. Entries are in memory alone.
 
 // roll has the entries of a process, by shares of their places.
 type roll struct {
@@ -94,10 +94,7 @@ func isBeat(lines []byte) bool { return bytes.HasPrefix(lines, []byte(". beat ")
 
 // beat takes a beat of a process. It waits for no turn: it costs less than the heartbeats that it is in place of.
 func (d *Daemon) beat(h wire.Header, lines []byte, now time.Time) {
-	r := d.rolls[h.Name]
-	if r == nil {
-		return
-	}
+	r := d.rolls[h.Name] // nil if no session is on it
 	d.hears(h)
 	for shares := 0; shares < wire.MostRoll/wire.RollShare; shares++ {
 		_, line, rest, found := wire.Next(lines)
@@ -105,9 +102,11 @@ func (d *Daemon) beat(h wire.Header, lines []byte, now time.Time) {
 		if !found || err != nil || ask.Kind != wire.Beats {
 			break
 		}
-		if lines = rest; d.hearShare(r, ask, now) {
-			d.put(h.Name, wire.Told{Kind: wire.Beaten, ID: h.Seq, Place: ask.Place}.Append(d.out[h.Name]))
+		reply := wire.Told{Kind: wire.Unbeaten, ID: h.Seq, Place: ask.Place}
+		if lines = rest; r != nil && d.hearShare(r, ask, now) {
+			reply.Kind = wire.Beaten
 		}
+		d.put(h.Name, reply.Append(d.out[h.Name]))
 	}
 	if len(lines) > 0 {
 		d.m.refused.Inc()

@@ -75,7 +75,7 @@ func TestBeatIsAHeartbeatOfMany(t *testing.T) {
 	}
 }
 
-// A beat that is not right in all is not acknowledged. Those for whom it is right are heard.
+// A beat that is not right in all is refused. Those for whom it is right are heard.
 func TestBeatsThatAreNotAcknowledged(t *testing.T) {
 	for name, change := range map[string]func(t *testing.T, d *Daemon, entries map[int]uint64){
 		"it names a place that nobody has":      func(_ *testing.T, _ *Daemon, entries map[int]uint64) { entries[7] = 0 },
@@ -99,7 +99,7 @@ func TestBeatsThatAreNotAcknowledged(t *testing.T) {
 		change(t, d, entries)
 		d.heardAgo(4, time.Minute)
 		for i := 0; i < 2; i++ {
-			if reply := d.beats("jobs", "p", beatOf(entries)); reply != "" {
+			if reply := d.beats("jobs", "p", beatOf(entries)); reply != ". unbeaten 7 0\n" {
 				t.Errorf("%s: the process hears %q", name, reply)
 			}
 		}
@@ -123,7 +123,7 @@ func TestBeatsOfStrangers(t *testing.T) {
 	entries := map[int]uint64{5: rolled(t, d, "jobs", 1, "p", 5)}
 	d.heardAgo(3, time.Minute)
 	for _, one := range [][2]string{{"web", "p"}, {"jobs", "q"}, {"jobs", "session-1"}} {
-		if reply := d.beats(one[0], one[1], beatOf(entries)); reply != "" || d.wasHeard(1) {
+		if reply := d.beats(one[0], one[1], beatOf(entries)); reply != ". unbeaten 7 0\n" || d.wasHeard(1) {
 			t.Errorf("%v hears %q", one, reply)
 		}
 	}

@@ -56,7 +56,7 @@ const (
 // Told is what a voter says to an Ask.
 type Told struct {
 	Kind         ToldKind
-	ID           uint64 // of the question, 0 of HasVote that nobody asked for; of HasChanged that of Watches; of Beaten the count of the beat
+	ID           uint64 // of the question, 0 of HasVote that nobody asked for; of HasChanged that of Watches; of Beaten and Unbeaten the count of the beat
 	Lock         string
 	Top          uint64 // of Turned and HasTurn: up to which number the voter skipped
 	Waiting      uint64 // of HasVote and HasChanged: the numbers of those that wait, one bit for each
@@ -72,7 +72,7 @@ type Told struct {
 	Waits        uint64 // of Sessions: for how many milliseconds a request has waited at most
 	Ahead        uint64 // of Sessions: how many sessions wait for a number before this one
 	Highest      uint64 // of Sessions, where some wait: the highest stamp that any session reserved
-	Place        int    // of Rolled and Beaten: as the Ask has it
+	Place        int    // of Rolled, Beaten and Unbeaten: as the Ask has it
 	Entry        uint64 // of Rolled: the number of the entry, above those of all entries before
 }
 
@@ -81,19 +81,21 @@ type ToldKind byte
 
 // The kinds of Told.
 const (
-	NotTold    ToldKind = iota
-	Noted               // noted: the voter has the session's note
-	HasVote             // has ID LOCK WAITING [NUMBER STAMP MS USER [NOTE]]
-	IsListed            // listed ID FROM NEXT
-	Sessions            // sessions OPEN SILENT WAITS [AHEAD HIGHEST], behind the reply to hello
-	Turned              // turned LOCK STAMP TOP
-	Free                // free: a number is, for who waits for one
-	Wanted              // wanted: somebody waits for a number
-	Bundles             // bundles: the voter reads bundles, and knows the session's process
-	HasTurn             // skipped ID LOCK STAMP TOP: who has the vote asked for its turn. It is in front of HasVote, and older clients ignore it
-	HasChanged          // holder ID LOCK .., as HasVote: another one has the vote, or its note is another one, for who watches the lock
-	Rolled              // rolled PLACE ENTRY: the session is on the roll of its process
-	Beaten              // beaten ID PLACE: the voter heard all sessions that the beat was for, and each entry is as it was made
+	NotTold      ToldKind = iota
+	Noted                 // noted: the voter has the session's note
+	HasVote               // has ID LOCK WAITING [NUMBER STAMP MS USER [NOTE]]
+	IsListed              // listed ID FROM NEXT
+	Sessions              // sessions OPEN SILENT WAITS [AHEAD HIGHEST], behind the reply to hello
+	Turned                // turned LOCK STAMP TOP
+	Free                  // free: a number is, for who waits for one
+	Wanted                // wanted: somebody waits for a number
+	Bundles               // bundles: the voter reads bundles, and knows the session's process
+	HasTurn               // skipped ID LOCK STAMP TOP: who has the vote asked for its turn. It is in front of HasVote, and older clients ignore it
+	HasChanged            // holder ID LOCK .., as HasVote: another one has the vote, or its note is another one, for who watches the lock
+	Rolled                // rolled PLACE ENTRY: the session is on the roll of its process
+	Beaten                // beaten ID PLACE: the voter heard all sessions that the beat was for, and each entry is as it was made
+	Unbeaten              // unbeaten ID PLACE: it is not so, and the sessions have to send heartbeats of their own. Older clients ignore it
+	SaysUnbeaten          // refuses: the voter says Unbeaten, so what it does not reply to was lost, or comes late. Older clients ignore it
 )
 
 // IsNote returns whether a text may be a note: 1 to 128 printable bytes of ASCII, with no space at either end.
@@ -210,6 +212,10 @@ func (t Told) Append(out []byte) []byte {
 		out = withNumber(withNumber(append(out, ". rolled"...), uint64(t.Place)), t.Entry)
 	case Beaten:
 		out = withNumber(withNumber(append(out, ". beaten"...), t.ID), uint64(t.Place))
+	case Unbeaten:
+		out = withNumber(withNumber(append(out, ". unbeaten"...), t.ID), uint64(t.Place))
+	case SaysUnbeaten:
+		out = append(out, ". refuses"...)
 	}
 	return append(out, '\n')
 }
@@ -255,8 +261,11 @@ func ReadTold(line []byte) (t Told, ok bool) {
 		t = Told{Kind: Rolled, Place: w.place(), Entry: w.number()}
 		w.isWrong = w.isWrong || t.Entry == 0
 	case "beaten":
-		t = Told{Kind: Beaten, ID: w.number(), Place: w.place()}
-		w.isWrong = w.isWrong || t.Place%RollShare != 0
+		t = w.reply(Beaten)
+	case "unbeaten":
+		t = w.reply(Unbeaten)
+	case "refuses":
+		t = Told{Kind: SaysUnbeaten}
 	default:
 		return Told{}, false
 	}
@@ -319,6 +328,13 @@ func (w *words) place() int {
 	place := w.number()
 	w.isWrong = w.isWrong || place >= MostRoll
 	return int(place % MostRoll)
+}
+
+// reply reads what a voter says to a beat.
+func (w *words) reply(kind ToldKind) Told {
+	t := Told{Kind: kind, ID: w.number(), Place: w.place()}
+	w.isWrong = w.isWrong || t.Place%RollShare != 0
+	return t
 }
 
 // lock reads the name of a lock.

@@ -10,12 +10,12 @@ import (
 var asks = []string{"note", "note m0 17 root nightly", "about orders 17 m0 1 root x", "who 1 orders", "list 3 0", "list 3 512 ord", "noted",
 	"has 1 orders 0", "has 1 orders 18446744073709551615 63 17 900 jobs", "has 0 orders 4 0 1 2 - m0 17 root nightly run", "listed 3 0 512",
 	"sessions 64 900 0", "for orders", "want 64 orders", "want 64", "want 0", "process jobs-77", "bundles", "watch 3 orders", "skipped 3 orders 5 77",
-	"holder 3 orders 4 0 1 2 - m0 17 root nightly", "roll jobs-77 65535", "beat 64 18446744073709551615 7", "rolled 65535 1", "beaten 7 65472", "",
+	"holder 3 orders 4 0 1 2 - m0 17 root nightly", "roll jobs-77 65535", "beat 64 18446744073709551615 7", "rolled 65535 1", "beaten 7 65472", "unbeaten 7 65472", "refuses", "",
 	"skipped 3 orders 5", "skipped orders 5 77", "skipped 3 orders 5 077", "watch", "watch 3", "watch 03 orders", "watch 3 orders ", "watch 3 orders x",
 	"holder 3 orders", "holder 3 orders 0 64 1 1 -",
 	"want", "want ", "want 64 ", "want 64 .x", "want 064", "want 64 orders 1", "want orders", "want 0 orders",
 	"roll", "roll jobs", "roll jobs 65536", "roll jobs 01", "roll .x 1", "roll jobs 1 1", "beat 64 0 7", "beat 63 1 7", "beat 65536 1 7", "beat 0 1",
-	"beat 0 1 7 1", "rolled 1", "rolled 1 0", "rolled 65536 1", "beaten 7", "beaten 7 1", "beaten 7 65536", "beaten 7 64 1",
+	"beat 0 1 7 1", "rolled 1", "rolled 1 0", "rolled 65536 1", "beaten 7", "beaten 7 1", "beaten 7 65536", "beaten 7 64 1", "unbeaten 7", "unbeaten 7 1", "unbeaten 7 64 1", "refuses 1",
 	"process", "process ", "process a b", "process .x", "bundles 1", " ", "for", "for ", "for .x", "for orders ", "for orders 1", "note ", "note  x", "note x ", "about orders 17", "who 1", "who 01 orders", "who 1 orders ", "list 3", "has 1 orders 0 64 1 1 -",
 	"has 1 orders 0 1 1 1", "listed 3 0", "hello", "note " + strings.Repeat("x", 129)}
 
@@ -54,7 +54,7 @@ func TestAsks(t *testing.T) {
 	for i, line := range asks {
 		ask, err := ReadAsk([]byte(line))
 		_, ok := ReadTold([]byte(line))
-		if isRight := ask.Kind != NoAsk && err == nil || ok; isRight != (i < 25) {
+		if isRight := ask.Kind != NoAsk && err == nil || ok; isRight != (i < 27) {
 			t.Errorf("%q: %+v, %v, %v", line, ask, err, ok)
 		}
 	}
