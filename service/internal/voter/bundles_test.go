@@ -112,10 +112,10 @@ func TestJunkOfABundleIsNotKept(t *testing.T) {
 	for i := range bundle {
 		bundle[i] = 'x'
 	}
-	if size := d.inbox.sizes[1]; d.inbox.count != 2 || size != 2*len(short) {
+	if size := d.inbox.senders[1].size; d.inbox.count != 2 || size != 2*len(short) {
 		t.Fatalf("%d messages wait, of %d bytes", d.inbox.count, size)
 	}
-	for _, l := range d.inbox.queues[1] {
+	for _, l := range d.inbox.senders[1].letters {
 		if string(l.lines) != ". open 0\n" || cap(l.lines) > 2*len(short) {
 			t.Errorf("%q is in memory with %d bytes", l.lines, cap(l.lines))
 		}

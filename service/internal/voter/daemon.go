@@ -112,7 +112,7 @@ type Daemon struct {
 	granted         uint64       // grants given since then
 	returns         uint64       // of the link, as they were logged
 	away            time.Time    // when there was a connection last, or it was logged that there is none
-	lively          atomic.Int64 // when the loop last went round
+	lively          atomic.Int64 // when the loop last went round, as a moment.Moment
 	marked          atomic.Int64 // when the last marker left that came back, since the start, whatever the clock on the wall does
 	waits           atomic.Int64 // messages in the inbox
 	noRoom          atomic.Uint64
@@ -152,6 +152,7 @@ func OpenIn(around Surroundings, own *config.Voter, cluster *config.Cluster, car
 	if d.restsFor < 2*cluster.TTL.Duration {
 		d.restsFor = 2 * cluster.TTL.Duration
 	}
+	d.lively.Store(int64(moment.Never))
 	if err := d.begin(); err != nil {
 		state.disk.Close()
 		return nil, err

@@ -171,8 +171,8 @@ func (d *Daemon) learnFloor(shard int, floor Floor, now time.Time) {
 
 // has returns whether a message of a session of a shard waits.
 func (b *inbox) has(s *shard) bool {
-	for _, queue := range b.queues {
-		for _, l := range queue {
+	for _, from := range b.senders {
+		for _, l := range from.letters {
 			if l.shard == s {
 				return true
 			}

@@ -10,6 +10,7 @@ import (
 	"time"
 
 	"calvundek.example/service/internal/event"
+	"calvundek.example/service/internal/moment"
 	"calvundek.example/service/internal/wire"
 	"calvundek.example/service/qlock"
 	"calvundek.example/service/transport"
@@ -63,7 +64,7 @@ func (d *Daemon) Turn() (until time.Time, err error) {
 		d.log.Write(event.Error, "save-failed", "why", err)
 		return now, err
 	}
-	d.lively.Store(now.UnixNano())
+	d.lively.Store(int64(moment.Of(now)))
 	switch until = d.next; {
 	case d.inbox.count > 0 || len(d.watches.due) > 0:
 		until = now // the rest of the last turn waits
@@ -180,9 +181,14 @@ func (d *Daemon) look(now time.Time) {
 	}
 }
 
+// silentFor returns how long ago the loop last went round.
+func (d *Daemon) silentFor(now time.Time) time.Duration {
+	return now.Sub(moment.Moment(d.lively.Load()).Time())
+}
+
 // IsLively returns whether the loop went round within some time.
 func (d *Daemon) IsLively(within time.Duration) bool {
-	return d.now().Sub(time.Unix(0, d.lively.Load())) < within
+	return d.silentFor(d.now()) < within
 }
 
 // commit saves all that changed, in one transaction, and then sends. What may be lost in a crash

@@ -4,6 +4,8 @@ import (
 	"crypto/hmac"
 	"crypto/sha256"
 	"fmt"
+	"math"
+	"sort"
 	"strconv"
 	"time"
 
@@ -19,6 +21,7 @@ const (
 	mostOut      = 1 << 20               // bytes that one turn makes to be sent
 	share        = 64                    // lines of one sender before the next one's turn
 	mostWaiting  = 1 << 20               // bytes of one sender that wait
+	mostOfAll    = 1 << 26               // bytes of all senders that wait, and for the first message of a sender twice as many
 	mostMessage  = wire.MostBytes + 4096 // bytes of one message
 	mostControls = 16                    // lines of control in one message
 	mostLine     = 256                   // bytes of one line
@@ -50,49 +53,73 @@ func (l *letter) once(word string) bool {
 	return true
 }
 
-// inbox has the messages of clients that wait: those of each number's sessions apart, and behind
-// them those of anybody else. Whoever sends much waits for himself alone, and delays no other one's
-// heartbeats.
+// inbox has the messages of clients that wait: those of each number's sessions apart, in each shard, and behind them those of anybody else.
+// Whoever sends much waits for himself alone, and delays no other one's heartbeats. The zero value has none.
 type inbox struct {
-	queues [qlock.MaxClients + 1][]*letter
-	sizes  [qlock.MaxClients + 1]int
-	count  int
-	turn   int // whose turn it is
+	senders map[int]*sender // of which a message waits, by the keys of their numbers
+	order   []int           // these keys, in their order
+	size    int
+	count   int
+	turn    int // whose turn it is
 }
 
-// strangers is the queue of those that have no number here.
-const strangers = qlock.MaxClients
+// sender has the messages of one sender that wait.
+type sender struct {
+	letters []*letter
+	size    int
+}
+
+// strangers is the key of those that have no number here: it is behind all others.
+const strangers = math.MaxInt
 
 // put puts a message behind those of its sender, and returns false if there is no room.
-func (b *inbox) put(queue int, l *letter) bool {
-	if b.sizes[queue]+l.size > mostWaiting && len(b.queues[queue]) > 0 {
+func (b *inbox) put(key int, l *letter) bool {
+	from := b.senders[key]
+	switch {
+	case from == nil && b.size+l.size > 2*mostOfAll, from != nil && (from.size+l.size > mostWaiting || b.size+l.size > mostOfAll):
 		return false
+	case from == nil:
+		from = b.add(key)
 	}
-	b.queues[queue] = append(b.queues[queue], l)
-	b.sizes[queue] += l.size
-	b.count++
+	from.letters = append(from.letters, l)
+	from.size, b.size, b.count = from.size+l.size, b.size+l.size, b.count+1
 	return true
 }
 
-// next returns the first message of the next sender of which one waits, nil if none does.
-func (b *inbox) next() *letter {
-	for i := 0; b.count > 0 && i < len(b.queues); i++ {
-		if b.turn = (b.turn + 1) % len(b.queues); len(b.queues[b.turn]) > 0 {
-			return b.queues[b.turn][0]
-		}
+// add adds a sender.
+func (b *inbox) add(key int) *sender {
+	if b.senders == nil {
+		b.senders = map[int]*sender{}
 	}
-	return nil
+	one, place := new(sender), sort.SearchInts(b.order, key)
+	b.order = append(b.order, 0)
+	copy(b.order[place+1:], b.order[place:])
+	b.senders[key], b.order[place] = one, key
+	return one
+}
+
+// next returns the first message of the next sender, nil if none waits.
+func (b *inbox) next() *letter {
+	if b.count == 0 {
+		return nil
+	}
+	place := sort.Search(len(b.order), func(i int) bool { return b.order[i] > b.turn })
+	b.turn = b.order[place%len(b.order)]
+	return b.senders[b.turn].letters[0]
 }
 
 // done takes the message out that next returned.
 func (b *inbox) done() {
-	queue := b.queues[b.turn]
-	b.sizes[b.turn] -= queue[0].size
-	queue[0] = nil
-	if b.queues[b.turn] = queue[1:]; len(queue) == 1 {
-		b.queues[b.turn] = nil
+	from := b.senders[b.turn]
+	size := from.letters[0].size
+	from.letters[0] = nil
+	from.letters = from.letters[1:]
+	from.size, b.size, b.count = from.size-size, b.size-size, b.count-1
+	if len(from.letters) == 0 {
+		place := sort.SearchInts(b.order, b.turn)
+		b.order = append(b.order[:place], b.order[place+1:]...)
+		delete(b.senders, b.turn)
 	}
-	b.count--
 }
 
 // receive puts all messages that are there into the inbox, and drops what is not of this protocol.
@@ -169,17 +196,17 @@ func (d *Daemon) sortOne(m transport.Message) {
 		d.beat(h, lines, d.now())
 		return
 	}
-	shard, queue := d.shardOfSession(h.Name), strangers
+	shard, sender := d.shardOfSession(h.Name), strangers
 	if shard == nil {
 		d.m.foreign.Inc()
 		return
 	}
 	if h.Epoch > 0 && shard.judge(h.Number, h.Name, h.Epoch) == qlock.SessionKnown {
-		queue = h.Number
+		sender = shard.key(h.Number)
 		shard.hear(h.Number, d.now()) // it may wait for its turn
 	}
 	shard.used = d.now()
-	if !d.inbox.put(queue, &letter{Header: h, shard: shard, lines: lines, size: len(m.Data)}) {
+	if !d.inbox.put(sender, &letter{Header: h, shard: shard, lines: lines, size: len(m.Data)}) {
 		d.noRoom.Add(1)
 	}
 }

@@ -3,13 +3,16 @@ package voter
 import (
 	"fmt"
 	"io"
+	"reflect"
 	"strings"
 	"testing"
 	"time"
 
 	"calvundek.example/service/internal/config"
 	"calvundek.example/service/internal/event"
+	"calvundek.example/service/internal/level"
 	"calvundek.example/service/internal/wire"
+	"calvundek.example/service/qlock"
 	"calvundek.example/service/transport"
 	"github.com/prometheus/client_golang/prometheus/testutil"
 )
@@ -64,13 +67,86 @@ func TestRoomOfASender(t *testing.T) {
 	}
 	d.shard(0).claim(2, "jobs.s2", 1, 0, time.Now())
 	d.sort(message(2, 1, "s2", ". open 0\n"))
-	if d.noRoom.Load() < 90 || d.inbox.sizes[strangers] > mostWaiting || len(d.inbox.queues[2]) != 1 {
-		t.Errorf("%d are dropped, %d bytes wait", d.noRoom.Load(), d.inbox.sizes[strangers])
+	if d.noRoom.Load() < 90 || d.inbox.senders[strangers].size > mostWaiting || len(d.inbox.senders[2].letters) != 1 {
+		t.Errorf("%d are dropped, %d bytes wait", d.noRoom.Load(), d.inbox.senders[strangers].size)
 	}
 	foreign := testutil.ToFloat64(d.m.foreign)
 	if d.sort(message(2, 1, "s2", strings.Repeat("x",
 		2*wire.MostBytes))); testutil.ToFloat64(d.m.foreign) != foreign+1 {
 		t.Error("a message is taken that is too long")
+	}
+}
+
+// Each session has its room, also one of the same number in another shard. All together have theirs, and the first message of a sender finds
+// room when others' messages find none.
+func TestRoomOfManySenders(t *testing.T) {
+	var b inbox
+	for n := 0; b.put(5, &letter{size: mostWaiting / 4}); n++ {
+		if n == 4 {
+			t.Fatal("a sender has more than its room")
+		}
+	}
+	if !b.put(5+qlock.MaxClients, &letter{size: mostWaiting / 2}) {
+		t.Error("there is no room for the session of that number in another shard")
+	}
+	for key := 1000; b.size < mostOfAll; key++ {
+		b.put(key, &letter{size: mostWaiting})
+	}
+	if b.put(5+qlock.MaxClients, &letter{size: 1}) || !b.put(6, &letter{size: 1}) {
+		t.Error("where all have too much, who has nothing there has no room, or who has something has some")
+	}
+	for key := 2000; b.put(key, &letter{size: mostWaiting}); key++ {
+	}
+	if b.size > 2*mostOfAll {
+		t.Errorf("%d bytes wait", b.size)
+	}
+	for left := b.count; left > 0; left-- {
+		if b.next() == nil {
+			t.Fatalf("%d messages are left", left)
+		}
+		b.done()
+	}
+	if b.next() != nil || b.size != 0 || b.count != 0 || len(b.order) != 0 || len(b.senders) != 0 {
+		t.Errorf("%+v", b)
+	}
+}
+
+// Sessions of different shards wait apart, also those of one number.
+func TestRoomOfShards(t *testing.T) {
+	d, _ := sharded(t, 2)
+	for shard := 0; shard < 2; shard++ {
+		d.ofShard(shard, 5, 0, ". hello\n. claim 5 1 64\n")
+	}
+	say := func(shard int, lines string) {
+		h := wire.Header{Cluster: "test", Coterie: d.mark, Kind: wire.FromClient, Number: 5, Epoch: 1, Reserved: 64, Level: level.Newest,
+			Name: d.cluster.SessionName(shard, fmt.Sprintf("%016x%016x", shard, 5))}
+		d.sort(transport.Message{Mailbox: wire.VoterBox("test", 0, "jobs"), Data: append(h.Append(nil), lines...)})
+	}
+	long := strings.Repeat("x", wire.MostBytes-300) + "\n"
+	for i := 0; i < 2*mostWaiting/wire.MostBytes; i++ {
+		say(0, long)
+	}
+	lost := d.noRoom.Load()
+	if say(1, long); lost == 0 || d.noRoom.Load() != lost {
+		t.Errorf("%d messages of a session find no room, and %d of that in another shard", lost, d.noRoom.Load()-lost)
+	}
+}
+
+// Senders have their turns one after the other, in the order of their keys, strangers last, whoever comes meanwhile.
+func TestTurnsOfSenders(t *testing.T) {
+	var b inbox
+	var got []int
+	for _, key := range []int{strangers, 7, 70, 7, strangers, 3} {
+		b.put(key, &letter{controls: key})
+	}
+	for l := b.next(); l != nil; l = b.next() {
+		got = append(got, l.controls)
+		if b.done(); len(got) == 2 {
+			b.put(5, &letter{controls: 5}) // behind the one whose turn it was
+		}
+	}
+	if want := []int{3, 7, 70, strangers, 5, 7, strangers}; !reflect.DeepEqual(got, want) {
+		t.Errorf("%v, and not %v", got, want)
 	}
 }
 

@@ -8,6 +8,7 @@ import (
 	"sync/atomic"
 	"time"
 
+	"calvundek.example/service/internal/moment"
 	"calvundek.example/service/qlock"
 	"github.com/prometheus/client_golang/prometheus"
 	"github.com/prometheus/client_golang/prometheus/collectors"
@@ -34,8 +35,8 @@ func (m *metrics) highest(number uint64) uint64 {
 	return m.most
 }
 
-// oldest is when the oldest of some began, in nanoseconds since 1970, and 0 if there is none. How
-// old it is is read when somebody asks for it.
+// oldest is when the oldest of some began, as a moment.Moment, and 0 if there is none. How old it is is read when somebody asks for it. No
+// change of the clock on the wall moves it.
 type oldest struct{ atomic.Int64 }
 
 // note notes when the oldest began; there is none if that is now, or no time.
@@ -44,7 +45,11 @@ func (o *oldest) note(began, now time.Time) {
 		o.Store(0)
 		return
 	}
-	o.Store(began.UnixNano())
+	if of := moment.Of(began); of != 0 {
+		o.Store(int64(of))
+	} else {
+		o.Store(1)
+	}
 }
 
 // age returns for how many seconds there is one.
@@ -53,7 +58,7 @@ func (o *oldest) age(now time.Time) float64 {
 	if began == 0 {
 		return 0
 	}
-	return now.Sub(time.Unix(0, began)).Seconds()
+	return now.Sub(moment.Moment(began).Time()).Seconds()
 }
 
 func newMetrics() *metrics {
@@ -262,7 +267,7 @@ type Health struct {
 // health looks at the loop and the broker.
 func (d *Daemon) health() Health {
 	now := d.now()
-	silent := now.Sub(time.Unix(0, d.lively.Load()))
+	silent := d.silentFor(now)
 	broker := d.link == nil || d.link.Connected()
 	marker := now.Sub(d.started) - time.Duration(d.marked.Load())
 	healthy := silent < 2*time.Second && marker < mostMarker && broker

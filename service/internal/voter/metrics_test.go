@@ -12,6 +12,7 @@ import (
 	"calvundek.example/service/internal/bus"
 	"calvundek.example/service/internal/config"
 	"calvundek.example/service/internal/event"
+	"calvundek.example/service/internal/moment"
 )
 
 // certified is a link with a certificate.
@@ -66,7 +67,7 @@ func TestNumbersOfAVoter(t *testing.T) {
 			t.Errorf("there is no %q", line)
 		}
 	}
-	d.lively.Store(time.Now().UnixNano())
+	d.lively.Store(int64(moment.Of(time.Now())))
 	for marked, want := range map[time.Duration]int{0: 200, time.Minute: 503} {
 		d.marked.Store(int64(time.Since(d.started) - marked))
 		page := httptest.NewRecorder()
