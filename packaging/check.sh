@@ -159,6 +159,8 @@ if [ "$(id -u)" = 0 ] && command -v dpkg > /dev/null && [ -e "$packages/qlock_${
     holds compiles use-installed $(pkg-config --cflags --libs qlock qlock_plan)
     holds test -e /usr/share/man/man1/qlock.1.gz
     holds test -s /usr/share/doc/qlock/service.md
+    holds test -s /usr/share/doc/qlock/operating.md
+    holds test -s /usr/share/doc/qlock/service-design.md
     if [ -e /usr/bin/qlockctl ]; then
         holds qlockctl --help
         holds test -s /usr/share/qlock/sql/sqlite.sql

@@ -10,7 +10,7 @@ import (
 	"testing"
 )
 
-// Each line with the name of a lock is written as docs/service.md has it, and read back.
+// Each line with the name of a lock is written as package wire (service/internal/wire) has it, and read back.
 func TestWhatVotersSayOfLocks(t *testing.T) {
 	long := strings.Repeat("x", 64)
 	for line, says := range map[string]LockSays{

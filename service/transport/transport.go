@@ -64,8 +64,8 @@ func Leave(t Transport, mailbox string) {
 	}
 }
 
-// Link is what a transport may have besides: whether it is connected. A voter shows it, and begins all leases anew when
-// it was away.
+// Link is what a transport may have besides: whether it is connected. A voter shows it, and logs that it was away or is
+// back. No lease depends on that: while the connection is away no marker comes back, so none ends.
 type Link interface {
 	// Connected returns whether messages can leave now.
 	Connected() bool

@@ -48,7 +48,7 @@ func TestRulesAndDashboard(t *testing.T) {
 		t.Fatal(err)
 	}
 	uses(t, "the rules", string(rules))
-	page, err := os.ReadFile("../../../docs/service.md")
+	page, err := os.ReadFile("../../../docs/operating.md")
 	if err != nil {
 		t.Fatal(err)
 	}

@@ -1,7 +1,7 @@
 package voter
 
 // The host of the proved calls: a loop, a disk, mailboxes and a clock. It takes what comes, lets the rest of this package decide by the
-// proved calls what that means, makes what changed durable, and then sends. What it is trusted with is in docs/service.md.
+// proved calls what that means, makes what changed durable, and then sends. What it is trusted with is in docs/service-design.md.
 
 import (
 	"context"
