@@ -34,7 +34,7 @@ func (e *eager) isOver(t *table, number int, stamp uint64) bool {
 		}
 		byWord = true
 	}
-	letsGo, err := t.proved.LetsGo(number, stamp, t.clock.IsSilent(heard, t.ttl), byWord)
+	letsGo, err := t.one(number).LetsGo(stamp, t.clock.IsSilent(heard, t.ttl), byWord)
 	return err == nil && letsGo
 }
 
