@@ -80,6 +80,7 @@ func (l *listener) hears(shard, number, what int) {
 	switch {
 	case what == 0:
 		s.passes(number, l.now)
+		s.asks(number, 0, 0) // it gets a seat
 		e.passed[number] = passed{true, at}
 	case what == 1:
 		l.leases.hearAll(l.now)

@@ -216,3 +216,25 @@ func TestHashesAreKeptAsTheyAre(t *testing.T) {
 		t.Errorf("of nobody stay %v and %+v", table.rolls, table.rare(5))
 	}
 }
+
+// Of the session that a number had before nothing stays with the next one, also if that has the same epoch.
+func TestNextSessionBeginsAnew(t *testing.T) {
+	for _, names := range [][2]string{{usual[0], usual[7]}, {usual[0], usual[1]}, {odd[0], odd[1]}, {usual[3], odd[0]}, {odd[0], usual[3]}, {usual[0], ""}} {
+		table := tableAt(time.Unix(1000, 0))
+		table.set(5, of(names[0], 1, 0, 10))
+		table.named(5, names[0])
+		table.setNote(5, "a note")
+		if table.saysProcess(5, "p"); table.noteOf(5) != "a note" || table.saidProcess(5) != "p" {
+			t.Fatalf("%q, %q", table.noteOf(5), table.saidProcess(5))
+		}
+		table.brings(5, 7)
+		next := of(names[1], 1, 0, 10)
+		if names[1] == "" {
+			next.Hash = ""
+		}
+		table.set(5, next)
+		if table.isHeard(5) || table.name(5) != "" || table.noteOf(5) != "" || table.saidProcess(5) != "" || table.isBrought(5) || table.row(5) != next {
+			t.Errorf("%q is behind %q, and has %q, %q, %q", names[1], names[0], table.name(5), table.noteOf(5), table.saidProcess(5))
+		}
+	}
+}
