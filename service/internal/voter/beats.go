@@ -54,7 +54,7 @@ func (r *roll) leave(place int) {
 	}
 }
 
-// enroll makes the entry of a session that says its place.
+// enroll makes the entry of a session that says its place. If the session ended in the same message there is none.
 func (d *Daemon) enroll(l *letter, ask wire.Ask) {
 	seat := l.shard.seat(l.Number)
 	seat.strike()
@@ -64,9 +64,10 @@ func (d *Daemon) enroll(l *letter, ask wire.Ask) {
 		s, number := d.shardOfKey(key)
 		s.seat(number).strike()
 	}
-	d.entries++
-	r.enter(ask.Place, l.shard.key(l.Number))
-	seat.entry, seat.place = d.entries, uint16(ask.Place)
+	if d.entries++; seat.marks.has(isOpen) {
+		r.enter(ask.Place, l.shard.key(l.Number))
+		seat.entry, seat.place = d.entries, uint16(ask.Place)
+	}
 	d.put(l.Name, wire.Told{Kind: wire.Rolled, Place: ask.Place, Entry: d.entries}.Append(d.out[l.Name]))
 }
 

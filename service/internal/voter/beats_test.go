@@ -173,6 +173,15 @@ func TestEntriesAreBounded(t *testing.T) {
 	}
 }
 
+// Who ends in the message in which it says its place has no entry.
+func TestEntryOfWhoEnds(t *testing.T) {
+	d := claimed(t, 1)
+	d.repliesTo("jobs", 1, ". open 0\n. close\n. roll p 5\n")
+	if reply := d.beats("jobs", "p", beatOf(map[int]uint64{5: d.entries})); reply != ". unbeaten 7 0\n" {
+		t.Errorf("the process hears %q", reply)
+	}
+}
+
 // Who lost its place to another session takes nothing from that as its own entry goes.
 func TestPlaceOfAnotherSession(t *testing.T) {
 	d := claimed(t, 3)

@@ -25,8 +25,8 @@ import (
 // What is kept takes so many bytes at most: of a shard without a session, and of a session that rests, with its part of the shard and of the
 // roll of its process.
 const (
-	mostOfShard   = 700
-	mostOfSession = 150
+	mostOfShard   = 300
+	mostOfSession = 145
 )
 
 // settles takes out what is to leave, and what is to be saved.
