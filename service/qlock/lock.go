@@ -40,8 +40,8 @@ import "unsafe"
 // Table has the row of each client's number at a voter. The zero Table has rows that nobody has.
 type Table struct{ rows [TableBytes]byte }
 
-// Put puts a row into the table.
-func (t *Table) Put(number int, r *Row) { copy(t.rows[RowBytes*number:], r.state[:]) }
+// Put makes the row of a number the one that has these numbers, as Row.Put does.
+func (t *Table) Put(number int, s RowShown) { s.write(t.rows[RowBytes*number:]) }
 
 // Standing is how a session stands at a voter.
 type Standing uint32
@@ -52,23 +52,6 @@ const (
 	SessionUnknown Standing = C.QLOCK_SESSION_UNKNOWN // it may claim the number under its epoch
 	SessionOver    Standing = C.QLOCK_SESSION_OVER    // the number has another session, or had one under a later epoch
 )
-
-// Judge returns how a session stands, by the row of a number, 0 to 63.
-func (t *Table) Judge(number int, from Speaker) (Standing, error) {
-	var standing C.uint32_t
-	upper, lower := from.Session.halves()
-	err := refusal(C.qlock_table_judge(at(t.rows[:]), TableBytes, C.uint8_t(number), upper, lower, C.uint64_t(from.Epoch), &standing))
-	return Standing(standing), err
-}
-
-// LetsGo returns whether the grant of a request of this stamp may be let go, by the row of its number, 0 to 63: its session is silent,
-// gone, or followed by another one. Of a session that another voter ended, which may not know so, silence alone counts.
-func (t *Table) LetsGo(number int, stamp uint64, isSilent, endedElsewhere bool) (bool, error) {
-	var yes C.uint32_t
-	err := refusal(C.qlock_table_lets_go(at(t.rows[:]), TableBytes, C.uint8_t(number), C.uint64_t(stamp), truth(isSilent),
-		truth(endedElsewhere), &yes))
-	return yes != 0, err
-}
 
 // Speaker is a session that speaks, the epoch under which it does, and whether it says that it is inside by its request.
 type Speaker struct {

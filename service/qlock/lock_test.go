@@ -96,11 +96,7 @@ func TestLockAsSingleCalls(t *testing.T) {
 				if row.IsHeld {
 					row.Session = sessionAt(client, int(row.Epoch))
 				}
-				r, err := row.Row()
-				if err != nil {
-					t.Fatal(err)
-				}
-				table.Put(client, r)
+				table.Put(client, row)
 				two.rows[client] = row
 			case 1:
 				held, _ := one.Held()
@@ -208,7 +204,8 @@ func TestLockRefusals(t *testing.T) {
 
 // A REQUEST and its RELEASE, by one call each and by the single calls of before.
 func BenchmarkLine(b *testing.B) {
-	row, err := RowShown{Epoch: 1, Base: 0, Reserved: MaxStamp, IsHeld: true, Session: sessionAt(1, 1)}.Row()
+	shown := RowShown{Epoch: 1, Base: 0, Reserved: MaxStamp, IsHeld: true, Session: sessionAt(1, 1)}
+	row, err := shown.Row()
 	if err != nil {
 		b.Fatal(err)
 	}
@@ -217,7 +214,7 @@ func BenchmarkLine(b *testing.B) {
 	b.Run("one call", func(b *testing.B) {
 		voter, _ := NewVoter(3, MaxStamp)
 		var table Table
-		table.Put(1, row)
+		table.Put(1, shown)
 		room := make([]byte, 0, 1024)
 		for i := 0; i < b.N; i++ {
 			word := "request"
@@ -259,11 +256,7 @@ func TestQuietTime(t *testing.T) {
 		sessions := [3]Speaker{}
 		for number := range sessions {
 			sessions[number] = Speaker{Session: Session{byte(number + 1)}, Epoch: 1}
-			row, err := RowShown{Epoch: 1, Reserved: 9, IsHeld: true, Session: sessions[number].Session}.Row()
-			if err != nil {
-				t.Fatal(err)
-			}
-			table.Put(number, row)
+			table.Put(number, RowShown{Epoch: 1, Reserved: 9, IsHeld: true, Session: sessions[number].Session})
 		}
 		voter, err := NewVoter(3, 9)
 		if err != nil {

@@ -35,25 +35,30 @@ type RowShown struct {
 // Row returns the row that has these numbers, or BadState if there is none.
 func (s RowShown) Row() (*Row, error) {
 	r := new(Row)
-	held := uint64(0)
-	switch {
-	case s.IsHeld && s.IsAgain:
+	if s.IsHeld && s.IsAgain {
 		return nil, BadState
-	case s.IsHeld:
-		held = 1
-	case s.IsAgain:
-		held = 2
 	}
-	upper, lower := uint64(0), uint64(0)
-	if s.IsHeld {
-		upper, lower = binary.BigEndian.Uint64(s.Session[:8]), binary.BigEndian.Uint64(s.Session[8:])
-	}
-	for i, word := range []uint64{s.Epoch, s.Base, s.Reserved, held, upper, lower} {
-		binary.LittleEndian.PutUint64(r.state[8*i:], word)
-	}
+	r.Put(s)
 	_, err := r.Shows()
 	return r, err
 }
+
+// write writes the bytes of the row that has these numbers.
+func (s RowShown) write(state []byte) {
+	held, upper, lower := uint64(0), uint64(0), uint64(0)
+	if s.IsHeld {
+		held, upper, lower = 1, binary.BigEndian.Uint64(s.Session[:8]), binary.BigEndian.Uint64(s.Session[8:])
+	} else if s.IsAgain {
+		held = 2
+	}
+	for i, word := range [...]uint64{s.Epoch, s.Base, s.Reserved, held, upper, lower} {
+		binary.LittleEndian.PutUint64(state[8*i:], word)
+	}
+}
+
+// Put makes the row the one that has these numbers. It does not look whether there is such a row, as RowShown.Row does: a row that is none
+// is refused by the calls.
+func (r *Row) Put(s RowShown) { s.write(r.state[:]) }
 
 // NewRow makes the row of a number that nobody has. Its epochs and its stamps are above this floor.
 func NewRow(epoch, stamp uint64) (*Row, error) {
@@ -127,6 +132,22 @@ func (r *Row) Takes(session Session, epoch, stamp uint64) (bool, error) {
 	var yes C.uint32_t
 	upper, lower := session.halves()
 	err := refusal(C.qlock_row_takes(at(r.state[:]), RowBytes, upper, lower, C.uint64_t(epoch), C.uint64_t(stamp), &yes))
+	return yes != 0, err
+}
+
+// Judge returns how a session stands, by the row of its number.
+func (r *Row) Judge(from Speaker) (Standing, error) {
+	var standing C.uint32_t
+	upper, lower := from.Session.halves()
+	err := refusal(C.qlock_table_judge(at(r.state[:]), RowBytes, 0, upper, lower, C.uint64_t(from.Epoch), &standing))
+	return Standing(standing), err
+}
+
+// LetsGo returns whether the grant of a request of this stamp may be let go, by the row of its number: its session is silent, gone, or
+// followed by another one. Of a session that another voter ended, which may not know so, silence alone counts.
+func (r *Row) LetsGo(stamp uint64, isSilent, endedElsewhere bool) (bool, error) {
+	var yes C.uint32_t
+	err := refusal(C.qlock_table_lets_go(at(r.state[:]), RowBytes, 0, C.uint64_t(stamp), truth(isSilent), truth(endedElsewhere), &yes))
 	return yes != 0, err
 }
 

@@ -277,3 +277,89 @@ func TestRowRefusals(t *testing.T) {
 		t.Error(shown, err)
 	}
 }
+
+// A row that is put without a look at its numbers is the one that a look finds, also in a table, where it changes no other row. Numbers
+// of no row are refused by the calls.
+func TestRowsThatArePut(t *testing.T) {
+	random := rand.New(rand.NewSource(3))
+	number := func(of ...uint64) uint64 { return of[random.Intn(len(of))] }
+	found := 0
+	for i := 0; i < 10000; i++ {
+		shown := RowShown{Epoch: number(0, 1, math.MaxUint64, random.Uint64()), Base: number(0, 7, MaxStamp, MaxStamp+1, random.Uint64()>>2),
+			Reserved: number(0, 7, 8, MaxStamp, MaxStamp+1, random.Uint64()>>2), IsHeld: random.Intn(2) == 0}
+		if shown.IsHeld {
+			random.Read(shown.Session[:])
+		} else {
+			shown.IsAgain = random.Intn(2) == 0
+		}
+		want, err := shown.Row()
+		var row Row
+		row.Put(shown)
+		if _, refused := row.Shows(); (err == nil) != (refused == nil) {
+			t.Fatalf("%+v: %v, and put without a look %v", shown, err, refused)
+		}
+		if err != nil {
+			continue
+		}
+		found++
+		place := random.Intn(MaxClients)
+		var table, before Table
+		random.Read(before.rows[:])
+		table = before
+		table.Put(place, shown)
+		copy(before.rows[RowBytes*place:], want.State())
+		if row != *want || table != before {
+			t.Fatalf("%+v: %x, and put without a look %x", shown, want.State(), row.State())
+		}
+	}
+	if found < 1000 {
+		t.Errorf("%d are rows: this shows little", found)
+	}
+}
+
+// How a session stands, and whether a grant may go, by the row of its number.
+func TestRowJudges(t *testing.T) {
+	one, two := Session{1}, Session{2}
+	held := RowShown{Epoch: 5, Base: 10, Reserved: 20, IsHeld: true, Session: one}
+	var row Row
+	row.Put(held)
+	for _, it := range []struct {
+		from Speaker
+		want Standing
+	}{
+		{Speaker{Session: one, Epoch: 5}, SessionKnown},
+		{Speaker{Session: two, Epoch: 5}, SessionOver},
+		{Speaker{Session: one, Epoch: 4}, SessionOver},
+		{Speaker{Session: two, Epoch: 6}, SessionUnknown},
+	} {
+		if got, err := row.Judge(it.from); got != it.want || err != nil {
+			t.Errorf("%+v stands as %v, %v", it.from, got, err)
+		}
+	}
+	for _, it := range []struct {
+		stamp                             uint64
+		isSilent, elsewhere, isHeld, want bool
+	}{
+		{15, false, false, true, false},
+		{15, true, false, true, true},
+		{10, false, false, true, true}, // of an earlier session
+		{10, false, true, true, false},
+		{15, false, false, false, true},
+		{15, false, true, false, false},
+		{15, true, true, false, true},
+	} {
+		if row.Put(held); !it.isHeld {
+			row.Put(RowShown{Epoch: 5, Base: 10, Reserved: 20})
+		}
+		if got, err := row.LetsGo(it.stamp, it.isSilent, it.elsewhere); got != it.want || err != nil {
+			t.Errorf("%+v: %v, %v", it, got, err)
+		}
+	}
+	row.Put(RowShown{Base: 2, Reserved: 1})
+	if _, err := row.Judge(Speaker{}); !errors.Is(err, BadState) {
+		t.Error(err)
+	}
+	if _, err := row.LetsGo(1, true, false); !errors.Is(err, BadState) {
+		t.Error(err)
+	}
+}

@@ -17,22 +17,6 @@ const (
 	mostListed  = 32  // votes that are shown
 )
 
-// sessionNote is what a session says of itself, by its name and its epoch.
-type sessionNote struct {
-	session string
-	epoch   uint64
-	text    string
-}
-
-// noteOf returns what the session says of itself that a number has now.
-func (s *shard) noteOf(number int) string {
-	n := s.rare(number).note
-	if n.session == "" || n.session != s.name(number) || n.epoch != s.row(number).Epoch {
-		return ""
-	}
-	return n.text
-}
-
 // noteOfAsk returns what a client says of its request for a vote, or else of its session. It is of no earlier session of the number.
 func (v *vote) noteOfAsk(client int) string {
 	one := v.asks.of(client)
@@ -76,12 +60,10 @@ func (d *Daemon) ask(l *letter, speaker qlock.Standing, line []byte, now time.Ti
 		if before := l.shard.noteOf(l.Number); before != ask.Text {
 			d.watches.looked = time.Time{} // that is the note of all its locks
 		}
-		seat := l.shard.seat(l.Number)
-		seat.needs().note = sessionNote{seat.name, l.Epoch, ask.Text}
+		l.shard.setNote(l.Number, ask.Text)
 		d.put(l.Name, wire.Told{Kind: wire.Noted}.Append(d.out[l.Name]))
 	case ask.Kind == wire.SaysProcess:
-		seat := l.shard.seat(l.Number)
-		seat.process = ofProcess{seat.name, ask.Text}
+		l.shard.saysProcess(l.Number, ask.Text)
 		d.put(l.Name, wire.Told{Kind: wire.SaysUnbeaten}.Append(wire.Told{Kind: wire.Bundles}.Append(d.out[l.Name])))
 	case ask.Kind == wire.SaysRoll:
 		d.enroll(l, ask)
@@ -160,15 +142,15 @@ func (d *Daemon) tellSessions(l *letter, ahead int, now time.Time) {
 	if l.shard.waiting.isShort(now, d.leases.ttl) {
 		told.Highest = l.shard.highest()
 	}
-	for number, seat := range l.shard.seats {
-		if seat == nil || !seat.row.Open {
-			continue
+	l.shard.seats.each(func(number int, seat *seat) {
+		if !seat.marks.has(isOpen) {
+			return
 		}
 		told.Open++
 		if silent := l.shard.silent(number).Milliseconds(); silent > 0 {
 			told.Silent = greatest(told.Silent, uint64(silent))
 		}
-	}
+	})
 	if waits := now.Sub(d.waitsSince).Milliseconds(); !d.waitsSince.IsZero() && waits > 0 {
 		told.Waits = uint64(waits)
 	}

@@ -139,7 +139,7 @@ func TestWhoTriesHearsWho(t *testing.T) {
 // Pages have all locks that somebody has, though votes come and go between them, and each costs so much at most.
 func TestPages(t *testing.T) {
 	d := sessions(t, 1)
-	d.shard(0).seat(1).row.Reserved = 0
+	d.shard(0).seat(1).reserved = 0
 	many := 3*mostScanned + 17
 	for i := 0; i < many; i++ {
 		name := fmt.Sprintf("a-%d", i)

@@ -34,12 +34,15 @@ func (d *Daemon) beats(user, process, lines string) string {
 }
 
 // beatOf returns the lines of a beat for some places, below the 64th one, with the sum of these entries.
-func beatOf(entries map[int]uint64) string {
+func beatOf(entries map[int]uint64) string { return string(beatFor(entries).Append(nil)) }
+
+// beatFor returns the beat for some places of a share, with the sum of these entries.
+func beatFor(entries map[int]uint64) wire.Ask {
 	ask := wire.Ask{Kind: wire.Beats}
 	for place, entry := range entries {
 		ask.Mask, ask.Sum = ask.Mask|1<<place, ask.Sum+entry
 	}
-	return string(ask.Append(nil))
+	return ask
 }
 
 // heardAgo lets all sessions of the first shard have been heard last so long ago.
@@ -89,6 +92,7 @@ func TestBeatsThatAreNotAcknowledged(t *testing.T) {
 		"a session is over":                     func(_ *testing.T, d *Daemon, _ map[int]uint64) { d.shard(0).expel(2, true) },
 		"a session ended":                       func(_ *testing.T, d *Daemon, _ map[int]uint64) { d.repliesTo("jobs", 2, ". close\n") },
 		"a session ended, and others have that": func(_ *testing.T, d *Daemon, _ map[int]uint64) { d.passOn(2) },
+		"a number is another session's":         func(_ *testing.T, d *Daemon, _ map[int]uint64) { d.passOnSilently(2) },
 	} {
 		d := claimed(t, 3)
 		entries := map[int]uint64{5: rolled(t, d, "jobs", 1, "p", 5), 6: rolled(t, d, "jobs", 2, "p", 6)}
@@ -112,6 +116,18 @@ func TestBeatsThatAreNotAcknowledged(t *testing.T) {
 // passOn ends the session of a number, and lets another one have it, under the next epoch.
 func (d *Daemon) passOn(number int) {
 	d.repliesTo("jobs", number, ". close\n")
+	d.claimsNext(number)
+}
+
+// passOnSilently lets another session have a number, whose session was silent for long.
+func (d *Daemon) passOnSilently(number int) {
+	passes(&d.shard(0).table, d.now().Add(2*d.leases.ttl))
+	d.claimsNext(number)
+	passes(&d.shard(0).table, d.now())
+}
+
+// claimsNext claims a number for another session than that which had it first, under the next epoch.
+func (d *Daemon) claimsNext(number int) {
 	h := wire.Header{Cluster: "test", Coterie: d.mark, Kind: wire.FromClient, Name: "later"}
 	d.sort(transport.Message{Mailbox: wire.VoterBox("test", 0, "jobs"), Data: append(h.Append(nil), fmt.Sprintf(". claim %d 2 100\n", number)...)})
 	d.takeAll()
@@ -136,24 +152,46 @@ func TestBeatsOfStrangers(t *testing.T) {
 func TestEntriesAreBounded(t *testing.T) {
 	d := claimed(t, 2)
 	for i := 0; i < 300; i++ {
-		rolled(t, d, "jobs", 1, fmt.Sprint("p", i%7), i*71)
-		rolled(t, d, "jobs", 2, fmt.Sprint("p", i%5), i*71)
+		rolled(t, d, "jobs", 1, fmt.Sprint("p", i/9%7), i*71)
+		rolled(t, d, "jobs", 2, fmt.Sprint("p", i/7%5), i*71)
 	}
 	entries := 0
-	for _, r := range d.rolls {
-		for _, share := range r.shares {
-			for _, e := range share {
-				if e != nil {
+	for _, r := range d.leases.rolls {
+		for _, part := range r.parts {
+			if *part == (rollPart{}) {
+				t.Errorf("the roll of %s has a part without entries", r.name)
+			}
+			for _, key := range part {
+				if key > 0 {
 					entries++
 				}
 			}
 		}
-		if len(r.shares) > r.count {
-			t.Errorf("%d shares have %d entries", len(r.shares), r.count)
-		}
 	}
-	if entries > 2 || len(d.rolls) > 2 {
-		t.Errorf("%d entries in %d rolls", entries, len(d.rolls))
+	if entries > 2 || len(d.leases.rolls) > 3 { // the third one is that of number 0
+		t.Errorf("%d entries in %d rolls", entries, len(d.leases.rolls))
+	}
+}
+
+// Who ends in the message in which it says its place has no entry.
+func TestEntryOfWhoEnds(t *testing.T) {
+	d := claimed(t, 1)
+	d.repliesTo("jobs", 1, ". open 0\n. close\n. roll p 5\n")
+	if reply := d.beats("jobs", "p", beatOf(map[int]uint64{5: d.entries})); reply != ". unbeaten 7 0\n" {
+		t.Errorf("the process hears %q", reply)
+	}
+}
+
+// Who lost its place to another session takes nothing from that as its own entry goes.
+func TestPlaceOfAnotherSession(t *testing.T) {
+	d := claimed(t, 3)
+	rolled(t, d, "jobs", 2, "p", 6)
+	entries := map[int]uint64{6: rolled(t, d, "jobs", 3, "p", 6)}
+	for _, lines := range []string{". open 3\n", ". open 0\n. roll p 9\n", ". close\n"} {
+		d.repliesTo("jobs", 2, lines)
+		if reply := d.beats("jobs", "p", beatOf(entries)); reply != ". beaten 7 0\n" {
+			t.Errorf("%q: the process hears %q", lines, reply)
+		}
 	}
 }
 
@@ -166,6 +204,90 @@ func TestEntriesOfStartsDiffer(t *testing.T) {
 			t.Errorf("run %d, start %d begins with %d, behind %d", one[0], one[1], first, last)
 		} else {
 			last = first
+		}
+	}
+}
+
+// A session may be on the roll of another process than that of which it said that it is: what a voter says to it goes to the one, and the
+// other one beats for it.
+func TestRollOfAnotherProcess(t *testing.T) {
+	d := claimed(t, 2)
+	isFor := func(process string) bool { return d.processOf("jobs.session-1") == process }
+	isHeard := func(process string, entries map[int]uint64) bool {
+		return strings.HasPrefix(d.beats("jobs", process, beatOf(entries)), ". beaten ")
+	}
+	entries := map[int]uint64{5: rolled(t, d, "jobs", 1, "p", 5)}
+	if !isFor("") || d.processOf("jobs.session-7") != "" {
+		t.Errorf("who did not say its process is of %q", d.processOf("jobs.session-1"))
+	}
+	for _, process := range []string{"q", "p", "q"} {
+		if d.repliesTo("jobs", 1, ". process "+process+"\n"); !isFor(process) || !isHeard("p", entries) {
+			t.Errorf("of %s: it is of %q", process, d.processOf("jobs.session-1"))
+		}
+	}
+	entries = map[int]uint64{7: rolled(t, d, "jobs", 1, "q", 7)}
+	if !isFor("q") || !isHeard("q", entries) {
+		t.Errorf("on the roll of q: it is of %q", d.processOf("jobs.session-1"))
+	}
+	if d.repliesTo("jobs", 1, ". open 3\n. process r\n"); !isFor("r") || isHeard("q", entries) {
+		t.Errorf("on no roll: it is of %q", d.processOf("jobs.session-1"))
+	}
+	if d.passOn(1); !isFor("") || d.processOf("jobs.later") != "" || d.shard(0).rare(1).process != "" {
+		t.Errorf("the next session of the number is of %q", d.processOf("jobs.later"))
+	}
+}
+
+// Sessions of one process have the same note, or others. Each has its own, also once it is of another process.
+func TestNotesOfAProcess(t *testing.T) {
+	d := claimed(t, 3)
+	s := d.shard(0)
+	has := func(want ...string) {
+		t.Helper()
+		for i, note := range want {
+			if got := s.noteOf(i + 1); got != note {
+				t.Errorf("session %d has the note %q, and not %q", i+1, got, note)
+			}
+		}
+	}
+	d.repliesTo("jobs", 1, ". note a\n")
+	d.repliesTo("jobs", 2, ". note b\n")
+	d.repliesTo("jobs", 3, ". note a\n")
+	has("a", "b", "a")
+	for number := 3; number > 0; number-- {
+		d.repliesTo("jobs", number, ". process p\n")
+	}
+	has("a", "b", "a")
+	d.repliesTo("jobs", 3, ". note b\n")
+	d.repliesTo("jobs", 1, ". note\n")
+	has("", "b", "b")
+	d.repliesTo("jobs", 1, fmt.Sprintf(". roll q %d\n. note c\n", 4))
+	has("c", "b", "b")
+	d.passOn(2)
+	has("c", "", "b")
+	s.end(3, "jobs.session-3", 1)
+	if has("c", "", "b"); !s.claim(3, "jobs.session-3", 2, 0, time.Now()) || s.name(3) != "jobs.session-3" {
+		t.Fatal("a session gets no later epoch")
+	}
+	has("c", "", "")
+}
+
+// A beat of a process with a hundred sessions, each in a shard of its own, among those of others.
+func BenchmarkBeat(b *testing.B) {
+	d := measured(time.Now(), 257)
+	var beats [][]byte
+	for _, process := range d.rests(257, 30) {
+		h := wire.Header{Cluster: "test", Coterie: d.mark, Kind: wire.FromClient, Name: process, Seq: 7}
+		beats = append(beats, append(h.Append(nil), d.beatOfAll(process)...))
+	}
+	b.ReportAllocs()
+	b.ResetTimer()
+	for i := 0; i < b.N; i++ {
+		d.sort(transport.Message{Mailbox: wire.VoterBox("test", 0, "jobs"), Data: beats[i%len(beats)]})
+		if len(d.out) != 1 {
+			b.Fatal(d.out)
+		}
+		for process := range d.out {
+			delete(d.out, process)
 		}
 	}
 }

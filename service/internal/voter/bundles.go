@@ -1,24 +1,24 @@
 package voter
 
 import (
+	"math/bits"
+
 	"calvundek.example/service/internal/wire"
 )
 
 // What a voter says to sessions of one process in one turn leaves in one message, a bundle, if these said of which process they are. A
 // process is of the user of its session: so a user leads what is said to its own sessions to a mailbox of its own, and nothing else.
 
-// ofProcess is of which process a session is, as it said.
-type ofProcess struct{ session, name string }
-
 // processOf returns the name of a session's process, "" if it has no number here, or did not say it.
-func (d *Daemon) processOf(session string) string {
+func (d *Daemon) processOf(session string) (name string) {
 	s := d.shardOfSession(session)
-	for number := 0; s != nil && number < len(s.seats); number++ {
-		if seat := s.seats[number]; seat != nil && seat.process.session == session && seat.name == session {
-			return seat.process.name
-		}
+	if s == nil {
+		return ""
 	}
-	return ""
+	for numbers := s.numbersOf(s.called(session)); numbers != 0 && name == ""; numbers &= numbers - 1 {
+		name = s.saidProcess(bits.TrailingZeros64(numbers))
+	}
+	return name
 }
 
 // bundle is what leaves to a process in a turn.

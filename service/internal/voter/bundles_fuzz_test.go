@@ -19,7 +19,7 @@ type outcome struct {
 	Held             map[string]string
 	Heard            []string // who hears something
 	Foreign, Refused float64
-	Processes        [3]ofProcess
+	Processes        [3]string
 }
 
 // after hands messages that come at the same time to a voter, and returns what they did.
@@ -36,7 +36,7 @@ func (s *stage) after(t *testing.T, messages [][]byte) (o outcome) {
 	rows := d.shard(0).all()
 	copy(o.Rows[:], rows[:])
 	for number := range o.Processes {
-		o.Processes[number] = d.shard(0).seat(number).process
+		o.Processes[number] = d.shard(0).saidProcess(number)
 	}
 	o.Held, o.Foreign, o.Refused = map[string]string{}, testutil.ToFloat64(d.m.foreign), testutil.ToFloat64(d.m.refused)
 	for name, v := range d.votes {

@@ -94,11 +94,10 @@ type Daemon struct {
 	letters         []posted     // words to other voters that leave after the save
 	skips           []skip       // turns that are told after the save
 	skipsWaiting    []skipWaiting
-	watches         watches          // the locks that sessions watch
-	rolls           map[string]*roll // of processes, by their names
-	entries         uint64           // how many were made of these
-	skippable       qlock.Bucket     // how many more numbers may be skipped for turns
-	reach           uint64           // up to which number they may be now
+	watches         watches      // the locks that sessions watch
+	entries         uint64       // how many were made of sessions on the rolls of processes
+	skippable       qlock.Bucket // how many more numbers may be skipped for turns
+	reach           uint64       // up to which number they may be now
 	voters          <-chan transport.Message
 	floor, ceiling  uint64            // its grants are above the floor, and up to the ceiling
 	nothing         qlock.SinceStart  // of votes of which nothing was said since the start
@@ -147,7 +146,7 @@ func OpenIn(around Surroundings, own *config.Voter, cluster *config.Cluster, car
 		dirty: map[*vote]struct{}{}, silent: map[*vote]struct{}{},
 		leases: leases{ttl: cluster.TTL.Duration},
 		out:    map[string][]byte{}, replies: map[string]answer{}, started: now, away: now,
-		rolls: map[string]*roll{}, entries: entriesBefore(state), done: map[string][]byte{}, newPeers: map[int]Peer{}, gone: map[string]struct{}{}, restsFor: shortestRest,
+		entries: entriesBefore(state), done: map[string][]byte{}, newPeers: map[int]Peer{}, gone: map[string]struct{}{}, restsFor: shortestRest,
 		floors: map[int]Floor{}, newFloors: map[int]Floor{}}
 	if d.restsFor < 2*cluster.TTL.Duration {
 		d.restsFor = 2 * cluster.TTL.Duration
@@ -256,7 +255,7 @@ func (d *Daemon) line(l *letter, speaker qlock.Standing, lock, line []byte, now 
 	from := l.shard.speaker(l.Number, l.Name, l.Epoch)
 	from.Inside = word == inside
 	shown, lines, err := d.call(v, func(out []byte) ([]byte, qlock.LockShown, error) {
-		return d.proved(v).TakeFrom(&v.shard.proved, d.sinceOf(v), d.isQuiet(), from, line, out)
+		return d.proved(v).TakeFrom(v.shard.rows(), d.sinceOf(v), d.isQuiet(), from, line, out)
 	})
 	switch {
 	case err != nil:
@@ -420,7 +419,7 @@ func (d *Daemon) send(v *vote, lines []byte) {
 	}
 	for len(lines) > 0 {
 		end := bytes.IndexByte(lines, '\n') + 1
-		if to := wire.ReadLine(lines[:end]).To; to >= 0 && to < qlock.MaxClients && v.shard.name(to) != "" {
+		if to := wire.ReadLine(lines[:end]).To; to >= 0 && to < qlock.MaxClients && v.shard.isHeard(to) {
 			name := v.shard.name(to)
 			out := append(append(d.out[name], v.name...), ' ')
 			d.out[name] = append(out, lines[:end]...)
@@ -519,9 +518,9 @@ func (d *Daemon) hello(l *letter, now time.Time) bool {
 	if own < 0 {
 		own = d.bring(l, states, now)
 	}
-	for number := range l.shard.seats {
+	for number := range states {
 		if number != own {
-			d.say(l.Name, qlock.VoterSays{Kind: qlock.NumberIs, Number: number, First: l.shard.row(number).Epoch, Second: uint64(states[number])})
+			d.say(l.Name, qlock.VoterSays{Kind: qlock.NumberIs, Number: number, First: l.shard.bare(number).Epoch, Second: uint64(states[number])})
 		}
 	}
 	d.tellIdle(l.shard, now)
@@ -538,11 +537,11 @@ func (d *Daemon) open(l *letter, speaker qlock.Standing, oldest uint64, now time
 	if speaker == qlock.SessionKnown {
 		l.shard.asks(l.Number, oldest, d.plans.Number)
 		seat := l.shard.seat(l.Number)
-		d.say(l.Name, qlock.VoterSays{Kind: qlock.Opened, Number: l.Number, First: l.Epoch, Second: seat.row.Base, Third: seat.row.Reserved,
+		d.say(l.Name, qlock.VoterSays{Kind: qlock.Opened, Number: l.Number, First: l.Epoch, Second: seat.base, Third: seat.reserved,
 			Fourth: l.Seq, Fifth: uint64(seat.requests)})
 	}
 	if speaker == qlock.SessionKnown {
-		d.tellWanted(l.shard, l.Number, l.Name, now)
+		d.tellWanted(l.shard, l.Number, now)
 	}
 	d.announce(l.Name)
 	return true
@@ -653,7 +652,7 @@ func (d *Daemon) roundOf(v *vote, now time.Time) {
 
 // reminder returns the lines that remind whoever has a vote.
 func (v *vote) reminder() (lines []byte) {
-	v.look(func(voter *qlock.Voter) { lines, _ = voter.RemindHolder(&v.shard.proved, nil) })
+	v.look(func(voter *qlock.Voter) { lines, _ = voter.RemindHolder(v.shard.rows(), nil) })
 	return lines
 }
 
@@ -697,7 +696,7 @@ func (d *Daemon) endQuiet(now time.Time) {
 		held := v.held
 		d.seal(v.shard, int(held.Client))
 		isOver, _ := d.letGoBy(v, now, func(out []byte) ([]byte, qlock.LockShown, error) {
-			return d.proved(v).EndQuiet(&v.shard.proved, d.sinceOf(v), uint8(held.Client), out)
+			return d.proved(v).EndQuiet(v.shard.rows(), d.sinceOf(v), uint8(held.Client), out)
 		})
 		if isOver {
 			if row := v.shard.row(int(held.Client)); row.Open && held.Stamp > row.Base {
@@ -718,7 +717,7 @@ func (v *vote) isOver() bool { return v.shard.isOver(int(v.held.Client), v.held.
 func (d *Daemon) letGo(v *vote, now time.Time) bool {
 	held := v.held
 	isOver, _ := d.letGoBy(v, now, func(out []byte) ([]byte, qlock.LockShown, error) {
-		return d.proved(v).LetGo(&v.shard.proved, held.Number, uint8(held.Client), out)
+		return d.proved(v).LetGo(v.shard.rows(), held.Number, uint8(held.Client), out)
 	})
 	return isOver
 }

@@ -83,9 +83,9 @@ func (p *post) Listen(string) (<-chan transport.Message, error) { return nil, ni
 // says lets the session that has a number say a line about a lock.
 func says(d *Daemon, v *vote, client int, line string, now time.Time) {
 	text, word := cutWord([]byte(line))
-	from := qlock.Speaker{Session: d.shard(0).seat(client).session, Epoch: d.shard(0).row(client).Epoch, Inside: word == inside}
+	from := qlock.Speaker{Session: d.shard(0).owner(client), Epoch: d.shard(0).row(client).Epoch, Inside: word == inside}
 	shown, lines, err := d.call(v, func(out []byte) ([]byte, qlock.LockShown, error) {
-		return d.proved(v).TakeFrom(&d.shard(0).proved, d.sinceOf(v), d.isQuiet(), from, text, out)
+		return d.proved(v).TakeFrom(d.shard(0).rows(), d.sinceOf(v), d.isQuiet(), from, text, out)
 	})
 	if err == nil && shown.IsTaken {
 		d.note(v, client, shown, lines, now)
@@ -152,7 +152,7 @@ func TestEachLineLeaves(t *testing.T) {
 	} {
 		name := fmt.Sprint("jobs.session-", one.client)
 		d.shard(0).set(one.client, of(name, 1, 100, 200))
-		d.shard(0).seat(one.client).name = name
+		d.shard(0).named(one.client, name)
 		says(d, v, one.client, fmt.Sprintf("request %d 0 %d", one.client, one.stamp), now)
 		if got := string(d.out[one.hears]); got != one.line {
 			t.Errorf("%s hears %q, not %q", one.hears, got, one.line)
@@ -206,13 +206,13 @@ func TestBusyVotesOfAShard(t *testing.T) {
 		number   int
 		lines    string
 		busy     int
-		requests [2]int // of the two sessions
+		requests [2]int32 // of the two sessions
 	}{
-		{1, "orders request 1 0 1\nstock request 1 0 2\n", 2, [2]int{2, 0}},
-		{2, "orders request 2 0 1\n", 2, [2]int{2, 1}},
-		{1, "orders release 1 0 1\n", 2, [2]int{1, 1}},
-		{2, "orders release 2 0 1\n", 1, [2]int{1, 0}},
-		{1, "stock release 1 0 2\n", 0, [2]int{0, 0}},
+		{1, "orders request 1 0 1\nstock request 1 0 2\n", 2, [2]int32{2, 0}},
+		{2, "orders request 2 0 1\n", 2, [2]int32{2, 1}},
+		{1, "orders release 1 0 1\n", 2, [2]int32{1, 1}},
+		{2, "orders release 2 0 1\n", 1, [2]int32{1, 0}},
+		{1, "stock release 1 0 2\n", 0, [2]int32{0, 0}},
 	} {
 		d.repliesTo("jobs", one.number, one.lines)
 		for number := 1; number <= 2; number++ {
@@ -221,7 +221,7 @@ func TestBusyVotesOfAShard(t *testing.T) {
 			}
 			d.recount(s, number)
 		}
-		if requests := [2]int{s.seat(1).requests, s.seat(2).requests}; len(s.busy.all) != one.busy || requests != one.requests {
+		if requests := [2]int32{s.seat(1).requests, s.seat(2).requests}; len(s.busy.all) != one.busy || requests != one.requests {
 			t.Errorf("%d: %d votes, and %v requests", i, len(s.busy.all), requests)
 		}
 	}

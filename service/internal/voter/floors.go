@@ -55,6 +55,9 @@ func (f Floor) row(number int) Session {
 	return row
 }
 
+// isZero returns whether a floor is that of a shard that was never dropped.
+func (f Floor) isZero() bool { return f.Stamp == 0 && len(f.Epochs) == 0 }
+
 // with returns the floor above both.
 func (f Floor) with(other Floor) Floor {
 	both := Floor{Stamp: greatest(f.Stamp, other.Stamp), Epochs: make([]uint64, qlock.MaxClients)}
@@ -85,16 +88,15 @@ func (f Floor) isAbove(other Floor) bool {
 // floor returns the floor of a shard that is dropped, and false if a row can't be dropped to it.
 func (t *table) floor() (floor Floor, ok bool) {
 	floor.Epochs = make([]uint64, qlock.MaxClients)
-	for number := range t.seats {
-		row := t.row(number)
+	for number := range floor.Epochs {
+		row := t.bare(number)
 		if floor.Epochs[number] = row.Epoch; row.Dropped && row.Epoch < math.MaxUint64 {
 			floor.Epochs[number]++ // no session may claim the epoch again that another one took back
 		}
 		floor.Stamp = greatest(floor.Stamp, row.Reserved)
 	}
-	for number := range t.seats {
-		row := t.row(number)
-		dropped, err := row.after(func(r *qlock.Row) error { return r.Drop(floor.Epochs[number], floor.Stamp) })
+	for number := range floor.Epochs {
+		dropped, err := t.after(number, func(r *qlock.Row) error { return r.Drop(floor.Epochs[number], floor.Stamp) })
 		begun := floor.row(number)
 		begun.Hash, begun.Used, begun.Lapses = dropped.Hash, dropped.Used, dropped.Lapses // are not the row's
 		if err != nil || dropped != begun {
@@ -106,13 +108,8 @@ func (t *table) floor() (floor Floor, ok bool) {
 
 // isUnused returns whether no session has a number of the table, or may have one: all ended, or were silent for a day.
 func (t *table) isUnused() bool {
-	for number, seat := range t.seats {
-		if seat != nil && (seat.row.Open || seat.row.Dropped) && t.silent(number) < longestSilent {
-			return false
-		}
-	}
-	for number := range t.seats {
-		if !t.isDead(number) {
+	for number := 0; number < qlock.MaxClients; number++ {
+		if row := t.bare(number); (row.Open || row.Dropped) && t.silent(number) < longestSilent || !t.isDead(number) {
 			return false
 		}
 	}
@@ -126,19 +123,21 @@ func (d *Daemon) dropUnused(now time.Time) {
 	}
 	d.nextUnused = (d.nextUnused + 1) % len(d.inTurn)
 	s := d.inTurn[d.nextUnused]
-	if s.votes > 0 || now.Sub(s.used) < 2*d.restsFor || d.inbox.has(s) || !s.isUnused() {
+	if s.votes > 0 || now.Sub(s.used.Time()) < 2*d.restsFor || d.inbox.has(s) || !s.isUnused() {
 		return
 	}
 	floor, ok := s.floor()
 	if !ok {
 		return
 	}
-	for number, seat := range s.seats {
-		if seat != nil {
-			d.strike(seat.entry)
-		}
+	for _, seat := range s.seats.all {
+		seat.strike()
+		s.join(seat, nil)
+	}
+	for number := 0; number < qlock.MaxClients; number++ {
 		d.leases.drop(s.key(number))
 	}
+	s.unprove()
 	d.setFloor(s.table.number, floor)
 	delete(d.shards, s.table.number)
 	d.inTurn = append(d.inTurn[:d.nextUnused], d.inTurn[d.nextUnused+1:]...)
@@ -162,7 +161,7 @@ func (d *Daemon) learnFloor(shard int, floor Floor, now time.Time) {
 		}
 		return
 	}
-	for number := range s.seats {
+	for number := 0; number < qlock.MaxClients; number++ {
 		if row := floor.row(number); (row.Epoch > 0 || d.isLost()) && d.learnRow(s, number, row, now) {
 			d.recount(s, number)
 		}

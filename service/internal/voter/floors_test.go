@@ -12,6 +12,7 @@ import (
 
 	"calvundek.example/service/internal/config"
 	"calvundek.example/service/internal/level"
+	"calvundek.example/service/internal/moment"
 	"calvundek.example/service/internal/operator"
 	"calvundek.example/service/internal/wire"
 	"calvundek.example/service/qlock"
@@ -130,7 +131,7 @@ func TestUsedShardStays(t *testing.T) {
 			s.expel(8, false)
 		},
 		"a lock is known":        func(d *Daemon, s *shard, later *time.Time) { d.keep(d.newVote(lockOf(d, 1))) },
-		"a message came":         func(d *Daemon, s *shard, later *time.Time) { s.used = later.Add(-d.restsFor) },
+		"a message came":         func(d *Daemon, s *shard, later *time.Time) { s.used = moment.Of(later.Add(-d.restsFor)) },
 		"a message waits":        func(d *Daemon, s *shard, later *time.Time) { d.inbox.put(3, &letter{shard: s}) },
 		"the voter is quiet":     func(d *Daemon, s *shard, later *time.Time) { d.leases.quiet = quiet{is: true} },
 		"the level is too low":   func(d *Daemon, s *shard, later *time.Time) { d.store.own.Level = level.Floors - 1 },

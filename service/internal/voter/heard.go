@@ -101,14 +101,11 @@ func (t *table) takeHearings() {
 		return sooner(at, latest)
 	}
 	t.heardAs = hears(t.heardAs)
-	for _, seat := range t.seats {
-		if seat == nil {
-			continue
-		}
+	for _, seat := range t.seats.all {
 		seat.heard = hears(seat.heard)
-		if rare := seat.rarities; rare != nil {
-			rare.passed.at = sooner(rare.passed.at, latest)
-		}
+	}
+	for _, rare := range t.rarities {
+		rare.passed.at = sooner(rare.passed.at, latest)
 	}
 }
 
@@ -124,21 +121,26 @@ func (d *Daemon) catchUp() {
 }
 
 // hear notes that a number's session was heard.
-func (t *table) hear(number int, now time.Time) {
+func (t *table) hear(number int, now time.Time) { t.hearAt(t.seat(number), t.heard.note(t.at(now))) }
+
+// hearAt notes that the session of a seat was heard at a reading.
+func (t *table) hearAt(seat *seat, at time.Duration) {
 	t.catchUp()
-	t.seat(number).heard = t.heard.note(t.at(now))
+	seat.heard = at
 }
 
 // passes notes that this voter learned that another session has a number.
 func (t *table) passes(number int, now time.Time) {
 	t.catchUp()
-	t.seat(number).needs().passed = passed{true, t.heard.note(t.at(now))}
+	rare := t.rare(number)
+	rare.passed = passed{true, t.heard.note(t.at(now))}
+	t.keep(number, rare)
 }
 
 // heardAt returns at which reading a number's session was heard.
 func (t *table) heardAt(number int) time.Duration {
 	t.catchUp()
-	if seat := t.seats[number]; seat != nil {
+	if seat := t.seats.at(number); seat != nil {
 		return seat.heard
 	}
 	return t.heardAs

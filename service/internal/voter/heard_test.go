@@ -34,7 +34,7 @@ func (e *eager) isOver(t *table, number int, stamp uint64) bool {
 		}
 		byWord = true
 	}
-	letsGo, err := t.proved.LetsGo(number, stamp, t.clock.IsSilent(heard, t.ttl), byWord)
+	letsGo, err := t.one(number).LetsGo(stamp, t.clock.IsSilent(heard, t.ttl), byWord)
 	return err == nil && letsGo
 }
 
@@ -80,6 +80,7 @@ func (l *listener) hears(shard, number, what int) {
 	switch {
 	case what == 0:
 		s.passes(number, l.now)
+		s.asks(number, 0, 0) // it gets a seat
 		e.passed[number] = passed{true, at}
 	case what == 1:
 		l.leases.hearAll(l.now)

@@ -141,11 +141,11 @@ func (d *Daemon) Take(from From, m transport.Message) {
 func (d *Daemon) End() error {
 	d.savedAll = time.Time{}
 	for _, s := range d.inTurn {
-		for _, seat := range s.seats {
-			if seat != nil && seat.row.Open && seat.name != "" { // it was heard in this run
-				d.say(seat.name, qlock.VoterSays{Kind: qlock.Leaving})
+		s.seats.each(func(number int, seat *seat) {
+			if seat.marks.has(isOpen) && s.isHeard(number) {
+				d.say(s.name(number), qlock.VoterSays{Kind: qlock.Leaving})
 			}
-		}
+		})
 	}
 	if err := d.commit(d.now()); err != nil {
 		return err

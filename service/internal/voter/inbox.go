@@ -9,6 +9,7 @@ import (
 	"strconv"
 	"time"
 
+	"calvundek.example/service/internal/moment"
 	"calvundek.example/service/internal/wire"
 	"calvundek.example/service/qlock"
 	"calvundek.example/service/transport"
@@ -205,7 +206,7 @@ func (d *Daemon) sortOne(m transport.Message) {
 		sender = shard.key(h.Number)
 		shard.hear(h.Number, d.now()) // it may wait for its turn
 	}
-	shard.used = d.now()
+	shard.used = moment.Of(d.now())
 	if !d.inbox.put(sender, &letter{Header: h, shard: shard, lines: lines, size: len(m.Data)}) {
 		d.noRoom.Add(1)
 	}
@@ -267,7 +268,7 @@ func (d *Daemon) greet(l *letter, now time.Time) (speaker qlock.Standing, ok boo
 	l.begun = true
 	switch {
 	case speaker == qlock.SessionKnown:
-		l.shard.seat(l.Number).level = l.Level
+		l.shard.seat(l.Number).level = uint8(smallest(l.Level, math.MaxUint8))
 		d.hasNumber(l, now)
 		l.shard.reserve(l.Number, l.Name, l.Epoch, l.Reserved, now)
 	case speaker == qlock.SessionUnknown && first:

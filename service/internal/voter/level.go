@@ -53,11 +53,11 @@ func (d *Daemon) mayLevel(wanted uint64) error {
 	}
 	var older []string
 	for _, s := range d.inTurn {
-		for number, seat := range s.seats {
-			if seat != nil && seat.row.Open && seat.level < wanted && !s.isDead(number) {
+		s.seats.each(func(number int, seat *seat) {
+			if seat.marks.has(isOpen) && uint64(seat.level) < wanted && !s.isDead(number) {
 				older = append(older, d.cluster.NumberOf(s.key(number)))
 			}
-		}
+		})
 	}
 	if len(older) > 0 {
 		return fmt.Errorf("sessions of older programs, or not heard yet: %v", older)

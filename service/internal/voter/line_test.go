@@ -44,7 +44,7 @@ func BenchmarkLine(b *testing.B) {
 			d.add("an-ordinary-lock", voter)
 			name := "jobs.session-1"
 			d.shard(0).set(1, of(name, 1, 0, qlock.MaxStamp))
-			d.shard(0).seat(1).name = name
+			d.shard(0).named(1, name)
 			l := &letter{Header: wire.Header{Kind: wire.FromClient, Number: 1, Epoch: 1, Name: name}, shard: d.shard(0)}
 			room := make([]byte, 0, 128)
 			for i := 0; i < b.N; i++ {

@@ -213,7 +213,7 @@ type census struct {
 
 // add adds what was counted of a shard, or takes it out.
 func (c *census) add(s *shard, by int) {
-	c.open += by * s.open
+	c.open += by * int(s.open)
 	c.free[s.free] += by
 }
 
@@ -237,8 +237,8 @@ func (c *census) leastFree() int {
 // census counts the sessions of a shard, and the numbers that may be claimed.
 func (s *shard) census() {
 	s.open, s.free = 0, 0
-	for number, seat := range s.seats {
-		if seat != nil && seat.row.Open {
+	for number := 0; number < qlock.MaxClients; number++ {
+		if s.bare(number).Open {
 			s.open++
 		}
 		if s.state(number) != 0 {

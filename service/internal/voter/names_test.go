@@ -157,3 +157,84 @@ func TestRowsWithNames(t *testing.T) {
 		t.Errorf("a word of another voter ends the session: %+v", again.shard(0).row(1))
 	}
 }
+
+// odd are names and hashes that are not made of a user and digits, or of digits that are not those of the shard 4711.
+var odd = []string{"jobs.session-1", "a", "jobs.", ".x", "jobs.0123456789ABCDEF0123456789abcdef", "jobs.0123456789abcdef0123456789abcde",
+	"jobs.0123456789abcdef0123456789abcdef0", "jobs.0123456789abcdef0123456789abcdeg", "jobs.4712-0123456789abcdef0123456789",
+	"jobs.04711-0123456789abcdef0123456789", "jobs.4711-0123456789abcdef012345678", "jobs.4711-0123456789abcdef01234567890",
+	"jobs.4711-0123456789abcdef012345678z", "jobs.-0123456789abcdef0123456789", "jobs.0123456789abcdef-0123456789abcde"}
+
+// usual are such as nearly all are.
+var usual = []string{"jobs.0123456789abcdef0123456789abcdef", "web.0123456789abcdef0123456789abcdef", "-.0123456789abcdef0123456789abcdee",
+	"jobs.4711-0123456789abcdef0123456789", "web.4711-0123456789abcdef0123456789", "jobs.4711-0123456789abcdef0123456788",
+	"jobs.0123456789abcdef0123456789000000", "jobs.00000000000000000000000000000000", "jobs.4711-00000000000000000000000000"}
+
+// Whatever the name of a session is, it is kept as it was said, and nobody with another name speaks as the session. Usual names need no more
+// than a seat has.
+func TestNamesAreKeptAsTheyAre(t *testing.T) {
+	table := tableAt(time.Unix(1000, 0))
+	table.number = 4711
+	all := append(append([]string{}, usual...), odd...)
+	for i, name := range all {
+		table.set(5, of(name, 1, 0, 10))
+		if table.isHeard(5) || table.name(5) != "" || table.judge(5, name, 1) != qlock.SessionKnown {
+			t.Errorf("%q was not heard: %q, %v", name, table.name(5), table.judge(5, name, 1))
+		}
+		table.named(5, name)
+		if !table.isHeard(5) || table.name(5) != name || table.user(5) != userOf(name) || table.row(5).Hash != hashed(name) {
+			t.Errorf("%q is %q, of %q, with the hash %q", name, table.name(5), table.user(5), table.row(5).Hash)
+		}
+		if isUsual := i < len(usual); isUsual != (table.rarities == nil) {
+			t.Errorf("%q needs %+v", name, table.rare(5))
+		}
+		for _, other := range all {
+			if isIt := table.judge(5, other, 1) == qlock.SessionKnown; isIt != (other == name) || isIt != table.isOf(5, table.called(other)) {
+				t.Errorf("%q speaks as %q: %v", other, name, isIt)
+			}
+		}
+		if table.isOf(5, table.called("")) {
+			t.Errorf("%q is nobody", name)
+		}
+	}
+}
+
+// The hash in a row is kept as it was read, whatever it is. Two sessions have one name in proved rows only if they have one hash.
+func TestHashesAreKeptAsTheyAre(t *testing.T) {
+	table, seen := tableAt(time.Unix(1000, 0)), map[qlock.Session]string{}
+	for _, hash := range append(append([]string{"", "x"}, usual...), odd...) {
+		row := Session{Hash: hash, Epoch: 1, Open: true}
+		if table.set(5, row); table.row(5) != row || !table.hasHash(5, hash) || table.hasHash(5, hash+"0") || table.user(5) != userOf(hash) {
+			t.Errorf("%q is %q, of %q", hash, table.row(5).Hash, table.user(5))
+		}
+		session := table.owner(5)
+		if before, is := seen[session]; is || session != sessionOf(hash) {
+			t.Errorf("%q has the name of %q", hash, before)
+		}
+		seen[session] = hash
+	}
+	if table.set(5, Session{}); len(table.rolls) > 0 || table.rarities != nil {
+		t.Errorf("of nobody stay %v and %+v", table.rolls, table.rare(5))
+	}
+}
+
+// Of the session that a number had before nothing stays with the next one, also if that has the same epoch.
+func TestNextSessionBeginsAnew(t *testing.T) {
+	for _, names := range [][2]string{{usual[0], usual[7]}, {usual[0], usual[1]}, {odd[0], odd[1]}, {usual[3], odd[0]}, {odd[0], usual[3]}, {usual[0], ""}} {
+		table := tableAt(time.Unix(1000, 0))
+		table.set(5, of(names[0], 1, 0, 10))
+		table.named(5, names[0])
+		table.setNote(5, "a note")
+		if table.saysProcess(5, "p"); table.noteOf(5) != "a note" || table.saidProcess(5) != "p" {
+			t.Fatalf("%q, %q", table.noteOf(5), table.saidProcess(5))
+		}
+		table.brings(5, 7)
+		next := of(names[1], 1, 0, 10)
+		if names[1] == "" {
+			next.Hash = ""
+		}
+		table.set(5, next)
+		if table.isHeard(5) || table.name(5) != "" || table.noteOf(5) != "" || table.saidProcess(5) != "" || table.isBrought(5) || table.row(5) != next {
+			t.Errorf("%q is behind %q, and has %q, %q, %q", names[1], names[0], table.name(5), table.noteOf(5), table.saidProcess(5))
+		}
+	}
+}

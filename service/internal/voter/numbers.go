@@ -256,17 +256,17 @@ func (d *Daemon) tellIdle(s *shard, now time.Time) {
 		return
 	}
 	s.waiting.told = now
-	for _, seat := range s.seats {
-		if seat != nil && seat.row.Open && seat.row.Used && seat.requests == 0 && seat.name != "" &&
-			s.waiting.needs(seat.lock, now, d.leases.ttl) {
-			d.put(seat.name, wire.Told{Kind: wire.Wanted}.Append(d.out[seat.name]))
+	s.seats.each(func(number int, seat *seat) {
+		if seat.marks.has(isOpen) && seat.marks.has(isUsed) && seat.requests == 0 && s.isHeard(number) {
+			d.tellWanted(s, number, now)
 		}
-	}
+	})
 }
 
-// tellWanted tells the session of a number that others wait for that.
-func (d *Daemon) tellWanted(s *shard, number int, session string, now time.Time) {
-	if s.waiting.needs(s.seat(number).lock, now, d.leases.ttl) {
+// tellWanted tells the session of a number, which was heard, that others wait for that.
+func (d *Daemon) tellWanted(s *shard, number int, now time.Time) {
+	if s.waiting != nil && s.waiting.needs(s.seat(number).lock, now, d.leases.ttl) {
+		session := s.name(number)
 		d.put(session, wire.Told{Kind: wire.Wanted}.Append(d.out[session]))
 	}
 }

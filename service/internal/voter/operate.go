@@ -268,13 +268,12 @@ func firstByName(all []*vote, most int) (first []*vote) {
 
 // views returns what an operator sees of the sessions of a shard. One that was heard after the last marker was silent for no time.
 func (s *shard) views(called func(key int) string) (views []SessionView) {
-	for number, seat := range s.seats {
-		if seat != nil && seat.row.Open {
-			row := seat.row
-			views = append(views, SessionView{called(s.key(number)), s.table.number, number, row.Epoch, row.Reserved, row.Hash,
-				math.Max(0, s.silent(number).Seconds()), seat.requests, s.noteOf(number)})
+	s.seats.each(func(number int, seat *seat) {
+		if seat.marks.has(isOpen) {
+			views = append(views, SessionView{called(s.key(number)), s.table.number, number, seat.epoch, seat.reserved, s.hash(number),
+				math.Max(0, s.silent(number).Seconds()), int(seat.requests), s.noteOf(number)})
 		}
-	}
+	})
 	return views
 }
 

@@ -3,6 +3,7 @@ package voter
 import (
 	"errors"
 	"fmt"
+	"io"
 	"math/bits"
 	"math/rand"
 	"reflect"
@@ -13,6 +14,7 @@ import (
 	"unsafe"
 
 	"calvundek.example/service/internal/config"
+	"calvundek.example/service/internal/event"
 	"calvundek.example/service/internal/level"
 	"calvundek.example/service/internal/wire"
 	"calvundek.example/service/qlock"
@@ -20,10 +22,11 @@ import (
 	"github.com/prometheus/client_golang/prometheus/testutil"
 )
 
-// What is kept of a shard takes so many bytes at most: with no session, and for each number that a session has.
+// What is kept takes so many bytes at most: of a shard without a session, and of a session that rests, with its part of the shard and of the
+// roll of its process.
 const (
-	mostOfShard  = 5 << 10
-	mostOfNumber = 360
+	mostOfShard   = 300
+	mostOfSession = 145
 )
 
 // settles takes out what is to leave, and what is to be saved.
@@ -41,32 +44,67 @@ func (d *Daemon) ofShard(shard, number int, epoch uint64, lines string) {
 	d.takeAll()
 }
 
-// A shard takes little memory, and so does a session of it that has a number: what few need is there once it is used, and who waited, and
-// does so no more, takes none.
+// ofProcess is how many sessions a process has in these tests.
+const ofProcess = 100
+
+// rests lets sessions have numbers of all shards but the first one, say all of themselves that real ones say, and rest.
+func (d *Daemon) rests(shards, numbers int) (processes []string) {
+	for i, count := 0, (shards-1)*numbers; i < count; i++ {
+		shard, number, process := 1+i%(shards-1), i/(shards-1), fmt.Sprintf("%032x", 1<<60+i/ofProcess)
+		d.ofShard(shard, number, 0, fmt.Sprintf(". hello\n. claim %d 1 64\n", number))
+		d.ofShard(shard, number, 1, ". open 0\n. note a-machine 12345 a-user "+process[:8]+"\n. process "+process+"\n")
+		d.ofShard(shard, number, 1, fmt.Sprintf(". open 0\n. roll %s %d\n", process, i%ofProcess))
+		if i%ofProcess == 0 {
+			processes = append(processes, process)
+		}
+		if i%ofProcess == ofProcess-1 {
+			d.settles()
+		}
+	}
+	d.settles()
+	return processes
+}
+
+// beatOfAll returns the lines of a beat for all sessions on the roll of a process.
+func (d *Daemon) beatOfAll(process string) (lines string) {
+	r := d.leases.rolls[wire.SessionName("jobs", process)]
+	for first := 0; first < ofProcess; first += wire.RollShare {
+		entries := map[int]uint64{}
+		for place := 0; place < wire.RollShare; place++ {
+			if key := r.at(first + place); key >= 0 {
+				s, number := d.shardOfKey(key)
+				entries[place] = s.seat(number).entry
+			}
+		}
+		ask := beatFor(entries)
+		ask.Place = first
+		lines += string(ask.Append(nil))
+	}
+	return lines
+}
+
+// A shard takes little memory, and so does a session of it that has a number and beats: what few need is there once it is used, and who
+// waited, and does so no more, takes none.
 func TestMemoryOfShards(t *testing.T) {
-	const shards, numbers = 256, 15
+	const shards, numbers = 257, 30
 	d, _ := sharded(t, shards)
 	d.settles()
 	before := int(heap())
 	for shard := 1; shard < shards; shard++ {
 		d.shard(shard)
 	}
-	empty := int(heap())
-	if each := (empty - before) / (shards - 1); each > mostOfShard {
+	if each := (int(heap()) - before) / (shards - 1); each > mostOfShard {
 		t.Errorf("a shard takes %d bytes", each)
 	} else {
 		t.Logf("a shard takes %d bytes", each)
 	}
-	for shard := 1; shard < shards; shard++ {
-		for number := 0; number < numbers; number++ {
-			d.ofShard(shard, number, 0, fmt.Sprintf(". hello\n. claim %d 1 64\n", number))
-			for i := 0; i < 2; i++ {
-				d.ofShard(shard, number, 1, ". open 0\n")
-			}
+	for _, process := range d.rests(shards, numbers) {
+		if reply := d.beats("jobs", process, d.beatOfAll(process)); strings.Count(reply, ". beaten ") != 2 {
+			t.Fatalf("a process hears %q", reply)
 		}
 	}
 	d.settles()
-	if each := (int(heap()) - empty) / (shards - 1) / numbers; each > mostOfNumber {
+	if each := (int(heap()) - before) / (shards - 1) / numbers; each > mostOfSession {
 		t.Errorf("a session takes %d bytes", each)
 	} else {
 		t.Logf("a session takes %d bytes", each)
@@ -99,24 +137,30 @@ func TestNobodyMakesASeatByAQuestion(t *testing.T) {
 	d.learnFloor(1, d.floors[1], time.Now())
 	d.leases.hearAll(time.Now())
 	s.silent(3)
-	if s.seats != [qlock.MaxClients]*seat{} {
+	if s.seats.which != 0 || s.rarities != nil {
 		t.Errorf("%v", s.seats)
 	}
-	if says(1, 5, 4, ". claim 5 4 10\n"); s.seats[5] == nil || s.row(5).Epoch != 4 || s.row(5).Base < 50 {
+	if says(1, 5, 4, ". claim 5 4 10\n"); s.seats.at(5) == nil || s.row(5).Epoch != 4 || s.row(5).Base < 50 {
 		t.Errorf("who claims the number has %+v", s.row(5))
 	}
 }
 
-// The name of a session is in memory once, however often it speaks, and whatever it says of itself.
+// The name of a session is in memory once, however often it speaks, and what sessions of one process say is there once for all of them.
 func TestNameIsKeptOnce(t *testing.T) {
-	d := sessions(t, 1)
+	d := claimed(t, 2)
 	at := func(text string) uintptr { return (*reflect.StringHeader)(unsafe.Pointer(&text)).Data }
-	for _, lines := range []string{". open 0\n", ". note m 1 r a\n. process p\n", ". open 0\n"} {
-		d.repliesTo("jobs", 1, lines)
+	s := d.shard(0)
+	name := s.name(1)
+	for number := 1; number <= 2; number++ {
+		for _, lines := range []string{". open 0\n", ". note m 1 r a\n. process p\n", fmt.Sprintf(". roll p %d\n", number), ". open 0\n"} {
+			d.repliesTo("jobs", number, lines)
+		}
+		if s.rare(number) != (rarities{name: s.name(number)}) || s.noteOf(number) != "m 1 r a" || s.saidProcess(number) != "p" {
+			t.Errorf("%+v, %+v", s.seat(number), s.rare(number))
+		}
 	}
-	seat := d.shard(0).seat(1)
-	if seat.name != "jobs.session-1" || at(seat.rarities.note.session) != at(seat.name) || at(seat.process.session) != at(seat.name) {
-		t.Errorf("%+v, %+v", seat, seat.rarities)
+	if name != "jobs.session-1" || at(s.name(1)) != at(name) || s.seat(1).roll != s.seat(2).roll || len(d.leases.rolls) != 2 {
+		t.Errorf("%q, and %+v", s.name(1), d.leases.rolls)
 	}
 }
 
@@ -213,11 +257,11 @@ func TestWhoIsBehind(t *testing.T) {
 				table.asks(number, uint64(random.Intn(int(newest)+1)), newest)
 			}
 			want := uint64(0)
-			for number, seat := range table.seats {
-				if seat != nil && seat.row.Open && seat.asksBy < newest {
+			table.seats.each(func(number int, seat *seat) {
+				if seat.marks.has(isOpen) && uint64(seat.asksBy) < newest {
 					want |= 1 << number
 				}
-			}
+			})
 			if got := table.behindOf(newest); got != want {
 				t.Fatalf("%b are behind plan %d, and not %b", got, newest, want)
 			}
@@ -264,7 +308,7 @@ func (*nowhere) Send(string, []byte) error { return nil }
 func measured(now time.Time, shards int) *Daemon {
 	d := &Daemon{cluster: &config.Cluster{ID: "test", Shards: shards}, own: &config.Voter{MaxLocks: 10}, store: &store{}, ceiling: qlock.MaxStamp,
 		m: newMetrics(), votes: map[string]*vote{}, users: map[string]*usage{}, dirty: map[*vote]struct{}{}, silent: map[*vote]struct{}{},
-		out: map[string][]byte{}, leases: leasesAt(now), carrier: &nowhere{}, mark: "m", join: joining{done: true}, gone: map[string]struct{}{}}
+		out: map[string][]byte{}, leases: leasesAt(now), carrier: &nowhere{}, log: event.To(io.Discard), mark: "m", join: joining{done: true}, gone: map[string]struct{}{}}
 	d.store.meta.Cluster, d.store.meta.Identity, d.store.own.Start = "test", identity("a"), 1
 	return d
 }
@@ -275,14 +319,14 @@ func BenchmarkTurn(b *testing.B) {
 		b.Run(fmt.Sprint(sessions), func(b *testing.B) {
 			d := measured(time.Unix(1000, 0), 1)
 			for number := 0; number < sessions; number++ {
-				d.shard(0).set(number, of(fmt.Sprint("jobs.session-", number), 1, 0, qlock.MaxStamp))
+				d.shard(0).set(number, of(fmt.Sprintf("jobs.%032x", number), 1, 0, qlock.MaxStamp))
 			}
 			for i := 0; i < b.N; i++ {
 				number, word := i/2%sessions, "request"
 				if i%2 == 1 {
 					word = "release"
 				}
-				h := wire.Header{Cluster: "test", Coterie: "m", Kind: wire.FromClient, Number: number, Epoch: 1, Name: fmt.Sprint("session-", number)}
+				h := wire.Header{Cluster: "test", Coterie: "m", Kind: wire.FromClient, Number: number, Epoch: 1, Name: fmt.Sprintf("%032x", number)}
 				message := fmt.Appendf(h.Append(nil), "an-ordinary-lock %s %d 0 %d\n", word, number, i/2+1)
 				if d.Take(Clients, transport.Message{Mailbox: wire.VoterBox("test", 0, "jobs"), Data: message}); len(d.out) != (i+1)%2 {
 					b.Fatalf("%d: %q", i, d.out)

@@ -1,8 +1,7 @@
 package voter
 
 import (
-	"time"
-
+	"calvundek.example/service/internal/moment"
 	"calvundek.example/service/qlock"
 )
 
@@ -12,12 +11,12 @@ import (
 // shard is what a voter keeps of the sessions of a shard.
 type shard struct {
 	table
-	busy    voteList     // the votes that somebody has or waits for
-	waiting *numberQueue // who waits for a number; nil while nobody does
-	open    int          // its sessions, and the numbers that may be claimed, when they were counted last
-	free    int
-	votes   int       // how many locks of it are known
-	used    time.Time // when a message of a session of it came
+	busy    voteList      // the votes that somebody has or waits for
+	waiting *numberQueue  // who waits for a number; nil while nobody does
+	used    moment.Moment // when a message of a session of it came
+	votes   int32         // how many locks of it are known
+	open    uint8         // its sessions, and the numbers that may be claimed, when they were counted last
+	free    uint8
 }
 
 // shard returns what is kept of a shard.
@@ -27,7 +26,7 @@ func (d *Daemon) shard(number int) *shard {
 		if d.shards == nil {
 			d.shards = map[int]*shard{}
 		}
-		s = &shard{table: newTable(&d.leases, number, d.floors[number]), free: qlock.MaxClients}
+		s = &shard{table: newTable(&d.leases, number, d.floors[number]), used: moment.Never, free: qlock.MaxClients}
 		d.shards[number] = s
 		d.inTurn = append(d.inTurn, s)
 		d.census.add(s, 1)

@@ -90,15 +90,16 @@ func (v variety) hasOther(name string) bool { return v.one != "" && v.one != nam
 // shares returns the shares of the numbers that are taken, by the states of all. A number that was claimed, and is not used yet, counts for
 // the session that claimed it, unless that asks again: then it did not get the number.
 func (s *shard) shares(states []int, asks string) shares {
-	taken := newShares()
-	for number, seat := range s.seats {
-		if seat == nil || !seat.row.Open || states[number] != 0 || !seat.row.Used && seat.name != "" && seat.name == asks {
-			continue
+	taken, asking := newShares(), s.called(asks)
+	s.seats.each(func(number int, seat *seat) {
+		isClaimed := !seat.marks.has(isUsed)
+		if !seat.marks.has(isOpen) || states[number] != 0 || isClaimed && s.isOf(number, asking) {
+			return
 		}
-		taken.add(userOf(seat.row.Hash), seat.lock)
-		if !seat.row.Used {
-			taken.claims[seat.name] = true
+		taken.add(s.user(number), seat.lock)
+		if isClaimed {
+			taken.claims[s.name(number)] = true
 		}
-	}
+	})
 	return taken
 }

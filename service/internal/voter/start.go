@@ -154,7 +154,7 @@ func (d *Daemon) isKept(now time.Time) {
 	d.leases.hearAll(now)
 	for _, v := range d.busy.all {
 		client := int(v.held.Client)
-		v.shard.endedByWord(client, v.shard.rare(client).byWord || v.held.Number > 0 && !v.shard.row(client).Open)
+		v.shard.endedByWord(client, v.shard.rare(client).byWord || v.held.Number > 0 && !v.shard.bare(client).Open)
 		if v.held.Number > 0 && v.shard.isEarlier(client, v.held.Stamp) {
 			v.shard.passes(client, now) // this run may not know how the number was passed on
 		}

@@ -49,24 +49,23 @@ func sumOf(text []byte) []byte {
 
 // sum returns the sum of the rows of a shard. It is kept until one of them changes.
 func (t *table) sum() []byte {
-	if t.summed != nil {
-		return t.summed
+	if t.isSummed {
+		return t.summed[:]
 	}
 	var text []byte
-	for number := range t.seats {
-		if row := t.row(number); row.Epoch > 0 {
-			text = row.appendTo(append(text, byte(number)))
+	for number := 0; number < qlock.MaxClients; number++ {
+		if row := t.bare(number); row.Epoch > 0 {
+			text = row.appendTo(append(t.appendHash(append(text, byte(number)), number), 0))
 		}
 	}
-	if t.summed = make([]byte, sumOfShard); text != nil {
-		copy(t.summed, sumOf(text))
+	if t.summed, t.isSummed = [sumOfShard]byte{}, true; text != nil {
+		copy(t.summed[:], sumOf(text))
 	}
-	return t.summed
+	return t.summed[:]
 }
 
-// appendTo appends all of a row that other voters want to know.
+// appendTo appends all of a row that other voters want to know, but for the hash.
 func (s Session) appendTo(text []byte) []byte {
-	text = append(append(text, s.Hash...), 0)
 	for _, number := range []uint64{s.Epoch, s.Base, s.Reserved} {
 		text = binary.AppendUvarint(text, number)
 	}

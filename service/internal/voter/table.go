@@ -1,14 +1,10 @@
 package voter
 
 import (
-	"crypto/sha256"
-	"encoding/hex"
 	"encoding/json"
 	"math"
-	"strings"
 	"time"
 
-	"calvundek.example/service/internal/wire"
 	"calvundek.example/service/qlock"
 )
 
@@ -40,13 +36,6 @@ func (s *Session) UnmarshalJSON(text []byte) error {
 	return nil
 }
 
-// hashed returns what a voter keeps and shows of a session: its user, and a part of the SHA-256 of its name.
-func hashed(session string) string {
-	user, name, _ := strings.Cut(session, ".")
-	sum := sha256.Sum256([]byte(name))
-	return wire.SessionName(user, hex.EncodeToString(sum[:16]))
-}
-
 // The bounds of what a claim or a header may name: how much is left of it is in proved buckets, which begin with half. So a voter
 // that was not asked for long has enough left to follow one that was. A session of a number that was idle follows the stamps that
 // others used: what is bounded is how fast the highest stamp grows.
@@ -68,6 +57,10 @@ type leases struct {
 	changed map[int]Session  // to be saved before anything leaves, by their keys
 	later   map[int]Session  // to be saved with the next save: after a crash a TTL makes up for it
 	dropped map[int]struct{} // rows that go with the next save, as a floor stands for them
+
+	rolls  map[string]*roll        // of the processes of sessions, by their names
+	proved [mostProved]*provedRows // of the tables that were used last
+	single qlock.Row               // the proved row that was looked at last
 }
 
 // table has a row for each client number of a shard. A session claims its number, and is never learned from a
@@ -77,111 +70,68 @@ type leases struct {
 // whose messages were heard.
 type table struct {
 	*leases
-	number   int                     // of the shard
-	behind   uint64                  // the numbers of open sessions that may have a request of an older plan than that, as bits
-	plan     uint64                  // which plan that is
-	vacant   Floor                   // says the rows of the numbers that have no seat
-	seats    [qlock.MaxClients]*seat // of the numbers that were used, or learned of
-	proved   qlock.Table             // the rows of all numbers, as the proved calls read them
-	stamps   qlock.Bucket            // how far the highest stamp may grow
-	heardAs  time.Duration           // when a number counts as heard that has no seat, on the lease clock
-	caughtUp uint64                  // with how many hearings (heard.go)
-	summed   []byte                  // the sum of the rows, nil if it has to be made anew (sums.go)
-}
-
-// seat is what a voter keeps of a number that was used, or learned of, beside its proved row.
-type seat struct {
-	row      Session
-	session  qlock.Session // how the proved row names the session of this one
-	name     string        // of the session, once it was heard in this run; nothing can be sent to others
-	lock     string        // for which the number is: "" if that is not known
-	heard    time.Duration // on the lease clock
-	brought  uint64        // a want brought the number to its session in this run, in which of its messages, and none came under it yet (wants.go)
-	epochs   *qlock.Bucket // how far the epochs of the number may grow; nil until they grow
-	rarities *rarities     // nil until the number needs some of these
-	requests int           // of the session, that have a vote here, or wait for one
-	asksBy   uint64        // the oldest plan of which the session has a request, as it said; 0 before
-	level    uint64        // the newest one that the session knows, 0 until it was heard
-	process  ofProcess     // of which process the session is
-	entry    *entry        // on the roll of that; nil if there is none
-}
-
-// rarities are what few numbers need.
-type rarities struct {
-	note   sessionNote // what the session says of itself
-	passed passed      // when another voter said that another session has the number
-	byWord bool        // the session was ended, by another voter or an operator, and may not know so: its votes go by the lease
-}
-
-// passed is when this voter learned that another session has a number: the session before may not know so, and its votes go by the lease.
-type passed struct {
-	is bool
-	at time.Duration // on the lease clock
+	number   int               // of the shard
+	behind   uint64            // the numbers of open sessions that may have a request of an older plan than that, as bits
+	plan     uint64            // which plan that is
+	vacant   Floor             // says the rows of the numbers that have no seat
+	seats    seats             // of the numbers that were used, or learned of
+	rarities map[int]*rarities // of the numbers that need some; nil while none does
+	stamps   qlock.Bucket      // how far the highest stamp may grow
+	heardAs  time.Duration     // when a number counts as heard that has no seat, on the lease clock
+	caughtUp uint64            // with how many hearings (heard.go)
+	summed   [sumOfShard]byte  // the sum of the rows, if isSummed (sums.go)
+	isSummed bool
 }
 
 // newTable returns the table of a shard that no session has used since it has this floor. What numbers may grow begins with the run.
 func newTable(l *leases, shard int, floor Floor) table {
-	t := table{leases: l, number: shard, vacant: floor, stamps: *qlock.NewBucket(stampRate, mostStamps, 0), caughtUp: l.heard.count}
-	for i := range t.seats {
-		if row := floor.row(i); row != (Session{}) {
-			t.prove(i, row, qlock.Session{})
-		}
-	}
-	return t
+	return table{leases: l, number: shard, vacant: floor, stamps: *qlock.NewBucket(stampRate, mostStamps, 0), caughtUp: l.heard.count}
 }
 
 // seat returns the seat of a number. It makes it if there is none.
 func (t *table) seat(number int) *seat {
-	if t.seats[number] == nil {
-		t.catchUp()
-		t.seats[number] = &seat{row: t.vacant.row(number), heard: t.heardAs}
+	if one := t.seats.at(number); one != nil {
+		return one
 	}
-	return t.seats[number]
+	t.catchUp()
+	row := t.vacant.row(number)
+	one := &seat{epoch: row.Epoch, base: row.Base, reserved: row.Reserved, heard: t.heardAs}
+	one.marks.set(isUsed, row.Used)
+	t.seats.add(number, one)
+	return one
 }
 
 // row returns the row of a number.
 func (t *table) row(number int) Session {
-	if seat := t.seats[number]; seat != nil {
-		return seat.row
-	}
-	return t.vacant.row(number)
+	row := t.bare(number)
+	row.Hash = t.hash(number)
+	return row
 }
 
-// name returns the name of a number's session, "" if it was not heard in this run.
-func (t *table) name(number int) string {
-	if seat := t.seats[number]; seat != nil {
-		return seat.name
+// bare returns the row of a number without its hash, of which a text would have to be made.
+func (t *table) bare(number int) Session {
+	seat := t.seats.at(number)
+	if seat == nil {
+		return t.vacant.row(number)
 	}
-	return ""
-}
-
-// rare returns what few numbers need of a number.
-func (t *table) rare(number int) rarities {
-	if seat := t.seats[number]; seat != nil && seat.rarities != nil {
-		return *seat.rarities
-	}
-	return rarities{}
-}
-
-// needs returns what few numbers need. It makes it if there is none.
-func (s *seat) needs() *rarities {
-	if s.rarities == nil {
-		s.rarities = new(rarities)
-	}
-	return s.rarities
+	return Session{Epoch: seat.epoch, Base: seat.base, Reserved: seat.reserved, Open: seat.marks.has(isOpen), Used: seat.marks.has(isUsed),
+		Dropped: seat.marks.has(isDropped), Lapses: t.rare(number).lapses}
 }
 
 // endedByWord notes whether a number's session was ended and may not know so.
 func (t *table) endedByWord(number int, byWord bool) {
-	if byWord != t.rare(number).byWord {
-		t.seat(number).needs().byWord = byWord
-	}
+	rare := t.rare(number)
+	rare.byWord = byWord
+	t.keep(number, rare)
 }
 
 // asks notes by which plan, the oldest one, the session of a number has a request, where this is the newest plan.
 func (t *table) asks(number int, oldest, newest uint64) {
 	t.behindOf(newest)
-	t.seat(number).asksBy = oldest
+	if seat := t.seat(number); seat.asksBy != short(oldest) {
+		seat.strike()
+		seat.asksBy = short(oldest)
+	}
 	t.noteBehind(number)
 }
 
@@ -190,16 +140,15 @@ func (t *table) asks(number int, oldest, newest uint64) {
 func (t *table) behindOf(plan uint64) uint64 {
 	if t.plan != plan {
 		t.plan = plan
-		for number := range t.seats {
-			t.noteBehind(number)
-		}
+		t.seats.each(func(number int, _ *seat) { t.noteBehind(number) })
 	}
 	return t.behind
 }
 
 // noteBehind notes whether a number is behind, once its row or what its session has may be another one.
 func (t *table) noteBehind(number int) {
-	if t.behind &^= 1 << number; t.seats[number] != nil && t.seats[number].row.Open && t.seats[number].asksBy < t.plan {
+	seat := t.seats.at(number)
+	if t.behind &^= 1 << number; seat != nil && seat.marks.has(isOpen) && uint64(seat.asksBy) < t.plan {
 		t.behind |= 1 << number
 	}
 }
@@ -238,16 +187,9 @@ func (t *table) lapse(number int) {
 // lapses returns the count of a session, 0 if it has no number here. If it has two, as one of which it did not get it counts,
 // too, it is the greater one.
 func (t *table) lapses(name string) (count uint64) {
-	hash := "" // once a row needs it
-	for _, seat := range t.seats {
-		if seat == nil || !seat.row.Open {
-			continue
-		}
-		if seat.name == "" && hash == "" {
-			hash = hashed(name)
-		}
-		if seat.name == name || seat.name == "" && seat.row.Hash == hash {
-			count = greatest(count, seat.row.Lapses)
+	for number, rare := range t.rarities {
+		if rare.lapses > count && t.bare(number).Open && t.session(number, name) == t.owner(number) {
+			count = rare.lapses
 		}
 	}
 	return count
@@ -255,14 +197,14 @@ func (t *table) lapses(name string) (count uint64) {
 
 // isEarlier returns whether a stamp of a number is that of an earlier session than the one that it
 // has now.
-func (t *table) isEarlier(number int, stamp uint64) bool { return stamp <= t.row(number).Base }
+func (t *table) isEarlier(number int, stamp uint64) bool { return stamp <= t.bare(number).Base }
 
 // state returns what a claimer has to know of a number: 1 if it is free, 2 if its session was silent for a TTL, else 0.
 func (t *table) state(number int) int {
-	switch {
-	case !t.isDead(number) || t.row(number).Epoch == math.MaxUint64: // no session can have it
+	switch row := t.bare(number); {
+	case !t.isDead(number) || row.Epoch == math.MaxUint64: // no session can have it
 		return 0
-	case !t.row(number).Open:
+	case !row.Open:
 		return 1
 	}
 	return 2
@@ -279,29 +221,34 @@ func (t *table) states() []int {
 
 // set sets a row. One that the proved rows refuse reads as nobody's.
 func (t *table) set(number int, row Session) {
-	seat := t.seat(number)
-	if !row.Open || row.Hash != seat.row.Hash || row.Epoch != seat.row.Epoch {
-		seat.brought = 0
+	seat, before := t.seat(number), t.bare(number)
+	isOther := !t.hasHash(number, row.Hash)
+	if isOther || row.Epoch != before.Epoch || row.Open != before.Open || row.Lapses != before.Lapses {
+		seat.strike()
 	}
-	seat.row, seat.session, t.summed = row, row.session(), nil
-	t.prove(number, row, seat.session)
+	if isOther {
+		t.setHash(number, row.Hash)
+	}
+	seat.epoch, seat.base, seat.reserved = row.Epoch, row.Base, row.Reserved
+	seat.marks.set(isOpen, row.Open)
+	seat.marks.set(isUsed, row.Used)
+	seat.marks.set(isDropped, row.Dropped)
+	_, err := row.shown(t.owner(number)).Row()
+	rare := t.rare(number)
+	if rare.lapses, rare.isRefused = row.Lapses, err != nil; isOther || row.Epoch != before.Epoch || !row.Open {
+		rare.brought = 0
+	}
+	t.keep(number, rare)
+	if row.Epoch != before.Epoch && t.noteOf(number) != "" {
+		t.setNote(number, "") // it was said in an earlier epoch
+	}
+	t.isSummed = false
+	t.prove(number)
 	t.noteBehind(number)
-}
-
-// prove sets a proved row, whose session has this name there.
-func (t *table) prove(number int, row Session, session qlock.Session) {
-	if r, err := row.row(session); err == nil {
-		t.proved.Put(number, r)
-	} else {
-		t.proved.Put(number, new(qlock.Row))
-	}
 }
 
 // put changes a row. It is saved before anything leaves.
 func (t *table) put(number int, row Session) {
-	if seat := t.seat(number); row.Hash != seat.row.Hash {
-		seat.name = ""
-	}
 	t.set(number, row)
 	t.changed[t.key(number)] = row
 	delete(t.later, t.key(number))
@@ -332,9 +279,12 @@ func (l *leases) saved() {
 
 // judge judges a message by the session that sent it.
 func (t *table) judge(number int, name string, epoch uint64) qlock.Standing {
-	standing, err := t.proved.Judge(number, t.speaker(number, name, epoch))
-	if err != nil {
+	if number < 0 || number >= qlock.MaxClients {
 		return qlock.SessionOver // there is no such number
+	}
+	standing, err := t.one(number).Judge(t.speaker(number, name, epoch))
+	if err != nil {
+		return qlock.SessionOver // never: what is refused reads as nobody's
 	}
 	return standing
 }
@@ -354,7 +304,7 @@ func (t *table) isOver(number int, stamp uint64) bool {
 		byWord = true
 	}
 	isSilent := !t.quiet.is && t.clock.IsSilent(heard, t.ttl)
-	letsGo, err := t.proved.LetsGo(number, stamp, isSilent, byWord)
+	letsGo, err := t.one(number).LetsGo(stamp, isSilent, byWord)
 	return err == nil && letsGo
 }
 
@@ -365,12 +315,12 @@ func (t *table) admit(number int, name string, epoch uint64, now time.Time) qloc
 		return judged
 	}
 	t.hear(number, now)
-	seat := t.seat(number)
-	if seat.brought = 0; seat.name != name { // else the text that is there stays: others have it, too
-		seat.name = name
+	t.brings(number, 0)
+	if one := t.called(name); !t.isOf(number, one) {
+		t.setName(number, one)
 	}
-	if row := seat.row; !row.Used {
-		row.Used = true
+	if row := t.bare(number); !row.Used {
+		row.Hash, row.Used = t.hash(number), true
 		t.note(number, row)
 	}
 	return qlock.SessionKnown
@@ -378,14 +328,14 @@ func (t *table) admit(number int, name string, epoch uint64, now time.Time) qloc
 
 // reserve notes which stamps the session of a number reserves, as far as it may.
 func (t *table) reserve(number int, name string, epoch, wanted uint64, now time.Time) {
-	before := t.row(number)
-	if wanted <= before.Reserved {
+	before := t.bare(number).Reserved
+	if wanted <= before {
 		return
 	}
 	highest := t.highest()
 	most := highest + t.stamps.Left(now.Sub(t.began))
-	row, err := before.after(func(r *qlock.Row) error { return r.Reserve(t.session(number, name), epoch, wanted, most) })
-	if err != nil || row == before || t.spend(&t.stamps, highest, row.Reserved, now) != nil {
+	row, err := t.after(number, func(r *qlock.Row) error { return r.Reserve(t.session(number, name), epoch, wanted, most) })
+	if err != nil || row.Reserved == before || t.spend(&t.stamps, highest, row.Reserved, now) != nil {
 		return
 	}
 	t.put(number, row)
@@ -401,8 +351,8 @@ func (t *table) spend(bucket *qlock.Bucket, before, after uint64, now time.Time)
 
 // highest returns the highest stamp that any number reserved.
 func (t *table) highest() (stamp uint64) {
-	for number := range t.seats {
-		stamp = greatest(stamp, t.row(number).Reserved)
+	for number := 0; number < qlock.MaxClients; number++ {
+		stamp = greatest(stamp, t.bare(number).Reserved)
 	}
 	return stamp
 }
@@ -414,47 +364,48 @@ func (t *table) claim(number int, name string, epoch, stamps uint64, now time.Ti
 	if t.judge(number, name, epoch) == qlock.SessionKnown {
 		return true
 	}
-	if !t.isDead(number) && !(t.isBrought(number) && t.session(number, name) == t.seats[number].session) {
+	if !t.isDead(number) && !(t.isBrought(number) && t.session(number, name) == t.owner(number)) {
 		return false
 	}
-	before, highest, epochs, hash := t.row(number), t.highest(), t.epochs(number), hashed(name)
+	before, highest, grown, hash := t.bare(number).Epoch, t.highest(), t.grown(number), hashed(name)
 	claim := qlock.Claim{
 		Session: sessionOf(hash), Epoch: epoch, Stamps: smallest(stamps, mostClaimed), IsSilent: true,
-		Epochs: epochs.Left(now.Sub(t.began)),
+		Epochs: grown.left(now.Sub(t.began)),
 		Most:   highest + t.stamps.Left(now.Sub(t.began)),
 	}
-	row, err := before.after(func(r *qlock.Row) error { return r.Claim(claim) })
-	if err != nil || t.spend(epochs, before.Epoch, row.Epoch, now) != nil {
+	row, err := t.after(number, func(r *qlock.Row) error { return r.Claim(claim) })
+	if err != nil {
 		return false
 	}
-	t.seat(number).epochs = epochs
-	if t.spend(&t.stamps, highest, row.Reserved, now) != nil {
+	if grown, err = grown.spend(now.Sub(t.began), row.Epoch-before); err != nil {
+		return false
+	}
+	if t.seat(number).grown = grown; t.spend(&t.stamps, highest, row.Reserved, now) != nil {
 		return false
 	}
 	row.Hash, row.Used, row.Lapses = hash, false, 0
 	t.put(number, row)
-	t.seats[number].name = name
+	t.setName(number, t.called(name))
 	t.endedByWord(number, false)
 	t.hear(number, now)
 	return true
 }
 
-// epochs returns the bucket of a number. One that was not used yet begins with the run, and is nowhere kept.
-func (t *table) epochs(number int) *qlock.Bucket {
-	if seat := t.seats[number]; seat != nil && seat.epochs != nil {
-		return seat.epochs
+// grown returns how far the epochs of a number grew in this run.
+func (t *table) grown(number int) growth {
+	if seat := t.seats.at(number); seat != nil {
+		return seat.grown
 	}
-	return qlock.NewBucket(epochRate, mostEpochs, 0)
+	return 0
 }
 
 // drop frees a number that was claimed here, and that the claimer did not get from a quorum. It
 // claims this epoch never again, and others may. It returns whether the number was that session's.
 func (t *table) drop(number int, name string, epoch uint64) bool {
-	before := t.row(number)
-	if before.Used || t.judge(number, name, epoch) != qlock.SessionKnown {
+	if t.bare(number).Used || t.judge(number, name, epoch) != qlock.SessionKnown {
 		return false
 	}
-	row, err := before.after(func(r *qlock.Row) error { return r.TakeBack(t.session(number, name), epoch) })
+	row, err := t.after(number, func(r *qlock.Row) error { return r.TakeBack(t.session(number, name), epoch) })
 	if err == nil {
 		t.put(number, row)
 	}
@@ -463,18 +414,14 @@ func (t *table) drop(number int, name string, epoch uint64) bool {
 
 // end frees a number whose session says that it is over. After a crash it is silent.
 func (t *table) end(number int, name string, epoch uint64) {
-	if row, err := t.row(number).after(func(r *qlock.Row) error { return r.Close(t.session(number, name), epoch) }); err == nil {
+	if row, err := t.after(number, func(r *qlock.Row) error { return r.Close(t.session(number, name), epoch) }); err == nil {
 		t.note(number, row)
 	}
 }
 
 // takes returns whether a REQUEST of this session of a number counts under this stamp.
 func (t *table) takes(number int, name string, epoch, stamp uint64) bool {
-	row, err := t.row(number).proved()
-	if err != nil {
-		return false
-	}
-	takes, err := row.Takes(t.session(number, name), epoch, stamp)
+	takes, err := t.one(number).Takes(t.session(number, name), epoch, stamp)
 	return err == nil && takes
 }
 
@@ -502,7 +449,7 @@ func (t *table) learnBy(call func(row, other *qlock.Row, here, there bool) error
 	if err != nil {
 		return false // it is no row
 	}
-	row, err := before.after(func(r *qlock.Row) error { return call(r, other, before.Used, there.Used) })
+	row, err := t.after(number, func(r *qlock.Row) error { return call(r, other, before.Used, there.Used) })
 	if err != nil {
 		return false
 	}
@@ -541,51 +488,26 @@ func smallest(a, b uint64) uint64 {
 // expel ends a number's session. No message of its epoch counts any more. Unless what it has may go at once it goes by the lease, as if
 // another voter had ended the session.
 func (t *table) expel(number int, atOnce bool) {
-	wasOpen := t.row(number).Open
-	if row, err := t.row(number).after((*qlock.Row).Evict); err == nil {
+	wasOpen := t.bare(number).Open
+	if row, err := t.after(number, (*qlock.Row).Evict); err == nil {
 		row.Hash, row.Used, row.Lapses = "", true, 0
 		t.put(number, row)
 		t.endedByWord(number, !atOnce && (wasOpen || t.rare(number).byWord))
 	}
 }
 
-// session returns the session that has a row, as the proved row names it.
-func (s Session) session() qlock.Session { return sessionOf(s.Hash) }
+// owner returns how the proved rows name the session that a number has.
+func (t *table) owner(number int) qlock.Session {
+	if seat := t.seats.at(number); seat != nil && seat.marks.has(hashInDigits) {
+		return seat.hash.over(seat.roll.mask)
+	}
+	return sessionOf(t.rare(number).hash)
+}
 
 // session returns how the proved rows name the session that speaks for a number.
 func (t *table) session(number int, name string) qlock.Session {
-	if seat := t.seats[number]; seat != nil && seat.name == name {
-		return seat.session
+	if t.isOf(number, t.called(name)) {
+		return t.owner(number)
 	}
 	return sessionOf(hashed(name))
-}
-
-// sessionOf returns how a proved row names a session of this hash.
-func sessionOf(hash string) (session qlock.Session) {
-	sum := sha256.Sum256([]byte(hash))
-	copy(session[:], sum[:])
-	return session
-}
-
-// proved returns the proved row of what is kept of a number: which session has it, and under which stamps it may ask.
-func (s Session) proved() (*qlock.Row, error) { return s.row(s.session()) }
-
-// row returns the proved row, whose session has this name there.
-func (s Session) row(session qlock.Session) (*qlock.Row, error) {
-	return qlock.RowShown{Epoch: s.Epoch, Base: s.Base, Reserved: s.Reserved, IsHeld: s.Open, Session: session,
-		IsAgain: s.Dropped && !s.Open}.Row()
-}
-
-// after returns what is kept after a call of the proved row. A call that is refused changes nothing.
-func (s Session) after(call func(*qlock.Row) error) (Session, error) {
-	r, err := s.proved()
-	if err == nil {
-		err = call(r)
-	}
-	if err != nil {
-		return s, err
-	}
-	shown, err := r.Shows()
-	s.Epoch, s.Base, s.Reserved, s.Open, s.Dropped = shown.Epoch, shown.Base, shown.Reserved, shown.IsHeld, shown.IsAgain
-	return s, err
 }

@@ -37,14 +37,17 @@ func (t *table) all() (rows [qlock.MaxClients]Session) {
 // copied returns a table that is the same as this one, and stays so.
 func (t *table) copied() *table {
 	other := *t
-	for number, one := range t.seats {
-		if one != nil {
-			seat := *one
-			other.seats[number] = &seat
-		}
-	}
+	other.seats, other.rarities = seats{}, nil
+	t.seats.each(func(number int, one *seat) {
+		seat := *one
+		other.seats.add(number, &seat)
+		other.keep(number, t.rare(number))
+	})
 	return &other
 }
+
+// named gives the session of a number its name, as if it was heard.
+func (t *table) named(number int, name string) { t.setName(number, t.called(name)) }
 
 // passes lets a table's lease clock go on to a time.
 func passes(t *table, now time.Time) { t.clock = *qlock.NewClock(periodOf(t.ttl), now.Sub(t.began)) }
@@ -228,15 +231,25 @@ func weight(i, meet int) int {
 // A session that has two numbers here, as one of which it did not get it counts, too, hears the greater count of its lapses.
 func TestLapsesOfTwoNumbers(t *testing.T) {
 	now := time.Now()
-	table := tableAt(now)
-	for _, number := range []int{3, 9, 12} {
-		if !claimAt(table, number, "jobs.me", 1, now) {
-			t.Fatal("no number")
+	for _, name := range []string{"jobs.me", usual[0]} {
+		table := tableAt(now)
+		for _, number := range []int{3, 9, 12} {
+			if !claimAt(table, number, name, 1, now) {
+				t.Fatal("no number")
+			}
 		}
-	}
-	table.lapse(9)
-	if lapses := table.lapses("jobs.me"); lapses != 1 {
-		t.Errorf("%d lapses", lapses)
+		table.lapse(9)
+		if lapses := table.lapses(name); lapses != 1 {
+			t.Errorf("%d lapses", lapses)
+		}
+		table.lapse(12)
+		table.lapse(12)
+		if lapses, others := table.lapses(name), table.lapses("jobs.other"); lapses != 2 || others != 0 {
+			t.Errorf("%d lapses, and %d of another session", lapses, others)
+		}
+		if table.end(12, name, 1); table.lapses(name) != 1 {
+			t.Errorf("%d lapses, where one number is over", table.lapses(name))
+		}
 	}
 }
 

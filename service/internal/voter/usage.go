@@ -33,7 +33,7 @@ func (s *shard) asker(client int, stamp uint64) string {
 	if s.isEarlier(client, stamp) {
 		return ""
 	}
-	return userOf(s.row(client).Hash)
+	return s.user(client)
 }
 
 // usageOf returns what is counted of a user, nil if it is none.
@@ -76,7 +76,7 @@ func (d *Daemon) isAtBound(v *vote, user string) bool {
 // there was no room for another lock of its user, or for any.
 func (d *Daemon) isInTheWay(v *vote) bool {
 	client := int(v.held.Client)
-	return !v.shard.row(client).Open || v.shard.isEarlier(client, v.held.Stamp) ||
+	return !v.shard.bare(client).Open || v.shard.isEarlier(client, v.held.Stamp) ||
 		d.isFullFor(v.asks.of(client)) || d.isFull && len(d.votes) >= d.own.MaxLocks
 }
 

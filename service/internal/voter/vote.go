@@ -115,8 +115,8 @@ func (d *Daemon) noteAsk(v *vote, client int, stamp uint64, now time.Time) {
 // count counts the requests of the session that a number has now. Those of its earlier sessions don't count: nobody of
 // this session waits for them.
 func (s *shard) count(one ask, by int) {
-	if one.stamp > s.row(one.client).Base {
-		s.seat(one.client).requests += by
+	if one.stamp > s.bare(one.client).Base {
+		s.seat(one.client).requests += int32(by)
 	}
 }
 

@@ -65,7 +65,7 @@ func newStage(f *testing.F) *stage {
 	}
 	hand(d, s.said(0, 1, 100, "me", "orders request 0 0 1\n"))
 	if d.votes["orders"] == nil || d.votes["orders"].held.Number != 1 || d.shard(0).row(1).Reserved != 100 {
-		f.Fatalf("%+v", d.shard(0).seats[:2])
+		f.Fatalf("%+v, %+v", d.shard(0).row(0), d.shard(0).row(1))
 	}
 	if err := d.commit(time.Now()); err != nil {
 		f.Fatal(err)

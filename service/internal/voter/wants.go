@@ -1,6 +1,7 @@
 package voter
 
 import (
+	"crypto/sha256"
 	"time"
 
 	"calvundek.example/service/internal/wire"
@@ -29,8 +30,8 @@ func (d *Daemon) want(l *letter, ask wire.Ask, now time.Time) {
 	if l.wanted = ask.Number; l.wanted > 0 {
 		return
 	}
-	if number := l.shard.numberOf(l.Name); number >= 0 && l.shard.isBrought(number) && l.shard.seat(number).brought <= greatest(l.Seq, 1) {
-		l.shard.end(number, l.Name, l.shard.row(number).Epoch)
+	if number := l.shard.numberOf(l.Name); number >= 0 && l.shard.isBrought(number) && l.shard.rare(number).brought <= greatest(l.Seq, 1) {
+		l.shard.end(number, l.Name, l.shard.bare(number).Epoch)
 		d.tellFree(l.shard, now)
 	}
 }
@@ -41,12 +42,11 @@ func (d *Daemon) again(l *letter, now time.Time) int {
 		return -1
 	}
 	number := l.shard.numberOf(l.Name)
-	if number < 0 || !d.gives(l, number, l.shard.row(number).Epoch, 0, now) {
+	if number < 0 || !d.gives(l, number, l.shard.bare(number).Epoch, 0, now) {
 		return -1
 	}
-	if l.shard.isBrought(number) {
-		seat := l.shard.seat(number)
-		seat.brought = greatest(seat.brought, l.Seq)
+	if brought := l.shard.rare(number).brought; brought > 0 {
+		l.shard.brings(number, greatest(brought, l.Seq))
 	}
 	return number
 }
@@ -60,8 +60,8 @@ func (d *Daemon) bring(l *letter, states []int, now time.Time) int {
 	for _, state := range []int{1, 2} {
 		for i := 0; i < qlock.MaxClients; i++ {
 			number := (first + i) % qlock.MaxClients
-			if states[number] == state && d.gives(l, number, l.shard.row(number).Epoch+1, l.wanted, now) {
-				l.shard.seat(number).brought = greatest(l.Seq, 1)
+			if states[number] == state && d.gives(l, number, l.shard.bare(number).Epoch+1, l.wanted, now) {
+				l.shard.brings(number, greatest(l.Seq, 1))
 				return number
 			}
 		}
@@ -70,21 +70,28 @@ func (d *Daemon) bring(l *letter, states []int, now time.Time) int {
 }
 
 // FirstNumber returns at which number a voter begins to look for one that a session gets, by what it calls the session.
-func FirstNumber(session string) int { return int(sessionOf(hashed(session))[0]) % qlock.MaxClients }
+func FirstNumber(session string) int {
+	sum := sha256.Sum256([]byte(hashed(session)))
+	return int(sum[0]) % qlock.MaxClients
+}
 
 // numberOf returns the number that a session has here and that nobody else may claim, -1 if it has none.
 func (t *table) numberOf(name string) int {
-	session := sessionOf(hashed(name))
-	for number, seat := range t.seats {
-		if seat != nil && seat.row.Open && seat.session == session && !t.isDead(number) {
-			return number
+	first, session := -1, sessionOf(hashed(name))
+	t.seats.each(func(number int, seat *seat) {
+		if first < 0 && seat.marks.has(isOpen) && t.owner(number) == session && !t.isDead(number) {
+			first = number
 		}
-	}
-	return -1
+	})
+	return first
+}
+
+// brings notes in which message a want brought a number to its session, 0 once something of that came under it.
+func (t *table) brings(number int, seq uint64) {
+	rare := t.rare(number)
+	rare.brought = seq
+	t.keep(number, rare)
 }
 
 // isBrought returns whether a want brought a number to its session, which did not use it yet.
-func (t *table) isBrought(number int) bool {
-	seat := t.seats[number]
-	return seat != nil && seat.brought > 0
-}
+func (t *table) isBrought(number int) bool { return t.rare(number).brought > 0 }
