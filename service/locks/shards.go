@@ -50,6 +50,7 @@ type part struct {
 	claims *claims.Numbers // those that it made
 	left   time.Duration   // when the first word under that name left that could bring a number, 0 if none did
 	seq    uint64          // of the last message under that name
+	plan   uint64          // the number of the plan by which it was opened last
 	client *Client         // nil if there is none
 
 	short  atomic.Pointer[shortage] // of whoever opens the session (session.short)
@@ -120,7 +121,9 @@ func openShards(ctx context.Context, cluster *config.Cluster, c Config) (*Client
 	}
 	client.followed = time.Now()
 	go client.run()
-	if _, err := client.Who(ctx, "-"); err != nil {
+	greeting := newQuestion(wire.AskWho, "-") // any question does: each reply says which plans there are
+	greeting.isBrief = true
+	if err := client.asks(ctx, greeting); err != nil {
 		_ = client.Close(ctx)
 		return nil, err
 	}
@@ -287,12 +290,7 @@ func (c *Client) openFor(ctx context.Context, p *part, shard int, lock string, t
 		p.name, p.claims = c.cluster.SessionName(shard, nonce), claims.New()
 	}
 	session, err := c.openPart(ctx, p, shard, lock, tries)
-	if errors.Is(err, ErrRetired) && c.call(func() error {
-		if !c.readAgain() {
-			return ErrRetired
-		}
-		return nil
-	}) == nil {
+	if errors.Is(err, ErrRetired) && c.hasNewer(p.plan) {
 		session, err = c.openPart(ctx, p, shard, lock, tries)
 	}
 	why := c.whyClosed()
@@ -359,6 +357,7 @@ func (c *Client) newPart(p *part, lock string, tries bool) (*Client, error) {
 	if err := c.call(func() error { session.plans = c.plans.copied(); return nil }); err != nil {
 		return nil, err
 	}
+	p.plan = session.generation
 	session.meet(len(session.names()))
 	return session, nil
 }
@@ -412,6 +411,16 @@ func (c *Client) readAgain() bool {
 	c.plans = newPlans(cluster)
 	c.meet(len(c.names()))
 	return true
+}
+
+// hasNewer returns whether there is a newer plan than one, in the cluster's file or by what voters said meanwhile.
+func (c *Client) hasNewer(plan uint64) bool {
+	return c.call(func() error {
+		if c.generation <= plan && !c.readAgain() {
+			return ErrRetired
+		}
+		return nil
+	}) == nil
 }
 
 // current returns the session of a shard, nil if there is none that goes on.

@@ -39,6 +39,26 @@ func nameIn(w *worlds.World, shard int) string {
 	}
 }
 
+// A client waits for no voter that is down as it opens, only for a quorum of the others.
+func TestOpenWithAVoterDown(t *testing.T) {
+	w := newShards(t, 2, 2*time.Second)
+	w.Stop(0)
+	c, err := open(within(t, 10*time.Second), w.Cluster, Config{Transport: w.Bus.Port(), FailOver: time.Minute})
+	if err != nil {
+		t.Fatal(err)
+	}
+	if err := take(t, c, nameIn(w, 0)).Unlock(); err != nil {
+		t.Error(err)
+	}
+	brief, cancel := context.WithCancel(context.Background())
+	cancel()
+	_ = c.Close(brief) // the voter that is down is not silent yet
+	w.Stop(1)
+	if _, err = open(within(t, time.Second), w.Cluster, Config{Transport: w.Bus.Port()}); !errors.Is(err, ErrNoQuorum) {
+		t.Errorf("without a quorum: %v", err)
+	}
+}
+
 // A client has locks of all shards, one holder each, and gives all back at the end.
 func TestLocksOfAllShards(t *testing.T) {
 	w := newShards(t, 4, 5*time.Second)
