@@ -148,6 +148,8 @@ type Held struct {
 	over   atomic.Bool  // lost is closed
 	isTold bool         // the loop knows that it may be lost
 
+	unlocked atomic.Bool // Unlock was called
+
 	turning *turning // the last call of Turn
 
 	note    string      // of the lock, "" if it has none of its own
@@ -310,10 +312,18 @@ func (h *Held) Lost() <-chan struct{} { return h.lost }
 // acknowledged heartbeat of the client makes it longer again, up to 0.8 of the TTL. An operator may end a lock before.
 func (h *Held) Left() time.Duration { return h.client.watch.left(h, uptime()) }
 
-// Unlock gives the lock back. It returns ErrLapsed if the lock may have been lost before, also if Lost did not say so yet.
-// It returns ErrNotHeld for the second time.
+// Unlock gives the lock back. It returns ErrLapsed if the lock may have been lost before, also if Lost did not say so yet. If the session is
+// over, errors.Is also finds why. It returns ErrNotHeld for the second time.
 func (h *Held) Unlock() error {
-	return h.client.call(func() error { return h.client.unlock(h) })
+	if h.unlocked.Swap(true) {
+		return ErrNotHeld
+	}
+	isOver := true
+	err := h.client.call(func() error { isOver = false; return h.client.unlock(h) })
+	if isOver {
+		return because{ErrLapsed, err}
+	}
+	return err
 }
 
 // nest is the key of what a holder's context says.

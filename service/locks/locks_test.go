@@ -353,6 +353,12 @@ func TestOperators(t *testing.T) {
 	if _, err := b.Lock(within(t, time.Second), "x"); !errors.Is(err, ErrLost) {
 		t.Error(err)
 	}
+	if err := next.Unlock(); !errors.Is(err, ErrLapsed) || !errors.Is(err, ErrLost) {
+		t.Errorf("who was evicted gives his lock back: %v", err)
+	}
+	if err := next.Unlock(); err != ErrNotHeld {
+		t.Error(err)
+	}
 	if _, err := a.Lock(within(t, time.Second), "x"); err == nil {
 		t.Error("somebody has the lock while who was evicted may work")
 	}

@@ -348,7 +348,7 @@ func TestSessionOfShardIsOver(t *testing.T) {
 	if !isLost(first) || isNow(second.Lost()) {
 		t.Error("an end of one session ends the locks of another shard, or not its own")
 	}
-	if err := first.Unlock(); !errors.Is(err, ErrLapsed) && !errors.Is(err, ErrLost) {
+	if err := first.Unlock(); !errors.Is(err, ErrLapsed) {
 		t.Error(err)
 	}
 	if err := take(t, c, nameIn(w, 0)).Unlock(); err != nil {
