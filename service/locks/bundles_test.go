@@ -217,7 +217,9 @@ func TestMailboxOfAProcess(t *testing.T) {
 	if err := c.Close(within(t, 20*time.Second)); err != nil {
 		t.Error(err)
 	}
-	soon(t, "mailboxes stay", func() bool { return w.Bus.Boxes()-before == 1 })
+	if boxes := w.Bus.Boxes() - before; boxes != 0 {
+		t.Errorf("%d mailboxes stay", boxes)
+	}
 	s := &shards{boxes: map[string]*mailbox{}, over: make(chan struct{}), bundles: &bundles{}}
 	one := alone(t).Client
 	listens := func() {

@@ -66,7 +66,7 @@ type Config struct {
 	DontWait  bool                // Open fails with ErrNumbers at once if all numbers are in use
 	Log       *log.Logger         // gets a line for each event of the session; none if nil
 	FailOver  time.Duration       // for how long a voter is silent before it is passed over; 4 heartbeats if 0
-	Transport transport.Transport // NATS with the cluster's servers if nil; it is not closed with the client
+	Transport transport.Transport // NATS with the cluster's servers if nil; not closed with the client, which only leaves its mailboxes
 }
 
 // FromEnvironment returns how to reach a cluster, by the variables QLOCK_CLUSTER, QLOCK_USER, QLOCK_SECRET,
@@ -97,7 +97,7 @@ type Client struct {
 	cluster *config.Cluster
 	config  Config
 	carrier transport.Transport
-	close   func() // of the carrier
+	close   func() // of the carrier, or of the session's mailboxes if others use that, too
 
 	user     string // as a word of mailboxes
 	messages <-chan transport.Message
@@ -229,13 +229,15 @@ func newNamed(cluster *config.Cluster, c Config, name string, own *claims.Number
 	if !c.NoNote {
 		client.ownNote = ownNote(c.Note)
 	}
-	if client.carrier == nil {
-		link, err := transport.Connect(cluster, access, "qlock client")
-		if err != nil {
-			return nil, err
-		}
-		client.carrier, client.close = link, link.Close
+	if client.carrier != nil {
+		client.close = func() { transport.Leave(client.carrier, client.boxes()) }
+		return client, nil
 	}
+	link, err := transport.Connect(cluster, access, "qlock client")
+	if err != nil {
+		return nil, err
+	}
+	client.carrier, client.close = link, link.Close
 	return client, nil
 }
 
@@ -427,6 +429,7 @@ func (c *Client) Stats() (s Stats) {
 // session. If the context ends first, the TTL frees what is left.
 func (c *Client) Close(ctx context.Context) error {
 	if c.shards != nil {
+		defer c.shards.awaitLeft(ctx)
 		if err := c.closeAll(ctx); err != nil {
 			_ = c.call(func() error { c.end(ErrClosed); return nil })
 			<-c.stopped

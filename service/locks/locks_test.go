@@ -378,6 +378,35 @@ func TestOperators(t *testing.T) {
 	}
 }
 
+// Nothing of a client is left on a transport that it did not make, however it ends.
+func TestMailboxesAreLeft(t *testing.T) {
+	w := worlds.New(t, worlds.Majority, 5*time.Second)
+	before, port := w.Bus.Boxes(), w.Bus.Port()
+	for name, opens := range map[string]func() (*Client, error){
+		"a session":                func() (*Client, error) { return open(within(t, 10*time.Second), w.Cluster, Config{Transport: port}) },
+		"a client that only looks": func() (*Client, error) { return look(w.Cluster, Config{Transport: port}) },
+	} {
+		c, err := opens()
+		if err != nil {
+			t.Fatal(err)
+		}
+		if boxes := w.Bus.Boxes() - before; boxes != 1 {
+			t.Errorf("%s has %d mailboxes", name, boxes)
+		}
+		if err := c.Close(within(t, 10*time.Second)); err != nil {
+			t.Error(err)
+		}
+		if boxes := w.Bus.Boxes() - before; boxes != 0 {
+			t.Errorf("%d mailboxes of %s stay", boxes, name)
+		}
+	}
+	ended, cancel := context.WithCancel(context.Background())
+	cancel()
+	if _, err := open(ended, w.Cluster, Config{Transport: port}); err == nil || w.Bus.Boxes() != before {
+		t.Errorf("%d mailboxes stay of a client that was not opened: %v", w.Bus.Boxes()-before, err)
+	}
+}
+
 // A voter whose state is lost comes back by what the others know. Who has its vote loses the lock, and the guard admits
 // nobody late.
 func TestLostVoter(t *testing.T) {

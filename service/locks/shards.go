@@ -41,6 +41,15 @@ type shards struct {
 	isStopped bool                // the client has ended
 	over      chan struct{}       // closed once no session is left then, either
 	isOver    bool
+	left      chan struct{} // closed once the mailbox of the process was left
+}
+
+// awaitLeft waits until the mailbox of the process was left, or the context ends.
+func (s *shards) awaitLeft(ctx context.Context) {
+	select {
+	case <-s.left:
+	case <-ctx.Done():
+	}
 }
 
 // part is a client's session of a shard.
@@ -115,7 +124,6 @@ func openShards(ctx context.Context, cluster *config.Cluster, c Config) (*Client
 		return nil, err
 	}
 	if err := client.beginShards(); err != nil {
-		transport.Leave(client.carrier, client.boxes())
 		client.close()
 		return nil, err
 	}
@@ -139,7 +147,7 @@ func (c *Client) beginShards() error {
 	process := c.cluster.SessionName(0, nonce)
 	boxes := wire.SessionBoxes(c.cluster.ID, wire.SessionName(c.user, process))
 	c.shards = &shards{all: map[int]*part{}, boxes: map[string]*mailbox{}, over: make(chan struct{}), closing: make(chan struct{}),
-		bundles: &bundles{cluster: c.cluster.ID, process: process, began: time.Now(), carrier: c.carrier}}
+		left: make(chan struct{}), bundles: &bundles{cluster: c.cluster.ID, process: process, began: time.Now(), carrier: c.carrier}}
 	leave, err := transport.Pass(c.carrier, boxes, c.shards.unbundle)
 	if err != nil {
 		return err
@@ -150,6 +158,7 @@ func (c *Client) beginShards() error {
 		c.shards.stops()
 		<-c.shards.over
 		leave()
+		close(c.shards.left)
 	}()
 	return nil
 }
