@@ -29,8 +29,9 @@ const (
 type shards struct {
 	mutex sync.Mutex
 	all   map[int]*part
-	past  Stats          // of the sessions that are over, and what was lost of messages
-	going sync.WaitGroup // sessions that go on, and that are opened
+	open  map[*Client]struct{} // the sessions that are not over, also those that give their numbers back
+	past  Stats                // of the sessions that are over, and what was lost of messages
+	going sync.WaitGroup       // sessions that go on, and that are opened
 
 	closing   chan struct{} // closed once no call of Lock is taken any more
 	isClosing bool
@@ -146,7 +147,7 @@ func (c *Client) beginShards() error {
 	}
 	process := c.cluster.SessionName(0, nonce)
 	boxes := wire.SessionBoxes(c.cluster.ID, wire.SessionName(c.user, process))
-	c.shards = &shards{all: map[int]*part{}, boxes: map[string]*mailbox{}, over: make(chan struct{}), closing: make(chan struct{}),
+	c.shards = &shards{all: map[int]*part{}, open: map[*Client]struct{}{}, boxes: map[string]*mailbox{}, over: make(chan struct{}), closing: make(chan struct{}),
 		left: make(chan struct{}), bundles: &bundles{cluster: c.cluster.ID, process: process, began: time.Now(), carrier: c.carrier}}
 	leave, err := transport.Pass(c.carrier, boxes, c.shards.unbundle)
 	if err != nil {
@@ -350,7 +351,7 @@ func (c *Client) openPart(ctx context.Context, p *part, shard int, lock string, 
 	session.firstTicket()
 	session.flush()
 	session.atEnd = func() { c.shards.forgets(p, session) }
-	c.shards.going.Add(1)
+	c.shards.goesOn(session)
 	c.shards.loopOf(shard).adds(session)
 	return session, nil
 }
@@ -449,6 +450,14 @@ func (c *Client) forgetSession(shard int, session *Client) {
 	}
 }
 
+// goesOn notes that a session is open, until it is over.
+func (s *shards) goesOn(session *Client) {
+	s.mutex.Lock()
+	defer s.mutex.Unlock()
+	s.going.Add(1)
+	s.open[session] = struct{}{}
+}
+
 // forgets notes that a session is over, and keeps what it counted.
 func (s *shards) forgets(p *part, session *Client) {
 	defer s.going.Done()
@@ -456,12 +465,23 @@ func (s *shards) forgets(p *part, session *Client) {
 	s.mutex.Lock()
 	defer s.mutex.Unlock()
 	s.past = s.past.with(session.stats)
+	delete(s.open, session)
 	if p.client == session {
 		p.client = nil
 	}
 }
 
-// sessions returns the sessions that go on.
+// counted returns the sessions that are not over, and what all others counted.
+func (s *shards) counted() (open []*Client, past Stats) {
+	s.mutex.Lock()
+	defer s.mutex.Unlock()
+	for session := range s.open {
+		open = append(open, session)
+	}
+	return open, s.past
+}
+
+// sessions returns the sessions by which locks are taken.
 func (s *shards) sessions() (sessions []*Client) {
 	s.mutex.Lock()
 	defer s.mutex.Unlock()
@@ -476,7 +496,7 @@ func (s *shards) sessions() (sessions []*Client) {
 // closeAll lets no session be opened any more, closes all that there are, and returns the first error of one.
 func (c *Client) closeAll(ctx context.Context) error {
 	c.shards.closes()
-	sessions := c.shards.sessions()
+	sessions, _ := c.shards.counted()
 	errs := make(chan error, len(sessions))
 	for _, session := range sessions {
 		session := session
@@ -491,7 +511,7 @@ func (c *Client) closeAll(ctx context.Context) error {
 	ended := make(chan struct{})
 	go func() { c.shards.going.Wait(); close(ended) }()
 	select {
-	case <-ended: // also those that were giving their numbers back, or were opened
+	case <-ended: // also those that were opened
 	case <-ctx.Done():
 	}
 	return first
@@ -583,10 +603,8 @@ func (s Stats) with(t Stats) Stats {
 
 // statsOfAll returns what all sessions counted.
 func (c *Client) statsOfAll() Stats {
-	c.shards.mutex.Lock()
-	all := c.shards.past
-	c.shards.mutex.Unlock()
-	for _, session := range c.shards.sessions() {
+	open, all := c.shards.counted()
+	for _, session := range open {
 		all = all.with(session.Stats())
 	}
 	return all

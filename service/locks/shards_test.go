@@ -128,6 +128,28 @@ func TestCloseRefusesCallsInAllShards(t *testing.T) {
 	}
 }
 
+// What a client counted never falls, also while a session that nobody takes locks by any more gives its number back. Close ends that one, too.
+func TestCountsOfASessionThatIsReplaced(t *testing.T) {
+	w := newShards(t, 2, 5*time.Second)
+	before := w.Bus.Boxes()
+	c := startWith(t, w, Config{})
+	for passes := uint64(1); passes <= 4; passes++ {
+		if err := take(t, c, nameIn(w, 0)).Unlock(); err != nil {
+			t.Fatal(err)
+		}
+		c.forgetSession(0, c.current(c.shards.part(0)))
+		if count := c.Stats().Passes; count != passes {
+			t.Errorf("%d passes after %d", count, passes)
+		}
+	}
+	if err := c.Close(within(t, 5*time.Second)); err != nil {
+		t.Error(err)
+	}
+	if boxes := w.Bus.Boxes() - before; boxes != 0 || c.Stats().Passes != 4 {
+		t.Errorf("%d mailboxes stay, %d passes", boxes, c.Stats().Passes)
+	}
+}
+
 // Close ends the opening of sessions that find no quorum, and leaves nothing behind.
 func TestCloseEndsWhatIsOpened(t *testing.T) {
 	w := newShards(t, 4, 5*time.Second)
