@@ -113,6 +113,7 @@ type Client struct {
 	missed uint64 // the voters that were silent when the loop last went round
 
 	followed time.Time // when voters were asked last which plans there are
+	follows  uint64    // the question of then, if it was one to all of them
 	looked   int       // the one that was asked alone last
 	locks    map[string]*lock
 	busy     map[*lock]struct{} // locks that ask, are inside, or are wanted

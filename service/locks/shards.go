@@ -390,16 +390,18 @@ const (
 	followsPlans  = 500 * time.Millisecond
 )
 
-// followPlans lets voters say which plans there are, if it is time for that. Any question does, and each reply says it.
+// followPlans lets voters say which plans there are, if it is time for that. Any question does, and each reply says it. One takes the place of
+// the one before, also if that has no quorum's replies.
 func (c *Client) followPlans(now time.Time) {
 	follows, since := c.next != nil || c.isReading || c.older != nil, now.Sub(c.followed)
 	switch {
 	case !c.cluster.HasShards():
 	case follows && since >= followsPlans:
 		c.followed = now
+		delete(c.questions, c.follows)
 		c.newest++
 		q := newQuestion(wire.AskWho, "-")
-		q.ID = c.newest
+		q.ID, c.follows = c.newest, c.newest
 		c.questions[q.ID] = q
 	case since >= looksForPlans:
 		c.followed = now

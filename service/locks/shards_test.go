@@ -330,8 +330,11 @@ func TestRestingClientAsksOneVoterAMinute(t *testing.T) {
 		}
 	}
 	c.isReading = true
-	if c.followPlans(now.Add(time.Second)); len(c.questions) != 1 {
-		t.Errorf("%d questions of one that follows", len(c.questions))
+	for i := 0; i < 3; i++ { // also while no quorum replies
+		now = now.Add(time.Second)
+		if c.followPlans(now); len(c.questions) != 1 || c.questions[c.newest] == nil {
+			t.Errorf("%d questions of one that follows", len(c.questions))
+		}
 	}
 }
 
