@@ -9,6 +9,7 @@ package locks
 import (
 	"context"
 	"errors"
+	"hash/fnv"
 	"sync"
 	"sync/atomic"
 	"time"
@@ -128,7 +129,7 @@ func openShards(ctx context.Context, cluster *config.Cluster, c Config) (*Client
 		client.close()
 		return nil, err
 	}
-	client.followed = time.Now()
+	client.followed, client.looked = time.Now(), firstOf(client.header.Name, len(client.peers))
 	go client.run()
 	greeting := newQuestion(wire.AskWho, "-") // any question does: each reply says which plans there are
 	greeting.isBrief = true
@@ -384,11 +385,19 @@ func (s *shards) loopOf(shard int) *loop {
 }
 
 // Plans are exchanged while a client has no session. So it asks one voter a minute which there are, each in its turn, and all of them more
-// often while it follows. If it missed more than one exchange it reads the cluster's file again.
+// often while it follows. Its name says with which voter it begins, so that many clients ask them all alike. If it missed more than one
+// exchange it reads the cluster's file again.
 const (
 	looksForPlans = time.Minute
 	followsPlans  = 500 * time.Millisecond
 )
+
+// firstOf returns with which of so many voters a session of this name begins.
+func firstOf(name string, voters int) int {
+	hash := fnv.New32a()
+	_, _ = hash.Write([]byte(name))
+	return int(hash.Sum32() % uint32(voters))
+}
 
 // followPlans lets voters say which plans there are, if it is time for that. Any question does, and each reply says it. One takes the place of
 // the one before, also if that has no quorum's replies.

@@ -338,6 +338,21 @@ func TestRestingClientAsksOneVoterAMinute(t *testing.T) {
 	}
 }
 
+// Many clients that want nothing ask all voters alike, as each begins with another one.
+func TestRestingClientsAskAllVoters(t *testing.T) {
+	w := newShards(t, 2, 2*time.Second)
+	asked := map[int]int{}
+	for i := 0; i < 64; i++ {
+		c := startWith(t, w, Config{})
+		_ = c.call(func() error { asked[c.looked]++; return nil })
+	}
+	for v := 0; v < 3; v++ {
+		if asked[v] < 6 { // of some 21
+			t.Errorf("%v of 64 clients begin behind each voter", asked)
+		}
+	}
+}
+
 // nameOf returns one of many names of locks of a shard.
 func nameOf(w *worlds.World, shard, place int) string {
 	for i := 0; ; i++ {
