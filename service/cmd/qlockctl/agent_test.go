@@ -26,7 +26,14 @@ import (
 func agentIn(t *testing.T, ttl time.Duration) (string, *bus.Port) {
 	t.Helper()
 	w := worlds.New(t, worlds.Majority, ttl)
-	port, socket := w.Bus.Port(), filepath.Join(t.TempDir(), "q.sock")
+	port := w.Bus.Port()
+	return agentOn(t, w, port), port
+}
+
+// agentOn starts an agent of a cluster, and returns its socket.
+func agentOn(t *testing.T, w *worlds.World, port *bus.Port) string {
+	t.Helper()
+	socket := filepath.Join(t.TempDir(), "q.sock")
 	listener, err := qlockd.Listen(socket, "")
 	if err != nil {
 		t.Fatal(err)
@@ -41,7 +48,7 @@ func agentIn(t *testing.T, ttl time.Duration) (string, *bus.Port) {
 			t.Error(err)
 		}
 	})
-	return socket, port
+	return socket
 }
 
 // runs returns the exit status of a command.
