@@ -383,6 +383,12 @@ func (c *Client) note(event, format string, words ...interface{}) {
 	}
 }
 
+// shownNumber returns the session's number as operators see it: with the shard in front where there are several.
+func (c *Client) shownNumber() string {
+	shard, _ := c.cluster.ShardOfSession(c.header.Name)
+	return c.cluster.NumberOf(shard*qlock.MaxClients + c.header.Number)
+}
+
 // Number returns the number of the client's session. Operators see it. In a cluster with shards a client has several, and this returns -1.
 func (c *Client) Number() int {
 	if c.shards != nil {
@@ -516,7 +522,11 @@ func (c *Client) end(why error) {
 		return
 	}
 	c.why = why
-	c.note("session-over", "number=%d epoch=%d why=%q", c.header.Number, c.header.Epoch, why)
+	if c.header.Epoch > 0 {
+		c.note("session-over", "number=%s epoch=%d why=%q", c.shownNumber(), c.header.Epoch, why)
+	} else {
+		c.note("session-over", "why=%q", why)
+	}
 	for l := range c.busy {
 		if l.held != nil {
 			c.lose(l.held)

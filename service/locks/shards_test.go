@@ -6,6 +6,7 @@ import (
 	"encoding/json"
 	"errors"
 	"fmt"
+	"log"
 	"math/bits"
 	"os"
 	"path/filepath"
@@ -147,6 +148,24 @@ func TestCountsOfASessionThatIsReplaced(t *testing.T) {
 	}
 	if boxes := w.Bus.Boxes() - before; boxes != 0 || c.Stats().Passes != 4 {
 		t.Errorf("%d mailboxes stay, %d passes", boxes, c.Stats().Passes)
+	}
+}
+
+// The log says the numbers of sessions as operators see them, and none where there is none.
+func TestLogOfShards(t *testing.T) {
+	w := newShards(t, 4, 5*time.Second)
+	var text journal
+	c := startWith(t, w, Config{Log: log.New(&text, "", 0)})
+	if err := take(t, c, nameIn(w, 3)).Unlock(); err != nil {
+		t.Fatal(err)
+	}
+	number := fmt.Sprintf("number=3/%d epoch=1", c.current(c.shards.part(3)).header.Number)
+	if err := c.Close(within(t, 20*time.Second)); err != nil {
+		t.Error(err)
+	}
+	over := fmt.Sprintf("event=session-over %s why=%q\nevent=session-over why=%q\n", number, ErrClosed, ErrClosed)
+	if want := "event=session " + number + "\n" + over; text.String() != want {
+		t.Errorf("%s", text.String())
 	}
 }
 
