@@ -39,7 +39,8 @@ var (
 func runCommand(ctx context.Context, s *settings) *cobra.Command {
 	var grace time.Duration
 	var of taking
-	var socket, note string
+	var note string
+	var by func() string
 	var noNote bool
 	command := &cobra.Command{Use: "run LOCK PROGRAM [ARGUMENT..]", Args: cobra.MinimumNArgs(2), Short: "Run a program that needs a lock",
 		Long: "Takes a lock, runs a program, and gives the lock back. The program finds its pass in QLOCK_PASS, in hexadecimal: " +
@@ -49,9 +50,9 @@ func runCommand(ctx context.Context, s *settings) *cobra.Command {
 			"lock may have been lost, 78 if the settings or the lock's name can't be used or the server refuses the user, 126 if the program can't be " +
 			"started, or 127 if there is none.\n\nWithout the name of a cluster's file or of a user, it takes the lock by the agent of " +
 			"the host, qlockd, if that is there.",
-		RunE: func(command *cobra.Command, args []string) error {
+		RunE: func(_ *cobra.Command, args []string) error {
 			of.lock = args[0]
-			if socket := agentOf(command.Flags(), socket, agent.Socket); socket != "" {
+			if socket := by(); socket != "" {
 				if noNote {
 					return status{exitSettings, errShown}
 				}
@@ -84,8 +85,7 @@ func runCommand(ctx context.Context, s *settings) *cobra.Command {
 	command.Flags().DurationVar(&of.wait, "wait", time.Minute, "how long to wait for the lock")
 	command.Flags().BoolVar(&of.tries, "try", false, "do not wait for somebody else who has the lock")
 	command.Flags().BoolVar(&of.turns, "turn", false, "also get the lock's turn: one number that grows from holder to holder, in QLOCK_TURN")
-	command.Flags().StringVar(&socket, "agent", "",
-		"the socket of the host's agent, or \"none\"; "+agent.Socket+" if it is there, and no cluster or user is named")
+	by = agentFlag(command)
 	command.Flags().DurationVar(&grace, "grace", 0,
 		"how long after SIGTERM SIGKILL is sent; a tenth of the TTL, and at most 1s, if it is 0")
 	command.Flags().StringVar(&note, "note", "",
