@@ -130,9 +130,16 @@ func (a *Agent) Show(ctx context.Context, address string) error {
 	a.show(mux)
 	server := a.server(mux)
 	server.ReadTimeout, server.WriteTimeout = brief, longShown // who does not read keeps none
-	go func() { _ = a.serve(server, bounded{listener, mostShown, new(atomic.Int64), a}) }()
+	go a.keepsShowing(server, listener)
 	go func() { <-ctx.Done(); _ = server.Close() }()
 	return nil
+}
+
+// keepsShowing answers what comes to a listener until the server is closed.
+func (a *Agent) keepsShowing(server *http.Server, listener net.Listener) {
+	if err := a.serve(server, bounded{listener, mostShown, new(atomic.Int64), a}); !errors.Is(err, http.ErrServerClosed) {
+		a.config.Log.Write(event.Error, "metrics-failed", "why", err)
+	}
 }
 
 func (a *Agent) server(handler http.Handler) *http.Server {

@@ -444,6 +444,28 @@ func TestTooManyConnections(t *testing.T) {
 	_ = s.connection.Close()
 }
 
+// If nobody answers /metrics any more the log says so, and it says nothing as the agent ends.
+func TestShowFails(t *testing.T) {
+	for _, fails := range []bool{false, true} {
+		listener, err := net.Listen("tcp", "127.0.0.1:0")
+		if err != nil {
+			t.Fatal(err)
+		}
+		log := &lines{filepath.Join(t.TempDir(), "log")}
+		a := New(Config{Log: event.To(log)})
+		server := a.server(http.NewServeMux())
+		if fails {
+			_ = listener.Close()
+		} else {
+			_ = server.Close()
+		}
+		a.keepsShowing(server, listener)
+		if said := strings.Contains(log.text(), " event=metrics-failed why="); said != fails {
+			t.Errorf("it fails: %v, and the log: %q", fails, log.text())
+		}
+	}
+}
+
 // Who reaches the address of /metrics can't use up the agent's files.
 func TestTooManyWhoLook(t *testing.T) {
 	h := start(t, ttl)
