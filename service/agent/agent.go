@@ -82,6 +82,7 @@ func (a absent) Unwrap() error        { return a.why }
 type Client struct {
 	socket, note string
 	turn         bool
+	idle         time.Duration // 0 for none
 }
 
 // New returns a client of the agent at a socket. Without one it is that of QLOCK_AGENT, or else Socket.
@@ -97,11 +98,27 @@ func New(socket string) *Client {
 
 // WithNote returns a client whose locks have a note: what others see of who has them, besides process and user. Without one it
 // is the name of the process. It is cheap: client.WithNote("nightly").Lock(ctx, "orders") has a note for one lock.
-func (c *Client) WithNote(note string) *Client { return &Client{c.socket, note, c.turn} }
+func (c *Client) WithNote(note string) *Client {
+	with := *c
+	with.note = note
+	return &with
+}
 
 // WithTurn returns a client whose locks have a turn (Held.Turn). All voters of a lock's quorum have to reply for that, so it takes
 // longer, and fails more often.
-func (c *Client) WithTurn() *Client { return &Client{c.socket, c.note, true} }
+func (c *Client) WithTurn() *Client {
+	with := *c
+	with.turn = true
+	return &with
+}
+
+// WithIdle returns a client whose locks are lost once Held.Alive was not called for so long: a process that hangs keeps no lock. Without it,
+// or with 0, a lock lasts as long as its process.
+func (c *Client) WithIdle(idle time.Duration) *Client {
+	with := *c
+	with.idle = idle
+	return &with
+}
 
 // Held is a lock that is held. It belongs to whoever called Lock.
 type Held struct {
@@ -117,6 +134,7 @@ type Held struct {
 	unlocked   bool          // the agent said that it was given back in time; known once ended is closed
 	silent     atomic.Bool   // Lost closed since the agent said nothing
 	over       atomic.Bool   // Unlock was called
+	mayIdle    bool          // the agent waits for Alive
 }
 
 // Lock waits until the caller has the lock, or the context ends.
@@ -141,6 +159,9 @@ func (c *Client) take(ctx context.Context, name string, query url.Values) (*Held
 	}
 	if c.turn {
 		query.Set("turn", "1")
+	}
+	if c.idle > 0 {
+		query.Set("idle", c.idle.String())
 	}
 	if end, has := ctx.Deadline(); has {
 		wait := time.Until(end)
@@ -247,7 +268,8 @@ func ask(connection *net.UnixConn, name string, query url.Values) (*Held, error)
 	if err != nil {
 		return nil, err
 	}
-	h := &Held{connection: connection, lines: bufio.NewReader(reply.Body), lost: make(chan struct{}), ended: make(chan struct{})}
+	h := &Held{connection: connection, lines: bufio.NewReader(reply.Body), lost: make(chan struct{}), ended: make(chan struct{}),
+		mayIdle: query.Has("idle")}
 	said, err := h.line()
 	if err != nil || !said.Held {
 		return nil, fmt.Errorf("%w: %v", ErrUnreachable, err)
@@ -347,6 +369,13 @@ func (h *Held) Left() time.Duration {
 // Lost is closed when the lock may be somebody else's. End the work then, and call Unlock: until then votes that are left
 // keep others out, for a TTL at most. It is also closed by Unlock.
 func (h *Held) Lost() <-chan struct{} { return h.lost }
+
+// Alive says that the work goes on. A lock of WithIdle is lost if that is not said in time. For others it does nothing.
+func (h *Held) Alive() {
+	if h.mayIdle && !h.over.Load() {
+		_, _ = h.connection.Write([]byte{'\n'}) // if the connection has ended, Lost closes
+	}
+}
 
 // Unlock gives the lock back, and waits until the agent did that. It returns ErrLost if the lock may have been lost before.
 // For the second time it is ErrRefused.

@@ -208,7 +208,7 @@ func (b *bundles) takeBeat(to *leaving) {
 	to.beat.count = b.beats
 	message := to.beat.message(b.cluster, b.process)
 	if !to.HasRoom(message) {
-		_ = b.carrier.Send(to.box, to.Take()) // a reminder repeats what is lost
+		b.posts(to.box, to.Take())
 	}
 	to.Add(message)
 	if to.sent = append(to.sent, to.beat); len(to.sent) > mostBeats {

@@ -45,7 +45,7 @@ func (c *table) beatsLeave(voter int) string {
 		emptied(c.boxes[v])
 		c.bundles.mutex.Lock()
 		c.bundles.leave(&c.bundles.to[v])
-		c.bundles.mutex.Unlock()
+		c.bundles.unlock()
 	}
 	if len(c.boxes[voter]) == 0 {
 		return ""

@@ -6,6 +6,10 @@ package locks
 // in one turn comes in one, too, to a mailbox of the process. Both are so only once that voter said that it reads bundles, and until it is
 // started again: it may be of an older program then, and gets messages as before. A bundle changes nothing of its messages. These may be
 // lost, late and out of order in any case.
+//
+// Sending may take long, so nothing is sent under the mutex, and one goroutine holds up no other. What a session says in a turn leaves in that
+// turn, by its own loop. Only a heartbeat that waits may leave by another goroutine, and come after what the session said later. A voter replies
+// to a heartbeat with its count, so it does not matter when that comes. Nor does it of beats.
 
 import (
 	"sync"
@@ -29,6 +33,28 @@ type bundles struct {
 	to      [qlock.MaxVoters]leaving
 	places  places // of the roll of the process (beats.go)
 	beats   uint64 // how many left
+	letters []letter
+}
+
+// letter is a message that leaves once the mutex is free.
+type letter struct {
+	box     string
+	message []byte
+}
+
+// posts lets a message leave once the mutex is free.
+func (b *bundles) posts(box string, message []byte) {
+	b.letters = append(b.letters, letter{box, message})
+}
+
+// unlock frees the mutex, and then sends what leaves. A reminder repeats what is lost.
+func (b *bundles) unlock() {
+	letters := b.letters
+	b.letters = nil
+	b.mutex.Unlock()
+	for _, one := range letters {
+		_ = b.carrier.Send(one.box, one.message)
+	}
 }
 
 // leaving is what waits for the other sessions' heartbeats, to one voter.
@@ -62,14 +88,14 @@ func (b *bundles) readsNow(voter int, since voterStart) {
 // that counts no more, and what waits for it leaves one by one.
 func (b *bundles) heard(voter int, since voterStart) {
 	b.mutex.Lock()
-	defer b.mutex.Unlock()
+	defer b.unlock()
 	to := &b.to[voter]
 	if to.reads(since) {
 		return
 	}
 	to.beat, to.sent = nil, nil // their sessions send heartbeats
 	if to.reader = (voterStart{}); to.Count() > 0 {
-		wire.Messages(to.Take(), func(message []byte) { _ = b.carrier.Send(to.box, message) })
+		wire.Messages(to.Take(), func(message []byte) { b.posts(to.box, message) })
 	}
 }
 
@@ -77,10 +103,10 @@ func (b *bundles) heard(voter int, since voterStart) {
 // later. One that may not takes those along that wait. To a voter that did not say since then that it reads bundles each goes alone.
 func (b *bundles) send(voter int, since voterStart, box string, message []byte, mayWait bool) {
 	b.mutex.Lock()
-	defer b.mutex.Unlock()
+	defer b.unlock()
 	to := &b.to[voter]
 	if !to.reads(since) || !mayWait && to.Count() == 0 {
-		_ = b.carrier.Send(box, message) // a reminder repeats what is lost
+		b.posts(box, message)
 		return
 	}
 	if !to.HasRoom(message) {
@@ -102,16 +128,16 @@ func (b *bundles) leaveLater(to *leaving) {
 	to.waits = true
 	time.AfterFunc(mostHeld, func() {
 		b.mutex.Lock()
-		defer b.mutex.Unlock()
+		defer b.unlock()
 		to.waits = false
 		b.leave(to)
 	})
 }
 
-// leave sends what waits for one voter.
+// leave lets leave what waits for one voter.
 func (b *bundles) leave(to *leaving) {
 	if b.takeBeat(to); to.Count() > 0 {
-		_ = b.carrier.Send(to.box, to.Take()) // a reminder repeats what is lost
+		b.posts(to.box, to.Take())
 	}
 }
 

@@ -217,7 +217,9 @@ func TestMailboxOfAProcess(t *testing.T) {
 	if err := c.Close(within(t, 20*time.Second)); err != nil {
 		t.Error(err)
 	}
-	soon(t, "mailboxes stay", func() bool { return w.Bus.Boxes()-before == 1 })
+	if boxes := w.Bus.Boxes() - before; boxes != 0 {
+		t.Errorf("%d mailboxes stay", boxes)
+	}
 	s := &shards{boxes: map[string]*mailbox{}, over: make(chan struct{}), bundles: &bundles{}}
 	one := alone(t).Client
 	listens := func() {
@@ -395,6 +397,62 @@ func TestBundleIsFull(t *testing.T) {
 	for i := 0; i < 2; i++ {
 		if m := <-c.boxes[1]; len(m.Data) != len(long) {
 			t.Errorf("a message of %d bytes, and each of those in it has %d", len(m.Data), len(long))
+		}
+	}
+}
+
+// slow is a carrier by which nothing leaves to one mailbox until it may.
+type slow struct {
+	transport.Transport
+	box         string
+	sends, goes chan struct{}
+}
+
+func (s *slow) Send(box string, message []byte) error {
+	if box == s.box {
+		s.sends <- struct{}{}
+		<-s.goes
+	}
+	return s.Transport.Send(box, message)
+}
+
+// While a message of one session takes long to leave, as NATS stands still, others go on: they say and hear what they like.
+func TestSlowSendHoldsUpNobody(t *testing.T) {
+	c, came := inBundles(t)
+	other := wire.Header{Cluster: "test", Coterie: c.plan.mark, Kind: wire.FromClient, Number: 7, Epoch: 1, Name: "other"}
+	boxes := []string{wire.VoterBox("test", 0, wire.NoUser), wire.VoterBox("test", 1, wire.NoUser)}
+	carrier := &slow{c.bundles.carrier, boxes[1], make(chan struct{}), make(chan struct{})}
+	c.bundles.carrier = carrier
+	sends := func(voter int, mayWait bool) {
+		c.bundles.send(voter, c.peers[voter].voterStart, boxes[voter], append(other.Append(nil), "orders release 7 0 1\n"...), mayWait)
+	}
+	for _, one := range []struct {
+		name string
+		send func()
+	}{
+		{"alone", func() { sends(1, false) }},
+		{"in a bundle", func() { sends(1, true); sends(1, false) }},
+		{"a moment later", func() { sends(1, true) }},
+		{"to who reads no bundles", func() { c.bundles.heard(1, voterStart{}); sends(1, false) }},
+	} {
+		sent, went := make(chan struct{}), make(chan struct{})
+		go func() { one.send(); close(sent) }()
+		<-carrier.sends
+		go func() {
+			sends(0, false)
+			c.bundles.givePlaceBack(c.bundles.takePlace())
+			c.bundles.joinedTo(1, wire.Told{})
+			close(went)
+		}()
+		select {
+		case <-went:
+		case <-time.After(10 * time.Second):
+			t.Fatalf("%s: a session waits for another one", one.name)
+		}
+		carrier.goes <- struct{}{}
+		<-sent
+		if messages := came(); len(messages) != 2 {
+			t.Errorf("%s: %q", one.name, messages)
 		}
 	}
 }

@@ -66,7 +66,7 @@ type Config struct {
 	DontWait  bool                // Open fails with ErrNumbers at once if all numbers are in use
 	Log       *log.Logger         // gets a line for each event of the session; none if nil
 	FailOver  time.Duration       // for how long a voter is silent before it is passed over; 4 heartbeats if 0
-	Transport transport.Transport // NATS with the cluster's servers if nil; it is not closed with the client
+	Transport transport.Transport // NATS with the cluster's servers if nil; not closed with the client, which only leaves its mailboxes
 }
 
 // FromEnvironment returns how to reach a cluster, by the variables QLOCK_CLUSTER, QLOCK_USER, QLOCK_SECRET,
@@ -97,7 +97,7 @@ type Client struct {
 	cluster *config.Cluster
 	config  Config
 	carrier transport.Transport
-	close   func() // of the carrier
+	close   func() // of the carrier, or of the session's mailboxes if others use that, too
 
 	user     string // as a word of mailboxes
 	messages <-chan transport.Message
@@ -113,6 +113,7 @@ type Client struct {
 	missed uint64 // the voters that were silent when the loop last went round
 
 	followed time.Time // when voters were asked last which plans there are
+	follows  uint64    // the question of then, if it was one to all of them
 	looked   int       // the one that was asked alone last
 	locks    map[string]*lock
 	busy     map[*lock]struct{} // locks that ask, are inside, or are wanted
@@ -147,6 +148,8 @@ type Held struct {
 	until  atomic.Int64 // up to when its votes count, by uptime
 	over   atomic.Bool  // lost is closed
 	isTold bool         // the loop knows that it may be lost
+
+	unlocked atomic.Bool // Unlock was called
 
 	turning *turning // the last call of Turn
 
@@ -227,13 +230,15 @@ func newNamed(cluster *config.Cluster, c Config, name string, own *claims.Number
 	if !c.NoNote {
 		client.ownNote = ownNote(c.Note)
 	}
-	if client.carrier == nil {
-		link, err := transport.Connect(cluster, access, "qlock client")
-		if err != nil {
-			return nil, err
-		}
-		client.carrier, client.close = link, link.Close
+	if client.carrier != nil {
+		client.close = func() { transport.Leave(client.carrier, client.boxes()) }
+		return client, nil
 	}
+	link, err := transport.Connect(cluster, access, "qlock client")
+	if err != nil {
+		return nil, err
+	}
+	client.carrier, client.close = link, link.Close
 	return client, nil
 }
 
@@ -310,10 +315,18 @@ func (h *Held) Lost() <-chan struct{} { return h.lost }
 // acknowledged heartbeat of the client makes it longer again, up to 0.8 of the TTL. An operator may end a lock before.
 func (h *Held) Left() time.Duration { return h.client.watch.left(h, uptime()) }
 
-// Unlock gives the lock back. It returns ErrLapsed if the lock may have been lost before, also if Lost did not say so yet.
-// It returns ErrNotHeld for the second time.
+// Unlock gives the lock back. It returns ErrLapsed if the lock may have been lost before, also if Lost did not say so yet. If the session is
+// over, errors.Is also finds why. It returns ErrNotHeld for the second time.
 func (h *Held) Unlock() error {
-	return h.client.call(func() error { return h.client.unlock(h) })
+	if h.unlocked.Swap(true) {
+		return ErrNotHeld
+	}
+	isOver := true
+	err := h.client.call(func() error { isOver = false; return h.client.unlock(h) })
+	if isOver {
+		return because{ErrLapsed, err}
+	}
+	return err
 }
 
 // nest is the key of what a holder's context says.
@@ -370,6 +383,12 @@ func (c *Client) note(event, format string, words ...interface{}) {
 	}
 }
 
+// shownNumber returns the session's number as operators see it: with the shard in front where there are several.
+func (c *Client) shownNumber() string {
+	shard, _ := c.cluster.ShardOfSession(c.header.Name)
+	return c.cluster.NumberOf(shard*qlock.MaxClients + c.header.Number)
+}
+
 // Number returns the number of the client's session. Operators see it. In a cluster with shards a client has several, and this returns -1.
 func (c *Client) Number() int {
 	if c.shards != nil {
@@ -417,6 +436,7 @@ func (c *Client) Stats() (s Stats) {
 // session. If the context ends first, the TTL frees what is left.
 func (c *Client) Close(ctx context.Context) error {
 	if c.shards != nil {
+		defer c.shards.awaitLeft(ctx)
 		if err := c.closeAll(ctx); err != nil {
 			_ = c.call(func() error { c.end(ErrClosed); return nil })
 			<-c.stopped
@@ -502,7 +522,11 @@ func (c *Client) end(why error) {
 		return
 	}
 	c.why = why
-	c.note("session-over", "number=%d epoch=%d why=%q", c.header.Number, c.header.Epoch, why)
+	if c.header.Epoch > 0 {
+		c.note("session-over", "number=%s epoch=%d why=%q", c.shownNumber(), c.header.Epoch, why)
+	} else {
+		c.note("session-over", "why=%q", why)
+	}
 	for l := range c.busy {
 		if l.held != nil {
 			c.lose(l.held)

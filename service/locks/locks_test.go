@@ -353,6 +353,12 @@ func TestOperators(t *testing.T) {
 	if _, err := b.Lock(within(t, time.Second), "x"); !errors.Is(err, ErrLost) {
 		t.Error(err)
 	}
+	if err := next.Unlock(); !errors.Is(err, ErrLapsed) || !errors.Is(err, ErrLost) {
+		t.Errorf("who was evicted gives his lock back: %v", err)
+	}
+	if err := next.Unlock(); err != ErrNotHeld {
+		t.Error(err)
+	}
 	if _, err := a.Lock(within(t, time.Second), "x"); err == nil {
 		t.Error("somebody has the lock while who was evicted may work")
 	}
@@ -369,6 +375,35 @@ func TestOperators(t *testing.T) {
 	replies, err := console.Ask(within(t, time.Second), "nonsense", 0)
 	if err != nil || replies[0].Err == nil || !strings.Contains(replies[0].Err.Error(), "unknown command") {
 		t.Error(replies, err)
+	}
+}
+
+// Nothing of a client is left on a transport that it did not make, however it ends.
+func TestMailboxesAreLeft(t *testing.T) {
+	w := worlds.New(t, worlds.Majority, 5*time.Second)
+	before, port := w.Bus.Boxes(), w.Bus.Port()
+	for name, opens := range map[string]func() (*Client, error){
+		"a session":                func() (*Client, error) { return open(within(t, 10*time.Second), w.Cluster, Config{Transport: port}) },
+		"a client that only looks": func() (*Client, error) { return look(w.Cluster, Config{Transport: port}) },
+	} {
+		c, err := opens()
+		if err != nil {
+			t.Fatal(err)
+		}
+		if boxes := w.Bus.Boxes() - before; boxes != 1 {
+			t.Errorf("%s has %d mailboxes", name, boxes)
+		}
+		if err := c.Close(within(t, 10*time.Second)); err != nil {
+			t.Error(err)
+		}
+		if boxes := w.Bus.Boxes() - before; boxes != 0 {
+			t.Errorf("%d mailboxes of %s stay", boxes, name)
+		}
+	}
+	ended, cancel := context.WithCancel(context.Background())
+	cancel()
+	if _, err := open(ended, w.Cluster, Config{Transport: port}); err == nil || w.Bus.Boxes() != before {
+		t.Errorf("%d mailboxes stay of a client that was not opened: %v", w.Bus.Boxes()-before, err)
 	}
 }
 

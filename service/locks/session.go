@@ -184,7 +184,7 @@ func (c *Client) begin(ctx context.Context) error {
 			c.opening, c.unused = false, time.Now() // it wanted a number until now
 			c.choice = nil
 			c.short.Store(nil)
-			c.note("session", "number=%d epoch=%d", c.header.Number, c.header.Epoch)
+			c.note("session", "number=%s epoch=%d", c.shownNumber(), c.header.Epoch)
 			return nil
 		}
 		if errors.Is(err, errTaken) {

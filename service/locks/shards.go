@@ -9,6 +9,7 @@ package locks
 import (
 	"context"
 	"errors"
+	"hash/fnv"
 	"sync"
 	"sync/atomic"
 	"time"
@@ -29,8 +30,9 @@ const (
 type shards struct {
 	mutex sync.Mutex
 	all   map[int]*part
-	past  Stats          // of the sessions that are over, and what was lost of messages
-	going sync.WaitGroup // sessions that go on, and that are opened
+	open  map[*Client]struct{} // the sessions that are not over, also those that give their numbers back
+	past  Stats                // of the sessions that are over, and what was lost of messages
+	going sync.WaitGroup       // sessions that go on, and that are opened
 
 	closing   chan struct{} // closed once no call of Lock is taken any more
 	isClosing bool
@@ -41,6 +43,15 @@ type shards struct {
 	isStopped bool                // the client has ended
 	over      chan struct{}       // closed once no session is left then, either
 	isOver    bool
+	left      chan struct{} // closed once the mailbox of the process was left
+}
+
+// awaitLeft waits until the mailbox of the process was left, or the context ends.
+func (s *shards) awaitLeft(ctx context.Context) {
+	select {
+	case <-s.left:
+	case <-ctx.Done():
+	}
 }
 
 // part is a client's session of a shard.
@@ -50,6 +61,7 @@ type part struct {
 	claims *claims.Numbers // those that it made
 	left   time.Duration   // when the first word under that name left that could bring a number, 0 if none did
 	seq    uint64          // of the last message under that name
+	plan   uint64          // the number of the plan by which it was opened last
 	client *Client         // nil if there is none
 
 	short  atomic.Pointer[shortage] // of whoever opens the session (session.short)
@@ -114,13 +126,14 @@ func openShards(ctx context.Context, cluster *config.Cluster, c Config) (*Client
 		return nil, err
 	}
 	if err := client.beginShards(); err != nil {
-		transport.Leave(client.carrier, client.boxes())
 		client.close()
 		return nil, err
 	}
-	client.followed = time.Now()
+	client.followed, client.looked = time.Now(), firstOf(client.header.Name, len(client.peers))
 	go client.run()
-	if _, err := client.Who(ctx, "-"); err != nil {
+	greeting := newQuestion(wire.AskWho, "-") // any question does: each reply says which plans there are
+	greeting.isBrief = true
+	if err := client.asks(ctx, greeting); err != nil {
 		_ = client.Close(ctx)
 		return nil, err
 	}
@@ -135,8 +148,8 @@ func (c *Client) beginShards() error {
 	}
 	process := c.cluster.SessionName(0, nonce)
 	boxes := wire.SessionBoxes(c.cluster.ID, wire.SessionName(c.user, process))
-	c.shards = &shards{all: map[int]*part{}, boxes: map[string]*mailbox{}, over: make(chan struct{}), closing: make(chan struct{}),
-		bundles: &bundles{cluster: c.cluster.ID, process: process, began: time.Now(), carrier: c.carrier}}
+	c.shards = &shards{all: map[int]*part{}, open: map[*Client]struct{}{}, boxes: map[string]*mailbox{}, over: make(chan struct{}), closing: make(chan struct{}),
+		left: make(chan struct{}), bundles: &bundles{cluster: c.cluster.ID, process: process, began: time.Now(), carrier: c.carrier}}
 	leave, err := transport.Pass(c.carrier, boxes, c.shards.unbundle)
 	if err != nil {
 		return err
@@ -147,6 +160,7 @@ func (c *Client) beginShards() error {
 		c.shards.stops()
 		<-c.shards.over
 		leave()
+		close(c.shards.left)
 	}()
 	return nil
 }
@@ -287,12 +301,7 @@ func (c *Client) openFor(ctx context.Context, p *part, shard int, lock string, t
 		p.name, p.claims = c.cluster.SessionName(shard, nonce), claims.New()
 	}
 	session, err := c.openPart(ctx, p, shard, lock, tries)
-	if errors.Is(err, ErrRetired) && c.call(func() error {
-		if !c.readAgain() {
-			return ErrRetired
-		}
-		return nil
-	}) == nil {
+	if errors.Is(err, ErrRetired) && c.hasNewer(p.plan) {
 		session, err = c.openPart(ctx, p, shard, lock, tries)
 	}
 	why := c.whyClosed()
@@ -343,7 +352,7 @@ func (c *Client) openPart(ctx context.Context, p *part, shard int, lock string, 
 	session.firstTicket()
 	session.flush()
 	session.atEnd = func() { c.shards.forgets(p, session) }
-	c.shards.going.Add(1)
+	c.shards.goesOn(session)
 	c.shards.loopOf(shard).adds(session)
 	return session, nil
 }
@@ -359,6 +368,7 @@ func (c *Client) newPart(p *part, lock string, tries bool) (*Client, error) {
 	if err := c.call(func() error { session.plans = c.plans.copied(); return nil }); err != nil {
 		return nil, err
 	}
+	p.plan = session.generation
 	session.meet(len(session.names()))
 	return session, nil
 }
@@ -375,22 +385,32 @@ func (s *shards) loopOf(shard int) *loop {
 }
 
 // Plans are exchanged while a client has no session. So it asks one voter a minute which there are, each in its turn, and all of them more
-// often while it follows. If it missed more than one exchange it reads the cluster's file again.
+// often while it follows. Its name says with which voter it begins, so that many clients ask them all alike. If it missed more than one
+// exchange it reads the cluster's file again.
 const (
 	looksForPlans = time.Minute
 	followsPlans  = 500 * time.Millisecond
 )
 
-// followPlans lets voters say which plans there are, if it is time for that. Any question does, and each reply says it.
+// firstOf returns with which of so many voters a session of this name begins.
+func firstOf(name string, voters int) int {
+	hash := fnv.New32a()
+	_, _ = hash.Write([]byte(name))
+	return int(hash.Sum32() % uint32(voters))
+}
+
+// followPlans lets voters say which plans there are, if it is time for that. Any question does, and each reply says it. One takes the place of
+// the one before, also if that has no quorum's replies.
 func (c *Client) followPlans(now time.Time) {
 	follows, since := c.next != nil || c.isReading || c.older != nil, now.Sub(c.followed)
 	switch {
 	case !c.cluster.HasShards():
 	case follows && since >= followsPlans:
 		c.followed = now
+		delete(c.questions, c.follows)
 		c.newest++
 		q := newQuestion(wire.AskWho, "-")
-		q.ID = c.newest
+		q.ID, c.follows = c.newest, c.newest
 		c.questions[q.ID] = q
 	case since >= looksForPlans:
 		c.followed = now
@@ -414,6 +434,16 @@ func (c *Client) readAgain() bool {
 	return true
 }
 
+// hasNewer returns whether there is a newer plan than one, in the cluster's file or by what voters said meanwhile.
+func (c *Client) hasNewer(plan uint64) bool {
+	return c.call(func() error {
+		if c.generation <= plan && !c.readAgain() {
+			return ErrRetired
+		}
+		return nil
+	}) == nil
+}
+
 // current returns the session of a shard, nil if there is none that goes on.
 func (c *Client) current(p *part) *Client {
 	c.shards.mutex.Lock()
@@ -431,6 +461,14 @@ func (c *Client) forgetSession(shard int, session *Client) {
 	}
 }
 
+// goesOn notes that a session is open, until it is over.
+func (s *shards) goesOn(session *Client) {
+	s.mutex.Lock()
+	defer s.mutex.Unlock()
+	s.going.Add(1)
+	s.open[session] = struct{}{}
+}
+
 // forgets notes that a session is over, and keeps what it counted.
 func (s *shards) forgets(p *part, session *Client) {
 	defer s.going.Done()
@@ -438,12 +476,23 @@ func (s *shards) forgets(p *part, session *Client) {
 	s.mutex.Lock()
 	defer s.mutex.Unlock()
 	s.past = s.past.with(session.stats)
+	delete(s.open, session)
 	if p.client == session {
 		p.client = nil
 	}
 }
 
-// sessions returns the sessions that go on.
+// counted returns the sessions that are not over, and what all others counted.
+func (s *shards) counted() (open []*Client, past Stats) {
+	s.mutex.Lock()
+	defer s.mutex.Unlock()
+	for session := range s.open {
+		open = append(open, session)
+	}
+	return open, s.past
+}
+
+// sessions returns the sessions by which locks are taken.
 func (s *shards) sessions() (sessions []*Client) {
 	s.mutex.Lock()
 	defer s.mutex.Unlock()
@@ -458,7 +507,7 @@ func (s *shards) sessions() (sessions []*Client) {
 // closeAll lets no session be opened any more, closes all that there are, and returns the first error of one.
 func (c *Client) closeAll(ctx context.Context) error {
 	c.shards.closes()
-	sessions := c.shards.sessions()
+	sessions, _ := c.shards.counted()
 	errs := make(chan error, len(sessions))
 	for _, session := range sessions {
 		session := session
@@ -473,7 +522,7 @@ func (c *Client) closeAll(ctx context.Context) error {
 	ended := make(chan struct{})
 	go func() { c.shards.going.Wait(); close(ended) }()
 	select {
-	case <-ended: // also those that were giving their numbers back, or were opened
+	case <-ended: // also those that were opened
 	case <-ctx.Done():
 	}
 	return first
@@ -565,10 +614,8 @@ func (s Stats) with(t Stats) Stats {
 
 // statsOfAll returns what all sessions counted.
 func (c *Client) statsOfAll() Stats {
-	c.shards.mutex.Lock()
-	all := c.shards.past
-	c.shards.mutex.Unlock()
-	for _, session := range c.shards.sessions() {
+	open, all := c.shards.counted()
+	for _, session := range open {
 		all = all.with(session.Stats())
 	}
 	return all

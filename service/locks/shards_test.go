@@ -6,6 +6,7 @@ import (
 	"encoding/json"
 	"errors"
 	"fmt"
+	"log"
 	"math/bits"
 	"os"
 	"path/filepath"
@@ -36,6 +37,26 @@ func nameIn(w *worlds.World, shard int) string {
 		if name := fmt.Sprint("lock-", i); w.Cluster.ShardOfLock(name) == shard {
 			return name
 		}
+	}
+}
+
+// A client waits for no voter that is down as it opens, only for a quorum of the others.
+func TestOpenWithAVoterDown(t *testing.T) {
+	w := newShards(t, 2, 2*time.Second)
+	w.Stop(0)
+	c, err := open(within(t, 10*time.Second), w.Cluster, Config{Transport: w.Bus.Port(), FailOver: time.Minute})
+	if err != nil {
+		t.Fatal(err)
+	}
+	if err := take(t, c, nameIn(w, 0)).Unlock(); err != nil {
+		t.Error(err)
+	}
+	brief, cancel := context.WithCancel(context.Background())
+	cancel()
+	_ = c.Close(brief) // the voter that is down is not silent yet
+	w.Stop(1)
+	if _, err = open(within(t, time.Second), w.Cluster, Config{Transport: w.Bus.Port()}); !errors.Is(err, ErrNoQuorum) {
+		t.Errorf("without a quorum: %v", err)
 	}
 }
 
@@ -105,6 +126,46 @@ func TestCloseRefusesCallsInAllShards(t *testing.T) {
 	}
 	if err := <-closed; err != nil {
 		t.Error(err)
+	}
+}
+
+// What a client counted never falls, also while a session that nobody takes locks by any more gives its number back. Close ends that one, too.
+func TestCountsOfASessionThatIsReplaced(t *testing.T) {
+	w := newShards(t, 2, 5*time.Second)
+	before := w.Bus.Boxes()
+	c := startWith(t, w, Config{})
+	for passes := uint64(1); passes <= 4; passes++ {
+		if err := take(t, c, nameIn(w, 0)).Unlock(); err != nil {
+			t.Fatal(err)
+		}
+		c.forgetSession(0, c.current(c.shards.part(0)))
+		if count := c.Stats().Passes; count != passes {
+			t.Errorf("%d passes after %d", count, passes)
+		}
+	}
+	if err := c.Close(within(t, 5*time.Second)); err != nil {
+		t.Error(err)
+	}
+	if boxes := w.Bus.Boxes() - before; boxes != 0 || c.Stats().Passes != 4 {
+		t.Errorf("%d mailboxes stay, %d passes", boxes, c.Stats().Passes)
+	}
+}
+
+// The log says the numbers of sessions as operators see them, and none where there is none.
+func TestLogOfShards(t *testing.T) {
+	w := newShards(t, 4, 5*time.Second)
+	var text journal
+	c := startWith(t, w, Config{Log: log.New(&text, "", 0)})
+	if err := take(t, c, nameIn(w, 3)).Unlock(); err != nil {
+		t.Fatal(err)
+	}
+	number := fmt.Sprintf("number=3/%d epoch=1", c.current(c.shards.part(3)).header.Number)
+	if err := c.Close(within(t, 20*time.Second)); err != nil {
+		t.Error(err)
+	}
+	over := fmt.Sprintf("event=session-over %s why=%q\nevent=session-over why=%q\n", number, ErrClosed, ErrClosed)
+	if want := "event=session " + number + "\n" + over; text.String() != want {
+		t.Errorf("%s", text.String())
 	}
 }
 
@@ -288,8 +349,26 @@ func TestRestingClientAsksOneVoterAMinute(t *testing.T) {
 		}
 	}
 	c.isReading = true
-	if c.followPlans(now.Add(time.Second)); len(c.questions) != 1 {
-		t.Errorf("%d questions of one that follows", len(c.questions))
+	for i := 0; i < 3; i++ { // also while no quorum replies
+		now = now.Add(time.Second)
+		if c.followPlans(now); len(c.questions) != 1 || c.questions[c.newest] == nil {
+			t.Errorf("%d questions of one that follows", len(c.questions))
+		}
+	}
+}
+
+// Many clients that want nothing ask all voters alike, as each begins with another one.
+func TestRestingClientsAskAllVoters(t *testing.T) {
+	w := newShards(t, 2, 2*time.Second)
+	asked := map[int]int{}
+	for i := 0; i < 64; i++ {
+		c := startWith(t, w, Config{})
+		_ = c.call(func() error { asked[c.looked]++; return nil })
+	}
+	for v := 0; v < 3; v++ {
+		if asked[v] < 6 { // of some 21
+			t.Errorf("%v of 64 clients begin behind each voter", asked)
+		}
 	}
 }
 
@@ -328,7 +407,7 @@ func TestSessionOfShardIsOver(t *testing.T) {
 	if !isLost(first) || isNow(second.Lost()) {
 		t.Error("an end of one session ends the locks of another shard, or not its own")
 	}
-	if err := first.Unlock(); !errors.Is(err, ErrLapsed) && !errors.Is(err, ErrLost) {
+	if err := first.Unlock(); !errors.Is(err, ErrLapsed) {
 		t.Error(err)
 	}
 	if err := take(t, c, nameIn(w, 0)).Unlock(); err != nil {

@@ -150,6 +150,7 @@ type question struct {
 	holders map[string]Holder // once it is over
 
 	observer *observer // whose question it is, nil if it is of Who or List
+	isBrief  bool      // nobody is waited for once a quorum replied
 }
 
 // answer is how far a voter replied to a question.
@@ -244,8 +245,8 @@ func (q *question) of(voter int) *answer {
 	return q.voters[voter]
 }
 
-// isAnsweredBy returns whether a quorum of each plan replied, and all others did or are silent. Once somebody has the votes of a quorum
-// others have a moment to say who waits.
+// isAnsweredBy returns whether a quorum of each plan replied, and all others did or are silent, unless the question is brief. Once somebody
+// has the votes of a quorum others have a moment to say who waits.
 func (c *Client) isAnsweredBy(q *question, now time.Time) bool {
 	var done, awaited uint64
 	silent := c.silent(now)
@@ -258,6 +259,9 @@ func (c *Client) isAnsweredBy(q *question, now time.Time) bool {
 				awaited |= 1 << v
 			}
 		}
+	}
+	if q.isBrief {
+		return c.hasQuorum(done)
 	}
 	if q.Kind == wire.AskWho && len(q.said) > 0 && awaited != 0 {
 		holder := c.holderBy(q.said[q.Lock], now)

@@ -42,7 +42,7 @@ type NATS struct {
 	mailboxes []mailbox
 	passed    map[string]passed // the mailboxes of which a function takes all, by their subjects
 	came      chan *nats.Msg    // what came to these, nil before there was one
-	lost      uint64            // the messages to these that found no room, and that were left since
+	lost      uint64            // the messages that found no room in mailboxes that were left since
 }
 
 // mailbox is what comes to one subject.
@@ -475,8 +475,12 @@ func (n *NATS) Leave(subject string) {
 			kept = append(kept, box)
 			continue
 		}
+		n.lost += dropped(box.subscription)
 		_ = box.subscription.Unsubscribe()
 		close(box.left)
+	}
+	for i := len(kept); i < len(n.mailboxes); i++ {
+		n.mailboxes[i] = mailbox{}
 	}
 	n.mailboxes = kept
 }

@@ -1,15 +1,18 @@
 package main
 
 import (
+	"bytes"
 	"context"
 	"encoding/hex"
 	"encoding/json"
 	"errors"
+	"fmt"
 	"io"
 	"net"
 	"net/http"
 	"os"
 	"path/filepath"
+	"regexp"
 	"strings"
 	"testing"
 	"time"
@@ -26,7 +29,14 @@ import (
 func agentIn(t *testing.T, ttl time.Duration) (string, *bus.Port) {
 	t.Helper()
 	w := worlds.New(t, worlds.Majority, ttl)
-	port, socket := w.Bus.Port(), filepath.Join(t.TempDir(), "q.sock")
+	port := w.Bus.Port()
+	return agentOn(t, w, port), port
+}
+
+// agentOn starts an agent of a cluster, and returns its socket.
+func agentOn(t *testing.T, w *worlds.World, port *bus.Port) string {
+	t.Helper()
+	socket := filepath.Join(t.TempDir(), "q.sock")
 	listener, err := qlockd.Listen(socket, "")
 	if err != nil {
 		t.Fatal(err)
@@ -41,7 +51,7 @@ func agentIn(t *testing.T, ttl time.Duration) (string, *bus.Port) {
 			t.Error(err)
 		}
 	})
-	return socket, port
+	return socket
 }
 
 // runs returns the exit status of a command.
@@ -205,6 +215,57 @@ func TestPassOfTheAgent(t *testing.T) {
 	}
 	if text := hex.EncodeToString(held.Token()); len(text) != 1024 {
 		t.Error(text)
+	}
+	if err := held.Unlock(); err != nil {
+		t.Error(err)
+	}
+}
+
+// By an agent who has a lock is shown as without one, and no cluster's file is read.
+func TestLookByAgent(t *testing.T) {
+	w := worlds.New(t, worlds.Majority, 4*time.Second)
+	port := w.Bus.Port()
+	socket := agentOn(t, w, port)
+	held, err := agent.New(socket).Lock(context.Background(), "x-held")
+	if err != nil {
+		t.Fatal(err)
+	}
+	t.Setenv("QLOCK_AGENT", socket)
+	t.Setenv("QLOCK_CLUSTER", "")
+	ctx, cancel := context.WithTimeout(context.Background(), 20*time.Second)
+	defer cancel()
+	direct, err := locks.Look(locks.Config{Cluster: fileOf(t, w), Transport: port})
+	if err != nil {
+		t.Fatal(err)
+	}
+	defer direct.Close(ctx)
+	byHand := func(of looks) string {
+		var text bytes.Buffer
+		if err := listLocks(ctx, of, "x", true, &text); err != nil {
+			t.Error(err)
+		}
+		holder, err := of.Who(ctx, "x-held")
+		watching, stop := context.WithCancel(ctx)
+		defer stop()
+		changes, failed := of.Watch(watching, "x-held")
+		if err != nil || failed != nil || (<-changes).Session != holder.Session {
+			t.Error(err, failed)
+		}
+		since := regexp.MustCompile(`"since":"[^"]*"`) // by what each of the voters says
+		return since.ReplaceAllString(text.String(), "") + fmt.Sprint(holder.Session, holder.Number, holder.Pid)
+	}
+	if one, other := byHand(direct), byHand(byAgent{agent.New(socket)}); one != other || !strings.Contains(one, "x-held") {
+		t.Errorf("%s\n%s", one, other)
+	}
+	for _, words := range [][]string{{"who", "x-held"}, {"list"}, {"list", "--json", "x"}} {
+		if got := runs(t, words...); got != 0 {
+			t.Errorf("%q: %d", words, got)
+		}
+	}
+	for _, words := range [][]string{{"who", "--agent", "none", "x"}, {"list", "-c", "/there/is/none"}, {"watch", "--agent", "/none.sock", "x"}} {
+		if got := runs(t, words...); got != 1 {
+			t.Errorf("%q: %d", words, got)
+		}
 	}
 	if err := held.Unlock(); err != nil {
 		t.Error(err)

@@ -147,6 +147,29 @@ func (s *settings) connected(cluster *config.Cluster) (locks.Config, *transport.
 	return client, link, err
 }
 
+// How long awaitRefusal waits from one look to the next: at first, as a refusal comes soon if one does, and at most.
+const (
+	firstLook = 10 * time.Millisecond
+	mostLook  = time.Second
+)
+
+// awaitRefusal waits until the user is refused, or the context ends. It looks less and less often.
+func awaitRefusal(ctx context.Context, refusal func() error) {
+	timer := time.NewTimer(firstLook)
+	defer timer.Stop()
+	for wait := firstLook; refusal() == nil; {
+		select {
+		case <-timer.C:
+		case <-ctx.Done():
+			return
+		}
+		if wait *= 2; wait > mostLook {
+			wait = mostLook
+		}
+		timer.Reset(wait)
+	}
+}
+
 // unlessRefused calls a function that connects by a transport. If the server of NATS refuses the user, it ends the function's context,
 // and returns why.
 func unlessRefused(ctx context.Context, by transport.Transport, connect func(ctx context.Context) error) error {
@@ -157,9 +180,7 @@ func unlessRefused(ctx context.Context, by transport.Transport, connect func(ctx
 	ctx, cancel := context.WithCancel(ctx)
 	defer cancel()
 	go func() {
-		for ctx.Err() == nil && link.Refusal() == nil {
-			time.Sleep(10 * time.Millisecond)
-		}
+		awaitRefusal(ctx, link.Refusal)
 		cancel()
 	}()
 	err := connect(ctx)

@@ -8,6 +8,7 @@ import (
 	"time"
 
 	"calvundek.example/service/internal/config"
+	"calvundek.example/service/transport"
 	"github.com/spf13/cobra"
 )
 
@@ -54,5 +55,25 @@ func TestEnvironment(t *testing.T) {
 	var end status
 	if err := execute("run", "l", "true"); !errors.As(err, &end) || end.code != exitSettings {
 		t.Error(err)
+	}
+}
+
+// Who watches for long looks seldom whether its user is refused, and hears of it.
+func TestAwaitRefusal(t *testing.T) {
+	brief, cancel := context.WithTimeout(context.Background(), 300*time.Millisecond)
+	defer cancel()
+	looks := 0
+	if awaitRefusal(brief, func() error { looks++; return nil }); looks > 6 || brief.Err() == nil {
+		t.Errorf("%d looks in 300 ms: %v", looks, brief.Err())
+	}
+	looks = 0
+	awaitRefusal(context.Background(), func() error {
+		if looks++; looks < 4 {
+			return nil
+		}
+		return transport.ErrRefused
+	})
+	if looks != 4 {
+		t.Errorf("%d looks until a refusal", looks)
 	}
 }

@@ -39,7 +39,8 @@ var (
 func runCommand(ctx context.Context, s *settings) *cobra.Command {
 	var grace time.Duration
 	var of taking
-	var socket, note string
+	var note string
+	var by func() string
 	var noNote bool
 	command := &cobra.Command{Use: "run LOCK PROGRAM [ARGUMENT..]", Args: cobra.MinimumNArgs(2), Short: "Run a program that needs a lock",
 		Long: "Takes a lock, runs a program, and gives the lock back. The program finds its pass in QLOCK_PASS, in hexadecimal: " +
@@ -49,9 +50,9 @@ func runCommand(ctx context.Context, s *settings) *cobra.Command {
 			"lock may have been lost, 78 if the settings or the lock's name can't be used or the server refuses the user, 126 if the program can't be " +
 			"started, or 127 if there is none.\n\nWithout the name of a cluster's file or of a user, it takes the lock by the agent of " +
 			"the host, qlockd, if that is there.",
-		RunE: func(command *cobra.Command, args []string) error {
+		RunE: func(_ *cobra.Command, args []string) error {
 			of.lock = args[0]
-			if socket := agentOf(command.Flags(), socket, agent.Socket); socket != "" {
+			if socket := by(); socket != "" {
 				if noNote {
 					return status{exitSettings, errShown}
 				}
@@ -84,8 +85,7 @@ func runCommand(ctx context.Context, s *settings) *cobra.Command {
 	command.Flags().DurationVar(&of.wait, "wait", time.Minute, "how long to wait for the lock")
 	command.Flags().BoolVar(&of.tries, "try", false, "do not wait for somebody else who has the lock")
 	command.Flags().BoolVar(&of.turns, "turn", false, "also get the lock's turn: one number that grows from holder to holder, in QLOCK_TURN")
-	command.Flags().StringVar(&socket, "agent", "",
-		"the socket of the host's agent, or \"none\"; "+agent.Socket+" if it is there, and no cluster or user is named")
+	by = agentFlag(command)
 	command.Flags().DurationVar(&grace, "grace", 0,
 		"how long after SIGTERM SIGKILL is sent; a tenth of the TTL, and at most 1s, if it is 0")
 	command.Flags().StringVar(&note, "note", "",
@@ -176,7 +176,9 @@ func run(ctx context.Context, settings locks.Config, of taking, grace time.Durat
 	}
 	held, err := take(limit, of.lock)
 	if err != nil {
-		return notTaken(limit, err, client.Silent(), of)
+		return notTaken(limit, err, client.Silent(), of, func() string {
+			return nowHeld(func(ctx context.Context) (holder, error) { return client.Who(ctx, of.lock) })
+		})
 	}
 	turn := uint64(0)
 	if of.turns {
@@ -206,13 +208,52 @@ func runByAgent(ctx context.Context, client *agent.Client, of taking, grace time
 		}
 	}
 	if err != nil {
-		return status{exitNoLock, err}
+		return status{exitNoLock, withHolder(client, of, err)}
 	}
 	if grace, err = graceWithin(held.TTL(), grace); err != nil {
 		_ = held.Unlock()
 		return status{exitSettings, err}
 	}
 	return runWith(ctx, held, of, held.Turn(), grace, words)
+}
+
+// withHolder returns why the host's agent gave no lock, and who has it if that is known.
+func withHolder(client *agent.Client, of taking, err error) error {
+	fault := &agent.Fault{}
+	switch {
+	case errors.Is(err, agent.ErrTimeout):
+		return fmt.Errorf("%w%s", err, nowHeld(func(ctx context.Context) (holder, error) { return client.Who(ctx, of.lock) }))
+	case errors.As(err, &fault) && fault.Holder != nil:
+		by := *fault.Holder
+		by.Asked = false // one voter said so
+		return heldBy(of.lock, by)
+	}
+	return err
+}
+
+// holder is who has a lock, as voters say.
+type holder interface {
+	fmt.Stringer
+	IsNobody() bool
+}
+
+// heldBy is the error of a command that only tries to get a lock.
+func heldBy(lock string, by holder) error {
+	return fmt.Errorf("%s: somebody else has the lock: %v", lock, by)
+}
+
+// asksWho is for how long a command that got no lock asks who has it.
+const asksWho = time.Second
+
+// nowHeld returns who has a lock that was not to be had in time, as the end of a message, "" if that is not known.
+func nowHeld(who func(ctx context.Context) (holder, error)) string {
+	ctx, cancel := context.WithTimeout(context.Background(), asksWho)
+	defer cancel()
+	by, err := who(ctx)
+	if err != nil || by.IsNobody() {
+		return ""
+	}
+	return fmt.Sprint("; who has it now: ", by)
 }
 
 // isDown returns whether no agent listens at the socket, so that another try may help later.
@@ -252,16 +293,21 @@ func runWith(ctx context.Context, held owned, of taking, turn uint64, grace time
 }
 
 // notTaken returns the status of a command that did not get its lock, and why, as far as this client knows. Who had no number asked nobody
-// for the lock, so it does not say that somebody else had that. Else voters that are silent may be why.
-func notTaken(limit context.Context, err error, silent []string, of taking) error {
+// for the lock, so it does not say that somebody else had that. Else voters that are silent may be why. The last function says who has it now.
+func notTaken(limit context.Context, err error, silent []string, of taking, now func() string) error {
+	by := &locks.HeldBy{}
 	switch {
+	case errors.As(err, &by):
+		holder := by.Holder
+		holder.Asked = false // one voter said so
+		return status{exitNoLock, heldBy(of.lock, holder)}
 	case errors.Is(err, locks.ErrNumbers) || errors.Is(err, locks.ErrNoQuorum):
 		return status{exitNoLock, fmt.Errorf("%s: %w", of.lock, err)}
 	case errors.Is(err, context.DeadlineExceeded) && len(silent) > 0:
-		return status{exitNoLock, fmt.Errorf("%s: the lock was not to be had for %v; these voters are silent: %s", of.lock, of.wait,
-			strings.Join(silent, ", "))}
+		return status{exitNoLock, fmt.Errorf("%s: the lock was not to be had for %v; these voters are silent: %s%s", of.lock, of.wait,
+			strings.Join(silent, ", "), now())}
 	case errors.Is(err, context.DeadlineExceeded):
-		return status{exitNoLock, fmt.Errorf("%s: somebody else had the lock for %v", of.lock, of.wait)}
+		return status{exitNoLock, fmt.Errorf("%s: somebody else had the lock for %v%s", of.lock, of.wait, now())}
 	case errors.Is(err, locks.ErrFull) || errors.Is(err, locks.ErrHeld):
 		return status{exitNoLock, err}
 	}

@@ -8,9 +8,12 @@ import (
 	"os"
 	"os/exec"
 	"path/filepath"
+	"regexp"
+	"strings"
 	"testing"
 	"time"
 
+	"calvundek.example/service/agent"
 	"calvundek.example/service/internal/worlds"
 	"calvundek.example/service/locks"
 )
@@ -134,7 +137,7 @@ func (o outOfTime) Unwrap() error        { return context.DeadlineExceeded }
 func TestNotTaken(t *testing.T) {
 	over, cancel := context.WithCancel(context.Background())
 	cancel()
-	of := taking{lock: "x", wait: 2 * time.Second}
+	of, now := taking{lock: "x", wait: 2 * time.Second}, func() string { return "; who has it now: one" }
 	for _, one := range []struct {
 		err    error
 		silent []string
@@ -144,20 +147,51 @@ func TestNotTaken(t *testing.T) {
 		{outOfTime{locks.ErrNumbers}, nil, exitNoLock, "x: " + locks.ErrNumbers.Error()},
 		{outOfTime{locks.ErrNumbers}, []string{"a"}, exitNoLock, "x: " + locks.ErrNumbers.Error()},
 		{outOfTime{locks.ErrNoQuorum}, nil, exitNoLock, "x: " + locks.ErrNoQuorum.Error()},
-		{context.DeadlineExceeded, nil, exitNoLock, "x: somebody else had the lock for 2s"},
-		{context.DeadlineExceeded, []string{"a", "b"}, exitNoLock, "x: the lock was not to be had for 2s; these voters are silent: a, b"},
+		{context.DeadlineExceeded, nil, exitNoLock, "x: somebody else had the lock for 2s; who has it now: one"},
+		{context.DeadlineExceeded, []string{"a", "b"}, exitNoLock, "x: the lock was not to be had for 2s; these voters are silent: a, b; who has it now: one"},
 		{locks.ErrHeld, nil, exitNoLock, locks.ErrHeld.Error()},
+		{&locks.HeldBy{Lock: "x", Holder: locks.Holder{Session: "2/3", Note: "one", Asked: true}}, nil, exitNoLock,
+			`x: somebody else has the lock: client 2/3 note="one"`},
 		{locks.ErrFull, nil, exitNoLock, locks.ErrFull.Error()},
 		{locks.ErrLost, nil, exitNoLock, "x: " + locks.ErrLost.Error()},
 	} {
 		var got status
-		if !errors.As(notTaken(over, one.err, one.silent, of), &got) || got.code != one.code || got.Error() != one.text {
+		if !errors.As(notTaken(over, one.err, one.silent, of, now), &got) || got.code != one.code || got.Error() != one.text {
 			t.Errorf("%v: %d, %v", one.err, got.code, got)
 		}
 	}
 	var got status
-	if !errors.As(notTaken(context.Background(), locks.ErrName, nil, of), &got) || got.code != exitSettings {
+	if !errors.As(notTaken(context.Background(), locks.ErrName, nil, of, now), &got) || got.code != exitSettings {
 		t.Errorf("a bad name: %d", got.code)
+	}
+}
+
+// A command that does not get its lock says who has it, and for how long it waited, whether it takes it by an agent or not.
+func TestWhoHadTheLock(t *testing.T) {
+	w := worlds.New(t, worlds.Majority, 4*time.Second)
+	path, socket := fileOf(t, w), agentOn(t, w, w.Bus.Port())
+	held, err := agent.New(socket).Lock(context.Background(), "x")
+	if err != nil {
+		t.Fatal(err)
+	}
+	for _, of := range []taking{{lock: "x", wait: 300 * time.Millisecond}, {lock: "x", wait: 10 * time.Second, tries: true}} {
+		settings := locks.Config{Cluster: path, Transport: w.Bus.Port()}
+		for name, err := range map[string]error{
+			"alone":       run(context.Background(), settings, of, 0, []string{"true"}),
+			"by an agent": runByAgent(context.Background(), agent.New(socket), of, 0, []string{"true"}),
+		} {
+			text := fmt.Sprint(err)
+			isRight := strings.HasPrefix(text, "x: somebody else has the lock: ")
+			if !of.tries {
+				isRight = regexp.MustCompile("for [0-9]{3}ms; who has it now: ").MatchString(text)
+			}
+			if !isRight || !strings.Contains(text, fmt.Sprint(" pid=", os.Getpid())) || strings.Contains(text, "asked") {
+				t.Errorf("%s, tries %v: %s", name, of.tries, text)
+			}
+		}
+	}
+	if err := held.Unlock(); err != nil {
+		t.Error(err)
 	}
 }
 

@@ -81,6 +81,14 @@ type session struct {
 // ttl returns the TTL of the cluster.
 func (s *session) ttl() time.Duration { return s.cluster.TTL.Duration }
 
+// shows returns what the log says of the session: its number, unless it has one in each shard.
+func (s *session) shows() []interface{} {
+	if number := s.Number(); number >= 0 {
+		return []interface{}{"number", number}
+	}
+	return nil
+}
+
 // New returns an agent that has no session yet.
 func New(c Config) *Agent {
 	a := &Agent{config: c, closing: make(chan struct{}), changed: make(chan struct{}), places: map[string]*place{}, holders: map[string]*place{},
@@ -122,9 +130,16 @@ func (a *Agent) Show(ctx context.Context, address string) error {
 	a.show(mux)
 	server := a.server(mux)
 	server.ReadTimeout, server.WriteTimeout = brief, longShown // who does not read keeps none
-	go func() { _ = a.serve(server, bounded{listener, mostShown, new(atomic.Int64), a}) }()
+	go a.keepsShowing(server, listener)
 	go func() { <-ctx.Done(); _ = server.Close() }()
 	return nil
+}
+
+// keepsShowing answers what comes to a listener until the server is closed.
+func (a *Agent) keepsShowing(server *http.Server, listener net.Listener) {
+	if err := a.serve(server, bounded{listener, mostShown, new(atomic.Int64), a}); !errors.Is(err, http.ErrServerClosed) {
+		a.config.Log.Write(event.Error, "metrics-failed", "why", err)
+	}
 }
 
 func (a *Agent) server(handler http.Handler) *http.Server {
@@ -199,10 +214,10 @@ func (a *Agent) haveSessions(ctx context.Context) {
 			continue
 		}
 		wait = pause
-		a.config.Log.Write(event.Info, "session", "number", s.Number())
+		a.config.Log.Write(event.Info, "session", s.shows()...)
 		select {
 		case <-s.Done():
-			a.config.Log.Write(event.Warning, "session-over", "number", s.Number(), "why", s.Err())
+			a.config.Log.Write(event.Warning, "session-over", append(s.shows(), "why", s.Err())...)
 			a.change(nil, s.Err())
 		case <-ctx.Done():
 			last, cancel := context.WithTimeout(context.Background(), brief)

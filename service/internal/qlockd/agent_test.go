@@ -444,6 +444,63 @@ func TestTooManyConnections(t *testing.T) {
 	_ = s.connection.Close()
 }
 
+// A lock of a client with an idle time lasts as long as its holder says that it lives. Others need not say it.
+func TestAliveByAgent(t *testing.T) {
+	h := start(t, ttl)
+	client := agent.New(h.socket)
+	idles, err := client.WithIdle(time.Second).WithNote("idles").Lock(h.within(), "x")
+	if err != nil {
+		t.Fatal(err)
+	}
+	other, err := client.Lock(h.within(), "y")
+	if err != nil {
+		t.Fatal(err)
+	}
+	for n := 0; n < 20; n++ {
+		time.Sleep(100 * time.Millisecond)
+		idles.Alive()
+		other.Alive()
+	}
+	if idles.Left() == 0 || other.Left() == 0 {
+		t.Error("a lock is lost whose holder lives")
+	}
+	select {
+	case <-idles.Lost():
+	case <-time.After(20 * time.Second):
+		t.Error("who is idle keeps its lock")
+	}
+	idles.Alive() // too late
+	if err := idles.Unlock(); !errors.Is(err, agent.ErrLost) {
+		t.Error(err)
+	}
+	if err := other.Unlock(); err != nil {
+		t.Error(err)
+	}
+	idles.Alive()
+}
+
+// If nobody answers /metrics any more the log says so, and it says nothing as the agent ends.
+func TestShowFails(t *testing.T) {
+	for _, fails := range []bool{false, true} {
+		listener, err := net.Listen("tcp", "127.0.0.1:0")
+		if err != nil {
+			t.Fatal(err)
+		}
+		log := &lines{filepath.Join(t.TempDir(), "log")}
+		a := New(Config{Log: event.To(log)})
+		server := a.server(http.NewServeMux())
+		if fails {
+			_ = listener.Close()
+		} else {
+			_ = server.Close()
+		}
+		a.keepsShowing(server, listener)
+		if said := strings.Contains(log.text(), " event=metrics-failed why="); said != fails {
+			t.Errorf("it fails: %v, and the log: %q", fails, log.text())
+		}
+	}
+}
+
 // Who reaches the address of /metrics can't use up the agent's files.
 func TestTooManyWhoLook(t *testing.T) {
 	h := start(t, ttl)

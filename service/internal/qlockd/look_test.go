@@ -525,6 +525,15 @@ func TestNoNumberOfShard(t *testing.T) {
 	}
 }
 
+// The log says no number where the agent has one in each shard.
+func TestLogOfAgentWithShards(t *testing.T) {
+	cluster := worlds.NewCluster(t, worlds.Majority, ttl)
+	cluster.Shards = 2
+	w := worlds.NewOf(t, cluster)
+	h := startIn(t, w, fileOf(t, w))
+	h.until("a session", func() bool { return strings.Contains(h.log.text(), " event=session\n") })
+}
+
 // Whose time ended while the agent had no number of the lock's shard hears that, and not that somebody has the lock.
 func TestTimeThatEndsWithoutANumber(t *testing.T) {
 	cluster := worlds.NewCluster(t, worlds.Majority, ttl)

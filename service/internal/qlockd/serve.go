@@ -385,6 +385,7 @@ func (a *Agent) explain(connection context.Context, s *session, of asked, err er
 	if s == nil {
 		return err
 	}
+	of.wait = rounded(of.wait)
 	if errors.Is(err, locks.ErrNumbers) {
 		return fmt.Errorf("%s: %w", of.name, err)
 	}
@@ -405,6 +406,14 @@ func (a *Agent) explain(connection context.Context, s *session, of asked, err er
 		return fmt.Errorf("%s: %w, for %v%s", of.name, errNoNumber, of.wait, silent)
 	}
 	return fmt.Errorf("%s: %w, for %v%s", of.name, errTimeout, of.wait, silent)
+}
+
+// rounded returns a time as people read it: clients say to the nanosecond how long they wait.
+func rounded(wait time.Duration) time.Duration {
+	if wait < time.Second {
+		return wait.Round(time.Millisecond)
+	}
+	return wait.Round(100 * time.Millisecond)
 }
 
 func isClosed(c <-chan struct{}) bool {
