@@ -200,9 +200,6 @@ func (s *store) begin(want Meta) error {
 	if err := s.own.refusal(); err != nil {
 		return err
 	}
-	if err := s.disk.Check(); err != nil {
-		return err
-	}
 	s.own.Start++
 	for root := 0; root < 2; root++ {
 		if err := s.update(s.saves, func(b *batch) error { return b.putOwn(s.own) }); err != nil {
