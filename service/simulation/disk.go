@@ -109,9 +109,6 @@ func (d *disk) put(all rows) {
 	d.votes, d.sessions, d.own = map[string]savedVote{}, map[string]savedSession{}, savedOwn{}
 }
 
-// Check finds nothing: rows have checksums, and are all that there is.
-func (d *disk) Check() error { return nil }
-
 // Sync has nothing to do.
 func (d *disk) Sync() error { return nil }
 

@@ -5,6 +5,7 @@ import (
 	"context"
 	"errors"
 	"fmt"
+	"io"
 	"math/rand"
 	"os"
 	"path/filepath"
@@ -12,7 +13,9 @@ import (
 	"testing"
 	"time"
 
+	"calvundek.example/service/internal/bus"
 	"calvundek.example/service/internal/config"
+	"calvundek.example/service/internal/event"
 	"calvundek.example/service/internal/voter"
 	"calvundek.example/service/internal/worlds"
 )
@@ -132,7 +135,7 @@ func TestUnit(t *testing.T) {
 }
 
 // Whatever is damaged or cut off: a start with it ends with one line and the status that no restart
-// helps, also where a read ends the process. Or it is nothing that a voter reads.
+// helps, also where a read ends the process. Or it is nothing that a voter reads, which starts as before.
 func TestDamagedStarts(t *testing.T) {
 	t.Setenv("VOTER_MAIN", "1")
 	file, data := files(t)
@@ -152,6 +155,7 @@ func TestDamagedStarts(t *testing.T) {
 		}
 		err := checkApart(context.Background(), file, data)
 		if err == nil && !isFound {
+			opens(t, what, file)
 			return false
 		}
 		if err == nil || exitStatus(err) != exitHopeless || strings.Contains(err.Error(), "\n") {
@@ -186,6 +190,25 @@ func TestDamagedStarts(t *testing.T) {
 	}
 	if found < 10 {
 		t.Errorf("%d bits were found", found)
+	}
+}
+
+// opens opens a state of which the check found nothing, and ends the voter.
+func opens(t *testing.T, what, file string) {
+	t.Helper()
+	own, cluster, err := config.ReadVoter(file)
+	if err != nil {
+		t.Fatal(err)
+	}
+	daemon, err := voter.Open(own, cluster, bus.New(1).Port(), event.To(io.Discard))
+	if err != nil {
+		t.Errorf("%s: nothing is found, and the state can't be opened: %v", what, err)
+		return
+	}
+	ended, end := context.WithCancel(context.Background())
+	end()
+	if err := daemon.Run(ended); err != nil {
+		t.Errorf("%s: nothing is found, and the voter ends: %v", what, err)
 	}
 }
 

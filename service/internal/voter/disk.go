@@ -75,8 +75,6 @@ type Disk interface {
 	View(read func(Rows) error) error
 	// Update changes rows in one transaction. When it returns nil all changes are durable. Else all or none of them are.
 	Update(change func(Rows) error) error
-	// Check looks at how the rows are kept.
-	Check() error
 	// Sync makes durable that there is a state.
 	Sync() error
 	// Close ends the use of the state. One process has it at a time.

@@ -58,22 +58,9 @@ func makeBuckets(tx *bbolt.Tx) error {
 	return nil
 }
 
-// Check looks at all pages of the file.
-func (f *fileDisk) Check() error { return f.db.View(check) }
-
 func (f *fileDisk) Sync() error { return syncFolders(f.folder) }
 
 func (f *fileDisk) Close() error { return f.db.Close() }
-
-// check looks at all pages of a file.
-func check(tx *bbolt.Tx) (err error) {
-	for fault := range tx.Check() {
-		if err == nil {
-			err = fmt.Errorf("%w: %v", ErrDamaged, fault)
-		}
-	}
-	return err
-}
 
 // fileRows are the rows of a file.
 type fileRows struct{ tx *bbolt.Tx }

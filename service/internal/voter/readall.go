@@ -16,36 +16,43 @@ type saved[T any] struct {
 }
 
 // readAll reads all rows of a bucket, some of them at a time by several goroutines, and hands what it read to a function, in the order of the
-// keys. It ends with the first error.
+// keys. While some are read, those before them are handed on. It ends with the first error.
 func readAll[T any](rows Rows, bucket []byte, read func(key, value []byte) (T, error), use func(T) error) error {
-	var some []saved[T]
-	flush := func() error {
-		readSome(bucket, some, read)
-		for i := range some {
-			if some[i].err == nil {
-				some[i].err = use(some[i].read)
-			}
-			if some[i].err != nil {
-				return some[i].err
-			}
-		}
-		some = some[:0]
-		return nil
+	var before, some []saved[T]
+	step := func() error {
+		wait := readSome(bucket, some, read)
+		err := useSome(before, use)
+		wait()
+		before, some = some, before[:0]
+		return err
 	}
 	err := rows.Each(bucket, func(key, row []byte) error {
 		if some = append(some, saved[T]{key: key, row: row}); len(some) < mostRead {
 			return nil
 		}
-		return flush()
+		return step()
 	})
-	if err == nil {
-		err = flush()
+	for last := 0; last < 2 && err == nil; last++ {
+		err = step() // the first one reads the last rows, and the second one hands them on
 	}
 	return err
 }
 
-// readSome reads rows by as many goroutines as there are processors.
-func readSome[T any](bucket []byte, some []saved[T], read func(key, value []byte) (T, error)) {
+// useSome hands what was read to a function, up to the first error.
+func useSome[T any](some []saved[T], use func(T) error) error {
+	for i := range some {
+		if some[i].err == nil {
+			some[i].err = use(some[i].read)
+		}
+		if some[i].err != nil {
+			return some[i].err
+		}
+	}
+	return nil
+}
+
+// readSome reads rows by as many goroutines as there are processors, and returns what waits for them.
+func readSome[T any](bucket []byte, some []saved[T], read func(key, value []byte) (T, error)) (wait func()) {
 	var group sync.WaitGroup
 	each := len(some)/runtime.GOMAXPROCS(0) + 1
 	for ; len(some) > 0; some = some[least(each, len(some)):] {
@@ -61,7 +68,7 @@ func readSome[T any](bucket []byte, some []saved[T], read func(key, value []byte
 			}
 		}(some[:least(each, len(some))])
 	}
-	group.Wait()
+	return group.Wait
 }
 
 func least(a, b int) int {

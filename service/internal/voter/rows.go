@@ -20,10 +20,18 @@ const (
 
 var castagnoli = crc32.MakeTable(crc32.Castagnoli)
 
+// lengths are what is between a bucket and a key of some length in a checksum. They are made once: else each checksum takes memory.
+var lengths = func() (all [256][2]byte) {
+	for i := range all {
+		all[i][1] = byte(i)
+	}
+	return all
+}()
+
 // sum returns the checksum of a row: over its bucket, its key, and its value.
 func sum(bucket, key, value []byte) uint32 {
 	crc := crc32.Update(0, castagnoli, bucket)
-	crc = crc32.Update(crc, castagnoli, []byte{0, byte(len(key))})
+	crc = crc32.Update(crc, castagnoli, lengths[byte(len(key))][:])
 	return crc32.Update(crc32.Update(crc, castagnoli, key), castagnoli, value)
 }
 
@@ -116,31 +124,32 @@ func verify(path string) (err error) {
 	if err := verifyPages(path); err != nil {
 		return err
 	}
-	return db.View(func(tx *bbolt.Tx) error {
-		tally, rows := uint64(0), fileRows{tx}
-		for _, bucket := range buckets {
-			if tx.Bucket(bucket) == nil {
-				return fmt.Errorf("%w: there is no bucket %q", ErrDamaged, bucket)
-			}
-			if isOldFormat(rows) {
-				return nil // it is refused for that
-			}
-			if err := each(rows, bucket, func(key, value []byte) error {
-				if string(bucket) != string(metaBucket) || string(key) != string(countsKey) {
-					tally += uint64(sum(bucket, key, value))
-				}
-				return nil
-			}); err != nil {
-				return err
-			}
+	return db.View(func(tx *bbolt.Tx) error { return verifyRows(tx) })
+}
+
+// verifyRows reads all rows of a database whose pages are in order.
+func verifyRows(tx *bbolt.Tx) error {
+	tally, rows := uint64(0), fileRows{tx}
+	for _, bucket := range buckets {
+		if tx.Bucket(bucket) == nil {
+			return fmt.Errorf("%w: there is no bucket %q", ErrDamaged, bucket)
 		}
-		if _, saved, err := counts(rows); err != nil {
+		if isOldFormat(rows) {
+			return nil // it is refused for that
+		}
+		if err := rows.Each(bucket, func(key, row []byte) error {
+			tally += sumIn(row)
+			_, err := value(bucket, key, row)
 			return err
-		} else if saved != tally {
-			return fmt.Errorf("%w: a row is missing, or older than the others", ErrDamaged)
+		}); err != nil {
+			return err
 		}
-		return nil
-	})
+	}
+	_, saved, err := counts(rows)
+	if err == nil && saved != tally-sumIn(rows.Get(metaBucket, countsKey)) {
+		err = fmt.Errorf("%w: a row is missing, or older than the others", ErrDamaged)
+	}
+	return err
 }
 
 // Check reads a whole state, and returns ErrDamaged unless it is as it was saved. Some damage ends
@@ -151,15 +160,7 @@ func Check(folder string) error {
 	if _, err := os.Stat(path); errors.Is(err, os.ErrNotExist) {
 		return nil
 	}
-	err := verify(path)
-	if err == nil {
-		var db *bbolt.DB
-		if db, err = bbolt.Open(path, 0o600, &bbolt.Options{Timeout: lockTimeout, ReadOnly: true}); err == nil {
-			defer db.Close()
-			err = db.View(check)
-		}
-	}
-	return named(path, err)
+	return named(path, verify(path))
 }
 
 // The places in each of the two root pages of a database: what its checksum covers, the size of a

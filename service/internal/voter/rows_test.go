@@ -72,24 +72,6 @@ func contentOf(s *store) (content, error) {
 	return c, err
 }
 
-// look returns what a file has, by the pages that its rows are on alone. The database itself ends
-// the process if other pages are damaged.
-func look(folder string) (content, error) {
-	if err := verify(file(folder)); err != nil {
-		return content{}, err
-	}
-	db, err := bbolt.Open(file(folder), 0o600, &bbolt.Options{ReadOnly: true})
-	if err != nil {
-		return content{}, err
-	}
-	defer db.Close()
-	s := &store{disk: &fileDisk{db: db, folder: folder}}
-	if err := s.disk.View(s.read); err != nil {
-		return content{}, err
-	}
-	return contentOf(s)
-}
-
 // Whatever bit of a state is changed, what is read is what was saved, or it is damaged.
 func TestEachChangedBitIsFound(t *testing.T) {
 	folder, meta := aState(t, 40)
@@ -113,7 +95,7 @@ func TestEachChangedBitIsFound(t *testing.T) {
 		if err := os.WriteFile(file(folder), wrong, 0o600); err != nil {
 			t.Fatal(err)
 		}
-		if got, err := look(folder); err != nil {
+		if got, err := read(folder, meta); err != nil {
 			found++
 		} else if !reflect.DeepEqual(got, want) {
 			t.Fatalf("run %d: another state is served", run)
@@ -184,6 +166,17 @@ func TestRowsOfOneTransaction(t *testing.T) {
 			if _, err := read(folder, meta); !errors.Is(err, ErrDamaged) {
 				t.Errorf("%s, row %q, %d bytes: %v", bucket, row, len(value), err)
 			}
+		}
+	}
+}
+
+// A row is that of its key in its bucket, and no other one.
+func TestRowsAreOfTheirPlaces(t *testing.T) {
+	row := rowOf(voteBucket, []byte("orders-1"), []byte("value"))
+	for _, place := range [][2]string{{"votes", "orders-1"}, {"votes", "orders-2"}, {"votes", "orders-1v"}, {"sessions", "orders-1"}} {
+		_, err := value([]byte(place[0]), []byte(place[1]), row)
+		if isIts := place[0] == "votes" && place[1] == "orders-1"; isIts != (err == nil) || !isIts && !errors.Is(err, ErrDamaged) {
+			t.Errorf("%v: %v", place, err)
 		}
 	}
 }

@@ -200,9 +200,6 @@ func (s *store) begin(want Meta) error {
 	if err := s.own.refusal(); err != nil {
 		return err
 	}
-	if err := s.disk.Check(); err != nil {
-		return err
-	}
 	s.own.Start++
 	for root := 0; root < 2; root++ {
 		if err := s.update(s.saves, func(b *batch) error { return b.putOwn(s.own) }); err != nil {
@@ -304,16 +301,16 @@ func readSession(key, text []byte) (one savedSession, err error) {
 		return one, nil
 	}
 	var ok bool
-	one.key, ok = numberOfRow(key)
-	if one.row.UnmarshalJSON(text) != nil || !ok {
+	if one.key, ok = numberOfRow(key); ok {
+		one.row, one.isOld, err = rowOfText(text)
+	}
+	if err != nil || !ok {
 		return one, fmt.Errorf("session %x: %w", key, ErrDamaged)
 	}
 	if _, err := one.row.proved(); err != nil {
 		return one, fmt.Errorf("session of number %d: %w", one.key, err)
 	}
-	again, err := json.Marshal(one.row)
-	one.isOld = !bytes.Equal(again, text)
-	return one, err
+	return one, nil
 }
 
 // savedVote is a vote, packed, without those that waited for it: only the grant and the number of grants are sure to be those of the last step
@@ -327,14 +324,13 @@ type savedVote struct {
 // readVote reads a vote.
 func readVote(key, text []byte) (savedVote, error) {
 	one := savedVote{name: string(key)}
-	state, ok := unpack(text)
-	if !ok {
+	if !isPacked(text) {
 		return one, fmt.Errorf("vote %q: %w", key, ErrDamaged)
 	}
-	voter, err := qlock.RestoreVoter(state)
-	if err == nil {
-		err = voter.Forget()
-	}
+	voter := spare.Get().(*qlock.Voter)
+	defer spare.Put(voter)
+	unpackTo(voter.State(), text)
+	err := voter.Forget()
 	if err == nil {
 		one.held, err = voter.Held()
 	}
