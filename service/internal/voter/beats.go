@@ -82,19 +82,41 @@ func (s *seat) strike() {
 // isBeat returns whether these are the lines of a beat.
 func isBeat(lines []byte) bool { return bytes.HasPrefix(lines, []byte(". beat ")) }
 
-// beat takes a beat of a process. It waits for no turn: it costs less than the heartbeats that it is in place of.
+// A beat waits for no turn, as what came before a marker was sent has to be heard before that is back. So how much of beats a voter takes is
+// bounded: a message says each place once, and of a process so many sessions are heard in a span of time that each of its beats has
+// room for them, also one that leaves in parts. The rest is lost.
+const (
+	spansOfTTL = 16                 // in a TTL
+	mostHeard  = 4                  // how often all sessions of a process are heard in a span
+	leastHeard = 2 * wire.RollShare // how many places may be said besides
+)
+
+// mayHear returns whether so many more places of a process may be said now.
+func (r *roll) mayHear(places int, now time.Time, ttl time.Duration) bool {
+	if since := moment.Of(now) - moment.Moment(ttl/spansOfTTL); r.since <= since {
+		r.since, r.said = moment.Of(now), 0
+	}
+	r.said += places
+	return r.said <= mostHeard*r.seats+leastHeard
+}
+
+// beat takes a beat of a process.
 func (d *Daemon) beat(h wire.Header, lines []byte, now time.Time) {
 	r := d.leases.rolls[h.Name] // nil if no session is of the process
 	d.hears(h)
 	at := d.leases.heard.note(d.leases.at(now)) // which is a call: once for all
-	for shares := 0; shares < wire.MostRoll/wire.RollShare; shares++ {
+	for first := 0; ; {
 		_, line, rest, found := wire.Next(lines)
 		ask, err := wire.ReadAsk(line)
-		if !found || err != nil || ask.Kind != wire.Beats {
+		if !found || err != nil || ask.Kind != wire.Beats || ask.Place < first {
 			break
 		}
+		if d.outBytes > mostOut || r != nil && !r.mayHear(bits.OnesCount64(ask.Mask), now, d.leases.ttl) {
+			d.noRoom.Add(1)
+			return
+		}
 		reply := wire.Told{Kind: wire.Unbeaten, ID: h.Seq, Place: ask.Place}
-		if lines = rest; r != nil && d.hearShare(r, ask, at, now) {
+		if lines, first = rest, ask.Place+wire.RollShare; r != nil && d.hearShare(r, ask, at, now) {
 			reply.Kind = wire.Beaten
 		}
 		d.put(h.Name, reply.Append(d.out[h.Name]))

@@ -6,6 +6,7 @@ import (
 	"testing"
 	"time"
 
+	"calvundek.example/service/internal/moment"
 	"calvundek.example/service/internal/wire"
 	"calvundek.example/service/transport"
 )
@@ -110,6 +111,37 @@ func TestBeatsThatAreNotAcknowledged(t *testing.T) {
 		if !d.wasHeard(1) {
 			t.Errorf("%s: a session was not heard for whom it is right", name)
 		}
+	}
+}
+
+// Who beats without end has his sessions heard a few times in a span of time, and delays nobody. A message says each place once.
+func TestBeatsAreBounded(t *testing.T) {
+	d := claimed(t, 4)
+	entries := map[int]uint64{5: rolled(t, d, "jobs", 1, "p", 5), 63: rolled(t, d, "jobs", 2, "p", 63)}
+	d.beats("jobs", "p", beatOf(entries))
+	if reply := d.beats("jobs", "p", strings.Repeat(beatOf(entries), 3)); reply != ". beaten 7 0\n" {
+		t.Errorf("a place that is said again is heard: %q", reply)
+	}
+	heard := 2
+	for d.beats("jobs", "p", beatOf(entries)) != "" {
+		if heard++; heard > 1000 {
+			t.Fatal("all beats are taken")
+		}
+	}
+	if lost := d.noRoom.Load(); heard < mostHeard || lost != 1 {
+		t.Errorf("%d beats are heard, and %d are lost", heard, lost)
+	}
+	other := map[int]uint64{0: rolled(t, d, "jobs", 3, "q", 0)}
+	if reply := d.beats("jobs", "q", beatOf(other)); reply != ". beaten 7 0\n" {
+		t.Errorf("another process hears %q", reply)
+	}
+	d.leases.rolls["jobs.p"].since -= moment.Moment(d.leases.ttl / spansOfTTL)
+	if reply := d.beats("jobs", "p", beatOf(entries)); reply != ". beaten 7 0\n" {
+		t.Errorf("a span later the process hears %q", reply)
+	}
+	d.outBytes = mostOut + 1
+	if reply := d.beats("jobs", "nobody", beatOf(entries)); reply != "" {
+		t.Errorf("a voter that has much to send sends %q, too", reply)
 	}
 }
 

@@ -1,6 +1,9 @@
 package voter
 
-import "calvundek.example/service/internal/wire"
+import (
+	"calvundek.example/service/internal/moment"
+	"calvundek.example/service/internal/wire"
+)
 
 // roll is of a process of a user: what its sessions have in common is here once. Those that did not say of which process they are have one
 // without a name.
@@ -10,6 +13,8 @@ type roll struct {
 	note       string            // what the first one of its sessions said of itself
 	seats      int               // how many numbers have a session of it
 	parts      map[int]*rollPart // its sessions that said their places, by shares of these (beats.go)
+	since      moment.Moment     // when the span began in which its beats are counted
+	said       int               // how many places they said in it
 }
 
 // roll returns the roll of a process. A new one is there as long as some session joins it.
@@ -21,7 +26,7 @@ func (l *leases) roll(user, name string) *roll {
 		l.rolls = map[string]*roll{}
 	}
 	key := wire.SessionName(user, name)
-	r := &roll{user: key[:len(user)], name: key[len(user)+1:], mask: maskOf(user)}
+	r := &roll{user: key[:len(user)], name: key[len(user)+1:], mask: maskOf(user), since: moment.Never}
 	l.rolls[key] = r
 	return r
 }
