@@ -148,8 +148,9 @@ func (c *Client) beginShards() error {
 	}
 	process := c.cluster.SessionName(0, nonce)
 	boxes := wire.SessionBoxes(c.cluster.ID, wire.SessionName(c.user, process))
-	c.shards = &shards{all: map[int]*part{}, open: map[*Client]struct{}{}, boxes: map[string]*mailbox{}, over: make(chan struct{}), closing: make(chan struct{}),
-		left: make(chan struct{}), bundles: &bundles{cluster: c.cluster.ID, process: process, began: time.Now(), carrier: c.carrier}}
+	c.shards = &shards{all: map[int]*part{}, open: map[*Client]struct{}{}, boxes: map[string]*mailbox{},
+		over: make(chan struct{}), closing: make(chan struct{}), left: make(chan struct{}),
+		bundles: &bundles{cluster: c.cluster.ID, process: process, began: time.Now(), carrier: c.carrier}}
 	leave, err := transport.Pass(c.carrier, boxes, c.shards.unbundle)
 	if err != nil {
 		return err

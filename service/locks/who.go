@@ -45,7 +45,7 @@ func (h Holder) String() string {
 			words = append(words, fmt.Sprintf(format, value))
 		}
 	}
-	add("client %v", h.Session, true)
+	add("client %v", h.Session, h.Session != "")
 	add("user=%v", h.User, h.User != "")
 	add("host=%v", h.Host, h.Host != "")
 	add("pid=%v", h.Pid, h.Pid != 0)

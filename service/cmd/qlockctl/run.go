@@ -176,9 +176,7 @@ func run(ctx context.Context, settings locks.Config, of taking, grace time.Durat
 	}
 	held, err := take(limit, of.lock)
 	if err != nil {
-		return notTaken(limit, err, client.Silent(), of, func() string {
-			return nowHeld(func(ctx context.Context) (holder, error) { return client.Who(ctx, of.lock) })
-		})
+		return notTaken(limit, err, client.Silent(), of, func() string { return nowHeld(client, of.lock) })
 	}
 	turn := uint64(0)
 	if of.turns {
@@ -222,23 +220,16 @@ func withHolder(client *agent.Client, of taking, err error) error {
 	fault := &agent.Fault{}
 	switch {
 	case errors.Is(err, agent.ErrTimeout):
-		return fmt.Errorf("%w%s", err, nowHeld(func(ctx context.Context) (holder, error) { return client.Who(ctx, of.lock) }))
+		return fmt.Errorf("%w%s", err, nowHeld(byAgent{client}, of.lock))
 	case errors.As(err, &fault) && fault.Holder != nil:
-		by := *fault.Holder
-		by.Asked = false // one voter said so
-		return heldBy(of.lock, by)
+		return heldBy(of.lock, ofAgent(*fault.Holder))
 	}
 	return err
 }
 
-// holder is who has a lock, as voters say.
-type holder interface {
-	fmt.Stringer
-	IsNobody() bool
-}
-
 // heldBy is the error of a command that only tries to get a lock.
-func heldBy(lock string, by holder) error {
+func heldBy(lock string, by locks.Holder) error {
+	by.Asked = false // one voter said so
 	return fmt.Errorf("%s: somebody else has the lock: %v", lock, by)
 }
 
@@ -246,14 +237,14 @@ func heldBy(lock string, by holder) error {
 const asksWho = time.Second
 
 // nowHeld returns who has a lock that was not to be had in time, as the end of a message, "" if that is not known.
-func nowHeld(who func(ctx context.Context) (holder, error)) string {
+func nowHeld(by looks, lock string) string {
 	ctx, cancel := context.WithTimeout(context.Background(), asksWho)
 	defer cancel()
-	by, err := who(ctx)
-	if err != nil || by.IsNobody() {
+	holder, err := by.Who(ctx, lock)
+	if err != nil || holder.IsNobody() {
 		return ""
 	}
-	return fmt.Sprint("; who has it now: ", by)
+	return fmt.Sprint("; who has it now: ", holder)
 }
 
 // isDown returns whether no agent listens at the socket, so that another try may help later.
@@ -298,9 +289,7 @@ func notTaken(limit context.Context, err error, silent []string, of taking, now 
 	by := &locks.HeldBy{}
 	switch {
 	case errors.As(err, &by):
-		holder := by.Holder
-		holder.Asked = false // one voter said so
-		return status{exitNoLock, heldBy(of.lock, holder)}
+		return status{exitNoLock, heldBy(of.lock, by.Holder)}
 	case errors.Is(err, locks.ErrNumbers) || errors.Is(err, locks.ErrNoQuorum):
 		return status{exitNoLock, fmt.Errorf("%s: %w", of.lock, err)}
 	case errors.Is(err, context.DeadlineExceeded) && len(silent) > 0:
