@@ -261,8 +261,15 @@ func TestRollOfAnotherProcess(t *testing.T) {
 	if !isFor("q") || !isHeard("q", entries) {
 		t.Errorf("on the roll of q: it is of %q", d.processOf("jobs.session-1"))
 	}
-	if d.repliesTo("jobs", 1, ". open 3\n. process r\n"); !isFor("r") || isHeard("q", entries) {
+	others := map[int]uint64{8: rolled(t, d, "jobs", 1, "s", 8)}
+	if !isFor("q") || !isHeard("s", others) || isHeard("q", entries) {
+		t.Errorf("on the roll of s: it is of %q", d.processOf("jobs.session-1"))
+	}
+	if d.repliesTo("jobs", 1, ". open 3\n. process r\n"); !isFor("r") || isHeard("s", others) {
 		t.Errorf("on no roll: it is of %q", d.processOf("jobs.session-1"))
+	}
+	if rolled(t, d, "jobs", 1, "t", 9); !isFor("r") {
+		t.Errorf("on the roll of t: it is of %q", d.processOf("jobs.session-1"))
 	}
 	if d.passOn(1); !isFor("") || d.processOf("jobs.later") != "" || d.shard(0).rare(1).process != "" {
 		t.Errorf("the next session of the number is of %q", d.processOf("jobs.later"))

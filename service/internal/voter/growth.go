@@ -8,14 +8,14 @@ import (
 
 // growth is how far the epochs of a number grew in this run: the bucket that bounds this, in four bytes.
 //
-// Buckets of one rate and one size differ by one number alone: when they are full again if nobody takes anything. A bucket that begins with
-// the run is full once half of it has come. Growth says by how many tokens' time later than that the bucket of a number is, at most. So
-// the zero growth is of a number that did not grow, and what is rounded is never more than a token.
+// Buckets of one rate and one size differ by one number alone: when they are full again if nobody takes anything. One that begins with the
+// run, and of which nothing was taken, is full once half of it has come. Growth says how much later the bucket of a number is full, in the
+// time that a token takes to come. It is rounded up, so a number may grow by one less than by the bucket, and never by more.
 type growth uint32
 
 const (
-	ofToken   = time.Second / epochRate // how long it takes until a token has come
-	halfFills = mostEpochs / 2 * ofToken
+	ofToken   = time.Second / epochRate  // how long it takes until a token has come
+	halfFills = mostEpochs / 2 * ofToken // and until half of the bucket has
 )
 
 // bucket returns the bucket at a time since the run began.
