@@ -430,8 +430,10 @@ func (d *driver) beatTo(one *holder, voter int) {
 	}
 	to.count, to.left = to.count+1, time.Now()
 	out := wire.Header{Cluster: d.cluster.ID, Coterie: d.mark, Kind: wire.FromClient, Name: one.name, Seq: to.count, Level: level.Newest}.Append(nil)
-	for first, share := range to.shares {
-		out, to.waits[first] = share.Append(out), true
+	for first := 0; first < len(one.holdings); first += wire.RollShare { // in the order of the places
+		if share, is := to.shares[first]; is {
+			out, to.waits[first] = share.Append(out), true
+		}
 	}
 	d.send(voter, out)
 }
