@@ -35,9 +35,9 @@ func (s *shard) noteOf(number int) string {
 
 // noteOfAsk returns what a client says of its request for a vote, or else of its session. It is of no earlier session of the number.
 func (v *vote) noteOfAsk(client int) string {
-	one := v.asks.of(client)
+	one := v.ask(client)
 	switch {
-	case one == nil || v.shard.isEarlier(client, one.stamp):
+	case one.stamp == 0 || v.shard.isEarlier(client, one.stamp):
 		return ""
 	case one.note != "":
 		return one.note
@@ -104,8 +104,8 @@ func (d *Daemon) noteAbout(l *letter, ask wire.Ask) {
 	if v == nil || v.shard != l.shard {
 		return
 	}
-	if one := v.asks.of(l.Number); one != nil && one.stamp == ask.Number && !v.shard.isEarlier(l.Number, one.stamp) {
-		one.note = ask.Text
+	if v.ask(l.Number).stamp == ask.Number && !v.shard.isEarlier(l.Number, ask.Number) {
+		v.noteOn(l.Number, ask.Text)
 		d.watches.touch(v.name)
 	}
 }
@@ -116,21 +116,21 @@ func (d *Daemon) holderOf(id uint64, lock string, v *vote, now time.Time) wire.T
 	if v == nil {
 		return told
 	}
-	for _, one := range v.asks {
+	v.asks(func(one ask) {
 		if !v.isHolder(one.client) {
 			told.Waiting |= 1 << one.client
 		}
-	}
-	if v.held.Number == 0 || !d.isQuiet() && v.isOver() { // who is gone gives way to whoever asks
+	})
+	if !v.isHeld || !d.isQuiet() && v.isOver() { // who is gone gives way to whoever asks
 		return told
 	}
-	client := int(v.held.Client)
-	told.IsHeld, told.Number, told.Stamp = true, client, v.held.Stamp
+	client := int(v.client)
+	told.IsHeld, told.Number, told.Stamp = true, client, v.stamp
 	if since := now.Sub(v.granted.Time()).Milliseconds(); since > 0 {
 		told.Milliseconds = uint64(since)
 	}
-	if told.User = wire.NoUser; v.asks.of(client) != nil && v.asks.of(client).user != nil {
-		told.User = v.asks.of(client).user.user
+	if told.User = wire.NoUser; v.user != nil {
+		told.User = v.user.user
 	}
 	told.Note = v.noteOfAsk(client)
 	return told
@@ -140,15 +140,15 @@ func (d *Daemon) holderOf(id uint64, lock string, v *vote, now time.Time) wire.T
 func (d *Daemon) appendHolder(out []byte, id uint64, lock string, now time.Time) []byte {
 	v := d.votes[lock]
 	told := d.holderOf(id, lock, v, now)
-	if told.IsHeld && v.turned.grant == v.held.Number {
-		out = wire.Told{Kind: wire.HasTurn, ID: id, Lock: lock, Stamp: told.Stamp, Top: v.turned.top}.Append(out)
+	if told.IsHeld && v.extra().turned.grant == v.number {
+		out = wire.Told{Kind: wire.HasTurn, ID: id, Lock: lock, Stamp: told.Stamp, Top: v.extras.turned.top}.Append(out)
 	}
 	return told.Append(out)
 }
 
 // tellHolder tells who does not want to wait who has the vote, before it hears that it is not to be had.
 func (d *Daemon) tellHolder(v *vote, l *letter, client int, word string, now time.Time) {
-	if word == try && v.held.Number > 0 && !v.isHolder(client) {
+	if word == try && v.isHeld && !v.isHolder(client) {
 		d.put(l.Name, d.holderOf(0, v.name, v, now).Append(d.out[l.Name]))
 	}
 }

@@ -208,7 +208,7 @@ func TestCrowd(t *testing.T) {
 	}
 	d.repliesTo("jobs", 1, "orders request 1 0 5\n")
 	d.repliesTo("jobs", 2, "orders request 2 0 6\n")
-	d.votes["orders"].asks.of(2).since = moment.Of(time.Now().Add(-time.Minute))
+	d.votes["orders"].extras.others.of(2).since = moment.Of(time.Now().Add(-time.Minute))
 	d.shard(0).seat(1).heard -= time.Hour
 	d.measure(time.Now())
 	if told := hears(); told.Open != 3 || told.Silent < 3500_000 || told.Waits < 60_000 || told.Waits > 70_000 {

@@ -40,7 +40,9 @@ func (s *stage) after(t *testing.T, messages [][]byte) (o outcome) {
 	}
 	o.Held, o.Foreign, o.Refused = map[string]string{}, testutil.ToFloat64(d.m.foreign), testutil.ToFloat64(d.m.refused)
 	for name, v := range d.votes {
-		o.Held[name] = fmt.Sprint(v.held, len(v.asks))
+		asks := 0
+		v.asks(func(ask) { asks++ })
+		o.Held[name] = fmt.Sprint(v.held(), asks)
 	}
 	for session := range d.out {
 		o.Heard = append(o.Heard, session)

@@ -65,7 +65,7 @@ func TestMessagesOfABundle(t *testing.T) {
 			t.Errorf("session %s hears %q", session, reply)
 		}
 	}
-	if held := d.votes["qlock2"].held; held.Client != 1 {
+	if held := d.votes["qlock2"].held(); held.Client != 1 {
 		t.Errorf("the vote is had by %+v", held)
 	}
 	for i, more := range [3]float64{6, 2, 2} {

@@ -101,6 +101,7 @@ type Daemon struct {
 	reach           uint64           // up to which number they may be now
 	voters          <-chan transport.Message
 	floor, ceiling  uint64            // its grants are above the floor, and up to the ceiling
+	raised          raised            // the same of votes of before the start
 	nothing         qlock.SinceStart  // of votes of which nothing was said since the start
 	markers         [keyBytes]byte    // the key of this run's markers
 	done            map[string][]byte // replies to what operators let go, by their questions
@@ -231,7 +232,7 @@ func (d *Daemon) line(l *letter, speaker qlock.Standing, lock, line []byte, now 
 	if v == nil && d.shardOfLock(string(lock)) != l.shard || v != nil && v.shard != l.shard {
 		return false // its session is of another shard
 	}
-	isClosed := d.isQuiet() || v != nil && v.isAwaited // then the call puts it off, unless he is inside
+	isClosed := d.isQuiet() || v != nil && v.isAwaited() // then the call puts it off, unless he is inside
 	if isRequest && (word == inside || !isClosed) && d.isAtBound(v, userOf(l.Name)) {
 		if l.shard.takes(said.From, l.Name, l.Epoch, said.Stamp) {
 			d.fullForUser(l, lock, said)
@@ -251,7 +252,7 @@ func (d *Daemon) line(l *letter, speaker qlock.Standing, lock, line []byte, now 
 	if isRequest && word == try && !isClosed {
 		d.expireFor(v, said.From, now) // who waits for nobody waits for nobody who is gone
 	}
-	before := v.held
+	before := v.held()
 	from := l.shard.speaker(l.Number, l.Name, l.Epoch)
 	from.Inside = word == inside
 	shown, lines, err := d.call(v, func(out []byte) ([]byte, qlock.LockShown, error) {
@@ -259,7 +260,7 @@ func (d *Daemon) line(l *letter, speaker qlock.Standing, lock, line []byte, now 
 	})
 	switch {
 	case err != nil:
-		v.heard = moment.Of(now)
+		v.extras.heard = moment.Of(now)
 		return true
 	case shown.IsPutOff:
 		d.putOff(l, now)
@@ -269,7 +270,7 @@ func (d *Daemon) line(l *letter, speaker qlock.Standing, lock, line []byte, now 
 	case isNew && !d.admit(v, l, said, now):
 		return true
 	}
-	v.heard = moment.Of(now)
+	v.extras.heard = moment.Of(now)
 	if isRequest {
 		l.shard.seat(l.Number).lock = v.name
 	}
@@ -310,7 +311,7 @@ func cutWord(line []byte) (rest []byte, word string) {
 
 // tellHeld tells who does not want to wait that somebody else has the vote, and for how long, in milliseconds.
 func (d *Daemon) tellHeld(v *vote, l *letter, said wire.Line, now time.Time) {
-	if v.held.Number > 0 && !v.isHolder(said.From) {
+	if v.isHeld && !v.isHolder(said.From) {
 		since := now.Sub(v.granted.Time()).Milliseconds()
 		if since < 0 {
 			since = 0
@@ -353,9 +354,8 @@ func (d *Daemon) newVoter() (*qlock.Voter, error) {
 // if the call is refused, or the line is not its session's to say, or is put off.
 func (d *Daemon) call(v *vote, call func(out []byte) ([]byte, qlock.LockShown, error)) (qlock.LockShown, []byte, error) {
 	lines, shown, err := call(d.room[:0])
-	if errors.Is(err, qlock.GrantsSpent) && v.limit < d.ceiling {
-		v.limit, v.isSpent = d.ceiling, false
-		_ = d.proved(v).Extend(d.ceiling) // it never fails: the limit is below
+	if errors.Is(err, qlock.GrantsSpent) && d.extends(v) {
+		v.extras.isSpent = false
 		lines, shown, err = call(d.room[:0])
 	}
 	if err != nil || !shown.IsTaken && !shown.IsPutOff {
@@ -366,6 +366,14 @@ func (d *Daemon) call(v *vote, call func(out []byte) ([]byte, qlock.LockShown, e
 	return shown, lines, nil
 }
 
+// extends lets a vote give grants up to the ceiling, and returns whether that is more than before.
+func (d *Daemon) extends(v *vote) bool {
+	voter := d.proved(v)
+	before := *voter
+	_ = voter.Extend(d.ceiling) // it never fails: the limit is not above the ceiling
+	return *voter != before
+}
+
 // note notes what a step changed that a client's line, or letting its grant go, led to, and has its lines sent.
 func (d *Daemon) note(v *vote, client int, shown qlock.LockShown, lines []byte, now time.Time) {
 	if shown.MustSave || v.isRaised { // what was saved last differs in nothing else from the state before a step
@@ -374,7 +382,7 @@ func (d *Daemon) note(v *vote, client int, shown qlock.LockShown, lines []byte, 
 	}
 	d.noteAsk(v, client, shown.Stamp, now)
 	d.noteGrant(v, shown.Held, now)
-	if v.since != nil || d.isQuiet() {
+	if v.extra().since != nil || d.isQuiet() {
 		d.stand(v)
 	}
 	d.send(v, lines)
@@ -384,7 +392,7 @@ func (d *Daemon) refuse(v *vote, why error) {
 	d.m.refused.Inc()
 	if errors.Is(why, qlock.GrantsSpent) {
 		d.m.spent.Inc()
-		isLogged := &v.isSpent
+		isLogged := &v.needs().isSpent
 		if d.votes[v.name] != v {
 			isLogged = &d.isSpent // it is not kept
 		}
@@ -608,7 +616,7 @@ func (d *Daemon) lookAround(now time.Time) {
 	}
 	isEnd := d.looks.share(&d.busy, mostLooked, func(v *vote) {
 		d.roundOf(v, now)
-		if v.held.Number > 0 && (d.lasting.IsZero() || v.granted.Time().Before(d.lasting)) {
+		if v.isHeld && (d.lasting.IsZero() || v.granted.Time().Before(d.lasting)) {
 			d.lasting = v.granted.Time()
 		}
 	})
@@ -625,24 +633,25 @@ const longestReminder = 10 * time.Minute
 
 // roundOf does what time asks for of a vote.
 func (d *Daemon) roundOf(v *vote, now time.Time) {
-	if v.isAwaited {
+	if v.isAwaited() {
 		d.forgetDead(v)
 	}
 	switch {
 	case v.isOld && d.isQuiet():
 		return // it may be somebody else's by now
-	case !v.isAwaited && !d.isQuiet():
+	case !v.isAwaited() && !d.isQuiet():
 		v.forgetSince()
 	}
-	for v.held.Number > 0 && (v.isWanted() || d.isInTheWay(v)) && v.isOver() {
+	for v.isHeld && (v.isWanted() || d.isInTheWay(v)) && v.isOver() {
 		if !d.expire(v, now) {
 			break
 		}
 	}
-	if v.timer.Most = d.own.Most.Duration; !v.isWanted() && v.timer.Most < longestReminder {
-		v.timer.Most = longestReminder
+	most := d.own.Most.Duration
+	if !v.isWanted() && most < longestReminder {
+		most = longestReminder
 	}
-	if v.timer.IsDue(now) && (v.isWanted() || now.Sub(v.granted.Time()) >= longestReminder) {
+	if v.isHeld && v.next.IsDue(most, now) && (v.isWanted() || now.Sub(v.granted.Time()) >= longestReminder) {
 		if lines := v.reminder(); len(lines) > 0 {
 			d.m.reminders.Inc()
 			d.send(v, lines)
@@ -658,7 +667,7 @@ func (v *vote) reminder() (lines []byte) {
 
 // expire lets the current grant of a vote go whose session is over, and returns whether it did.
 func (d *Daemon) expire(v *vote, now time.Time) bool {
-	held := v.held
+	held := v.held()
 	d.seal(v.shard, int(held.Client))
 	if !d.letGo(v, now) {
 		return false
@@ -682,7 +691,7 @@ func (d *Daemon) seal(s *shard, number int) {
 
 // expireFor lets the grants of others go whose sessions are over, for a client that tries to get the vote.
 func (d *Daemon) expireFor(v *vote, client int, now time.Time) {
-	for v.held.Number > 0 && !v.isHolder(client) && v.isOver() && d.expire(v, now) {
+	for v.isHeld && !v.isHolder(client) && v.isOver() && d.expire(v, now) {
 	}
 }
 
@@ -693,7 +702,7 @@ func (d *Daemon) endQuiet(now time.Time) {
 		return
 	}
 	d.leases.quiet.ends.share(&d.old, mostLooked, func(v *vote) {
-		held := v.held
+		held := v.held()
 		d.seal(v.shard, int(held.Client))
 		isOver, _ := d.letGoBy(v, now, func(out []byte) ([]byte, qlock.LockShown, error) {
 			return d.proved(v).EndQuiet(&v.shard.proved, d.sinceOf(v), uint8(held.Client), out)
@@ -711,11 +720,11 @@ func (d *Daemon) endQuiet(now time.Time) {
 }
 
 // isOver returns whether the grant of a vote may be let go, as its session is over.
-func (v *vote) isOver() bool { return v.shard.isOver(int(v.held.Client), v.held.Stamp) }
+func (v *vote) isOver() bool { return v.shard.isOver(int(v.client), v.stamp) }
 
 // letGo lets the current grant of a vote go, and tells its client. It returns false if that did not succeed.
 func (d *Daemon) letGo(v *vote, now time.Time) bool {
-	held := v.held
+	held := v.held()
 	isOver, _ := d.letGoBy(v, now, func(out []byte) ([]byte, qlock.LockShown, error) {
 		return d.proved(v).LetGo(&v.shard.proved, held.Number, uint8(held.Client), out)
 	})
@@ -724,13 +733,13 @@ func (d *Daemon) letGo(v *vote, now time.Time) bool {
 
 // letGoBy makes a call that may let the current grant of a vote go, tells its client if it does, and returns whether it did.
 func (d *Daemon) letGoBy(v *vote, now time.Time, call func(out []byte) ([]byte, qlock.LockShown, error)) (isOver bool, err error) {
-	held := v.held
+	held := v.held()
 	shown, lines, err := d.call(v, call)
 	if err != nil {
 		return false, err
 	}
 	d.note(v, int(held.Client), shown, lines, now)
-	if isOver = v.held.Number != held.Number; isOver {
+	if isOver = v.held().Number != held.Number; isOver {
 		d.isGone(v, held, now)
 	}
 	return isOver, nil
@@ -738,7 +747,7 @@ func (d *Daemon) letGoBy(v *vote, now time.Time, call func(out []byte) ([]byte, 
 
 // isGone tells the client of a grant that its request is over, or an operator.
 func (d *Daemon) isGone(v *vote, held qlock.Grant, now time.Time) {
-	v.letGo = moment.Of(now)
+	v.needs().letGo = moment.Of(now)
 	d.mustSave(v)
 	if row := v.shard.row(int(held.Client)); row.Open && held.Stamp > row.Base {
 		d.sayOf(v.shard.name(int(held.Client)), qlock.LockSays{Kind: qlock.LockGone, Lock: []byte(v.name), Stamp: held.Stamp})

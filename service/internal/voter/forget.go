@@ -37,9 +37,10 @@ func (d *Daemon) forget(now time.Time) {
 		v := d.resting[0].vote
 		d.resting, v.isResting = d.resting[1:], false
 		switch {
-		case len(v.asks) > 0:
-		case now.Sub(v.heard.Time()) < d.restsFor:
-			d.rest(v, v.heard.Time())
+		case v.isBusy():
+			d.tidy(v, now)
+		case now.Sub(v.extra().heard.Time()) < d.restsFor:
+			d.rest(v, v.extras.heard.Time())
 		default:
 			d.forgetVote(v)
 		}
@@ -56,9 +57,9 @@ func (d *Daemon) makeRoom(now time.Time) bool {
 		first := d.resting[0]
 		v := first.vote
 		switch d.resting = d.resting[1:]; {
-		case len(v.asks) > 0:
+		case v.isBusy():
 			v.isResting = false
-		case now.Sub(v.letGo.Time()) < d.leases.ttl || d.mustBeSaved(v):
+		case now.Sub(v.extra().letGo.Time()) < d.leases.ttl || d.mustBeSaved(v):
 			d.resting = append(d.resting, first)
 		default:
 			v.isResting = false
@@ -77,7 +78,7 @@ func (d *Daemon) mustBeSaved(v *vote) bool {
 
 // forgetVote forgets a vote.
 func (d *Daemon) forgetVote(v *vote) {
-	d.floor = greatest(d.floor, v.highest)
+	d.floor = greatest(d.floor, d.highestOf(v))
 	delete(d.votes, v.name)
 	v.shard.votes--
 	delete(d.dirty, v)

@@ -57,10 +57,10 @@ func TestOneTimeNames(t *testing.T) {
 	for i := 1; i <= 200; i++ {
 		says(fmt.Sprintf("lock-%d request 0 0 %d\n", i, i))
 		v := d.votes[fmt.Sprint("lock-", i)]
-		if v == nil || v.held.Stamp != uint64(i) {
+		if v == nil || v.held().Stamp != uint64(i) {
 			t.Fatalf("lock %d is not given", i)
 		}
-		last = v.held.Number
+		last = v.held().Number
 		says(fmt.Sprintf("lock-%d release 0 0 %d\n", i, i))
 		if i%5 == 0 {
 			now = now.Add(d.restsFor)
@@ -76,7 +76,7 @@ func TestOneTimeNames(t *testing.T) {
 		t.Errorf("%d locks are kept, %d in the file", len(d.votes), rows)
 	}
 	says("lock-200 request 0 0 500\n")
-	if v := d.votes["lock-200"]; v == nil || v.held.Number <= last {
+	if v := d.votes["lock-200"]; v == nil || v.held().Number <= last {
 		t.Errorf("grant %+v after %d", v, last)
 	}
 	if err := verify(file(d.own.Data)); err == nil {
@@ -106,7 +106,7 @@ func TestWhatIsNotForgotten(t *testing.T) {
 	d, says := alone(t, 10)
 	says("held request 0 0 1\nheld release 0 0 1\nheld request 0 0 4\nused request 0 0 2\nused release 0 0 2\nleft request 0 0 3\nleft release 0 0 3\n")
 	for _, name := range []string{"held", "left"} {
-		d.votes[name].heard = moment.Of(time.Now().Add(-d.restsFor))
+		d.votes[name].needs().heard = moment.Of(time.Now().Add(-d.restsFor))
 	}
 	for i := range d.resting {
 		d.resting[i].since = moment.Of(time.Now().Add(-d.restsFor))
@@ -129,7 +129,7 @@ func TestCeilings(t *testing.T) {
 	d.floor = before - 3
 	for i := 1; i <= 6; i++ {
 		says(fmt.Sprintf("orders request 0 0 %d\n", i))
-		if v := d.votes["orders"]; v == nil || v.held.Number != before-3+uint64(i) {
+		if v := d.votes["orders"]; v == nil || v.held().Number != before-3+uint64(i) {
 			t.Fatalf("grant %d: %+v", i, v)
 		}
 		says(fmt.Sprintf("orders release 0 0 %d\n", i))

@@ -4,11 +4,12 @@ import (
 	"sync"
 	"time"
 
+	"calvundek.example/service/internal/moment"
 	"calvundek.example/service/qlock"
 )
 
-// A voter keeps the proved voter of a vote that was not used for a while as it is saved, which takes a tenth of the memory. Behind it is what
-// was said since the start. The next call unpacks both.
+// A voter keeps the proved voter of a vote that was not used for a while in a short form (pack.go), which takes a fortieth of the memory.
+// Behind it is what was said since the start. The next call unpacks both. What else a vote needs only while it is used goes, too.
 
 // packsAfter is for how long a vote is not used before it is packed, at least.
 const packsAfter = time.Second
@@ -18,63 +19,55 @@ var spare = sync.Pool{New: func() interface{} { return new(qlock.Voter) }}
 
 // proved returns the proved voter of a vote, for a call that may change it.
 func (d *Daemon) proved(v *vote) *qlock.Voter {
-	if v.isUsed = true; v.voter == nil {
-		v.unpack()
+	extras := v.needs()
+	if extras.isUsed = true; extras.voter == nil {
+		d.unpack(v)
 		d.unpacked = append(d.unpacked, v)
 	}
-	return v.voter
+	return extras.voter
 }
 
-// look hands the proved voter of a vote to a function that does not change it.
+// look hands the proved voter of a vote to a function that does not change it, and that depends on no number of a later grant: one that is
+// packed goes on above what this start asks for when it is unpacked.
 func (v *vote) look(at func(*qlock.Voter)) {
-	if v.voter != nil {
-		at(v.voter)
+	if voter := v.extra().voter; voter != nil {
+		at(voter)
 		return
 	}
 	voter := spare.Get().(*qlock.Voter)
-	unpackTo(voter.State(), v.packed)
+	readVoter(voter, v.packed)
 	at(voter)
 	spare.Put(voter)
 }
 
-// change hands the proved voter of a vote to a function that changes it. One that is packed stays so.
-func (v *vote) change(how func(*qlock.Voter)) {
-	isPacked := v.voter == nil
-	if isPacked {
-		v.unpack()
+// unpack unpacks the proved voter of a vote, which goes on above what this start asks for, and what was said since the start.
+func (d *Daemon) unpack(v *vote) {
+	extras := v.needs()
+	extras.voter = spare.Get().(*qlock.Voter)
+	if said := readVoter(extras.voter, v.packed); said != "" {
+		extras.since = readSince(said)
 	}
-	if how(v.voter); isPacked {
-		v.pack()
+	if v.packed, v.isSaid = "", false; v.isRaised {
+		d.raised.raise(extras.voter)
 	}
-}
-
-// unpack unpacks the proved voter of a vote, and what was said since the start.
-func (v *vote) unpack() {
-	v.voter = spare.Get().(*qlock.Voter)
-	if said := unpackTo(v.voter.State(), v.packed); len(said) > 0 {
-		v.since = new(qlock.SinceStart)
-		unpackTo(v.since.State(), said)
-	}
-	v.packed, v.isSaid = nil, false
 }
 
 // pack packs the proved voter of a vote, and what was said since the start.
 func (v *vote) pack() {
-	packed := pack(v.voter.State())
-	if v.since != nil {
-		packed = append(packed, pack(v.since.State())...)
-	}
-	v.packed, v.isSaid = append([]byte(nil), packed...), v.since != nil // no more memory than it needs
-	spare.Put(v.voter)
-	v.voter, v.since = nil, nil
+	v.packed, v.isSaid = shortOf(v.extras.voter, v.extras.since), v.extras.since != nil
+	spare.Put(v.extras.voter)
+	v.extras.voter, v.extras.since = nil, nil
 }
 
 // forgetSince forgets what was said since the start.
 func (v *vote) forgetSince() {
 	if v.isSaid {
-		v.packed, v.isSaid = append([]byte(nil), v.saved()...), false
+		v.look(func(voter *qlock.Voter) { v.packed = shortOf(voter, nil) })
+		v.isSaid = false
 	}
-	v.since = nil
+	if v.extras != nil {
+		v.extras.since = nil
+	}
 }
 
 // saved returns what to save of a vote.
@@ -91,13 +84,13 @@ func (d *Daemon) packSome(now time.Time) {
 	for n := 0; n < mostLooked && d.toPack > 0; n++ {
 		v := d.unpacked[0]
 		d.unpacked[0], d.unpacked = nil, d.unpacked[1:]
-		if d.toPack--; v.isUsed || !d.isIdle(v) {
-			v.isUsed = false
+		if d.toPack--; v.extras.isUsed || !d.isIdle(v) {
+			v.extras.isUsed = false
 			d.unpacked = append(d.unpacked, v)
 			continue
 		}
 		v.pack()
-		v.asks = v.asks.short()
+		d.tidy(v, now)
 	}
 	if len(d.unpacked) == 0 {
 		d.unpacked = nil // and with it what was taken out
@@ -108,5 +101,18 @@ func (d *Daemon) packSome(now time.Time) {
 func (d *Daemon) isIdle(v *vote) bool {
 	_, isDirty := d.dirty[v]
 	_, isSilent := d.silent[v]
-	return !isDirty && !isSilent && !v.isWanted() && !v.isAwaited
+	return !isDirty && !isSilent && !v.isWanted() && !v.isAwaited()
+}
+
+// tidy drops the extras of a vote for which nobody waits, if it is packed and has none that it needs.
+func (d *Daemon) tidy(v *vote, now time.Time) {
+	extras := v.extra()
+	switch {
+	case extras.voter != nil, len(extras.others) > 0, extras.note != "", extras.isSpent:
+	case extras.skipped > v.number, v.isHeld && extras.turned.grant == v.number:
+	case v.isResting && extras.heard != moment.Never:
+	case now.Sub(extras.letGo.Time()) < d.leases.ttl:
+	default:
+		v.extras = nil
+	}
 }

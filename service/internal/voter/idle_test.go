@@ -8,6 +8,7 @@ import (
 	"testing"
 	"time"
 
+	"calvundek.example/service/internal/moment"
 	"calvundek.example/service/qlock"
 	"github.com/prometheus/client_golang/prometheus/testutil"
 )
@@ -23,7 +24,7 @@ func holds(t testing.TB, d *Daemon, number int, name string, many int, now time.
 		}
 		v := d.add(fmt.Sprintf("%s-%06d", name, i), voter)
 		if says(d, v, number, fmt.Sprintf("request %d 0 %d", number, i+1), now); !v.isHolder(number) {
-			t.Fatalf("%s: %+v", v.name, v.held)
+			t.Fatalf("%s: %+v", v.name, v.held())
 		}
 	}
 }
@@ -60,18 +61,18 @@ func TestMemoryOfHeldVotes(t *testing.T) {
 	now = d.packsAll(now)
 	bytes := int(heap()-before) / many
 	t.Logf("%d bytes for each", bytes)
-	if len(d.unpacked) > 0 || bytes > 500 {
+	if len(d.unpacked) > 0 || bytes > 245 {
 		t.Errorf("%d votes are not packed, and one takes %d bytes", len(d.unpacked), bytes)
 	}
 	d.beQuiet(now)
 	for _, v := range d.votes {
-		says(d, v, 1, fmt.Sprintf("request 1 0 %d inside", v.held.Stamp), now)
+		says(d, v, 1, fmt.Sprintf("request 1 0 %d inside", v.stamp), now)
 	}
 	d.saves()
 	d.packsAll(now)
 	bytes = int(heap()-before) / many
 	t.Logf("%d bytes for each in the quiet time", bytes)
-	if len(d.unpacked) > 0 || bytes > 540 {
+	if len(d.unpacked) > 0 || bytes > 265 {
 		t.Errorf("in the quiet time %d votes are not packed, and one takes %d bytes", len(d.unpacked), bytes)
 	}
 	runtime.KeepAlive(d)
@@ -95,14 +96,14 @@ func TestWhatWasSaidIsPacked(t *testing.T) {
 		t.Fatalf("%v, %v, %d not packed, %d old", wanted.isSaid, alone.isSaid, len(d.unpacked), len(d.old.all))
 	}
 	says(d, wanted, 2, "request 2 0 5 inside", now)
-	if wanted.since == nil || wanted.isSaid || wanted.isOld || wanted.asks.of(2) == nil {
+	if wanted.extras.since == nil || wanted.isSaid || wanted.isOld || wanted.ask(2).stamp != 5 {
 		t.Errorf("%+v", wanted)
 	}
 	saved, long := alone.saved(), len(alone.packed)
 	if d.round(now); d.isQuiet() || !wanted.isHolder(1) || !alone.isHolder(1) {
-		t.Errorf("quiet: %v, %+v, %+v", d.isQuiet(), wanted.held, alone.held)
+		t.Errorf("quiet: %v, %+v, %+v", d.isQuiet(), wanted.held(), alone.held())
 	}
-	if alone.isSaid || alone.voter != nil || len(alone.packed) >= long || !bytes.Equal(alone.packed, saved) {
+	if alone.isSaid || alone.extras != nil || len(alone.packed) >= long || !bytes.Equal(alone.saved(), saved) {
 		t.Errorf("%x, of %x", alone.packed, saved)
 	}
 }
@@ -116,21 +117,21 @@ func TestRestoredVotesArePacked(t *testing.T) {
 	}
 	again := reopened(t, d)
 	for name, v := range again.votes {
-		if v.voter != nil || v.held != d.votes[name].held {
-			t.Errorf("%s is packed: %v, %+v", name, v.voter == nil, v.held)
+		if v.extras != nil || v.held() != d.votes[name].held() {
+			t.Errorf("%s is packed: %v, %+v", name, v.extras == nil, v.held())
 		}
 	}
 	if again.start(time.Now()); len(again.votes) != 20 || len(again.unpacked) > 0 || !again.join.done {
 		t.Errorf("%d votes, %d of them not packed", len(again.votes), len(again.unpacked))
 	}
 	v := again.votes["lock-000003"]
-	if before, err := again.proved(v).Held(); err != nil || before != v.held {
+	if before, err := again.proved(v).Held(); err != nil || before != v.held() {
 		t.Errorf("%+v, %v", before, err)
 	}
 	again.shard(0).set(2, of("jobs.session-2", 1, 0, 1000))
 	says(again, v, 2, "request 2 0 900", time.Now())
-	if says(again, v, 1, "release 1 0 4", time.Now()); v.held.Client != 2 || v.held.Number <= again.floor {
-		t.Errorf("%+v, above the floor %d", v.held, again.floor)
+	if says(again, v, 1, "release 1 0 4", time.Now()); v.held().Client != 2 || v.held().Number <= again.floor {
+		t.Errorf("%+v, above the floor %d", v.held(), again.floor)
 	}
 }
 
@@ -147,17 +148,17 @@ func TestWhichVotesArePacked(t *testing.T) {
 	state := append([]byte(nil), named(0).saved()...)
 	for end := now.Add(10 * packsAfter); now.Before(end); now = now.Add(tick) {
 		d.proved(named(4))
-		if d.packSome(now); named(4).voter == nil {
+		if d.packSome(now); named(4).extra().voter == nil {
 			t.Fatal("a vote is packed that is used all the time")
 		}
 	}
 	for i, isPacked := range []bool{true, false, false, false, false} {
-		if v := named(i); (v.voter == nil) != isPacked || (v.packed != nil) != isPacked {
-			t.Errorf("%s is packed: %v", v.name, v.voter == nil)
+		if v := named(i); (v.extras == nil) != isPacked || (v.packed != "") != isPacked {
+			t.Errorf("%s is packed: %v", v.name, v.extras == nil)
 		}
 	}
-	if v := named(0); !bytes.Equal(v.saved(), state) || !v.isHolder(1) || v.asks.of(1) == nil || v.asks.of(1).stamp != 1 {
-		t.Errorf("%x was %x, %+v", v.saved(), state, v.asks)
+	if v := named(0); !bytes.Equal(v.saved(), state) || !v.isHolder(1) || v.ask(1).stamp != 1 {
+		t.Errorf("%x was %x, %+v", v.saved(), state, v.ask(1))
 	}
 	d.saves()
 	says(d, named(1), 1, "release 1 0 2", now) // nobody waits for it any more
@@ -166,10 +167,10 @@ func TestWhichVotesArePacked(t *testing.T) {
 		t.Errorf("%d votes are not packed", len(d.unpacked))
 	}
 	for i := 0; i < 5; i++ {
-		v, held := named(i), named(i).held
+		v, held := named(i), named(i).held()
 		says(d, v, int(held.Client), fmt.Sprintf("release %d 0 %d", held.Client, held.Stamp), now)
-		if shown, err := v.voter.Held(); err != nil || shown.Number > 0 || v.held.Number > 0 || len(v.asks) > 0 {
-			t.Errorf("%s: %+v, %v, %v", v.name, shown, v.asks, err)
+		if shown, err := v.extras.voter.Held(); err != nil || shown.Number > 0 || v.held().Number > 0 || v.isBusy() {
+			t.Errorf("%s: %+v, %v, %v", v.name, shown, v.held(), err)
 		}
 	}
 	if len(d.unpacked) != 5 {
@@ -246,7 +247,7 @@ func TestRoundsLookAtShares(t *testing.T) {
 			}
 		}
 		if want := many - 1 - round*mostLooked; want > 0 && left != want || want <= 0 && left > 0 || !wanted.isHolder(2) {
-			t.Errorf("after %d rounds: %d votes are left, and %+v", round, left, wanted.held)
+			t.Errorf("after %d rounds: %d votes are left, and %+v", round, left, wanted.held())
 		}
 	}
 	if d.measure(now); testutil.ToFloat64(d.m.held) != 1 || d.m.lasting.age(now) > 1 {
@@ -269,33 +270,75 @@ func TestQuietTimeEndsInShares(t *testing.T) {
 		t.Errorf("%d are left, quiet: %v", len(d.old.all), d.isQuiet())
 	}
 	kept := d.old.all[17]
-	d.repliesTo("jobs", 1, fmt.Sprintf("%s request 1 0 %d inside\n", kept.name, kept.held.Stamp))
-	if d.round(now); len(d.busy.all) != 1 || !kept.isHolder(1) || d.isQuiet() || kept.since != nil {
-		t.Errorf("%d are busy, %+v, quiet: %v", len(d.busy.all), kept.held, d.isQuiet())
+	d.repliesTo("jobs", 1, fmt.Sprintf("%s request 1 0 %d inside\n", kept.name, kept.held().Stamp))
+	if d.round(now); len(d.busy.all) != 1 || !kept.isHolder(1) || d.isQuiet() || kept.extras.since != nil {
+		t.Errorf("%d are busy, %+v, quiet: %v", len(d.busy.all), kept.held(), d.isQuiet())
 	}
 }
 
-// The requests of a vote are found by their clients, and each of a user counts.
-func TestAskers(t *testing.T) {
-	var a askers
-	one, other := &usage{}, &usage{}
-	for client := 0; client < 5; client++ {
-		a.add(ask{client: client, stamp: uint64(10 + client), user: one})
+// What few votes have stays while they are packed, as long as something depends on it. Then it takes no memory any more.
+func TestWhatFewVotesHave(t *testing.T) {
+	passesOn := func(d *Daemon, _ *vote, _ time.Time) {
+		d.repliesTo("jobs", 2, "orders request 2 0 6\n")
+		d.repliesTo("jobs", 1, "orders release 1 0 5\n")
 	}
-	a.of(3).user = other
-	a.remove(1)
-	a.remove(17)
-	a.remove(4)
-	for client, want := range []uint64{10, 0, 12, 13, 0} {
-		if found := a.of(client); (found != nil) != (want > 0) || found != nil && found.stamp != want {
-			t.Errorf("%d: %+v", client, found)
+	for name, one := range map[string]struct {
+		gets func(d *Daemon, v *vote, now time.Time)
+		has  func(d *Daemon, v *vote, now time.Time) bool
+		ends func(d *Daemon, v *vote, now time.Time)
+	}{
+		"a note": {
+			func(d *Daemon, v *vote, now time.Time) { d.repliesTo("jobs", 1, ". about orders 5 mine\n") },
+			func(d *Daemon, v *vote, now time.Time) bool { return v.noteOfAsk(1) == "mine" },
+			passesOn,
+		},
+		"a turn": {
+			func(d *Daemon, v *vote, now time.Time) {
+				d.turned(t, 1, fmt.Sprintf(". turn orders 5 %d %d\n", v.number, v.number))
+			},
+			func(d *Daemon, v *vote, now time.Time) bool {
+				return bytes.Contains(d.appendHolder(nil, 7, "orders", now), []byte("skipped"))
+			},
+			passesOn,
+		},
+		"numbers that were skipped": {
+			func(d *Daemon, v *vote, now time.Time) { v.extras.skipped = v.number + 40 },
+			func(d *Daemon, v *vote, now time.Time) bool { return d.highestOf(v) == v.number+40 },
+			func(d *Daemon, v *vote, now time.Time) { v.number += 40; d.tidy(v, now) },
+		},
+		"no grant left": {
+			func(d *Daemon, v *vote, now time.Time) { v.extras.isSpent = true },
+			func(d *Daemon, v *vote, now time.Time) bool { return v.extra().isSpent },
+			func(d *Daemon, v *vote, now time.Time) { v.extras.isSpent = false; d.tidy(v, now) },
+		},
+		"a line that came while it rested": {
+			func(d *Daemon, v *vote, now time.Time) { d.rest(v, now) },
+			func(d *Daemon, v *vote, now time.Time) bool { return v.extra().heard != moment.Never },
+			func(d *Daemon, v *vote, now time.Time) { d.forget(now.Add(d.restsFor)) },
+		},
+		"a grant that was let go": {
+			func(d *Daemon, v *vote, now time.Time) { v.extras.letGo = moment.Of(now.Add(time.Minute)) },
+			func(d *Daemon, v *vote, now time.Time) bool { return v.extra().letGo != moment.Never },
+			func(d *Daemon, v *vote, now time.Time) { d.tidy(v, now.Add(time.Minute+d.leases.ttl)) },
+		},
+	} {
+		d, now := sessions(t, 1, 2), time.Now()
+		d.repliesTo("jobs", 1, "orders request 1 0 5\n")
+		v := d.votes["orders"]
+		d.saves()
+		if one.gets(d, v, now); !one.has(d, v, now) {
+			t.Fatalf("there never is %s", name)
 		}
-	}
-	if a.remove(3); a.areOf(other) || !a.areOf(one) || a.areOf(nil) || len(a) != 2 {
-		t.Errorf("%+v", a)
-	}
-	if short := a.short(); cap(short) > 3 || len(short) != 2 || cap(askers{}.short()) > 0 {
-		t.Errorf("%d of %d", len(short), cap(short))
+		d.saves()
+		now = d.packsAll(now)
+		if v.packed == "" || v.extras == nil || !one.has(d, v, now) {
+			t.Errorf("packed: %v, and %s is lost", v.packed != "", name)
+		}
+		one.ends(d, v, now)
+		d.saves()
+		if d.packsAll(now); v.packed == "" || v.extras != nil {
+			t.Errorf("packed: %v, and %s stays: %+v", v.packed != "", name, v.extras)
+		}
 	}
 }
 

@@ -93,7 +93,7 @@ func TestFormatFollowsTheLevel(t *testing.T) {
 		t.Error(err)
 	case err == nil:
 		defer again.store.disk.Close()
-		if v := again.votes["orders"]; v == nil || v.held.Stamp != 1 || again.store.own.Raised != d.store.own.Start {
+		if v := again.votes["orders"]; v == nil || v.held().Stamp != 1 || again.store.own.Raised != d.store.own.Start {
 			t.Errorf("%+v, %+v", v, again.store.own)
 		}
 	}

@@ -169,11 +169,11 @@ func (m *metrics) histogram(name, help string, buckets []float64) prometheus.His
 func (d *Daemon) measure(now time.Time) {
 	waiting := now
 	for _, v := range d.soon.all {
-		for _, one := range v.asks {
+		v.asks(func(one ask) {
 			if !v.isHolder(one.client) {
 				waiting = earlier(waiting, one.since.Time())
 			}
-		}
+		})
 	}
 	if len(d.inTurn) > 0 { // one shard each time: a row costs a call
 		d.nextShard = (d.nextShard + 1) % len(d.inTurn)

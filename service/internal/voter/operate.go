@@ -222,7 +222,7 @@ func (d *Daemon) evict(key int, atOnce bool, by string, now time.Time) LetGo {
 // unlock lets one grant of a lock go.
 func (d *Daemon) unlock(lock string, grant uint64, by string, now time.Time) LetGo {
 	v := d.votes[lock]
-	if v == nil || v.held.Number != grant || !d.letGo(v, now) {
+	if v == nil || v.held().Number != grant || !d.letGo(v, now) {
 		return LetGo{}
 	}
 	d.log.Write(event.Warning, "unlocked", "lock", lock, "grant", grant, "by", by)
@@ -281,17 +281,17 @@ func (s *shard) views(called func(key int) string) (views []SessionView) {
 // view returns what an operator sees of a vote.
 func (d *Daemon) view(v *vote, now time.Time) VoteView {
 	shown := VoteView{Lock: v.name, Client: -1}
-	if v.held.Number > 0 {
-		shown.Client, shown.Stamp, shown.Grant = int(v.held.Client), v.held.Stamp, v.held.Number
+	if v.isHeld {
+		shown.Client, shown.Stamp, shown.Grant = int(v.client), v.stamp, v.number
 		shown.Session = d.cluster.NumberOf(v.shard.key(shown.Client))
 		shown.Held, shown.Note = now.Sub(v.granted.Time()).Seconds(), v.noteOfAsk(shown.Client)
 	}
-	for _, one := range v.asks {
+	v.asks(func(one ask) {
 		if !v.isHolder(one.client) {
 			shown.Waiting = append(shown.Waiting, WaiterView{one.client, d.cluster.NumberOf(v.shard.key(one.client)), one.stamp,
 				now.Sub(one.since.Time()).Seconds()})
 		}
-	}
+	})
 	sort.Slice(shown.Waiting, func(i, j int) bool { return shown.Waiting[i].Stamp < shown.Waiting[j].Stamp })
 	return shown
 }

@@ -20,9 +20,15 @@ func TestPack(t *testing.T) {
 		if got, ok := unpack(packed); !ok || !bytes.Equal(got, state) {
 			t.Fatalf("%x", state)
 		}
-		other := bytes.Repeat([]byte{byte(n)}, qlock.VoterBytes)
-		if unpackTo(other, packed); !bytes.Equal(other, state) {
-			t.Fatalf("%x in place of another one", state)
+		var voter, other qlock.Voter
+		copy(voter.State(), state)
+		copy(other.State(), bytes.Repeat([]byte{byte(n)}, qlock.VoterBytes))
+		since := qlock.NewSinceStart(uint64(n) << (n % 64))
+		if said := readVoter(&other, shortOf(&voter, since)); other != voter || *readSince(said) != *since {
+			t.Fatalf("%x in place of another one, and %q was said", state, said)
+		}
+		if said := readVoter(&other, shortOf(&voter, nil)); other != voter || said != "" {
+			t.Fatalf("%x in place of another one, and %q was said", state, said)
 		}
 		if _, ok := unpack(packed[:random.Intn(len(packed))]); ok {
 			t.Fatal("bytes that are cut off")
@@ -35,7 +41,8 @@ func TestPack(t *testing.T) {
 	if _, err := voter.Take([]byte("request 5 3 17"), nil); err != nil {
 		t.Fatal(err)
 	}
-	if size := len(pack(voter.State())); size > 120 {
-		t.Errorf("a vote that is held takes %d bytes", size)
+	saved, kept := len(pack(voter.State())), len(shortOf(voter, nil))
+	if t.Logf("a vote that is held takes %d and %d bytes", saved, kept); saved > 120 || kept > 32 {
+		t.Errorf("a vote that is held takes %d bytes on disk, and %d in memory", saved, kept)
 	}
 }

@@ -15,6 +15,7 @@ import (
 type quiet struct {
 	is    bool
 	since time.Duration // when it began, on the lease clock
+	begun uint64        // how many grants votes gave before, or skipped
 	ends  pass          // over the grants of before the start, which go at its end
 }
 
@@ -52,25 +53,37 @@ func (d *Daemon) quietFor(now time.Time) time.Duration {
 // beQuiet begins a quiet time: what votes granted so far is from before it. It is over after a TTL by the lease clock, so that whoever is
 // inside could be heard for as long.
 func (d *Daemon) beQuiet(now time.Time) {
-	d.leases.quiet = quiet{is: true, since: d.leases.at(now)}
+	d.leases.quiet = quiet{is: true, since: d.leases.at(now), begun: d.floor}
+	begun, since := uint64(0), new(qlock.SinceStart)
 	for _, v := range d.busy.all {
 		v.forgetSince()
-		v.begun = greatest(v.begun, v.held.Number)
-		d.standSince(v, qlock.NewSinceStart(v.begun)) // what is not needed is kept of none: it is long
+		v.isOld = v.isHeld
+		if of := d.begunOf(v); of != begun {
+			begun, since = of, qlock.NewSinceStart(of)
+		}
+		d.standSince(v, since) // nothing is kept of what was said of none: it is long
 	}
+}
+
+// begunOf returns how many grants a vote gave, or skipped, before the quiet time began. What it gave since has greater numbers.
+func (d *Daemon) begunOf(v *vote) uint64 {
+	if v.isOld {
+		return greatest(d.leases.quiet.begun, v.number)
+	}
+	return d.leases.quiet.begun
 }
 
 // sinceOf returns what was said of a lock since the start. Nothing is noted in what it returns for a vote of which nothing was said, but in
 // the quiet time.
 func (d *Daemon) sinceOf(v *vote) *qlock.SinceStart {
 	d.proved(v) // it may be packed
-	if v.since == nil && d.isQuiet() {
-		v.since = qlock.NewSinceStart(v.begun)
+	if v.extras.since == nil && d.isQuiet() {
+		v.extras.since = qlock.NewSinceStart(d.begunOf(v))
 	}
-	if v.since == nil {
+	if v.extras.since == nil {
 		return &d.nothing
 	}
-	return v.since
+	return v.extras.since
 }
 
 // stand notes how a vote stands since the start, once a call may have changed that.
@@ -78,26 +91,30 @@ func (d *Daemon) stand(v *vote) { d.standSince(v, d.sinceOf(v)) }
 
 // standSince notes how a vote stands where this was said since the start.
 func (d *Daemon) standSince(v *vote, since *qlock.SinceStart) {
+	var isAwaited bool
 	v.look(func(voter *qlock.Voter) {
-		v.isOld, v.isAwaited, _ = voter.Stands(since) // it never fails: the bytes are a voter
+		v.isOld, isAwaited, _ = voter.Stands(since) // it never fails: the bytes are a voter
 	})
+	if isAwaited != v.isAwaited() {
+		v.needs().isAwaited = isAwaited
+	}
 	d.lists(v)
 }
 
 // forgetDead forgets those who said of a lock that they are inside, and whose session is over.
 func (d *Daemon) forgetDead(v *vote) {
-	for _, one := range v.asks {
+	v.asks(func(one ask) {
 		if v.shard.isOver(one.client, one.stamp) {
-			_ = v.since.Forget(uint8(one.client)) // it never fails: there is such a client
+			_ = v.extras.since.Forget(uint8(one.client)) // it never fails: there is such a client
 		}
-	}
+	})
 	d.stand(v)
 }
 
 // awaits returns whether somebody who said that he is inside waits for some vote.
 func (d *Daemon) awaits() bool {
 	for _, v := range d.soon.all {
-		if v.isAwaited {
+		if v.isAwaited() {
 			return true
 		}
 	}

@@ -43,7 +43,7 @@ func aState(t *testing.T, votes int) (folder string, meta Meta) {
 		if _, err := one.Take([]byte(fmt.Sprintf("request %d 0 17", i%64)), nil); err != nil {
 			t.Fatal(err)
 		}
-		if err := s.save(changes{votes: map[*vote]struct{}{{voter: one, name: fmt.Sprint("orders-", i)}: {}},
+		if err := s.save(changes{votes: map[*vote]struct{}{{extras: &extras{voter: one}, name: fmt.Sprint("orders-", i)}: {}},
 			sessions: map[int]Session{i % 64: of(fmt.Sprint("session-", i), 5, 100, 9000)},
 			peers:    map[int]Peer{i % 64: {Identity: identity("other"), Start: uint64(i), Process: process("p")}}}); err != nil {
 			t.Fatal(err)
@@ -161,7 +161,7 @@ func TestRowsOfOneTransaction(t *testing.T) {
 		if err != nil {
 			t.Fatal(err)
 		}
-		if err := s.save(changes{votes: map[*vote]struct{}{{voter: changed, name: "orders-1"}: {}},
+		if err := s.save(changes{votes: map[*vote]struct{}{{extras: &extras{voter: changed}, name: "orders-1"}: {}},
 			sessions: map[int]Session{1: of("another", 7, 200, 9000)}, peers: map[int]Peer{2: {Identity: identity("other"), Start: 9, Process: process("p")}},
 			plans: &Generations{Now: texts(t, all)}}); err != nil {
 			t.Fatal(err)

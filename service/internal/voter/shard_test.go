@@ -62,13 +62,13 @@ func TestSessionsOfShards(t *testing.T) {
 	}
 	for shard := 0; shard < 4; shard++ {
 		lock := lockOf(d, shard)
-		if says((shard+1)&3, 5, fmt.Sprintf("%s release 5 0 %d\n", lock, 10+shard)); d.votes[lock].held.Number == 0 {
+		if says((shard+1)&3, 5, fmt.Sprintf("%s release 5 0 %d\n", lock, 10+shard)); d.votes[lock].held().Number == 0 {
 			t.Errorf("a session of another shard gives %s back", lock)
 		}
 		says((shard+1)&3, 5, fmt.Sprintf(". about %s %d mine\n", lock, 10+shard))
 		says((shard+1)&3, 5, fmt.Sprintf(". turn %s %d 1 9\n", lock, 10+shard))
-		if v := d.votes[lock]; v.asks.of(5).note != "" || len(d.skips) > 0 {
-			t.Errorf("a session of another shard says something of %s: %+v", lock, v.asks)
+		if one := d.votes[lock].ask(5); one.note != "" || len(d.skips) > 0 {
+			t.Errorf("a session of another shard says something of %s: %+v", lock, one)
 		}
 	}
 	if gone := d.evict(2*qlock.MaxClients+5, true, "alice", time.Now()); gone.LetGo != 1 || d.shard(1).row(5).Open != true || d.shard(2).row(5).Open {

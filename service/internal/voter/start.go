@@ -153,9 +153,9 @@ func (d *Daemon) isKept(now time.Time) {
 	d.raiseAll()
 	d.leases.hearAll(now)
 	for _, v := range d.busy.all {
-		client := int(v.held.Client)
-		v.shard.endedByWord(client, v.shard.rare(client).byWord || v.held.Number > 0 && !v.shard.row(client).Open)
-		if v.held.Number > 0 && v.shard.isEarlier(client, v.held.Stamp) {
+		client := int(v.client)
+		v.shard.endedByWord(client, v.shard.rare(client).byWord || v.isHeld && !v.shard.row(client).Open)
+		if v.isHeld && v.shard.isEarlier(client, v.stamp) {
 			v.shard.passes(client, now) // this run may not know how the number was passed on
 		}
 	}
@@ -166,16 +166,17 @@ func (d *Daemon) isKept(now time.Time) {
 		"answered", d.inUse.names(shown.Answered))
 }
 
-// raiseAll lets all votes go on above what this voter may have given: they keep their grants.
-func (d *Daemon) raiseAll() {
-	for _, v := range d.votes {
-		v.limit, v.highest, v.isRaised = d.ceiling, greatest(v.highest, d.floor), true
-		v.begun = greatest(v.begun, d.floor)
-		v.change(func(voter *qlock.Voter) {
-			_ = voter.Extend(d.ceiling) // neither fails: no limit was above the ceiling
-			_ = voter.Raise(d.floor)
-		})
-	}
+// raised is above which number, and up to which one, the votes go on that a voter has as it starts.
+type raised struct{ floor, ceiling uint64 }
+
+// raiseAll lets all votes go on above what this voter may have given: they keep their grants. There may be many, so each goes on as it is
+// unpacked. None is saved before that.
+func (d *Daemon) raiseAll() { d.raised = raised{d.floor, d.ceiling} }
+
+// raise lets a proved voter go on. The second time it changes nothing.
+func (r raised) raise(voter *qlock.Voter) {
+	_ = voter.Extend(r.ceiling) // it fails if the limit is a later ceiling
+	_ = voter.Raise(r.floor)    // it fails if more grants were given, or skipped
 }
 
 // needsCeiling asks for the next ceiling if half of the last block is used.

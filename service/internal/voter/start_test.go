@@ -330,7 +330,7 @@ func TestEndOfTheQuietTime(t *testing.T) {
 	}
 	d.round(time.Now())
 	for name, want := range map[string]uint64{"left": 0, "given": 2} {
-		if held := d.votes[name].held; held.Stamp != want {
+		if held := d.votes[name].held(); held.Stamp != want {
 			t.Errorf("%s: the vote is held under stamp %d", name, held.Stamp)
 		}
 	}
@@ -340,7 +340,7 @@ func TestEndOfTheQuietTime(t *testing.T) {
 	if reply := d.repliesTo("jobs", 3, "free request 3 0 1\n"); !strings.Contains(reply, "free locked ") {
 		t.Errorf("afterwards: %q", reply)
 	}
-	if d.round(time.Now()); d.votes["free"].held.Client != 3 {
+	if d.round(time.Now()); d.votes["free"].held().Client != 3 {
 		t.Error("a grant is let go twice")
 	}
 }
@@ -373,8 +373,8 @@ func TestSilenceInTheQuietTime(t *testing.T) {
 		t.Helper()
 		d.round(later)
 		for name, client := range want {
-			if v := d.votes[name]; v.held.Client != client || v.isAwaited != isAwaited || d.isQuiet() != isAwaited {
-				t.Errorf("%s: %s is had by %d, somebody inside waits: %v, quiet: %v", when, name, v.held.Client, v.isAwaited, d.isQuiet())
+			if v := d.votes[name]; v.held().Client != client || v.isAwaited() != isAwaited || d.isQuiet() != isAwaited {
+				t.Errorf("%s: %s is had by %d, somebody inside waits: %v, quiet: %v", when, name, v.held().Client, v.isAwaited(), d.isQuiet())
 			}
 		}
 	}
@@ -384,7 +384,7 @@ func TestSilenceInTheQuietTime(t *testing.T) {
 	}
 	d.repliesTo("jobs", 1, ". close\n")
 	holders("closed", true, map[string]uint64{"stays": 3})
-	if client := d.votes["left"].held.Client; client != 2 {
+	if client := d.votes["left"].held().Client; client != 2 {
 		t.Errorf("closed: it is had by %d", client)
 	}
 	later = later.Add(2 * d.leases.ttl)
@@ -402,7 +402,7 @@ func TestWhatComesBackWhileQuiet(t *testing.T) {
 		first.repliesTo("jobs", number, fmt.Sprintf(". claim %d 1 100\n", number))
 	}
 	first.repliesTo("jobs", 1, "orders request 1 0 9\n")
-	grant := first.votes["orders"].held.Number
+	grant := first.votes["orders"].held().Number
 	if err := first.save(time.Now()); err != nil {
 		t.Fatal(err)
 	}
@@ -457,7 +457,7 @@ func TestEndWhileSomebodyInsideWaits(t *testing.T) {
 	quietIsOver(d)
 	d.repliesTo("jobs", 1, "orders request 1 0 1 inside\n")
 	d.repliesTo("jobs", 2, "orders request 2 0 2 inside\n")
-	if d.round(time.Now()); d.isQuiet() || !d.votes["orders"].isAwaited {
+	if d.round(time.Now()); d.isQuiet() || !d.votes["orders"].isAwaited() {
 		t.Fatalf("quiet %v, %+v", d.isQuiet(), d.votes["orders"])
 	}
 	carrier := d.carrier.(*post)
@@ -527,8 +527,8 @@ func whatOthersEnd(t *testing.T, end func(d *Daemon, now time.Time) error) {
 	stays := func(when string) {
 		t.Helper()
 		d.round(now)
-		if v := d.votes["orders"]; v.held.Client != 1 || d.shard(0).state(1) != 0 || claimAt(&d.shard(0).table, 1, "other", 9, now) {
-			t.Errorf("%s: the vote is held by %+v, and its number is to be had: %d", when, v.held, d.shard(0).state(1))
+		if v := d.votes["orders"]; v.held().Client != 1 || d.shard(0).state(1) != 0 || claimAt(&d.shard(0).table, 1, "other", 9, now) {
+			t.Errorf("%s: the vote is held by %+v, and its number is to be had: %d", when, v.held(), d.shard(0).state(1))
 		}
 	}
 	stays("at once")
@@ -540,8 +540,8 @@ func whatOthersEnd(t *testing.T, end func(d *Daemon, now time.Time) error) {
 	stays("after a restart")
 	later := time.Now().Add(2 * d.leases.ttl)
 	passes(&d.shard(0).table, later)
-	if d.round(later); d.votes["orders"].held.Client != 2 || d.shard(0).state(1) == 0 || !claimAt(&d.shard(0).table, 1, "other", 9, later) {
-		t.Errorf("after a TTL: the vote is held by %+v, and its number is free: %d", d.votes["orders"].held, d.shard(0).state(1))
+	if d.round(later); d.votes["orders"].held().Client != 2 || d.shard(0).state(1) == 0 || !claimAt(&d.shard(0).table, 1, "other", 9, later) {
+		t.Errorf("after a TTL: the vote is held by %+v, and its number is free: %d", d.votes["orders"].held(), d.shard(0).state(1))
 	}
 }
 
@@ -581,8 +581,8 @@ func TestNumberIsPassedOn(t *testing.T) {
 	s, later := d.shard(0), now.Add(2*d.leases.ttl)
 	passes(&s.table, later)
 	s.hear(1, later)
-	if d.round(later); d.votes["orders"].held.Client != 2 || s.state(1) != 0 {
-		t.Errorf("the vote is held by %+v, and the number is to be had: %d", d.votes["orders"].held, s.state(1))
+	if d.round(later); d.votes["orders"].held().Client != 2 || s.state(1) != 0 {
+		t.Errorf("the vote is held by %+v, and the number is to be had: %d", d.votes["orders"].held(), s.state(1))
 	}
 }
 

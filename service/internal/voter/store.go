@@ -320,7 +320,7 @@ func readSession(key, text []byte) (one savedSession, err error) {
 // (Voter.MustSave). Clients that wait ask again.
 type savedVote struct {
 	name   string
-	packed []byte
+	packed string
 	held   qlock.Grant
 }
 
@@ -341,7 +341,7 @@ func readVote(key, text []byte) (savedVote, error) {
 	if err != nil {
 		return one, fmt.Errorf("vote %q: %w", key, err)
 	}
-	one.packed = append(one.packed, pack(voter.State())...) // no more memory than it needs
+	one.packed = shortOf(voter, nil)
 	return one, nil
 }
 

@@ -50,7 +50,7 @@ func (d *Daemon) skipWaiters(now time.Time) {
 // other voters keep a higher one. As long as it may not skip as many it says nothing: the client asks again.
 func (d *Daemon) skipFor(l *letter, ask wire.Ask, now time.Time) {
 	v := d.votes[ask.Lock]
-	if !d.join.done || v == nil || !v.isHolder(l.Number) || v.held.Stamp != ask.Number || v.held.Number != ask.Grant ||
+	if !d.join.done || v == nil || !v.isHolder(l.Number) || v.stamp != ask.Number || v.number != ask.Grant ||
 		v.shard != l.shard || l.shard.isEarlier(l.Number, ask.Number) {
 		return // it hears otherwise that it does not have this vote, or has to find out
 	}
@@ -68,15 +68,16 @@ func (d *Daemon) skipFor(l *letter, ask wire.Ask, now time.Time) {
 			return
 		}
 	}
-	if ask.Top > v.limit {
-		v.limit = d.ceiling
-		_ = d.proved(v).Extend(d.ceiling) // it never fails: the limit is below
-	}
-	if ask.Top > v.highest { // else it gave, or skipped, as many before
-		if d.proved(v).Raise(ask.Top) != nil {
+	voter := d.proved(v)
+	if ask.Top > d.highestOf(v) { // else it gave, or skipped, as many before
+		err := voter.Raise(ask.Top)
+		if err != nil && d.extends(v) {
+			err = voter.Raise(ask.Top)
+		}
+		if err != nil {
 			return
 		}
-		v.highest = ask.Top
+		v.extras.skipped = ask.Top
 		d.noteNumber(ask.Top, now)
 	}
 	d.dirty[v] = struct{}{}
@@ -109,8 +110,8 @@ func (d *Daemon) mayReach(number uint64, now time.Time) bool {
 // tellSkips puts the turns that are saved with what leaves.
 func (d *Daemon) tellSkips() {
 	for _, s := range d.skips {
-		if s.vote.held.Number == s.ask.Grant {
-			s.vote.turned = turned{s.ask.Grant, s.ask.Top}
+		if s.vote.held().Number == s.ask.Grant {
+			s.vote.needs().turned = turned{s.ask.Grant, s.ask.Top}
 			told := wire.Told{Kind: wire.Turned, Lock: s.ask.Lock, Stamp: s.ask.Number, Top: s.ask.Top}
 			d.put(s.session, told.Append(d.out[s.session]))
 		}

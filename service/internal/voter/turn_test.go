@@ -31,7 +31,7 @@ func (d *Daemon) turned(t *testing.T, number int, lines string) string {
 func TestTurnsAreSkipped(t *testing.T) {
 	d := sessions(t, 1, 2)
 	d.repliesTo("jobs", 1, "orders request 1 0 5\n")
-	grant := d.votes["orders"].held.Number
+	grant := d.votes["orders"].held().Number
 	ask := fmt.Sprintf(". turn orders 5 %d %d\n", grant, grant+40)
 	want := fmt.Sprintf(". turned orders 5 %d\n", grant+40)
 	for i := 0; i < 2; i++ { // it may be lost, and asked for again
@@ -39,12 +39,12 @@ func TestTurnsAreSkipped(t *testing.T) {
 			t.Fatalf("%q", reply)
 		}
 	}
-	if held, err := d.votes["orders"].voter.Held(); err != nil || held.Number != grant {
+	if held, err := d.votes["orders"].extras.voter.Held(); err != nil || held.Number != grant {
 		t.Errorf("%v, %v", held, err)
 	}
 	d.repliesTo("jobs", 2, "orders request 2 0 9\n")
 	d.repliesTo("jobs", 1, "orders release 1 0 5\n")
-	if next := d.votes["orders"].held; next.Client != 2 || next.Number != grant+41 {
+	if next := d.votes["orders"].held(); next.Client != 2 || next.Number != grant+41 {
 		t.Errorf("%+v after %d", next, grant)
 	}
 	if reply := d.turned(t, 1, ask); reply != "" {
@@ -57,7 +57,7 @@ func TestTurnIsShown(t *testing.T) {
 	d := sessions(t, 1, 2)
 	d.repliesTo("jobs", 1, "orders request 1 0 5\n")
 	d.repliesTo("jobs", 2, "orders request 2 0 9\n")
-	grant := d.votes["orders"].held.Number
+	grant := d.votes["orders"].held().Number
 	shows := func(want string) {
 		t.Helper()
 		for _, ask := range []string{". who 7 orders\n", ". list 7 0\n"} {
@@ -82,21 +82,21 @@ func TestTurnsAreOfTheHolder(t *testing.T) {
 	d := sessions(t, 1, 2)
 	d.repliesTo("jobs", 1, "orders request 1 0 5\n")
 	d.repliesTo("jobs", 2, "orders request 2 0 9\n")
-	grant := d.votes["orders"].held.Number
+	grant := d.votes["orders"].held().Number
 	for number, words := range map[int]string{2: fmt.Sprintf("orders 9 %d %d", grant, grant+1), 1: fmt.Sprintf("orders 6 %d %d", grant, grant+1)} {
-		if reply := d.turned(t, number, ". turn "+words+"\n"); reply != "" || d.votes["orders"].highest != grant {
+		if reply := d.turned(t, number, ". turn "+words+"\n"); reply != "" || d.highestOf(d.votes["orders"]) != grant {
 			t.Errorf("%d, %s: %q", number, words, reply)
 		}
 	}
 	for _, words := range []string{fmt.Sprintf("orders 5 %d %d", grant+1, grant+1), "stock 5 1 1"} {
-		if reply := d.turned(t, 1, ". turn "+words+"\n"); reply != "" || len(d.votes) != 1 || d.votes["orders"].highest != grant {
+		if reply := d.turned(t, 1, ". turn "+words+"\n"); reply != "" || len(d.votes) != 1 || d.highestOf(d.votes["orders"]) != grant {
 			t.Errorf("%s: %q", words, reply)
 		}
 	}
 	if reply := d.turned(t, 1, fmt.Sprintf(". turn orders 5 %d %d\norders release 1 0 5\n", grant, grant+7)); reply != "" {
 		t.Errorf("%q though the grant was over at the save", reply)
 	}
-	if next := d.votes["orders"].held; next.Number != grant+8 {
+	if next := d.votes["orders"].held(); next.Number != grant+8 {
 		t.Errorf("%+v", next)
 	}
 }
@@ -105,7 +105,7 @@ func TestTurnsAreOfTheHolder(t *testing.T) {
 func TestTurnsRaiseTheCeiling(t *testing.T) {
 	d := sessions(t, 1)
 	d.repliesTo("jobs", 1, "orders request 1 0 5\n")
-	grant, top := d.votes["orders"].held.Number, d.ceiling+3*skipRate
+	grant, top := d.votes["orders"].held().Number, d.ceiling+3*skipRate
 	ask := fmt.Sprintf(". turn orders 5 %d %d\n", grant, top)
 	if reply, want := d.turned(t, 1, ask), fmt.Sprintf(". turned orders 5 %d\n", top); reply != want || d.ceiling <= top {
 		t.Errorf("%q under the ceiling %d", reply, d.ceiling) // there is no other voter
@@ -123,7 +123,7 @@ func TestTurnsAreBounded(t *testing.T) {
 	d := sessions(t, 1)
 	d.skippable = *qlock.NewBucket(0, 2*(5<<24), 0) // 5 * 2^24 numbers, and never more
 	d.repliesTo("jobs", 1, "orders request 1 0 5\n")
-	grant, told := d.votes["orders"].held.Number, 0
+	grant, told := d.votes["orders"].held().Number, 0
 	for i := 0; i < 40; i++ {
 		if reply := d.turned(t, 1, fmt.Sprintf(". turn orders 5 %d %d\n", grant, d.ceiling)); reply != "" {
 			told++

@@ -87,7 +87,7 @@ func TestUpgrade(t *testing.T) {
 	for _, stamp := range []int{9000, 9001} {
 		hand(d, append(h.Append(nil), fmt.Sprintf(". claim 0 8 50\norders request 0 0 %d\n", stamp)...))
 	}
-	if v := d.votes["orders"]; v == nil || v.held.Stamp != 9001 || v.held.Number <= 3*oldBlock {
+	if v := d.votes["orders"]; v == nil || v.held().Stamp != 9001 || v.held().Number <= 3*oldBlock {
 		t.Errorf("%+v", v)
 	}
 }

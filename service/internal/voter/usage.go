@@ -51,14 +51,14 @@ func (d *Daemon) usageOf(user string) *usage {
 
 // counts counts a vote of a user before another request of it has the vote or waits for it.
 func (d *Daemon) counts(v *vote, u *usage) {
-	if u != nil && !v.asks.areOf(u) {
+	if u != nil && !v.isOf(u) {
 		u.votes++
 	}
 }
 
 // leaves counts a vote of a user no more once no request of it has the vote or waits for it.
 func (d *Daemon) leaves(v *vote, u *usage) {
-	if u == nil || v.asks.areOf(u) {
+	if u == nil || v.isOf(u) {
 		return
 	}
 	if u.votes--; u.votes == 0 {
@@ -69,20 +69,20 @@ func (d *Daemon) leaves(v *vote, u *usage) {
 // isAtBound returns whether a user may get no vote besides those that it has or waits for, and this is none of them.
 func (d *Daemon) isAtBound(v *vote, user string) bool {
 	u := d.users[user]
-	return u != nil && u.votes >= d.own.LocksOfUser() && (v == nil || !v.asks.areOf(u))
+	return u != nil && u.votes >= d.own.LocksOfUser() && (v == nil || !v.isOf(u))
 }
 
 // isInTheWay returns whether a grant goes with its session though nobody waits for the vote: the session can't come back, or
 // there was no room for another lock of its user, or for any.
 func (d *Daemon) isInTheWay(v *vote) bool {
-	client := int(v.held.Client)
-	return !v.shard.row(client).Open || v.shard.isEarlier(client, v.held.Stamp) ||
-		d.isFullFor(v.asks.of(client)) || d.isFull && len(d.votes) >= d.own.MaxLocks
+	client := int(v.client)
+	return !v.shard.row(client).Open || v.shard.isEarlier(client, v.stamp) ||
+		d.isFullFor(v.user) || d.isFull && len(d.votes) >= d.own.MaxLocks
 }
 
-// isFullFor returns whether the user of a request was refused another lock, and is still at its bound.
-func (d *Daemon) isFullFor(one *ask) bool {
-	return one != nil && one.user != nil && one.user.isFull && one.user.votes >= d.own.LocksOfUser()
+// isFullFor returns whether a user was refused another lock, and is still at its bound.
+func (d *Daemon) isFullFor(u *usage) bool {
+	return u != nil && u.isFull && u.votes >= d.own.LocksOfUser()
 }
 
 // fullForUser refuses a REQUEST of a user that is at its bound.

@@ -103,7 +103,7 @@ func TestDeadSessionsMakeRoom(t *testing.T) {
 		held := func() (count int) {
 			d.round(later)
 			for _, v := range d.votes {
-				if v.held.Number > 0 {
+				if v.held().Number > 0 {
 					count++
 				}
 			}
@@ -123,7 +123,7 @@ func TestDeadSessionsMakeRoom(t *testing.T) {
 	d.repliesTo("jobs", 1, ". claim 1 1 1000\n")
 	d.repliesTo("jobs", 1, "a request 1 0 1\n")
 	d.shard(0).end(1, d.shard(0).name(1), d.shard(0).row(1).Epoch)
-	if d.round(time.Now()); d.votes["a"].held.Number > 0 {
+	if d.round(time.Now()); d.votes["a"].held().Number > 0 {
 		t.Error("a session that is over keeps its vote")
 	}
 }

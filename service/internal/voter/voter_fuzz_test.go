@@ -64,7 +64,7 @@ func newStage(f *testing.F) *stage {
 		hand(d, s.said(number, 1, 100, name, ". open 0\n"))
 	}
 	hand(d, s.said(0, 1, 100, "me", "orders request 0 0 1\n"))
-	if d.votes["orders"] == nil || d.votes["orders"].held.Number != 1 || d.shard(0).row(1).Reserved != 100 {
+	if d.votes["orders"] == nil || d.votes["orders"].held().Number != 1 || d.shard(0).row(1).Reserved != 100 {
 		f.Fatalf("%+v", d.shard(0).seats[:2])
 	}
 	if err := d.commit(time.Now()); err != nil {
@@ -214,7 +214,7 @@ func FuzzMessage(f *testing.F) {
 			message = message[:end+2] // it is a bundle (FuzzBundle)
 		}
 		d := s.again(t)
-		rows, held := d.shard(0).all(), d.votes["orders"].held
+		rows, held := d.shard(0).all(), d.votes["orders"].held()
 		locks := [2]string{d.shard(0).seat(0).lock, d.shard(0).seat(1).lock}
 		hand(d, message)
 		if sent(d) > mostReplies+4*len(message) {
@@ -239,10 +239,10 @@ func FuzzMessage(f *testing.F) {
 				t.Fatalf("%q says that another session wants %q", h.Name, now)
 			}
 		}
-		if one := d.votes["orders"].asks.of(0); one != nil && one.note != "" && h.Name != "me" {
+		if one := d.votes["orders"].ask(0); one.note != "" && h.Name != "me" {
 			t.Fatalf("%q says something of another one's request", h.Name)
 		}
-		if now := d.votes["orders"].held; now != held && h.Name != "me" {
+		if now := d.votes["orders"].held(); now != held && h.Name != "me" {
 			t.Fatalf("%q takes a lock from its holder: %+v", h.Name, now)
 		}
 		if len(d.votes) > 1 && h.Name != "me" && h.Name != "other" {
@@ -305,9 +305,9 @@ func FuzzSessions(f *testing.F) {
 				}
 			}
 			for _, v := range d.votes {
-				if v.held.Number > 0 && v.held.Stamp > d.shard(0).row(int(v.held.Client)).Reserved {
-					t.Fatalf("step %d: stamp %d is granted, and %d is reserved", step, v.held.Stamp,
-						d.shard(0).row(int(v.held.Client)).Reserved)
+				if v.held().Number > 0 && v.held().Stamp > d.shard(0).row(int(v.held().Client)).Reserved {
+					t.Fatalf("step %d: stamp %d is granted, and %d is reserved", step, v.held().Stamp,
+						d.shard(0).row(int(v.held().Client)).Reserved)
 				}
 			}
 			mustCount(t, d)
@@ -322,13 +322,13 @@ func mustCount(t *testing.T, d *Daemon) {
 	votes := map[string]int{}
 	for _, v := range d.votes {
 		asks := map[string]int{}
-		for _, one := range v.asks {
+		v.asks(func(one ask) {
 			if one.user != nil && one.user != d.users[one.user.user] {
-				t.Fatalf("%s: %+v, of %v", v.name, one.user, v.asks)
+				t.Fatalf("%s: %+v, of %v", v.name, one.user, one)
 			} else if one.user != nil {
 				asks[one.user.user]++
 			}
-		}
+		})
 		for user := range asks {
 			votes[user]++
 		}
@@ -378,7 +378,7 @@ func FuzzOperator(f *testing.F) {
 	}
 	f.Fuzz(func(t *testing.T, lines string) {
 		d := s.again(t)
-		rows, plans, held := d.shard(0).all(), d.plans, d.votes["orders"].held
+		rows, plans, held := d.shard(0).all(), d.plans, d.votes["orders"].held()
 		h := wire.Header{Cluster: "test", Coterie: s.mark, Kind: wire.FromOperator, Name: "0123"}
 		replies := order(d, append(h.Append(nil), lines...))
 		reply, one := replies[wire.ReplyBox("test", "alice.0123", 0)]
@@ -387,7 +387,7 @@ func FuzzOperator(f *testing.F) {
 		}
 		words := append(strings.Fields(lines), "")
 		if !orders[words[0]] && (d.shard(0).all() != rows || !reflect.DeepEqual(d.plans, plans) ||
-			d.votes["orders"].held != held || sent(d) > 0) {
+			d.votes["orders"].held() != held || sent(d) > 0) {
 			t.Fatalf("%q changes something", lines)
 		}
 		for number, row := range d.shard(0).all() {
@@ -408,7 +408,7 @@ func FuzzOperator(f *testing.F) {
 func FuzzRows(f *testing.F) {
 	s := newStage(f)
 	d := s.open(f)
-	rows, held := d.shard(0).all(), d.votes["orders"].held
+	rows, held := d.shard(0).all(), d.votes["orders"].held()
 	places := rowsOf(f, d.store.disk.(*fileDisk).db)
 	d.store.disk.Close()
 	s.state = s.read(f) // each start changes a row
@@ -442,7 +442,7 @@ func FuzzRows(f *testing.F) {
 			return
 		}
 		defer d.store.disk.Close()
-		if !same || d.shard(0).all() != rows || len(d.votes) != 1 || d.votes["orders"].held != held {
+		if !same || d.shard(0).all() != rows || len(d.votes) != 1 || d.votes["orders"].held() != held {
 			t.Fatalf("%q starts as row %q of %s", value, place[1], place[0])
 		}
 	})
