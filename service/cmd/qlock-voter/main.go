@@ -143,7 +143,6 @@ func start(ctx context.Context, path string) error {
 		return err
 	}
 	event.Stderr.SetLeast(own.Log)
-	go keepReserve(ctx)
 	if err := checkApart(ctx, path, own.Data); ctx.Err() != nil {
 		return nil
 	} else if err != nil {
@@ -154,10 +153,12 @@ func start(ctx context.Context, path string) error {
 		return err
 	}
 	defer link.Close()
+	openReserve()
 	daemon, err := voter.Open(own, cluster, link, event.Stderr)
 	if err != nil {
 		return err
 	}
+	go keepReserve(ctx)
 	if own.Listen != "" {
 		listener, err := net.Listen("tcp", own.Listen)
 		if err != nil {

@@ -56,6 +56,7 @@ type Daemon struct {
 	census     census         // of all of them, as they were counted last
 	nextShard  int            // whose sessions are counted next
 	nextUnused int            // which was looked at last, whether nobody uses it
+	nextSummed int            // of which there is a sum since last
 	nextCaught int            // those before this place have yet to catch up
 	caughtUp   uint64         // with how many hearings
 	floors     map[int]Floor  // of shards that were dropped
@@ -79,6 +80,7 @@ type Daemon struct {
 	ofBox    map[string]int    // which of these is for a mailbox
 	replies  map[string]answer // what operators get after the save, by mailbox
 	room     []byte
+	said     []byte // the control line that was said last
 
 	isFull          bool // it was logged that there is no room for another lock
 	isSpent         bool // it was logged that no grant is left for a lock that is not known
@@ -193,7 +195,7 @@ func (d *Daemon) begin() (err error) {
 func (d *Daemon) load(now time.Time) error {
 	d.leases.begin(now)
 	d.skippable = *qlock.NewBucket(skipRate, mostSkip, 0)
-	return d.store.load(func(shard int, floor Floor) { d.floors[shard] = floor }, func(one savedSession) error {
+	err := d.store.load(func(shard int, floor Floor) { d.floors[shard] = floor }, func(one savedSession) error {
 		s, number := d.shardOfKey(one.key)
 		if s.set(number, one.row); one.isOld {
 			d.leases.later[one.key] = one.row
@@ -203,6 +205,8 @@ func (d *Daemon) load(now time.Time) error {
 		d.restore(one, now)
 		return nil
 	}, func(place int, p Peer) { d.peers[place], d.loaded[place] = p, p })
+	d.sumAll()
+	return err
 }
 
 // isOurs returns whether a message is of this cluster, and of a plan that is not retired.
@@ -446,7 +450,8 @@ func (d *Daemon) tell(name, text string, words ...interface{}) {
 
 // say puts a control line that has numbers only with those that leave after the save.
 func (d *Daemon) say(name string, says qlock.VoterSays) {
-	d.put(name, mustAppend(says, d.out[name]))
+	d.said = mustAppend(says, d.said[:0])
+	d.put(name, append(d.out[name], d.said...))
 }
 
 // mustAppend appends a control line that has numbers only.
@@ -464,11 +469,12 @@ func (d *Daemon) sayOf(name string, says qlock.LockSays) {
 	if name == "" {
 		return
 	}
-	out, err := says.Append(d.out[name])
+	line, err := says.Append(d.said[:0])
 	if err != nil {
 		panic(fmt.Sprintf("%+v has no line: %v", says, err))
 	}
-	d.put(name, out)
+	d.said = line
+	d.put(name, append(d.out[name], line...))
 }
 
 // put puts more lines in place of those that leave to a session after the save.
@@ -603,6 +609,7 @@ func (d *Daemon) round(now time.Time) {
 	d.lookAround(now)
 	d.measure(now)
 	d.packSome(now)
+	d.sumSome()
 }
 
 // mostLooked is how many votes one step of a round looks at. With more of them the next rounds go on.

@@ -85,6 +85,7 @@ type Disk interface {
 type Rows interface {
 	// Get returns a row, nil if there is none. It stays as it is until the transaction ends.
 	Get(bucket, key []byte) []byte
+	// Put puts a row in place of the one with this key. Both are read until the transaction ends, and the key only until Put returns.
 	Put(bucket, key, row []byte) error
 	Remove(bucket, key []byte) error
 	// Each hands all rows of a bucket to a function, by their keys.

@@ -1,6 +1,7 @@
 package voter
 
 import (
+	"bytes"
 	"fmt"
 	"os"
 
@@ -33,7 +34,7 @@ func makeFile(path string) (*fileDisk, error) {
 }
 
 func (f *fileDisk) View(read func(Rows) error) error {
-	return f.db.View(func(tx *bbolt.Tx) error { return read(fileRows{tx}) })
+	return f.db.View(func(tx *bbolt.Tx) error { return read(rowsOfFile(tx)) })
 }
 
 func (f *fileDisk) Update(change func(Rows) error) error {
@@ -44,7 +45,7 @@ func (f *fileDisk) Update(change func(Rows) error) error {
 			}
 			f.isNew = false
 		}
-		return change(fileRows{tx})
+		return change(rowsOfFile(tx))
 	})
 }
 
@@ -62,10 +63,27 @@ func (f *fileDisk) Sync() error { return syncFolders(f.folder) }
 
 func (f *fileDisk) Close() error { return f.db.Close() }
 
-// fileRows are the rows of a file.
-type fileRows struct{ tx *bbolt.Tx }
+// fileRows are the rows of a file. Each bucket in which somebody looks for a row has a cursor: one for each row would take memory.
+type fileRows struct {
+	tx      *bbolt.Tx
+	cursors map[string]*bbolt.Cursor
+}
 
-func (r fileRows) Get(bucket, key []byte) []byte { return r.tx.Bucket(bucket).Get(key) }
+// rowsOfFile returns the rows of a file within a transaction.
+func rowsOfFile(tx *bbolt.Tx) fileRows { return fileRows{tx, map[string]*bbolt.Cursor{}} }
+
+func (r fileRows) Get(bucket, key []byte) []byte {
+	cursor := r.cursors[string(bucket)]
+	if cursor == nil {
+		cursor = r.tx.Bucket(bucket).Cursor()
+		r.cursors[string(bucket)] = cursor
+	}
+	found, row := cursor.Seek(key)
+	if !bytes.Equal(found, key) {
+		return nil
+	}
+	return row
+}
 
 func (r fileRows) Put(bucket, key, row []byte) error { return r.tx.Bucket(bucket).Put(key, row) }
 

@@ -231,10 +231,23 @@ func (d *Daemon) save(now time.Time) error {
 	d.m.commit.Observe(d.now().Sub(began).Seconds())
 	d.m.batch.Observe(float64(len(d.dirty)))
 	d.leases.saved()
-	d.dirty, d.silent, d.newPeers = map[*vote]struct{}{}, map[*vote]struct{}{}, map[int]Peer{}
-	d.gone, d.newFloors = map[string]struct{}{}, map[int]Floor{}
+	d.dirty, d.silent, d.newPeers = emptied(d.dirty), emptied(d.silent), map[int]Peer{}
+	d.gone, d.newFloors = emptied(d.gone), map[int]Floor{}
 	d.newPlans, d.newOwn, d.savedAll = false, false, now
 	return nil
+}
+
+// emptied returns an empty map in place of one that is not needed any more. It is the same one if it has room for as much as it is likely to
+// have next: one with few entries may have room for very many, and would take as long to go over.
+func emptied[K comparable, V any](m map[K]V) map[K]V {
+	const few, many = 1 << 8, 1 << 16
+	if len(m) < few || len(m) > many {
+		return map[K]V{}
+	}
+	for key := range m {
+		delete(m, key)
+	}
+	return m
 }
 
 // deliver sends what may leave.

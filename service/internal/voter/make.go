@@ -152,7 +152,8 @@ func (k Knows) part() Knows {
 }
 
 // sorted returns the keys of a map in order.
-func sorted[V any](of map[int]V) (keys []int) {
+func sorted[V any](of map[int]V) []int {
+	keys := make([]int, 0, len(of))
 	for key := range of {
 		keys = append(keys, key)
 	}

@@ -263,11 +263,7 @@ func (d *Daemon) knows(from int, sums []byte) Knows {
 	if summed := (from/qlock.MaxClients + len(sums)/sumOfShard) * qlock.MaxClients; summed > from && summed < end {
 		end = summed
 	}
-	for key := from; known.Next == 0 && key < end; key = (key/qlock.MaxClients + 1) * qlock.MaxClients {
-		if !d.isKnown(key/qlock.MaxClients, from, sums) {
-			d.tellShard(&known, key)
-		}
-	}
+	d.tellShards(&known, from, end, sums)
 	if known.Next == 0 && end < d.cluster.Numbers() {
 		known.Next = end
 	}

@@ -51,22 +51,30 @@ func useSome[T any](some []saved[T], use func(T) error) error {
 	return nil
 }
 
-// readSome reads rows by as many goroutines as there are processors, and returns what waits for them.
+// readSome reads rows by several goroutines, and returns what waits for them.
 func readSome[T any](bucket []byte, some []saved[T], read func(key, value []byte) (T, error)) (wait func()) {
-	var group sync.WaitGroup
-	each := len(some)/runtime.GOMAXPROCS(0) + 1
-	for ; len(some) > 0; some = some[least(each, len(some)):] {
-		group.Add(1)
-		go func(some []saved[T]) {
-			defer group.Done()
-			for i := range some {
-				one := &some[i]
-				var text []byte
-				if text, one.err = value(bucket, one.key, one.row); one.err == nil {
-					one.read, one.err = read(one.key, text)
-				}
+	return inParts(len(some), func(from, to int) {
+		for i := from; i < to; i++ {
+			one := &some[i]
+			var text []byte
+			if text, one.err = value(bucket, one.key, one.row); one.err == nil {
+				one.read, one.err = read(one.key, text)
 			}
-		}(some[:least(each, len(some))])
+		}
+	})
+}
+
+// inParts hands the places of so many things to a function, in a part for each processor, which a goroutine of its own does. It returns what
+// waits for all of them.
+func inParts(count int, do func(from, to int)) (wait func()) {
+	var group sync.WaitGroup
+	each := count/runtime.GOMAXPROCS(0) + 1
+	for from := 0; from < count; from += each {
+		group.Add(1)
+		go func(from int) {
+			defer group.Done()
+			do(from, least(from+each, count))
+		}(from)
 	}
 	return group.Wait
 }

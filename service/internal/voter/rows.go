@@ -40,11 +40,14 @@ func sum(bucket, key, value []byte) uint32 {
 type batch struct {
 	rows  Rows
 	tally uint64
+	room  []byte // has the rows that were put
 }
 
 // put saves a row.
 func (b *batch) put(bucket, key, value []byte) error {
-	row := rowOf(bucket, key, value)
+	begin := len(b.room)
+	b.room = appendSummed(b.room, bucket, key, value)
+	row := b.room[begin:len(b.room):len(b.room)]
 	b.tally += sumIn(row) - sumIn(b.rows.Get(bucket, key))
 	return b.rows.Put(bucket, key, row)
 }
@@ -55,11 +58,13 @@ func (b *batch) remove(bucket, key []byte) error {
 	return b.rows.Remove(bucket, key)
 }
 
-// rowOf returns a row: its checksum, and its value.
-func rowOf(bucket, key, value []byte) []byte {
-	row := binary.LittleEndian.AppendUint32(make([]byte, 0, sumBytes+len(value)), sum(bucket, key, value))
-	return append(row, value...)
+// appendSummed appends a row: its checksum, and its value.
+func appendSummed(to, bucket, key, value []byte) []byte {
+	return append(binary.LittleEndian.AppendUint32(to, sum(bucket, key, value)), value...)
 }
+
+// rowOf returns a row.
+func rowOf(bucket, key, value []byte) []byte { return appendSummed(nil, bucket, key, value) }
 
 // sumIn returns the checksum that a row has, 0 if there is no row.
 func sumIn(row []byte) uint64 {
@@ -129,7 +134,7 @@ func verify(path string) (err error) {
 
 // verifyRows reads all rows of a database whose pages are in order.
 func verifyRows(tx *bbolt.Tx) error {
-	tally, rows := uint64(0), fileRows{tx}
+	tally, rows := uint64(0), rowsOfFile(tx)
 	for _, bucket := range buckets {
 		if tx.Bucket(bucket) == nil {
 			return fmt.Errorf("%w: there is no bucket %q", ErrDamaged, bucket)

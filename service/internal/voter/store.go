@@ -7,6 +7,7 @@ import (
 	"fmt"
 	"os"
 	"path/filepath"
+	"sort"
 	"time"
 
 	"calvundek.example/service/qlock"
@@ -64,7 +65,11 @@ type store struct {
 	own   own         // of its starts
 	saves uint64      // how often it was saved
 	tally uint64      // of its rows
+	room  []byte      // of the next transaction
 }
+
+// mostRoom is how much room is kept for the next transaction.
+const mostRoom = 4 << 20
 
 func file(folder string) string { return filepath.Join(folder, "voter.db") }
 
@@ -379,10 +384,8 @@ type changes struct {
 func (s *store) save(c changes) error {
 	meta := s.meta
 	err := s.update(s.saves+1, func(b *batch) error {
-		for v := range c.votes {
-			if err := b.put(voteBucket, []byte(v.name), v.saved()); err != nil {
-				return err
-			}
+		if err := b.putVotes(c.votes); err != nil {
+			return err
 		}
 		for name := range c.gone {
 			if err := b.remove(voteBucket, []byte(name)); err != nil {
@@ -422,13 +425,17 @@ func (s *store) save(c changes) error {
 func (s *store) update(saves uint64, write func(*batch) error) error {
 	tally := s.tally
 	err := s.disk.Update(func(rows Rows) error {
-		b := batch{rows, s.tally}
+		b := batch{rows, s.tally, s.room[:0]}
 		err := write(&b)
-		if tally = b.tally; err != nil {
+		tally, s.room = b.tally, b.room
+		if err != nil {
 			return err
 		}
 		return putCounts(rows, saves, tally)
 	})
+	if cap(s.room) > mostRoom {
+		s.room = nil
+	}
 	if err == nil {
 		s.saves, s.tally = saves, tally
 	}
@@ -466,13 +473,31 @@ func (b *batch) putPlans(plans Generations) error {
 	return b.put(metaBucket, plansKey, value)
 }
 
-func (b *batch) putSessions(sessions map[int]Session) error {
-	for number, row := range sessions {
-		value, err := json.Marshal(row)
-		if err != nil {
+// putVotes saves votes, in the order of their rows: so those of one page of the file are saved one after the other.
+func (b *batch) putVotes(votes map[*vote]struct{}) error {
+	inOrder := make([]*vote, 0, len(votes))
+	for v := range votes {
+		inOrder = append(inOrder, v)
+	}
+	sort.Slice(inOrder, func(i, j int) bool { return inOrder[i].name < inOrder[j].name })
+	var key []byte
+	for _, v := range inOrder {
+		key = append(key[:0], v.name...)
+		if err := b.put(voteBucket, key, v.saved()); err != nil {
 			return err
 		}
-		if err := b.put(sessionBucket, rowKey(number), value); err != nil {
+	}
+	return nil
+}
+
+// putSessions saves rows of sessions, in their order.
+func (b *batch) putSessions(sessions map[int]Session) (err error) {
+	var text []byte
+	for _, number := range sorted(sessions) {
+		if text, err = appendRow(text[:0], sessions[number]); err != nil {
+			return err
+		}
+		if err := b.put(sessionBucket, rowKey(number), text); err != nil {
 			return err
 		}
 	}

@@ -1,8 +1,10 @@
 package voter
 
 import (
+	"encoding/json"
 	"fmt"
 	"testing"
+	"time"
 
 	"calvundek.example/service/qlock"
 )
@@ -115,4 +117,99 @@ func TestQuestionsWithSums(t *testing.T) {
 			}
 		}
 	}
+}
+
+// An answer makes some sums, and rounds make those that changed: so that few are left when somebody asks. A start makes all.
+func TestSumsAreMadeBeforeSomebodyAsks(t *testing.T) {
+	const shards = 3 * mostRowsRead / qlock.MaxClients
+	d, _ := sharded(t, shards)
+	changed := func() {
+		for shard := 0; shard < shards; shard++ {
+			for number := 0; number < qlock.MaxClients; number++ {
+				d.shard(shard).set(number, of(fmt.Sprint("jobs.", shard, "-", number), 1, 5, 70))
+			}
+		}
+	}
+	unsummed := func(of *Daemon) (rows int) {
+		for _, s := range of.inTurn {
+			rows += s.unsummed()
+		}
+		return rows
+	}
+	changed()
+	sums := append([]byte(nil), d.sums(0)...)
+	changed()
+	for from, left := 0, shards*qlock.MaxClients; ; {
+		told := d.knows(from, sums[from/qlock.MaxClients*sumOfShard:])
+		before := left
+		if left = unsummed(d); before-left > mostRowsRead || len(told.Sessions) > 0 {
+			t.Fatalf("one answer reads %d rows, and tells %d", before-left, len(told.Sessions))
+		}
+		if from = told.Next; from == 0 {
+			if left > 0 {
+				t.Errorf("%d rows are left", left)
+			}
+			break
+		}
+	}
+	changed()
+	for left := unsummed(d); left > 0; {
+		before := left
+		d.round(time.Now())
+		if left = unsummed(d); before == left || before-left > rowsOfRound+qlock.MaxClients {
+			t.Fatalf("one round reads %d rows of %d", before-left, before)
+		}
+	}
+	if told := d.knows(0, sums); told.Next != 0 || len(told.Sessions) > 0 {
+		t.Errorf("%d rows are told, and then those from %d on are to be asked for", len(told.Sessions), told.Next)
+	}
+	for _, s := range d.inTurn {
+		for number := 0; number < qlock.MaxClients; number++ {
+			s.put(number, s.row(number))
+		}
+	}
+	if err := d.save(time.Now()); err != nil {
+		t.Fatal(err)
+	}
+	if again := reopened(t, d); len(again.inTurn) != shards || unsummed(again) > 0 {
+		t.Errorf("after a start there are %d shards, and %d rows without sums", len(again.inTurn), unsummed(again))
+	}
+}
+
+// What a question with the sums of 8,192 shards takes, each of which has 31 sessions.
+func BenchmarkSums(b *testing.B) {
+	d := measured(time.Unix(1000, 0), mostSummed)
+	for shard := 0; shard < mostSummed; shard++ {
+		for number := 0; number < 31; number++ {
+			d.shard(shard).set(number, of(fmt.Sprint("jobs.", shard, "-", number), 1, 0, 64))
+		}
+	}
+	for _, isKept := range []bool{false, true} {
+		b.Run(fmt.Sprint("kept ", isKept), func(b *testing.B) {
+			b.ReportAllocs()
+			for i := 0; i < b.N; i++ {
+				if !isKept {
+					for _, s := range d.inTurn {
+						s.isSummed = false
+					}
+				}
+				if sums := d.sums(0); len(sums) != mostSummed*sumOfShard {
+					b.Fatal(len(sums))
+				}
+			}
+		})
+	}
+	sums := d.sums(0)
+	question, _ := json.Marshal(word{Word: "start", Sums: sums})
+	b.Run("answer", func(b *testing.B) {
+		for i := 0; i < b.N; i++ {
+			var w word
+			if err := json.Unmarshal(question, &w); err != nil {
+				b.Fatal(err)
+			}
+			if known := d.knows(0, w.Sums); len(known.Sessions) > 0 {
+				b.Fatal(known.Sessions)
+			}
+		}
+	})
 }

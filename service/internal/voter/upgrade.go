@@ -58,7 +58,7 @@ func readFormat1(path string, want Meta, generation uint64) (meta Meta, known fo
 	defer db.Close()
 	known.sessions.Sessions = map[int]Session{}
 	err = db.View(func(tx *bbolt.Tx) error {
-		if tx.Bucket(metaBucket) == nil || tx.Bucket(sessionBucket) == nil || !isOldFormat(fileRows{tx}) {
+		if tx.Bucket(metaBucket) == nil || tx.Bucket(sessionBucket) == nil || !isOldFormat(rowsOfFile(tx)) {
 			return fmt.Errorf("%w: only one of format 1 can be upgraded", ErrFormat)
 		}
 		var old struct {
