@@ -86,7 +86,7 @@ func (d *Daemon) beatOfAll(process string) (lines string) {
 // A shard takes little memory, and so does a session of it that has a number and beats: what few need is there once it is used, and who
 // waited, and does so no more, takes none.
 func TestMemoryOfShards(t *testing.T) {
-	const shards, numbers = 257, 30
+	const shards, numbers = 101, 30
 	d, _ := sharded(t, shards)
 	d.settles()
 	before := int(heap())
