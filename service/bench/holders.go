@@ -272,7 +272,8 @@ func (d *driver) show(l *holding, _ int) []byte {
 	return wire.Ask{Kind: wire.SaysRoll, Text: l.process.name, Place: l.place}.Append(out)
 }
 
-// renewAll lets all sessions say to a voter that started what it forgot, and that they are inside, and prints how long that takes.
+// renewAll lets all sessions say to a voter that started what it forgot, and that they are inside, and prints how long that takes. Of votes
+// that nobody renews in its quiet time it lets go: then the rest is not said any more.
 func (d *driver) renewAll(cluster *local.Cluster, voter int) error {
 	var all []*holding
 	d.mutex.Lock()
@@ -284,13 +285,13 @@ func (d *driver) renewAll(cluster *local.Cluster, voter int) error {
 		}
 	}
 	d.mutex.Unlock()
-	began := time.Now()
-	for rest := all; len(rest) > 0; {
+	began, rest := time.Now(), all
+	for len(rest) > 0 {
 		chunk := rest[:least(atOnce, len(rest))]
-		if err := d.repeat(chunk, func(l *holding, to int) []byte { return d.renewal(l, to, voter) }, func(l *holding) bool {
+		if d.repeat(chunk, func(l *holding, to int) []byte { return d.renewal(l, to, voter) }, func(l *holding) bool {
 			return l.entries[voter] > 0 && l.locked&l.quorum == l.quorum
-		}); err != nil {
-			return err
+		}) != nil {
+			break
 		}
 		rest = rest[len(chunk):]
 	}
@@ -298,7 +299,8 @@ func (d *driver) renewAll(cluster *local.Cluster, voter int) error {
 	time.Sleep(d.cluster.TTL.Duration) // its quiet time
 	counts, err := numbers(cluster.Listen[voter : voter+1])
 	if err == nil {
-		fmt.Printf("all sessions said what it had forgotten in %.1f s; %.0f votes are held after its quiet time\n", took, counts["locks_held"])
+		fmt.Printf("%d of %d sessions said what it had forgotten in %.1f s; %.0f votes are held after its quiet time\n", len(all)-len(rest), len(all),
+			took, counts["locks_held"])
 	}
 	return err
 }
@@ -503,6 +505,7 @@ func startOf(cluster *local.Cluster, voter int) error {
 		return errStart
 	}
 	took := time.Since(began).Seconds()
+	time.Sleep(time.Second) // then it has counted them
 	counts, err := numbers(cluster.Listen[voter : voter+1])
 	if err != nil {
 		return err
