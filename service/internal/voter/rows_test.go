@@ -72,6 +72,38 @@ func contentOf(s *store) (content, error) {
 	return c, err
 }
 
+// All rows of a save are as they were put, also of one that takes more room than the one before.
+func TestLargeSaves(t *testing.T) {
+	folder, meta := aState(t, 1)
+	s, err := openStore(folder, meta)
+	if err != nil {
+		t.Fatal(err)
+	}
+	want := map[int]Session{}
+	for _, rows := range []int{1, 100, 20_000, 3} {
+		some := map[int]Session{}
+		for i := 0; i < rows; i++ {
+			key := i * 7
+			some[key] = of(fmt.Sprint("jobs.", rows, "-", i), uint64(rows), uint64(i), 1<<20)
+			want[key] = some[key]
+		}
+		if err := s.save(changes{sessions: some}); err != nil {
+			t.Fatal(err)
+		}
+		if cap(s.room) > mostRoom {
+			t.Errorf("after %d rows there is room for %d bytes", rows, cap(s.room))
+		}
+	}
+	s.disk.Close()
+	got, err := read(folder, meta)
+	if err != nil {
+		t.Fatal(err)
+	}
+	if !reflect.DeepEqual(got.rows, want) {
+		t.Error("other rows are read")
+	}
+}
+
 // Whatever bit of a state is changed, what is read is what was saved, or it is damaged.
 func TestEachChangedBitIsFound(t *testing.T) {
 	folder, meta := aState(t, 40)

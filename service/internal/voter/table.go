@@ -274,7 +274,7 @@ func (l *leases) unsaved() map[int]Session {
 
 // saved notes that all rows are saved.
 func (l *leases) saved() {
-	l.changed, l.later, l.dropped = emptied(l.changed), emptied(l.later), emptied(l.dropped)
+	l.changed, l.later, l.dropped = map[int]Session{}, map[int]Session{}, map[int]struct{}{}
 }
 
 // judge judges a message by the session that sent it.
