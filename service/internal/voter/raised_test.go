@@ -199,6 +199,36 @@ func (s *starter) unraised() (count int) {
 	return count
 }
 
+// The first step of a vote after a start is saved, and with it above which numbers the vote goes on: also if the step changed nothing else,
+// and if the vote was unpacked and packed again before.
+func TestRaisedVotesAreSaved(t *testing.T) {
+	d, _ := alone(t, 100)
+	holds(t, d, 1, "lock", 2, time.Now())
+	if err := d.save(time.Now()); err != nil {
+		t.Fatal(err)
+	}
+	again, now := reopened(t, d), time.Now()
+	again.proved(again.votes["lock-000001"])
+	now = again.packsAll(now)
+	for i := 0; i < 2; i++ {
+		v := again.votes[fmt.Sprintf("lock-%06d", i)]
+		says(again, v, 1, fmt.Sprintf("request 1 0 %d", i+1), now)
+		if err := again.save(now); err != nil {
+			t.Fatal(err)
+		}
+		var saved *qlock.Voter
+		if err := again.store.disk.View(func(rows Rows) (err error) {
+			saved, err = Saved{rows}.Vote(v.name)
+			return err
+		}); err != nil {
+			t.Fatal(err)
+		}
+		if *saved != *v.extras.voter || saved.Raise(again.floor-1) == nil {
+			t.Errorf("%s is saved as it was before the start", v.name)
+		}
+	}
+}
+
 // Votes go on above the floor as they are used. It seems to all others as if they did so as the voter starts: whatever is asked, saved, packed
 // and forgotten, and however often the voter starts.
 func TestVotesAreRaisedAsTheyAreUsed(t *testing.T) {
