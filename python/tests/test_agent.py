@@ -260,6 +260,12 @@ class WithMadeUpAgent(unittest.TestCase):
             self.client.lock("x", wait=0.2)
         self.assertGreater(time.monotonic() - began, 0.4)
 
+    def test_wait_of_zero(self):
+        got = self.agent.next(head(409, {"fault": "held", "why": "x"}))
+        with self.assertRaises(HeldElsewhere):
+            self.client.lock("x", wait=0)
+        self.assertIn("wait=0.001000s", got[0])
+
     def test_lost_as_the_agent_says(self):
         heard = []
         held, got = self.take(first(), on_lost=heard.append)

@@ -133,3 +133,17 @@ func TestSessionThatEndsLosesItsLocks(t *testing.T) {
 		t.Errorf("%d were lost", c.stats.Lost)
 	}
 }
+
+// A lock that came just as its call ended is given back, and another call gets it.
+func TestLockComesAsItsCallEnds(t *testing.T) {
+	c := still(t, worlds.New(t, worlds.Majority, 20*time.Second))
+	call := comes(t, c, "x")
+	if !turns(c, 5*time.Second, func() bool { return len(call.got) > 0 }) {
+		t.Fatal("a call does not get the lock")
+	}
+	c.dequeue("x", call)
+	if l := c.locks["x"]; l.held != nil || l.shown.Phase != qlock.Idle {
+		t.Fatalf("%v, held %v", l.shown, l.held != nil)
+	}
+	gets(t, c, comes(t, c, "x"))
+}

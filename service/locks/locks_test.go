@@ -747,3 +747,21 @@ func TestSessionsComeAndGo(t *testing.T) {
 		}
 	}
 }
+
+// A session is closed once each voter that is there closed it: one of which the RELEASE was lost may have a vote of it. Nobody waits for one
+// that is silent.
+func TestCloseWaitsForVotersThatAreThere(t *testing.T) {
+	c := still(t, worlds.New(t, worlds.Majority, 20*time.Second))
+	turns(c, 200*time.Millisecond, func() bool { return false })
+	c.drained = make(chan struct{})
+	for v := range c.peers {
+		c.peers[v].closed, c.peers[v].accepts = v < 2, true
+	}
+	if c.finish(); c.done {
+		t.Error("it is closed, and a voter that is there did not close it")
+	}
+	c.peers[2].heard = time.Now().Add(-time.Minute)
+	if c.finish(); !c.done {
+		t.Error("it waits for a voter that is silent")
+	}
+}

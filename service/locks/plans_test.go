@@ -326,3 +326,20 @@ func TestPlansCostLittle(t *testing.T) {
 		t.Error("the next plan is not taken")
 	}
 }
+
+// A request that asks, or has the lock, is of the plan by which it asked: voters may not retire that.
+func TestOldestPlanOfARequest(t *testing.T) {
+	c := still(t, worlds.New(t, worlds.Majority, 20*time.Second))
+	call := comes(t, c, "x")
+	c.generation = 1
+	if phase, oldest := c.locks["x"].shown.Phase, c.oldest(); phase != qlock.Asking || oldest != 0 {
+		t.Errorf("while it asks (%v) the oldest plan is %d", phase, oldest)
+	}
+	h := gets(t, c, call)
+	if oldest := c.oldest(); oldest != 0 {
+		t.Errorf("while it has the lock the oldest plan is %d", oldest)
+	}
+	if err := c.unlock(h); err != nil || c.oldest() != 1 {
+		t.Errorf("%v, and then the oldest plan is %d", err, c.oldest())
+	}
+}

@@ -297,3 +297,21 @@ func TestGraceIsWithinTheTTL(t *testing.T) {
 		}
 	}
 }
+
+// lapsing is a lock that lapsed as the program ended: only Unlock says so.
+type lapsing struct{}
+
+func (lapsing) Token() []byte { return nil }
+func (lapsing) Context(parent context.Context) (context.Context, context.CancelFunc) {
+	return context.WithCancel(parent)
+}
+func (lapsing) Unlock() error { return locks.ErrLapsed }
+
+// A program whose lock lapsed just as it ended may have run beside another one: that is no success.
+func TestLossAtTheEndIsNoSuccess(t *testing.T) {
+	err := runWith(context.Background(), lapsing{}, taking{lock: "x"}, 0, time.Second, []string{"true"})
+	var got status
+	if !errors.As(err, &got) || got.code != exitLost {
+		t.Errorf("%v", err)
+	}
+}

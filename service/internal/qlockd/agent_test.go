@@ -951,7 +951,14 @@ func TestAgentEnds(t *testing.T) {
 	select {
 	case err := <-h.ended:
 		t.Fatal("it ended before its holder", err)
-	case <-time.After(500 * time.Millisecond):
+	case <-time.After(2 * pause):
+	}
+	// a holder has a TTL to end its work, so the session goes on
+	own, _, _ := h.agent.current()
+	if other, err := own.TryLock(context.Background(), "z"); err != nil {
+		t.Error("the session ends before its holder", err)
+	} else if err := other.Unlock(); err != nil {
+		t.Error(err)
 	}
 	_ = s.connection.Close()
 	if err := <-h.ended; err != nil {

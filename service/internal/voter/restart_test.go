@@ -1,6 +1,7 @@
 package voter
 
 import (
+	"os"
 	"path/filepath"
 	"testing"
 	"time"
@@ -42,3 +43,20 @@ func TestStartEndsNoLease(t *testing.T) {
 type testWriter struct{ *testing.T }
 
 func (w testWriter) Write(text []byte) (int, error) { w.Logf("%s", text); return len(text), nil }
+
+// A state that was made is there after a power cut: its folder, and the one that this is in, are synced once it has its name.
+func TestMadeStateIsSyncedInItsFolder(t *testing.T) {
+	folder, synced := filepath.Join(t.TempDir(), "a"), map[string]bool{}
+	defer func(before func(*os.File) error) { syncFolder = before }(syncFolder)
+	syncFolder = func(f *os.File) error {
+		_, err := os.Stat(file(folder))
+		synced[f.Name()] = err == nil
+		return nil
+	}
+	if err := Create(folder, Meta{}, Generations{}, Knows{}, 0); err != nil {
+		t.Fatal(err)
+	}
+	if !synced[folder] || !synced[filepath.Dir(folder)] {
+		t.Errorf("%v", synced)
+	}
+}

@@ -208,6 +208,18 @@ func TestWhoStartsKeepsItsWord(t *testing.T) {
 	}
 }
 
+// A ceiling that was heard since this voter began is kept, also if it was that of another voter of the place.
+func TestCeilingHeardMeanwhileIsKept(t *testing.T) {
+	d := pair(t)
+	d.loaded[2] = Peer{Identity: identity("C"), Start: 4, Process: process("p"), Ceiling: 70}
+	d.peers[2] = Peer{Identity: identity("twin"), Start: 1, Process: process("t"), Ceiling: 9000}
+	h := heard(2)
+	h.Start = 5
+	if d.meet(h, word{Word: "start", Process: process("q"), Ceiling: 80}); d.peers[2].Identity != identity("C") || d.peers[2].Ceiling != 9000 {
+		t.Errorf("%+v", d.peers[2])
+	}
+}
+
 // The reply to a start is the same when it is asked for again, also if a copy was refused meanwhile: a clean end is not forgotten by it.
 func TestReplyIsRepeated(t *testing.T) {
 	d := pair(t)

@@ -129,6 +129,8 @@ func fill(disk Disk, meta Meta, plans Generations, known Knows, ceiling uint64) 
 	})
 }
 
+var syncFolder = (*os.File).Sync // a test sees which folders are synced
+
 // syncFolders syncs a folder and the one that it is in.
 func syncFolders(folder string) error {
 	for _, name := range []string{folder, filepath.Dir(folder)} {
@@ -136,7 +138,7 @@ func syncFolders(folder string) error {
 		if err != nil {
 			return err
 		}
-		err = f.Sync()
+		err = syncFolder(f)
 		f.Close()
 		if err != nil {
 			return err

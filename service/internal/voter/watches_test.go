@@ -143,3 +143,23 @@ func TestWatcherHearsWhatIsSaved(t *testing.T) {
 		}
 	}
 }
+
+// Watches of one lock end in any order: the one that moves to the place of another one is found there.
+func TestWatchesOfOneLockEnd(t *testing.T) {
+	d, now := sessions(t, 1), time.Now()
+	for _, session := range []string{"web.a", "web.b", "web.c", "web.d"} {
+		d.watchFor(session, wire.Ask{Kind: wire.Watches, ID: 1, Lock: "orders"}, now)
+	}
+	for left, session := range []string{"web.a", "web.d", "web.b", "web.c"} {
+		d.watches.remove(d.watches.find(session, 1))
+		of := d.watches.ofLock["orders"]
+		if len(of) != 3-left {
+			t.Fatalf("%d watches are left after that of %s", len(of), session)
+		}
+		for place, one := range of {
+			if one.place != place {
+				t.Errorf("after that of %s the watch of %s at place %d has place %d", session, one.session, place, one.place)
+			}
+		}
+	}
+}

@@ -1,7 +1,0 @@
-mod Cyclics
-mod Duality
-mod Grids
-mod Majorities
-mod OneLoad
-mod Sums
-mod Uniform
