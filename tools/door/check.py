@@ -4,8 +4,9 @@
 
 `rt ci` proves every crate and its tests, has the prover refuse wrong bodies, and runs tests and
 programs. It takes nearly all of the time. The other checks (CHECKS) run beside it, each once all
-that it needs is there. What ran beside others is printed at the end. The run ends with the first
-check that is found to have failed, and with its status.
+that it needs is there. What ran beside others is printed at the end, and last of all which crates
+took the most processor seconds. The run ends with the first check that is found to have failed, and
+with its status.
 """
 import os
 import sys
@@ -15,6 +16,7 @@ import time
 import rt
 from build import minutes
 from jobs import Job, ended_at_last
+from times import Times
 
 # The word for all that is to be proved. Programs and tests run after it, one at a time.
 PROOFS = "proofs"
@@ -44,7 +46,7 @@ class Run:
                      for name, command, needs in checks]
         self.named = {job.name: job for job in self.jobs}
         self.proofs = Job("rt ci", ["rt", "ci"], os.path.join(room, f"{PROOFS}.log"))
-        self.log = rt.Log(self.proofs.log)
+        self.log, self.times = rt.Log(self.proofs.log), Times()
         # those whose end was reported
         self.reported = set()
 
@@ -57,6 +59,8 @@ class Run:
     def look(self):
         """Passes on what `rt ci` printed, and begins each check that need not wait any more."""
         ended = self.proofs.status() is not None
+        if not ended:
+            self.times.look(self.proofs.process.pid)
         print(self.log.read(ended), end="", flush=True)
         for job in self.jobs:
             if not job.process and all(self.is_there(it) for it in job.needs):
@@ -87,7 +91,8 @@ class Run:
         print(f"check: rt ci passed in {minutes(time.monotonic() - began)}", flush=True)
         for job in self.jobs:
             self.wait_for(job)
-            print(f"check: {job.name}, which ran beside others, passed", flush=True)
+            print(f"check: {job.name}, which ran beside others, passed in {job.seconds:.0f} processor seconds", flush=True)
+        print(*(f"check: {line}" for line in self.times.lines(self.proofs.seconds)), sep="\n", flush=True)
 
     def tell_of_the_rest(self, running):
         """Prints what those printed that were ended, or failed unreported."""

@@ -50,6 +50,8 @@ class Job:
     def __init__(self, name, words, log, folder=ROOT, needs=()):
         self.name, self.words, self.log, self.folder, self.needs = name, words, log, folder, needs
         self.process = None
+        # the processor seconds of all its processes, once it has ended
+        self.seconds = 0.0
 
     def begin(self, stdin=subprocess.DEVNULL, stdout=None):
         """Begins the command, whose standard output goes to another file if there is one."""
@@ -59,12 +61,18 @@ class Job:
 
     def status(self):
         """Returns the exit status, as a shell has it, or None before the end."""
-        if not self.process or self.process.poll() is None:
+        if not self.process or self.is_running():
             return None
         return self.process.returncode if self.process.returncode >= 0 else 128 - self.process.returncode
 
     def is_running(self):
-        return bool(self.process) and self.process.poll() is None
+        """Returns whether the command is still there. Notes its processor seconds at its end."""
+        if self.process and self.process.returncode is None:
+            pid, status, usage = os.wait4(self.process.pid, os.WNOHANG)
+            if pid:
+                self.process.returncode = os.waitstatus_to_exitcode(status)
+                self.seconds = usage.ru_utime + usage.ru_stime
+        return bool(self.process) and self.process.returncode is None
 
     def printed(self):
         """Returns what the command printed so far."""

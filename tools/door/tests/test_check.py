@@ -54,10 +54,11 @@ class TestCheck(Place):
             "check: 1 of 4, beside others: first", "check: 2 of 4, beside others: second",
             "check: 3 of 4, beside others: third", "check: 4 of 4: rt ci"])
         self.assertIn("rt: qlock proved\n", ran.stdout)
-        self.assertIn("3 passed, 0 failed\ncheck: rt ci passed in 0 minutes\n"
-                      "one\ncheck: first, which ran beside others, passed\n"
-                      "two\ncheck: second, which ran beside others, passed\n"
-                      "three\ncheck: third, which ran beside others, passed\n", ran.stdout)
+        self.assertRegex(ran.stdout, "3 passed, 0 failed\ncheck: rt ci passed in 0 minutes\n"
+                         "one\ncheck: first, which ran beside others, passed in 0 processor seconds\n"
+                         "two\ncheck: second, which ran beside others, passed in 0 processor seconds\n"
+                         "three\ncheck: third, which ran beside others, passed in 0 processor seconds\n"
+                         r"check: processor seconds: \d+ \(proof 0, edits 0, tests 0, build 0, rest \d+\)\n")
 
     def test_needs(self):
         # each notes when it begins: nothing begins before what it needs is there
