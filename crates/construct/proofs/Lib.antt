@@ -7,5 +7,3 @@ pub mod CyclicLemmas
 pub mod TreeLemmas
 pub mod Combinations
 pub mod MajorityLemmas
-pub mod CentreLemmas
-pub mod VoteLemmas

@@ -1,18 +1,17 @@
--- Sets of one size, of more than half of the voters, are a coterie.
-use Rattle.std.proofs.Common.{ap, ◌++◌, ◌≡◌, ℕ, ◌+◌, ◌*◌, ◌/◌, ◌<◌, ◌≤◌, true, false, ◌||◌, cond, eqb, leb, List, [], ◌∷◌, length, get_or, map, zero, suc, sym, refl, ap₂, subst, ◌∙◌, inl, inr, arith, length-append, Result, Ok, Err, IfErr}
+-- Sets of one size, and why majorities are a coterie.
+use Rattle.std.proofs.Common.{ap, ◌++◌, ◌≡◌, ℕ, ◌+◌, ◌*◌, ◌/◌, ◌<◌, ◌≤◌, true, false, cond, eqb, leb, List, [], ◌∷◌, length, get_or, map, zero, suc, sym, refl, ap₂, ◌∙◌, inl, inr, arith, length-append, Ok, Err}
 use Rattle.std.specs.List.{All, AllPairs, Contains}
-use Rattle.std.proofs.lemmas.Bool.{true≢false, leb-true, le-ltb, lt-leb, ne_eqb, or_right, cases_eq, cases_lt, agree_below_at}
+use Rattle.std.proofs.lemmas.Bool.{true≢false, leb-true, le-ltb, ne_eqb, or_right, cases_eq, cases_lt, agree_below_at}
 use Rattle.std.proofs.lemmas.List.{length-map, get_or-map}
 use Rattle.std.proofs.lemmas.List.Elements.{All-nil, All-cons, All-append, All-map, Contains-append_left, Contains-append_right}
 use Rattle.numbers.specs.Sets.{has, Ascends, IsSet}
-use Rattle.quorum_set.specs.Coteries.{IsCoterie, QuorumSystem}
+use Rattle.quorum_set.specs.Coteries.{IsCoterie}
 use Rattle.numbers.proofs.SetLemmas.{Ascends-lower, has-below, has-above, has-head, has-tail, length-Ascends}
-use Rattle.construct.specs.Any.{is_bad_size, any_system, any_at}
 use Rattle.construct.specs.Majority.{sets_from, choose, majority_system, majority_at}
 use Rattle.construct.specs.declared.fault.ConstructFault.{ConstructFault}
 use Rattle.construct.specs.declared.fault.ConstructFault.TheVariants.{BadSize, TooLarge}
 use Rattle.construct.specs.Answers.{few}
-use Rattle.construct.proofs.FewLemmas.{coterie_at-small, few-is, few-small}
+use Rattle.construct.proofs.FewLemmas.{few-is, few-not}
 use Rattle.numbers.proofs.Meetings.{All-members}
 use Rattle.construct.proofs.Quorums.{IsQuorum, IsCoterie-from, IsCrossing-from, AllPairs-append}
 use Rattle.construct.proofs.TreeLemmas.{AllPairs-map}
@@ -206,9 +205,14 @@ apart_choices low (suc n) (suc k) =
     λ b e lb. apart_without low n k (get_or with_low a d) (get_or without b e) (IsChoice-sets_from (low + 1) n k a d la) (IsChoice-sets_from (low + 1) n (suc k) b e lb)))
 
 -- there are not too many
-few_majorities : (n : ℕ) → n < 15 → choose n (n / 2 + 1) ≤ 4096
+few_majorities : (n : ℕ) → n ≤ 14 → length (sets_from 0 n (n / 2 + 1)) ≤ 4096
 unfolding choose
-few_majorities n lt = leb-true (choose n (n / 2 + 1)) 4096 (agree_below_at (λ m. leb (choose m (m / 2 + 1)) 4096) (λ m. true) 15 n refl lt)
+few_majorities n le =
+    omega (
+      arith,
+      length-sets_from 0 n (n / 2 + 1),
+      leb-true (choose n (n / 2 + 1)) 4096 (agree_below_at (λ m. leb (choose m (m / 2 + 1)) 4096) (λ m. true) 15 n refl (omega arith)),
+    )
 
 pub some_sets : (low n k : ℕ) → k ≤ n → 0 < length (sets_from low n k)
 unfolding sets_from
@@ -235,13 +239,13 @@ IsQuorum-choice n k s few choice = record {
   in_range = All-IsChoice n (suc k) s choice;
 }
 
-pub any_is_coterie : (size n : ℕ) → size ≤ n → n < 2 * size → n ≤ 64 → length (sets_from 0 n size) ≤ 4096 → IsCoterie (any_system size n)
-any_is_coterie zero n le more few few_sets = absurd (omega arith)
-any_is_coterie (suc k) n le more few few_sets =
+sets_are_coterie : (size n : ℕ) → size ≤ n → n < 2 * size → n ≤ 64 → length (sets_from 0 n size) ≤ 4096 → IsCoterie (record { voters = n; quorums = sets_from 0 n size })
+sets_are_coterie zero n le more few_voters few_sets = absurd (omega arith)
+sets_are_coterie (suc k) n le more few_voters few_sets =
     let list = sets_from 0 n (suc k) in
     let all = IsChoice-sets_from 0 n (suc k) in
-    IsCoterie-from n list (omega arith) few (some_sets 0 n (suc k) le) few_sets
-    (λ j d lt. IsQuorum-choice n k (get_or list j d) few (all j d lt))
+    IsCoterie-from n list (omega arith) few_voters (some_sets 0 n (suc k) le) few_sets
+    (λ j d lt. IsQuorum-choice n k (get_or list j d) few_voters (all j d lt))
     (λ a b d before lt.
     let first = all a d (omega arith) in
     let second = all b d lt in
@@ -250,41 +254,21 @@ any_is_coterie (suc k) n le more few few_sets =
     IsCrossing-from (get_or list a d) (get_or list b d) v apart.left.0 apart.right.0 v_s v_t apart.left.1 apart.left.2 apart.right.1 apart.right.2)
 
 pub majority_is_coterie : (n : ℕ) → 0 < n → n ≤ 14 → IsCoterie (majority_system n)
-majority_is_coterie n some few =
-    any_is_coterie (n / 2 + 1) n (omega arith) (omega arith) (omega arith)
-    (omega (arith, length-sets_from 0 n (n / 2 + 1), few_majorities n (omega arith)))
+majority_is_coterie n some le = sets_are_coterie (n / 2 + 1) n (omega arith) (omega arith) (omega arith) (few_majorities n le)
 
--- up to 14 voters have few majorities
-pub any_at_majority : (n : ℕ) → n ≤ 14 → any_at (n / 2 + 1) n ≡ majority_at n
-any_at_majority zero few = refl
-any_at_majority (suc k) few =
-    let n = suc k in
-    let size = n / 2 + 1 in
-    let good : is_bad_size size n ≡ false = ap₂ (λ a b. a || b) (le-ltb n size (omega arith)) (lt-leb (2 * size) n (omega arith)) in
-    let small = few-small (sets_from 0 n size) (omega (arith, length-sets_from 0 n size, few_majorities n (omega arith))) in
-    coterie_at-small (is_bad_size size n) n (sets_from 0 n size) (sets_from 0 n size) good (omega arith) small
-    ∙ sym (ap₂ (λ b l. cond b (Err BadSize) (cond l (Err TooLarge) (Ok (majority_system n)))) (ne_eqb n 0 (λ e. omega arith)) (le-ltb 14 n few))
+-- the majorities that are made, and why none are refused
+pub majority_at-made : (n : ℕ) → 0 < n → n ≤ 14 → majority_at n ≡ Ok (majority_system n)
+majority_at-made n some le =
+    ap₂ (λ b l. cond b (Err BadSize) (cond l (Err TooLarge) (Ok (majority_system n)))) (ne_eqb n 0 (λ e. omega arith)) (le-ltb 14 n le)
 
-pub majority_sizes : (n : ℕ) (r : Result QuorumSystem ConstructFault) → n ≤ 14 → (is_bad_size (n / 2 + 1) n ≡ true → r ≡ Err BadSize) → IfErr (majority_at n) (λ fault. r ≡ Err fault)
-majority_sizes zero r few bad = bad refl
-majority_sizes (suc k) r few bad =
-    let n = suc k in
-    let is : majority_at n ≡ Ok (majority_system n) =
-    ap₂ (λ b l. cond b (Err BadSize) (cond l (Err TooLarge) (Ok (majority_system n)))) (ne_eqb n 0 (λ e. omega arith)) (le-ltb 14 n few) in
-    let P : Result QuorumSystem ConstructFault → Type 0 = λ w. IfErr w (λ fault. r ≡ Err fault) in
-    subst P (sym is) tt
+pub majority_made : (n : ℕ) (list : List (List ℕ)) → few (sets_from 0 n (n / 2 + 1)) ≡ Ok list → majority_system n ≡ record { voters = n; quorums = list }
+majority_made n list e = ap (λ qs. record { voters = n; quorums = qs }) (few-is (sets_from 0 n (n / 2 + 1)) list e).0
+
+pub majority_refused : (n : ℕ) (fault : ConstructFault) → 0 < n → n ≤ 14 → few (sets_from 0 n (n / 2 + 1)) ≡ Err fault → majority_at n ≡ Err fault
+majority_refused n fault some le e = absurd (omega (arith, few_majorities n le, few-not (sets_from 0 n (n / 2 + 1)) fault e))
 
 -- sets of one size are sets
 pub IsSet-sets_from : (low n k : ℕ) → low + n ≤ 64 → All IsSet (sets_from low n k)
 IsSet-sets_from low n k le = λ j d lt.
     Ascends-below 0 (low + n) 64 (get_or (sets_from low n k) j d) le
     (Ascends-lower low 0 (low + n) (get_or (sets_from low n k) j d) (omega arith) (IsChoice-sets_from low n k j d lt).ascends)
-
-pub good_size : (size n : ℕ) → size ≤ n → n < 2 * size → is_bad_size size n ≡ false
-good_size size n le more = ap₂ (λ a b. a || b) (le-ltb n size le) (lt-leb (2 * size) n more)
-
-pub any_made : (size n : ℕ) (list : List (List ℕ)) → size ≤ n → n < 2 * size → n ≤ 64 → few (sets_from 0 n size) ≡ Ok list → IsCoterie (record { voters = n; quorums = list })
-any_made size n list le more small e =
-    let is = few-is (sets_from 0 n size) list e in
-    let P : List (List ℕ) → Type 0 = λ qs. IsCoterie (record { voters = n; quorums = qs }) in
-    subst P is.0 (any_is_coterie size n le more small is.1)

@@ -1,8 +1,8 @@
 -- Results of constructions.
-use Rattle.std.specs.Prelude.{ℕ, Bool, true, false, ◌||◌, if◌then◌else◌, List, ◌++◌, length, nat_lt, Vec, Result, Ok, Err}
+use Rattle.std.specs.Prelude.{ℕ, Bool, true, false, if◌then◌else◌, List, ◌++◌, length, nat_lt, Vec, Result, Ok, Err}
 use Rattle.std.specs.declared.alloc.Global.{Global}
-use Rattle.numbers.specs.Bounds.{max_voters, max_quorums}
-use Rattle.numbers.specs.Results.{RefusesUnless, GivesUnless}
+use Rattle.numbers.specs.Bounds.{max_quorums}
+use Rattle.numbers.specs.Results.{GivesUnless}
 use Rattle.quorum_set.specs.Coteries.{QuorumSystem}
 use Rattle.construct.specs.declared.fault.ConstructFault.{ConstructFault}
 use Rattle.construct.specs.declared.fault.ConstructFault.TheVariants.{BadSize, TooLarge, OutOfMemory}
@@ -16,19 +16,9 @@ abbrev pub is_out_of_memory : ConstructFault → Bool
 is_out_of_memory OutOfMemory = true
 is_out_of_memory fault = false
 
--- the fault is out of memory, or the wanted result is this fault
-abbrev pub Refuses : ConstructFault → Result QuorumSystem ConstructFault → Type 0
-Refuses fault wanted = RefusesUnless is_out_of_memory fault wanted
-
 -- the result is the wanted one, unless memory ran out
 abbrev pub Gives : Result QuorumSystem ConstructFault → Result QuorumSystem ConstructFault → Type 0
 Gives result wanted = GivesUnless is_out_of_memory (λ system. system) result wanted
-
--- the coterie of these quorums; or the fault, if the sizes are bad, or there are more than 64 voters or 4096 quorums
-abbrev pub coterie_at : Bool → ℕ → List (List ℕ) → Result QuorumSystem ConstructFault
-coterie_at bad voters quorums =
-    check_sizes bad (nat_lt max_voters voters || nat_lt max_quorums (length quorums))
-    (Ok (record { voters = voters; quorums = quorums }))
 
 -- the sets, or `TooLarge` if there are more than 4096
 unfoldable pub few : List (List ℕ) → Result (List (List ℕ)) ConstructFault

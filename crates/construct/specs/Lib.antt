@@ -1,9 +1,6 @@
 pub mod Answers
-pub mod Any
-pub mod Centres
 pub mod Cyclic
 pub mod Grid
 pub mod Majority
 pub mod Tree
-pub mod Votes
 pub mod Wheel

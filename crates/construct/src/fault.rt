@@ -9,9 +9,8 @@ use thiserror::Error;
 /// The first fault of the numbers that a construction receives, in the order of the variants.
 #[derive(Clone, Copy, Debug, PartialEq, Eq, Error)]
 pub enum ConstructFault {
-    /// The sizes are too small, a size of `any` is not between half of the voters and all of them, or
-    /// all votes are 0 or one is above 1000. Or the base of a cyclic coterie is bad: it is empty, has
-    /// a member twice, or has a member that is no voter's number.
+    /// The sizes are too small. Or the base of a cyclic coterie is bad: it is empty, has a member
+    /// twice, or has a member that is no voter's number.
     #[error("G1 BadSize")]
     BadSize,
     /// The sizes are too large.
@@ -22,9 +21,7 @@ pub enum ConstructFault {
     #[error(transparent)]
     Coterie(CoterieFault),
     /// Memory ran out while the quorums were made, or while the base was searched for a repeat.
-    /// `grid`, `majority`, `tree` and `wheel` never return it for sizes that they refuse. `any`,
-    /// `centres` and `votes` may return it for sizes that are too large, and never for bad ones.
-    /// `cyclic` never returns it for a base that is empty or has a member that is no voter's number.
+    /// `grid`, `majority`, `tree` and `wheel` never return it for sizes that they refuse. `cyclic` never returns it for a base that is empty or has a member that is no voter's number.
     #[error("O1 OutOfMemory")]
     OutOfMemory,
 }

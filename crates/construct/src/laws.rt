@@ -5,13 +5,10 @@ ghost use Rattle.std.specs.List.{sum};
 ghost use Rattle.numbers.specs.Bounds.{max_voters, max_quorums};
 ghost use Rattle.numbers.specs.Sets.{Ascends};
 ghost use Rattle.quorum_set.specs.Coteries.{IsCoterie, coterie_of};
-ghost use Rattle.construct.specs.Any.{any_system};
-ghost use Rattle.construct.specs.Centres.{centres_quorums, centres_system};
 ghost use Rattle.construct.specs.Cyclic.{cyclic_quorums, is_bad_base, as_construct, IsCyclicFault};
 ghost use Rattle.construct.specs.Majority.{sets_from, choose, majority_system};
 ghost use Rattle.construct.specs.Tree.{tree_quorums, tree_system};
 ghost use Rattle.construct.specs.Grid.{row_with_column, grid_quorums, grid_system};
-ghost use Rattle.construct.specs.Votes.{is_least_majority, votes_quorums, votes_system};
 ghost use Rattle.construct.specs.Wheel.{wheel_quorums, wheel_system};
 
 /// The quorums of a grid are a coterie: each row meets each column.
@@ -51,34 +48,6 @@ pub fn trees_double_their_exponent()
 pub fn cyclic_sets_cross_or_not()
     ensures { (n : ℕ) (base : List ℕ) → n ≤ max_voters → is_bad_base n base ≡ false
         → IfErr (as_construct (coterie_of n (cyclic_quorums n base))) IsCyclicFault }
-{}
-
-/// The sets of one size are a coterie if the size is more than half of the voters.
-pub fn sets_of_one_size_are_coteries()
-    ensures { (size n : ℕ) → size ≤ n → n < 2 * size → n ≤ max_voters
-        → length (sets_from 0 n size) ≤ max_quorums → IsCoterie (any_system size n) }
-{}
-
-/// The majorities of a majority of centres are a coterie: two of them share a centre, and in it a
-/// voter.
-pub fn centres_are_coteries()
-    ensures { (sizes : List ℕ) → 0 < length sizes → All (λ size. 0 < size) sizes → sum sizes ≤ max_voters
-        → length (centres_quorums sizes) ≤ max_quorums → IsCoterie (centres_system sizes) }
-{}
-
-/// The minimal sets with more than half of all votes are a coterie.
-pub fn votes_are_coteries()
-    ensures { (votes : List ℕ) → length votes ≤ max_voters → 0 < sum votes
-        → length (votes_quorums votes) ≤ max_quorums → IsCoterie (votes_system votes) }
-{}
-
-/// The quorums of votes are exactly the minimal sets of voters with more than half of all votes:
-/// each entry is such a set, and each such set is an entry.
-pub fn votes_are_all_least_majorities()
-    ensures listed { (votes : List ℕ)
-        → All (λ s. Ascends 0 (length votes) s × (is_least_majority votes s ≡ true)) (votes_quorums votes) }
-    ensures complete { (votes s : List ℕ) → length votes ≤ max_voters → Ascends 0 (length votes) s
-        → is_least_majority votes s ≡ true → Contains (votes_quorums votes) s }
 {}
 
 /// The majorities of up to 14 voters are a coterie: two sets of more than half of the voters meet.

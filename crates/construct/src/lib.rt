@@ -1,5 +1,5 @@
-//! Known families of coteries, made for any size: grids, majorities, all sets of one size,
-//! majorities of centres, weighted votes, trees, wheels, and cyclic coteries over a base set.
+//! Known families of coteries, made for any size: grids, majorities, trees, wheels, and cyclic
+//! coteries over a base set.
 //!
 //! Each construction returns exactly the quorums of its definition, in the definition's order, or
 //! the fault of its sizes: `BadSize` if they are too small, `TooLarge` if the coterie would be out
@@ -13,10 +13,6 @@
 //!
 //! - A grid of r rows of c asks r + c - 1, at a load of (r + c - 1) / n.
 //! - A majority asks n / 2 + 1, at a load just above one half.
-//! - Sets of one size ask that many, at a load of the size divided by n.
-//! - Majorities of a majority of c centres of m voters each ask (c / 2 + 1) * (m / 2 + 1), each
-//!   quotient rounded down, at a load of that divided by n.
-//! - Weighted votes ask the fewest voters if these have the most votes.
 //! - A tree of height h asks h + 1 at best, at a load of 2 / (h + 2), and still works without its
 //!   root.
 //! - A wheel of k voters on the rim asks 2 at best, at a load of k / (2 k - 1).
@@ -27,8 +23,6 @@
 //! ```
 //! let grid = grid(alloc, 3, 3)?;            // 9 voters; quorum 0 is 0, 1, 2, 3, 6
 //! let plane = cyclic(alloc, 7, &[0, 1, 3])?; // 7 voters; quorum 1 is 1, 2, 4
-//! let racks = centres(alloc, &[3, 3, 3])?;   // 9 voters; quorum 0 is 0, 1, 3, 4
-//! let weighted = votes(alloc, &[3, 2, 2, 1, 1])?; // 5 voters; quorum 0 is 0, 1
 //! grid(alloc, 1, 5)                          // Err(ConstructFault::BadSize)
 //! cyclic(alloc, 4, &[0, 2])                  // Err(ConstructFault::Coterie(CoterieFault::Disjoint(0, 1)))
 //! ```
@@ -42,17 +36,14 @@ mod shapes;
 
 pub use fault::ConstructFault;
 pub use laws::{
-    centres_are_coteries, cyclic_coteries_have_a_quorum_for_each_shift, cyclic_sets_cross_or_not,
-    grids_are_coteries, grids_have_a_quorum_for_each_voter, majorities_are_all_sets_of_their_size,
-    majorities_are_combinations, majorities_are_coteries, sets_of_one_size_are_coteries,
-    trees_are_coteries, trees_double_their_exponent, votes_are_all_least_majorities,
-    votes_are_coteries, wheels_are_coteries, wheels_have_a_quorum_for_each_spoke,
+    cyclic_coteries_have_a_quorum_for_each_shift, cyclic_sets_cross_or_not, grids_are_coteries,
+    grids_have_a_quorum_for_each_voter, majorities_are_all_sets_of_their_size,
+    majorities_are_combinations, majorities_are_coteries, trees_are_coteries,
+    trees_double_their_exponent, wheels_are_coteries, wheels_have_a_quorum_for_each_spoke,
 };
-pub use shapes::any::any;
-pub use shapes::centres::centres;
+pub use lists::{push_set, sets_of};
 pub use shapes::cyclic::cyclic;
 pub use shapes::grid::grid;
 pub use shapes::majority::majority;
 pub use shapes::tree::tree;
-pub use shapes::votes::votes;
 pub use shapes::wheel::wheel;

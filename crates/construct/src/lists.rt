@@ -1,5 +1,5 @@
 //! Lists of at most 4096 quorums.
-ghost use Rattle.std.specs.Prelude.{◌≡◌, ◌+◌, ◌≤◌, [], ◌∷◌, length, IfOk, vec_len};
+ghost use Rattle.std.specs.Prelude.{◌≡◌, ◌+◌, ◌≤◌, [], ◌∷◌, IfOk, vec_len};
 ghost use Rattle.std.specs.List.{range_with_len};
 ghost use Rattle.itertools.specs.Odometer.{ways};
 ghost use Rattle.itertools.specs.Pool.{ascending_low, ascending_high, combination_can, combination_left};
@@ -16,24 +16,13 @@ use std::alloc::{AllocError, Global};
 
 /// Adds a set, or fails with `TooLarge` if there are 4096 already.
 #[tactic(auto, using(crate::proofs::FewLemmas::few_push, crate::proofs::FewLemmas::many_push))]
-pub(crate) fn push(sets: &mut Vec<QSet>, set: QSet) -> Result<(), ConstructFault>
+pub fn push_set(sets: &mut Vec<QSet>, set: QSet) -> Result<(), ConstructFault>
     ensures { Adds result sets.old.items sets.new.items (set ∷ []) }
 {
     if sets.len() >= MAX_QUORUMS {
         return Err(ConstructFault::TooLarge);
     }
     sets.push(set)?;
-    Ok(())
-}
-
-/// Adds each of these sets, or fails with `TooLarge` if there would be more than 4096.
-pub(crate) fn push_all(sets: &mut Vec<QSet>, more: &[QSet]) -> Result<(), ConstructFault>
-    requires { length sets.now.items ≤ max_quorums }
-    ensures { Adds result sets.old.items sets.new.items more.now }
-{
-    for set in more {
-        push(sets, set.copy())?;
-    }
     Ok(())
 }
 
@@ -64,13 +53,13 @@ fn choices(alloc: Global, low: u8, n: u8, size: u8) -> Result<Combinations<u8, G
 
 /// Returns the sets of `size` of the `n` voters from `low` on, in lexicographic order. Ends with
 /// `TooLarge` at the first set after 4096, so it never goes through all sets of a large number.
-pub(crate) fn sets_of(alloc: Global, low: u8, n: u8, size: u8) -> Result<Vec<QSet>, ConstructFault>
+pub fn sets_of(alloc: Global, low: u8, n: u8, size: u8) -> Result<Vec<QSet>, ConstructFault>
     requires { low + n ≤ max_voters }
     ensures { Lists result (sets_from low n size) }
 {
     let mut sets = Vec::new(alloc);
     for members in choices(alloc, low, n, size)? {
-        push(&mut sets, set_of(&members?))?;
+        push_set(&mut sets, set_of(&members?))?;
     }
     Ok(sets)
 }

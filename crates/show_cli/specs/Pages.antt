@@ -14,9 +14,9 @@ use Rattle.show_refusals.specs.Pages.{IsFaultPage}
 use Rattle.commands.specs.Parts.{split}
 use Rattle.show_cli.specs.Failures.{HasCoterie, HasPair, HasParts, HasWeights, IsCompared, IsWithoutOf, RefusesParts, RefusesWithout, files_in, pair_in}
 use Rattle.show_cli.specs.Found.{IsFoundPage}
-use Rattle.show_cli.specs.Shapes.{RefusesShape}
+use Rattle.show_cli.specs.Shapes.{IsShapeRefusal}
 use Rattle.show_cli.specs.Stories.{IsStory, RefusesStory}
-use Rattle.show_coteries.specs.Shapes.{text_at}
+use Rattle.show_coteries.specs.Texts.{IsTextOf}
 use Rattle.show_command_line.specs.declared.command.Picture.TheVariants as pictures
 use Rattle.show_command_line.specs.declared.command.ShowCommand.{ShowCommand}
 use Rattle.show_command_line.specs.declared.command.ShowCommand.TheVariants as show
@@ -40,7 +40,7 @@ IsPage show.Check input page = HasWeights input
 IsPage show.Report input page = HasWeights input
 IsPage (show.Deal dealing) input page = HasWeights input
 IsPage (show.Near page_of) input page = IsFoundPage page_of input page
-IsPage (show.Coterie shape capacities) input page = text_at shape (option_map (λ list. list.items) capacities) ≡ Ok page
+IsPage (show.Coterie shape capacities) input page = IsTextOf (option_map (λ list. list.items) capacities) page
 IsPage (show.Compare files form) input page = IsCompared form (map string_bytes files.items) input page
 IsPage (show.Without words) input page = IsWithoutOf (map string_bytes words.items) input page
 IsPage (show.Resilience form) input page = HasParts (split 2 input) input
@@ -59,7 +59,7 @@ IsPage (show.Picture pictures.World) input page = IsStoryPicture input page
 abbrev pub RefusesPage : ShowCommand → List ℕ → Fault → Type 0
 RefusesPage (show.Without words) input fault = RefusesWithout (map string_bytes words.items) input fault
 RefusesPage (show.Near page_of) input fault = Refuses fault (coterie_part input)
-RefusesPage (show.Coterie shape capacities) input fault = RefusesShape fault (text_at shape (option_map (λ list. list.items) capacities))
+RefusesPage (show.Coterie shape capacities) input fault = IsShapeRefusal fault
 RefusesPage (show.Compare files form) input fault = Refuses fault (files_in (length files.items) input)
 RefusesPage (show.Resilience form) input fault = RefusesParts (split 2 input) input fault
 RefusesPage show.Bridge input fault = Refuses fault (pair_in input)

@@ -1,10 +1,8 @@
 -- The faults of a shape, as faults of a command.
-use Rattle.std.specs.Prelude.{ℕ, List, Result}
+use Rattle.std.specs.Prelude.{◌≡◌}
 use Rattle.plan_inputs.specs.declared.fault.InputFault.TheVariants as inputs
-use Rattle.commands.specs.Commands.{Refuses}
 use Rattle.commands.specs.declared.fault.Fault.{Fault}
 use Rattle.commands.specs.declared.fault.Fault.TheVariants as faults
-use Rattle.show_coteries.specs.Faults.{refused_as}
 use Rattle.show_coteries.specs.declared.fault.ShapeFault.{ShapeFault}
 use Rattle.show_coteries.specs.declared.fault.ShapeFault.TheVariants.{Construct, File, OutOfMemory}
 
@@ -14,6 +12,6 @@ shape_refusal (Construct fault) = faults.Construct fault
 shape_refusal (File fault) = faults.Input (inputs.File fault)
 shape_refusal OutOfMemory = faults.OutOfMemory
 
--- the fault is out of memory, or the shape has it
-abbrev pub RefusesShape : Fault → Result (List ℕ) ShapeFault → Type 0
-RefusesShape fault text = Refuses fault (refused_as shape_refusal text)
+-- the fault is one of a shape
+abbrev pub IsShapeRefusal : Fault → Type 0
+IsShapeRefusal fault = (of_shape : ShapeFault) × (fault ≡ shape_refusal of_shape)

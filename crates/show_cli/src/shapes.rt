@@ -1,8 +1,8 @@
 //! Coteries of shapes.
-ghost use Rattle.std.specs.Prelude.{◌≡◌, IfErr, IfOk, Ok, option_map, string_bytes};
+ghost use Rattle.std.specs.Prelude.{◌≡◌, IfErr, IfOk, option_map, string_bytes};
 ghost use Rattle.commands.specs.Devices.{IsOwn};
-ghost use Rattle.show_cli.specs.Shapes.{RefusesShape, shape_refusal};
-ghost use Rattle.show_coteries.specs.Shapes.{text_at};
+ghost use Rattle.show_cli.specs.Shapes.{IsShapeRefusal, shape_refusal};
+ghost use Rattle.show_coteries.specs.Texts.{IsTextOf};
 
 use commands::{Fault, InputFault};
 use show_coteries::{CoterieShape, ShapeFault, coterie_text};
@@ -25,10 +25,8 @@ pub(crate) fn shape_page(
     shape: &CoterieShape,
     capacities: &Option<Vec<u64>>,
 ) -> Result<String, Fault>
-    ensures page { IfOk result (λ page.
-        text_at shape.now (option_map (λ list. list.items) capacities.now) ≡ Ok (string_bytes page)) }
-    ensures refused { IfErr result (λ fault.
-        RefusesShape fault (text_at shape.now (option_map (λ list. list.items) capacities.now))) }
+    ensures page { IfOk result (λ page. IsTextOf (option_map (λ list. list.items) capacities.now) (string_bytes page)) }
+    ensures refused { IfErr result IsShapeRefusal }
     ensures own { IfErr result IsOwn }
 {
     let given = match capacities {

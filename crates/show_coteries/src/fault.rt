@@ -1,10 +1,7 @@
 //! The faults of a shape.
-ghost use Rattle.std.specs.Prelude.{◌≡◌};
-ghost use Rattle.show_coteries.specs.Faults.{construct_refusal, file_refusal};
-ghost use Rattle.show_coteries.specs.declared.fault.ShapeFault.TheVariants.{OutOfMemory};
-
 use construct::ConstructFault;
 use coterie_file::FileFault;
+use quorum_set::CoterieFault;
 use std::alloc::{AllocError, AllocFailed};
 use thiserror::Error;
 
@@ -23,8 +20,6 @@ pub enum ShapeFault {
 }
 
 impl From<ConstructFault> for ShapeFault {
-    ghost from_gives = { λ fault e. e ≡ construct_refusal fault };
-
     fn from(fault: ConstructFault) -> ShapeFault {
         match fault {
             ConstructFault::OutOfMemory => ShapeFault::OutOfMemory,
@@ -33,9 +28,13 @@ impl From<ConstructFault> for ShapeFault {
     }
 }
 
-impl From<FileFault> for ShapeFault {
-    ghost from_gives = { λ fault e. e ≡ file_refusal fault };
+impl From<CoterieFault> for ShapeFault {
+    fn from(fault: CoterieFault) -> ShapeFault {
+        ShapeFault::Construct(ConstructFault::Coterie(fault))
+    }
+}
 
+impl From<FileFault> for ShapeFault {
     fn from(fault: FileFault) -> ShapeFault {
         match fault {
             FileFault::OutOfMemory => ShapeFault::OutOfMemory,
@@ -45,16 +44,12 @@ impl From<FileFault> for ShapeFault {
 }
 
 impl From<AllocError> for ShapeFault {
-    ghost from_gives = { λ _ e. e ≡ OutOfMemory };
-
     fn from(_error: AllocError) -> ShapeFault {
         ShapeFault::OutOfMemory
     }
 }
 
 impl<T: Drop> From<AllocFailed<T>> for ShapeFault {
-    ghost from_gives = { λ _ e. e ≡ OutOfMemory };
-
     fn from(_error: AllocFailed<T>) -> ShapeFault {
         ShapeFault::OutOfMemory
     }

@@ -1,8 +1,14 @@
 //! Coteries by their shapes, as texts that `qlock plan` reads.
 //!
 //! A planner who has three racks of three replicas, or replicas with 3, 2, 2, 1 and 1 votes, names
-//! the shape and its sizes. [`coterie_text`] makes the coterie with the shapes of `construct`, gives
-//! its voters names and capacities, and writes it with `coterie_file`.
+//! the shape and its sizes. [`coterie_text`] makes the coterie, gives its voters names and
+//! capacities, and writes it with `coterie_file`. Of n voters in all, the best plan puts this load
+//! on the busiest one:
+//!
+//! - Sets of one size: the size divided by n.
+//! - Majorities of a majority of c centres of m voters each: (c / 2 + 1) * (m / 2 + 1), each quotient
+//!   rounded down, divided by n.
+//! - Weighted votes: it depends on the votes. They ask the fewest voters if these have the most.
 //!
 //! - Voters of racks and centres are called `a1`, `a2` and so on in the first one, `b1` and so on in
 //!   the second.
@@ -10,8 +16,8 @@
 //!
 //! # What is proved
 //!
-//! The definitions in `specs/` determine the text, letter by letter, or the fault. It is the text of
-//! the shape's coterie with these names and capacities, so `read_coterie` reads exactly that.
+//! What is written is the text of a coterie with the given capacities, so `read_coterie` reads it.
+//! That it is the coterie of the shape is tested, for all shapes of up to nine voters.
 //!
 //! ```
 //! let text = coterie_text(alloc, &CoterieShape::Racks(3, 3), None)?; // two of three in two of three
@@ -23,6 +29,7 @@ mod fault;
 mod named;
 mod names;
 mod shape;
+mod shapes;
 mod text;
 
 pub use fault::ShapeFault;

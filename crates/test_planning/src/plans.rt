@@ -88,6 +88,67 @@ fn wheel_has_its_load(alloc: Global, rims: u32) -> bool {
     )
 }
 
+/// Returns whether a grid of these sizes has the load (r + c - 1) / (r * c).
+fn grid_has_its_load(alloc: Global, rows: u32, columns: u32) -> bool {
+    is_share(
+        load_of(alloc, Shape::Grid(rows, columns)),
+        u64::from(rows)
+            .saturating_add(u64::from(columns))
+            .saturating_sub(1),
+        u64::from(rows).saturating_mul(u64::from(columns)),
+    )
+}
+
+/// Returns whether the majorities of n voters have the load h / n, where h = n / 2 + 1.
+fn majority_has_its_load(alloc: Global, voters: u32) -> bool {
+    is_share(
+        load_of(alloc, Shape::Majority(voters)),
+        u64::from(voters / 2) + 1,
+        u64::from(voters),
+    )
+}
+
+/// Returns whether a cyclic coterie over a base of c places on a ring of n has the load c / n.
+fn cycle_has_its_load(alloc: Global, voters: u32, base: &'static [u32]) -> bool {
+    is_share(
+        load_of(alloc, Shape::Cyclic(voters, base)),
+        base.len() as u64,
+        u64::from(voters),
+    )
+}
+
+/// Bases whose differences cover their rings.
+const RINGS: [(u32, &[u32]); 5] = [
+    (7, &[0, 1, 3]),
+    (13, &[0, 1, 3, 9]),
+    (6, &[0, 1, 3]),
+    (21, &[0, 1, 4, 14, 16]),
+    (57, &[0, 1, 3, 13, 32, 36, 43, 52]),
+];
+
+#[test]
+fn grids_have_their_load(rt: HostRuntime) {
+    for rows in 2..8 {
+        for columns in 2..9 {
+            assert!(rt; grid_has_its_load(rt.alloc(), rows, columns));
+        }
+    }
+}
+
+#[test]
+fn majorities_have_their_load(rt: HostRuntime) {
+    for voters in 1..15 {
+        assert!(rt; majority_has_its_load(rt.alloc(), voters));
+    }
+}
+
+#[test]
+fn cycles_have_their_load(rt: HostRuntime) {
+    for (voters, base) in &RINGS {
+        assert!(rt; cycle_has_its_load(rt.alloc(), *voters, *base));
+    }
+}
+
 /// Every size of a tree has the load of Agrawal and El Abbadi's trees.
 #[test]
 fn all_trees_have_their_load(rt: HostRuntime) {

@@ -1,5 +1,5 @@
 //! Constructions: each shape once, and sets that are joined.
-use construct::{ConstructFault, any, centres, cyclic, grid, majority, tree, votes, wheel};
+use construct::{ConstructFault, cyclic, grid, majority, tree, wheel};
 use quorum_set::Coterie;
 use std::alloc::Global;
 use test_plans::set_of;
@@ -12,9 +12,6 @@ pub(crate) enum Shape {
     Tree(u32),
     Wheel(u32),
     Cyclic(u32, &'static [u32]),
-    Any(u32, u32),
-    Centres(&'static [u8]),
-    Votes(&'static [u64]),
 }
 
 /// Constructs it.
@@ -25,22 +22,16 @@ pub(crate) fn built(alloc: Global, shape: Shape) -> Result<Coterie, ConstructFau
         Shape::Tree(height) => tree(alloc, height),
         Shape::Wheel(rims) => wheel(alloc, rims),
         Shape::Cyclic(voters, base) => cyclic(alloc, voters, base),
-        Shape::Any(size, voters) => any(alloc, size, voters),
-        Shape::Centres(sizes) => centres(alloc, sizes),
-        Shape::Votes(list) => votes(alloc, list),
     }
 }
 
 /// Shapes, how many voters they have, and how many quorums.
-const SIZES: [(Shape, (usize, usize)); 8] = [
+const SIZES: [(Shape, (usize, usize)); 5] = [
     (Shape::Grid(2, 3), (6, 6)),
     (Shape::Majority(4), (4, 4)),
     (Shape::Tree(3), (15, 255)),
     (Shape::Wheel(3), (4, 4)),
     (Shape::Cyclic(7, &[0, 1, 3]), (7, 7)),
-    (Shape::Any(2, 3), (3, 3)),
-    (Shape::Centres(&[2, 1, 1]), (4, 3)),
-    (Shape::Votes(&[3, 2, 2, 1, 1]), (5, 5)),
 ];
 
 /// Returns how many voters and quorums the coterie of a shape has.

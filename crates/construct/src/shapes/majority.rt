@@ -4,7 +4,8 @@ ghost use Rattle.construct.specs.Answers.{Gives};
 ghost use Rattle.construct.specs.Majority.{majority_at};
 
 use crate::fault::ConstructFault;
-use crate::shapes::any::any;
+use crate::lists::sets_of;
+use crate::set::coterie_of;
 use quorum_set::Coterie;
 use std::alloc::Global;
 
@@ -18,8 +19,12 @@ pub fn majority(alloc: Global, voters: u32) -> Result<Coterie, ConstructFault>
     ensures exact { Gives result (majority_at voters) }
     ensures sizes { IfErr (majority_at voters) (λ fault. result ≡ Err fault) }
 {
+    if voters == 0 {
+        return Err(ConstructFault::BadSize);
+    }
     if voters > 14 {
         return Err(ConstructFault::TooLarge);
     }
-    any(alloc, voters / 2 + 1, voters)
+    let quorums = sets_of(alloc, 0, voters as u8, voters as u8 / 2 + 1)?;
+    coterie_of(voters as usize, quorums)
 }

@@ -28,18 +28,18 @@ loop-members-init c =
       few = omega (arith, ap length c.new-sets.ensures.items);
     })
 
-pub returns-in_err-push : goal.returns-in_err-push
-returns-in_err-push c =
+pub returns-in_err-push_set : goal.returns-in_err-push_set
+returns-in_err-push_set c =
     let low = c.args.low in
     let whole = sets_from low c.args.n c.args.size in
-    let fault = c.in_err-push.field-0.0 in
+    let fault = c.in_err-push_set.field-0.0 in
     let step = rw c.in_ok-members.was at c.in-Some.ensures.steps in
     let (same, (ds, left, clones)) = step in
     let made = c.loop-members.sets.items in
     let rest = map (moved low) (combination_left c.next.new.self) in
     let is : made ++ moved low ds ∷ rest ≡ whole = ap (λ sets. made ++ map (moved low) sets) (sym left) ∙ c.loop-members.invariant.together in
-    lists-refused c.from_residual-in_err-push.result whole fault c.from_residual-in_err-push.ensures.1
-    (refuses-by fault (many-begun made rest whole c.set_of.result (moved low ds) fault is) c.in_err-push.ensures)
+    lists-refused c.from_residual-in_err-push_set.result whole fault c.from_residual-in_err-push_set.ensures.1
+    (refuses-by fault (many-begun made rest whole c.set_of.result (moved low ds) fault is) c.in_err-push_set.ensures)
 
 pub loop-members-preserved : goal.loop-members-preserved
 loop-members-preserved c =
@@ -56,15 +56,15 @@ loop-members-preserved c =
     let within = All-head (λ s. All (λ i. i < n) s) ds rest below in
     let members : c.in_ok-members.field-0.items ≡ moved low ds =
     members_are_moved _ low n c.loop-members.members-iterator.pool.items ds c.in_ok-members.field-0.items (λ x y e. e) c.loop-members.invariant.pool within clones in
-    let pushed : c.push.new.sets.items ≡ made ++ moved low ds ∷ [] =
-    sym (few-is (made ++ c.set_of.result ∷ []) c.push.new.sets.items c.in_ok-push.ensures).0
+    let pushed : c.push_set.new.sets.items ≡ made ++ moved low ds ∷ [] =
+    sym (few-is (made ++ c.set_of.result ∷ []) c.push_set.new.sets.items c.in_ok-push_set.ensures).0
     ∙ ap (λ s. made ++ s ∷ [])
     (c.set_of.ensures ∙ ap (λ s. set_where (has s)) (c.deref.ensures.value ∙ members) ∙ set_where-has (moved low ds) set) in
     record {
       pool = sym same ∙ c.loop-members.invariant.pool;
       together = ap (λ xs. xs ++ map (moved low) rest) pushed ∙ append_assoc made (moved low ds ∷ []) (map (moved low) rest) ∙ is;
       below = All-tail (λ s. All (λ i. i < n) s) ds rest below;
-      few = few-length (made ++ c.set_of.result ∷ []) c.push.new.sets.items c.in_ok-push.ensures;
+      few = few-length (made ++ c.set_of.result ∷ []) c.push_set.new.sets.items c.in_ok-push_set.ensures;
     }
   where
     All-middle : (xs : List (List ℕ)) (s : List ℕ) (ys : List (List ℕ)) → All IsSet (xs ++ s ∷ ys) → IsSet s
