@@ -102,7 +102,7 @@ type Daemon struct {
 	reach           uint64       // up to which number they may be now
 	voters          <-chan transport.Message
 	floor, ceiling  uint64            // its grants are above the floor, and up to the ceiling
-	raised          raised            // the same of votes of before the start
+	raised          raised            // the same of votes that were there as it was noted last
 	nothing         qlock.SinceStart  // of votes of which nothing was said since the start
 	markers         [keyBytes]byte    // the key of this run's markers
 	done            map[string][]byte // replies to what operators let go, by their questions

@@ -226,3 +226,35 @@ func TestRetire(t *testing.T) {
 		}
 	}
 }
+
+// Once a plan is settled no vote gives a number any more that a voter of an older plan may have given, whether it was used since the start or
+// not. So turns grow.
+func TestTurnsGrowOverARetirement(t *testing.T) {
+	text, err := json.Marshal(Knows{Sessions: map[int]Session{}, Peers: map[int]Peer{1: {Identity: identity("B"), Process: process("p"), Ceiling: 900}}})
+	if err != nil {
+		t.Fatal(err)
+	}
+	for _, isPacked := range []bool{false, true} {
+		d := sessions(t, 1, 2)
+		d.repliesTo("jobs", 1, "orders request 1 0 5\n")
+		now, grant := time.Now(), d.votes["orders"].held().Number
+		if err := d.save(now); err != nil {
+			t.Fatal(err)
+		}
+		if isPacked {
+			now = d.packsAll(now)
+		}
+		d.plans.Number, d.plans.Settled = 1, false
+		if err := d.settle(1, d.plans.mark(), string(text), now); err != nil || d.floor != 900 {
+			t.Fatal(err, d.floor)
+		}
+		if reply, want := d.turned(t, 1, fmt.Sprintf(". turn orders 5 %d %d\n", grant, grant+40)), fmt.Sprintf(". turned orders 5 %d\n", grant+40); reply != want {
+			t.Errorf("packed %v: %q", isPacked, reply)
+		}
+		d.repliesTo("jobs", 2, "orders request 2 0 9\n")
+		d.repliesTo("jobs", 1, "orders release 1 0 5\n")
+		if next := d.votes["orders"].held(); next.Client != 2 || next.Number != 901 {
+			t.Errorf("packed %v: %+v after the turn %d, and the floor 900", isPacked, next, grant+40)
+		}
+	}
+}

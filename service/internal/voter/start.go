@@ -166,12 +166,20 @@ func (d *Daemon) isKept(now time.Time) {
 		"answered", d.inUse.names(shown.Answered))
 }
 
-// raised is above which number, and up to which one, the votes go on that a voter has as it starts.
+// raised is above which number, and up to which one, the votes go on that a voter had as it was noted.
 type raised struct{ floor, ceiling uint64 }
 
-// raiseAll lets all votes go on above what this voter may have given: they keep their grants. There may be many, so each goes on as it is
-// unpacked. None is saved before that.
-func (d *Daemon) raiseAll() { d.raised = raised{d.floor, d.ceiling} }
+// raiseAll lets all votes go on above the floor: they keep their grants. One that is packed goes on as it is unpacked, as there may be many.
+// None is saved before its next step.
+func (d *Daemon) raiseAll() {
+	d.raised = raised{d.floor, d.ceiling}
+	for _, v := range d.votes {
+		if voter := v.extra().voter; voter != nil {
+			d.raised.raise(voter)
+		}
+		v.isRaised = true
+	}
+}
 
 // raise lets a proved voter go on. The second time it changes nothing.
 func (r raised) raise(voter *qlock.Voter) {
