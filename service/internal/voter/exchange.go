@@ -311,7 +311,8 @@ const mostNamed = qlock.MaxClients
 
 // isReady returns an error unless the old plan may be retired: this voter has the plan with this
 // number and mark, and no session that was heard within the TTL may have a request of the old one.
-// It returns the sessions that are silent: each may have one. Of many that have one it names some.
+// Nor may one that was ended by a word: until it was silent for a TTL it may be inside, and not know.
+// It returns the open sessions that are silent: each may have one. Of many that have one it names some.
 func (d *Daemon) isReady(number uint64, mark string) (silent []int, err error) {
 	if number != d.plans.Number {
 		return nil, ErrNumber
@@ -328,10 +329,10 @@ func (d *Daemon) isReady(number uint64, mark string) (silent []int, err error) {
 		for client, behind := 0, s.behindOf(number); behind != 0; client, behind = client+1, behind>>1 {
 			switch {
 			case behind&1 == 0:
-			case s.isDead(client):
-				silent = append(silent, s.key(client))
-			default:
+			case !s.isDead(client):
 				lag = append(lag, d.cluster.NumberOf(s.key(client)))
+			case s.bare(client).Open:
+				silent = append(silent, s.key(client))
 			}
 		}
 	}

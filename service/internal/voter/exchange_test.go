@@ -258,3 +258,31 @@ func TestTurnsGrowOverARetirement(t *testing.T) {
 		}
 	}
 }
+
+// A session that an operator or another voter ended may be inside by the old plan, and not know so. So for a TTL, and no longer, that plan is
+// not retired.
+func TestEndedSessionMayBeInside(t *testing.T) {
+	for by, end := range map[string]func(d *Daemon, now time.Time){
+		"an operator": func(d *Daemon, now time.Time) { d.evict(1, false, "alice", now) },
+		"another voter": func(d *Daemon, now time.Time) {
+			d.shard(0).learn(1, Session{Epoch: 2, Base: 1000, Reserved: 1000, Used: true}, now)
+		},
+	} {
+		d := sessions(t, 1, 2)
+		d.repliesTo("jobs", 1, "orders request 1 0 5\n")
+		before, now := d.plans.Now, time.Now()
+		d.plans.Number, d.plans.Old = 1, &before
+		for _, number := range []int{0, 2} {
+			d.shard(0).asks(number, 1, 1)
+		}
+		end(d, now)
+		if _, err := d.isReady(1, d.plans.mark()); !errors.Is(err, ErrLag) || err.Error() != ErrLag.Error()+": [1]" {
+			t.Errorf("%s ended it: %v", by, err)
+		}
+		epoch := d.shard(0).row(1).Epoch
+		passes(&d.shard(0).table, now.Add(d.leases.ttl+periodOf(d.leases.ttl)))
+		if err := d.retire(1, d.plans.mark()); err != nil || d.plans.Old != nil || d.shard(0).row(1).Epoch != epoch {
+			t.Errorf("%s ended it, a TTL before: %v, and it is ended again", by, err)
+		}
+	}
+}
