@@ -186,7 +186,11 @@ func (d *Daemon) begin() (err error) {
 	if _, err := io.ReadFull(d.around.Random, d.markers[:]); err != nil {
 		return err
 	}
-	d.join = joining{start: *qlock.NewStart(d.store.own.Ceiling, d.firstBlock()), began: d.now(), saves: d.store.saves}
+	ceiling := d.store.own.Ceiling
+	if d.isLost() {
+		ceiling = 0 // it never served, and needs as many answers as a new one. Those that are enough know the ceiling of the one before
+	}
+	d.join = joining{start: *qlock.NewStart(ceiling, d.firstBlock()), began: d.now(), saves: d.store.saves}
 	d.join.process, err = d.newProcess()
 	return err
 }

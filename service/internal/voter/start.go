@@ -38,6 +38,7 @@ type own struct {
 	Raised  uint64 `json:"raised,omitempty"`  // the start in which the level was raised last, from raisedFormat on
 	Refused string `json:"refused,omitempty"` // why another voter refused it, and it never starts again
 	IsPlace bool   `json:"place,omitempty"`   // since another voter has its place
+	Lost    bool   `json:"lost,omitempty"`    // it was made again after the one before was lost, whose ceiling it has, and did not serve since
 }
 
 // refusal returns the error of a state that was refused, nil if it was not.
@@ -142,7 +143,7 @@ func (d *Daemon) isKept(now time.Time) {
 		return
 	}
 	shown := j.start.Shows()
-	d.store.own.Ceiling, d.newOwn = shown.Ceiling, true
+	d.store.own.Ceiling, d.store.own.Lost, d.newOwn = shown.Ceiling, false, true
 	d.ceiling, d.isSpent = shown.Ceiling, false
 	d.m.left.Set(float64(d.ceiling) - float64(greatest(d.floor, d.m.most)))
 	if turn == qlock.Raises {
@@ -305,7 +306,11 @@ func (d *Daemon) learnOfItself(h wire.Header, w word, now time.Time) {
 	if who != d.peers[h.Number] {
 		d.putPeer(h.Number, who)
 	}
-	if err := d.learnsLevel(w.Knows.Level); err != nil {
+	err = d.learnsLevel(w.Knows.Level)
+	if d.isLost() && w.Knows.Oldest > d.plans.oldest() { // it may have retired a plan that it would take again
+		err = ErrBefore
+	}
+	if err != nil {
 		j.refused = fmt.Errorf("%s: %w", file(d.own.Data), err)
 		return
 	}
@@ -370,9 +375,7 @@ func (d *Daemon) self() Peer {
 }
 
 // isLost returns whether this voter lost its state, and did not serve since it was made again. Then it knows only what others told it.
-func (d *Daemon) isLost() bool {
-	return d.store.meta.Run > 0 && d.store.own.Ceiling == 0 && !d.join.done
-}
+func (d *Daemon) isLost() bool { return d.store.own.Lost }
 
 // runs returns the lines by which a session hears which of the other voters were made again, and how often: what they told it before that
 // counts no more. What is said there was saved before.

@@ -113,7 +113,7 @@ func fill(disk Disk, meta Meta, plans Generations, known Knows, ceiling uint64) 
 		if err := b.putMeta(meta); err != nil {
 			return err
 		}
-		if err := b.putOwn(own{Ceiling: ceiling, Level: known.Level}); err != nil {
+		if err := b.putOwn(own{Ceiling: ceiling, Level: known.Level, Lost: meta.Run > 0}); err != nil {
 			return err
 		}
 		if err := b.putPlans(plans); err != nil {
