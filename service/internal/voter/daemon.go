@@ -88,6 +88,7 @@ type Daemon struct {
 	peers           [places]Peer
 	loaded          [places]Peer        // as they were at the start
 	told            [places]toldOf      // what was said to others that started
+	spoke           [places]time.Time   // when each of the others was heard last in this run
 	resting         []resting           // the votes that nobody has, the oldest first
 	gone            map[string]struct{} // locks that are forgotten, whose rows are still there
 	restsFor        time.Duration
@@ -191,6 +192,9 @@ func (d *Daemon) begin() (err error) {
 		ceiling = 0 // it never served, and needs as many answers as a new one. Those that are enough know the ceiling of the one before
 	}
 	d.join = joining{start: *qlock.NewStart(ceiling, d.firstBlock()), began: d.now(), saves: d.store.saves}
+	if left := time.UnixMilli(d.store.left); d.store.left > 0 && !left.After(d.started) {
+		d.join.left = left
+	}
 	d.join.process, err = d.newProcess()
 	return err
 }

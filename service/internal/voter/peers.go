@@ -54,7 +54,6 @@ const (
 	places       = qlock.MaxVoters
 	askAgain     = 100 * time.Millisecond // how often a voter that waits asks those that did not answer
 	tellAgain    = time.Second            // how often one that serves does
-	mostPatience = 8 * time.Second        // after which a quorum of answers is enough
 	firstCeiling = uint64(1) << 16        // how many grants a voter may give above what is known, at first
 	stillQuiet   = 250 * time.Millisecond // for which others are asked while one who said that he is inside waits for a vote
 )
@@ -186,7 +185,8 @@ func (d *Daemon) meet(h wire.Header, w word) {
 		if err == nil {
 			shown = d.shown(h, w, known)
 		}
-		reply = word{Word: "known", Process: w.Process, Start: h.Start, Known: &shown, Knows: &all}
+		heard, missed := d.whoSpoke(d.now())
+		reply = word{Word: "known", Process: w.Process, Start: h.Start, Known: &shown, Knows: &all, Heard: heard, Missed: missed}
 	}
 	if err != nil {
 		reply.Why = fmt.Sprintf("start=%d run=%d identity=%.8s is known", known.Start, known.Run, known.Identity)

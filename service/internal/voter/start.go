@@ -28,6 +28,8 @@ type word struct {
 	From    int    `json:"from,omitempty"`    // of start: from which key on it wants to know of sessions
 	Sums    []byte `json:"sums,omitempty"`    // of start: of what it has, by shards from that of this key on (sums.go)
 	Knows   *Knows `json:"knows,omitempty"`   // what the one who answers knows
+	Heard   uint64 `json:"heard,omitempty"`   // the voters that it heard lately, by their bits
+	Missed  uint64 `json:"missed,omitempty"`  // those that it did not hear for longer (patience.go)
 }
 
 // own is what a state has of its own starts.
@@ -38,6 +40,7 @@ type own struct {
 	Raised  uint64 `json:"raised,omitempty"`  // the start in which the level was raised last, from raisedFormat on
 	Refused string `json:"refused,omitempty"` // why another voter refused it, and it never starts again
 	IsPlace bool   `json:"place,omitempty"`   // since another voter has its place
+	Left    int64  `json:"left,omitempty"`    // when its last run ended by itself, in milliseconds since 1970; 0 since the next one began
 	Lost    bool   `json:"lost,omitempty"`    // it was made again after the one before was lost, whose ceiling it has, and did not serve since
 }
 
@@ -57,6 +60,9 @@ type joining struct {
 	process string
 	start   qlock.Start // who answered, what is known, and which ceiling was asked for and is kept
 	began   time.Time
+	left    time.Time     // when the run before ended by itself, zero if that is not known
+	heard   uint64        // the voters that some one which answered heard lately
+	missed  uint64        // those that some one did not
 	next    time.Time     // when those that did not answer are asked again
 	pause   time.Duration // before that; it doubles
 	saves   uint64        // how often the state was saved before this run
@@ -83,7 +89,7 @@ func (d *Daemon) begins(now time.Time) {
 	}
 	isShort := d.inUse.haveAny(^shown.Answered) || d.isLost() && !d.inUse.haveQuorums(shown.Answered)
 	j.start.Begins(qlock.Answers{Others: d.others(), HaveSilentQuorum: isShort,
-		HaveQuorums: d.inUse.haveQuorums(shown.Answered | d.bit()), IsPatient: now.Sub(j.began) > mostPatience})
+		HaveQuorums: d.inUse.haveQuorums(shown.Answered | d.bit()), IsPatient: now.Sub(j.began) > d.patience(now)})
 	if j.start.Shows().Asked > 0 {
 		d.asksOthers(now)
 	}
@@ -237,6 +243,7 @@ func (d *Daemon) hearPeer(m transport.Message, now time.Time) {
 		d.m.foreign.Inc()
 		return
 	}
+	d.spoke[h.Number] = now
 	switch w.Word {
 	case "start", "ceiling":
 		d.meet(h, w)
@@ -324,6 +331,7 @@ func (d *Daemon) learnOfItself(h wire.Header, w word, now time.Time) {
 	if w.Knows.From != j.from[h.Number] || j.start.Hears(h.Number, w.Known.Ceiling, w.Known.isClean(d.store.meta.Identity, j.saves)) != nil {
 		return
 	}
+	j.heard, j.missed = j.heard|w.Heard, j.missed|w.Missed
 	d.learnAll(*w.Knows, now)
 }
 

@@ -63,6 +63,7 @@ type store struct {
 	meta  Meta
 	plans Generations // as they were read
 	own   own         // of its starts
+	left  int64       // when the run before ended by itself, as own.Left
 	saves uint64      // how often it was saved
 	tally uint64      // of its rows
 	room  []byte      // of the next transaction
@@ -205,6 +206,7 @@ func (s *store) begin(want Meta) error {
 	if err := s.own.refusal(); err != nil {
 		return err
 	}
+	s.left, s.own.Left = s.own.Left, 0
 	s.own.Start++
 	for root := 0; root < 2; root++ {
 		if err := s.update(s.saves, func(b *batch) error { return b.putOwn(s.own) }); err != nil {
