@@ -68,6 +68,7 @@ type Daemon struct {
 	newPlans      bool // they changed since the last save
 	mark, oldMark string
 	marks         map[string]string // by which plan a session speaks, while there are two
+	laggards      map[int]laggard   // the sessions, by their keys, without a request here that hinder a retirement
 
 	dirty    map[*vote]struct{} // changed since the last save, and something leaves that depends on it
 	silent   map[*vote]struct{} // changed since the last save, and nothing does

@@ -6,6 +6,7 @@ import (
 	"errors"
 	"fmt"
 	"io"
+	"strings"
 	"testing"
 	"time"
 
@@ -284,5 +285,37 @@ func TestEndedSessionMayBeInside(t *testing.T) {
 		if err := d.retire(1, d.plans.mark()); err != nil || d.plans.Old != nil || d.shard(0).row(1).Epoch != epoch {
 			t.Errorf("%s ended it, a TTL before: %v, and it is ended again", by, err)
 		}
+	}
+}
+
+// A session that goes on to say that it has a request of the old plan, and has none, hinders a retirement for four TTLs and no longer. One that
+// has one here is waited for.
+func TestWhoHasNoRequestHindersBriefly(t *testing.T) {
+	d := sessions(t, 1, 2)
+	before := d.plans.Now
+	d.plans.Number, d.plans.Old = 1, &before
+	d.shard(0).asks(0, 1, 1)
+	d.repliesTo("jobs", 2, "orders request 2 0 5\n")
+	begun := time.Now()
+	d.laggards[1] = laggard{7, begun.Add(-time.Hour)} // a session that had the number before
+	named := func(ttls float64, want string) {
+		t.Helper()
+		now := begun.Add(time.Duration(ttls * float64(d.leases.ttl)))
+		d.around.Now = func() time.Time { return now }
+		_, err := d.isReady(1, d.plans.mark())
+		if got := strings.TrimPrefix(fmt.Sprint(err), ErrLag.Error()); got != want {
+			t.Errorf("after %v TTL: %v", ttls, err)
+		}
+	}
+	named(0, ": [1 2]")
+	named(longestLag, ": [1 2]")
+	d.repliesTo("jobs", 1, "stock request 1 0 5\n")
+	named(longestLag+0.1, ": [1 2]") // it asks
+	d.repliesTo("jobs", 1, "stock release 1 0 5\n")
+	named(longestLag+1, ": [1 2]")
+	named(2*longestLag+1.1, ": [2]")
+	d.repliesTo("jobs", 2, "orders release 2 0 5\n. open 1\n")
+	if err := d.retire(1, d.plans.mark()); err != nil || d.shard(0).row(1).Open || !d.shard(0).row(2).Open || !d.shard(0).rare(1).byWord {
+		t.Errorf("%v, %+v, %+v", err, d.shard(0).row(1), d.shard(0).row(2))
 	}
 }

@@ -61,15 +61,17 @@ func TestPatience(t *testing.T) {
 
 // Where the TTL is short, nobody is waited for for longer than those that serve are silent.
 func TestPatienceWithAShortTTL(t *testing.T) {
-	d := ended(t, 0)
-	for _, place := range []int{1, 2} {
-		d.hearAnswer(heard(place), answered(place, Peer{}), d.join.began)
-	}
-	if d.start(d.started.Add(d.unheard())); d.unheard() > mostPatience/2 || d.asked() > 0 {
-		t.Errorf("it asks for a ceiling before %v", d.unheard())
-	}
-	if d.start(d.started.Add(d.unheard() + time.Millisecond)); d.asked() == 0 {
-		t.Errorf("it asks for none after %v", d.unheard())
+	for _, ago := range []time.Duration{0, -time.Hour} { // it was killed, or its clock was set back
+		d := ended(t, ago)
+		for _, place := range []int{1, 2} {
+			d.hearAnswer(heard(place), answered(place, Peer{}), d.join.began)
+		}
+		if d.start(d.started.Add(d.unheard())); d.unheard() > mostPatience/2 || d.asked() > 0 {
+			t.Errorf("it asks for a ceiling before %v", d.unheard())
+		}
+		if d.start(d.started.Add(d.unheard() + time.Millisecond)); d.asked() == 0 {
+			t.Errorf("it asks for none after %v", d.unheard())
+		}
 	}
 }
 
