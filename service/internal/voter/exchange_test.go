@@ -319,3 +319,18 @@ func TestWhoHasNoRequestHindersBriefly(t *testing.T) {
 		t.Errorf("%v, %+v, %+v", err, d.shard(0).row(1), d.shard(0).row(2))
 	}
 }
+
+// A session that came by another voter's word may have a request of the old plan, whatever the one before it said.
+func TestSessionThatIsLearnedMayBeBehind(t *testing.T) {
+	now := time.Unix(1000, 0)
+	table := tableAt(now)
+	table.claim(5, "jobs.first", 1, 0, now)
+	table.asks(5, 1, 1)
+	if behind := table.behindOf(1); behind != 0 {
+		t.Errorf("%b are behind", behind)
+	}
+	table.learn(5, Session{Hash: hashed("jobs.later"), Epoch: 3, Base: 10, Reserved: 20, Open: true, Used: true}, now)
+	if behind := table.behindOf(1); behind != 1<<5 {
+		t.Errorf("%b are behind, and not the session that was learned", behind)
+	}
+}

@@ -463,6 +463,7 @@ func (t *table) learnBy(call func(row, other *qlock.Row, here, there bool) error
 		t.endedByWord(number, !row.Open && (before.Open || t.rare(number).byWord))
 		t.hear(number, now)
 		if row.Open {
+			t.seat(number).asksBy = 0 // it did not say
 			t.passes(number, now)
 		}
 	}
