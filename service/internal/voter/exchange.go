@@ -21,7 +21,7 @@ var (
 	ErrSettle   = errors.New("the last retirement is not complete: call `qlockctl retire` again")
 	ErrNumber   = errors.New("the plan is not the next one of this voter's")
 	ErrLong     = errors.New("the plan is too long to be sent")
-	ErrLag      = errors.New("clients still have requests of the old plan, unless `qlockctl evict` ends them")
+	ErrLag      = errors.New("clients may have requests of the old plan: call again, or end them by `qlockctl evict`, and call a TTL later")
 	ErrKeepers  = errors.New("too few voters of both plans keep this one's ceiling yet")
 	ErrNothing  = errors.New("the words say nothing of what other voters know")
 	ErrBelow    = errors.New("the voter asks others for a higher ceiling first: call again")
