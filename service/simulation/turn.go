@@ -49,10 +49,14 @@ func (h *held) asksForTurn() {
 func (c *client) turned(v int, told wire.Told) {
 	for _, l := range c.locks {
 		h := l.held
-		if h == nil || h.name != told.Lock || h.stamp != told.Stamp || h.turning.turn != told.Top || h.turning.awaited>>v&1 == 0 {
+		if h == nil || h.name != told.Lock || h.stamp != told.Stamp {
 			continue
 		}
-		if h.turning.awaited &^= 1 << v; h.turning.awaited == 0 {
+		t := &h.turning
+		if t.turn != told.Top || t.awaited>>v&1 == 0 {
+			continue
+		}
+		if t.awaited &^= 1 << v; t.awaited == 0 {
 			h.witness.hasTurn(h, told.Top)
 		}
 	}
@@ -65,7 +69,8 @@ func (l *witness) hasTurn(h *held, turn uint64) {
 	}
 	l.log("client %d has turn %d of %s (stamp %d)", h.client.id, turn, l.name, h.stamp)
 	if l.Turns++; turn <= l.highest {
-		l.violated("turns", "client %d has turn %d of %s under stamp %d, after turn %d", h.client.id, turn, l.name, h.stamp, l.highest)
+		l.violated("turns", "client %d has turn %d of %s under stamp %d, after turn %d",
+			h.client.id, turn, l.name, h.stamp, l.highest)
 	}
 	l.highest = turn
 }

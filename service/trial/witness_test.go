@@ -112,7 +112,8 @@ func TestOrdersExcuseNoWrite(t *testing.T) {
 	}
 }
 
-// The turn of a later pass is greater than those of earlier ones. One that comes back late is no fault, nor is one that is shown twice.
+// The turn of a later pass is greater than those of earlier ones. One that comes back late is no fault, nor is one that
+// is shown twice.
 func TestTurnsThatFall(t *testing.T) {
 	w := crowd(t, "a/0", "b/0")
 	pass := func(number string) string { return strings.Repeat(number, 512) }

@@ -150,7 +150,7 @@ type taking struct {
 	wait  time.Duration
 	tries bool
 	turns bool
-	slow  func() string // says which voters are there, and give no vote yet, as the end of a message; nil if that is not known
+	slow  func() string // says which voters give no vote yet, as the end of a message; nil if that is not known
 }
 
 // slowVoters returns that, "" if it is not known.
@@ -189,7 +189,8 @@ func run(ctx context.Context, settings locks.Config, of taking, grace time.Durat
 	}
 	held, err := take(limit, of.lock)
 	if err != nil {
-		return notTaken(limit, err, client.Silent(), of, func() string { return of.slowVoters() + nowHeld(client, of.lock) })
+		now := func() string { return of.slowVoters() + nowHeld(client, of.lock) }
+		return notTaken(limit, err, client.Silent(), of, now)
 	}
 	turn := uint64(0)
 	if of.turns {

@@ -300,7 +300,8 @@ func TestGraceIsWithinTheTTL(t *testing.T) {
 	}
 }
 
-// A command that got no lock says which voters are there and give no vote yet, why, and for how long at most. Who is a user may not ask that.
+// A command that got no lock says which voters are there and give no vote yet, why, and for how long at most. Who is a
+// user may not ask that.
 func TestSlowVoters(t *testing.T) {
 	w := worlds.New(t, worlds.Majority, 20*time.Second)
 	if text := slowVoters(w.Cluster, w.Bus.Port(), config.Access{}); text != "" {

@@ -12,8 +12,8 @@ import (
 	"calvundek.example/service/transport"
 )
 
-// slowVoters returns which voters are there and give nobody new their vote yet, and why, as the end of a message. Where a cluster has users
-// those that take locks may not ask that: it is "" then.
+// slowVoters returns which voters are there and give nobody new their vote yet, and why, as the end of a message. Where
+// a cluster has users those that take locks may not ask that: it is "" then.
 func slowVoters(cluster *config.Cluster, link transport.Transport, access config.Access) (text string) {
 	if name, err := access.Speaker(); err != nil || name != wire.NoUser {
 		return ""
@@ -41,7 +41,8 @@ func slowVoters(cluster *config.Cluster, link transport.Transport, access config
 func whySlow(one voter.Status) string {
 	switch {
 	case one.Awaits != nil && one.Awaits.Seconds > 0:
-		return fmt.Sprintf("waits for %s, for %s at most: %s", one.Awaits.Voters, seconds(one.Awaits.Seconds), one.Awaits.Why)
+		left := seconds(one.Awaits.Seconds)
+		return fmt.Sprintf("waits for %s, for %s at most: %s", one.Awaits.Voters, left, one.Awaits.Why)
 	case one.Awaits != nil:
 		return fmt.Sprintf("waits for %s: %s", one.Awaits.Voters, one.Awaits.Why)
 	case one.Quiet > 0:

@@ -190,7 +190,7 @@ func (d *Daemon) begin() (err error) {
 	}
 	ceiling := d.store.own.Ceiling
 	if d.isLost() {
-		ceiling = 0 // it never served, and needs as many answers as a new one. Those that are enough know the ceiling of the one before
+		ceiling = 0 // it needs as many answers as a new one. Those that are enough know the ceiling of the one before
 	}
 	d.join = joining{start: *qlock.NewStart(ceiling, d.firstBlock()), began: d.now(), saves: d.store.saves}
 	if left := time.UnixMilli(d.store.left); d.store.left > 0 && !left.After(d.started) {

@@ -21,7 +21,7 @@ var (
 	ErrSettle   = errors.New("the last retirement is not complete: call `qlockctl retire` again")
 	ErrNumber   = errors.New("the plan is not the next one of this voter's")
 	ErrLong     = errors.New("the plan is too long to be sent")
-	ErrLag      = errors.New("clients may have requests of the old plan: call again, or end them by `qlockctl evict`, and call a TTL later")
+	ErrLag      = errors.New("clients may have requests of the old plan: call again, or a TTL after `qlockctl evict` of them")
 	ErrKeepers  = errors.New("too few voters of both plans keep this one's ceiling yet")
 	ErrNothing  = errors.New("the words say nothing of what other voters know")
 	ErrBelow    = errors.New("the voter asks others for a higher ceiling first: call again")
@@ -307,8 +307,8 @@ func (d *Daemon) takePlan(number uint64, coterie, plan string, takes bool) error
 	return err
 }
 
-// longestLag is for how many TTLs a session is waited for that says that it has a request of the old plan, and has none here. It hears of the
-// new plan with each heartbeat.
+// longestLag is for how many TTLs a session is waited for that says that it has a request of the old plan, and has none
+// here. It hears of the new plan with each heartbeat.
 const longestLag = 4
 
 // laggard is a session that `ready` or `retire` found so, and when.
@@ -317,8 +317,9 @@ type laggard struct {
 	since time.Time
 }
 
-// lagsForLong returns whether a session without a request here was found to lag so long ago already. Who is inside by the old plan has a vote
-// at some voter of each quorum of it, and that one is not ready. So to end this session lets nobody else in.
+// lagsForLong returns whether a session without a request here was found to lag so long ago already. Who is inside by
+// the old plan has a vote at some voter of each quorum of it, so no quorum of it is ready then. A voter that was made
+// again forgot votes; but none of them counts any more once its client was heard here for a TTL.
 func (d *Daemon) lagsForLong(s *shard, client int, now time.Time) bool {
 	seat, before := s.seat(client), d.laggards[s.key(client)]
 	switch {
@@ -335,10 +336,10 @@ func (d *Daemon) lagsForLong(s *shard, client int, now time.Time) bool {
 // mostNamed is how many sessions an error names before no other shard is looked at.
 const mostNamed = qlock.MaxClients
 
-// isReady returns an error unless the old plan may be retired: this voter has the plan with this
-// number and mark, and no session that was heard within the TTL may have a request of the old one.
-// Nor may one that was ended by a word: until it was silent for a TTL it may be inside, and not know.
-// It returns the open sessions that are silent, and those that lag for long: each may have one. Of many that have one it names some.
+// isReady returns an error unless the old plan may be retired: this voter has the plan with this number and mark, and
+// no session that was heard within the TTL may have a request of the old one. Nor may one that was ended by a word:
+// until it was silent for a TTL it may be inside, and not know. It returns the open sessions that are silent, and those
+// that lag for long: each may have one. Of many that have one it names some.
 func (d *Daemon) isReady(number uint64, mark string) (ends []int, err error) {
 	if number != d.plans.Number {
 		return nil, ErrNumber

@@ -228,10 +228,11 @@ func TestRetire(t *testing.T) {
 	}
 }
 
-// Once a plan is settled no vote gives a number any more that a voter of an older plan may have given, whether it was used since the start or
-// not. So turns grow.
+// Once a plan is settled no vote gives a number any more that a voter of an older plan may have given, whether it was
+// used since the start or not. So turns grow.
 func TestTurnsGrowOverARetirement(t *testing.T) {
-	text, err := json.Marshal(Knows{Sessions: map[int]Session{}, Peers: map[int]Peer{1: {Identity: identity("B"), Process: process("p"), Ceiling: 900}}})
+	text, err := json.Marshal(Knows{Sessions: map[int]Session{},
+		Peers: map[int]Peer{1: {Identity: identity("B"), Process: process("p"), Ceiling: 900}}})
 	if err != nil {
 		t.Fatal(err)
 	}
@@ -249,7 +250,8 @@ func TestTurnsGrowOverARetirement(t *testing.T) {
 		if err := d.settle(1, d.plans.mark(), string(text), now); err != nil || d.floor != 900 {
 			t.Fatal(err, d.floor)
 		}
-		if reply, want := d.turned(t, 1, fmt.Sprintf(". turn orders 5 %d %d\n", grant, grant+40)), fmt.Sprintf(". turned orders 5 %d\n", grant+40); reply != want {
+		reply := d.turned(t, 1, fmt.Sprintf(". turn orders 5 %d %d\n", grant, grant+40))
+		if want := fmt.Sprintf(". turned orders 5 %d\n", grant+40); reply != want {
 			t.Errorf("packed %v: %q", isPacked, reply)
 		}
 		d.repliesTo("jobs", 2, "orders request 2 0 9\n")
@@ -260,8 +262,8 @@ func TestTurnsGrowOverARetirement(t *testing.T) {
 	}
 }
 
-// A session that an operator or another voter ended may be inside by the old plan, and not know so. So for a TTL, and no longer, that plan is
-// not retired.
+// A session that an operator or another voter ended may be inside by the old plan, and not know so. So for a TTL, and
+// no longer, that plan is not retired.
 func TestEndedSessionMayBeInside(t *testing.T) {
 	for by, end := range map[string]func(d *Daemon, now time.Time){
 		"an operator": func(d *Daemon, now time.Time) { d.evict(1, false, "alice", now) },
@@ -288,8 +290,8 @@ func TestEndedSessionMayBeInside(t *testing.T) {
 	}
 }
 
-// A session that goes on to say that it has a request of the old plan, and has none, hinders a retirement for four TTLs and no longer. One that
-// has one here is waited for.
+// A session that goes on to say that it has a request of the old plan, and has none, hinders a retirement for four TTLs
+// and no longer. One that has one here is waited for.
 func TestWhoHasNoRequestHindersBriefly(t *testing.T) {
 	d := sessions(t, 1, 2)
 	before := d.plans.Now
@@ -315,8 +317,9 @@ func TestWhoHasNoRequestHindersBriefly(t *testing.T) {
 	named(longestLag+1, ": [1 2]")
 	named(2*longestLag+1.1, ": [2]")
 	d.repliesTo("jobs", 2, "orders release 2 0 5\n. open 1\n")
-	if err := d.retire(1, d.plans.mark()); err != nil || d.shard(0).row(1).Open || !d.shard(0).row(2).Open || !d.shard(0).rare(1).byWord {
-		t.Errorf("%v, %+v, %+v", err, d.shard(0).row(1), d.shard(0).row(2))
+	err, s := d.retire(1, d.plans.mark()), d.shard(0)
+	if err != nil || s.row(1).Open || !s.row(2).Open || !s.rare(1).byWord {
+		t.Errorf("%v, %+v, %+v", err, s.row(1), s.row(2))
 	}
 }
 

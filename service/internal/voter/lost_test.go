@@ -23,7 +23,8 @@ const threeOfFour = "voters = [\"a\", \"b\", \"c\", \"d\"]\n" +
 // star has voter a in each quorum
 const star = "voters = [\"a\", \"b\", \"c\", \"d\"]\nquorums = [[\"a\", \"b\"], [\"a\", \"c\"], [\"a\", \"d\"]]\n"
 
-// lost returns voter a of a coterie, which was made again after its state was lost, by what all others replied, and waits for them.
+// lost returns voter a of a coterie, which was made again after its state was lost, by what all others replied, and
+// waits for them.
 func lost(t *testing.T, coterie string) *Daemon {
 	t.Helper()
 	own, cluster := ofCoterie(t, coterie)
@@ -58,11 +59,13 @@ var theOneBefore = Peer{Identity: identity("before"), Process: process("before")
 func ofCoterie(t *testing.T, coterie string) (*config.Voter, *config.Cluster) {
 	t.Helper()
 	text, second := texts(t, coterie), config.Duration{Duration: time.Second}
-	cluster := &config.Cluster{ID: "test", Servers: []string{"none"}, TTL: config.Duration{Duration: 2 * time.Second}, Coterie: text.Coterie, Plan: text.Plan}
+	cluster := &config.Cluster{ID: "test", Servers: []string{"none"}, TTL: config.Duration{Duration: 2 * time.Second},
+		Coterie: text.Coterie, Plan: text.Plan}
 	if err := cluster.Check(); err != nil {
 		t.Fatal(err)
 	}
-	return &config.Voter{Voter: "a", Data: filepath.Join(t.TempDir(), "a"), MaxLocks: 10, First: second, Most: second}, cluster
+	data := filepath.Join(t.TempDir(), "a")
+	return &config.Voter{Voter: "a", Data: data, MaxLocks: 10, First: second, Most: second}, cluster
 }
 
 // opened opens the state of a voter, in a process that has the name "mine".
@@ -184,8 +187,9 @@ func TestLostVoterGoesAboveTheOneBefore(t *testing.T) {
 	}
 }
 
-// A voter that lost its state may have retired a plan. So it takes none that is older than those which a voter that answers has in use: it
-// ends, and starts with the newest file. One that only slept through an exchange did not retire that plan, and goes on.
+// A voter that lost its state may have retired a plan. So it takes none that is older than those which a voter that
+// answers has in use: it ends, and starts with the newest file. One that only slept through an exchange did not retire
+// that plan, and goes on.
 func TestLostVoterTakesNoRetiredPlan(t *testing.T) {
 	answer := func(d *Daemon, oldest uint64) error {
 		one := answered(1, theOneBefore)

@@ -232,7 +232,8 @@ func (d *Daemon) unlock(lock string, grant uint64, by string, now time.Time) Let
 
 func (d *Daemon) status(now time.Time) Status {
 	s := Status{Meta: d.store.meta, Locks: len(d.votes), Busy: len(d.busy.all), Granted: d.granted, Saves: d.store.saves,
-		Start: d.store.own.Start, Ceiling: d.ceiling, Level: d.store.own.level(), Serves: d.join.done, Awaits: d.awaitsVoters(now), Quiet: d.quietLeft(now).Seconds(), Runs: now.Sub(d.started).Seconds(),
+		Start: d.store.own.Start, Ceiling: d.ceiling, Level: d.store.own.level(), Serves: d.join.done,
+		Awaits: d.awaitsVoters(now), Quiet: d.quietLeft(now).Seconds(), Runs: now.Sub(d.started).Seconds(),
 		Planned: Planned{d.plans.Number, d.plans.oldest(), d.plans.Settled}, Sessions: []SessionView{}, Votes: []VoteView{}}
 	for _, one := range d.inTurn {
 		s.Sessions = append(s.Sessions, one.views(d.cluster.NumberOf)...)

@@ -12,8 +12,8 @@ import (
 // spoken is whom a voter heard lately, and whom not, as it says in its answer.
 type spoken struct{ heard, missed uint64 }
 
-// A voter that starts waits for eight seconds for who was heard lately, by it or by one that answered, and where nobody knows. It waits for a
-// second for who was not heard for longer.
+// A voter that starts waits for eight seconds for who was heard lately, by it or by one that answered, and where nobody
+// knows. It waits for a second for who was not heard for longer.
 func TestPatience(t *testing.T) {
 	const last = 1 << 3
 	for what, one := range map[string]struct {
@@ -75,8 +75,8 @@ func TestPatienceWithAShortTTL(t *testing.T) {
 	}
 }
 
-// ended returns voter a of four, which served before, and whose last run ended so long ago; or was killed, if that is 0. Now it waits for
-// the others.
+// ended returns voter a of four, which served before, and whose last run ended so long ago; or was killed, if that is
+// 0. Now it waits for the others.
 func ended(t *testing.T, ago time.Duration) *Daemon {
 	t.Helper()
 	d := made(t, threeOfFour)
@@ -95,7 +95,8 @@ func ended(t *testing.T, ago time.Duration) *Daemon {
 	return opened(t, d.own, d.cluster)
 }
 
-// A voter that is silent for longer than those that serve was killed later can't say so again: a start of its state forgets when it ended.
+// A voter that is silent for longer than those that serve was killed later can't say so again: a start of its state
+// forgets when it ended.
 func TestEndIsForgottenByTheNextStart(t *testing.T) {
 	d := ended(t, time.Hour)
 	if d.join.left.IsZero() || time.Since(d.join.left) < time.Hour-time.Minute {
@@ -107,7 +108,8 @@ func TestEndIsForgottenByTheNextStart(t *testing.T) {
 	}
 }
 
-// A voter tells who starts whom it heard lately, and whom not for longer than one that serves is silent. Before it knows it says nothing.
+// A voter tells who starts whom it heard lately, and whom not for longer than one that serves is silent. Before it
+// knows it says nothing.
 func TestWhoSpoke(t *testing.T) {
 	d := pair(t)
 	now := d.started

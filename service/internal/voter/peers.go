@@ -46,8 +46,8 @@ var (
 	ErrPlace = errors.New("another voter has this place: one whose state was lost needs `qlock-voter init --lost`")
 	ErrOlder = errors.New("the state is an older copy, or another process has a copy of it: " +
 		"put the newest one back, or make the voter again by `qlock-voter init --lost`")
-	ErrBefore = errors.New("the cluster's file is of before an exchange of plans, and a voter whose state was lost may have retired the old plan: " +
-		"put the newest file in its place")
+	ErrBefore = errors.New("the cluster's file is of before an exchange of plans, " +
+		"and a voter whose state was lost may have retired the old plan: put the newest file in its place")
 )
 
 const (
@@ -186,7 +186,8 @@ func (d *Daemon) meet(h wire.Header, w word) {
 			shown = d.shown(h, w, known)
 		}
 		heard, missed := d.whoSpoke(d.now())
-		reply = word{Word: "known", Process: w.Process, Start: h.Start, Known: &shown, Knows: &all, Heard: heard, Missed: missed}
+		reply = word{Word: "known", Process: w.Process, Start: h.Start, Known: &shown, Knows: &all,
+			Heard: heard, Missed: missed}
 	}
 	if err != nil {
 		reply.Why = fmt.Sprintf("start=%d run=%d identity=%.8s is known", known.Start, known.Run, known.Identity)
@@ -258,7 +259,8 @@ func (d *Daemon) knows(from int, sums []byte) Knows {
 	self := d.self()
 	self.Ceiling = d.store.own.Ceiling
 	peers[d.store.meta.Voter] = self
-	known := Knows{Peers: peers, Sessions: map[int]Session{}, Floors: map[int]Floor{}, Level: d.store.own.level(), Oldest: d.plans.oldest(), From: from}
+	known := Knows{Peers: peers, Sessions: map[int]Session{}, Floors: map[int]Floor{}, Level: d.store.own.level(),
+		Oldest: d.plans.oldest(), From: from}
 	if from < 0 {
 		from = 0
 	}

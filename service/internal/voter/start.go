@@ -40,8 +40,8 @@ type own struct {
 	Raised  uint64 `json:"raised,omitempty"`  // the start in which the level was raised last, from raisedFormat on
 	Refused string `json:"refused,omitempty"` // why another voter refused it, and it never starts again
 	IsPlace bool   `json:"place,omitempty"`   // since another voter has its place
-	Left    int64  `json:"left,omitempty"`    // when its last run ended by itself, in milliseconds since 1970; 0 since the next one began
-	Lost    bool   `json:"lost,omitempty"`    // it was made again after the one before was lost, whose ceiling it has, and did not serve since
+	Left    int64  `json:"left,omitempty"`    // when its last run ended by itself, in milliseconds since 1970; 0 while one runs
+	Lost    bool   `json:"lost,omitempty"`    // it was made again, with the ceiling of the one that was lost, and never served
 }
 
 // refusal returns the error of a state that was refused, nil if it was not.
@@ -176,8 +176,8 @@ func (d *Daemon) isKept(now time.Time) {
 // raised is above which number, and up to which one, the votes go on that a voter had as it was noted.
 type raised struct{ floor, ceiling uint64 }
 
-// raiseAll lets all votes go on above the floor: they keep their grants. One that is packed goes on as it is unpacked, as there may be many.
-// None is saved before its next step.
+// raiseAll lets all votes go on above the floor: they keep their grants. One that is packed goes on as it is unpacked,
+// as there may be many. None is saved before its next step.
 func (d *Daemon) raiseAll() {
 	d.raised = raised{d.floor, d.ceiling}
 	for _, v := range d.votes {

@@ -10,13 +10,14 @@ import (
 // greatest of its grants, which is the turn. So what a voter of both gives later has a greater number, and a later turn is greater: the law
 // turns_grow of the crate passes. It is of moments at which a voter has saved that it skipped, and that the grant has its vote.
 
-// How far turns may take a voter. A turn is a number of a grant, so no voter's ceiling is below it: what is above all ceilings that this voter
-// keeps, its own and the others', is no turn. It may know of a ceiling late, as its keepers are a quorum without this voter. Then the client
-// asks again, and that ceiling comes: whose it is tells all others each second until they reply (Daemon.start).
+// How far turns may take a voter. A turn is a number of a grant, so no voter's ceiling is below it: what is above all
+// ceilings that this voter keeps, its own and the others', is no turn. It may know of a ceiling late, as its keepers
+// are a quorum without this voter. Then the client asks again, and that ceiling comes: whose it is tells all others
+// each second until they reply (Daemon.start).
 //
-// Voters number their grants each by itself, and one that started more often is ahead of others. So to follow them costs nothing but for the
-// last block below the highest ceiling. Numbers of that cost tokens: else who asks for the ceiling as a turn, at one voter after the other,
-// would raise it by a block each time. 2^63 numbers last for ever.
+// Voters number their grants each by itself, and one that started more often is ahead of others. So to follow them
+// costs nothing but for the last block below the highest ceiling. Numbers of that cost tokens: else who asks for the
+// ceiling as a turn, at one voter after the other, would raise it by a block each time. 2^63 numbers last for ever.
 const (
 	lastBlock = 1 << 24 // the most by which a ceiling is raised
 	skipRate  = 1 << 18 // a second
@@ -105,8 +106,9 @@ func (d *Daemon) highestCeiling() uint64 {
 	return highest
 }
 
-// mayReach returns whether numbers may be skipped up to this one, where this is the highest ceiling: those that some lock here has used, those
-// below the last block, and as many more as there were tokens for. What is too far away comes nearer each time.
+// mayReach returns whether numbers may be skipped up to this one, where this is the highest ceiling: those that some
+// lock here has used, those below the last block, and as many more as there were tokens for. What is too far away comes
+// nearer each time.
 func (d *Daemon) mayReach(number, highest uint64, now time.Time) bool {
 	d.reach = greatest(d.reach, greatest(d.floor, d.m.most))
 	d.reach = greatest(d.reach, highest-smallest(highest, lastBlock))

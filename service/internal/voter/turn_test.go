@@ -102,7 +102,8 @@ func TestTurnsAreOfTheHolder(t *testing.T) {
 	}
 }
 
-// For a turn beyond its ceiling, of a voter that is ahead, a voter asks the others for a higher one first, and tells the turn once they keep it.
+// For a turn beyond its ceiling, of a voter that is ahead, a voter asks the others for a higher one first, and tells
+// the turn once they keep it.
 func TestTurnsRaiseTheCeiling(t *testing.T) {
 	d := sessions(t, 1)
 	d.repliesTo("jobs", 1, "orders request 1 0 5\n")
@@ -114,8 +115,8 @@ func TestTurnsRaiseTheCeiling(t *testing.T) {
 	}
 }
 
-// What is above all ceilings is no turn: no number is skipped for it, and it is counted. A ceiling of which this voter hears later lets the
-// client have its turn as it asks again.
+// What is above all ceilings is no turn: no number is skipped for it, and it is counted. A ceiling of which this voter
+// hears later lets the client have its turn as it asks again.
 func TestTurnsAreBelowSomeCeiling(t *testing.T) {
 	d := sessions(t, 1)
 	d.repliesTo("jobs", 1, "orders request 1 0 5\n")
@@ -123,7 +124,8 @@ func TestTurnsAreBelowSomeCeiling(t *testing.T) {
 	grant, before, refused := d.votes["orders"].held().Number, d.ceiling, testutil.ToFloat64(d.m.refused)
 	ask := func(top uint64) string { return fmt.Sprintf(". turn orders 5 %d %d\n", grant, top) }
 	for i, top := range []uint64{3*firstCeiling + 1, 1 << 42, 1 << 62, 1<<63 + 1} {
-		if reply := d.repliesTo("jobs", 1, ask(top)+". open 0\n"); !strings.Contains(reply, ". opened") || len(d.skips) > 0 || d.asked() > before || d.m.most > grant {
+		reply := d.repliesTo("jobs", 1, ask(top)+". open 0\n")
+		if !strings.Contains(reply, ". opened") || len(d.skips) > 0 || d.asked() > before || d.m.most > grant {
 			t.Errorf("%d: %q, %d turns, asked for %d, %d are skipped", top, reply, len(d.skips), d.asked(), d.m.most)
 		}
 		if counted := testutil.ToFloat64(d.m.refused) - refused; counted != float64(i+1) {
@@ -176,7 +178,8 @@ func TestVotersDoNotLeapfrog(t *testing.T) {
 	}
 }
 
-// What is further than there are tokens for comes nearer each time, and is reached in the end. To the last block of another voter it is no way.
+// What is further than there are tokens for comes nearer each time, and is reached in the end. To the last block of
+// another voter it is no way.
 func TestTurnsComeNearer(t *testing.T) {
 	d := sessions(t, 1)
 	d.skippable = *qlock.NewBucket(100, 1000, 0)

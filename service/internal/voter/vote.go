@@ -87,8 +87,8 @@ func (v *vote) isWanted() bool { return len(v.extra().others) > 0 || v.stamp > 0
 // isAwaited returns whether somebody waits for the vote who said since the start that he is inside.
 func (v *vote) isAwaited() bool { return v.extra().isAwaited }
 
-// highestOf returns up to which number a vote gave grants, or skipped. All votes go on above the floor that was noted last (raiseAll), and later
-// ones begin there.
+// highestOf returns up to which number a vote gave grants, or skipped. All votes go on above the floor that was noted
+// last (raiseAll), and later ones begin there.
 func (d *Daemon) highestOf(v *vote) uint64 {
 	return greatest(d.raised.floor, greatest(v.number, v.extra().skipped))
 }
