@@ -950,6 +950,9 @@ func (c *client) control(v int, line []byte) {
 	if says, err := qlock.ReadLockSays(line); err == nil && says.Kind == qlock.LockGone {
 		c.gone(string(says.Lock), says.Stamp)
 	}
+	if told, ok := wire.ReadTold(line); ok && told.Kind == wire.Turned {
+		c.turned(v, told)
+	}
 }
 
 // hear takes a control line of a voter that has numbers only.

@@ -40,6 +40,7 @@ type held struct {
 	isLost  bool          // Lost is closed
 	lostAt  time.Duration // when its lease ended, by the client's clock
 	wasLast bool          // a guard admitted it
+	turning turning
 }
 
 // works returns whether the program works: it is inside, and its lease by its own clock, with the time to stop, has not ended.
@@ -115,6 +116,9 @@ func (h *held) begins() {
 		stays = c.upTo(20 * time.Millisecond)
 	}
 	h.witness.shows(h)
+	if c.random.Intn(4) == 0 {
+		h.wantsTurn()
+	}
 	if c.random.Intn(2) == 0 {
 		c.atShown(c.shows()+c.upTo(stays), func() { h.write() })
 	}

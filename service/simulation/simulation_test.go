@@ -31,7 +31,7 @@ func TestRuns(t *testing.T) {
 			t.Fatalf("older copies, seed %d: %v", seed, r.Fault)
 		}
 	}
-	if total.Passes < 500 || total.Lost == 0 || total.Refused == 0 {
+	if total.Passes < 500 || total.Lost == 0 || total.Refused == 0 || total.Turns < 100 {
 		t.Errorf("%+v", total)
 	}
 	t.Logf("%d passes, %d events, %.0f s", total.Passes, total.Steps, total.Virtual.Seconds())

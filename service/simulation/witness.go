@@ -61,6 +61,8 @@ type witness struct {
 	guard  *qlock.Fence
 	last   *held // whose pass was admitted last
 	turn   uint64
+
+	highest uint64 // of the turns that voters said
 }
 
 func newWitness(w *world, name string) (*witness, error) {

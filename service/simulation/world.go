@@ -47,6 +47,7 @@ type Figures struct {
 	Virtual   time.Duration
 	Shows     uint64 // passes that a guard admitted
 	Refused   uint64 // passes that a guard refused
+	Turns     uint64 // that voters said to those who worked
 	Lost      uint64 // locks that may have been lost while they were held
 	Longest   time.Duration
 	Incidents map[string]uint64
@@ -55,7 +56,7 @@ type Figures struct {
 // Add adds the figures of another run.
 func (f *Figures) Add(g Figures) {
 	f.Passes, f.Steps, f.Messages, f.Virtual = f.Passes+g.Passes, f.Steps+g.Steps, f.Messages+g.Messages, f.Virtual+g.Virtual
-	f.Shows, f.Refused, f.Lost = f.Shows+g.Shows, f.Refused+g.Refused, f.Lost+g.Lost
+	f.Shows, f.Refused, f.Turns, f.Lost = f.Shows+g.Shows, f.Refused+g.Refused, f.Turns+g.Turns, f.Lost+g.Lost
 	if g.Longest > f.Longest {
 		f.Longest = g.Longest
 	}

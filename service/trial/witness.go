@@ -18,6 +18,8 @@ type place struct {
 	fence   *qlock.Fence
 	count   int
 	last    string          // the pass that was admitted last
+	turn    uint64          // the greatest one that was shown with a pass that was admitted
+	turned  string          // that pass
 	over    map[string]bool // passes after which another one was admitted
 	inside  map[string]bool // workers
 	stays   map[string]bool // those of them that stay for long
@@ -39,6 +41,8 @@ type findings struct {
 	TwoInside                 int // two inside, and none of them was let go
 	Torn                      int // writes of a pass after one of a later pass
 	LostUpdates               int // writes that were admitted and did not follow the last one
+	Turns                     int // that were shown, of different passes
+	FallenTurns               int // of those that are not greater than the one of a pass before
 	LongWaits                 int // waits longer than 3 TTL after the last incident, with a quorum there
 	Met, Refused, Lost, Stays int
 	LongestWait               time.Duration
@@ -46,7 +50,9 @@ type findings struct {
 }
 
 // faults returns how many faults were found.
-func (f findings) faults() int { return f.TwoInside + f.Torn + f.LostUpdates + f.LongWaits }
+func (f findings) faults() int {
+	return f.TwoInside + f.Torn + f.LostUpdates + f.FallenTurns + f.LongWaits
+}
 
 // losses returns how often something showed that a lock was lost while it was held.
 func (f findings) losses() int { return f.Lost + f.Met + f.Refused }
@@ -147,6 +153,8 @@ func (w *witness) judge(name string, words []string) string {
 		w.enter(name, w.place(words[1]))
 	case "read":
 		return w.read(w.place(words[1]), words[2])
+	case "turn":
+		return w.turn(words[1], words[2], words[3])
 	case "write":
 		return w.write(w.place(words[1]), words[2], words[3])
 	case "lost":
@@ -250,6 +258,31 @@ func (w *witness) write(p *place, pass, count string) string {
 	p.count++
 	w.found.Writes++
 	return "ok"
+}
+
+// turn shows a pass with its turn. A pass that the guard admits is newer than those before, so its turn is greater.
+func (w *witness) turn(name, pass, text string) string {
+	p := w.place(name)
+	if !w.admit(p, pass) {
+		return "late"
+	}
+	turn, _ := strconv.ParseUint(text, 10, 64)
+	if pass == p.turned && turn == p.turn {
+		return "ok"
+	}
+	if w.found.Turns++; turn <= p.turn {
+		w.found.FallenTurns++
+		w.complain("%s: turn %d after turn %d", name, turn, p.turn)
+	}
+	p.turn, p.turned = greatest(p.turn, turn), pass
+	return "ok"
+}
+
+func greatest(a, b uint64) uint64 {
+	if a > b {
+		return a
+	}
+	return b
 }
 
 // admit shows a pass to the guard. It remembers by itself which passes are over.

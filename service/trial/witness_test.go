@@ -111,3 +111,21 @@ func TestOrdersExcuseNoWrite(t *testing.T) {
 		t.Errorf("%d writes out of order", w.found.Torn)
 	}
 }
+
+// The turn of a later pass is greater than those of earlier ones. One that comes back late is no fault, nor is one that
+// is shown twice.
+func TestTurnsThatFall(t *testing.T) {
+	w := crowd(t, "a/0", "b/0")
+	pass := func(number string) string { return strings.Repeat(number, 512) }
+	for i, one := range []struct {
+		number, turn string
+		fallen       int
+	}{{"01", "7", 0}, {"01", "7", 0}, {"02", "9", 0}, {"01", "7", 0}, {"03", "9", 1}, {"04", "8", 2}, {"05", "10", 2}} {
+		if say(w, "a/0 turn x "+pass(one.number)+" "+one.turn); w.found.FallenTurns != one.fallen {
+			t.Errorf("after turn %d, %s, %d fell", i, one.turn, w.found.FallenTurns)
+		}
+	}
+	if w.found.Turns != 5 || w.found.faults() != 2 {
+		t.Errorf("%d turns, %d faults", w.found.Turns, w.found.faults())
+	}
+}

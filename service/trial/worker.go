@@ -214,6 +214,9 @@ func pass(m *mouth, client *locks.Client, place string, stay time.Duration) erro
 			break
 		}
 	}
+	if rand.Intn(4) == 0 {
+		showTurn(m, held, place, token)
+	}
 	close(left)
 	isTold := <-told
 	m.say("leave %s", place)
@@ -225,6 +228,15 @@ func pass(m *mouth, client *locks.Client, place string, stay time.Duration) erro
 		m.say("lapsed")
 	}
 	return nil
+}
+
+// showTurn shows the turn of a pass, if there is one within a second.
+func showTurn(m *mouth, held *locks.Held, place, token string) {
+	ctx, cancel := context.WithTimeout(context.Background(), time.Second)
+	defer cancel()
+	if turn, err := held.Turn(ctx); err == nil {
+		m.say("turn %s %s %d", place, token, turn)
+	}
 }
 
 // addOne adds one to the count of a place, and returns whether the guard let it.

@@ -43,7 +43,7 @@ const exitHopeless = 78
 
 // hopeless are the errors that no restart mends.
 var hopeless = []error{config.ErrConfig, voter.ErrMissing, voter.ErrOther, voter.ErrOlder, voter.ErrPlace, voter.ErrLevel,
-	voter.ErrDamaged, voter.ErrFormat, voter.ErrNewer}
+	voter.ErrBefore, voter.ErrDamaged, voter.ErrFormat, voter.ErrNewer}
 
 // exitStatus returns the exit status of a command that failed.
 func exitStatus(err error) int {

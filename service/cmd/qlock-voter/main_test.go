@@ -88,6 +88,7 @@ func TestExitStatus(t *testing.T) {
 		!strings.Contains(err.Error(), voter.ErrDamaged.Error()) {
 		t.Errorf("a start with a damaged state: %v", err)
 	}
+	want("a file of before an exchange", exitHopeless, voter.ErrBefore, voter.ErrBefore)
 	want("another error", 1, voter.ErrSave, voter.ErrSave)
 }
 

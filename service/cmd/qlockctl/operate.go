@@ -204,6 +204,12 @@ func shown(r operator.Reply) (string, error) {
 	if !one.Serves {
 		text += " serves=false"
 	}
+	if awaits := one.Awaits; awaits != nil {
+		text += fmt.Sprintf(" awaits=%s why=%q", awaits.Voters, awaits.Why)
+		if awaits.Seconds > 0 {
+			text += fmt.Sprintf(" for=%s", seconds(awaits.Seconds))
+		}
+	}
 	if one.Quiet > 0 {
 		text += fmt.Sprintf(" quiet=%s", seconds(one.Quiet))
 	}

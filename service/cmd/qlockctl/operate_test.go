@@ -100,7 +100,9 @@ func TestEvicted(t *testing.T) {
 func TestShown(t *testing.T) {
 	line := "locks=1 busy=0 sessions=0 granted=2 runs=3s start=4 run=0 identity=01234567 plan=0"
 	for more, want := range map[string]string{`"serves":true`: "", `"serves":false`: " serves=false",
-		`"serves":true,"quiet_seconds":8.7`: " quiet=9s"} {
+		`"serves":false,"awaits":{"voters":"m0,m1","why":"too few"}`:             ` serves=false awaits=m0,m1 why="too few"`,
+		`"serves":false,"awaits":{"voters":"m0","why":"may come","seconds":6.4}`: ` serves=false awaits=m0 why="may come" for=6s`,
+		`"serves":true,"quiet_seconds":8.7`:                                      " quiet=9s"} {
 		got, err := shown(operator.Reply{Body: []byte(`{"locks":1,"granted":2,"runs_seconds":3.2,"start":4,` +
 			`"identity":"0123456789",` + more + `}`)})
 		if got != line+want || err != nil {

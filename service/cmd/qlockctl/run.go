@@ -80,6 +80,7 @@ func runCommand(ctx context.Context, s *settings) *cobra.Command {
 			if settings.Note, settings.NoNote = note, noNote; note == "" {
 				settings.Note = filepath.Base(args[1])
 			}
+			of.slow = func() string { return slowVoters(cluster, link, s.access) }
 			return run(ctx, settings, of, grace, args[1:])
 		}}
 	command.Flags().DurationVar(&of.wait, "wait", time.Minute, "how long to wait for the lock")
@@ -149,6 +150,15 @@ type taking struct {
 	wait  time.Duration
 	tries bool
 	turns bool
+	slow  func() string // says which voters give no vote yet, as the end of a message; nil if that is not known
+}
+
+// slowVoters returns that, "" if it is not known.
+func (of taking) slowVoters() string {
+	if of.slow == nil {
+		return ""
+	}
+	return of.slow()
 }
 
 // run runs a program under a lock.
@@ -160,6 +170,9 @@ func run(ctx context.Context, settings locks.Config, of taking, grace time.Durat
 		client, err = locks.Open(ctx, settings)
 		return err
 	})
+	if errors.Is(err, locks.ErrNoQuorum) {
+		err = fmt.Errorf("%w%s", err, of.slowVoters())
+	}
 	if err != nil {
 		return withoutLock(limit, err)
 	}
@@ -176,7 +189,8 @@ func run(ctx context.Context, settings locks.Config, of taking, grace time.Durat
 	}
 	held, err := take(limit, of.lock)
 	if err != nil {
-		return notTaken(limit, err, client.Silent(), of, func() string { return nowHeld(client, of.lock) })
+		now := func() string { return of.slowVoters() + nowHeld(client, of.lock) }
+		return notTaken(limit, err, client.Silent(), of, now)
 	}
 	turn := uint64(0)
 	if of.turns {

@@ -14,6 +14,8 @@ import (
 	"time"
 
 	"calvundek.example/service/agent"
+	"calvundek.example/service/internal/config"
+	"calvundek.example/service/internal/voter"
 	"calvundek.example/service/internal/worlds"
 	"calvundek.example/service/locks"
 )
@@ -313,5 +315,32 @@ func TestLossAtTheEndIsNoSuccess(t *testing.T) {
 	var got status
 	if !errors.As(err, &got) || got.code != exitLost {
 		t.Errorf("%v", err)
+// A command that got no lock says which voters are there and give no vote yet, why, and for how long at most. Who is a
+// user may not ask that.
+func TestSlowVoters(t *testing.T) {
+	w := worlds.New(t, worlds.Majority, 20*time.Second)
+	if text := slowVoters(w.Cluster, w.Bus.Port(), config.Access{}); text != "" {
+		t.Errorf("all serve: %q", text)
+	}
+	for i := range w.Owns {
+		w.Stop(i)
+	}
+	w.Start(0)
+	if text := slowVoters(w.Cluster, w.Bus.Port(), config.Access{}); text != "; a waits for b,c: those that answered and it contain no quorum" {
+		t.Errorf("one starts: %q", text)
+	}
+	w.Start(1)
+	text := ""
+	for begun := time.Now(); !strings.Contains(text, "at most") && time.Since(begun) < 5*time.Second; {
+		text = slowVoters(w.Cluster, w.Bus.Port(), config.Access{})
+	}
+	if !strings.Contains(text, "; b waits for c, for ") || !strings.Contains(text, "s at most: it was heard lately") {
+		t.Errorf("two start: %q", text)
+	}
+	if text := slowVoters(w.Cluster, w.Bus.Port(), config.Access{User: "jobs"}); text != "" {
+		t.Errorf("a user: %q", text)
+	}
+	if why := whySlow(voter.Status{Serves: true, Quiet: 6.8}); why != "is quiet for 7s" {
+		t.Errorf("a quiet one: %q", why)
 	}
 }

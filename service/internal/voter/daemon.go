@@ -68,6 +68,7 @@ type Daemon struct {
 	newPlans      bool // they changed since the last save
 	mark, oldMark string
 	marks         map[string]string // by which plan a session speaks, while there are two
+	laggards      map[int]laggard   // the sessions, by their keys, without a request here that hinder a retirement
 
 	dirty    map[*vote]struct{} // changed since the last save, and something leaves that depends on it
 	silent   map[*vote]struct{} // changed since the last save, and nothing does
@@ -88,6 +89,7 @@ type Daemon struct {
 	peers           [places]Peer
 	loaded          [places]Peer        // as they were at the start
 	told            [places]toldOf      // what was said to others that started
+	spoke           [places]time.Time   // when each of the others was heard last in this run
 	resting         []resting           // the votes that nobody has, the oldest first
 	gone            map[string]struct{} // locks that are forgotten, whose rows are still there
 	restsFor        time.Duration
@@ -102,7 +104,7 @@ type Daemon struct {
 	reach           uint64       // up to which number they may be now
 	voters          <-chan transport.Message
 	floor, ceiling  uint64            // its grants are above the floor, and up to the ceiling
-	raised          raised            // the same of votes of before the start
+	raised          raised            // the same of votes that were there as it was noted last
 	nothing         qlock.SinceStart  // of votes of which nothing was said since the start
 	markers         [keyBytes]byte    // the key of this run's markers
 	done            map[string][]byte // replies to what operators let go, by their questions
@@ -186,7 +188,14 @@ func (d *Daemon) begin() (err error) {
 	if _, err := io.ReadFull(d.around.Random, d.markers[:]); err != nil {
 		return err
 	}
-	d.join = joining{start: *qlock.NewStart(d.store.own.Ceiling, d.firstBlock()), began: d.now(), saves: d.store.saves}
+	ceiling := d.store.own.Ceiling
+	if d.isLost() {
+		ceiling = 0 // it needs as many answers as a new one. Those that are enough know the ceiling of the one before
+	}
+	d.join = joining{start: *qlock.NewStart(ceiling, d.firstBlock()), began: d.now(), saves: d.store.saves}
+	if left := time.UnixMilli(d.store.left); d.store.left > 0 && !left.After(d.started) {
+		d.join.left = left
+	}
 	d.join.process, err = d.newProcess()
 	return err
 }

@@ -21,7 +21,7 @@ var (
 	ErrSettle   = errors.New("the last retirement is not complete: call `qlockctl retire` again")
 	ErrNumber   = errors.New("the plan is not the next one of this voter's")
 	ErrLong     = errors.New("the plan is too long to be sent")
-	ErrLag      = errors.New("clients still have requests of the old plan")
+	ErrLag      = errors.New("clients may have requests of the old plan: call again, or a TTL after `qlockctl evict` of them")
 	ErrKeepers  = errors.New("too few voters of both plans keep this one's ceiling yet")
 	ErrNothing  = errors.New("the words say nothing of what other voters know")
 	ErrBelow    = errors.New("the voter asks others for a higher ceiling first: call again")
@@ -211,6 +211,7 @@ func (d *Daemon) markPlans() (err error) {
 		return err
 	}
 	d.mark, d.oldMark, d.marks = d.cluster.Mark(d.plans.mark()), d.cluster.Mark(d.plans.oldMark()), map[string]string{}
+	d.laggards = map[int]laggard{}
 	return nil
 }
 
@@ -306,13 +307,40 @@ func (d *Daemon) takePlan(number uint64, coterie, plan string, takes bool) error
 	return err
 }
 
+// longestLag is for how many TTLs a session is waited for that says that it has a request of the old plan, and has none
+// here. It hears of the new plan with each heartbeat.
+const longestLag = 4
+
+// laggard is a session that `ready` or `retire` found so, and when.
+type laggard struct {
+	epoch uint64
+	since time.Time
+}
+
+// lagsForLong returns whether a session without a request here was found to lag so long ago already. Who is inside by
+// the old plan has a vote at some voter of each quorum of it, so no quorum of it is ready then. A voter that was made
+// again forgot votes; but none of them counts any more once its client was heard here for a TTL.
+func (d *Daemon) lagsForLong(s *shard, client int, now time.Time) bool {
+	seat, before := s.seat(client), d.laggards[s.key(client)]
+	switch {
+	case seat.requests > 0 || !seat.marks.has(isOpen):
+		delete(d.laggards, s.key(client))
+		return false
+	case before.epoch != seat.epoch:
+		d.laggards[s.key(client)] = laggard{seat.epoch, now}
+		return false
+	}
+	return now.Sub(before.since) > longestLag*d.leases.ttl
+}
+
 // mostNamed is how many sessions an error names before no other shard is looked at.
 const mostNamed = qlock.MaxClients
 
-// isReady returns an error unless the old plan may be retired: this voter has the plan with this
-// number and mark, and no session that was heard within the TTL may have a request of the old one.
-// It returns the sessions that are silent: each may have one. Of many that have one it names some.
-func (d *Daemon) isReady(number uint64, mark string) (silent []int, err error) {
+// isReady returns an error unless the old plan may be retired: this voter has the plan with this number and mark, and
+// no session that was heard within the TTL may have a request of the old one. Nor may one that was ended by a word:
+// until it was silent for a TTL it may be inside, and not know. It returns the open sessions that are silent, and those
+// that lag for long: each may have one. Of many that have one it names some.
+func (d *Daemon) isReady(number uint64, mark string) (ends []int, err error) {
 	if number != d.plans.Number {
 		return nil, ErrNumber
 	}
@@ -328,34 +356,34 @@ func (d *Daemon) isReady(number uint64, mark string) (silent []int, err error) {
 		for client, behind := 0, s.behindOf(number); behind != 0; client, behind = client+1, behind>>1 {
 			switch {
 			case behind&1 == 0:
-			case s.isDead(client):
-				silent = append(silent, s.key(client))
-			default:
+			case !s.isDead(client) && !d.lagsForLong(s, client, d.now()):
 				lag = append(lag, d.cluster.NumberOf(s.key(client)))
+			case s.bare(client).Open:
+				ends = append(ends, s.key(client))
 			}
 		}
 	}
 	if len(lag) > 0 {
 		return nil, fmt.Errorf("%w: %v", ErrLag, lag)
 	}
-	return silent, nil
+	return ends, nil
 }
 
-// retire refuses the old plan from now on. Sessions that are silent are ended.
+// retire refuses the old plan from now on. Sessions that are silent, or lag for long, are ended.
 func (d *Daemon) retire(number uint64, mark string) error {
-	silent, err := d.isReady(number, mark)
+	ends, err := d.isReady(number, mark)
 	if err != nil || d.plans.Old == nil {
 		return err
 	}
-	for _, key := range silent {
+	for _, key := range ends {
 		s, client := d.shardOfKey(key)
-		s.expel(client, true) // it was silent for a TTL
+		s.expel(client, s.isDead(client)) // one that lags has no vote here
 		d.recount(s, client)
 	}
 	if err := d.setPlans(d.plans.retire()); err != nil {
 		return err
 	}
-	d.log.Write(event.Info, "retire", "generation", number, "ended", len(silent))
+	d.log.Write(event.Info, "retire", "generation", number, "ended", len(ends))
 	return nil
 }
 

@@ -6,6 +6,7 @@ import (
 	"errors"
 	"fmt"
 	"io"
+	"strings"
 	"testing"
 	"time"
 
@@ -224,5 +225,115 @@ func TestRetire(t *testing.T) {
 		if obey(words...) == nil {
 			t.Error(words)
 		}
+	}
+}
+
+// Once a plan is settled no vote gives a number any more that a voter of an older plan may have given, whether it was
+// used since the start or not. So turns grow.
+func TestTurnsGrowOverARetirement(t *testing.T) {
+	text, err := json.Marshal(Knows{Sessions: map[int]Session{},
+		Peers: map[int]Peer{1: {Identity: identity("B"), Process: process("p"), Ceiling: 900}}})
+	if err != nil {
+		t.Fatal(err)
+	}
+	for _, isPacked := range []bool{false, true} {
+		d := sessions(t, 1, 2)
+		d.repliesTo("jobs", 1, "orders request 1 0 5\n")
+		now, grant := time.Now(), d.votes["orders"].held().Number
+		if err := d.save(now); err != nil {
+			t.Fatal(err)
+		}
+		if isPacked {
+			now = d.packsAll(now)
+		}
+		d.plans.Number, d.plans.Settled = 1, false
+		if err := d.settle(1, d.plans.mark(), string(text), now); err != nil || d.floor != 900 {
+			t.Fatal(err, d.floor)
+		}
+		reply := d.turned(t, 1, fmt.Sprintf(". turn orders 5 %d %d\n", grant, grant+40))
+		if want := fmt.Sprintf(". turned orders 5 %d\n", grant+40); reply != want {
+			t.Errorf("packed %v: %q", isPacked, reply)
+		}
+		d.repliesTo("jobs", 2, "orders request 2 0 9\n")
+		d.repliesTo("jobs", 1, "orders release 1 0 5\n")
+		if next := d.votes["orders"].held(); next.Client != 2 || next.Number != 901 {
+			t.Errorf("packed %v: %+v after the turn %d, and the floor 900", isPacked, next, grant+40)
+		}
+	}
+}
+
+// A session that an operator or another voter ended may be inside by the old plan, and not know so. So for a TTL, and
+// no longer, that plan is not retired.
+func TestEndedSessionMayBeInside(t *testing.T) {
+	for by, end := range map[string]func(d *Daemon, now time.Time){
+		"an operator": func(d *Daemon, now time.Time) { d.evict(1, false, "alice", now) },
+		"another voter": func(d *Daemon, now time.Time) {
+			d.shard(0).learn(1, Session{Epoch: 2, Base: 1000, Reserved: 1000, Used: true}, now)
+		},
+	} {
+		d := sessions(t, 1, 2)
+		d.repliesTo("jobs", 1, "orders request 1 0 5\n")
+		before, now := d.plans.Now, time.Now()
+		d.plans.Number, d.plans.Old = 1, &before
+		for _, number := range []int{0, 2} {
+			d.shard(0).asks(number, 1, 1)
+		}
+		end(d, now)
+		if _, err := d.isReady(1, d.plans.mark()); !errors.Is(err, ErrLag) || err.Error() != ErrLag.Error()+": [1]" {
+			t.Errorf("%s ended it: %v", by, err)
+		}
+		epoch := d.shard(0).row(1).Epoch
+		passes(&d.shard(0).table, now.Add(d.leases.ttl+periodOf(d.leases.ttl)))
+		if err := d.retire(1, d.plans.mark()); err != nil || d.plans.Old != nil || d.shard(0).row(1).Epoch != epoch {
+			t.Errorf("%s ended it, a TTL before: %v, and it is ended again", by, err)
+		}
+	}
+}
+
+// A session that goes on to say that it has a request of the old plan, and has none, hinders a retirement for four TTLs
+// and no longer. One that has one here is waited for.
+func TestWhoHasNoRequestHindersBriefly(t *testing.T) {
+	d := sessions(t, 1, 2)
+	before := d.plans.Now
+	d.plans.Number, d.plans.Old = 1, &before
+	d.shard(0).asks(0, 1, 1)
+	d.repliesTo("jobs", 2, "orders request 2 0 5\n")
+	begun := time.Now()
+	d.laggards[1] = laggard{7, begun.Add(-time.Hour)} // a session that had the number before
+	named := func(ttls float64, want string) {
+		t.Helper()
+		now := begun.Add(time.Duration(ttls * float64(d.leases.ttl)))
+		d.around.Now = func() time.Time { return now }
+		_, err := d.isReady(1, d.plans.mark())
+		if got := strings.TrimPrefix(fmt.Sprint(err), ErrLag.Error()); got != want {
+			t.Errorf("after %v TTL: %v", ttls, err)
+		}
+	}
+	named(0, ": [1 2]")
+	named(longestLag, ": [1 2]")
+	d.repliesTo("jobs", 1, "stock request 1 0 5\n")
+	named(longestLag+0.1, ": [1 2]") // it asks
+	d.repliesTo("jobs", 1, "stock release 1 0 5\n")
+	named(longestLag+1, ": [1 2]")
+	named(2*longestLag+1.1, ": [2]")
+	d.repliesTo("jobs", 2, "orders release 2 0 5\n. open 1\n")
+	err, s := d.retire(1, d.plans.mark()), d.shard(0)
+	if err != nil || s.row(1).Open || !s.row(2).Open || !s.rare(1).byWord {
+		t.Errorf("%v, %+v, %+v", err, s.row(1), s.row(2))
+	}
+}
+
+// A session that came by another voter's word may have a request of the old plan, whatever the one before it said.
+func TestSessionThatIsLearnedMayBeBehind(t *testing.T) {
+	now := time.Unix(1000, 0)
+	table := tableAt(now)
+	table.claim(5, "jobs.first", 1, 0, now)
+	table.asks(5, 1, 1)
+	if behind := table.behindOf(1); behind != 0 {
+		t.Errorf("%b are behind", behind)
+	}
+	table.learn(5, Session{Hash: hashed("jobs.later"), Epoch: 3, Base: 10, Reserved: 20, Open: true, Used: true}, now)
+	if behind := table.behindOf(1); behind != 1<<5 {
+		t.Errorf("%b are behind, and not the session that was learned", behind)
 	}
 }

@@ -140,6 +140,7 @@ func (d *Daemon) Take(from From, m transport.Message) {
 // ask others at once.
 func (d *Daemon) End() error {
 	d.savedAll = time.Time{}
+	d.store.own.Left, d.newOwn = d.now().UnixMilli(), true
 	for _, s := range d.inTurn {
 		s.seats.each(func(number int, seat *seat) {
 			if seat.marks.has(isOpen) && s.isHeard(number) {

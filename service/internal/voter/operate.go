@@ -34,6 +34,7 @@ type Status struct {
 	Ceiling uint64  `json:"ceiling"`                 // no grant has a greater number
 	Level   uint64  `json:"level"`                   // the cluster's
 	Serves  bool    `json:"serves"`                  // the others answered its start
+	Awaits  *Awaits `json:"awaits,omitempty"`        // if it does not serve
 	Quiet   float64 `json:"quiet_seconds,omitempty"` // for which only those inside get a vote
 	Runs    float64 `json:"runs_seconds"`
 	Planned
@@ -231,7 +232,8 @@ func (d *Daemon) unlock(lock string, grant uint64, by string, now time.Time) Let
 
 func (d *Daemon) status(now time.Time) Status {
 	s := Status{Meta: d.store.meta, Locks: len(d.votes), Busy: len(d.busy.all), Granted: d.granted, Saves: d.store.saves,
-		Start: d.store.own.Start, Ceiling: d.ceiling, Level: d.store.own.level(), Serves: d.join.done, Quiet: d.quietLeft(now).Seconds(), Runs: now.Sub(d.started).Seconds(),
+		Start: d.store.own.Start, Ceiling: d.ceiling, Level: d.store.own.level(), Serves: d.join.done,
+		Awaits: d.awaitsVoters(now), Quiet: d.quietLeft(now).Seconds(), Runs: now.Sub(d.started).Seconds(),
 		Planned: Planned{d.plans.Number, d.plans.oldest(), d.plans.Settled}, Sessions: []SessionView{}, Votes: []VoteView{}}
 	for _, one := range d.inTurn {
 		s.Sessions = append(s.Sessions, one.views(d.cluster.NumberOf)...)

@@ -46,13 +46,14 @@ var (
 	ErrPlace = errors.New("another voter has this place: one whose state was lost needs `qlock-voter init --lost`")
 	ErrOlder = errors.New("the state is an older copy, or another process has a copy of it: " +
 		"put the newest one back, or make the voter again by `qlock-voter init --lost`")
+	ErrBefore = errors.New("the cluster's file is of before an exchange of plans, " +
+		"and a voter whose state was lost may have retired the old plan: put the newest file in its place")
 )
 
 const (
 	places       = qlock.MaxVoters
 	askAgain     = 100 * time.Millisecond // how often a voter that waits asks those that did not answer
 	tellAgain    = time.Second            // how often one that serves does
-	mostPatience = 8 * time.Second        // after which a quorum of answers is enough
 	firstCeiling = uint64(1) << 16        // how many grants a voter may give above what is known, at first
 	stillQuiet   = 250 * time.Millisecond // for which others are asked while one who said that he is inside waits for a vote
 )
@@ -184,7 +185,9 @@ func (d *Daemon) meet(h wire.Header, w word) {
 		if err == nil {
 			shown = d.shown(h, w, known)
 		}
-		reply = word{Word: "known", Process: w.Process, Start: h.Start, Known: &shown, Knows: &all}
+		heard, missed := d.whoSpoke(d.now())
+		reply = word{Word: "known", Process: w.Process, Start: h.Start, Known: &shown, Knows: &all,
+			Heard: heard, Missed: missed}
 	}
 	if err != nil {
 		reply.Why = fmt.Sprintf("start=%d run=%d identity=%.8s is known", known.Start, known.Run, known.Identity)
@@ -225,8 +228,9 @@ type Knows struct {
 	Sessions map[int]Session `json:"sessions"`
 	Floors   map[int]Floor   `json:"floors,omitempty"` // of the shards that were dropped
 	Level    uint64          `json:"level"`
-	From     int             `json:"from,omitempty"` // sessions from this key on
-	Next     int             `json:"next,omitempty"` // the key from which others are to be asked for, 0 if there is none
+	Oldest   uint64          `json:"oldest,omitempty"` // the number of the oldest plan that is not retired
+	From     int             `json:"from,omitempty"`   // sessions from this key on
+	Next     int             `json:"next,omitempty"`   // the key from which others are to be asked for, 0 if there is none
 }
 
 // mostRows is how many sessions one message tells at most, or as many floors as count for these.
@@ -255,7 +259,8 @@ func (d *Daemon) knows(from int, sums []byte) Knows {
 	self := d.self()
 	self.Ceiling = d.store.own.Ceiling
 	peers[d.store.meta.Voter] = self
-	known := Knows{Peers: peers, Sessions: map[int]Session{}, Floors: map[int]Floor{}, Level: d.store.own.level(), From: from}
+	known := Knows{Peers: peers, Sessions: map[int]Session{}, Floors: map[int]Floor{}, Level: d.store.own.level(),
+		Oldest: d.plans.oldest(), From: from}
 	if from < 0 {
 		from = 0
 	}

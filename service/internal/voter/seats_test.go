@@ -258,7 +258,7 @@ func TestWhoIsBehind(t *testing.T) {
 			}
 			want := uint64(0)
 			table.seats.each(func(number int, seat *seat) {
-				if seat.marks.has(isOpen) && uint64(seat.asksBy) < newest {
+				if (seat.marks.has(isOpen) || table.rare(number).byWord) && uint64(seat.asksBy) < newest {
 					want |= 1 << number
 				}
 			})

@@ -28,6 +28,8 @@ type word struct {
 	From    int    `json:"from,omitempty"`    // of start: from which key on it wants to know of sessions
 	Sums    []byte `json:"sums,omitempty"`    // of start: of what it has, by shards from that of this key on (sums.go)
 	Knows   *Knows `json:"knows,omitempty"`   // what the one who answers knows
+	Heard   uint64 `json:"heard,omitempty"`   // the voters that it heard lately, by their bits
+	Missed  uint64 `json:"missed,omitempty"`  // those that it did not hear for longer (patience.go)
 }
 
 // own is what a state has of its own starts.
@@ -38,6 +40,8 @@ type own struct {
 	Raised  uint64 `json:"raised,omitempty"`  // the start in which the level was raised last, from raisedFormat on
 	Refused string `json:"refused,omitempty"` // why another voter refused it, and it never starts again
 	IsPlace bool   `json:"place,omitempty"`   // since another voter has its place
+	Left    int64  `json:"left,omitempty"`    // when its last run ended by itself, in milliseconds since 1970; 0 while one runs
+	Lost    bool   `json:"lost,omitempty"`    // it was made again, with the ceiling of the one that was lost, and never served
 }
 
 // refusal returns the error of a state that was refused, nil if it was not.
@@ -56,6 +60,9 @@ type joining struct {
 	process string
 	start   qlock.Start // who answered, what is known, and which ceiling was asked for and is kept
 	began   time.Time
+	left    time.Time     // when the run before ended by itself, zero if that is not known
+	heard   uint64        // the voters that some one which answered heard lately
+	missed  uint64        // those that some one did not
 	next    time.Time     // when those that did not answer are asked again
 	pause   time.Duration // before that; it doubles
 	saves   uint64        // how often the state was saved before this run
@@ -82,7 +89,7 @@ func (d *Daemon) begins(now time.Time) {
 	}
 	isShort := d.inUse.haveAny(^shown.Answered) || d.isLost() && !d.inUse.haveQuorums(shown.Answered)
 	j.start.Begins(qlock.Answers{Others: d.others(), HaveSilentQuorum: isShort,
-		HaveQuorums: d.inUse.haveQuorums(shown.Answered | d.bit()), IsPatient: now.Sub(j.began) > mostPatience})
+		HaveQuorums: d.inUse.haveQuorums(shown.Answered | d.bit()), IsPatient: now.Sub(j.began) > d.patience(now)})
 	if j.start.Shows().Asked > 0 {
 		d.asksOthers(now)
 	}
@@ -142,7 +149,7 @@ func (d *Daemon) isKept(now time.Time) {
 		return
 	}
 	shown := j.start.Shows()
-	d.store.own.Ceiling, d.newOwn = shown.Ceiling, true
+	d.store.own.Ceiling, d.store.own.Lost, d.newOwn = shown.Ceiling, false, true
 	d.ceiling, d.isSpent = shown.Ceiling, false
 	d.m.left.Set(float64(d.ceiling) - float64(greatest(d.floor, d.m.most)))
 	if turn == qlock.Raises {
@@ -166,12 +173,20 @@ func (d *Daemon) isKept(now time.Time) {
 		"answered", d.inUse.names(shown.Answered))
 }
 
-// raised is above which number, and up to which one, the votes go on that a voter has as it starts.
+// raised is above which number, and up to which one, the votes go on that a voter had as it was noted.
 type raised struct{ floor, ceiling uint64 }
 
-// raiseAll lets all votes go on above what this voter may have given: they keep their grants. There may be many, so each goes on as it is
-// unpacked. None is saved before that.
-func (d *Daemon) raiseAll() { d.raised = raised{d.floor, d.ceiling} }
+// raiseAll lets all votes go on above the floor: they keep their grants. One that is packed goes on as it is unpacked,
+// as there may be many. None is saved before its next step.
+func (d *Daemon) raiseAll() {
+	d.raised = raised{d.floor, d.ceiling}
+	for _, v := range d.votes {
+		if voter := v.extra().voter; voter != nil {
+			d.raised.raise(voter)
+		}
+		v.isRaised = true
+	}
+}
 
 // raise lets a proved voter go on. The second time it changes nothing.
 func (r raised) raise(voter *qlock.Voter) {
@@ -228,6 +243,7 @@ func (d *Daemon) hearPeer(m transport.Message, now time.Time) {
 		d.m.foreign.Inc()
 		return
 	}
+	d.spoke[h.Number] = now
 	switch w.Word {
 	case "start", "ceiling":
 		d.meet(h, w)
@@ -297,7 +313,11 @@ func (d *Daemon) learnOfItself(h wire.Header, w word, now time.Time) {
 	if who != d.peers[h.Number] {
 		d.putPeer(h.Number, who)
 	}
-	if err := d.learnsLevel(w.Knows.Level); err != nil {
+	err = d.learnsLevel(w.Knows.Level)
+	if d.isLost() && w.Knows.Oldest > d.plans.oldest() { // it may have retired a plan that it would take again
+		err = ErrBefore
+	}
+	if err != nil {
 		j.refused = fmt.Errorf("%s: %w", file(d.own.Data), err)
 		return
 	}
@@ -311,6 +331,7 @@ func (d *Daemon) learnOfItself(h wire.Header, w word, now time.Time) {
 	if w.Knows.From != j.from[h.Number] || j.start.Hears(h.Number, w.Known.Ceiling, w.Known.isClean(d.store.meta.Identity, j.saves)) != nil {
 		return
 	}
+	j.heard, j.missed = j.heard|w.Heard, j.missed|w.Missed
 	d.learnAll(*w.Knows, now)
 }
 
@@ -362,9 +383,7 @@ func (d *Daemon) self() Peer {
 }
 
 // isLost returns whether this voter lost its state, and did not serve since it was made again. Then it knows only what others told it.
-func (d *Daemon) isLost() bool {
-	return d.store.meta.Run > 0 && d.store.own.Ceiling == 0 && !d.join.done
-}
+func (d *Daemon) isLost() bool { return d.store.own.Lost }
 
 // runs returns the lines by which a session hears which of the other voters were made again, and how often: what they told it before that
 // counts no more. What is said there was saved before.

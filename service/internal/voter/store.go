@@ -63,6 +63,7 @@ type store struct {
 	meta  Meta
 	plans Generations // as they were read
 	own   own         // of its starts
+	left  int64       // when the run before ended by itself, as own.Left
 	saves uint64      // how often it was saved
 	tally uint64      // of its rows
 	room  []byte      // of the next transaction
@@ -113,7 +114,7 @@ func fill(disk Disk, meta Meta, plans Generations, known Knows, ceiling uint64) 
 		if err := b.putMeta(meta); err != nil {
 			return err
 		}
-		if err := b.putOwn(own{Ceiling: ceiling, Level: known.Level}); err != nil {
+		if err := b.putOwn(own{Ceiling: ceiling, Level: known.Level, Lost: meta.Run > 0}); err != nil {
 			return err
 		}
 		if err := b.putPlans(plans); err != nil {
@@ -207,6 +208,7 @@ func (s *store) begin(want Meta) error {
 	if err := s.own.refusal(); err != nil {
 		return err
 	}
+	s.left, s.own.Left = s.own.Left, 0
 	s.own.Start++
 	for root := 0; root < 2; root++ {
 		if err := s.update(s.saves, func(b *batch) error { return b.putOwn(s.own) }); err != nil {

@@ -123,6 +123,7 @@ func (t *table) endedByWord(number int, byWord bool) {
 	rare := t.rare(number)
 	rare.byWord = byWord
 	t.keep(number, rare)
+	t.noteBehind(number)
 }
 
 // asks notes by which plan, the oldest one, the session of a number has a request, where this is the newest plan.
@@ -135,8 +136,9 @@ func (t *table) asks(number int, oldest, newest uint64) {
 	t.noteBehind(number)
 }
 
-// behindOf returns the numbers of open sessions that may have a request of an older plan than this one, as bits. They are kept, so that
-// it takes little time to ask all shards at once.
+// behindOf returns the numbers of sessions that may have a request of an older plan than this one, as bits: of open
+// ones, and of those that were ended and may not know so. They are kept, so that it takes little time to ask all shards
+// at once.
 func (t *table) behindOf(plan uint64) uint64 {
 	if t.plan != plan {
 		t.plan = plan
@@ -148,7 +150,8 @@ func (t *table) behindOf(plan uint64) uint64 {
 // noteBehind notes whether a number is behind, once its row or what its session has may be another one.
 func (t *table) noteBehind(number int) {
 	seat := t.seats.at(number)
-	if t.behind &^= 1 << number; seat != nil && seat.marks.has(isOpen) && uint64(seat.asksBy) < t.plan {
+	mayAsk := seat != nil && (seat.marks.has(isOpen) || t.rare(number).byWord)
+	if t.behind &^= 1 << number; mayAsk && uint64(seat.asksBy) < t.plan {
 		t.behind |= 1 << number
 	}
 }
@@ -462,6 +465,7 @@ func (t *table) learnBy(call func(row, other *qlock.Row, here, there bool) error
 		t.endedByWord(number, !row.Open && (before.Open || t.rare(number).byWord))
 		t.hear(number, now)
 		if row.Open {
+			t.seat(number).asksBy = 0 // it did not say
 			t.passes(number, now)
 		}
 	}

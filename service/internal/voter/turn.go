@@ -4,18 +4,24 @@ import (
 	"time"
 
 	"calvundek.example/service/internal/wire"
-	"calvundek.example/service/qlock"
 )
 
 // A turn is one number, for a place that can't keep a guard. Who has a lock asks each voter of its quorum to skip the numbers up to the
 // greatest of its grants, which is the turn. So what a voter of both gives later has a greater number, and a later turn is greater: the law
 // turns_grow of the crate passes. It is of moments at which a voter has saved that it skipped, and that the grant has its vote.
 
-// How many numbers may be skipped for turns: voters number their grants each by itself, and one that started more often is ahead of
-// others. So there are enough at once, and 2^63 last for ever.
+// How far turns may take a voter. A turn is a number of a grant, so no voter's ceiling is below it: what is above all
+// ceilings that this voter keeps, its own and the others', is no turn. It may know of a ceiling late, as its keepers
+// are a quorum without this voter. Then the client asks again, and that ceiling comes: whose it is tells all others
+// each second until they reply (Daemon.start).
+//
+// Voters number their grants each by itself, and one that started more often is ahead of others. So to follow them
+// costs nothing but for the last block below the highest ceiling. Numbers of that cost tokens: else who asks for the
+// ceiling as a turn, at one voter after the other, would raise it by a block each time. 2^63 numbers last for ever.
 const (
-	skipRate = 1 << 24 // a second
-	mostSkip = 1 << 44 // at once
+	lastBlock = 1 << 24 // the most by which a ceiling is raised
+	skipRate  = 1 << 18 // a second
+	mostSkip  = 1 << 28 // at once
 )
 
 // skip is a turn that is told once it is saved, if the grant has the vote then.
@@ -54,7 +60,12 @@ func (d *Daemon) skipFor(l *letter, ask wire.Ask, now time.Time) {
 		v.shard != l.shard || l.shard.isEarlier(l.Number, ask.Number) {
 		return // it hears otherwise that it does not have this vote, or has to find out
 	}
-	if !d.mayReach(ask.Top, now) {
+	highest := d.highestCeiling()
+	if ask.Top > highest {
+		d.m.refused.Inc()
+		return
+	}
+	if !d.mayReach(ask.Top, highest, now) {
 		return
 	}
 	if ask.Top > d.ceiling {
@@ -86,18 +97,23 @@ func (d *Daemon) skipFor(l *letter, ask wire.Ask, now time.Time) {
 	d.skips = append(d.skips, skip{v, l.Name, ask})
 }
 
-// mayReach returns whether numbers may be skipped up to this one: those that some lock here has used, or another voter may have, and as
-// many more as there were tokens for. What is too far away comes nearer each time.
-func (d *Daemon) mayReach(number uint64, now time.Time) bool {
-	d.reach = greatest(d.reach, greatest(d.floor, d.m.most))
+// highestCeiling returns the highest ceiling that this voter keeps, its own one or another voter's.
+func (d *Daemon) highestCeiling() uint64 {
+	highest := d.ceiling
 	for _, peer := range d.peers {
-		d.reach = greatest(d.reach, peer.Ceiling)
+		highest = greatest(highest, peer.Ceiling)
 	}
+	return highest
+}
+
+// mayReach returns whether numbers may be skipped up to this one, where this is the highest ceiling: those that some
+// lock here has used, those below the last block, and as many more as there were tokens for. What is too far away comes
+// nearer each time.
+func (d *Daemon) mayReach(number, highest uint64, now time.Time) bool {
+	d.reach = greatest(d.reach, greatest(d.floor, d.m.most))
+	d.reach = greatest(d.reach, highest-smallest(highest, lastBlock))
 	if number <= d.reach {
 		return true
-	}
-	if number > qlock.MaxStamp {
-		return false // no grant has such a number
 	}
 	since := now.Sub(d.leases.began)
 	further := smallest(number-d.reach, d.skippable.Left(since))

@@ -7,6 +7,7 @@ import (
 	"time"
 
 	"calvundek.example/service/qlock"
+	"github.com/prometheus/client_golang/prometheus/testutil"
 )
 
 // turned returns what a voter replies, after a save, to a session that asks for a turn.
@@ -101,19 +102,41 @@ func TestTurnsAreOfTheHolder(t *testing.T) {
 	}
 }
 
-// For a turn beyond its ceiling a voter asks the others for a higher one first, and tells the turn once they keep it.
+// For a turn beyond its ceiling, of a voter that is ahead, a voter asks the others for a higher one first, and tells
+// the turn once they keep it.
 func TestTurnsRaiseTheCeiling(t *testing.T) {
 	d := sessions(t, 1)
 	d.repliesTo("jobs", 1, "orders request 1 0 5\n")
-	grant, top := d.votes["orders"].held().Number, d.ceiling+3*skipRate
+	grant, top := d.votes["orders"].held().Number, d.ceiling+3*firstCeiling
+	d.peers[1].Ceiling = top
 	ask := fmt.Sprintf(". turn orders 5 %d %d\n", grant, top)
 	if reply, want := d.turned(t, 1, ask), fmt.Sprintf(". turned orders 5 %d\n", top); reply != want || d.ceiling <= top {
 		t.Errorf("%q under the ceiling %d", reply, d.ceiling) // there is no other voter
 	}
-	before := d.ceiling
-	for _, top := range []uint64{before + mostSkip, 1 << 62, 1<<63 + 1} {
-		if reply := d.turned(t, 1, fmt.Sprintf(". turn orders 5 %d %d\n", grant, top)); reply != "" || d.asked() > before {
-			t.Errorf("%d: %q, asked for %d", top, reply, d.asked())
+}
+
+// What is above all ceilings is no turn: no number is skipped for it, and it is counted. A ceiling of which this voter
+// hears later lets the client have its turn as it asks again.
+func TestTurnsAreBelowSomeCeiling(t *testing.T) {
+	d := sessions(t, 1)
+	d.repliesTo("jobs", 1, "orders request 1 0 5\n")
+	d.peers[1].Ceiling = 3 * firstCeiling
+	grant, before, refused := d.votes["orders"].held().Number, d.ceiling, testutil.ToFloat64(d.m.refused)
+	ask := func(top uint64) string { return fmt.Sprintf(". turn orders 5 %d %d\n", grant, top) }
+	for i, top := range []uint64{3*firstCeiling + 1, 1 << 42, 1 << 62, 1<<63 + 1} {
+		reply := d.repliesTo("jobs", 1, ask(top)+". open 0\n")
+		if !strings.Contains(reply, ". opened") || len(d.skips) > 0 || d.asked() > before || d.m.most > grant {
+			t.Errorf("%d: %q, %d turns, asked for %d, %d are skipped", top, reply, len(d.skips), d.asked(), d.m.most)
+		}
+		if counted := testutil.ToFloat64(d.m.refused) - refused; counted != float64(i+1) {
+			t.Errorf("%d: %v are counted", top, counted)
+		}
+	}
+	later := uint64(4 * firstCeiling)
+	d.peers[2].Ceiling = later
+	for _, top := range []uint64{grant, later} {
+		if reply := d.turned(t, 1, ask(top)); reply != fmt.Sprintf(". turned orders 5 %d\n", top) {
+			t.Errorf("%d: %q", top, reply)
 		}
 	}
 }
@@ -135,18 +158,40 @@ func TestTurnsAreBounded(t *testing.T) {
 	}
 }
 
-// What is further than there are tokens for comes nearer each time, and is reached in the end. To where another voter may be it is no way.
+// Nor do two voters take one another further, of which each has the other one's ceiling as a turn.
+func TestVotersDoNotLeapfrog(t *testing.T) {
+	both, asks := [2]*Daemon{sessions(t, 1), sessions(t, 1)}, [2]string{}
+	const few = 3 * lastBlock
+	for i, d := range both {
+		d.skippable = *qlock.NewBucket(0, 2*few, 0)
+		d.repliesTo("jobs", 1, "orders request 1 0 5\n")
+		asks[i] = fmt.Sprintf(". turn orders 5 %d ", d.votes["orders"].held().Number) + "%d\n"
+	}
+	for i := 0; i < 80; i++ {
+		d, other := both[i%2], both[1-i%2]
+		d.peers[1].Ceiling = other.ceiling
+		d.turned(t, 1, fmt.Sprintf(asks[i%2], d.highestCeiling()))
+		d.start(time.Now())
+	}
+	if most := greatest(both[0].m.most, both[1].m.most); most < few || most > 2*few+2*lastBlock {
+		t.Errorf("turns up to %d, with tokens for %d", most, 2*few)
+	}
+}
+
+// What is further than there are tokens for comes nearer each time, and is reached in the end. To the last block of
+// another voter it is no way.
 func TestTurnsComeNearer(t *testing.T) {
 	d := sessions(t, 1)
 	d.skippable = *qlock.NewBucket(100, 1000, 0)
 	far := greatest(d.floor, d.m.most) + 2000
 	for seconds := 0; seconds <= 15; seconds += 5 {
-		if may := d.mayReach(far, d.leases.began.Add(time.Duration(seconds)*time.Second)); may != (seconds == 15) {
+		if may := d.mayReach(far, d.ceiling, d.leases.began.Add(time.Duration(seconds)*time.Second)); may != (seconds == 15) {
 			t.Errorf("after %d seconds: %v", seconds, may)
 		}
 	}
 	d.peers[1].Ceiling = 1 << 50
-	if !d.mayReach(1<<50, d.leases.began) || d.mayReach(1<<50+2000, d.leases.began) {
-		t.Error("it does not follow another voter, or is far ahead of it")
+	highest := d.highestCeiling()
+	if !d.mayReach(highest-lastBlock, highest, d.leases.began) || d.mayReach(highest-lastBlock+2000, highest, d.leases.began) {
+		t.Error("it does not follow another voter, or its last block is free")
 	}
 }

@@ -87,7 +87,8 @@ func (v *vote) isWanted() bool { return len(v.extra().others) > 0 || v.stamp > 0
 // isAwaited returns whether somebody waits for the vote who said since the start that he is inside.
 func (v *vote) isAwaited() bool { return v.extra().isAwaited }
 
-// highestOf returns up to which number a vote gave grants, or skipped.
+// highestOf returns up to which number a vote gave grants, or skipped. All votes go on above the floor that was noted
+// last (raiseAll), and later ones begin there.
 func (d *Daemon) highestOf(v *vote) uint64 {
 	return greatest(d.raised.floor, greatest(v.number, v.extra().skipped))
 }
@@ -121,7 +122,7 @@ func (d *Daemon) keep(v *vote) {
 // restore adds a vote that was saved. It stays packed.
 func (d *Daemon) restore(one savedVote, now time.Time) {
 	v := d.voteOf(one.name, nil)
-	v.packed, v.isRaised = one.packed, true
+	v.packed = one.packed
 	d.keep(v)
 	if one.held.Number == 0 {
 		d.rest(v, now)

@@ -86,11 +86,14 @@ func TestDamagedState(t *testing.T) {
 	if err != nil {
 		t.Fatal(err)
 	}
-	at := lastIndex(bytes, "orders")
-	if at < 0 {
+	places := 0
+	for at := lastIndex(bytes, "orders"); at >= 0; at = lastIndex(bytes[:at], "orders") {
+		bytes[at+6+4+20] ^= 1 // behind the name and the checksum, also of older saves
+		places++
+	}
+	if places == 0 {
 		t.Fatal("the vote was not saved")
 	}
-	bytes[at+6+4+20] ^= 1 // behind the name and the checksum
 	if err := os.WriteFile(path, bytes, 0o600); err != nil {
 		t.Fatal(err)
 	}
