@@ -693,7 +693,7 @@ func (c *Client) heartbeat(now time.Time) {
 }
 
 // show shows that the session is there. What may have been lost before is lost first: replies to this heartbeat say nothing of the time
-// before it.
+// before it. It counts from now, and leaves later, so no vote counts for longer than voters grant it.
 func (c *Client) show(now time.Time) {
 	c.lapse()
 	c.beat = now

@@ -314,6 +314,6 @@ func (d *Daemon) deliverTo(header wire.Header, session string, runs, lines []byt
 // post sends one message. What can't be sent is lost: a reminder repeats it.
 func (d *Daemon) post(box string, message []byte) {
 	if d.carrier.Send(box, message) != nil {
-		d.m.unsent.Inc()
+		d.m.unsent.Add(1)
 	}
 }
