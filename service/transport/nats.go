@@ -31,6 +31,7 @@ const (
 type NATS struct {
 	current  atomic.Pointer[nats.Conn] // the connection, nil until each server was tried once
 	link     atomic.Int32              // one of the states below
+	wire     atomic.Pointer[wire]      // the last one that was made
 	returns  atomic.Uint64
 	dialed   atomic.Pointer[error] // why the last server was not to be had, which the library does not keep
 	why      atomic.Pointer[error] // what the library said last
@@ -39,6 +40,7 @@ type NATS struct {
 	closed   chan struct{} // closed by Close
 	ended    chan struct{} // closed once the connection is
 	refusals *refusals
+	servers  int
 
 	certificate func() (*tls.Certificate, error) // reads this process's certificate, nil if it has none
 
@@ -74,7 +76,7 @@ type passed struct {
 // have one order, their messages take one server.
 func Connect(cluster *config.Cluster, access config.Access, name string) (*NATS, error) {
 	n := &NATS{out: newOutbox(), closed: make(chan struct{}), ended: make(chan struct{}), passed: map[string]*passed{},
-		refusals: newRefusals(os.Stderr)}
+		refusals: newRefusals(os.Stderr), servers: len(cluster.Servers)}
 	if err := hidden(cluster, access); err != nil {
 		return nil, err
 	}
@@ -228,8 +230,25 @@ func (d *dialer) Dial(network, address string) (net.Conn, error) {
 		return nil, fmt.Errorf("%w: %s", errUnlisted, address)
 	}
 	connection, err := net.DialTimeout(network, address, time.Second)
-	d.dialed.Store(&err)
+	if d.dialed.Store(&err); err == nil {
+		d.wire.Store(&wire{connection, time.Now()})
+	}
 	return connection, err
+}
+
+// wire is a connection to a server.
+type wire struct {
+	net.Conn
+	since time.Time
+}
+
+// Move leaves a server that lives and reaches nobody whom this process needs, for the next one. It does nothing while the connection is
+// younger than this age: where nobody is there, no server has a storm of those who look for them.
+func (n *NATS) Move(age time.Duration) {
+	now := n.wire.Load()
+	if n.servers > 1 && n.Connected() && now != nil && time.Since(now.since) >= age && n.wire.CompareAndSwap(now, nil) {
+		_ = now.Close() // the library takes the next server then
+	}
 }
 
 // errUnlisted is returned for a server that another one named, and the cluster's file does not.

@@ -154,3 +154,35 @@ func TestWhatCanNotLeaveIsNotSentLate(t *testing.T) {
 	s.start(t)
 	comes(link)
 }
+
+// Who moves goes on at the next server, with all mailboxes, once the connection is old enough. Who has one server alone stays.
+func TestMove(t *testing.T) {
+	first, second := beginWith(t), beginWith(t)
+	link, there := connectTo(t, first.address, second.address), connectTo(t, second.address)
+	box, err := link.Listen("box")
+	if err != nil {
+		t.Fatal(err)
+	}
+	isThere := func() bool {
+		_ = there.Send("box", []byte("x"))
+		select {
+		case <-box:
+			return true
+		case <-time.After(10 * time.Millisecond):
+			return false
+		}
+	}
+	until(t, "there are connections", func() bool { return link.Connected() && there.Connected() })
+	for i := 0; i < 20; i++ {
+		if link.Move(time.Hour); isThere() {
+			t.Fatal("it left a new connection")
+		}
+	}
+	link.Move(0)
+	until(t, "it is at the next server", isThere)
+	before := there.Returns()
+	there.Move(0)
+	if isThere(); there.Returns() != before || !there.Connected() {
+		t.Error("it left the only server")
+	}
+}

@@ -113,6 +113,7 @@ type Daemon struct {
 	next            time.Time    // when the next round is due
 	granted         uint64       // grants given since then
 	returns         uint64       // of the link, as they were logged
+	heardPeer       time.Time    // when another voter said something
 	away            time.Time    // when there was a connection last, or it was logged that there is none
 	lively          atomic.Int64 // when the loop last went round, as a moment.Moment
 	marked          atomic.Int64 // when the last marker left that came back, since the start, whatever the clock on the wall does

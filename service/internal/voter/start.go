@@ -228,6 +228,7 @@ func (d *Daemon) hearPeer(m transport.Message, now time.Time) {
 		d.m.foreign.Inc()
 		return
 	}
+	d.heardPeer = now
 	switch w.Word {
 	case "start", "ceiling":
 		d.meet(h, w)
