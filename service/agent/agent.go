@@ -181,13 +181,27 @@ func (c *Client) take(ctx context.Context, name string, query url.Values) (*Held
 	ready := endsWith(limit, connection) // whoever calls this may give up
 	held, err := ask(connection, name, query)
 	ready()
-	if err == nil && limit.Err() == nil {
-		go held.read()
-		go held.watch(catchUp)
-		return held, nil
+	if err = held.taken(limit, err); err != nil {
+		_ = connection.Close()
+		return nil, unlessEnded(ctx, err)
 	}
-	_ = connection.Close()
-	return nil, unlessEnded(ctx, err)
+	go held.read()
+	go held.watch(catchUp)
+	return held, nil
+}
+
+// taken returns why a lock that was asked for is not handed out, nil if it is. It may have come too late, or be over: this process or the
+// agent stood still.
+func (h *Held) taken(limit context.Context, err error) error {
+	switch {
+	case err != nil:
+		return err
+	case limit.Err() != nil:
+		return limit.Err()
+	case h.left() <= 0:
+		return fmt.Errorf("%w: it was over as it came", ErrLost)
+	}
+	return nil
 }
 
 // endsWith ends a connection with a context, until the function is called that it returns.

@@ -168,3 +168,20 @@ func TestNewestHolder(t *testing.T) {
 		t.Error("the channel stays open")
 	}
 }
+
+// A lock that came after its time to wait, or that is over already, is not handed out: that is an error.
+func TestLateLockIsNotHandedOut(t *testing.T) {
+	lasting, open := &Held{}, context.Background()
+	lasting.until.Store((boot.Uptime() + long).Milliseconds())
+	over, cancel := context.WithCancel(open)
+	cancel()
+	for _, one := range []struct {
+		held     *Held
+		limit    context.Context
+		err, why error
+	}{{lasting, open, nil, nil}, {lasting, over, nil, context.Canceled}, {stale(), open, nil, ErrLost}, {nil, over, ErrHeld, ErrHeld}} {
+		if err := one.held.taken(one.limit, one.err); !errors.Is(err, one.why) {
+			t.Errorf("%v, not %v", err, one.why)
+		}
+	}
+}
