@@ -137,7 +137,7 @@ type Held struct {
 	mayIdle    bool          // the agent waits for Alive
 }
 
-// Lock waits until the caller has the lock, or the context ends.
+// Lock waits until the caller has the lock, or the context ends. It fails with ErrLost if it got a lock that was over already.
 func (c *Client) Lock(ctx context.Context, name string) (*Held, error) {
 	return c.take(ctx, name, url.Values{})
 }
