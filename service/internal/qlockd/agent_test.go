@@ -277,6 +277,9 @@ func TestFirstLine(t *testing.T) {
 	if left <= 0 || left > most*8/10 || until < before+left || until > boot.Uptime().Milliseconds()+most*8/10 {
 		t.Error(line, before)
 	}
+	if asked := int64(line["asked_ms"].(float64)); asked < before || asked > until-left {
+		t.Errorf("it was asked at %d: %v, %d", asked, line, before)
+	}
 	if kind := s.reply.Header.Get("Content-Type"); kind != "application/x-ndjson" {
 		t.Error(kind)
 	}
