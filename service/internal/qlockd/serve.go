@@ -22,6 +22,7 @@ import (
 	"calvundek.example/service/qlock"
 	"calvundek.example/service/transport"
 	"github.com/prometheus/client_golang/prometheus/promhttp"
+	"golang.org/x/sys/unix"
 )
 
 // mostBody is how long the body of a request may be.
@@ -565,12 +566,33 @@ func (a *Agent) stream(say func(line interface{}) bool, ctx context.Context, p *
 			says = false
 		}
 	}
-	if isClosed(p.lost) && say(last{Lost: true, Why: p.why}) {
+	isTold := isClosed(p.lost) && say(last{Lost: true, Why: p.why})
+	if isTold {
 		a.await(ctx, p)
-	} else if a.unlock(p, ""); isClosed(p.lost) {
+	}
+	if a.awaitDeath(ctx, p); isTold {
+		return
+	}
+	if a.unlock(p, ""); isClosed(p.lost) {
 		say(last{Lost: true, Why: p.why})
 	} else {
 		say(last{Unlocked: true})
+	}
+}
+
+// dies is for how long a lock is kept of which the connection was closed, and not only shut down by who gives the lock back: its process may
+// have died. The kernel closes the files of a process first, and then sends its children the signal that they asked for at its death. So the
+// program of a command that was killed is killed meanwhile, too. What that program started lives on, and so does who asked for no signal.
+const dies = 50 * time.Millisecond
+
+// awaitDeath waits while a process may die whose connection was closed.
+func (a *Agent) awaitDeath(ctx context.Context, p *place) {
+	if c, is := ctx.Value(callerKey{}).(*caller); !is || !events(c.connection, unix.POLLHUP) {
+		return
+	}
+	select {
+	case <-p.ended:
+	case <-time.After(dies):
 	}
 }
 
