@@ -114,8 +114,19 @@ _LOOK = 0.2
 
 
 def _uptime() -> float:
-    """Returns the seconds since the machine started, also those in which it slept. All processes of a host read the same."""
+    """Returns the seconds since the machine started, also those in which it slept. All processes of a host read the same, but for those in
+    another time namespace."""
     return time.clock_gettime(time.CLOCK_BOOTTIME)
+
+
+def _ahead(first: Dict[str, Any], left: float, came: float) -> float:
+    """Returns by how many seconds the clock of this process is ahead of the agent's, at least: 0 where both may be one. The request left and
+    the first line came at these times of this process's clock. The agent had the one after it left, and wrote the other one before it came."""
+    if "asked_ms" not in first:
+        return 0.0  # an older agent
+    least = left - first["asked_ms"] / 1000 - 0.001  # parts of milliseconds are not said
+    most = came - (first["until_ms"] - first["left_ms"]) / 1000 + 0.001
+    return 0.0 if least <= 0 <= most else least
 
 
 class _Connection:
@@ -130,6 +141,7 @@ class _Connection:
         try:
             self._set_timeout()
             self.socket.connect(path)
+            self.left = _uptime()
             # by 1.0 the reply has no chunks
             self.socket.sendall(f"{call} HTTP/1.0\r\nHost: qlockd\r\nContent-Length: 0\r\n\r\n".encode())
         except OSError as fault:
@@ -390,7 +402,8 @@ class Held:
         """set when the lock may be somebody else's, and by `unlock`"""
         self.why = ""
         """why the lock was lost, in a word"""
-        self._until: float = first["until_ms"] / 1000
+        self._ahead = _ahead(first, connection.left, _uptime())
+        self._until: float = first["until_ms"] / 1000 + self._ahead
         self._connection = connection
         self._on_lost = on_lost
         self._may_idle = may_idle
@@ -446,7 +459,8 @@ class Held:
                 return "" if self._is_over else "unlocked"  # another process gave it back
             if said.get("lost"):
                 return str(said.get("why", "lost"))
-            self._until = said.get("until_ms", self._until * 1000) / 1000
+            if "until_ms" in said:
+                self._until = said["until_ms"] / 1000 + self._ahead
 
     def unlock(self) -> None:
         """Gives the lock back, and waits until the agent did that. Raises `Lost` if the lock may have been lost before. Does

@@ -291,6 +291,18 @@ class WithMadeUpAgent(unittest.TestCase):
         self.assertGreater(time.monotonic() - began, 1.2)
         self.assertEqual(held.why, "silence")
 
+    def test_clock_of_another_time_namespace(self):
+        for ahead in (-1000.0, 1000.0):
+            def said(left, *asked):
+                now = int((uptime() - ahead) * 1000)
+                return dict({"left_ms": left, "until_ms": now + left}, **({"asked_ms": now + 200} if asked else {}))
+
+            held, got = self.take(dict(first(), **said(3000, "asked")))
+            self.assertTrue(2.0 < held.left() <= 3.0, held.left())
+            got[1].sendall((json.dumps(said(60000)) + "\n").encode())
+            self.assertTrue(eventually(lambda: held.left() > 55))
+            self.assertLessEqual(held.left(), 60.0)
+
     def test_lost_as_the_agent_says_what_is_none_of_its_lines(self):
         for line in (b"5\n", b'{"until_ms":"soon"}\n'):
             held, got = self.take(first())

@@ -128,6 +128,7 @@ type Held struct {
 	turn       uint64
 	ttl        time.Duration
 	until      atomic.Int64 // when it ends if the agent says nothing more, in milliseconds of boot.Uptime
+	ahead      int64        // by how many of them that is ahead of the agent's clock
 	lost       chan struct{}
 	once       sync.Once     // of lost
 	ended      chan struct{} // closed when the agent says nothing more
@@ -137,7 +138,7 @@ type Held struct {
 	mayIdle    bool          // the agent waits for Alive
 }
 
-// Lock waits until the caller has the lock, or the context ends.
+// Lock waits until the caller has the lock, or the context ends. It fails with ErrLost if it got a lock that was over already.
 func (c *Client) Lock(ctx context.Context, name string) (*Held, error) {
 	return c.take(ctx, name, url.Values{})
 }
@@ -181,13 +182,27 @@ func (c *Client) take(ctx context.Context, name string, query url.Values) (*Held
 	ready := endsWith(limit, connection) // whoever calls this may give up
 	held, err := ask(connection, name, query)
 	ready()
-	if err == nil && limit.Err() == nil {
-		go held.read()
-		go held.watch(catchUp)
-		return held, nil
+	if err = held.taken(limit, err); err != nil {
+		_ = connection.Close()
+		return nil, unlessEnded(ctx, err)
 	}
-	_ = connection.Close()
-	return nil, unlessEnded(ctx, err)
+	go held.read()
+	go held.watch(catchUp)
+	return held, nil
+}
+
+// taken returns why a lock that was asked for is not handed out, nil if it is. It may have come too late, or be over: this process or the
+// agent stood still.
+func (h *Held) taken(limit context.Context, err error) error {
+	switch {
+	case err != nil:
+		return err
+	case limit.Err() != nil:
+		return limit.Err()
+	case h.left() <= 0:
+		return fmt.Errorf("%w: it was over as it came", ErrLost)
+	}
+	return nil
 }
 
 // endsWith ends a connection with a context, until the function is called that it returns.
@@ -257,13 +272,27 @@ type line struct {
 	Pass     string `json:"pass"`
 	Turn     uint64 `json:"turn,string"`
 	TTL      int64  `json:"ttl_ms"`
+	Asked    int64  `json:"asked_ms"` // 0 of an older agent
+	Left     int64  `json:"left_ms"`
 	Until    int64  `json:"until_ms"`
 	Lost     bool   `json:"lost"`
 	Unlocked bool   `json:"unlocked"`
 }
 
+// ahead returns by how many milliseconds the clock of this process is ahead of the agent's, at least: 0 where both may be one. In another
+// time namespace they are not. The request left and the first line came at these times of this process's clock. The agent had the one
+// after it left, and wrote the other one before it came.
+func (l line) ahead(left, came time.Duration) int64 {
+	least, most := left.Milliseconds()-l.Asked-1, came.Milliseconds()-(l.Until-l.Left)+1 // parts of milliseconds are not said
+	if l.Asked == 0 || least <= 0 && most >= 0 {
+		return 0
+	}
+	return least
+}
+
 // ask asks for a lock, and waits for the first line.
 func ask(connection *net.UnixConn, name string, query url.Values) (*Held, error) {
+	left := boot.Uptime()
 	reply, err := send(connection, http.MethodPost, "/v1/locks/"+name, query)
 	if err != nil {
 		return nil, err
@@ -275,7 +304,8 @@ func ask(connection *net.UnixConn, name string, query url.Values) (*Held, error)
 		return nil, fmt.Errorf("%w: %v", ErrUnreachable, err)
 	}
 	h.ttl, h.turn = time.Duration(said.TTL)*time.Millisecond, said.Turn
-	h.until.Store(said.Until)
+	h.ahead = said.ahead(left, boot.Uptime())
+	h.until.Store(said.Until + h.ahead)
 	if h.token, err = hex.DecodeString(said.Pass); err != nil {
 		return nil, fmt.Errorf("%w: the pass: %v", ErrUnreachable, err)
 	}
@@ -304,7 +334,7 @@ func (h *Held) read() {
 			h.unlocked = h.over.Load() // or else another process gave it back
 			return
 		case said.Until > 0:
-			h.until.Store(said.Until)
+			h.until.Store(said.Until + h.ahead)
 		}
 	}
 }

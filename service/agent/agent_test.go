@@ -25,6 +25,12 @@ func until(left time.Duration) string {
 // take takes a lock of a made-up agent, and returns the agent's end of the connection.
 func take(t *testing.T) (*Held, *net.UnixConn) {
 	t.Helper()
+	return takeSaying(t, func() string { return until(long) })
+}
+
+// takeSaying takes a lock of a made-up agent that says this at the end of the first line.
+func takeSaying(t *testing.T, says func() string) (*Held, *net.UnixConn) {
+	t.Helper()
 	path := filepath.Join(t.TempDir(), "q.sock")
 	listener, err := net.ListenUnix("unix", &net.UnixAddr{Name: path, Net: "unix"})
 	if err != nil {
@@ -40,7 +46,7 @@ func take(t *testing.T) (*Held, *net.UnixConn) {
 		if _, err := http.ReadRequest(bufio.NewReader(connection)); err != nil {
 			t.Error(err)
 		}
-		fmt.Fprint(connection, "HTTP/1.0 200 OK\r\n\r\n"+`{"held":true,"pass":"00","ttl_ms":4000,`+until(long))
+		fmt.Fprint(connection, "HTTP/1.0 200 OK\r\n\r\n"+`{"held":true,"pass":"00","ttl_ms":4000,`+says())
 		ends <- connection
 	}()
 	held, err := New(path).Lock(context.Background(), "x")
@@ -166,5 +172,61 @@ func TestNewestHolder(t *testing.T) {
 		}
 	case <-time.After(20 * time.Second):
 		t.Error("the channel stays open")
+	}
+}
+
+// A lock that came after its time to wait, or that is over already, is not handed out: that is an error.
+func TestLateLockIsNotHandedOut(t *testing.T) {
+	lasting, open := &Held{}, context.Background()
+	lasting.until.Store((boot.Uptime() + long).Milliseconds())
+	over, cancel := context.WithCancel(open)
+	cancel()
+	for _, one := range []struct {
+		held     *Held
+		limit    context.Context
+		err, why error
+	}{{lasting, open, nil, nil}, {lasting, over, nil, context.Canceled}, {stale(), open, nil, ErrLost}, {nil, over, ErrHeld, ErrHeld}} {
+		if err := one.held.taken(one.limit, one.err); !errors.Is(err, one.why) {
+			t.Errorf("%v, not %v", err, one.why)
+		}
+	}
+}
+
+// In another time namespace the clock differs from the agent's. A lock lasts as long there. Where the clock is the same it ends by that, also if
+// the request or the line was under way for long.
+func TestClockOfAnotherTimeNamespace(t *testing.T) {
+	const most = 30 * time.Second
+	for _, ahead := range []time.Duration{-1000 * time.Second, 1000 * time.Second, 0} {
+		said := func(left time.Duration) string {
+			now := boot.Uptime() - ahead
+			return fmt.Sprintf(`"asked_ms":%d,"left_ms":%d,"until_ms":%d}`+"\n", now.Milliseconds(), left.Milliseconds(),
+				(now + left).Milliseconds())
+		}
+		held, end := takeSaying(t, func() string { return said(most) })
+		if left := held.Left(); left > most || left < most/2 {
+			t.Errorf("a clock that is %v ahead: %v are left of %v", ahead, left, most)
+		}
+		fmt.Fprint(end, "{"+said(2*most))
+		for until := time.Now().Add(20 * time.Second); held.Left() < most && time.Now().Before(until); {
+			time.Sleep(time.Millisecond)
+		}
+		if left := held.Left(); left > 2*most || left < most {
+			t.Errorf("a clock that is %v ahead: %v are left of %v later", ahead, left, 2*most)
+		}
+	}
+	const second = 1000
+	for _, one := range []struct {
+		asked, written, left, came, ahead int64 // the last three by the client
+	}{
+		{5 * second, 9 * second, 1 * second, 12 * second, 0},            // one clock, and both were under way for long
+		{5 * second, 9 * second, 5*second + 1, 9*second - 1, 0},         // parts of milliseconds
+		{0, 9 * second, 1 * second, 2 * second, 0},                      // an older agent
+		{5 * second, 9 * second, 3 * second, 7 * second, -2*second - 1}, // behind
+		{5 * second, 9 * second, 8 * second, 12 * second, 3*second - 1}, // ahead
+	} {
+		said := line{Asked: one.asked, Left: 700, Until: one.written + 700}
+		if got := said.ahead(time.Duration(one.left)*time.Millisecond, time.Duration(one.came)*time.Millisecond); got != one.ahead {
+			t.Errorf("%+v: %d", one, got)
+		}
 	}
 }

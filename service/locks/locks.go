@@ -105,6 +105,7 @@ type Client struct {
 	ended    chan struct{} // closed at the end, and why says why
 	why      error
 	stopped  chan struct{} // closed when the loop has ended
+	isShut   chan struct{} // closed when what was said last has left then, and the carrier was closed
 
 	session
 	plans
@@ -194,7 +195,8 @@ func (c *Client) connect(ctx context.Context) (*Client, error) {
 	}
 	if err != nil {
 		err = c.explained(err)
-		c.close()
+		c.shut()
+		c.awaitShut(ctx)
 		return nil, err
 	}
 	c.firstTicket()
@@ -245,7 +247,7 @@ func newNamed(cluster *config.Cluster, c Config, name string, own *claims.Number
 // newSessionOf returns what each client has, also that of a session of a shard.
 func newSessionOf(cluster *config.Cluster, c Config, name string, own *claims.Numbers) *Client {
 	return &Client{cluster: cluster, config: c, carrier: c.Transport, close: func() {}, session: newSession(cluster, name, own), desk: &desk{},
-		ended: make(chan struct{}), stopped: make(chan struct{}), locks: map[string]*lock{}, busy: map[*lock]struct{}{},
+		ended: make(chan struct{}), stopped: make(chan struct{}), isShut: make(chan struct{}), locks: map[string]*lock{}, busy: map[*lock]struct{}{},
 		asker: asker{questions: map[uint64]*question{}, observers: map[*observer]struct{}{}}, turns: map[*Held]bool{}}
 }
 
@@ -439,7 +441,7 @@ func (c *Client) Close(ctx context.Context) error {
 		defer c.shards.awaitLeft(ctx)
 		if err := c.closeAll(ctx); err != nil {
 			_ = c.call(func() error { c.end(ErrClosed); return nil })
-			<-c.stopped
+			c.awaitShut(ctx)
 			return err
 		}
 	}
@@ -456,7 +458,34 @@ func (c *Client) Close(ctx context.Context) error {
 	}
 	_ = c.call(func() error { c.end(ErrClosed); return nil })
 	<-c.stopped
+	if c.box == nil { // a session of a shard leaves the carrier to others
+		c.awaitShut(ctx)
+	}
 	return err
+}
+
+// shut begins to close the carrier, which may wait for a server.
+func (c *Client) shut() {
+	go func() {
+		c.close()
+		close(c.isShut)
+	}()
+}
+
+// lastWords is for how long what was said last may leave after a context ended.
+const lastWords = 50 * time.Millisecond
+
+// awaitShut waits until what was said last has left, as long as the context lasts, and a moment longer.
+func (c *Client) awaitShut(ctx context.Context) {
+	select {
+	case <-c.isShut:
+		return
+	case <-ctx.Done():
+	}
+	select {
+	case <-c.isShut:
+	case <-time.After(lastWords):
+	}
 }
 
 // call runs a function in the loop.
@@ -486,8 +515,8 @@ func (c *Client) run() {
 		every = repeatAsk / 2
 	}
 	ticker := time.NewTicker(every)
+	defer c.shut()
 	defer close(c.stopped)
-	defer c.close()
 	defer ticker.Stop()
 	for c.why == nil {
 		select {

@@ -502,6 +502,7 @@ func (c *Client) noteEnd(l *lock) {
 // round does what time asks for: heartbeats, reminders, and other quorums in place of those with a silent voter.
 func (c *Client) round(now time.Time) {
 	if c.looks {
+		c.move(now)
 		c.followPlans(now)
 		return
 	}
@@ -519,6 +520,9 @@ func (c *Client) round(now time.Time) {
 		c.lapse()
 	}
 	c.noteSilent(c.silent(now))
+	if c.missed != 0 {
+		c.move(now)
+	}
 	avoided := c.avoided(now)
 	for l := range c.busy {
 		switch {

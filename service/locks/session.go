@@ -549,6 +549,7 @@ func (c *Client) tell(voter int, says qlock.ClientSays) {
 // rounds says something again and again until it is done.
 func (c *Client) rounds(ctx context.Context, say func(), done func() bool) error {
 	for wait := 100 * time.Millisecond; ; wait += 100 * time.Millisecond {
+		c.move(time.Now())
 		say()
 		c.flush()
 		timer := time.NewTimer(wait)
@@ -693,7 +694,7 @@ func (c *Client) heartbeat(now time.Time) {
 }
 
 // show shows that the session is there. What may have been lost before is lost first: replies to this heartbeat say nothing of the time
-// before it.
+// before it. It counts from now, and leaves later, so no vote counts for longer than voters grant it.
 func (c *Client) show(now time.Time) {
 	c.lapse()
 	c.beat = now
@@ -791,6 +792,36 @@ func (c *Client) heard(now time.Time) (heard, quiet []uint64) {
 		heard[v], quiet[v] = since(c.peers[v].heard, now), since(c.peers[v].quiet, now)
 	}
 	return heard, quiet
+}
+
+// deaf is for how long no quorum of voters is heard until the server of the broker is left: it may live, and reach none of them. Who opens a
+// session has no lock to lose, and tries again and again by new processes.
+func (c *Client) deaf() time.Duration {
+	if c.opening {
+		return c.cluster.TTL.Duration
+	}
+	return 2 * c.cluster.TTL.Duration
+}
+
+// isDeaf returns whether no quorum of voters was heard for so long. Who only looks hears voters if something is asked.
+func (c *Client) isDeaf(now time.Time) bool {
+	if c.looks {
+		for _, q := range c.questions {
+			if now.Sub(q.began) > c.deaf() {
+				return true
+			}
+		}
+		return false
+	}
+	heard, _ := c.heard(now)
+	return !c.hasQuorum(^qlock.Silent(heard, late, uint64(c.deaf())))
+}
+
+// move goes to the next server of the broker if this one reaches no quorum. Each one has as long.
+func (c *Client) move(now time.Time) {
+	if c.isDeaf(now) {
+		transport.Move(c.carrier, c.deaf())
+	}
 }
 
 // silent returns the voters of which nothing came for so long.

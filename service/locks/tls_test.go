@@ -135,12 +135,20 @@ func connect(t *testing.T, cluster *config.Cluster, access config.Access) *trans
 // serve starts the voters of a cluster, each as its own user.
 func serve(t *testing.T, cluster *config.Cluster, folder string) {
 	t.Helper()
+	serveBy(t, cluster, folder, func(i int) *transport.NATS {
+		return connect(t, cluster, access(folder, users.VoterName(i)))
+	})
+}
+
+// serveBy starts the voters of a cluster, each by a connection of its own.
+func serveBy(t *testing.T, cluster *config.Cluster, folder string, by func(i int) *transport.NATS) {
+	t.Helper()
 	for i, name := range cluster.Planned.Names {
 		own := worlds.NewVoter(name, filepath.Join(folder, "voter-"+name))
 		if _, err := voter.Init(own, cluster); err != nil {
 			t.Fatal(err)
 		}
-		d, err := voter.Open(own, cluster, connect(t, cluster, access(folder, users.VoterName(i))), event.To(io.Discard))
+		d, err := voter.Open(own, cluster, by(i), event.To(io.Discard))
 		if err != nil {
 			t.Fatal(i, err)
 		}

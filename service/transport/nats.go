@@ -27,42 +27,56 @@ const (
 )
 
 // NATS is a connection to one of the servers of NATS. If it fails, it goes on to the next one, for ever. It goes to no other
-// server than those of the cluster's file.
+// server than those of the cluster's file. No call waits for a server (outbox.go).
 type NATS struct {
-	connection *nats.Conn
-	current    atomic.Pointer[nats.Conn] // the connection, once Connect returned it
-	returns    atomic.Uint64
-	dialed     atomic.Pointer[error] // why the last server was not to be had, which the library does not keep
-	closed     chan struct{}
-	refusals   *refusals
+	current  atomic.Pointer[nats.Conn] // the connection, nil until each server was tried once
+	link     atomic.Int32              // one of the states below
+	wire     atomic.Pointer[wire]      // the last one that was made
+	returns  atomic.Uint64
+	dialed   atomic.Pointer[error] // why the last server was not to be had, which the library does not keep
+	why      atomic.Pointer[error] // what the library said last
+	out      outbox
+	closing  sync.Once
+	closed   chan struct{} // closed by Close
+	ended    chan struct{} // closed once the connection is
+	refusals *refusals
+	servers  int
 
 	certificate func() (*tls.Certificate, error) // reads this process's certificate, nil if it has none
 
 	mutex     sync.Mutex
-	mailboxes []mailbox
-	passed    map[string]passed // the mailboxes of which a function takes all, by their subjects
-	came      chan *nats.Msg    // what came to these, nil before there was one
-	lost      uint64            // the messages that found no room in mailboxes that were left since
+	mailboxes []*mailbox
+	passed    map[string]*passed // the mailboxes of which a function takes all, by their subjects
+	came      chan *nats.Msg     // what came to these, nil before there was one
+	lost      uint64             // the messages that found no room in mailboxes that were left since
 }
+
+// Whether there is a connection. At first it is not known.
+const (
+	isDown int32 = 1 + iota
+	isUp
+)
 
 // mailbox is what comes to one subject.
 type mailbox struct {
-	subscription *nats.Subscription
+	subject      string
+	subscription *nats.Subscription // nil until the library has it
 	messages     chan Message
 	left         chan struct{} // closed once nobody reads it any more
 }
 
 // passed is a mailbox of which a function takes all that comes.
 type passed struct {
-	subscription *nats.Subscription
+	subscription *nats.Subscription // nil until the library has it
 	to           func(Message)
 }
 
 // Connect begins to connect to a cluster's servers, to the first in their order that is there. It returns before a
-// connection is there. A server that stands still is left after three seconds. Where all processes have one order, their
-// messages take one server.
+// connection is there, and waits for no server. A server that stands still is left after three seconds. Where all processes
+// have one order, their messages take one server.
 func Connect(cluster *config.Cluster, access config.Access, name string) (*NATS, error) {
-	n := &NATS{closed: make(chan struct{}), passed: map[string]passed{}, refusals: newRefusals(os.Stderr)}
+	n := &NATS{out: newOutbox(), closed: make(chan struct{}), ended: make(chan struct{}), passed: map[string]*passed{},
+		refusals: newRefusals(os.Stderr), servers: len(cluster.Servers)}
 	if err := hidden(cluster, access); err != nil {
 		return nil, err
 	}
@@ -73,7 +87,11 @@ func Connect(cluster *config.Cluster, access config.Access, name string) (*NATS,
 		nats.ReconnectBufSize(-1), // what can't leave is lost, and not sent late
 		nats.PingInterval(time.Second), nats.MaxPingsOutstanding(2),
 		nats.FlusherTimeout(time.Second), // else a server that reads nothing holds whoever sends, and no ping leaves
+		// the connection may have failed already
+		nats.ConnectHandler(func(*nats.Conn) { n.link.CompareAndSwap(0, isUp) }),
+		nats.DisconnectErrHandler(func(*nats.Conn, error) { n.link.Store(isDown) }),
 		nats.ReconnectHandler(func(*nats.Conn) {
+			n.link.Store(isUp)
 			n.returns.Add(1)
 			n.refusals.beginAnew()
 		}),
@@ -83,11 +101,14 @@ func Connect(cluster *config.Cluster, access config.Access, name string) (*NATS,
 	if err != nil {
 		return nil, err
 	}
-	n.connection, err = nats.Connect(strings.Join(cluster.Servers, ","), append(options, more...)...)
-	if err != nil {
-		return nil, fmt.Errorf("nats: %w", err)
+	all := nats.GetDefaultOptions()
+	for _, option := range append(options, more...) {
+		if err := option(&all); err != nil {
+			return nil, fmt.Errorf("nats: %w", err)
+		}
 	}
-	n.current.Store(n.connection)
+	all.Servers = cluster.Servers
+	go n.run(all)
 	return n, nil
 }
 
@@ -209,8 +230,25 @@ func (d *dialer) Dial(network, address string) (net.Conn, error) {
 		return nil, fmt.Errorf("%w: %s", errUnlisted, address)
 	}
 	connection, err := net.DialTimeout(network, address, time.Second)
-	d.dialed.Store(&err)
+	if d.dialed.Store(&err); err == nil {
+		d.wire.Store(&wire{connection, time.Now()})
+	}
 	return connection, err
+}
+
+// wire is a connection to a server.
+type wire struct {
+	net.Conn
+	since time.Time
+}
+
+// Move leaves a server that lives and reaches nobody whom this process needs, for the next one. It does nothing while the connection is
+// younger than this age: where nobody is there, no server has a storm of those who look for them.
+func (n *NATS) Move(age time.Duration) {
+	now := n.wire.Load()
+	if n.servers > 1 && n.Connected() && now != nil && time.Since(now.since) >= age && n.wire.CompareAndSwap(now, nil) {
+		_ = now.Close() // the library takes the next server then
+	}
 }
 
 // errUnlisted is returned for a server that another one named, and the cluster's file does not.
@@ -280,9 +318,31 @@ func (n *NATS) CertificateEnd() time.Time {
 	return first.NotAfter
 }
 
+// lastError returns what the library says went wrong last. While the library dials, that is what it said before.
+func (n *NATS) lastError() error {
+	connection := n.current.Load()
+	if connection == nil {
+		return nil
+	}
+	said := make(chan struct{})
+	go func() {
+		defer close(said)
+		why := connection.LastError()
+		n.why.Store(&why)
+	}()
+	select {
+	case <-said:
+	case <-time.After(aMoment):
+	}
+	if why := n.why.Load(); why != nil {
+		return *why
+	}
+	return nil
+}
+
 // Why returns why there is no connection, as far as it is known.
 func (n *NATS) Why() error {
-	why := n.connection.LastError()
+	why := n.lastError()
 	if dialed := n.dialed.Load(); why == nil && dialed != nil {
 		why = *dialed
 	}
@@ -297,7 +357,7 @@ var ErrRefused = errors.New("the server of NATS refuses the user")
 func (n *NATS) Refusal() error {
 	why := n.refusals.ofMailbox()
 	if why == nil && !n.Connected() {
-		why = ofUser(n.connection.LastError())
+		why = ofUser(n.lastError())
 	}
 	if why == nil {
 		return nil
@@ -337,21 +397,16 @@ func (n *NATS) Explain(err error) error {
 	return fmt.Errorf("%w: no server of NATS is there: %v", err, n.Why())
 }
 
-// Send sends a message.
-func (n *NATS) Send(mailbox string, message []byte) error {
-	return n.connection.Publish(mailbox, message)
-}
-
 // Listen returns the messages that come to a mailbox. What finds no room is dropped, and counted: a
 // reminder repeats it.
 func (n *NATS) Listen(subject string) (<-chan Message, error) {
-	messages, left := make(chan Message, next), make(chan struct{})
-	out := handed{to: messages, sizes: make([]int, next+1)}
-	subscription, err := n.connection.Subscribe(subject, func(m *nats.Msg) {
+	box := &mailbox{subject: subject, messages: make(chan Message, next), left: make(chan struct{})}
+	out := handed{to: box.messages, sizes: make([]int, next+1)}
+	takes := func(m *nats.Msg) {
 		for !out.hasRoom(len(m.Data)) {
 			select {
 			case <-time.After(time.Millisecond): // the others wait in the subscription
-			case <-left:
+			case <-box.left:
 				return
 			case <-n.closed:
 				return
@@ -360,33 +415,57 @@ func (n *NATS) Listen(subject string) (<-chan Message, error) {
 		select {
 		case out.to <- Message{m.Subject, m.Data}:
 			out.note(len(m.Data))
-		case <-left:
+		case <-box.left:
 		case <-n.closed:
 		}
-	})
-	if err != nil {
-		return nil, err
-	}
-	if err := subscription.SetPendingLimits(Room, RoomBytes); err != nil {
-		return nil, err
 	}
 	n.mutex.Lock()
-	defer n.mutex.Unlock()
-	n.mailboxes = append(n.mailboxes, mailbox{subscription, messages, left})
-	return messages, nil
+	n.mailboxes = append(n.mailboxes, box)
+	n.mutex.Unlock()
+	n.subscribes(&box.subscription, func(connection *nats.Conn) (*nats.Subscription, error) {
+		subscription, err := connection.Subscribe(subject, takes)
+		if err == nil {
+			err = subscription.SetPendingLimits(Room, RoomBytes)
+		}
+		return subscription, err
+	})
+	return box.messages, nil
 }
 
 // Pass hands what comes to a mailbox to a function. All these mailboxes have one goroutine, and room for so many messages together.
 func (n *NATS) Pass(subject string, to func(Message)) error {
 	n.forget(subject)
-	subscription, err := n.connection.ChanSubscribe(subject, n.passes())
-	if err != nil {
-		return err
-	}
+	box, came := &passed{to: to}, n.passes()
 	n.mutex.Lock()
-	defer n.mutex.Unlock()
-	n.passed[subject] = passed{subscription, to}
+	n.passed[subject] = box
+	n.mutex.Unlock()
+	n.subscribes(&box.subscription, func(connection *nats.Conn) (*nats.Subscription, error) {
+		return connection.ChanSubscribe(subject, came)
+	})
 	return nil
+}
+
+// subscribes lets the library take what comes to a mailbox, behind what was said before.
+func (n *NATS) subscribes(to **nats.Subscription, subscribe func(*nats.Conn) (*nats.Subscription, error)) {
+	n.out.does(func(connection *nats.Conn) {
+		subscription, err := subscribe(connection)
+		if err != nil {
+			n.refusals.handle(connection, nil, err)
+		}
+		n.mutex.Lock()
+		defer n.mutex.Unlock()
+		*to = subscription
+	})
+}
+
+// unsubscribes ends what subscribes began.
+func (n *NATS) unsubscribes(of **nats.Subscription) {
+	n.out.does(func(*nats.Conn) {
+		n.mutex.Lock()
+		subscription := *of
+		n.mutex.Unlock()
+		_ = subscription.Unsubscribe()
+	})
 }
 
 // passes returns where all comes that functions take.
@@ -417,18 +496,14 @@ func (n *NATS) pass() {
 	}
 }
 
-// forget ends a mailbox of which a function takes all, if there is one, and keeps what it counted. It waits for the connection, and nobody
-// else does meanwhile.
+// forget ends a mailbox of which a function takes all, if there is one, and keeps what it counted.
 func (n *NATS) forget(subject string) {
 	n.mutex.Lock()
-	box, isThere := n.passed[subject]
-	if isThere {
+	defer n.mutex.Unlock()
+	if box, isThere := n.passed[subject]; isThere {
 		n.lost += dropped(box.subscription)
 		delete(n.passed, subject)
-	}
-	n.mutex.Unlock()
-	if isThere {
-		_ = box.subscription.Unsubscribe()
+		n.unsubscribes(&box.subscription)
 	}
 }
 
@@ -471,16 +546,16 @@ func (n *NATS) Leave(subject string) {
 	defer n.mutex.Unlock()
 	kept := n.mailboxes[:0]
 	for _, box := range n.mailboxes {
-		if box.subscription.Subject != subject {
+		if box.subject != subject {
 			kept = append(kept, box)
 			continue
 		}
 		n.lost += dropped(box.subscription)
-		_ = box.subscription.Unsubscribe()
+		n.unsubscribes(&box.subscription)
 		close(box.left)
 	}
 	for i := len(kept); i < len(n.mailboxes); i++ {
-		n.mailboxes[i] = mailbox{}
+		n.mailboxes[i] = nil
 	}
 	n.mailboxes = kept
 }
@@ -514,7 +589,7 @@ func (n *NATS) Dropped() (count uint64) {
 }
 
 // Connected returns whether there is a connection.
-func (n *NATS) Connected() bool { return n.connection.IsConnected() }
+func (n *NATS) Connected() bool { return n.link.Load() == isUp }
 
 // Returns returns how often the connection came back. A first one that came late counts too. An attempt that a server
 // refused does not; only the statistics of nats.Conn count it.
@@ -522,7 +597,9 @@ func (n *NATS) Returns() uint64 { return n.returns.Load() }
 
 // Close sends what was given to Send, if that takes less than a second, and ends the connection.
 func (n *NATS) Close() {
-	_ = n.connection.FlushTimeout(time.Second)
-	close(n.closed)
-	n.connection.Close()
+	n.closing.Do(func() { close(n.closed) })
+	select {
+	case <-n.ended:
+	case <-time.After(mostLate):
+	}
 }

@@ -1,7 +1,10 @@
 // Package transport carries messages between voters and clients. NATS is one transport; another one has two methods.
 package transport
 
-import "strings"
+import (
+	"strings"
+	"time"
+)
 
 // Message is what came to a mailbox.
 type Message struct {
@@ -61,6 +64,19 @@ type Leaver interface {
 func Leave(t Transport, mailbox string) {
 	if leaver, ok := t.(Leaver); ok {
 		leaver.Leave(mailbox)
+	}
+}
+
+// Mover is what a transport may have besides: it leaves a server that reaches nobody who is needed, for the next one, unless the connection
+// to it is younger than this age.
+type Mover interface {
+	Move(age time.Duration)
+}
+
+// Move leaves a server that reaches nobody, if the transport knows how.
+func Move(t Transport, age time.Duration) {
+	if mover, ok := t.(Mover); ok {
+		mover.Move(age)
 	}
 }
 

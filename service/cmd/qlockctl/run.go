@@ -165,15 +165,11 @@ func (of taking) slowVoters() string {
 func run(ctx context.Context, settings locks.Config, of taking, grace time.Duration, words []string) (err error) {
 	limit, cancel := context.WithTimeout(ctx, of.wait)
 	defer cancel()
-	var client *locks.Client
-	err = unlessRefused(limit, settings.Transport, func(ctx context.Context) (err error) {
-		client, err = locks.Open(ctx, settings)
-		return err
-	})
-	if errors.Is(err, locks.ErrNoQuorum) {
+	client, held, err := takenBy(limit, settings, of)
+	if client == nil && errors.Is(err, locks.ErrNoQuorum) {
 		err = fmt.Errorf("%w%s", err, of.slowVoters())
 	}
-	if err != nil {
+	if client == nil {
 		return withoutLock(limit, err)
 	}
 	defer func() {
@@ -183,11 +179,6 @@ func run(ctx context.Context, settings locks.Config, of taking, grace time.Durat
 			fmt.Fprintln(os.Stderr, "qlockctl: the lock is let go after the TTL:", closed)
 		}
 	}()
-	take := client.Lock
-	if of.tries {
-		take = client.TryLock
-	}
-	held, err := take(limit, of.lock)
 	if err != nil {
 		now := func() string { return of.slowVoters() + nowHeld(client, of.lock) }
 		return notTaken(limit, err, client.Silent(), of, now)
@@ -200,6 +191,27 @@ func run(ctx context.Context, settings locks.Config, of taking, grace time.Durat
 		}
 	}
 	return runWith(ctx, held, of, turn, grace, words)
+}
+
+// takenBy opens a session, and takes a lock by it. One that is over before, since another one has its number or an operator ended it, is
+// followed by another one. It returns no client if none was to be had.
+func takenBy(limit context.Context, settings locks.Config, of taking) (client *locks.Client, held *locks.Held, err error) {
+	for {
+		err = unlessRefused(limit, settings.Transport, func(ctx context.Context) (err error) {
+			client, err = locks.Open(ctx, settings)
+			return err
+		})
+		if err != nil {
+			return nil, nil, err
+		}
+		take := client.Lock
+		if of.tries {
+			take = client.TryLock
+		}
+		if held, err = take(limit, of.lock); !errors.Is(err, locks.ErrLost) || limit.Err() != nil {
+			return client, held, err
+		}
+	}
 }
 
 // runByAgent runs a program under a lock of the host's agent.

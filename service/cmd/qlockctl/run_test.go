@@ -5,6 +5,7 @@ import (
 	"context"
 	"errors"
 	"fmt"
+	"log"
 	"os"
 	"os/exec"
 	"path/filepath"
@@ -231,6 +232,85 @@ func TestStatusOfRun(t *testing.T) {
 	}
 }
 
+// said are the lines of a log.
+type said chan string
+
+func (s said) Write(line []byte) (int, error) {
+	s <- string(line)
+	return len(line), nil
+}
+
+// session returns the number of the next session that the log names.
+func (s said) session(t *testing.T) (number int) {
+	t.Helper()
+	for end := time.After(20 * time.Second); ; {
+		select {
+		case line := <-s:
+			if _, err := fmt.Sscanf(line, "event=session number=%d", &number); err == nil {
+				return number
+			}
+		case <-end:
+			t.Fatal("there is no session")
+		}
+	}
+}
+
+// A session that is over before it has the lock is followed by another one. One that ends later, with the lock, is not.
+func TestSessionIsFollowedUntilTheLockIsThere(t *testing.T) {
+	w := worlds.New(t, worlds.Majority, 20*time.Second)
+	path, lines := fileOf(t, w), make(said, 1000)
+	other, err := locks.Open(context.Background(), locks.Config{Cluster: path, Transport: w.Bus.Port()})
+	if err != nil {
+		t.Fatal(err)
+	}
+	held, err := other.Lock(context.Background(), "x")
+	if err != nil {
+		t.Fatal(err)
+	}
+	evict := func(words string) {
+		t.Helper()
+		ctx, cancel := context.WithTimeout(context.Background(), 20*time.Second)
+		defer cancel()
+		if _, err := w.Console().Ask(ctx, "evict "+words, 0, 1, 2); err != nil {
+			t.Fatal(err)
+		}
+	}
+	is := func(what string, so func(locks.Holder) bool) {
+		t.Helper()
+		for end := time.Now().Add(20 * time.Second); ; time.Sleep(10 * time.Millisecond) {
+			if holder, err := other.Who(context.Background(), "x"); err == nil && so(holder) {
+				return
+			} else if time.Now().After(end) {
+				t.Fatalf("it is not so that %s: %v", what, holder)
+			}
+		}
+	}
+	ended := make(chan error, 1)
+	go func() {
+		ended <- run(context.Background(), locks.Config{Cluster: path, Transport: w.Bus.Port(), Log: log.New(lines, "", 0), Note: "run"},
+			taking{lock: "x", wait: time.Minute}, time.Second, []string{"sleep", "60"})
+	}()
+	first := lines.session(t)
+	is("it waits", func(holder locks.Holder) bool { return holder.Waiting == 1 })
+	evict(fmt.Sprint(first, " now")) // else what it asks for keeps others out for a TTL
+	second := lines.session(t)
+	if err := held.Unlock(); err != nil {
+		t.Fatal(err)
+	}
+	is("it has the lock", func(holder locks.Holder) bool { return holder.Note == "run" && !holder.Asked })
+	evict(fmt.Sprint(second, " now"))
+	var got status
+	if err := <-ended; !errors.As(err, &got) || got.code != exitLost {
+		t.Error(err)
+	}
+	for len(lines) > 0 {
+		if line := <-lines; strings.HasPrefix(line, "event=session number") {
+			t.Error("it opens a third session:", line)
+		}
+	}
+	_ = other.Close(context.Background())
+}
+
 // With --try nobody waits for who has the lock.
 func TestRunThatTries(t *testing.T) {
 	w := worlds.New(t, worlds.Majority, 20*time.Second)
@@ -315,6 +395,9 @@ func TestLossAtTheEndIsNoSuccess(t *testing.T) {
 	var got status
 	if !errors.As(err, &got) || got.code != exitLost {
 		t.Errorf("%v", err)
+	}
+}
+
 // A command that got no lock says which voters are there and give no vote yet, why, and for how long at most. Who is a
 // user may not ask that.
 func TestSlowVoters(t *testing.T) {

@@ -29,6 +29,7 @@ import (
 	"calvundek.example/service/internal/local"
 	"calvundek.example/service/internal/worlds"
 	"calvundek.example/service/locks"
+	"golang.org/x/sys/unix"
 )
 
 // ttl is that of a cluster in which nothing is to be lost on a busy machine.
@@ -277,6 +278,9 @@ func TestFirstLine(t *testing.T) {
 	if left <= 0 || left > most*8/10 || until < before+left || until > boot.Uptime().Milliseconds()+most*8/10 {
 		t.Error(line, before)
 	}
+	if asked := int64(line["asked_ms"].(float64)); asked < before || asked > until-left {
+		t.Errorf("it was asked at %d: %v, %d", asked, line, before)
+	}
 	if kind := s.reply.Header.Get("Content-Type"); kind != "application/x-ndjson" {
 		t.Error(kind)
 	}
@@ -328,6 +332,45 @@ func TestLockLastsAsItsConnection(t *testing.T) {
 		again, _ := h.take("x?wait=30s")
 		_ = again.connection.Close()
 		h.until("given back", func() bool { return len(h.listed("/v1/locks/x")) == 0 })
+	}
+}
+
+// The lock of a process that closes its connection is kept for a moment: if it died, those that have to die with it do. Who shuts half of it
+// down lives.
+func TestLockOutlastsTheDeathOfItsProcess(t *testing.T) {
+	h := start(t, ttl)
+	s, _ := h.take("x")
+	w := h.post("x?wait=30s")
+	h.until("waiting", func() bool { return len(h.listed("/v1/locks/x")) == 2 })
+	closed := time.Now()
+	_ = s.connection.Close()
+	if status := w.status(); status != http.StatusOK {
+		t.Error(status)
+	}
+	if after := time.Since(closed); after < dies {
+		t.Errorf("the next one has the lock after %v", after)
+	}
+	_ = w.connection.Close()
+	for _, closes := range []bool{false, true} {
+		files, err := unix.Socketpair(unix.AF_UNIX, unix.SOCK_STREAM, 0)
+		if err != nil {
+			t.Fatal(err)
+		}
+		file := os.NewFile(uintptr(files[0]), "socket")
+		connection, err := net.FileConn(file)
+		if err != nil {
+			t.Fatal(err)
+		}
+		if file.Close(); closes {
+			_ = unix.Close(files[1])
+		} else {
+			_ = unix.Shutdown(files[1], unix.SHUT_WR)
+			defer unix.Close(files[1])
+		}
+		if !events(connection, unix.POLLRDHUP) || events(connection, unix.POLLHUP) != closes {
+			t.Errorf("closed: %v", closes)
+		}
+		_ = connection.Close()
 	}
 }
 

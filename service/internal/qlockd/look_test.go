@@ -5,16 +5,20 @@ import (
 	"encoding/json"
 	"errors"
 	"fmt"
+	"io"
 	"net"
 	"net/http"
+	"net/http/httptest"
 	"os"
 	"path/filepath"
 	"strings"
+	"sync"
 	"sync/atomic"
 	"testing"
 	"time"
 
 	"calvundek.example/service/agent"
+	"calvundek.example/service/internal/event"
 	"calvundek.example/service/internal/view"
 	"calvundek.example/service/internal/worlds"
 	"calvundek.example/service/locks"
@@ -705,4 +709,42 @@ func TestClientLooks(t *testing.T) {
 		t.Error(err)
 	}
 	h.port.Cut(false)
+}
+
+// Who asks voters hears so within the time that he gives, also while no server of NATS says a word.
+func TestWhoEndsWithItsWait(t *testing.T) {
+	const most = 400 * time.Millisecond // some milliseconds, on a machine with much else to do
+	cluster := worlds.NewCluster(t, worlds.Majority, ttl)
+	cluster.Servers = nil
+	for i := 0; i < 3; i++ {
+		listener, err := net.Listen("tcp", "127.0.0.1:0")
+		if err != nil {
+			t.Fatal(err)
+		}
+		defer listener.Close()
+		cluster.Servers = append(cluster.Servers, "nats://"+listener.Addr().String()) // the system accepts for it
+	}
+	text, err := cluster.Text()
+	if err != nil {
+		t.Fatal(err)
+	}
+	file := filepath.Join(t.TempDir(), "cluster.toml")
+	if err := os.WriteFile(file, text, 0o600); err != nil {
+		t.Fatal(err)
+	}
+	a := New(Config{Log: event.To(io.Discard), Locks: locks.Config{Cluster: file}})
+	var group sync.WaitGroup
+	for i := 0; i < 10; i++ {
+		group.Add(1)
+		go func() {
+			defer group.Done()
+			began, reply := time.Now(), httptest.NewRecorder()
+			a.handler().ServeHTTP(reply, httptest.NewRequest("GET", "/v1/who/x?wait=500ms", nil))
+			if took := time.Since(began); reply.Code != http.StatusGatewayTimeout || took > 500*time.Millisecond+most {
+				t.Errorf("status %d after %v", reply.Code, took)
+			}
+		}()
+	}
+	group.Wait()
+	a.looksNoMore()
 }

@@ -103,7 +103,7 @@ func attend(parent context.Context) (context.Context, context.CancelFunc) {
 			case <-ctx.Done():
 				return
 			case <-ticker.C:
-				if hasEnded(c.connection) {
+				if events(c.connection, unix.POLLRDHUP|unix.POLLHUP|unix.POLLERR) {
 					cancel()
 				}
 			}
@@ -112,15 +112,15 @@ func attend(parent context.Context) (context.Context, context.CancelFunc) {
 	return ctx, cancel
 }
 
-// hasEnded returns whether the other end shut a connection down, or half of it.
-func hasEnded(connection net.Conn) (ended bool) {
+// events returns whether one of some events came to a connection: POLLRDHUP if the other end shut half of it down, POLLHUP if it closed it.
+func events(connection net.Conn, some int16) (came bool) {
 	control(connection, func(file int) {
 		asked := []unix.PollFd{{Fd: int32(file), Events: unix.POLLRDHUP}}
 		if _, err := unix.Poll(asked, 0); err == nil {
-			ended = asked[0].Revents&(unix.POLLRDHUP|unix.POLLHUP|unix.POLLERR) != 0
+			came = asked[0].Revents&some != 0
 		}
 	})
-	return ended
+	return came
 }
 
 // lookUp returns a user by its number.

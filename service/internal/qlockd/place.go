@@ -33,6 +33,7 @@ type place struct {
 	name    string
 	peer    peer
 	since   time.Time     // in this state
+	asked   time.Duration // when the request came, by boot.Uptime
 	state   state         // of the list
 	held    *locks.Held   // nil while it waits
 	turn    uint64        // of held, 0 if nobody asked for it

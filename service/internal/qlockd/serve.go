@@ -22,6 +22,7 @@ import (
 	"calvundek.example/service/qlock"
 	"calvundek.example/service/transport"
 	"github.com/prometheus/client_golang/prometheus/promhttp"
+	"golang.org/x/sys/unix"
 )
 
 // mostBody is how long the body of a request may be.
@@ -329,6 +330,7 @@ func (a *Agent) within(connection context.Context, wait time.Duration) (ctx cont
 
 // lock takes a lock, and keeps it as long as the connection lasts.
 func (a *Agent) lock(w http.ResponseWriter, r *http.Request, name string) {
+	came := boot.Uptime()
 	// a connection's end is seen once the body was read
 	body, err := io.ReadAll(http.MaxBytesReader(w, r.Body, mostBody))
 	if err != nil {
@@ -346,6 +348,7 @@ func (a *Agent) lock(w http.ResponseWriter, r *http.Request, name string) {
 		return
 	}
 	defer a.leave(p)
+	p.asked = came
 	of.whom.Pid, of.whom.Login = p.peer.Pid, p.peer.login()
 	if of.whom.Note == "" {
 		of.whom.Note = p.peer.Command
@@ -426,7 +429,7 @@ func isClosed(c <-chan struct{}) bool {
 }
 
 // left is how long a lock lasts if no voter is heard any more. Until is the end of that by CLOCK_BOOTTIME, which all
-// processes of a host share.
+// processes of a host share, but for those in another time namespace.
 type left struct {
 	Left  int64 `json:"left_ms"`
 	Until int64 `json:"until_ms"`
@@ -446,6 +449,8 @@ type first struct {
 	Pass string `json:"pass"`
 	Turn uint64 `json:"turn,string,omitempty"` // a text: not all readers of JSON have whole numbers of 64 bits
 	TTL  int64  `json:"ttl_ms"`
+	// when the request came, by the clock of Until: so a client with another clock knows by how much that differs
+	Asked int64 `json:"asked_ms"`
 	left
 }
 
@@ -549,7 +554,8 @@ func readLineWithin(connection net.Conn, lines *bufio.Reader, most time.Duration
 func (a *Agent) stream(say func(line interface{}) bool, ctx context.Context, p *place) {
 	ticker := time.NewTicker(p.session.ttl() / 4)
 	defer ticker.Stop()
-	line := interface{}(first{true, p.name, p.id, hex.EncodeToString(p.held.Token()), p.turn, p.session.ttl().Milliseconds(), leftOf(p.held)})
+	line := interface{}(first{true, p.name, p.id, hex.EncodeToString(p.held.Token()), p.turn, p.session.ttl().Milliseconds(), p.asked.Milliseconds(),
+		leftOf(p.held)})
 	for says := true; says && say(line); {
 		select {
 		case <-ticker.C:
@@ -560,12 +566,33 @@ func (a *Agent) stream(say func(line interface{}) bool, ctx context.Context, p *
 			says = false
 		}
 	}
-	if isClosed(p.lost) && say(last{Lost: true, Why: p.why}) {
+	isTold := isClosed(p.lost) && say(last{Lost: true, Why: p.why})
+	if isTold {
 		a.await(ctx, p)
-	} else if a.unlock(p, ""); isClosed(p.lost) {
+	}
+	if a.awaitDeath(ctx, p); isTold {
+		return
+	}
+	if a.unlock(p, ""); isClosed(p.lost) {
 		say(last{Lost: true, Why: p.why})
 	} else {
 		say(last{Unlocked: true})
+	}
+}
+
+// dies is for how long a lock is kept of which the connection was closed, and not only shut down by who gives the lock back: its process may
+// have died. The kernel closes the files of a process first, and then sends its children the signal that they asked for at its death. So the
+// program of a command that was killed is killed meanwhile, too. What that program started lives on, and so does who asked for no signal.
+const dies = 50 * time.Millisecond
+
+// awaitDeath waits while a process may die whose connection was closed.
+func (a *Agent) awaitDeath(ctx context.Context, p *place) {
+	if c, is := ctx.Value(callerKey{}).(*caller); !is || !events(c.connection, unix.POLLHUP) {
+		return
+	}
+	select {
+	case <-p.ended:
+	case <-time.After(dies):
 	}
 }
 

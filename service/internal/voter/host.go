@@ -164,8 +164,11 @@ func (d *Daemon) End() error {
 }
 
 // look logs that the broker is back, or has been away for long. No lease ends meanwhile: no marker
-// comes back.
+// comes back. A server of it that reaches no other voter is left for the next one: each says a word within a TTL and tellAgain.
 func (d *Daemon) look(now time.Time) {
+	if alone := 2 * (d.cluster.TTL.Duration + tellAgain); d.others() != 0 && now.Sub(d.spokeLast()) > alone {
+		transport.Move(d.carrier, alone)
+	}
 	if d.link != nil && d.link.Returns() != d.returns {
 		d.returns = d.link.Returns()
 		d.log.Write(event.Info, "broker-back", "returns", d.returns)
@@ -315,6 +318,6 @@ func (d *Daemon) deliverTo(header wire.Header, session string, runs, lines []byt
 // post sends one message. What can't be sent is lost: a reminder repeats it.
 func (d *Daemon) post(box string, message []byte) {
 	if d.carrier.Send(box, message) != nil {
-		d.m.unsent.Inc()
+		d.m.unsent.Add(1)
 	}
 }

@@ -17,14 +17,16 @@ import (
 
 // metrics are a voter's numbers for Prometheus.
 type metrics struct {
-	registry                                                                                  *prometheus.Registry
-	received, foreign, refused, unsent, reminders, expired, grants, spent, forgotten, dropped prometheus.Counter
-	full, fullUser                                                                            prometheus.Counter
-	commit, batch                                                                             prometheus.Histogram
-	locks, busy, held, userLocks, sessions, numbers, shards, plan, left                       prometheus.Gauge
+	registry                                                                          *prometheus.Registry
+	received, foreign, refused, reminders, expired, grants, spent, forgotten, dropped prometheus.Counter
+	full, fullUser                                                                    prometheus.Counter
+	commit, batch                                                                     prometheus.Histogram
+	locks, busy, held, userLocks, sessions, numbers, shards, plan, left               prometheus.Gauge
 
 	lasting, waiting oldest // of the grants that last, and of the requests that wait
 	most             uint64 // the highest number of a grant that was given, or skipped for a turn
+
+	unsent atomic.Uint64 // messages that the transport did not take
 }
 
 // highest notes the number of a grant, and returns the highest one that was noted.
@@ -68,7 +70,6 @@ func newMetrics() *metrics {
 	m.received = m.counter("messages_received_total", "Messages received.")
 	m.foreign = m.counter("messages_foreign_total", "Messages of another cluster or coterie, or of no sender of this protocol.")
 	m.refused = m.counter("lines_refused_total", "Lines that were dropped.")
-	m.unsent = m.counter("messages_unsent_total", "Messages that could not be sent.")
 	m.reminders = m.counter("reminders_total", "Reminders sent.")
 	m.expired = m.counter("leases_expired_total", "Grants that were let go, since their client was silent for the TTL.")
 	m.grants = m.counter("grants_total", "Grants given.")
@@ -125,6 +126,13 @@ func (d *Daemon) watch() {
 	}
 	counter("messages_dropped_total", "Messages for which there was no room.", func() float64 {
 		return float64(d.noRoom.Load() + link.Dropped())
+	})
+	counter("messages_unsent_total", "Messages that could not be sent.", func() float64 {
+		count := d.m.unsent.Load()
+		if by, is := link.(interface{ Unsent() uint64 }); is {
+			count += by.Unsent() // what it took, and could not send later
+		}
+		return float64(count)
 	})
 	d.m.read("queue_messages", "Messages that wait.",
 		func() float64 { return float64(int(d.waits.Load()) + link.Waiting()) })

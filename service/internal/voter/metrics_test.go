@@ -15,10 +15,11 @@ import (
 	"calvundek.example/service/internal/moment"
 )
 
-// certified is a link with a certificate.
+// certified is a link with a certificate, which lost some messages that it took.
 type certified struct{ *bus.Port }
 
 func (certified) CertificateEnd() time.Time { return time.Unix(1900000000, 0) }
+func (certified) Unsent() uint64            { return 5 }
 
 // What alarms are made of is there, and read when it is asked for: the loop does not go round here.
 func TestNumbersOfAVoter(t *testing.T) {
@@ -53,9 +54,10 @@ func TestNumbersOfAVoter(t *testing.T) {
 		_ = port.Send("qlock.test.v.0.-", []byte("x"))
 	}
 	d.noRoom.Add(2)
+	d.m.unsent.Add(2)
 	page := httptest.NewRecorder()
 	d.Handler().ServeHTTP(page, httptest.NewRequest("GET", "/metrics", nil))
-	for _, line := range []string{"qlock_voter_queue_messages 3", "qlock_voter_messages_dropped_total 2",
+	for _, line := range []string{"qlock_voter_queue_messages 3", "qlock_voter_messages_dropped_total 2", "qlock_voter_messages_unsent_total 7",
 		"qlock_voter_locks_most 77", "qlock_voter_user_locks_most 7", "qlock_voter_user_locks 0", "qlock_voter_numbers_free 64",
 		"qlock_voter_plan 0", "qlock_voter_file_bytes ", "qlock_voter_build_info{", "go_goroutines ",
 		"process_open_fds ", "qlock_voter_certificate_end_timestamp_seconds 1.9e+09",

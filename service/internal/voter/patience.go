@@ -28,6 +28,16 @@ const (
 // second whether to.
 func (d *Daemon) unheard() time.Duration { return d.cluster.TTL.Duration + 2*tellAgain }
 
+// spokeLast returns when another voter was heard last in this run, zero if none was.
+func (d *Daemon) spokeLast() (last time.Time) {
+	for _, spoke := range d.spoke {
+		if spoke.After(last) {
+			last = spoke
+		}
+	}
+	return last
+}
+
 // whoSpoke returns the other voters that were heard lately, and those that were not for so long.
 func (d *Daemon) whoSpoke(now time.Time) (heard, missed uint64) {
 	since := d.started
