@@ -101,11 +101,12 @@ type Daemon struct {
 	skippable       qlock.Bucket // how many more numbers may be skipped for turns
 	reach           uint64       // up to which number they may be now
 	voters          <-chan transport.Message
-	floor, ceiling  uint64            // its grants are above the floor, and up to the ceiling
-	raised          raised            // the same of votes of before the start
-	nothing         qlock.SinceStart  // of votes of which nothing was said since the start
-	markers         [keyBytes]byte    // the key of this run's markers
-	done            map[string][]byte // replies to what operators let go, by their questions
+	floor, ceiling  uint64           // its grants are above the floor, and up to the ceiling
+	raised          raised           // the same of votes of before the start
+	nothing         qlock.SinceStart // of votes of which nothing was said since the start
+	markers         [keyBytes]byte   // the key of this run's markers
+	done            done
+	questions       questions
 	messages, reads <-chan transport.Message
 	writes          <-chan transport.Message // what operators want done
 	inbox           inbox
@@ -149,7 +150,7 @@ func OpenIn(around Surroundings, own *config.Voter, cluster *config.Cluster, car
 		dirty: map[*vote]struct{}{}, silent: map[*vote]struct{}{},
 		leases: leases{ttl: cluster.TTL.Duration},
 		out:    map[string][]byte{}, replies: map[string]answer{}, started: now, away: now,
-		entries: entriesBefore(state), done: map[string][]byte{}, newPeers: map[int]Peer{}, gone: map[string]struct{}{}, restsFor: shortestRest,
+		entries: entriesBefore(state), newPeers: map[int]Peer{}, gone: map[string]struct{}{}, restsFor: shortestRest,
 		floors: map[int]Floor{}, newFloors: map[int]Floor{}}
 	if d.restsFor < 2*cluster.TTL.Duration {
 		d.restsFor = 2 * cluster.TTL.Duration

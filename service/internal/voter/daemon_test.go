@@ -2,76 +2,16 @@ package voter
 
 import (
 	"bytes"
-	"encoding/json"
 	"fmt"
-	"math/rand"
 	"testing"
 	"time"
 
 	"calvundek.example/service/internal/config"
 	"calvundek.example/service/internal/event"
-	"calvundek.example/service/internal/wire"
 	"calvundek.example/service/qlock"
 	"calvundek.example/service/transport"
 	"github.com/prometheus/client_golang/prometheus/testutil"
 )
-
-// A status that is too long for a message shows fewer votes, and says how many it left out.
-func TestLongStatus(t *testing.T) {
-	s := Status{Votes: make([]VoteView, 400)}
-	for i := range s.Votes {
-		s.Votes[i] = VoteView{Lock: fmt.Sprintf("orders.%d", i), Waiting: make([]WaiterView, 60)}
-	}
-	text := written(s)
-	if len(text) > mostReply {
-		t.Fatal(len(text))
-	}
-	var got Status
-	if err := json.Unmarshal(text, &got); err != nil || len(got.Votes) == 0 || got.Dropped+len(got.Votes) != 400 {
-		t.Error(len(got.Votes), got.Dropped, err)
-	}
-}
-
-// slow is a carrier to an operator that lets whoever sends wait.
-type slow struct {
-	post
-	sent chan []byte
-}
-
-func (s *slow) Send(_ string, message []byte) error { s.sent <- message; return nil }
-
-// A status is written and sent outside of the loop. It has the first votes by their names.
-func TestStatusOutsideOfTheLoop(t *testing.T) {
-	now, carrier := time.Unix(1000, 0), &slow{sent: make(chan []byte)}
-	d := &Daemon{cluster: &config.Cluster{ID: "test"}, own: &config.Voter{}, carrier: carrier, m: newMetrics(),
-		store: &store{meta: Meta{Cluster: "test", Identity: "copy"}}, mark: "mark",
-		replies: map[string]answer{}, done: map[string][]byte{}, leases: leasesAt(now)}
-	for _, i := range rand.New(rand.NewSource(1)).Perm(3 * mostShown) {
-		d.busy.add(&vote{name: fmt.Sprintf("orders-%05d", i)}, inBusy)
-	}
-	header := wire.Header{Cluster: "test", Coterie: "mark", Kind: wire.FromOperator, Name: "op"}
-	d.operate(transport.Message{Mailbox: wire.ReadBox("test", 0, "alice"), Data: append(header.Append(nil), "status\n"...)}, false, now)
-	delivered := make(chan struct{})
-	go func() { d.deliver(); close(delivered) }()
-	select {
-	case <-delivered:
-	case <-time.After(5 * time.Second):
-		t.Error("the loop waits for a status")
-	}
-	_, body, err := wire.Read(<-carrier.sent)
-	var s Status
-	if err != nil || json.Unmarshal(body, &s) != nil {
-		t.Fatal(string(body), err)
-	}
-	if len(s.Votes) != mostShown || s.Dropped != 2*mostShown {
-		t.Error(len(s.Votes), s.Dropped)
-	}
-	for i, v := range s.Votes {
-		if want := fmt.Sprintf("orders-%05d", i); v.Lock != want {
-			t.Fatalf("%s in place of %s", v.Lock, want)
-		}
-	}
-}
 
 // post is a carrier that keeps what was sent.
 type post struct{ sent [][]byte }

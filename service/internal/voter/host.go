@@ -71,6 +71,9 @@ func (d *Daemon) Turn() (until time.Time, err error) {
 	case !d.join.done:
 		until = earlier(until, d.join.next)
 	}
+	if len(d.questions.waiting) > 0 {
+		until = earlier(until, d.questions.next)
+	}
 	return until, nil
 }
 
@@ -127,10 +130,11 @@ func (d *Daemon) Take(from From, m transport.Message) {
 	case Voters:
 		d.hearPeer(m, d.now())
 	case Readers:
-		d.operate(m, false, d.now())
+		d.question(m)
 	case Operators:
 		d.operate(m, true, d.now())
 	}
+	d.answerNext()
 	d.receive()
 	d.work()
 	d.waits.Store(int64(d.inbox.count))
@@ -279,13 +283,8 @@ func (d *Daemon) deliver() {
 	}
 	sort.Strings(d.order)
 	for _, box := range d.order {
-		box, reply := box, d.replies[box]
-		header.Coterie, header.Lapses = reply.mark, 0
-		if begin := header.Append(nil); reply.status != nil {
-			d.aside(func() { d.post(box, append(begin, reply.text()...)) })
-		} else {
-			d.post(box, append(begin, reply.text()...))
-		}
+		header.Coterie, header.Lapses = d.replies[box].mark, 0
+		d.post(box, append(header.Append(nil), d.replies[box].body...))
 		delete(d.replies, box)
 	}
 }

@@ -41,8 +41,8 @@ func TestNameOfASessionIsSecret(t *testing.T) {
 		t.Fatal(err)
 	}
 	seen := map[string][]byte{"another voter": letter}
-	for _, question := range []string{"status", "knows"} {
-		seen[question] = written(d.obey([]string{question}, "alice", time.Now()))
+	for _, question := range []string{"sessions 0", "knows"} {
+		seen[question] = written(d.obey(strings.Fields(question), "alice", time.Now()))
 	}
 	if err := d.save(time.Now()); err != nil {
 		t.Fatal(err)
