@@ -118,7 +118,7 @@ type Daemon struct {
 	lively          atomic.Int64 // when the loop last went round, as a moment.Moment
 	marked          atomic.Int64 // when the last marker left that came back, since the start, whatever the clock on the wall does
 	waits           atomic.Int64 // messages in the inbox
-	noRoom          atomic.Uint64
+	noRoom          transport.Drops
 }
 
 // Owner returns whose state a voter has to have.

@@ -110,7 +110,7 @@ func (d *Daemon) question(m transport.Message) {
 	if wire.IsVoter(m.Sender()) {
 		d.operate(m, false, d.now())
 	} else if !d.questions.put(m) {
-		d.noRoom.Add(1)
+		d.noRoom.Add(m.Sender())
 	}
 }
 

@@ -10,6 +10,7 @@ import (
 
 	"calvundek.example/service/internal/moment"
 	"calvundek.example/service/qlock"
+	"calvundek.example/service/transport"
 	"github.com/prometheus/client_golang/prometheus"
 	"github.com/prometheus/client_golang/prometheus/collectors"
 	"github.com/prometheus/client_golang/prometheus/promhttp"
@@ -126,8 +127,33 @@ func (d *Daemon) watch() {
 	counter("messages_dropped_total", "Messages for which there was no room.", func() float64 {
 		return float64(d.noRoom.Load() + link.Dropped())
 	})
+	byUser := dropsByUser{&d.noRoom}
+	if counts, is := link.(interface{ Drops() *transport.Drops }); is {
+		byUser = append(byUser, counts.Drops())
+	}
+	d.m.registry.MustRegister(byUser)
 	d.m.read("queue_messages", "Messages that wait.",
 		func() float64 { return float64(int(d.waits.Load()) + link.Waiting()) })
+}
+
+// dropsByUser are the messages that found no room, by whose they were.
+type dropsByUser []*transport.Drops
+
+var droppedOfUser = prometheus.NewDesc("qlock_voter_user_messages_dropped_total", "Messages of a user for which there was no room.",
+	[]string{"user"}, nil)
+
+// Describe says what Collect shows.
+func (dropsByUser) Describe(into chan<- *prometheus.Desc) { into <- droppedOfUser }
+
+// Collect shows the users of which messages were dropped.
+func (d dropsByUser) Collect(into chan<- prometheus.Metric) {
+	counts := map[string]uint64{}
+	for _, one := range d {
+		one.AddTo(counts)
+	}
+	for user, count := range counts {
+		into <- prometheus.MustNewConstMetric(droppedOfUser, prometheus.CounterValue, float64(count), user)
+	}
 }
 
 // length returns how many bytes a file has, 0 if it can't be told.
