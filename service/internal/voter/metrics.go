@@ -139,8 +139,11 @@ func (d *Daemon) watch() {
 // dropsByUser are the messages that found no room, by whose they were.
 type dropsByUser []*transport.Drops
 
-var droppedOfUser = prometheus.NewDesc("qlock_voter_user_messages_dropped_total", "Messages of a user for which there was no room.",
-	[]string{"user"}, nil)
+var droppedOfUser = desc("user_messages_dropped_total", "Messages of a user for which there was no room.", "user")
+
+func desc(name, help string, labels ...string) *prometheus.Desc {
+	return prometheus.NewDesc("qlock_voter_"+name, help, labels, nil)
+}
 
 // Describe says what Collect shows.
 func (dropsByUser) Describe(into chan<- *prometheus.Desc) { into <- droppedOfUser }
