@@ -16,8 +16,11 @@ func weight(m Message) int {
 	return len(m.Data)
 }
 
-// room has what came to a mailbox, and is not handed out yet, in its order. A sender may have as much there as is still free, so there is
-// always some for those who send little.
+// ofOne is how many times as much of it a sender may have as is free.
+const ofOne = 3
+
+// room has what came to a mailbox, and is not handed out yet, in its order. One sender leaves some of it free, so there is always some for those
+// who send little.
 type room struct {
 	mutex   sync.Mutex
 	waiting []Message
@@ -32,8 +35,8 @@ func newRoom() *room { return &room{by: map[string]int{}, came: make(chan struct
 func (r *room) put(m Message) bool {
 	r.mutex.Lock()
 	defer r.mutex.Unlock()
-	from, more := m.Sender(), weight(m)
-	if r.by[from]+more > RoomBytes-r.used {
+	from, more, free := m.Sender(), weight(m), RoomBytes-r.used
+	if more > free || r.by[from]+more > ofOne*free {
 		return false
 	}
 	r.waiting = append(r.waiting, m)

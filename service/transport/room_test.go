@@ -15,20 +15,20 @@ func TestRoomOfSenders(t *testing.T) {
 		taken, count := 0, 0
 		for ; r.put(of("flood", count)); count++ {
 		}
-		if most := RoomBytes / weight(of("flood", 0)); count < most/3 || count > most/2+1 {
+		if most := RoomBytes / weight(of("flood", 0)); count < most/2 || count > most*3/4+2 {
 			t.Fatalf("one sender has room for %d messages of %d", count, most)
 		}
 		for _, sender := range []string{"one", "two"} {
-			for n := 0; n < 10; n++ {
+			for n := 0; n < 5; n++ {
 				if !r.put(of(sender, n)) {
 					t.Fatalf("there is no room for message %d of %s", n, sender)
 				}
 			}
 		}
-		if r.put(of("flood", count)) || r.count() != count+20 {
-			t.Errorf("who has as much as there is room has more: %d", r.count())
+		if r.put(of("flood", count)) || r.count() != count+10 {
+			t.Errorf("who has most of the room has more: %d", r.count())
 		}
-		for want := []string{"one0", "one1"}; taken < count+20; taken++ {
+		for want := []string{"one0", "one1"}; taken < count+10; taken++ {
 			m, isThere := r.take()
 			if last := string(m.Data[size:]); !isThere || taken < count && last != fmt.Sprint("flood", taken) ||
 				taken >= count && taken < count+2 && last != want[taken-count] {
@@ -55,5 +55,18 @@ func TestDropsBySender(t *testing.T) {
 	}
 	if d.AddTo(counts); d.Load() != 20*mostSenders || counts["user-0"] != 10*mostSenders+2 || len(counts) != mostSenders+1 || counts[""] != 9*mostSenders {
 		t.Errorf("%d: %v", d.Load(), counts)
+	}
+}
+
+// What waits never takes more than the room of a mailbox, whatever its size.
+func TestRoomIsNotExceeded(t *testing.T) {
+	r := newRoom()
+	for n, size := 0, RoomBytes/2; size > 0; n++ {
+		if m := (Message{fmt.Sprint("box.", n), make([]byte, size)}); !r.put(m) {
+			size = size * 3 / 4
+		}
+		if r.used > RoomBytes {
+			t.Fatalf("%d bytes wait", r.used)
+		}
 	}
 }
