@@ -93,7 +93,7 @@ func TestWhoseNoteItIs(t *testing.T) {
 func TestNoteAfterAStart(t *testing.T) {
 	d := sessions(t, 1)
 	d.repliesTo("jobs", 1, ". note one\n")
-	if err := d.save(time.Now()); err != nil {
+	if err := d.save(); err != nil {
 		t.Fatal(err)
 	}
 	again := reopened(t, d)

@@ -14,6 +14,7 @@ import (
 	"calvundek.example/service/internal/event"
 	"calvundek.example/service/internal/level"
 	"calvundek.example/service/internal/moment"
+	"calvundek.example/service/internal/voter/outbox"
 	"calvundek.example/service/internal/wire"
 	"calvundek.example/service/qlock"
 	"calvundek.example/service/transport"
@@ -25,7 +26,6 @@ var ErrSave = errors.New("the state can't be saved")
 const (
 	tick        = 50 * time.Millisecond
 	longestAway = 10 * time.Second // of the broker, before it is logged
-	longest     = 10 * time.Second // for which a step that sends nothing waits for the next save
 )
 
 // Daemon is a voter.
@@ -33,7 +33,8 @@ type Daemon struct {
 	cluster *config.Cluster
 	own     *config.Voter
 	store   *store
-	carrier transport.Transport
+	draft   outbox.Draft
+	sender  outbox.Sender
 	link    transport.Link // nil if the transport has none
 	log     *event.Log
 	m       *metrics
@@ -71,7 +72,6 @@ type Daemon struct {
 
 	dirty    map[*vote]struct{} // changed since the last save, and something leaves that depends on it
 	silent   map[*vote]struct{} // changed since the last save, and nothing does
-	savedAll time.Time          // when nothing was left to save
 	out      map[string][]byte  // lines that leave after the save, by session
 	sealed   []sealed           // those that leave before, with the lapses of when they were said
 	outBytes int
@@ -145,7 +145,7 @@ func OpenIn(around Surroundings, own *config.Voter, cluster *config.Cluster, car
 		return nil, err
 	}
 	now := around.Now()
-	d := &Daemon{cluster: cluster, own: own, store: state, carrier: carrier, log: log, m: newMetrics(), around: around,
+	d := &Daemon{cluster: cluster, own: own, store: state, sender: outbox.NewSender(carrier), log: log, m: newMetrics(), around: around,
 		votes: map[string]*vote{}, users: map[string]*usage{},
 		dirty: map[*vote]struct{}{}, silent: map[*vote]struct{}{},
 		leases: leases{ttl: cluster.TTL.Duration},
@@ -170,7 +170,7 @@ func OpenIn(around Surroundings, own *config.Voter, cluster *config.Cluster, car
 		d.store.disk.Close()
 		return nil, err
 	}
-	if err := d.listen(); err != nil {
+	if err := d.listen(carrier); err != nil {
 		d.store.disk.Close()
 		return nil, err
 	}

@@ -8,6 +8,7 @@ import (
 
 	"calvundek.example/service/internal/config"
 	"calvundek.example/service/internal/event"
+	"calvundek.example/service/internal/voter/outbox"
 	"calvundek.example/service/qlock"
 	"calvundek.example/service/transport"
 	"github.com/prometheus/client_golang/prometheus/testutil"
@@ -19,6 +20,27 @@ type post struct{ sent [][]byte }
 func (p *post) Send(_ string, message []byte) error { p.sent = append(p.sent, message); return nil }
 
 func (p *post) Listen(string) (<-chan transport.Message, error) { return nil, nil }
+
+// posts returns where all is put that a voter sends from now on.
+func (d *Daemon) posts() *post {
+	p := &post{}
+	d.sender = outbox.NewSender(p)
+	return p
+}
+
+// nothing is a state in which nothing changed.
+type nothing struct{}
+
+func (nothing) MustSave() bool { return false }
+func (nothing) MaySave() bool  { return false }
+func (nothing) Save() error    { return nil }
+
+// deliver sends what leaves after a save without one.
+func (d *Daemon) deliver() {
+	d.address()
+	saved, _ := d.draft.Commit(time.Now(), nothing{})
+	d.sender.Deliver(saved)
+}
 
 // says lets the session that has a number say a line about a lock.
 func says(d *Daemon, v *vote, client int, line string, now time.Time) {
@@ -124,13 +146,13 @@ func TestRoundAfterASlowTurn(t *testing.T) {
 	d.repliesTo("jobs", 2, "orders request 2 0 6\n")
 	now := d.now()
 	d.around.Now = func() time.Time { return now }
-	d.carrier = &heldUp{takes: func() { now = now.Add(3 * time.Second) }}
+	d.sender = outbox.NewSender(&heldUp{takes: func() { now = now.Add(3 * time.Second) }})
 	before := testutil.ToFloat64(d.m.reminders)
 	for i := 0; i < 2; i++ {
 		if _, err := d.Turn(); err != nil {
 			t.Fatal(err)
 		}
-		d.carrier = &post{}
+		d.sender = outbox.NewSender(&post{})
 		now = now.Add(2 * tick)
 	}
 	if testutil.ToFloat64(d.m.reminders) == before {

@@ -16,17 +16,17 @@ import (
 	"calvundek.example/service/transport"
 )
 
-func (d *Daemon) listen() (err error) {
-	if d.messages, err = d.carrier.Listen(wire.VoterBoxes(d.cluster.ID, d.store.meta.Voter)); err != nil {
+func (d *Daemon) listen(carrier transport.Transport) (err error) {
+	if d.messages, err = carrier.Listen(wire.VoterBoxes(d.cluster.ID, d.store.meta.Voter)); err != nil {
 		return err
 	}
-	if d.voters, err = d.carrier.Listen(wire.PeerBoxes(d.cluster.ID, d.store.meta.Voter)); err != nil {
+	if d.voters, err = carrier.Listen(wire.PeerBoxes(d.cluster.ID, d.store.meta.Voter)); err != nil {
 		return err
 	}
-	if d.reads, err = d.carrier.Listen(wire.ReadBox(d.cluster.ID, d.store.meta.Voter, "*")); err != nil {
+	if d.reads, err = carrier.Listen(wire.ReadBox(d.cluster.ID, d.store.meta.Voter, "*")); err != nil {
 		return err
 	}
-	d.writes, err = d.carrier.Listen(wire.WriteBox(d.cluster.ID, d.store.meta.Voter, "*"))
+	d.writes, err = carrier.Listen(wire.WriteBox(d.cluster.ID, d.store.meta.Voter, "*"))
 	return err
 }
 
@@ -143,7 +143,7 @@ func (d *Daemon) Take(from From, m transport.Message) {
 // End saves what nothing waited for, and tells all sessions that this voter leaves, so that they
 // ask others at once.
 func (d *Daemon) End() error {
-	d.savedAll = time.Time{}
+	d.draft.Hasten()
 	for _, s := range d.inTurn {
 		s.seats.each(func(number int, seat *seat) {
 			if seat.marks.has(isOpen) && s.isHeard(number) {
@@ -151,7 +151,8 @@ func (d *Daemon) End() error {
 			}
 		})
 	}
-	if err := d.commit(d.now()); err != nil {
+	now := d.now()
+	if err := d.commit(now); err != nil {
 		return err
 	}
 	if d.join.done && !d.isQuiet() && !d.awaits() { // else the next start has to be quiet, too: who is inside may wait for a vote
@@ -160,7 +161,9 @@ func (d *Daemon) End() error {
 				d.write(voter, word{Word: "ended", Process: d.join.process, Saves: d.store.saves})
 			}
 		}
-		d.deliverLetters()
+		if err := d.commit(now); err != nil {
+			return err
+		}
 	}
 	d.log.Write(event.Info, "end", "voter", d.own.Voter)
 	return nil
@@ -195,29 +198,37 @@ func (d *Daemon) IsLively(within time.Duration) bool {
 	return d.silentFor(d.now()) < within
 }
 
-// commit saves all that changed, in one transaction, and then sends. What may be lost in a crash
-// waits for the next save, at most ten seconds: steps that send nothing, and rows of which a TTL
-// makes up for the loss.
+// commit saves all that changed, if something leaves that may depend on it, and then sends. What may be lost in a crash waits for the next
+// save: steps that send nothing, and rows of which a TTL makes up for the loss.
 func (d *Daemon) commit(now time.Time) error {
-	must := len(d.dirty)+len(d.leases.changed)+len(d.newPeers)+len(d.newFloors) > 0 || d.newPlans || d.newOwn
-	leaves := len(d.out)+len(d.sealed)+len(d.replies)+len(d.letters)+len(d.skips) > 0
-	switch {
-	case !must && len(d.leases.later)+len(d.silent)+len(d.gone) == 0:
-		d.savedAll = now
-	case must && leaves || now.Sub(d.savedAll) > longest:
-		if err := d.save(now); err != nil {
-			return err
-		}
-	}
-	if leaves {
+	if len(d.out)+len(d.sealed)+len(d.replies)+len(d.letters)+len(d.skips) > 0 {
 		d.tellSkips()
-		d.deliver()
+		d.address()
 	}
+	saved, err := d.draft.Commit(now, unsaved{d})
+	if err != nil {
+		return err
+	}
+	d.m.unsent.Add(float64(d.sender.Deliver(saved)))
 	return nil
 }
 
+// unsaved is what a voter has to save.
+type unsaved struct{ *Daemon }
+
+// MustSave returns whether something changed on which what leaves may depend.
+func (u unsaved) MustSave() bool {
+	return len(u.dirty)+len(u.leases.changed)+len(u.newPeers)+len(u.newFloors) > 0 || u.newPlans || u.newOwn
+}
+
+// MaySave returns whether something else did.
+func (u unsaved) MaySave() bool { return len(u.leases.later)+len(u.silent)+len(u.gone) > 0 }
+
+// Save saves all that changed.
+func (u unsaved) Save() error { return u.save() }
+
 // save saves all that is not saved.
-func (d *Daemon) save(now time.Time) error {
+func (d *Daemon) save() error {
 	began := d.now()
 	for v := range d.silent {
 		d.dirty[v] = struct{}{}
@@ -237,7 +248,7 @@ func (d *Daemon) save(now time.Time) error {
 	d.leases.saved()
 	d.dirty, d.silent, d.newPeers = emptied(d.dirty), emptied(d.silent), map[int]Peer{}
 	d.gone, d.newFloors = emptied(d.gone), map[int]Floor{}
-	d.newPlans, d.newOwn, d.savedAll = false, false, now
+	d.newPlans, d.newOwn = false, false
 	return nil
 }
 
@@ -254,8 +265,8 @@ func emptied[K comparable, V any](m map[K]V) map[K]V {
 	return m
 }
 
-// deliver sends what may leave.
-func (d *Daemon) deliver() {
+// address makes messages of all that leaves after the save.
+func (d *Daemon) address() {
 	header, runs := d.header(), d.runs()
 	d.outBytes = 0
 	d.deliverLetters()
@@ -296,7 +307,7 @@ type sealed struct {
 	lapses  uint64
 }
 
-// deliverTo sends lines to a session, with this count of its lapses. What goes to a session of a process that takes bundles waits for the
+// deliverTo lets lines leave to a session, with this count of its lapses. What goes to a session of a process that takes bundles waits for the
 // others of this turn.
 func (d *Daemon) deliverTo(header wire.Header, session string, runs, lines []byte, lapses uint64) {
 	header.Coterie, header.Lapses = d.speaks(session), lapses
@@ -310,9 +321,5 @@ func (d *Daemon) deliverTo(header wire.Header, session string, runs, lines []byt
 	})
 }
 
-// post sends one message. What can't be sent is lost: a reminder repeats it.
-func (d *Daemon) post(box string, message []byte) {
-	if d.carrier.Send(box, message) != nil {
-		d.m.unsent.Inc()
-	}
-}
+// post lets one message leave after the save. What can't be sent is lost: a reminder repeats it.
+func (d *Daemon) post(box string, message []byte) { d.draft.Say(box, message) }

@@ -112,7 +112,7 @@ func TestWhatWasSaidIsPacked(t *testing.T) {
 func TestRestoredVotesArePacked(t *testing.T) {
 	d, _ := alone(t, 100)
 	holds(t, d, 1, "lock", 20, time.Now())
-	if err := d.save(time.Now()); err != nil {
+	if err := d.save(); err != nil {
 		t.Fatal(err)
 	}
 	again := reopened(t, d)
@@ -363,7 +363,7 @@ func BenchmarkStart(b *testing.B) {
 	d, _ := alone(b, 1<<20)
 	for i := 0; i < 100; i++ {
 		holds(b, d, 1, fmt.Sprint("lock-", i), 1000, time.Now())
-		if err := d.save(time.Now()); err != nil {
+		if err := d.save(); err != nil {
 			b.Fatal(err)
 		}
 	}

@@ -7,7 +7,6 @@ import (
 	"hash/fnv"
 	"math"
 	"sort"
-	"strconv"
 	"time"
 
 	"calvundek.example/service/internal/moment"
@@ -142,8 +141,9 @@ func (d *Daemon) receive() {
 // sendMarker sends a marker to this voter itself, if it is time for one.
 func (d *Daemon) sendMarker(now time.Time) {
 	if number := d.leases.clock.Send(now.Sub(d.leases.began)); number > 0 {
-		h := d.header()
-		d.post(wire.VoterBox(h.Cluster, h.Number, strconv.Itoa(h.Number)), append(h.Append(nil), d.markerLine(number)...))
+		if d.sender.Marker(d.header(), d.markerLine(number)) != nil {
+			d.m.unsent.Inc()
+		}
 	}
 }
 

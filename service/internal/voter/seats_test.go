@@ -16,6 +16,7 @@ import (
 	"calvundek.example/service/internal/config"
 	"calvundek.example/service/internal/event"
 	"calvundek.example/service/internal/level"
+	"calvundek.example/service/internal/voter/outbox"
 	"calvundek.example/service/internal/wire"
 	"calvundek.example/service/qlock"
 	"calvundek.example/service/transport"
@@ -308,7 +309,7 @@ func (*nowhere) Send(string, []byte) error { return nil }
 func measured(now time.Time, shards int) *Daemon {
 	d := &Daemon{cluster: &config.Cluster{ID: "test", Shards: shards}, own: &config.Voter{MaxLocks: 10}, store: &store{}, ceiling: qlock.MaxStamp,
 		m: newMetrics(), votes: map[string]*vote{}, users: map[string]*usage{}, dirty: map[*vote]struct{}{}, silent: map[*vote]struct{}{},
-		out: map[string][]byte{}, leases: leasesAt(now), carrier: &nowhere{}, log: event.To(io.Discard), mark: "m", join: joining{done: true}, gone: map[string]struct{}{}}
+		out: map[string][]byte{}, leases: leasesAt(now), sender: outbox.NewSender(&nowhere{}), log: event.To(io.Discard), mark: "m", join: joining{done: true}, gone: map[string]struct{}{}}
 	d.store.meta.Cluster, d.store.meta.Identity, d.store.own.Start = "test", identity("a"), 1
 	return d
 }

@@ -17,7 +17,7 @@ func (d *Daemon) turned(t *testing.T, number int, lines string) string {
 		t.Fatalf("%q: %q leaves before the save", lines, reply)
 	}
 	if len(d.dirty)+len(d.silent) > 0 || len(d.skips) > 0 {
-		if err := d.save(time.Now()); err != nil {
+		if err := d.save(); err != nil {
 			t.Fatal(err)
 		}
 	}

@@ -78,7 +78,7 @@ func newStage(f *testing.F) *stage {
 // markOf returns the mark in what a voter sends.
 func markOf(f *testing.F, d *Daemon) string {
 	f.Helper()
-	link := d.carrier.(*post)
+	link := d.posts()
 	d.tell("anybody", "hello")
 	d.deliver()
 	h, _, err := wire.Read(link.sent[len(link.sent)-1])
