@@ -33,7 +33,7 @@ type Daemon struct {
 	cluster *config.Cluster
 	own     *config.Voter
 	store   *store
-	draft   outbox.Draft
+	draft   outbox.Draft[*vote]
 	sender  outbox.Sender
 	link    transport.Link // nil if the transport has none
 	log     *event.Log
@@ -70,10 +70,8 @@ type Daemon struct {
 	mark, oldMark string
 	marks         map[string]string // by which plan a session speaks, while there are two
 
-	dirty    map[*vote]struct{} // changed since the last save, and something leaves that depends on it
-	silent   map[*vote]struct{} // changed since the last save, and nothing does
-	out      map[string][]byte  // lines that leave after the save, by session
-	sealed   []sealed           // those that leave before, with the lapses of when they were said
+	out      map[string][]byte // lines that leave after the save, by session
+	sealed   []sealed          // those that leave before, with the lapses of when they were said
 	outBytes int
 	order    []string          // of what leaves
 	bundles  []bundle          // what leaves to processes, in their order
@@ -147,7 +145,6 @@ func OpenIn(around Surroundings, own *config.Voter, cluster *config.Cluster, car
 	now := around.Now()
 	d := &Daemon{cluster: cluster, own: own, store: state, sender: outbox.NewSender(carrier), log: log, m: newMetrics(), around: around,
 		votes: map[string]*vote{}, users: map[string]*usage{},
-		dirty: map[*vote]struct{}{}, silent: map[*vote]struct{}{},
 		leases: leases{ttl: cluster.TTL.Duration},
 		out:    map[string][]byte{}, replies: map[string]answer{}, started: now, away: now,
 		entries: entriesBefore(state), newPeers: map[int]Peer{}, gone: map[string]struct{}{}, restsFor: shortestRest,
@@ -383,7 +380,7 @@ func (d *Daemon) extends(v *vote) bool {
 func (d *Daemon) note(v *vote, client int, shown qlock.LockShown, lines []byte, now time.Time) {
 	if shown.MustSave || v.isRaised { // what was saved last differs in nothing else from the state before a step
 		v.isRaised = false
-		d.silent[v] = struct{}{}
+		d.draft.May(v)
 	}
 	d.noteAsk(v, client, shown.Stamp, now)
 	d.noteGrant(v, shown.Held, now)
@@ -411,16 +408,8 @@ func (d *Daemon) refuse(v *vote, why error) {
 // deny tells a client that its REQUEST is over here: it was let go. It would wait for a reply for ever.
 func (d *Daemon) deny(v *vote, h wire.Header, said wire.Line, shown qlock.LockShown) {
 	if string(said.Word) == "request" && shown.Stamp != said.Stamp && shown.Finished >= said.Stamp {
-		d.mustSave(v)
+		d.draft.Tells(v)
 		d.sayOf(h.Name, qlock.LockSays{Kind: qlock.LockGone, Lock: []byte(v.name), Stamp: said.Stamp})
-	}
-}
-
-// mustSave notes that something leaves which depends on how a vote is now.
-func (d *Daemon) mustSave(v *vote) {
-	if _, is := d.silent[v]; is {
-		delete(d.silent, v)
-		d.dirty[v] = struct{}{}
 	}
 }
 
@@ -428,7 +417,7 @@ func (d *Daemon) mustSave(v *vote) {
 // heard in this run hears nothing: a reminder, or the reply to what he says next, repeats it.
 func (d *Daemon) send(v *vote, lines []byte) {
 	if len(lines) > 0 {
-		d.mustSave(v)
+		d.draft.Tells(v)
 	}
 	for len(lines) > 0 {
 		end := bytes.IndexByte(lines, '\n') + 1
@@ -756,7 +745,7 @@ func (d *Daemon) letGoBy(v *vote, now time.Time, call func(out []byte) ([]byte, 
 // isGone tells the client of a grant that its request is over, or an operator.
 func (d *Daemon) isGone(v *vote, held qlock.Grant, now time.Time) {
 	v.needs().letGo = moment.Of(now)
-	d.mustSave(v)
+	d.draft.Tells(v)
 	if row := v.shard.row(int(held.Client)); row.Open && held.Stamp > row.Base {
 		d.sayOf(v.shard.name(int(held.Client)), qlock.LockSays{Kind: qlock.LockGone, Lock: []byte(v.name), Stamp: held.Stamp})
 	}

@@ -31,9 +31,26 @@ func (d *Daemon) posts() *post {
 // nothing is a state in which nothing changed.
 type nothing struct{}
 
-func (nothing) MustSave() bool { return false }
-func (nothing) MaySave() bool  { return false }
-func (nothing) Save() error    { return nil }
+func (nothing) MustSave() bool                { return false }
+func (nothing) MaySave() bool                 { return false }
+func (nothing) Save(map[*vote]struct{}) error { return nil }
+
+// changed returns how many votes are not saved.
+func (d *Daemon) changed() (count int) {
+	for _, v := range d.votes {
+		if must, may := d.draft.Has(v); must || may {
+			count++
+		}
+	}
+	return count
+}
+
+// save saves all that changed.
+func (d *Daemon) save() error {
+	d.draft.Hasten()
+	_, err := d.draft.Commit(time.Now(), unsaved{d})
+	return err
+}
 
 // deliver sends what leaves after a save without one.
 func (d *Daemon) deliver() {
@@ -59,7 +76,7 @@ func TestSpentLock(t *testing.T) {
 	var log bytes.Buffer
 	now := time.Unix(1000, 0)
 	d := &Daemon{own: &config.Voter{}, store: &store{}, ceiling: 1, join: joining{done: true}, m: newMetrics(), log: event.To(&log), votes: map[string]*vote{},
-		dirty: map[*vote]struct{}{}, silent: map[*vote]struct{}{}, users: map[string]*usage{}, out: map[string][]byte{}, leases: newLeases(), cluster: &config.Cluster{}}
+		users: map[string]*usage{}, out: map[string][]byte{}, leases: newLeases(), cluster: &config.Cluster{}}
 	voter, err := qlock.NewVoter(0, 1)
 	if err != nil {
 		t.Fatal(err)
@@ -96,7 +113,7 @@ func TestSpentCeilingIsLoggedOnce(t *testing.T) {
 func TestEachLineLeaves(t *testing.T) {
 	now := time.Unix(1000, 0)
 	d := &Daemon{cluster: &config.Cluster{}, own: &config.Voter{}, store: &store{}, ceiling: 10, m: newMetrics(), votes: map[string]*vote{},
-		users: map[string]*usage{}, dirty: map[*vote]struct{}{}, silent: map[*vote]struct{}{}, out: map[string][]byte{},
+		users: map[string]*usage{}, out: map[string][]byte{},
 		leases: leasesAt(now)}
 	voter, err := qlock.NewVoter(0, 10)
 	if err != nil {

@@ -218,22 +218,17 @@ type unsaved struct{ *Daemon }
 
 // MustSave returns whether something changed on which what leaves may depend.
 func (u unsaved) MustSave() bool {
-	return len(u.dirty)+len(u.leases.changed)+len(u.newPeers)+len(u.newFloors) > 0 || u.newPlans || u.newOwn
+	return len(u.leases.changed)+len(u.newPeers)+len(u.newFloors) > 0 || u.newPlans || u.newOwn
 }
 
 // MaySave returns whether something else did.
-func (u unsaved) MaySave() bool { return len(u.leases.later)+len(u.silent)+len(u.gone) > 0 }
+func (u unsaved) MaySave() bool { return len(u.leases.later)+len(u.gone) > 0 }
 
-// Save saves all that changed.
-func (u unsaved) Save() error { return u.save() }
-
-// save saves all that is not saved.
-func (d *Daemon) save() error {
+// Save saves all that is not saved.
+func (u unsaved) Save(votes map[*vote]struct{}) error {
+	d := u.Daemon
 	began := d.now()
-	for v := range d.silent {
-		d.dirty[v] = struct{}{}
-	}
-	c := changes{votes: d.dirty, gone: d.gone, sessions: d.leases.unsaved(), floors: d.newFloors, dropped: d.leases.dropped, peers: d.newPeers}
+	c := changes{votes: votes, gone: d.gone, sessions: d.leases.unsaved(), floors: d.newFloors, dropped: d.leases.dropped, peers: d.newPeers}
 	if d.newPlans {
 		c.plans = &d.plans
 	}
@@ -244,9 +239,9 @@ func (d *Daemon) save() error {
 		return fmt.Errorf("%w: %v", ErrSave, err)
 	}
 	d.m.commit.Observe(d.now().Sub(began).Seconds())
-	d.m.batch.Observe(float64(len(d.dirty)))
+	d.m.batch.Observe(float64(len(votes)))
 	d.leases.saved()
-	d.dirty, d.silent, d.newPeers = emptied(d.dirty), emptied(d.silent), map[int]Peer{}
+	d.newPeers = map[int]Peer{}
 	d.gone, d.newFloors = emptied(d.gone), map[int]Floor{}
 	d.newPlans, d.newOwn = false, false
 	return nil

@@ -9,6 +9,7 @@ import (
 	"time"
 
 	"calvundek.example/service/internal/moment"
+	"calvundek.example/service/internal/voter/outbox"
 	"calvundek.example/service/qlock"
 	"github.com/prometheus/client_golang/prometheus/testutil"
 )
@@ -31,7 +32,7 @@ func holds(t testing.TB, d *Daemon, number int, name string, many int, now time.
 
 // saves notes that all votes are saved, and that nothing leaves.
 func (d *Daemon) saves() {
-	d.dirty, d.silent, d.out, d.outBytes = map[*vote]struct{}{}, map[*vote]struct{}{}, map[string][]byte{}, 0
+	d.draft, d.out, d.outBytes = outbox.Draft[*vote]{}, map[string][]byte{}, 0
 }
 
 // packsAll lets rounds pass until votes that are not used are packed, and returns the time then.
@@ -144,7 +145,8 @@ func TestWhichVotesArePacked(t *testing.T) {
 	named := func(i int) *vote { return d.votes[fmt.Sprintf("lock-%06d", i)] }
 	says(d, named(1), 2, "request 2 0 7", now)
 	d.saves()
-	d.dirty[named(2)], d.silent[named(3)] = struct{}{}, struct{}{}
+	d.draft.Must(named(2))
+	d.draft.May(named(3))
 	state := append([]byte(nil), named(0).saved()...)
 	for end := now.Add(10 * packsAfter); now.Before(end); now = now.Add(tick) {
 		d.proved(named(4))

@@ -157,8 +157,7 @@ func (s *starter) shows(t *testing.T) map[string]interface{} {
 	shown := map[string]interface{}{"out": out, "floor": s.floor, "ceiling": s.ceiling, "reach": s.reach, "most": s.m.most, "turns": len(s.skips),
 		"old": len(s.old.all), "rows": s.rows(t), "sent": s.mail.sent}
 	for name, v := range s.votes {
-		_, isDirty := s.dirty[v]
-		_, isSilent := s.silent[v]
+		isDirty, isSilent := s.draft.Has(v)
 		shown[name] = []interface{}{v.held(), s.highestOf(v), s.view(v, s.now), v.isOld, v.isAwaited(), isDirty, isSilent, s.goesOn(v)}
 	}
 	return shown

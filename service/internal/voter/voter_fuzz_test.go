@@ -222,7 +222,7 @@ func FuzzMessage(f *testing.F) {
 		}
 		h, _, err := wire.Read(message)
 		ours := err == nil && h.Cluster == "test" && h.Coterie == s.mark && h.Kind == wire.FromClient
-		if !ours && (d.shard(0).all() != rows || len(d.votes) != 1 || len(d.dirty)+len(d.leases.changed) > 0) {
+		if !ours && (d.shard(0).all() != rows || len(d.votes) != 1 || d.changed()+len(d.leases.changed) > 0) {
 			t.Fatalf("a foreign message changes %v", d.leases.changed)
 		}
 		for number, row := range d.shard(0).all() {

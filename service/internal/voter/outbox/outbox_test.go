@@ -16,6 +16,7 @@ type state struct {
 	must, may bool
 	fails     bool
 	saves     int
+	rows      int // of the last save
 	sent      []string
 	loses     bool
 }
@@ -23,7 +24,8 @@ type state struct {
 func (s *state) MustSave() bool { return s.must }
 func (s *state) MaySave() bool  { return s.may }
 
-func (s *state) Save() error {
+func (s *state) Save(rows map[int]struct{}) error {
+	s.rows = len(rows)
 	if s.fails {
 		return errors.New("full")
 	}
@@ -44,7 +46,7 @@ func (s *state) Send(box string, message []byte) error {
 // What leaves is saved before, if it may depend on what changed. What nothing depends on waits, and not for long.
 func TestSaveThenSend(t *testing.T) {
 	now := time.Unix(1000, 0)
-	var d Draft
+	var d Draft[int]
 	s := &state{}
 	sender := NewSender(s)
 	commits := func() {
@@ -99,7 +101,7 @@ func TestSaveThenSend(t *testing.T) {
 
 // If a save fails nothing leaves, then or later.
 func TestNothingLeavesUnsaved(t *testing.T) {
-	var d Draft
+	var d Draft[int]
 	s := &state{must: true, fails: true}
 	d.Say("box", []byte("message"))
 	saved, err := d.Commit(time.Unix(1000, 0), s)
@@ -114,7 +116,7 @@ func TestNothingLeavesUnsaved(t *testing.T) {
 
 // Messages that can't leave are counted. A marker goes to the voter itself, and to nobody else.
 func TestMarker(t *testing.T) {
-	var d Draft
+	var d Draft[int]
 	s := &state{loses: true}
 	d.Say("box", nil)
 	d.Say("box", nil)
@@ -128,4 +130,54 @@ func TestMarker(t *testing.T) {
 	if last := s.sent[len(s.sent)-1]; err == nil || !strings.HasPrefix(last, "qlock.test.v.3.3 ") || !strings.Contains(last, "\n. marker 7\n") {
 		t.Errorf("%v: %q", err, last)
 	}
+}
+
+// A row that changed may wait, until something leaves that depends on it. It is saved once, with all others.
+func TestRows(t *testing.T) {
+	now := time.Unix(1000, 0)
+	var d Draft[int]
+	s := &state{}
+	has := func(row int, must, may bool) {
+		t.Helper()
+		if a, b := d.Has(row); a != must || b != may {
+			t.Errorf("row %d: must %v, may %v", row, a, b)
+		}
+	}
+	commits := func(saves, rows int) {
+		t.Helper()
+		before := s.saves
+		if _, err := d.Commit(now, s); err != nil || s.saves != before+saves || saves > 0 && s.rows != rows {
+			t.Errorf("%d saves, the last one of %d rows, %v", s.saves-before, s.rows, err)
+		}
+	}
+	commits(0, 0)
+	d.May(1)
+	d.Tells(2) // it did not change
+	d.Say("box", nil)
+	has(1, false, true)
+	has(2, false, false)
+	commits(0, 0) // what leaves depends on no row
+	d.Tells(1)
+	has(1, true, false)
+	d.May(1)
+	has(1, true, false)
+	d.May(3)
+	d.May(4)
+	d.Must(4)
+	d.Must(5)
+	d.Forget(5)
+	d.May(6)
+	d.Forget(6)
+	has(4, true, false)
+	commits(0, 0) // nothing leaves
+	d.Say("box", nil)
+	commits(1, 3)
+	for row := 1; row < 7; row++ {
+		has(row, false, false)
+	}
+	d.May(7)
+	now = now.Add(longest)
+	commits(0, 0)
+	now = now.Add(1)
+	commits(1, 1)
 }
